@@ -1,0 +1,4 @@
+pub mod CheckedTree
+pub mod CheckedProgram
+pub mod Plain
+pub mod PlainProgram

@@ -1,0 +1,42 @@
+// Thread programs whose names are resolved, with the texts that a history shows.
+
+use ls_events::value::{Value, ValueType};
+
+/// What the setup names: its name, and the class of its object.
+#[derive(Debug, Drop)]
+pub struct SetupName {
+    pub name: String,
+    pub class: usize,
+}
+
+/// `name = new C(values)`, or `name.method(values)`.
+#[derive(Debug, Drop)]
+pub enum ProgramCall {
+    Making {
+        name: usize,
+        class: usize,
+        class_name: String,
+        values: Vec<Value>,
+    },
+    Calling {
+        name: usize,
+        method: usize,
+        method_name: String,
+        /// What the method answers: an int, a boolean, or nothing.
+        result: Option<ValueType>,
+        values: Vec<Value>,
+    },
+}
+
+#[derive(Debug, Drop)]
+pub struct ThreadProgram {
+    pub name: String,
+    pub calls: Vec<ProgramCall>,
+}
+
+/// A thread program. Thread 0 is the setup, named `setup`; the others follow in text order.
+#[derive(Debug, Drop)]
+pub struct Program {
+    pub names: Vec<SetupName>,
+    pub threads: Vec<ThreadProgram>,
+}

@@ -1,0 +1,72 @@
+// Schedules.
+
+use std::alloc::{AllocError, Global};
+use std::marker::Model;
+
+/// The most steps of a schedule.
+pub const MOST_STEPS: usize = 1_000_000;
+
+/// Which thread takes each step of a run, by number: 0 is the setup. A number need not be that of a thread.
+#[derive(Debug, Drop)]
+pub struct Schedule {
+    steps: Vec<usize>,
+}
+
+impl Model for Schedule {
+    ghost use Rattle.std.specs.Prelude.{ℕ, ◌≤◌, List, length};
+
+    ghost Value = { List ℕ };
+
+    ghost view = { λ s. s.steps.items };
+
+    ghost invariant = { λ s. length s.steps.items ≤ 1000000 };
+}
+
+impl Schedule {
+    ghost use Rattle.std.specs.Prelude.{◌≡◌, ◌<◌, ◌≤◌, ◌↔◌, ◌++◌, ◌∷◌, [], length, IsTrue, OnOk, OnErr};
+
+    /// The empty schedule.
+    pub fn new(alloc: Global) -> Schedule
+        ensures { result ≡ [] }
+    {
+        Schedule {
+            steps: Vec::new(alloc),
+        }
+    }
+
+    /// The threads of the steps, in order.
+    pub fn steps(&self) -> &[usize]
+        ensures { result.now ≡ self.now }
+    {
+        self.steps.as_slice()
+    }
+
+    pub fn len(&self) -> usize
+        ensures { result ≡ length self.now }
+    {
+        self.steps.len()
+    }
+
+    pub fn is_empty(&self) -> bool
+        ensures { IsTrue result ↔ (self.now ≡ []) }
+    {
+        self.steps.is_empty()
+    }
+
+    /// Whether it has as many steps as a schedule can have.
+    pub fn is_full(&self) -> bool
+        ensures { IsTrue result ↔ (length self.now ≡ 1000000) }
+    {
+        self.steps.len() == MOST_STEPS
+    }
+
+    /// Adds a step.
+    pub fn push(&mut self, thread: usize) -> Result<(), AllocError>
+        requires { length self.old < 1000000 }
+        ensures added { OnOk result (self.new ≡ self.old ++ thread ∷ []) }
+        ensures unchanged { OnErr result (self.new ≡ self.old) }
+    {
+        self.steps.push(thread)?;
+        Ok(())
+    }
+}
