@@ -65,7 +65,7 @@ plain_method m = record {
   parameters = m.parameters;
   slots = m.slots.items;
   result = m.result;
-  body = plain_statement m.body
+  body = plain_statement m.body;
 }
 
 abbrev pub plain_class : Class → checked.Class
