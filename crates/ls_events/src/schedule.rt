@@ -57,7 +57,7 @@ impl Schedule {
     pub fn is_full(&self) -> bool
         ensures { IsTrue result ↔ (length self.now ≡ 1000000) }
     {
-        self.steps.len() == MOST_STEPS
+        self.len() == MOST_STEPS
     }
 
     /// Adds a step.
@@ -68,5 +68,23 @@ impl Schedule {
     {
         self.steps.push(thread)?;
         Ok(())
+    }
+}
+
+#[cfg(test)]
+mod tests {
+    use super::*;
+
+    #[test]
+    fn keeps_what_is_pushed(rt: HostRuntime) {
+        let mut schedule = Schedule::new(rt.alloc());
+        assert!(rt; schedule.is_empty());
+        for thread in [2usize, 0, 7] {
+            if schedule.len() < MOST_STEPS {
+                assert!(rt; schedule.push(thread).is_ok());
+            }
+        }
+        assert!(rt; schedule.steps() == [2usize, 0, 7].as_slice());
+        assert!(rt; !schedule.is_full());
     }
 }
