@@ -1,0 +1,5 @@
+use Rattle.ls_lexer.proofs.FormedLaws as forms
+use Rattle.ls_lexer.proofs.laws.tokens_are_formed.Goals as goal
+
+pub returns : goal.returns
+returns c = forms.tokens_are_formed

@@ -1,0 +1,10 @@
+use Rattle.std.proofs.Common.{◌-◌, length}
+use Rattle.ls_lexer.specs.Characters.{is_part}
+use Rattle.ls_lexer.proofs.Spans.{Ran}
+use Rattle.ls_lexer.proofs.runs.part_run.Given as goal
+
+abbrev pub invariant-loop-n : goal.invariant-loop-n
+invariant-loop-n l = Ran is_part l.bytes l.n
+
+abbrev pub decreases-loop-n : goal.decreases-loop-n
+decreases-loop-n l = length l.bytes - l.n

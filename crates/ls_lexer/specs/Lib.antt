@@ -1,0 +1,11 @@
+pub mod Characters
+pub mod Formed
+pub mod Lexemes
+pub mod Names
+pub mod Numbers
+pub mod Pieces
+pub mod Places
+pub mod Signs
+pub mod Spelling
+pub mod Tokens
+pub mod Words

@@ -1,0 +1,69 @@
+-- Where faults and tokens stand in a text.
+use Rattle.std.specs.Prelude.{◌≡◌, ◌↔◌, ℕ, ◌+◌, ◌<◌, ◌≤◌, ◌==◌, ◌&&◌, List, [], ◌∷◌, length, take, drop, Some, None, if◌then◌else◌}
+use Rattle.ls_lexer.specs.declared.fault.TextFault.{TextFault}
+use Rattle.ls_lexer.specs.declared.fault.TextFault.TheVariants as faults
+use Rattle.ls_lexer.specs.declared.token.TokenKind.{TokenKind}
+use Rattle.ls_lexer.specs.declared.token.TokenKind.TheVariants as kinds
+use Rattle.ls_lexer.specs.declared.token.Token.{Token}
+use Rattle.ls_lexer.specs.Characters.{is_digit}
+use Rattle.ls_lexer.specs.Lexemes.{Lexeme, lexeme_of}
+use Rattle.ls_lexer.specs.Tokens.{piece_at, tokens_of, begins}
+
+-- the most bytes that a text may have
+abbrev pub text_limit : ℕ
+text_limit = 262144
+
+-- the text is gaps and tokens, and then the rest
+pub data Splits : List ℕ → List Lexeme → List ℕ → Type 0 where
+  here : {text : List ℕ} → Splits text [] text
+  gap : {text rest : List ℕ} {ks : List Lexeme} (n : ℕ) → piece_at text ≡ Some (None, n) → Splits (drop n text) ks rest → Splits text ks rest
+  token : {text rest : List ℕ} {ks : List Lexeme} (k : Lexeme) (n : ℕ) → piece_at text ≡ Some (Some k, n) → Splits (drop n text) ks rest → Splits text (k ∷ ks) rest
+
+-- The tokens of a text are what gaps and tokens it splits into, to its end: there is one way at most.
+abbrev pub TokensAreSplit : Type 0
+TokensAreSplit = (text : List ℕ) (ks : List Lexeme) → (tokens_of text ≡ Some ks) ↔ Splits text ks []
+
+-- the fault of a place where no gap or token begins
+abbrev pub fault_at : ℕ → List ℕ → TextFault
+fault_at at [] = faults.BadByte at
+fault_at at (b ∷ bs) =
+    if b == 47 && begins 42 bs then faults.OpenComment at
+    else (if is_digit b then faults.BadNumber at else faults.BadByte at)
+
+-- behind gaps and tokens, this fault stands at the place
+abbrev pub StandsAt : List ℕ → ℕ → TextFault → Type 0
+StandsAt text at fault =
+    (ks : List Lexeme) × Splits text ks (drop at text) × (piece_at (drop at text) ≡ None)
+    × (fault ≡ fault_at at (drop at text))
+
+-- When each fault may come: want of memory at any time; a text that is too long, and only such a text; a fault of a
+-- place where it stands, and then the text has no tokens. Faults of the grammar never come.
+abbrev pub Refused : List ℕ → TextFault → Type 0
+Refused text faults.Memory = Unit {0}
+Refused text faults.TooLong = text_limit < length text
+Refused text (faults.BadByte at) = StandsAt text at (faults.BadByte at) × (tokens_of text ≡ None)
+Refused text (faults.OpenComment at) = StandsAt text at (faults.OpenComment at) × (tokens_of text ≡ None)
+Refused text (faults.BadNumber at) = StandsAt text at (faults.BadNumber at) × (tokens_of text ≡ None)
+Refused text (faults.Syntax at) = ⊥
+Refused text (faults.TooDeep at) = ⊥
+
+-- the text of a name or number is this slice of the source
+abbrev pub IsSlice : List ℕ → TokenKind → Type 0
+IsSlice slice (kinds.Name text) = text.now ≡ slice
+IsSlice slice (kinds.Number text) = text.now ≡ slice
+IsSlice slice (kinds.Word word) = Unit {0}
+IsSlice slice (kinds.Sign sign) = Unit {0}
+
+-- the token stands at its span
+pub record StandsThere (text : List ℕ) (t : Token) : Type 0 where
+  pub size : ℕ
+  pub reaches : t.span.start + size ≡ t.span.end
+  pub within : t.span.end ≤ length text
+  pub read : piece_at (drop t.span.start text) ≡ Some (Some (lexeme_of t.kind), size)
+  pub slice : IsSlice (take size (drop t.span.start text)) t.kind
+
+-- the tokens stand at their spans in the text, in order, from one place up to another
+abbrev pub InOrder : List ℕ → ℕ → List Token → ℕ → Type 0
+InOrder text from [] upto = from ≤ upto
+InOrder text from (t ∷ ts) upto =
+    (from ≤ t.span.start) × (t.span.start < t.span.end) × StandsThere text t × InOrder text t.span.end ts upto

@@ -1,0 +1,18 @@
+//! Tokens of a class text or a program text.
+#![tactic(auto)]
+
+mod characters;
+pub mod fault;
+pub mod laws;
+pub mod lexing;
+mod longest_sign;
+pub mod names;
+mod numbers;
+mod reserved;
+mod runs;
+mod scan;
+pub mod sign;
+#[cfg(test)]
+mod tests;
+pub mod token;
+pub mod word;

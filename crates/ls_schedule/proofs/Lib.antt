@@ -1,0 +1,7 @@
+pub mod Division
+pub mod Items
+pub mod Named
+pub mod RoundTrip
+pub mod Runs
+pub mod Steps
+pub mod Words

@@ -1,0 +1,156 @@
+-- The steps of items, and what a cap on their counts changes: nothing.
+use Rattle.std.proofs.Common.{◌≡◌, ◌∙◌, ◌⊎◌, inl, inr, ◌+◌, ◌<◌, ◌≤◌, ℕ, zero, suc, List, [], ◌∷◌, ◌++◌, length, map, take, get_or, min, refl, sym, ap, append_assoc, append-nil, arith, Result, Ok, Err}
+use Rattle.ls_schedule.specs.declared.reading.Said.{Said}
+use Rattle.std.specs.List.{range_with_len}
+use Rattle.std.proofs.lemmas.Bool.{cases_lt, lt-ltb}
+use Rattle.std.proofs.lemmas.List.{length-append}
+use Rattle.ls_schedule.specs.declared.fault.ScheduleFault.{ScheduleFault}
+use Rattle.ls_schedule.specs.declared.fault.ScheduleFault.TheVariants as fault
+use Rattle.ls_schedule.specs.Answers.{Fails, Gives, capped, capped_turns, threads_of, view}
+use Rattle.ls_schedule.specs.Items.{Item, items}
+use Rattle.ls_schedule.specs.Reading.{Turns, each, repeated, schedule_of, steps_of, turns_of, within, ◌>>=◌}
+
+-- ---- one more turn, and too many
+
+pub longer : (m n : ℕ) (ts : List ℕ) → m ≤ n → length (repeated m ts) ≤ length (repeated n ts)
+longer zero n ts h = omega arith
+longer (suc m) zero ts h = absurd (omega arith)
+longer (suc m) (suc n) ts h = omega (arith, longer m n ts (omega arith), length-append ts (repeated m ts), length-append ts (repeated n ts))
+
+repeated_none : (n : ℕ) → repeated n [] ≡ []
+repeated_none zero = refl
+repeated_none (suc n) = repeated_none n
+
+repeated_more : (n : ℕ) (ts : List ℕ) → repeated (suc n) ts ≡ repeated n ts ++ ts
+repeated_more zero ts = append-nil ts
+repeated_more (suc n) ts = ap (λ xs. ts ++ xs) (repeated_more n ts) ∙ sym (append_assoc ts (repeated n ts) ts)
+
+-- one more turn at the end
+pub appended : (base ts now new : List ℕ) (n : ℕ) → now ≡ base ++ repeated n ts → new ≡ now ++ ts → new ≡ base ++ repeated (n + 1) ts
+appended base ts now new n h e =
+    let one : suc n ≡ n + 1 = omega arith in
+    e ∙ ap (λ xs. xs ++ ts) h ∙ append_assoc base (repeated n ts) ts ∙ ap (λ xs. base ++ xs) (sym (repeated_more n ts))
+    ∙ ap (λ k. base ++ repeated k ts) one
+
+-- and then there are too many, if there are now
+pub too_many : (base ts new : List ℕ) (n count : ℕ) → new ≡ base ++ repeated (n + 1) ts → n < count → 1000000 < length new → 1000000 < length (base ++ repeated count ts)
+too_many base ts new n count e lt over =
+    omega (arith, ap length e, length-append base (repeated (n + 1) ts), length-append base (repeated count ts), longer (n + 1) count ts (omega arith))
+
+pub no_threads : (base ts : List ℕ) (n : ℕ) → length ts ≡ 0 → base ≡ base ++ repeated n ts
+no_threads base [] n e = sym (ap (λ xs. base ++ xs) (repeated_none n) ∙ append-nil base)
+no_threads base (t ∷ ts) n e = absurd (omega arith)
+
+at_least : (n t : ℕ) (ts : List ℕ) → n ≤ length (repeated n (t ∷ ts))
+at_least zero t ts = omega arith
+at_least (suc n) t ts = omega (arith, at_least n t ts, length-append (t ∷ ts) (repeated n (t ∷ ts)))
+
+-- where the capped count gives at most a million steps, it is the count, or there is no step
+cap_is : (p : Turns) → length (repeated (min p.1 1000001) p.0) ≤ 1000000 → repeated (min p.1 1000001) p.0 ≡ repeated p.1 p.0
+cap_is ([], n) h = repeated_none (min n 1000001) ∙ sym (repeated_none n)
+cap_is (t ∷ ts, n) h = ap (λ k. repeated k (t ∷ ts)) (omega (arith, at_least (min n 1000001) t ts))
+
+caps : List Turns → List Turns
+caps = map capped
+
+pub steps_capped : (ps : List Turns) → length (steps_of (map capped ps)) ≤ 1000000 → steps_of (map capped ps) ≡ steps_of ps
+steps_capped [] h = refl
+steps_capped (p ∷ ps) h =
+    let l = length-append (repeated (min p.1 1000001) p.0) (steps_of (map capped ps)) in
+    rw (cap_is p (omega arith), steps_capped ps (omega arith)) refl
+
+pub steps_shorter : (ps : List Turns) → length (steps_of (map capped ps)) ≤ length (steps_of ps)
+steps_shorter [] = omega arith
+steps_shorter (p ∷ ps) = omega (
+  arith,
+  steps_shorter ps,
+  longer (min p.1 1000001) p.1 p.0 (omega arith),
+  length-append (repeated (min p.1 1000001) p.0) (steps_of (map capped ps)),
+  length-append (repeated p.1 p.0) (steps_of ps),
+)
+
+pub within_capped : (ps : List Turns) → within (steps_of (map capped ps)) ≡ within (steps_of ps)
+within_capped ps = elim (cases_lt 1000000 (length (steps_of (map capped ps)))) [
+  | inl over ↦ rw (lt-ltb _ _ over, lt-ltb 1000000 (length (steps_of ps)) (omega (arith, steps_shorter ps))) refl
+  | inr fits ↦ ap within (steps_capped ps fits)
+]
+
+both : (r : Result Turns ScheduleFault) (s : Result (List Turns) ScheduleFault)
+    → ((r >>= λ p. Ok (capped p)) >>= λ y. (s >>= λ ps. Ok (map capped ps)) >>= λ ys. Ok (y ∷ ys)) ≡ ((r >>= λ y. s >>= λ ys. Ok (y ∷ ys)) >>= λ ps. Ok (map capped ps))
+both (Ok p) (Ok ps) = refl
+both (Ok p) (Err e) = refl
+both (Err e) s = refl
+
+-- reading with the cap is reading, and then the cap
+pub each_capped : (f : Item → Result Turns ScheduleFault) (is : List Item) → each (λ i. f i >>= λ p. Ok (capped p)) is ≡ (each f is >>= λ ps. Ok (map capped ps))
+each_capped f [] = refl
+each_capped f (i ∷ is) =
+    ap (λ s. (f i >>= λ p. Ok (capped p)) >>= λ y. s >>= λ ys. Ok (y ∷ ys)) (each_capped f is) ∙ both (f i) (each f is)
+
+range_push : (a n : ℕ) → range_with_len a (suc n) ≡ range_with_len a n ++ (a + n) ∷ []
+range_push a zero = ap (λ x. x ∷ []) (omega-zero a)
+  where
+    omega-zero : (b : ℕ) → b ≡ b + 0
+    omega-zero b = omega arith
+range_push a (suc n) =
+    let place : a + 1 + n ≡ a + suc n = omega arith in
+    ap (λ xs. a ∷ xs) (range_push (a + 1) n) ∙ ap (λ x. a ∷ range_with_len (a + 1) n ++ x ∷ []) place
+
+pub range_more : (n : ℕ) → range_with_len 1 (n + 1) ≡ range_with_len 1 n ++ (n + 1) ∷ []
+range_more n =
+    let e : n + 1 ≡ suc n = omega arith in
+    let f : 1 + n ≡ n + 1 = omega arith in
+    ap (range_with_len 1) e ∙ range_push 1 n ∙ ap (λ x. range_with_len 1 n ++ x ∷ []) f
+
+-- ---- the steps so far are not more than all
+
+pub said_at : (names : ℕ) (said : List Said) (i : ℕ) (x : Said) → i < length said
+    → length (steps_of (map (view names) (take i said)) ++ repeated (get_or said i x).count (threads_of names (get_or said i x).who)) ≤ length (steps_of (map (view names) said))
+said_at names [] i x lt = absurd (omega arith)
+said_at names (s ∷ ss) zero x lt = omega (arith, length-append (repeated s.count (threads_of names s.who)) (steps_of (map (view names) ss)))
+said_at names (s ∷ ss) (suc i) x lt =
+    let one = repeated s.count (threads_of names s.who) in
+    let front = steps_of (map (view names) (take i ss)) in
+    let next = repeated (get_or ss i x).count (threads_of names (get_or ss i x).who) in
+    omega (
+      arith,
+      said_at names ss i x (omega arith),
+      length-append one (steps_of (map (view names) ss)),
+      length-append (one ++ front) next,
+      length-append one front,
+      length-append front next,
+    )
+
+pub too_long : (d : ScheduleFault) (part all : List ℕ) → (d ≡ fault.Memory) ⊎ (d ≡ fault.TooManySteps)
+    → (d ≡ fault.TooManySteps → 1000000 < length part) → length part ≤ length all → Fails d (within all)
+too_long d part all (inl m) over le = rw m tt
+too_long d part all (inr t) over le = let big : 1000000 < length all = omega (arith, over t) in rw (t, lt-ltb _ _ big) refl
+
+-- a loop over the items stops with the fault of all of them
+pub said_over : (names : ℕ) (said : List Said) (i : ℕ) (x : Said) (now ts : List ℕ) (d : ScheduleFault) → i < length said
+    → now ≡ steps_of (map (view names) (take i said)) → threads_of names (get_or said i x).who ≡ ts
+    → (d ≡ fault.Memory) ⊎ (d ≡ fault.TooManySteps)
+    → (d ≡ fault.TooManySteps → 1000000 < length (now ++ repeated (get_or said i x).count ts))
+    → Fails d (within (steps_of (map (view names) said)))
+said_over names said i x now ts d lt h e only over =
+    too_long d (now ++ repeated (get_or said i x).count ts) (steps_of (map (view names) said)) only over (rw (h, sym e) (said_at names said i x lt))
+
+-- ---- the whole
+
+with_cap : (r : Result (List Turns) ScheduleFault) → (r >>= λ ps. within (steps_of ps)) ≡ ((r >>= λ ps. Ok (map capped ps)) >>= λ ps. within (steps_of ps))
+with_cap (Ok ps) = sym (within_capped ps)
+with_cap (Err e) = refl
+
+-- the schedule by what is kept of the items
+pub whole : (names : List (List ℕ)) (text : List ℕ) → schedule_of names text ≡ (each (capped_turns names) (items 0 text) >>= λ ps. within (steps_of ps))
+whole names text =
+    with_cap (each (turns_of names) (items 0 text)) ∙ ap (λ r. r >>= λ ps. within (steps_of ps)) (sym (each_capped (turns_of names) (items 0 text)))
+
+-- the schedule of what is kept of the items
+pub schedule_is : (names names' : List (List ℕ)) (text text' : List ℕ) (n : ℕ) (said said' : List Said) (r : Result (List ℕ) ScheduleFault)
+    → names' ≡ names → text' ≡ text → said' ≡ said → each (capped_turns names') (items 0 text') ≡ Ok (map (view n) said)
+    → Gives (λ s. s) r (within (steps_of (map (view n) said'))) → Gives (λ s. s) r (schedule_of names text)
+schedule_is names names' text text' n said said' r names-is text-is said-is e g =
+    let kept : schedule_of names' text' ≡ within (steps_of (map (view n) said')) = whole names' text' ∙ ap (λ q. q >>= λ ps. within (steps_of ps)) e ∙ ap (λ s. within (steps_of (map (view n) s))) (sym said-is) in
+    let all : schedule_of names text ≡ within (steps_of (map (view n) said')) = ap (λ t. schedule_of names t) (sym text-is) ∙ ap (λ ns. schedule_of ns text') (sym names-is) ∙ kept in
+    rw all g

@@ -1,0 +1,5 @@
+pub mod Answers
+pub mod Items
+pub mod Printing
+pub mod Reading
+pub mod RoundTrip

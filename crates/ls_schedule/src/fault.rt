@@ -1,0 +1,38 @@
+// Why a schedule text is refused.
+
+ghost use Rattle.std.specs.Prelude.{◌≡◌};
+ghost use Rattle.ls_schedule.specs.declared.fault.ScheduleFault.TheVariants.{Memory};
+
+use std::alloc::{AllocError, AllocFailed};
+use thiserror::Error;
+
+/// Why a schedule text is refused. Places are bytes from the start of the text, from 0.
+#[derive(Clone, Copy, Debug, Error, PartialEq, Eq)]
+pub enum ScheduleFault {
+    #[error("out of memory")]
+    Memory,
+    /// What begins here, up to the next gap, has not the form of an item.
+    #[error("no item of a schedule at {at}")]
+    BadItem { at: usize },
+    /// The item that begins here has the form of one, and its name is that of no thread.
+    #[error("no thread of the program at {at}")]
+    UnknownThread { at: usize },
+    #[error("more than 1,000,000 steps")]
+    TooManySteps,
+}
+
+impl From<AllocError> for ScheduleFault {
+    ghost from_gives = { λ _ e. e ≡ Memory };
+
+    fn from(_error: AllocError) -> ScheduleFault {
+        ScheduleFault::Memory
+    }
+}
+
+impl<T: Drop> From<AllocFailed<T>> for ScheduleFault {
+    ghost from_gives = { λ _ e. e ≡ Memory };
+
+    fn from(_error: AllocFailed<T>) -> ScheduleFault {
+        ScheduleFault::Memory
+    }
+}
