@@ -1,0 +1,112 @@
+#!/usr/bin/env python3
+"""Writes the same interpreter in plain Rust, as a Cargo project, from the crates' own text: clauses and ghost items are
+left out, and an allocation can't fail. Usage: convert.py FOLDER"""
+import pathlib
+import re
+import sys
+
+CRATES = pathlib.Path(__file__).resolve().parents[2]
+OUT = pathlib.Path(sys.argv[1])
+
+
+def without_blocks(text, start):
+    """Leaves out each top-level item that begins so and ends at a closing brace in the first column."""
+    return re.sub(start + r".*?\n}\n", "", text, flags=re.S | re.M)
+
+
+def plain(text, crate):
+    text = text.replace("#![tactic(auto)]\n", "")
+    text = re.sub(r"^#\[tactic.*\n", "", text, flags=re.M)
+    text = without_blocks(text, r"^impl Model for ")
+    text = without_blocks(text, r"^impl From<AllocError> for LoadFault")
+    text = re.sub(r"^ *ghost .*\n", "", text, flags=re.M)
+    text = re.sub(r"^ *(requires|ensures)\b.*\n", "", text, flags=re.M)
+    text = re.sub(r"^use (std::alloc|std::marker|thiserror).*\n", "", text, flags=re.M)
+    text = re.sub(r"^ *#\[error.*\n", "", text, flags=re.M)
+    text = re.sub(r"#\[derive\((.*?)\)\]", derived, text)
+    text = re.sub(r"let Ok\(\(\)\) = (.*?) else \{\s*unreachable!\(\)\s*\};", r"\1;", text, flags=re.S)
+    text = text.replace("Vec::new(alloc)", "Vec::new()")
+    text = re.sub(r"Vec::with_capacity\(alloc, (\w+)\)\?", r"Vec::with_capacity(\1)", text)
+    text = re.sub(r"vec!\[in alloc; (.*?)\]\?", r"vec![\1]", text)
+    text = text.replace(".collect(alloc)?", ".collect()")
+    text = re.sub(r"^( +)(\S.*)\.collect\(alloc\)$", r"\1Ok(\2.collect())", text, flags=re.M)
+    text = re.sub(r"(\.(?:push|resize)\([^;]*?\))\?;", r"\1;", text)
+    text = text.replace("crate::", f"crate::{crate}::")
+    text = re.sub(r"\buse (ls_\w+)::", r"use crate::\1::", text)
+    if re.search(r"\bAllocError\b|\bGlobal\b", text):
+        text = text.replace("\n\n", "\n\nuse crate::{AllocError, Global};\n", 1)
+    return text
+
+
+def derived(match):
+    names = [name.strip() for name in match.group(1).split(",")]
+    kept = [name for name in names if name not in ("Drop", "Error")]
+    return f"#[derive({', '.join(kept)})]" if kept else ""
+
+
+def write(name, text):
+    path = OUT / name
+    path.parent.mkdir(parents=True, exist_ok=True)
+    path.write_text(text)
+
+
+def main():
+    for crate in ("ls_events", "ls_code", "ls_machine"):
+        for file in sorted((CRATES / crate / "src").glob("*.rt")):
+            if file.stem == "tests":
+                continue
+            name = "mod" if file.stem == "lib" else file.stem
+            text = plain(file.read_text(), crate).replace("//!", "//")
+            text = re.sub(r"^#\[cfg\(test\)\]\nmod tests;\n", "", text, flags=re.M)
+            write(f"src/{crate}/{name}.rs", text)
+    images = plain((CRATES / "bench_machine/src/images.rt").read_text(), "bench_machine")
+    write("src/images.rs", images)
+    main_text = plain((CRATES / "bench_machine/src/main.rt").read_text(), "bench_machine").replace("//!", "//")
+    body = main_text[main_text.index("/// How many of so many"):main_text.index("fn main(")]
+    write("src/main.rs", HEAD + body + MAIN)
+    write("Cargo.toml", CARGO)
+
+
+HEAD = """#![allow(dead_code, unused_imports)]
+mod images;
+mod ls_code;
+mod ls_events;
+mod ls_machine;
+use images::{Part, image};
+use ls_code::code::Code;
+use ls_code::step::Did;
+use ls_machine::Machine;
+
+#[derive(Debug)]
+pub struct AllocError;
+#[derive(Clone, Copy)]
+pub struct Global;
+impl From<AllocError> for ls_machine::LoadFault {
+    fn from(_: AllocError) -> Self {
+        ls_machine::LoadFault::Memory
+    }
+}
+
+"""
+
+MAIN = """fn main() {
+    let words: Vec<String> = std::env::args().collect();
+    let part = part_of(&words[1]).expect("a part");
+    let steps: u64 = words[2].parse().expect("steps");
+    let code = Code::new(image(Global, part).expect("memory")).expect("small");
+    let mut machine = Machine::load(Global, &code, 65536).expect("loaded");
+    let acted = run(&mut machine, steps, part == Part::Turns);
+    println!("{acted} of {steps} steps acted");
+}
+"""
+
+CARGO = """[package]
+name = "plain_machine"
+version = "0.1.0"
+edition = "2024"
+
+[profile.release]
+opt-level = 3
+"""
+
+main()

@@ -1,0 +1,59 @@
+//! Steps of the machine, to be timed: `bench_machine PART STEPS`, where the part is arithmetic, fields, calls or turns.
+#![tactic(auto)]
+
+mod images;
+
+use crate::images::{Part, image};
+use ls_code::code::Code;
+use ls_code::step::Did;
+use ls_machine::Machine;
+use std::{env, io};
+
+/// How many of so many steps acted. They are steps of thread 1, or of threads 1 and 2 by turns.
+fn run(machine: &mut Machine, steps: u64, by_turns: bool) -> u64 {
+    let mut acted = 0_u64;
+    let mut first = true;
+    let _ = machine.step(0);
+    for _ in 0..steps {
+        let thread = if first { 1 } else { 2 };
+        first = !(first && by_turns);
+        if let Did::Acted(_, _) = machine.step(thread) {
+            acted = acted.wrapping_add(1);
+        }
+    }
+    acted
+}
+
+/// The part of a name.
+fn part_of(name: &str) -> Option<Part> {
+    match name {
+        "arithmetic" => Some(Part::Arithmetic),
+        "fields" => Some(Part::Fields),
+        "calls" => Some(Part::Calls),
+        "turns" => Some(Part::Turns),
+        _ => None,
+    }
+}
+
+fn main(rt: HostRuntime) -> io::Result<()> {
+    let mut words = env::args(&rt)?;
+    let _ = words.next();
+    let (Some(name), Some(count)) = (words.next(), words.next()) else {
+        println!(rt; "bench_machine PART STEPS")?;
+        return Ok(());
+    };
+    let (Some(part), Ok(steps)) = (part_of(name.as_str()), count.as_str().parse::<u64>()) else {
+        println!(rt; "bench_machine PART STEPS")?;
+        return Ok(());
+    };
+    let code = match Code::new(image(rt.alloc(), part)?) {
+        Some(code) => code,
+        None => return Ok(()),
+    };
+    let Ok(mut machine) = Machine::load(rt.alloc(), &code, 65536) else {
+        return Ok(());
+    };
+    let acted = run(&mut machine, steps, part == Part::Turns);
+    println!(rt; "{acted} of {steps} steps acted")?;
+    Ok(())
+}

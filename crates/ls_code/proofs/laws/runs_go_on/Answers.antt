@@ -1,0 +1,5 @@
+use Rattle.ls_code.proofs.Runs.{go_on}
+use Rattle.ls_code.proofs.laws.runs_go_on.Goals as goal
+
+pub returns : goal.returns
+returns c = go_on

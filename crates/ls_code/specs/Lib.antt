@@ -1,0 +1,17 @@
+pub mod Words
+pub mod Locks
+pub mod Instructions
+pub mod Code
+pub mod Kinds
+pub mod Frame
+pub mod Moves
+pub mod Throws
+pub mod Thread
+pub mod Calls
+pub mod Cells
+pub mod Exchanges
+pub mod Steps
+pub mod Events
+pub mod Machine
+pub mod Fed
+pub mod Laws

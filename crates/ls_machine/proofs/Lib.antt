@@ -1,0 +1,5 @@
+pub mod Operands
+pub mod Frames
+pub mod Stepping
+pub mod Whole
+pub mod Starting

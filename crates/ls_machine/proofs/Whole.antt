@@ -1,0 +1,45 @@
+-- A step of one thread as a step of the whole machine.
+use Rattle.std.proofs.Common.{◌≡◌, ℕ, ◌+◌, ◌<◌, ◌++◌, List, length, map, set, get_or, true, false, Some, slice_get, option_map, refl, ap, sym, subst, ◌∙◌, arith}
+use Rattle.std.proofs.lemmas.List.{map-set, length-set}
+use Rattle.std.proofs.lemmas.List.Sums.{sum_by-set}
+use Rattle.std.proofs.lemmas.List.Elements.{All-set}
+use Rattle.std.proofs.lemmas.Option.{slice_get-map, slice_get-get_or}
+use Rattle.ls_code.specs.Code.{Code}
+use Rattle.ls_code.specs.Thread.{Thread}
+use Rattle.ls_machine.specs.Memory.{KeptThread, MethodsFit, no_thread, events_left}
+use Rattle.ls_machine.specs.Outcomes.{Came}
+use Rattle.ls_machine.specs.Room.{HasMemory}
+use Rattle.ls_machine.specs.Takes.{TakesEvents}
+use Rattle.ls_code.specs.Cells.{Cells}
+use Rattle.ls_code.specs.Events.{events_of}
+use Rattle.ls_code.specs.Steps.{Outcome, performed, thread_move}
+use Rattle.ls_code.specs.Machine.{Machine, is_due, stops, after, stepped_by, machine_step, open_step, due_step, step_of}
+use Rattle.ls_code.specs.declared.step.Did.{Did}
+
+-- after a step of thread n the memory is there again
+pub memory_kept : (p : Code) (ts : List KeptThread) (events limit n : ℕ) (k : KeptThread) (o : Outcome) (c : Cells) (d : Did) → n < length ts → HasMemory p ts events limit → Came o (get_or ts n no_thread) k c d → TakesEvents p n d (get_or ts n no_thread).thread k.thread → HasMemory p (set ts n k) (events + length (events_of p n d)) limit
+memory_kept p ts events limit n k o c d h m came takes =
+    let P : KeptThread → Type 0 = λ t. MethodsFit p.methods t.locals_room t.operands_room in
+    let here : P (get_or ts n no_thread) = m.fit n no_thread h in
+    let new : P k = subst P (sym came.0) here in
+    let sums = sum_by-set (λ (t : KeptThread). events_left t.thread) ts n k no_thread h in
+    record {
+      few = rw length-set m.few;
+      fit = All-set P ts n k new m.fit;
+      events_fit = let e = m.events_fit in omega (arith, sums, takes, e);
+    }
+
+stepped_is : (m : Machine) (n : ℕ) (o : Outcome) (threads : List Thread) (c : Cells) (d : Did) → set m.threads n o.thread ≡ threads → o.cells ≡ c → o.did ≡ d → stepped_by (after m n o) o.did ≡ stepped_by (record { code = m.code; threads = threads; cells = c; stopped = stops d; history = m.history ++ events_of m.code n d }) d
+stepped_is m n o threads c d e f g = rw (e, f, g) refl
+
+-- a step of a thread that is due
+pub step_due : (m : Machine) (n : ℕ) (ts : List KeptThread) (k : KeptThread) (c : Cells) (d : Did) → n < length ts → m.threads ≡ map (λ t. t.thread) ts → m.stopped ≡ false → is_due m.threads n (get_or ts n no_thread).thread ≡ true → Came (performed m.cells n (get_or ts n no_thread).thread (thread_move m.code (get_or ts n no_thread).thread)) (get_or ts n no_thread) k c d → machine_step m n ≡ stepped_by (record { code = m.code; threads = map (λ t. t.thread) (set ts n k); cells = c; stopped = stops d; history = m.history ++ events_of m.code n d }) d
+step_due m n ts k c d h list runs due came =
+    let t : Thread = (get_or ts n no_thread).thread in
+    let found : slice_get m.threads n ≡ Some t = ap (λ xs. slice_get xs n) list ∙ slice_get-map (λ (x : KeptThread). x.thread) ts n ∙ ap (option_map (λ (x : KeptThread). x.thread)) (slice_get-get_or ts n no_thread h) in
+    let o : Outcome = performed m.cells n t (thread_move m.code t) in
+    let same : k.thread ≡ o.thread = ap (λ (x : KeptThread). x.thread) came.0 in
+    let threads : set m.threads n o.thread ≡ map (λ (x : KeptThread). x.thread) (set ts n k) = ap (λ xs. set xs n o.thread) list ∙ (ap (set (map (λ (x : KeptThread). x.thread) ts) n) (sym same) ∙ sym (map-set (λ (x : KeptThread). x.thread) ts n k)) in
+    let cells = sym came.1 in
+    let did = sym came.2 in
+    ap (step_of m n) found ∙ (ap (open_step m n t) runs ∙ (ap (due_step m n t) due ∙ stepped_is m n o (map (λ (x : KeptThread). x.thread) (set ts n k)) c d threads cells did))

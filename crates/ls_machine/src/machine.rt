@@ -1,0 +1,326 @@
+// The parallel machine.
+
+ghost use Rattle.std.specs.Prelude.{◌≡◌, ℕ, ◌+◌, ◌<◌, ◌≤◌, ◌^◌, ◌++◌, ◌↔◌, List, length, map, slice_get, slice_index_or, vec_len, vec_capacity, IfOk, IsErrOf, ◌*◌};
+ghost use Rattle.std.specs.List.{All, sum_by};
+ghost use Rattle.ls_code.specs.Events.{events_of, result_of, result_value};
+ghost use Rattle.ls_code.specs.Machine.{loaded, machine_step, machine_run, machine_state, setup_ended, stops, is_due as due};
+ghost use Rattle.ls_machine.specs.Memory.{no_thread, started_kept};
+ghost use Rattle.ls_machine.specs.Room.{AreBadCells};
+
+use crate::cells::Cells;
+use crate::fault::LoadFault;
+use crate::thread::Thread;
+use crate::{steps, words};
+use ls_code::code::{CallResult, Code, Method, Start};
+use ls_code::step::{Did, Mode, ThreadState};
+use ls_events::action::Action;
+use ls_events::event::{Event, Happening};
+use ls_events::schedule::Schedule;
+use ls_events::value::Value;
+use std::alloc::{AllocError, Global};
+use std::marker::Model;
+
+/// The most cells of a machine.
+pub const MOST_CELLS: usize = 1_048_576;
+
+/// A machine that runs an image, with all the memory that any run of it takes.
+#[derive(Drop)]
+pub struct Machine {
+    code: Code,
+    threads: Vec<Thread>,
+    cells: Cells,
+    stopped: bool,
+    history: Vec<Event>,
+    limit: usize,
+}
+
+impl Model for Machine {
+    ghost use Rattle.std.specs.Prelude.{◌≤◌, map, vec_capacity, vec_len};
+    ghost use Rattle.ls_code.specs.Machine.{Machine as MachineValue};
+    ghost use Rattle.ls_machine.specs.Room.{HasMemory};
+
+    ghost Value = { MachineValue };
+
+    ghost view = { λ m. record { code = m.code; threads = map (λ t. t.thread) m.threads.items; cells = m.cells; stopped = m.stopped; history = m.history.items } };
+
+    ghost invariant = { λ m. HasMemory m.code m.threads.items (vec_len m.history) m.limit × (m.limit ≤ vec_capacity m.history) };
+}
+
+impl Machine {
+    /// The machine of an image, at its start, with so many cells, and with all the memory that any run of it takes.
+    pub fn load(alloc: Global, code: &Code, cells: usize) -> Result<Machine, LoadFault>
+        ensures bad { IsErrOf result LoadFault.BadCells ↔ AreBadCells code.now.names cells }
+        ensures loaded { IfOk result (λ m. m ≡ loaded code.now cells) }
+    {
+        if cells == 0 || cells > MOST_CELLS || cells < code.names() {
+            return Err(LoadFault::BadCells);
+        }
+        let machine = load_all(alloc, code, cells)?;
+        Ok(machine)
+    }
+
+    /// The events so far.
+    pub fn history(&self) -> &[Event]
+        ensures { result.now ≡ self.now.history }
+    {
+        &self.history
+    }
+
+    /// Where a thread stands. One that isn't there has ended; once the machine has stopped, each other has stopped.
+    pub fn state_of(&self, number: usize) -> ThreadState
+        ensures { result ≡ machine_state self.now number }
+    {
+        if number >= self.threads.len() {
+            return ThreadState::Ended;
+        }
+        if self.stopped {
+            return ThreadState::Stopped;
+        }
+        if number != 0 && !has_setup_ended(&self.threads) {
+            return ThreadState::NotStarted;
+        }
+        let thread = &self.threads[number];
+        match thread.mode() {
+            Mode::Running => ThreadState::Running,
+            Mode::Ended => ThreadState::Ended,
+            Mode::Trapped => ThreadState::Trapped,
+        }
+    }
+
+    /// One step of a thread. It takes no memory, and always succeeds.
+    #[inline]
+    pub fn step(&mut self, number: usize) -> Did
+        ensures machine { self.new ≡ (machine_step self.old number).machine }
+        ensures did { result ≡ (machine_step self.old number).did }
+    {
+        if number >= self.threads.len() {
+            return Did::Idle;
+        }
+        if self.stopped {
+            return Did::Stopped;
+        }
+        if !is_due(&self.threads, number) {
+            return Did::Idle;
+        }
+        let thread = &mut self.threads[number];
+        let did = steps::run(&self.code, &mut self.cells, number, thread);
+        self.stopped = is_stop(did);
+        record(&mut self.history, &self.code, number, did);
+        did
+    }
+
+    /// Takes the steps of a schedule. It takes no memory, and always succeeds.
+    pub fn run(&mut self, schedule: &Schedule)
+        ensures { self.new ≡ machine_run self.old schedule.now }
+    {
+        for thread in schedule.steps() {
+            let _ = self.step(*thread);
+        }
+    }
+}
+
+/// The machine of an image at its start.
+fn load_all(alloc: Global, code: &Code, cells: usize) -> Result<Machine, AllocError>
+    requires names { code.now.names ≤ cells }
+    requires few { cells ≤ 2 ^ 20 }
+    ensures { IfOk result (λ m. m ≡ loaded code.now cells) }
+{
+    let code = code.copied(alloc)?;
+    let locals_room = locals_needed(&code);
+    let operands_room = operands_needed(&code).max(most_needed(code.starts()));
+    let limit = events_needed(&code);
+    let history = Vec::with_capacity(alloc, limit)?;
+    let threads = start_all(alloc, code.starts(), locals_room, operands_room)?;
+    let cells = Cells::new(
+        alloc,
+        code.names(),
+        cells,
+        copied_sizes(alloc, code.sizes())?,
+    )?;
+    Ok(Machine {
+        code,
+        threads,
+        cells,
+        stopped: false,
+        history,
+        limit,
+    })
+}
+
+/// A copy of the classes' sizes.
+fn copied_sizes(alloc: Global, sizes: &[usize]) -> Result<Vec<usize>, AllocError>
+    ensures { IfOk result (λ copy. copy.items ≡ sizes.now) }
+{
+    sizes.iter().copied().collect(alloc)
+}
+
+/// Whether a thread goes on and, but for the setup, the setup has ended.
+#[inline]
+fn is_due(threads: &[Thread], number: usize) -> bool
+    requires { number < length threads.now }
+    ensures { result ≡ due (map (λ t. t.thread) threads.now) number (slice_index_or threads.now number no_thread).thread }
+{
+    let thread = &threads[number];
+    if thread.mode() != Mode::Running {
+        return false;
+    }
+    if number == 0 {
+        return true;
+    }
+    let setup = &threads[0];
+    setup.mode() == Mode::Ended
+}
+
+/// What a call of a thread answers.
+fn call_result(code: &Code, thread: usize, call: usize) -> Option<CallResult>
+    ensures { result ≡ result_of code.now thread call }
+{
+    match code.starts().get(thread) {
+        None => None,
+        Some(start) => start.calls().get(call.saturating_sub(1)).copied(),
+    }
+}
+
+/// The value of a call's word.
+fn value_of(answers: Option<CallResult>, word: Option<u64>) -> Option<Value>
+    ensures { result ≡ result_value answers word }
+{
+    let word = word?;
+    match answers? {
+        CallResult::Int => Some(Value::Int(words::int_of(word))),
+        CallResult::Boolean => Some(Value::Boolean(words::bool_of(word))),
+        CallResult::Nothing => None,
+    }
+}
+
+/// Adds the events of a step to the history.
+#[inline]
+fn record(history: &mut Vec<Event>, code: &Code, thread: usize, did: Did)
+    requires { vec_len history.old + length (events_of code.now thread did) ≤ vec_capacity history.old }
+    ensures events { history.new.items ≡ history.old.items ++ events_of code.now thread did }
+    ensures len { vec_len history.new ≡ vec_len history.old + length (events_of code.now thread did) }
+    ensures capacity { vec_capacity history.old ≤ vec_capacity history.new }
+{
+    let (call, happening) = match did {
+        Did::Acted(Action::Call(call), _) => (call, Happening::Called),
+        Did::Acted(Action::Return(call, word), _) => (
+            call,
+            Happening::Returned(value_of(call_result(code, thread, call), word)),
+        ),
+        Did::Acted(Action::Trap(call, kind), _) => (call, Happening::Trapped(kind)),
+        _ => return,
+    };
+    let Ok(()) = history.push(Event {
+        thread,
+        call,
+        happening,
+    }) else {
+        unreachable!()
+    };
+}
+
+/// Whether a step stops the machine.
+#[inline]
+fn is_stop(did: Did) -> bool
+    ensures { result ≡ stops did }
+{
+    match did {
+        Did::Stopped => true,
+        Did::Silent | Did::Acted(_, _) | Did::Waits | Did::Idle => false,
+    }
+}
+
+/// The locals that every method has room in.
+fn locals_needed(code: &Code) -> usize
+    ensures { All (λ m. m.arguments + m.more ≤ result) code.now.methods }
+{
+    most_locals(code.methods())
+}
+
+/// The operands that every method has room in.
+fn operands_needed(code: &Code) -> usize
+    ensures { All (λ m. m.need ≤ result) code.now.methods }
+{
+    most_operands(code.methods())
+}
+
+/// Two events for each call.
+fn events_needed(code: &Code) -> usize
+    ensures { result ≡ sum_by (λ s. 2 * length s.calls) code.now.starts }
+{
+    count_events(code.starts())
+}
+
+/// The most locals of a method.
+fn most_locals(methods: &[Method]) -> usize
+    requires { All (λ m. (m.arguments ≤ 2 ^ 20) × (m.more ≤ 2 ^ 20)) methods.now }
+    ensures { All (λ m. m.arguments + m.more ≤ result) methods.now }
+{
+    let mut most = 0;
+    for method in methods {
+        most = most.max(method.arguments + method.more);
+    }
+    most
+}
+
+/// The most operands of a method.
+fn most_operands(methods: &[Method]) -> usize
+    ensures { All (λ m. m.need ≤ result) methods.now }
+{
+    let mut most = 0;
+    for method in methods {
+        most = most.max(method.need);
+    }
+    most
+}
+
+/// The most operands of the lowest frames.
+fn most_needed(starts: &[Start]) -> usize
+    ensures { All (λ s. s.need ≤ result) starts.now }
+{
+    let mut most = 0;
+    for start in starts {
+        most = most.max(start.need());
+    }
+    most
+}
+
+/// Two events for each call.
+fn count_events(starts: &[Start]) -> usize
+    requires threads { length starts.now ≤ 65 }
+    requires calls { All (λ s. length s.calls ≤ 2 ^ 20) starts.now }
+    ensures { result ≡ sum_by (λ s. 2 * length s.calls) starts.now }
+{
+    let mut count = 0;
+    for start in starts {
+        count += 2 * start.calls().len();
+    }
+    count
+}
+
+/// Each thread at its start.
+fn start_all(
+    alloc: Global,
+    starts: &[Start],
+    locals_room: usize,
+    operands_room: usize,
+) -> Result<Vec<Thread>, AllocError>
+    requires { All (λ s. s.need ≤ operands_room) starts.now }
+    ensures { IfOk result (λ v. v.items ≡ map (started_kept locals_room operands_room) starts.now) }
+{
+    let mut threads = Vec::new(alloc);
+    for start in starts {
+        threads.push(Thread::new(alloc, start, locals_room, operands_room)?)?;
+    }
+    Ok(threads)
+}
+
+/// Whether the setup has ended without a trap.
+fn has_setup_ended(threads: &[Thread]) -> bool
+    ensures { result ≡ setup_ended (slice_get (map (λ t. t.thread) threads.now) 0) }
+{
+    match threads {
+        [] => false,
+        [setup, ..] => setup.mode() == Mode::Ended,
+    }
+}

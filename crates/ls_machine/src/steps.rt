@@ -1,0 +1,280 @@
+// One step of one thread.
+
+ghost use Rattle.std.specs.Prelude.{◌≡◌, ℕ, ◌+◌, ◌<◌, ◌≤◌, ◌^◌, length, slice_get, IfSome, true, false};
+ghost use Rattle.ls_code.specs.Cells.{effect};
+ghost use Rattle.ls_code.specs.Moves.{frame_move};
+ghost use Rattle.ls_code.specs.Steps.{answered, settled, performed, thread_move, wide_move, enters_move, throw_move, leaves_with_move, throws_move, begin_move, gives_move, result_move, trap_move, of_frame};
+ghost use Rattle.ls_machine.specs.Flows.{CanResume, is_silent};
+ghost use Rattle.ls_machine.specs.Memory.{MethodsFit};
+ghost use Rattle.ls_machine.specs.Outcomes.{Came};
+ghost use Rattle.ls_machine.specs.Takes.{IsQuiet, TakesEvents};
+
+use crate::cells::Cells;
+use crate::exchanges::{drop_lock, see, take};
+use crate::flow::{Entered, Flow, Quick, Reply};
+use crate::thread::Thread;
+use crate::words;
+use ls_code::code::{CallResult, Code, Method};
+use ls_code::instruction::{Instruction, Resume, ThreadInstruction};
+use ls_code::step::Did;
+use ls_events::action::{Action, Answer};
+use ls_events::kind::Kind;
+
+/// The innermost frame asks the cells, and goes on with their answer.
+#[inline]
+fn ask(
+    code: &Code,
+    cells: &mut Cells,
+    number: usize,
+    thread: &mut Thread,
+    action: Action<u64>,
+    how: Resume,
+) -> Did
+    requires number { number ≤ 64 }
+    requires place { thread.old.thread.top.counter + 1 < 2 ^ 64 }
+    requires ready { CanResume how thread.old.thread.top }
+    requires quiet { IsQuiet action }
+    ensures came { Came (settled cells.old thread.old.thread action (answered code.now thread.old.thread how) (effect cells.old number action)) thread.old thread.new cells.new result }
+    ensures events { TakesEvents code.now number result thread.old.thread thread.new.thread }
+{
+    match cells.perform(number, action) {
+        Reply::Waits => Did::Waits,
+        Reply::Stops => Did::Stopped,
+        Reply::Unfit => Did::Silent,
+        Reply::Answered(answer) => match answer {
+            Answer::Done => {
+                thread.resume(how, 0);
+                Did::Acted(action, answer)
+            }
+            Answer::Gives(word) => {
+                thread.resume(how, word);
+                Did::Acted(action, answer)
+            }
+            Answer::Fails(kind) => {
+                if thread.throw(code.handlers(), kind) {
+                    Did::Acted(action, answer)
+                } else {
+                    Did::Silent
+                }
+            }
+        },
+    }
+}
+
+/// The thread throws, and drops frames up to the one that catches it.
+fn throw(code: &Code, cells: &mut Cells, number: usize, thread: &mut Thread, kind: Kind) -> Did
+    ensures came { Came (performed cells.old number thread.old.thread (throw_move code.now thread.old.thread kind)) thread.old thread.new cells.new result }
+    ensures events { TakesEvents code.now number result thread.old.thread thread.new.thread }
+{
+    let _ = thread.throw(code.handlers(), kind);
+    Did::Silent
+}
+
+/// The method of a number.
+fn find_method(code: &Code, number: usize) -> Option<Method>
+    ensures { result ≡ slice_get code.now.methods number }
+{
+    code.methods().get(number).copied()
+}
+
+/// The thread enters a method.
+fn enter(code: &Code, cells: &mut Cells, number: usize, thread: &mut Thread, method: u32) -> Did
+    requires place { thread.old.thread.top.counter + 1 < 2 ^ 64 }
+    requires fit { MethodsFit code.now.methods thread.old.locals_room thread.old.operands_room }
+    ensures came { Came (performed cells.old number thread.old.thread (enters_move code.now thread.old.thread method)) thread.old thread.new cells.new result }
+    ensures events { TakesEvents code.now number result thread.old.thread thread.new.thread }
+{
+    match find_method(code, method as usize) {
+        None => Did::Silent,
+        Some(called) => match thread.enter(&called) {
+            Entered::Entered => Did::Acted(Action::Enter(method as usize), Answer::Done),
+            Entered::Throws(kind) => throw(code, cells, number, thread, kind),
+            Entered::Stuck => Did::Silent,
+        },
+    }
+}
+
+/// The thread leaves its frame with a value.
+fn leave_with(code: &Code, cells: &mut Cells, number: usize, thread: &mut Thread) -> Did
+    ensures came { Came (performed cells.old number thread.old.thread (leaves_with_move thread.old.thread)) thread.old thread.new cells.new result }
+    ensures events { TakesEvents code.now number result thread.old.thread thread.new.thread }
+{
+    match thread.one() {
+        None => Did::Silent,
+        Some(word) => {
+            let _ = thread.leave_with(word);
+            Did::Silent
+        }
+    }
+}
+
+/// The thread throws a kind that it pops.
+fn throw_popped(code: &Code, cells: &mut Cells, number: usize, thread: &mut Thread) -> Did
+    ensures came { Came (performed cells.old number thread.old.thread (throws_move code.now thread.old.thread)) thread.old thread.new cells.new result }
+    ensures events { TakesEvents code.now number result thread.old.thread thread.new.thread }
+{
+    match thread.one() {
+        None => Did::Silent,
+        Some(word) => match words::kind_of(word) {
+            None => Did::Silent,
+            Some(kind) => throw(code, cells, number, thread, kind),
+        },
+    }
+}
+
+/// The call that is due begins.
+fn begin(code: &Code, cells: &mut Cells, number: usize, thread: &mut Thread, call: u32) -> Did
+    requires { thread.old.thread.top.counter + 1 < 2 ^ 64 }
+    ensures came { Came (performed cells.old number thread.old.thread (begin_move thread.old.thread call)) thread.old thread.new cells.new result }
+    ensures events { TakesEvents code.now number result thread.old.thread thread.new.thread }
+{
+    if !thread.is_due(call as usize) {
+        return Did::Silent;
+    }
+    thread.begin_call();
+    Did::Acted(Action::Call(call as usize), Answer::Done)
+}
+
+/// The pending call ends with a value.
+fn give(code: &Code, cells: &mut Cells, number: usize, thread: &mut Thread, call: u32) -> Did
+    requires place { thread.old.thread.top.counter + 1 < 2 ^ 64 }
+    requires pending { thread.old.thread.pending ≡ true }
+    requires some { thread.old.thread.ended < length thread.old.thread.calls }
+    ensures came { Came (performed cells.old number thread.old.thread (gives_move thread.old.thread call)) thread.old thread.new cells.new result }
+    ensures events { TakesEvents code.now number result thread.old.thread thread.new.thread }
+{
+    match thread.one() {
+        None => Did::Silent,
+        Some(word) => {
+            thread.end_call(1);
+            Did::Acted(Action::Return(call as usize, Some(word)), Answer::Done)
+        }
+    }
+}
+
+/// The pending call ends.
+fn end(code: &Code, cells: &mut Cells, number: usize, thread: &mut Thread, call: u32) -> Did
+    requires { thread.old.thread.top.counter + 1 < 2 ^ 64 }
+    ensures came { Came (performed cells.old number thread.old.thread (result_move thread.old.thread call)) thread.old thread.new cells.new result }
+    ensures events { TakesEvents code.now number result thread.old.thread thread.new.thread }
+{
+    if !thread.is_pending(call as usize) {
+        return Did::Silent;
+    }
+    match thread.result() {
+        None => Did::Silent,
+        Some(CallResult::Int) => give(code, cells, number, thread, call),
+        Some(CallResult::Boolean) => give(code, cells, number, thread, call),
+        Some(CallResult::Nothing) => {
+            thread.end_call(0);
+            Did::Acted(Action::Return(call as usize, None), Answer::Done)
+        }
+    }
+}
+
+/// The pending call traps.
+fn trap(code: &Code, cells: &mut Cells, number: usize, thread: &mut Thread) -> Did
+    ensures came { Came (performed cells.old number thread.old.thread (trap_move thread.old.thread)) thread.old thread.new cells.new result }
+    ensures events { TakesEvents code.now number result thread.old.thread thread.new.thread }
+{
+    if !thread.has_pending() {
+        return Did::Silent;
+    }
+    match thread.one() {
+        None => Did::Silent,
+        Some(word) => match words::kind_of(word) {
+            None => Did::Silent,
+            Some(kind) => {
+                let call = thread.call();
+                thread.trap();
+                Did::Acted(Action::Trap(call, kind), Answer::Done)
+            }
+        },
+    }
+}
+
+/// An instruction that is about more than one frame and the cells.
+fn beyond(
+    code: &Code,
+    cells: &mut Cells,
+    number: usize,
+    thread: &mut Thread,
+    instruction: ThreadInstruction,
+) -> Did
+    requires number { number ≤ 64 }
+    requires place { thread.old.thread.top.counter + 1 < 2 ^ 64 }
+    requires fit { MethodsFit code.now.methods thread.old.locals_room thread.old.operands_room }
+    ensures came { Came (performed cells.old number thread.old.thread (wide_move code.now thread.old.thread instruction)) thread.old thread.new cells.new result }
+    ensures events { TakesEvents code.now number result thread.old.thread thread.new.thread }
+{
+    match instruction {
+        ThreadInstruction::Halt => {
+            thread.halt();
+            Did::Silent
+        }
+        ThreadInstruction::Enter(x) => enter(code, cells, number, thread, x),
+        ThreadInstruction::Leave => {
+            let _ = thread.leave();
+            Did::Silent
+        }
+        ThreadInstruction::LeaveWith => leave_with(code, cells, number, thread),
+        ThreadInstruction::Throw => throw_popped(code, cells, number, thread),
+        ThreadInstruction::Call(x) => begin(code, cells, number, thread, x),
+        ThreadInstruction::Result(x) => end(code, cells, number, thread, x),
+        ThreadInstruction::Trap => trap(code, cells, number, thread),
+        ThreadInstruction::See(x) => see(code, cells, number, thread, x),
+        ThreadInstruction::Take(x) => take(code, cells, number, thread, x),
+        ThreadInstruction::DropLock => drop_lock(code, cells, number, thread),
+    }
+}
+
+/// The instruction at a place.
+#[inline]
+fn fetch(code: &Code, place: usize) -> Option<Instruction>
+    ensures value { result ≡ slice_get code.now.instructions place }
+    ensures within { IfSome result (λ _. place + 1 < 2 ^ 64) }
+{
+    code.instructions().get(place).copied()
+}
+
+/// An instruction that isn't silent.
+fn run_other(
+    code: &Code,
+    cells: &mut Cells,
+    number: usize,
+    thread: &mut Thread,
+    instruction: Instruction,
+) -> Did
+    requires number { number ≤ 64 }
+    requires other { is_silent instruction ≡ false }
+    requires place { thread.old.thread.top.counter + 1 < 2 ^ 64 }
+    requires fit { MethodsFit code.now.methods thread.old.locals_room thread.old.operands_room }
+    ensures came { Came (performed cells.old number thread.old.thread (of_frame code.now thread.old.thread (frame_move instruction thread.old.thread.top))) thread.old thread.new cells.new result }
+    ensures events { TakesEvents code.now number result thread.old.thread thread.new.thread }
+{
+    match thread.advance(instruction) {
+        Flow::Stuck => Did::Silent,
+        Flow::Throws(kind) => throw(code, cells, number, thread, kind),
+        Flow::Asks(action, how) => ask(code, cells, number, thread, action, how),
+        Flow::Beyond(wide) => beyond(code, cells, number, thread, wide),
+    }
+}
+
+/// One step of a thread.
+#[inline]
+pub fn run(code: &Code, cells: &mut Cells, number: usize, thread: &mut Thread) -> Did
+    requires number { number ≤ 64 }
+    requires fit { MethodsFit code.now.methods thread.old.locals_room thread.old.operands_room }
+    ensures came { Came (performed cells.old number thread.old.thread (thread_move code.now thread.old.thread)) thread.old thread.new cells.new result }
+    ensures events { TakesEvents code.now number result thread.old.thread thread.new.thread }
+{
+    match fetch(code, thread.counter()) {
+        None => Did::Silent,
+        Some(instruction) => match thread.quick(instruction) {
+            Quick::Next => Did::Silent,
+            Quick::Stuck => Did::Silent,
+            Quick::Throws(kind) => throw(code, cells, number, thread, kind),
+            Quick::Other => run_other(code, cells, number, thread, instruction),
+        },
+    }
+}
