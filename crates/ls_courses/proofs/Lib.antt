@@ -1,0 +1,4 @@
+pub mod Weight
+pub mod Depths
+pub mod Blocks
+pub mod Arguments

@@ -1,0 +1,49 @@
+-- The definitions, evaluated on small cases.
+use Rattle.std.specs.Prelude.{◌≡◌, ◌++◌, pos, negsuc, true, false, [], ◌∷◌, replicate}
+use Rattle.ls_events.specs.declared.value.Value.TheVariants.{Int, Boolean, Reference, Pair}
+use Rattle.ls_events.specs.declared.kind.Kind.TheVariants.{Error}
+use Rattle.ls_events.specs.declared.action.Answer.TheVariants.{Done, Gives, Fails}
+use Rattle.ls_meaning.specs.Store.{Object, FreeLock, Array}
+use Rattle.ls_code.specs.Machine.{loaded, machine_trace}
+use Rattle.ls_headline.specs.InWords.{word_of, births, numbered}
+use Rattle.ls_headline.specs.Sorts.{InKind}
+use Rattle.ls_headline.specs.Translations.{to_source, to_machine}
+use Rattle.ls_headline.specs.Same.{total, Fits}
+use Rattle.ls_headline.specs.Example.{file, program, code}
+
+-- the words of -1, of true, of null, and of a pair of object 3 and a mark
+abbrev pub WordsOfValues : Type 0
+WordsOfValues = (word_of (Int (negsuc 0)) ≡ 4294967295) × (word_of (Boolean true) ≡ 1) × (word_of (Reference 0) ≡ 0) × (word_of (Pair 3 true) ≡ 7)
+
+-- an object without fields has a cell, and an array of three items four
+abbrev pub CellsOfThings : Type 0
+CellsOfThings = total (Object [] ∷ FreeLock ∷ Array 3 (λ i. Boolean false) ∷ []) ≡ 6
+
+-- each acting instruction is one source step; a step that isn't due yet, a silent one and one after the end are none
+abbrev pub ScheduleToSource : Type 0
+ScheduleToSource = to_source code 9 (1 ∷ replicate 8 0 ++ replicate 12 1) ≡ replicate 5 0 ++ replicate 6 1
+
+-- the instructions up to each acting one, and the setup's last, silent one with its return
+abbrev pub ScheduleToMachine : Type 0
+ScheduleToMachine = to_machine file program code 9 (1 ∷ replicate 5 0 ++ replicate 7 1) ≡ replicate 8 0 ++ replicate 9 1
+
+-- the name has cell 1, the object 2, the lock 3
+abbrev pub BirthsOfRun : Type 0
+BirthsOfRun = births (machine_trace (loaded code 9) (replicate 8 0 ++ replicate 9 1)) ≡ 2 ∷ 3 ∷ []
+
+-- object 1 stands at 2 and object 2 at 3
+abbrev pub NumbersOfBirths : Type 0
+NumbersOfBirths = (numbered (2 ∷ 3 ∷ []) 0 ≡ 0) × (numbered (2 ∷ 3 ∷ []) 1 ≡ 2) × (numbered (2 ∷ 3 ∷ []) 2 ≡ 3)
+
+-- a making isn't answered null, nor done, nor by an exception; what is read of a name may be null
+abbrev pub AnswersInKind : Type 0
+AnswersInKind =
+    (InKind file program 0 (Done ∷ Gives (Reference 0) ∷ []) → ⊥)
+    × (InKind file program 0 (Done ∷ Fails Error ∷ []) → ⊥)
+    × (InKind file program 0 (Done ∷ Gives (Int (pos 1)) ∷ []) → ⊥)
+    × InKind file program 0 (Done ∷ Gives (Reference 1) ∷ [])
+    × InKind file program 1 (Done ∷ Gives (Reference 0) ∷ [])
+
+-- one cell too few for the lock
+abbrev pub RoomOfRun : Type 0
+RoomOfRun = Fits file program 3 (replicate 5 0 ++ replicate 6 1) × (Fits file program 2 (replicate 5 0 ++ replicate 6 1) → ⊥)

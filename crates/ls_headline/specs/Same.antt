@@ -1,0 +1,51 @@
+-- An image is the same as its source.
+use Rattle.std.specs.Prelude.{◌≡◌, ℕ, ◌+◌, ◌≤◌, List, [], ◌∷◌, length}
+use Rattle.ls_checked.specs.CheckedTree.{File}
+use Rattle.ls_checked.specs.CheckedProgram.{Program}
+use Rattle.ls_meaning.specs.Store.{Thing, Object, FreeLock, HeldLock, Markable, Array}
+use Rattle.ls_meaning.specs.Runs.{source_run, source_trace, source_history}
+use Rattle.ls_code.specs.Code.{Code}
+use Rattle.ls_code.specs.Machine.{loaded, machine_trace, machine_history}
+use Rattle.ls_headline.specs.InWords.{births, numbered, ArePlaces, Agree}
+use Rattle.ls_headline.specs.Threads.{at_least_one}
+use Rattle.ls_headline.specs.Translations.{to_source, to_machine}
+
+-- the cells of a thing: an object its fields and at least 1, a lock 1, a markable 1, an array 1 and its items
+abbrev pub size_of : Thing → ℕ
+size_of (Object fields) = at_least_one (length fields)
+size_of FreeLock = 1
+size_of (HeldLock owner holds) = 1
+size_of (Markable pair) = 1
+size_of (Array size items) = size + 1
+
+abbrev pub total : List Thing → ℕ
+total [] = 0
+total (o ∷ os) = size_of o + total os
+
+-- the setup names, and all that a schedule makes, have room in so many cells
+abbrev pub Fits : File → Program → ℕ → List ℕ → Type 0
+Fits file program cells schedule = length program.names + total (source_run file program schedule).store.things ≤ cells
+
+-- a number of cells with which a machine can be made of an image
+pub record IsCells (code : Code) (cells : ℕ) : Type 0 where
+  pub some : 1 ≤ cells
+  pub most : cells ≤ 1048576
+  pub names : code.names ≤ cells
+
+-- A schedule of the machine with so many cells, and one of the source, come to the same: the actions in their order with
+-- their answers, the machine's in words; and the events, with the values that calls return. The makings have answered
+-- different addresses, none of them 0, so that a word names one object.
+pub record Alike (file : File) (program : Program) (code : Code) (cells : ℕ) (of_machine of_source : List ℕ) : Type 0 where
+  pub traces : Agree (machine_trace (loaded code cells) of_machine) (source_trace file program of_source)
+  pub places : ArePlaces (length (births (machine_trace (loaded code cells) of_machine))) (numbered (births (machine_trace (loaded code cells) of_machine)))
+  pub histories : machine_history code cells of_machine ≡ source_history file program of_source
+
+-- for each number of cells: each schedule of instructions has its schedule of source steps, and each schedule of source
+-- steps that fits has its schedule of instructions
+pub record Same (file : File) (program : Program) (code : Code) : Type 0 where
+  pub threads : length code.starts ≡ length program.threads
+  pub names : code.names ≡ length program.names
+  pub back : (cells : ℕ) → IsCells code cells → (schedule : List ℕ) →
+      Alike file program code cells schedule (to_source code cells schedule)
+  pub forth : (cells : ℕ) → IsCells code cells → (schedule : List ℕ) → Fits file program cells schedule →
+      Alike file program code cells (to_machine file program code cells schedule) schedule

@@ -1,0 +1,76 @@
+-- What is asked of an image and of the meaning, so that the image's runs are the source's.
+use Rattle.std.specs.Prelude.{◌≡◌, ℕ, zero, suc, List, length, map, Option, Some, None, slice_get}
+use Rattle.std.specs.List.{All}
+use Rattle.ls_events.specs.declared.value.Value.{Value}
+use Rattle.ls_events.specs.declared.value.ValueType.{ValueType}
+use Rattle.ls_events.specs.declared.value.ValueType.TheVariants as type
+use Rattle.ls_events.specs.declared.action.Action.{Action}
+use Rattle.ls_checked.specs.CheckedTree.{Class, File}
+use Rattle.ls_checked.specs.CheckedProgram.{Program, ThreadProgram, ProgramCall, Making, Calling}
+use Rattle.ls_meaning.specs.declared.sort.Sort.{Sort}
+use Rattle.ls_meaning.specs.Course.{Answers}
+use Rattle.ls_meaning.specs.Threads.{Next, Goes, Ended, Trapped, next}
+use Rattle.ls_code.specs.Code.{Code, Start}
+use Rattle.ls_code.specs.Machine.{started}
+use Rattle.ls_code.specs.Fed.{Fed, fed}
+use Rattle.ls_code.specs.Fed as fed
+use Rattle.ls_code.specs.declared.instruction.Instruction.{Instruction}
+use Rattle.ls_code.specs.declared.instruction.Instruction.TheVariants.{See, Take, DropLock}
+use Rattle.ls_code.specs.declared.code.CallResult.{CallResult}
+use Rattle.ls_code.specs.declared.code.CallResult.TheVariants as result
+use Rattle.ls_headline.specs.InWords.{word_of, map_action, map_answer}
+use Rattle.ls_headline.specs.Sorts.{ActionHas, InKind, Known}
+use Rattle.ls_headline.specs.Translations.{most_silent}
+
+-- what a thread of the machine is told of, where the source does this next
+abbrev pub told : Next → Fed
+told (Goes action sort) = fed.Asked (map_action (λ n. n) word_of action)
+told Ended = fed.Ended
+told Trapped = fed.Trapped
+
+-- an object has at least one cell
+abbrev pub at_least_one : ℕ → ℕ
+at_least_one zero = 1
+at_least_one (suc n) = suc n
+
+-- what a call answers, as the image's table of calls has it
+abbrev pub result_type : Option ValueType → CallResult
+result_type None = result.Nothing
+result_type (Some type.Int) = result.Int
+result_type (Some type.Boolean) = result.Boolean
+result_type (Some t) = result.Nothing
+
+abbrev pub call_result : ProgramCall → CallResult
+call_result (Making name c text values) = result.Nothing
+call_result (Calling name m text answers values) = result_type answers
+
+abbrev pub calls_of : Option Start → Option ThreadProgram → Type 0
+calls_of None None = Unit {0}
+calls_of (Some s) (Some t) = s.calls ≡ map call_result t.calls
+calls_of _ _ = ⊥
+
+-- locks are taken in one step
+abbrev pub IsWhole : Instruction → Type 0
+IsWhole (See p) = ⊥
+IsWhole (Take p) = ⊥
+IsWhole DropLock = ⊥
+IsWhole i = Unit {0}
+
+-- what the image promises
+pub record Asks (file : File) (program : Program) (code : Code) : Type 0 where
+  -- each thread, fed with answers in kind, asks what the source asks next, and ends as it does; it is never stuck, nor
+  -- silent for too long
+  pub asks : (t : ℕ) (s : Start) (had : Answers) → slice_get code.starts t ≡ Some s → InKind file program t had →
+      fed code t (most_silent code) (most_silent code) (started s) (map (map_answer word_of) had) ≡ told (next file program t had)
+  -- the threads of the program, with their calls, and its names
+  pub threads : (t : ℕ) → calls_of (slice_get code.starts t) (slice_get program.threads t)
+  pub names : code.names ≡ length program.names
+  -- the cells of an object of each class
+  pub sizes : (c : ℕ) (class : Class) → slice_get file.classes c ≡ Some class → slice_get code.sizes c ≡ Some (at_least_one (length class.fields))
+  pub whole : All IsWhole code.instructions
+
+-- what the meaning of a file and a program promises
+pub record IsSound (file : File) (program : Program) : Type 0 where
+  -- after answers that name things of the right types, it asks for an action on things and values of the right types
+  pub sound : (things : List ValueType) (t : ℕ) (had : Answers) (a : Action Value) (s : Sort) →
+      Known file program things t had → next file program t had ≡ Goes a s → ActionHas file program things t a s

@@ -1,0 +1,58 @@
+// The laws, each as the contract of a function that computes nothing.
+
+ghost use Rattle.std.specs.Prelude.{◌≡◌, ℕ, ◌++◌, List, length};
+ghost use Rattle.ls_events.specs.declared.value.Value.{Value};
+ghost use Rattle.ls_events.specs.declared.value.ValueType.{ValueType};
+ghost use Rattle.ls_checked.specs.CheckedTree.{File};
+ghost use Rattle.ls_checked.specs.CheckedProgram.{Program};
+ghost use Rattle.ls_meaning.specs.declared.sort.Sort.{Sort};
+ghost use Rattle.ls_meaning.specs.Constants.{FileHasConstants, ProgramHasConstants};
+ghost use Rattle.ls_code.specs.Code.{Code};
+ghost use Rattle.ls_headline.specs.InWords.{written, ArePlaces};
+ghost use Rattle.ls_headline.specs.Sorts.{HasSortBy, Refers};
+ghost use Rattle.ls_headline.specs.Threads.{Asks, IsSound};
+ghost use Rattle.ls_headline.specs.Same.{Fits, Same};
+ghost use Rattle.ls_headline.specs.Example;
+ghost use Rattle.ls_headline.specs.Rows;
+
+use ls_meaning::laws::next_renames;
+
+/// An image whose threads ask what the source asks is the same as its source, where the source's constants name no object
+/// and its threads ask on things of the right types: for each number of cells, each schedule of instructions has a
+/// schedule of source steps with the same trace and history, and each schedule of source steps that fits has a schedule
+/// of instructions with the same trace and history.
+pub fn same_traces()
+    ensures { (file : File) (program : Program) (code : Code) → Asks file program code → FileHasConstants file → ProgramHasConstants program → IsSound file program → Same file program code }
+{
+    next_renames();
+}
+
+/// The word of a value of a known sort determines it, so a trace in words says what the source's trace says.
+pub fn words_determine()
+    ensures { (things : List ValueType) (ρ : ℕ → ℕ) → ArePlaces (length things) ρ → (s : Sort) (v w : Value) → HasSortBy (Refers things) v s → HasSortBy (Refers things) w s → written ρ v ≡ written ρ w → v ≡ w }
+{}
+
+/// A schedule of source steps that fits, fits at each earlier step: so there is a first step that doesn't.
+pub fn fits_shorter()
+    ensures { (file : File) (program : Program) (cells : ℕ) (first rest : List ℕ) → Fits file program cells (first ++ rest) → Fits file program cells first }
+{}
+
+/// What is asked of an image and of the meaning can be met: by a program whose setup makes an object, and whose other
+/// thread takes a lock, and an image of it.
+pub fn example()
+    ensures asks { Asks Example.file Example.program Example.code }
+    ensures constants { FileHasConstants Example.file × ProgramHasConstants Example.program }
+    ensures sound { IsSound Example.file Example.program }
+{}
+
+/// The definitions, evaluated on small cases.
+pub fn rows()
+    ensures words { Rows.WordsOfValues }
+    ensures cells { Rows.CellsOfThings }
+    ensures to_source { Rows.ScheduleToSource }
+    ensures to_machine { Rows.ScheduleToMachine }
+    ensures births { Rows.BirthsOfRun }
+    ensures numbers { Rows.NumbersOfBirths }
+    ensures kinds { Rows.AnswersInKind }
+    ensures room { Rows.RoomOfRun }
+{}

@@ -1,0 +1,12 @@
+pub mod Values
+pub mod Course
+pub mod Expressions
+pub mod Statements
+pub mod Methods
+pub mod Store
+pub mod Effect
+pub mod Threads
+pub mod Steps
+pub mod Runs
+pub mod Renamings
+pub mod Constants

@@ -1,0 +1,24 @@
+// What a thread of a run asks for, and what a step of it does.
+
+use ls_events::action::{Action, Answer};
+use ls_events::value::Value;
+
+/// What a thread asks for next.
+#[derive(Clone, Copy, Debug, PartialEq, Eq)]
+pub enum Asked {
+    Asks(Action<Value>),
+    /// Its last event has happened; so it is for the number of no thread.
+    Ended,
+    /// It waits for the setup, which hasn't ended or has ended with a trap.
+    NotStarted,
+}
+
+/// What a step of a thread does.
+#[derive(Clone, Copy, Debug, PartialEq, Eq)]
+pub enum Did {
+    Acted(Action<Value>, Answer<Value>),
+    /// It asks for a lock that another thread owns.
+    Waits,
+    /// It hasn't started or has ended.
+    Idle,
+}

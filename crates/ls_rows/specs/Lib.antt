@@ -1,0 +1,9 @@
+pub mod Made
+pub mod Worked
+pub mod Lists
+pub mod Order
+pub mod Markables
+pub mod Operators
+pub mod Completions
+pub mod Threads
+pub mod Limits

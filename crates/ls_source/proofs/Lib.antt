@@ -1,0 +1,4 @@
+pub mod Stores
+pub mod Stages
+pub mod Starts
+pub mod Histories

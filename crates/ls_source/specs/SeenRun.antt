@@ -1,0 +1,30 @@
+-- The state of a run that the code keeps, in the definitions' words.
+use Rattle.std.specs.Prelude.{ℕ, List, [], ◌∷◌, Option, Some, None, map}
+use Rattle.std.specs.declared.vec.Vec.{Vec}
+use Rattle.std.specs.declared.alloc.Global.{Global}
+use Rattle.ls_events.specs.declared.value.Value.{Value}
+use Rattle.ls_events.specs.declared.action.Answer.{Answer}
+use Rattle.ls_events.specs.declared.event.Event.{Event}
+use Rattle.ls_meaning.specs.declared.step.Did.{Did}
+use Rattle.ls_meaning.specs.declared.step.Did.TheVariants as did
+use Rattle.ls_meaning.specs.Course.{Answers}
+use Rattle.ls_meaning.specs.Runs.{State, event_of}
+use Rattle.ls_source.specs.declared.stage.Stage.{Stage}
+use Rattle.ls_source.specs.SeenStore.{store_of}
+
+-- the answers of each thread
+abbrev pub lists_of : List (Vec (Answer Value) Global) → List Answers
+lists_of answers = map (λ v. v.items) answers
+
+abbrev pub state_of : Stage → State
+state_of s = record { store = store_of s.store; answers = lists_of s.answers.items }
+
+-- the event of what a step of a thread did
+abbrev pub listed : Option Event → List Event
+listed None = []
+listed (Some e) = e ∷ []
+
+abbrev pub events_by : ℕ → Did → List Event
+events_by thread (did.Acted action answer) = listed (event_of thread action)
+events_by thread did.Waits = []
+events_by thread did.Idle = []

@@ -1,0 +1,10 @@
+//! The steps of a source run: which thread does what next, and what that does to the store.
+#![tactic(auto)]
+
+pub mod run;
+mod stage;
+mod store;
+#[cfg(test)]
+mod tests;
+mod thing;
+mod thread;
