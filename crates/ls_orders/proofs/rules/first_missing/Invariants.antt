@@ -1,0 +1,7 @@
+use Rattle.std.proofs.Common.{◌≡◌, drop}
+use Rattle.std.specs.Prelude.{find}
+use Rattle.ls_orders.specs.Rules.{is_missing}
+use Rattle.ls_orders.proofs.rules.first_missing.Given as goal
+
+abbrev pub invariant-loop-call : goal.invariant-loop-call
+invariant-loop-call l = find (is_missing l.order) (drop l.call-index l.calls) ≡ find (is_missing l.order) l.calls

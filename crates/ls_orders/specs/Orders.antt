@@ -1,0 +1,36 @@
+-- What an order's text says.
+use Rattle.std.specs.Prelude.{◌≡◌, ◌==◌, ◌&&◌, Bool, false, not, List, [], ◌∷◌, Result, Ok, Err, if◌then◌else◌}
+use Rattle.std.specs.List.{list_all}
+use Rattle.std.specs.Option.{option_map_or}
+use Rattle.ls_lexer.specs.Characters.{is_digit}
+use Rattle.ls_lexer.specs.Names.{is_name}
+use Rattle.ls_report.specs.Cut.{cut}
+use Rattle.ls_report.specs.Events.{Text}
+use Rattle.ls_orders.specs.Items.{Item, each, items}
+use Rattle.ls_orders.specs.declared.fault.OrderFault.{OrderFault}
+use Rattle.ls_orders.specs.declared.fault.OrderFault.TheVariants as faults
+
+-- a digit that isn't 0, and then digits
+abbrev pub is_number : Text → Bool
+is_number [] = false
+is_number (b ∷ bs) = not (b == 48) && list_all is_digit (b ∷ bs)
+
+-- a call: a thread's name, a point and a number, as `A.1`
+abbrev pub is_call : Text → Bool
+is_call text = option_map_or (λ p. is_name p.0 && is_number p.1) (cut 46 text) false
+
+abbrev pub call_at : Item → Result Text OrderFault
+call_at item = if is_call item.1 then Ok item.1 else Err (faults.BadOrder item.0)
+
+-- The calls of a text, or the place of its first item that is no call.
+abbrev pub order_of : Text → Result (List Text) OrderFault
+order_of text = each call_at (items 0 text)
+
+-- what a function answers, seen by view, is what is said, unless memory ran out
+abbrev pub Fails : {Y : Type 0} → OrderFault → Result Y OrderFault → Type 0
+Fails faults.Memory said = Unit {0}
+Fails e said = said ≡ Err e
+
+abbrev pub Gives : {X Y : Type 0} → (X → Y) → Result X OrderFault → Result Y OrderFault → Type 0
+Gives view (Ok x) said = said ≡ Ok (view x)
+Gives view (Err e) said = Fails e said

@@ -1,0 +1,208 @@
+// Finding the set calls of a history.
+
+ghost use Rattle.std.specs.Prelude.{◌≡◌, ◌==◌, ◌&&◌, IfOk, [], drop, length, map, option_map, string_bytes};
+ghost use Rattle.std.specs.Option.{option_copied};
+ghost use Rattle.std.specs.Str.{bytes_eq};
+ghost use Rattle.ls_report.specs.Events.{Called};
+ghost use Rattle.ls_report.specs.Plain.{plain_event, plain_occurrence};
+ghost use Rattle.ls_orders.specs.SetCalls.{
+  asked_of,
+  calls_from,
+  end_at,
+  end_of,
+  first_after,
+  first_foreign,
+  is_foreign,
+  name_at,
+  name_of,
+  object_of,
+  only_int,
+  operation_of,
+  reply_of,
+  set_calls,
+};
+
+use crate::calls::{End, Operation, SetCall};
+use ls_events::value::Value;
+use ls_report::history::{NamedEvent, Occurrence};
+use std::alloc::{AllocError, Global};
+use std::fmt::Write;
+
+fn operation_of(method: &str) -> Option<Operation>
+    ensures { result ≡ operation_of method.now }
+{
+    if method == "add" {
+        Some(Operation::Add)
+    } else if method == "remove" {
+        Some(Operation::Remove)
+    } else if method == "contains" {
+        Some(Operation::Contains)
+    } else {
+        None
+    }
+}
+
+/// The argument, where it is one int.
+fn only_int(arguments: &[Value]) -> Option<i32>
+    ensures { result ≡ only_int arguments.now }
+{
+    match arguments {
+        [Value::Int(n)] => Some(*n),
+        _ => None,
+    }
+}
+
+fn asked_with(method: &str, arguments: &[Value]) -> Option<(Operation, i32)>
+    ensures { result ≡ asked_of (Called [] method.now arguments.now) }
+{
+    let item = only_int(arguments)?;
+    let operation = operation_of(method)?;
+    Some((operation, item))
+}
+
+/// The operation and its item, where it is a set call.
+fn asked_of(occurrence: &Occurrence) -> Option<(Operation, i32)>
+    ensures { result ≡ asked_of (plain_occurrence occurrence.now) }
+{
+    match occurrence {
+        Occurrence::Called {
+            method,
+            arguments,
+            ..
+        } => asked_with(method.as_str(), arguments.as_slice()),
+        _ => None,
+    }
+}
+
+fn is_foreign(first: Option<&str>, occurrence: &Occurrence) -> bool
+    ensures { result ≡ is_foreign (option_copied first.entry) (plain_occurrence occurrence.now) }
+{
+    match occurrence {
+        Occurrence::Made { .. } => first.is_some(),
+        Occurrence::Called { object, .. } => {
+            if asked_of(occurrence).is_none() {
+                return true;
+            }
+            match first {
+                Some(first) => first != object.as_str(),
+                None => false,
+            }
+        }
+        _ => false,
+    }
+}
+
+fn first_after<'a>(first: Option<&'a str>, occurrence: &'a Occurrence) -> Option<&'a str>
+    ensures { option_copied result ≡ first_after (option_copied first.entry) (plain_occurrence occurrence.now) }
+{
+    if first.is_some() {
+        return first;
+    }
+    match occurrence {
+        Occurrence::Called { object, .. } => {
+            if asked_of(occurrence).is_some() {
+                Some(object.as_str())
+            } else {
+                None
+            }
+        }
+        _ => None,
+    }
+}
+
+/// The first call that is no set call on the one object.
+pub(crate) fn first_foreign(events: &[NamedEvent]) -> Option<&NamedEvent>
+    ensures { option_map plain_event (option_copied result) ≡ first_foreign (map plain_event events.now) }
+{
+    let mut first = None;
+    for event in events {
+        if is_foreign(first, &event.occurrence) {
+            return Some(event);
+        }
+        first = first_after(first, &event.occurrence);
+    }
+    None
+}
+
+fn reply_of(value: Option<Value>) -> Option<bool>
+    ensures { result ≡ reply_of value }
+{
+    match value {
+        Some(Value::Boolean(b)) => Some(b),
+        _ => None,
+    }
+}
+
+fn end_at(at: usize, occurrence: &Occurrence) -> End
+    ensures { result ≡ end_at at (plain_occurrence occurrence.now) }
+{
+    match occurrence {
+        Occurrence::Returned(value) => End::Returned(at, reply_of(*value)),
+        Occurrence::Trapped(_) => End::Trapped(at),
+        _ => End::Pending,
+    }
+}
+
+fn is_of(event: &NamedEvent, thread: &str, call: usize) -> bool
+    ensures { result ≡ (bytes_eq (string_bytes event.now.thread) thread.now && event.now.call == call) }
+{
+    event.thread.as_str() == thread && event.call == call
+}
+
+/// How the call ends whose events stand from the place on.
+fn end_of(events: &[NamedEvent], from: usize, thread: &str, call: usize) -> End
+    ensures { result ≡ end_of thread.now call from (drop from (map plain_event events.now)) }
+{
+    for at in from..events.len() {
+        let event = &events[at];
+        if is_of(event, thread, call) {
+            return end_at(at, &event.occurrence);
+        }
+    }
+    End::Pending
+}
+
+fn set_call(called: usize, asked: (Operation, i32), end: End) -> SetCall
+    ensures { result ≡ record { called = called; operation = asked.0; item = asked.1; end = end } }
+{
+    let (operation, item) = asked;
+    SetCall {
+        called,
+        operation,
+        item,
+        end,
+    }
+}
+
+/// The set calls, in order of their call events.
+pub(crate) fn set_calls(alloc: Global, events: &[NamedEvent]) -> Result<Vec<SetCall>, AllocError>
+    ensures { IfOk result (λ calls. calls.items ≡ set_calls (map plain_event events.now)) }
+{
+    let mut calls = Vec::new(alloc);
+    for called in 0..events.len() {
+        let event = &events[called];
+        if let Some(asked) = asked_of(&event.occurrence) {
+            let end = end_of(events, called + 1, event.thread.as_str(), event.call);
+            calls.push(set_call(called, asked, end))?;
+        }
+    }
+    Ok(calls)
+}
+
+/// The call's text.
+pub(crate) fn name_of(alloc: Global, event: &NamedEvent) -> Result<String, AllocError>
+    ensures { IfOk result (λ text. string_bytes text ≡ name_of (plain_event event.now)) }
+{
+    let thread = event.thread.as_str();
+    let call = event.call;
+    format!(in alloc; "{thread}.{call}")
+}
+
+pub(crate) fn name_at(alloc: Global, events: &[NamedEvent], at: usize) -> Result<String, AllocError>
+    ensures { IfOk result (λ text. string_bytes text ≡ name_at (map plain_event events.now) at) }
+{
+    match events.get(at) {
+        Some(event) => name_of(alloc, event),
+        None => Ok(String::new(alloc)),
+    }
+}

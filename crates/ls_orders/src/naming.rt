@@ -1,0 +1,76 @@
+// Set calls by their texts.
+
+ghost use Rattle.std.specs.Prelude.{◌≡◌, Some, None, IfOk, OnOk, map, ok_or, string_bytes, if◌then◌else◌};
+ghost use Rattle.std.specs.Option.{option_or};
+ghost use Rattle.std.specs.BTreeMap.{get_by_text};
+ghost use Rattle.std.specs.Str.{bytes_eq};
+ghost use Rattle.ls_report.specs.Events.{Text};
+ghost use Rattle.ls_report.specs.Plain.{plain_event};
+ghost use Rattle.ls_orders.specs.Items.{each};
+ghost use Rattle.ls_orders.specs.Named.{plain_named};
+ghost use Rattle.ls_orders.specs.SetCalls.{call_named};
+
+use crate::calls::SetCall;
+use crate::finding::name_at;
+use ls_report::history::NamedEvent;
+use std::alloc::{AllocError, Global};
+use std::collections::BTreeMap;
+
+/// What an order names.
+#[derive(Drop)]
+pub(crate) enum Named {
+    Calls(Vec<SetCall>),
+    /// The first text that names no set call.
+    Unknown(String),
+}
+
+/// Adds a call's text, unless it is there already.
+fn add_name(
+    names: &mut BTreeMap<String, SetCall>,
+    name: String,
+    call: SetCall,
+) -> Result<(), AllocError>
+    ensures { OnOk result ((q : Text) → get_by_text names.new q
+        ≡ option_or (get_by_text names.old q) (if bytes_eq q (string_bytes name) then Some call else None)) }
+{
+    if names.contains_key(name.as_str()) {
+        return Ok(());
+    }
+    names.insert(name, call)?;
+    Ok(())
+}
+
+/// The calls by their texts.
+pub(crate) fn names_of(
+    alloc: Global,
+    events: &[NamedEvent],
+    calls: &[SetCall],
+) -> Result<BTreeMap<String, SetCall>, AllocError>
+    ensures { IfOk result (λ names. (q : Text) → get_by_text names q ≡ call_named (map plain_event events.now) calls.now q) }
+{
+    let mut names = BTreeMap::new(alloc);
+    for call in calls {
+        let name = name_at(alloc, events, call.called)?;
+        add_name(&mut names, name, *call)?;
+    }
+    Ok(names)
+}
+
+/// The calls that the texts name.
+pub(crate) fn calls_of(
+    alloc: Global,
+    names: &BTreeMap<String, SetCall>,
+    order: &[String],
+) -> Result<Named, AllocError>
+    ensures { IfOk result (λ named. plain_named named
+        ≡ each (λ name. ok_or (get_by_text names.now name) name) (map string_bytes order.now)) }
+{
+    let mut calls = Vec::new(alloc);
+    for name in order {
+        match names.get(name.as_str()) {
+            Some(call) => calls.push(*call)?,
+            None => return Ok(Named::Unknown(String::from_str(alloc, name.as_str())?)),
+        }
+    }
+    Ok(Named::Calls(calls))
+}

@@ -1,0 +1,102 @@
+// Reading an order.
+
+ghost use Rattle.std.specs.Prelude.{◌≡◌, ◌==◌, length, map, unwrap_or, string_bytes};
+ghost use Rattle.std.specs.List.{list_all, position};
+ghost use Rattle.ls_lexer.specs.Characters.{is_digit};
+ghost use Rattle.ls_report.specs.Events.{Text};
+ghost use Rattle.ls_orders.specs.Items.{each, is_gap, items};
+ghost use Rattle.ls_orders.specs.Orders.{call_at, Gives, is_call, is_number, order_of};
+
+use crate::fault::OrderFault;
+use crate::order::Order;
+use ls_lexer::names::is_name;
+use ls_report::cuts::cut;
+use std::alloc::Global;
+
+fn is_gap(b: u8) -> bool
+    ensures { result ≡ is_gap b }
+{
+    b == b' ' || b == b'\t' || b == b'\r' || b == b'\n'
+}
+
+fn is_digit(b: u8) -> bool
+    ensures { result ≡ is_digit b }
+{
+    b >= b'0' && b <= b'9'
+}
+
+fn are_digits(text: &[u8]) -> bool
+    ensures { result ≡ list_all is_digit text.now }
+{
+    text.iter().all(|b| is_digit(*b))
+}
+
+fn is_number(text: &[u8]) -> bool
+    ensures { result ≡ is_number text.now }
+{
+    match text {
+        [] => false,
+        [first, ..] => *first != b'0' && are_digits(text),
+    }
+}
+
+fn is_call(text: &str) -> bool
+    ensures { result ≡ is_call text.now }
+{
+    match cut(text, '.') {
+        Some((name, number)) => is_name(name) && is_number(number.as_bytes()),
+        None => false,
+    }
+}
+
+fn gap_at(text: &[u8]) -> Option<usize>
+    ensures { result ≡ position is_gap text.now }
+{
+    text.iter().position(|b| is_gap(*b))
+}
+
+/// How many bytes stand before the first gap.
+fn item_len(text: &[u8]) -> usize
+    ensures { result ≡ unwrap_or (position is_gap text.now) (length text.now) }
+{
+    match gap_at(text) {
+        Some(i) => i,
+        None => text.len(),
+    }
+}
+
+/// The call that the item names.
+fn read_call(alloc: Global, at: usize, item: &[u8]) -> Result<String, OrderFault>
+    ensures { Gives string_bytes result (call_at (at, item.now)) }
+{
+    let Ok(text) = std::str::from_utf8(item) else {
+        return Err(OrderFault::BadOrder { at });
+    };
+    if !is_call(text) {
+        return Err(OrderFault::BadOrder { at });
+    }
+    Ok(String::from_str(alloc, text)?)
+}
+
+/// The order that the text says. Otherwise the fault says where the first item begins that is no call.
+pub fn read_order(alloc: Global, text: &str) -> Result<Order, OrderFault>
+    ensures { Gives (λ o. o) result (order_of text.now) }
+{
+    let mut calls = Vec::new(alloc);
+    let mut at = 0;
+    let mut rest = text.as_bytes();
+    while !rest.is_empty() {
+        let len = item_len(rest);
+        if len == 0 {
+            rest = &rest[1..];
+            at += 1;
+        } else {
+            let (item, after) = rest.split_at(len);
+            let call = read_call(alloc, at, item)?;
+            calls.push(call)?;
+            rest = after;
+            at += len;
+        }
+    }
+    Ok(Order::from_calls(calls))
+}

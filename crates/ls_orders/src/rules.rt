@@ -1,0 +1,150 @@
+// The rules of an order, each by the first call that breaks it.
+
+ghost use Rattle.std.specs.Prelude.{◌≡◌, ◌==◌, ◌&&◌, ◌||◌, [], ℕ, IfOk, OnOk, find, not};
+ghost use Rattle.std.specs.List.{list_any};
+ghost use Rattle.std.specs.Ordering.{nat_cmp};
+ghost use Rattle.std.specs.BTreeSet.{contains};
+ghost use Rattle.ls_orders.specs.Rules.{
+  answer_of,
+  differs,
+  ended_before,
+  first_repeated,
+  first_where,
+  has_wrong_reply,
+  is_late,
+  is_missing,
+  is_returned,
+};
+
+use crate::calls::{End, Operation, SetCall};
+use crate::set::apply;
+use std::alloc::{AllocError, Global};
+use std::collections::BTreeSet;
+
+fn is_returned(end: End) -> bool
+    ensures { result ≡ is_returned end }
+{
+    matches!(end, End::Returned(_, _))
+}
+
+fn ended_before(end: End, at: usize) -> bool
+    ensures { result ≡ ended_before end at }
+{
+    match end {
+        End::Pending => false,
+        End::Trapped(place) => place < at,
+        End::Returned(place, _) => place < at,
+    }
+}
+
+fn answer_of(operation: Operation, was: bool) -> bool
+    ensures { result ≡ answer_of operation was }
+{
+    match operation {
+        Operation::Add => !was,
+        Operation::Remove => was,
+        Operation::Contains => was,
+    }
+}
+
+fn differs(end: End, wanted: bool) -> bool
+    ensures { result ≡ differs end wanted }
+{
+    match end {
+        End::Returned(_, Some(reply)) => !(reply && wanted || (!reply && !wanted)),
+        End::Returned(_, None) => true,
+        _ => false,
+    }
+}
+
+/// Adds a place.
+fn add_place(places: &mut BTreeSet<usize>, place: usize) -> Result<(), AllocError>
+    ensures { OnOk result ((k : ℕ) → contains nat_cmp places.new k ≡ (place == k || contains nat_cmp places.old k)) }
+{
+    places.insert(place)?;
+    Ok(())
+}
+
+/// The places of the calls.
+fn places_of(alloc: Global, order: &[SetCall]) -> Result<BTreeSet<usize>, AllocError>
+    ensures { IfOk result (λ places. (k : ℕ) → contains nat_cmp places k ≡ list_any (λ y. y.called == k) order.now) }
+{
+    let mut places = BTreeSet::new(alloc);
+    for call in order {
+        add_place(&mut places, call.called)?;
+    }
+    Ok(places)
+}
+
+/// The first call that stands there again.
+pub(crate) fn first_repeated(
+    alloc: Global,
+    order: &[SetCall],
+) -> Result<Option<SetCall>, AllocError>
+    ensures { IfOk result (λ r. r ≡ first_repeated order.now) }
+{
+    let mut behind = BTreeSet::new(alloc);
+    let mut first = None;
+    for i in (0..order.len()).rev() {
+        let call = order[i];
+        if behind.contains(&call.called) {
+            first = Some(call);
+        }
+        add_place(&mut behind, call.called)?;
+    }
+    Ok(first)
+}
+
+fn is_missing(places: &BTreeSet<usize>, call: SetCall) -> bool
+    ensures { result ≡ (is_returned call.end && not (contains nat_cmp places.now call.called)) }
+{
+    is_returned(call.end) && !places.contains(&call.called)
+}
+
+/// Of the returned calls that the order lacks, the one called first.
+pub(crate) fn first_missing(
+    alloc: Global,
+    calls: &[SetCall],
+    order: &[SetCall],
+) -> Result<Option<SetCall>, AllocError>
+    ensures { IfOk result (λ r. r ≡ find (is_missing order.now) calls.now) }
+{
+    let places = places_of(alloc, order)?;
+    for call in calls {
+        if is_missing(&places, *call) {
+            return Ok(Some(*call));
+        }
+    }
+    Ok(None)
+}
+
+/// The first call in front of which a call stands that was called only after this one had ended.
+pub(crate) fn first_late(order: &[SetCall]) -> Option<SetCall>
+    ensures { result ≡ first_where is_late [] order.now }
+{
+    let mut latest = 0;
+    for i in 0..order.len() {
+        let call = order[i];
+        if ended_before(call.end, latest) {
+            return Some(call);
+        }
+        latest = latest.max(call.called);
+    }
+    None
+}
+
+/// The first returned call whose reply isn't the set's.
+pub(crate) fn first_wrong(alloc: Global, order: &[SetCall]) -> Result<Option<SetCall>, AllocError>
+    ensures { IfOk result (λ r. r ≡ first_where has_wrong_reply [] order.now) }
+{
+    let mut set = BTreeSet::new(alloc);
+    for i in 0..order.len() {
+        let call = order[i];
+        let was = set.contains(&call.item);
+        if differs(call.end, answer_of(call.operation, was)) {
+            return Ok(Some(call));
+        }
+        apply(&mut set, call)?;
+    }
+    Ok(None)
+}

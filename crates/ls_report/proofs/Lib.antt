@@ -1,0 +1,6 @@
+pub mod Mapped
+pub mod CutLemmas
+pub mod Values
+pub mod Parts
+pub mod Histories
+pub mod Unique

@@ -1,0 +1,142 @@
+// Which event may come next.
+
+ghost use Rattle.std.specs.Prelude.{◌≡◌, ◌==◌, ◌+◌, map, find, reverse, option_map, string_bytes};
+ghost use Rattle.std.specs.List.{list_all};
+ghost use Rattle.std.specs.Option.{option_copied};
+ghost use Rattle.std.specs.Str.{bytes_eq};
+ghost use Rattle.ls_report.specs.Discipline.{
+  has_names,
+  has_value,
+  is_call,
+  is_making,
+  is_next,
+  is_placed,
+  is_return,
+  is_shown,
+  is_well_formed,
+  last_of,
+  may_follow,
+};
+ghost use Rattle.ls_report.specs.Plain.{plain_event, plain_occurrence};
+
+use crate::history::{NamedEvent, Occurrence};
+use ls_events::value::Value;
+use ls_lexer::names::is_name;
+
+fn is_shown(value: Value) -> bool
+    ensures { result ≡ is_shown value }
+{
+    matches!(value, Value::Int(_) | Value::Boolean(_))
+}
+
+fn are_shown(values: &[Value]) -> bool
+    ensures { result ≡ list_all is_shown values.now }
+{
+    values.iter().all(|value| is_shown(*value))
+}
+
+fn has_names(occurrence: &Occurrence) -> bool
+    ensures { result ≡ has_names (plain_occurrence occurrence.now) }
+{
+    match occurrence {
+        Occurrence::Made {
+            object,
+            class,
+            arguments,
+        } => {
+            is_name(object.as_str()) && is_name(class.as_str()) && are_shown(arguments.as_slice())
+        }
+        Occurrence::Called {
+            object,
+            method,
+            arguments,
+        } => {
+            is_name(object.as_str()) && is_name(method.as_str()) && are_shown(arguments.as_slice())
+        }
+        Occurrence::Returned(Some(value)) => is_shown(*value),
+        Occurrence::Returned(None) | Occurrence::Trapped(_) => true,
+    }
+}
+
+fn is_well_formed(event: &NamedEvent) -> bool
+    ensures { result ≡ is_well_formed (plain_event event.now) }
+{
+    let thread = event.thread.as_str();
+    is_name(thread) && thread != "all" && has_names(&event.occurrence)
+}
+
+fn is_call(occurrence: &Occurrence) -> bool
+    ensures { result ≡ is_call (plain_occurrence occurrence.now) }
+{
+    matches!(
+        occurrence,
+        Occurrence::Made { .. } | Occurrence::Called { .. }
+    )
+}
+
+fn is_making(occurrence: &Occurrence) -> bool
+    ensures { result ≡ is_making (plain_occurrence occurrence.now) }
+{
+    matches!(occurrence, Occurrence::Made { .. })
+}
+
+fn is_return(occurrence: &Occurrence) -> bool
+    ensures { result ≡ is_return (plain_occurrence occurrence.now) }
+{
+    matches!(occurrence, Occurrence::Returned(_))
+}
+
+fn has_value(occurrence: &Occurrence) -> bool
+    ensures { result ≡ has_value (plain_occurrence occurrence.now) }
+{
+    matches!(occurrence, Occurrence::Returned(Some(_)))
+}
+
+fn is_placed(event: &NamedEvent) -> bool
+    ensures { result ≡ is_placed (plain_event event.now) }
+{
+    !is_making(&event.occurrence) || event.thread.as_str() == "setup"
+}
+
+/// The last event of the thread. The search goes back from the end, so that over a whole history it costs no more than
+/// its events times its threads.
+fn last_of<'a>(events: &'a [NamedEvent], thread: &str) -> Option<&'a NamedEvent>
+    ensures { option_copied result ≡ find (λ e. bytes_eq (string_bytes e.thread) thread.now) (reverse events.now) }
+{
+    events
+        .iter()
+        .rev()
+        .find(|event| event.thread.as_str() == thread)
+}
+
+fn is_one_more(number: usize, before: usize) -> bool
+    ensures { result ≡ (number == before + 1) }
+{
+    number > 0 && number - 1 == before
+}
+
+fn may_follow(last: Option<&NamedEvent>, event: &NamedEvent) -> bool
+    ensures { result ≡ may_follow (option_map plain_event (option_copied last.entry)) (plain_event event.now) }
+{
+    match last {
+        None => is_call(&event.occurrence) && event.call == 1 && is_placed(event),
+        Some(before) => {
+            if is_call(&event.occurrence) {
+                is_return(&before.occurrence)
+                    && is_one_more(event.call, before.call)
+                    && is_placed(event)
+            } else {
+                is_call(&before.occurrence)
+                    && event.call == before.call
+                    && !(is_making(&before.occurrence) && has_value(&event.occurrence))
+            }
+        }
+    }
+}
+
+/// Whether the event may come after those in front.
+pub(crate) fn is_next(front: &[NamedEvent], event: &NamedEvent) -> bool
+    ensures { result ≡ is_next (map plain_event front.now) (plain_event event.now) }
+{
+    is_well_formed(event) && may_follow(last_of(front, event.thread.as_str()), event)
+}

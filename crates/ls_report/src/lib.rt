@@ -1,0 +1,19 @@
+//! Histories as text: printing the events of a run, and reading a history that is handed in.
+#![tactic(auto)]
+
+pub mod cuts;
+mod discipline;
+mod fault;
+pub mod history;
+mod line_reading;
+mod lines;
+mod printing;
+mod reading;
+
+pub use fault::HistoryFault;
+pub use history::{History, NamedEvent, Occurrence};
+pub use printing::print_history;
+pub use reading::read_history;
+
+#[cfg(test)]
+mod tests;

@@ -1,0 +1,281 @@
+// Taking the lines of a history apart.
+
+ghost use Rattle.std.specs.Prelude.{◌≡◌, ◌<◌, ◌^◌, ℕ, ℤ, FitsSigned, List, Some, true, IfOk, option_map};
+ghost use Rattle.std.specs.Fmt.{decimal, signed_decimal};
+ghost use Rattle.std.specs.Int.{w32};
+ghost use Rattle.std.specs.List.{list_all};
+ghost use Rattle.ls_events.specs.declared.kind.Kind.{Kind as ghost_Kind};
+ghost use Rattle.ls_events.specs.declared.value.Value.{Value as ghost_Value};
+ghost use Rattle.ls_report.specs.Cut.{cut};
+ghost use Rattle.ls_report.specs.Discipline.{has_names, is_shown, is_well_formed};
+ghost use Rattle.ls_report.specs.Events.{Called, Event, Made, Occurrence as ghost_Occurrence, Returned, Trapped};
+ghost use Rattle.ls_report.specs.Lines.{arguments_text, event_text, kind_text, occurrence_text, value_text};
+ghost use Rattle.ls_report.specs.Plain.{plain_event, plain_occurrence};
+ghost use Rattle.ls_report.specs.LineReading.{call_parts, head_parts, making_parts, parts_of, plain_pieces, word_parts};
+
+use crate::cuts::cut;
+use crate::history::{NamedEvent, Occurrence};
+use ls_events::kind::Kind;
+use ls_events::value::Value;
+use std::alloc::{AllocError, Global};
+
+/// The texts of an occurrence.
+#[derive(Clone, Copy)]
+enum Pieces<'a> {
+    Making {
+        object: &'a str,
+        class: &'a str,
+        arguments: &'a str,
+    },
+    Calling {
+        object: &'a str,
+        method: &'a str,
+        arguments: &'a str,
+    },
+    Returning,
+    Giving(&'a str),
+    Trapping(&'a str),
+}
+
+fn making_in<'a>(head: &'a str, arguments: &'a str) -> Option<Pieces<'a>>
+    ensures { option_map plain_pieces result ≡ making_parts arguments.now head.now }
+{
+    let (object, rest) = cut(head, ' ')?;
+    let (_, rest) = cut(rest, ' ')?;
+    let (_, class) = cut(rest, ' ')?;
+    Some(Pieces::Making {
+        object,
+        class,
+        arguments,
+    })
+}
+
+fn head_in<'a>(head: &'a str, arguments: &'a str) -> Option<Pieces<'a>>
+    ensures { option_map plain_pieces result ≡ head_parts arguments.now head.now (cut 46 head.now) }
+{
+    match cut(head, '.') {
+        Some((object, method)) => Some(Pieces::Calling {
+            object,
+            method,
+            arguments,
+        }),
+        None => making_in(head, arguments),
+    }
+}
+
+fn call_in(text: &str) -> Option<Pieces<'_>>
+    ensures { option_map plain_pieces result ≡ call_parts text.now }
+{
+    let (head, rest) = cut(text, '(')?;
+    let (arguments, _) = cut(rest, ')')?;
+    head_in(head, arguments)
+}
+
+fn word_in<'a>(word: &'a str, rest: &'a str) -> Option<Pieces<'a>>
+    ensures { option_map plain_pieces result ≡ word_parts word.now rest.now }
+{
+    if word == "call" {
+        call_in(rest)
+    } else if word == "return" {
+        Some(Pieces::Giving(rest))
+    } else if word == "trap" {
+        Some(Pieces::Trapping(rest))
+    } else {
+        None
+    }
+}
+
+fn pieces_in(text: &str) -> Option<Pieces<'_>>
+    ensures { option_map plain_pieces result ≡ parts_of text.now }
+{
+    if text == "return" {
+        return Some(Pieces::Returning);
+    }
+    let (word, rest) = cut(text, ' ')?;
+    word_in(word, rest)
+}
+
+/// The number that is printed so.
+fn number_in(text: &str) -> Option<usize>
+    ensures { (n : ℕ) → n < 2 ^ 64 → text.now ≡ decimal n → result ≡ Some n }
+{
+    text.parse::<usize>().ok()
+}
+
+/// The int that is printed so.
+fn int_in(text: &str) -> Option<i32>
+    ensures { (z : ℤ) → FitsSigned w32 z → text.now ≡ signed_decimal z → result ≡ Some z }
+{
+    text.parse::<i32>().ok()
+}
+
+/// The value that is printed so.
+fn value_in(text: &str) -> Option<Value>
+    ensures { (v : ghost_Value) → is_shown v ≡ true → text.now ≡ value_text v → result ≡ Some v }
+{
+    if text == "true" {
+        Some(Value::Boolean(true))
+    } else if text == "false" {
+        Some(Value::Boolean(false))
+    } else {
+        int_in(text).map(Value::Int)
+    }
+}
+
+/// The exception of that class.
+fn kind_in(text: &str) -> Option<Kind>
+    ensures { (k : ghost_Kind) → text.now ≡ kind_text k → result ≡ Some k }
+{
+    match text {
+        "ArithmeticException" => Some(Kind::Arithmetic),
+        "NullPointerException" => Some(Kind::NullPointer),
+        "ArrayIndexOutOfBoundsException" => Some(Kind::ArrayIndexOutOfBounds),
+        "NegativeArraySizeException" => Some(Kind::NegativeArraySize),
+        "IllegalMonitorStateException" => Some(Kind::IllegalMonitorState),
+        "StackOverflowError" => Some(Kind::StackOverflow),
+        "Error" => Some(Kind::Error),
+        _ => None,
+    }
+}
+
+/// The values that are printed so.
+fn values_in(alloc: Global, text: &str) -> Result<Option<Vec<Value>>, AllocError>
+    ensures { (vs : List ghost_Value) → list_all is_shown vs ≡ true → text.now ≡ arguments_text vs
+        → IfOk result (λ o. option_map (λ v. v.items) o ≡ Some vs) }
+{
+    let mut values = Vec::new(alloc);
+    if text.is_empty() {
+        return Ok(Some(values));
+    }
+    let mut rest = text;
+    while let Some((first, others)) = cut(rest, ',') {
+        let Some(value) = value_in(first) else {
+            return Ok(None);
+        };
+        values.push(value)?;
+        let Some((_, more)) = cut(others, ' ') else {
+            return Ok(None);
+        };
+        rest = more;
+    }
+    let Some(value) = value_in(rest) else {
+        return Ok(None);
+    };
+    values.push(value)?;
+    Ok(Some(values))
+}
+
+/// `object = new class(arguments)`.
+fn made_in(
+    alloc: Global,
+    object: &str,
+    class: &str,
+    arguments: &str,
+) -> Result<Option<Occurrence>, AllocError>
+    ensures { (vs : List ghost_Value) → list_all is_shown vs ≡ true → arguments.now ≡ arguments_text vs
+        → IfOk result (λ r. option_map plain_occurrence r ≡ Some (Made object.now class.now vs)) }
+{
+    let Some(arguments) = values_in(alloc, arguments)? else {
+        return Ok(None);
+    };
+    let object = String::from_str(alloc, object)?;
+    let class = String::from_str(alloc, class)?;
+    Ok(Some(Occurrence::Made {
+        object,
+        class,
+        arguments,
+    }))
+}
+
+/// `object.method(arguments)`.
+fn called_in(
+    alloc: Global,
+    object: &str,
+    method: &str,
+    arguments: &str,
+) -> Result<Option<Occurrence>, AllocError>
+    ensures { (vs : List ghost_Value) → list_all is_shown vs ≡ true → arguments.now ≡ arguments_text vs
+        → IfOk result (λ r. option_map plain_occurrence r ≡ Some (Called object.now method.now vs)) }
+{
+    let Some(arguments) = values_in(alloc, arguments)? else {
+        return Ok(None);
+    };
+    let object = String::from_str(alloc, object)?;
+    let method = String::from_str(alloc, method)?;
+    Ok(Some(Occurrence::Called {
+        object,
+        method,
+        arguments,
+    }))
+}
+
+fn returned_in(value: &str) -> Option<Occurrence>
+    ensures { (v : ghost_Value) → is_shown v ≡ true → value.now ≡ value_text v
+        → option_map plain_occurrence result ≡ Some (Returned (Some v)) }
+{
+    match value_in(value) {
+        Some(value) => Some(Occurrence::Returned(Some(value))),
+        None => None,
+    }
+}
+
+fn trapped_in(kind: &str) -> Option<Occurrence>
+    ensures { (k : ghost_Kind) → kind.now ≡ kind_text k → option_map plain_occurrence result ≡ Some (Trapped k) }
+{
+    match kind_in(kind) {
+        Some(kind) => Some(Occurrence::Trapped(kind)),
+        None => None,
+    }
+}
+
+/// The occurrence that is printed so.
+fn occurrence_in(alloc: Global, text: &str) -> Result<Option<Occurrence>, AllocError>
+    ensures { (o : ghost_Occurrence) → has_names o ≡ true → text.now ≡ occurrence_text o
+        → IfOk result (λ r. option_map plain_occurrence r ≡ Some o) }
+{
+    match pieces_in(text) {
+        None => Ok(None),
+        Some(
+            Pieces::Making {
+                object,
+                class,
+                arguments,
+            },
+        ) => made_in(alloc, object, class, arguments),
+        Some(
+            Pieces::Calling {
+                object,
+                method,
+                arguments,
+            },
+        ) => called_in(alloc, object, method, arguments),
+        Some(Pieces::Returning) => Ok(Some(Occurrence::Returned(None))),
+        Some(Pieces::Giving(value)) => Ok(returned_in(value)),
+        Some(Pieces::Trapping(kind)) => Ok(trapped_in(kind)),
+    }
+}
+
+/// The event whose line it is, without the line feed. Another text may give an event too.
+pub(crate) fn event_in(alloc: Global, line: &str) -> Result<Option<NamedEvent>, AllocError>
+    ensures { (e : Event) → is_well_formed e ≡ true → e.call < 2 ^ 64 → line.now ≡ event_text e
+        → IfOk result (λ o. option_map plain_event o ≡ Some e) }
+{
+    let Some((thread, rest)) = cut(line, '.') else {
+        return Ok(None);
+    };
+    let Some((number, text)) = cut(rest, ' ') else {
+        return Ok(None);
+    };
+    let Some(call) = number_in(number) else {
+        return Ok(None);
+    };
+    let Some(occurrence) = occurrence_in(alloc, text)? else {
+        return Ok(None);
+    };
+    let thread = String::from_str(alloc, thread)?;
+    Ok(Some(NamedEvent {
+        thread,
+        call,
+        occurrence,
+    }))
+}

@@ -1,0 +1,161 @@
+// The lines of a history.
+
+ghost use Rattle.std.specs.Prelude.{◌≡◌, ◌++◌, OnOk, IfOk, map, string_bytes};
+ghost use Rattle.ls_report.specs.Events.{Called, Made, Returned, Trapped};
+ghost use Rattle.ls_report.specs.Lines.{
+  arguments_text,
+  event_text,
+  history_text,
+  kind_text,
+  line,
+  more_arguments,
+  occurrence_text,
+  value_text,
+};
+ghost use Rattle.ls_report.specs.Plain.{plain_event, plain_occurrence};
+
+use crate::history::{NamedEvent, Occurrence};
+use ls_events::kind::Kind;
+use ls_events::value::Value;
+use std::alloc::{AllocError, Global};
+use std::fmt::Write;
+
+/// The exception's class.
+pub(crate) fn kind_name(kind: Kind) -> &'static str
+    ensures { result.now ≡ kind_text kind }
+{
+    match kind {
+        Kind::Arithmetic => "ArithmeticException",
+        Kind::NullPointer => "NullPointerException",
+        Kind::ArrayIndexOutOfBounds => "ArrayIndexOutOfBoundsException",
+        Kind::NegativeArraySize => "NegativeArraySizeException",
+        Kind::IllegalMonitorState => "IllegalMonitorStateException",
+        Kind::StackOverflow => "StackOverflowError",
+        Kind::Error => "Error",
+    }
+}
+
+pub(crate) fn push_value(out: &mut String, value: Value) -> Result<(), AllocError>
+    ensures { OnOk result (string_bytes out.new ≡ string_bytes out.old ++ value_text value) }
+{
+    match value {
+        Value::Int(n) => write!(out, "{n}"),
+        Value::Boolean(b) => write!(out, "{b}"),
+        Value::Reference(_) => Ok(()),
+        Value::Pair { .. } => Ok(()),
+    }
+}
+
+fn push_more(out: &mut String, values: &[Value]) -> Result<(), AllocError>
+    ensures { OnOk result (string_bytes out.new ≡ string_bytes out.old ++ more_arguments values.now) }
+{
+    for value in values {
+        out.push_str(", ")?;
+        push_value(out, *value)?;
+    }
+    Ok(())
+}
+
+pub(crate) fn push_arguments(out: &mut String, values: &[Value]) -> Result<(), AllocError>
+    ensures { OnOk result (string_bytes out.new ≡ string_bytes out.old ++ arguments_text values.now) }
+{
+    match values {
+        [] => Ok(()),
+        [first, others @ ..] => {
+            push_value(out, *first)?;
+            push_more(out, others)
+        }
+    }
+}
+
+pub(crate) fn push_made(
+    out: &mut String,
+    object: &str,
+    class: &str,
+    arguments: &[Value],
+) -> Result<(), AllocError>
+    ensures { OnOk result (string_bytes out.new ≡ string_bytes out.old ++ occurrence_text (Made object.now class.now arguments.now)) }
+{
+    write!(out, "call {object} = new {class}(")?;
+    push_arguments(out, arguments)?;
+    out.push_str(")")
+}
+
+pub(crate) fn push_called(
+    out: &mut String,
+    object: &str,
+    method: &str,
+    arguments: &[Value],
+) -> Result<(), AllocError>
+    ensures { OnOk result (string_bytes out.new ≡ string_bytes out.old ++ occurrence_text (Called object.now method.now arguments.now)) }
+{
+    write!(out, "call {object}.{method}(")?;
+    push_arguments(out, arguments)?;
+    out.push_str(")")
+}
+
+pub(crate) fn push_returned(out: &mut String, value: Option<Value>) -> Result<(), AllocError>
+    ensures { OnOk result (string_bytes out.new ≡ string_bytes out.old ++ occurrence_text (Returned value)) }
+{
+    match value {
+        None => out.push_str("return"),
+        Some(value) => {
+            out.push_str("return ")?;
+            push_value(out, value)
+        }
+    }
+}
+
+pub(crate) fn push_trapped(out: &mut String, kind: Kind) -> Result<(), AllocError>
+    ensures { OnOk result (string_bytes out.new ≡ string_bytes out.old ++ occurrence_text (Trapped kind)) }
+{
+    out.push_str("trap ")?;
+    out.push_str(kind_name(kind))
+}
+
+fn push_occurrence(out: &mut String, occurrence: &Occurrence) -> Result<(), AllocError>
+    ensures { OnOk result (string_bytes out.new ≡ string_bytes out.old ++ occurrence_text (plain_occurrence occurrence.now)) }
+{
+    match occurrence {
+        Occurrence::Made {
+            object,
+            class,
+            arguments,
+        } => push_made(out, object.as_str(), class.as_str(), arguments.as_slice()),
+        Occurrence::Called {
+            object,
+            method,
+            arguments,
+        } => push_called(out, object.as_str(), method.as_str(), arguments.as_slice()),
+        Occurrence::Returned(value) => push_returned(out, *value),
+        Occurrence::Trapped(kind) => push_trapped(out, *kind),
+    }
+}
+
+/// Adds the event's line without its line feed.
+pub(crate) fn push_event(out: &mut String, event: &NamedEvent) -> Result<(), AllocError>
+    ensures { OnOk result (string_bytes out.new ≡ string_bytes out.old ++ event_text (plain_event event.now)) }
+{
+    let thread = event.thread.as_str();
+    let call = event.call;
+    write!(out, "{thread}.{call} ")?;
+    push_occurrence(out, &event.occurrence)
+}
+
+fn push_line(out: &mut String, event: &NamedEvent) -> Result<(), AllocError>
+    ensures { OnOk result (string_bytes out.new ≡ string_bytes out.old ++ line (plain_event event.now)) }
+{
+    push_event(out, event)?;
+    out.push_str("\n")
+}
+
+/// A line for each event.
+pub(crate) fn text_of(alloc: Global, events: &[NamedEvent]) -> Result<String, AllocError>
+    ensures { IfOk result (λ text. string_bytes text ≡ history_text (map plain_event events.now)) }
+{
+    let mut out = String::new(alloc);
+    for event in events {
+        push_line(&mut out, event)?;
+    }
+    Ok(out)
+}

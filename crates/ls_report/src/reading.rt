@@ -1,0 +1,85 @@
+// Reading a history.
+
+ghost use Rattle.std.specs.Prelude.{◌≡◌, ◌<◌, ◌^◌, List, true, length as list_length, map, IfErr, IfNone, IfOk, IfSome};
+ghost use Rattle.std.specs.Str.{bytes_eq};
+ghost use Rattle.ls_report.specs.Discipline.{is_history, is_next};
+ghost use Rattle.ls_report.specs.Events.{Event};
+ghost use Rattle.ls_report.specs.Lines.{event_text, history_text};
+ghost use Rattle.ls_report.specs.Plain.{plain_event};
+ghost use Rattle.ls_report.specs.Reading.{Explains, IsReadAs, Says};
+
+use crate::cuts::cut;
+use crate::discipline::is_next;
+use crate::fault::HistoryFault;
+use crate::history::{History, NamedEvent};
+use crate::line_reading::event_in;
+use crate::lines::push_event;
+use std::alloc::{AllocError, Global};
+
+/// Whether it is the event's line, without the line feed.
+fn is_line_of(alloc: Global, event: &NamedEvent, line: &str) -> Result<bool, AllocError>
+    ensures { IfOk result (λ b. b ≡ bytes_eq (event_text (plain_event event.now)) line.now) }
+{
+    let mut text = String::new(alloc);
+    push_event(&mut text, event)?;
+    Ok(text.as_str() == line)
+}
+
+/// The event of the line, if it may come after those in front.
+fn next_in(
+    alloc: Global,
+    front: &[NamedEvent],
+    line: &str,
+) -> Result<Option<NamedEvent>, AllocError>
+    ensures some { IfOk result (λ o. IfSome o (λ e.
+        (is_next (map plain_event front.now) (plain_event e) ≡ true) × (line.now ≡ event_text (plain_event e)))) }
+    ensures none { IfOk result (λ o. IfNone o ((e : Event) → is_next (map plain_event front.now) e ≡ true
+        → e.call < 2 ^ 64 → line.now ≡ event_text e → ⊥)) }
+{
+    let Some(event) = event_in(alloc, line)? else {
+        return Ok(None);
+    };
+    if !is_next(front, &event) {
+        return Ok(None);
+    }
+    if !is_line_of(alloc, &event, line)? {
+        return Ok(None);
+    }
+    Ok(Some(event))
+}
+
+fn read_events(alloc: Global, text: &str, length: usize) -> Result<Vec<NamedEvent>, HistoryFault>
+    requires { length ≡ list_length text.now }
+    ensures fits { length < 2 ^ 64 }
+    ensures found { IfOk result (λ events. Says text.now (map plain_event events.items)) }
+    ensures fault { IfErr result (Explains text.now) }
+{
+    let mut events = Vec::new(alloc);
+    let mut rest = text;
+    while let Some((line, after)) = cut(rest, '\n') {
+        let at = length - rest.len();
+        let Some(event) = next_in(alloc, events.as_slice(), line)? else {
+            return Err(HistoryFault::BadHistory { at });
+        };
+        events.push(event)?;
+        rest = after;
+    }
+    if !rest.is_empty() {
+        let at = length - rest.len();
+        return Err(HistoryFault::BadHistory { at });
+    }
+    Ok(events)
+}
+
+/// The history whose lines the text is. Otherwise the fault says where the first line begins that can't stand there.
+pub fn read_history(alloc: Global, text: &str) -> Result<History, HistoryFault>
+    ensures accepts { (es : List Event) → is_history es ≡ true → text.now ≡ history_text es → IsReadAs es result }
+    ensures found { IfOk result (Says text.now) }
+    ensures fault { IfErr result (Explains text.now) }
+{
+    let length = text.len();
+    match read_events(alloc, text, length) {
+        Ok(events) => Ok(History::from_events(events)),
+        Err(fault) => Err(fault),
+    }
+}

@@ -1,0 +1,5 @@
+pub mod LineLemmas
+pub mod PartLemmas
+pub mod Written
+pub mod CheckLemmas
+pub mod Ending

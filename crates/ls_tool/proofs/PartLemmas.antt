@@ -1,0 +1,43 @@
+-- The parts of lines, one line after the other.
+use Rattle.std.proofs.Common.{◌≡◌, ◌∙◌, ◌+◌, ◌<◌, ℕ, zero, suc, Bool, true, false, cond, List, [], ◌∷◌, ◌++◌, length, get_or, map, drop, refl, sym, ap, append_assoc, append-nil, arith, Option, Some, None}
+use Rattle.std.specs.Prelude.{unwrap_or}
+use Rattle.std.specs.Borrow.{Bor}
+use Rattle.ls_tool.specs.Parts.{fed, groups_of, grown, into_group, is_mark, part_of}
+
+-- the parts of groups, the first of which goes on from what was had of it so far
+abbrev pub open_with : Option (List ℕ) → List (List (List ℕ)) → List (List ℕ)
+open_with None gs = map part_of gs
+open_with (Some text) [] = text ∷ []
+open_with (Some text) (g ∷ gs) = (text ++ fed g) ∷ map part_of gs
+
+one_more : (had : Option (List ℕ)) (l : List ℕ) (gs : List (List (List ℕ))) → open_with had (into_group l gs) ≡ open_with (Some (grown had l)) gs
+one_more None l [] = ap (λ x. x ∷ []) (append-nil l)
+one_more None l (g ∷ gs) = refl
+one_more (Some text) l [] = ap (λ x. (text ++ x) ∷ []) (append-nil (10 ∷ l))
+one_more (Some text) l (g ∷ gs) = ap (λ x. x ∷ map part_of gs) (sym (append_assoc text (10 ∷ l) (fed g)))
+
+one_less : (had : Option (List ℕ)) (gs : List (List (List ℕ))) → open_with had ([] ∷ gs) ≡ unwrap_or had [] ∷ map part_of gs
+one_less None gs = refl
+one_less (Some text) gs = ap (λ x. x ∷ map part_of gs) (append-nil text)
+
+pub at_mark : (done : List (List ℕ)) (had : Option (List ℕ)) (l : List ℕ) (ls : List (List ℕ)) (all : List (List ℕ)) → is_mark l ≡ true
+    → done ++ open_with had (groups_of (l ∷ ls)) ≡ all → (done ++ unwrap_or had [] ∷ []) ++ open_with None (groups_of ls) ≡ all
+at_mark done had l ls all e h =
+    append_assoc done (unwrap_or had [] ∷ []) (map part_of (groups_of ls)) ∙ ap (λ x. done ++ x) (sym (one_less had (groups_of ls)))
+    ∙ ap (λ b. done ++ open_with had (cond b ([] ∷ groups_of ls) (into_group l (groups_of ls)))) (sym e) ∙ h
+
+pub at_line : (done : List (List ℕ)) (had : Option (List ℕ)) (l : List ℕ) (ls : List (List ℕ)) (all : List (List ℕ)) → is_mark l ≡ false
+    → done ++ open_with had (groups_of (l ∷ ls)) ≡ all → done ++ open_with (Some (grown had l)) (groups_of ls) ≡ all
+at_line done had l ls all e h =
+    ap (λ x. done ++ x) (sym (one_more had l (groups_of ls)))
+    ∙ ap (λ b. done ++ open_with had (cond b ([] ∷ groups_of ls) (into_group l (groups_of ls)))) (sym e) ∙ h
+
+pub at_end : (done : List (List ℕ)) (had : Option (List ℕ)) (all : List (List ℕ)) → done ++ open_with had (groups_of []) ≡ all → done ++ unwrap_or had [] ∷ [] ≡ all
+at_end done had all h = ap (λ x. done ++ x) (sym (one_less had [])) ∙ h
+
+pub line_at : (ls : List (Bor (List ℕ))) (i : ℕ) (d : Bor (List ℕ)) → i < length ls → drop i (map (λ x. x.now) ls) ≡ (get_or ls i d).now ∷ drop (i + 1) (map (λ x. x.now) ls)
+line_at [] i d lt = absurd (omega arith)
+line_at (l ∷ ls) zero d lt = refl
+line_at (l ∷ ls) (suc i) d lt =
+    let more : suc (i + 1) ≡ suc i + 1 = omega arith in
+    line_at ls i d (omega arith) ∙ ap (λ n. (get_or ls i d).now ∷ drop n (l.now ∷ map (λ x. x.now) ls)) more

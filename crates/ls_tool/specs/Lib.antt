@@ -1,0 +1,5 @@
+pub mod Words
+pub mod Faults
+pub mod Parts
+pub mod Check
+pub mod Output

@@ -1,0 +1,76 @@
+-- What the program writes, for its words and its input.
+use Rattle.std.specs.Prelude.{◌≡◌, ◌==◌, ◌⊎◌, ◌≤◌, ℕ, Bool, true, false, List, [], ◌∷◌, ◌++◌, length, take, MatchBool, Option, Some, None, Result, Ok, Err, String, string_bytes}
+use Rattle.std.specs.Global.{Global}
+use Rattle.std.specs.Io.KnownBytes.{Appends, Keeps}
+use Rattle.ls_report.specs.Events.{Text}
+use Rattle.ls_tool.specs.Check.{ChecksTo}
+use Rattle.ls_tool.specs.Faults.{fault_line}
+use Rattle.ls_tool.specs.Parts.{is_text, parts_of}
+use Rattle.ls_tool.specs.Words.{request_of}
+use Rattle.ls_tool.specs.declared.words.Request.{Request}
+use Rattle.ls_tool.specs.declared.words.Request.TheVariants as requests
+use Rattle.ls_tool.specs.declared.fault.ToolFault.{ToolFault}
+use Rattle.ls_tool.specs.declared.fault.ToolFault.TheVariants as faults
+use Rattle.ls_tool.specs.declared.fault.Refusal.{Refusal}
+use Rattle.ls_tool.specs.declared.fault.Refusal.TheVariants as refusals
+
+-- what a command may answer, on its parts: a text or a fault
+abbrev pub Answers : Request → List Text → Result Text ToolFault → Type 0
+Answers requests.Check (history ∷ order ∷ []) answer = ChecksTo history order answer
+Answers requests.Check other answer = answer ≡ Err faults.WrongParts
+
+abbrev pub AnswersText : Request → Text → Result Text ToolFault → Type 0
+AnswersText r input answer = MatchBool (is_text input) (Answers r (parts_of input) answer) (answer ≡ Err faults.NotText)
+
+-- an answer to the words and the input, where the words are a command line
+abbrev pub with_fault : Result Text ToolFault → Result Text (Option ToolFault)
+with_fault (Ok text) = Ok text
+with_fault (Err f) = Err (Some f)
+
+-- what the words and the input ask for: a text, a fault, or no more than the command line's own text
+pub data IsEnding (words : List Text) (input : Text) : Result Text (Option ToolFault) → Type 0 where
+  BadLine : request_of words ≡ None → IsEnding words input (Err None)
+  Answered : (r : Request) (answer : Result Text ToolFault) → request_of words ≡ Some r → AnswersText r input answer → IsEnding words input (with_fault answer)
+
+-- ---- what the code answers
+
+-- the answer is one that may be given, or memory ran out
+abbrev pub Gives : (Result Text ToolFault → Type 0) → Result (String Global) ToolFault → Type 0
+Gives May (Ok text) = May (Ok (string_bytes text))
+Gives May (Err faults.Memory) = Unit {0}
+Gives May (Err f) = May (Err f)
+
+-- memory ran out, or the reader failed after the command line was taken, or it is an ending of the words and the input
+abbrev pub Decides : List Text → Text → Result (String Global) Refusal → Type 0
+Decides words input (Ok text) = IsEnding words input (Ok (string_bytes text))
+Decides words input (Err (refusals.BadLine e)) = IsEnding words input (Err None)
+Decides words input (Err (refusals.Fault faults.Memory)) = Unit {0}
+Decides words input (Err (refusals.Fault faults.ReadFailed)) = (r : Request) × (request_of words ≡ Some r)
+Decides words input (Err (refusals.Fault f)) = IsEnding words input (Err (Some f))
+
+-- ---- what a run leaves behind
+
+-- a beginning of the bytes went to the writer
+abbrev pub Begins : Option Text → Option Text → Text → Type 0
+Begins old new bytes = (n : ℕ) × (n ≤ length bytes) × Appends old new (take n bytes)
+
+-- the fault's line is on the writer, or a beginning of it where the writer failed
+abbrev pub Told : ToolFault → Option Text → Option Text → Type 0
+Told f err err' = Begins err err' (fault_line f)
+
+-- status 0 with the whole text, 1 with a fault's line, 2 for a bad command line
+abbrev pub Shows : Result Text (Option ToolFault) → ℕ → Option Text → Option Text → Option Text → Option Text → Type 0
+Shows (Ok text) status out out' err err' = (status ≡ 0) × Appends out out' text × Keeps err err'
+Shows (Err (Some f)) status out out' err err' = (status ≡ 1) × Keeps out out' × Told f err err'
+Shows (Err None) status out out' err err' = (status ≡ 2) × Keeps out out'
+
+-- the writer failed: a beginning of the text is there, and the fault's line is told
+abbrev pub CutShort : Text → ℕ → Option Text → Option Text → Option Text → Option Text → Type 0
+CutShort text status out out' err err' = (status ≡ 1) × Begins out out' text × Told faults.WriteFailed err err'
+
+-- A run ends as the words and the input ask, or it tells that memory ran out or that a stream failed.
+pub data Ends (words : List Text) (input : Text) (status : ℕ) (out out' err err' : Option Text) : Type 0 where
+  AsAsked : (ending : Result Text (Option ToolFault)) → IsEnding words input ending → Shows ending status out out' err err' → Ends words input status out out' err err'
+  OutOfMemory : Shows (Err (Some faults.Memory)) status out out' err err' → Ends words input status out out' err err'
+  ReaderFailed : (r : Request) → request_of words ≡ Some r → Shows (Err (Some faults.ReadFailed)) status out out' err err' → Ends words input status out out' err err'
+  WriterFailed : (text : Text) → IsEnding words input (Ok text) → CutShort text status out out' err err' → Ends words input status out out' err err'

@@ -1,0 +1,74 @@
+// Faults of the program and of the layers below.
+
+ghost use Rattle.std.specs.Prelude.{◌≡◌};
+ghost use Rattle.ls_tool.specs.Faults.{lifted_history, lifted_order};
+ghost use Rattle.ls_tool.specs.declared.fault.ToolFault.TheVariants.{Memory};
+
+use ls_orders::OrderFault;
+use ls_report::HistoryFault;
+use std::alloc::{AllocError, AllocFailed};
+use thiserror::Error;
+
+/// A fault of the program, or of a layer below.
+#[derive(Clone, Copy, Debug, Error, PartialEq, Eq)]
+pub enum ToolFault {
+    #[error("out of memory")]
+    Memory,
+    #[error(transparent)]
+    History(HistoryFault),
+    #[error(transparent)]
+    Order(OrderFault),
+    #[error("the command wants another number of parts")]
+    WrongParts,
+    #[error("the input isn't UTF-8")]
+    NotText,
+    #[error("the input couldn't be read")]
+    ReadFailed,
+    #[error("the output couldn't be written")]
+    WriteFailed,
+}
+
+/// Why there is no output: the words are no command line, or a fault.
+#[derive(Debug, Drop)]
+pub enum Refusal {
+    BadLine(clap::Error),
+    Fault(ToolFault),
+}
+
+impl From<AllocError> for ToolFault {
+    ghost from_gives = { λ _ e. e ≡ Memory };
+
+    fn from(_error: AllocError) -> ToolFault {
+        ToolFault::Memory
+    }
+}
+
+impl<T: Drop> From<AllocFailed<T>> for ToolFault {
+    ghost from_gives = { λ _ e. e ≡ Memory };
+
+    fn from(_error: AllocFailed<T>) -> ToolFault {
+        ToolFault::Memory
+    }
+}
+
+impl From<HistoryFault> for ToolFault {
+    ghost from_gives = { λ f e. e ≡ lifted_history f };
+
+    fn from(fault: HistoryFault) -> ToolFault {
+        match fault {
+            HistoryFault::Memory => ToolFault::Memory,
+            other => ToolFault::History(other),
+        }
+    }
+}
+
+impl From<OrderFault> for ToolFault {
+    ghost from_gives = { λ f e. e ≡ lifted_order f };
+
+    fn from(fault: OrderFault) -> ToolFault {
+        match fault {
+            OrderFault::Memory => ToolFault::Memory,
+            other => ToolFault::Order(other),
+        }
+    }
+}

@@ -1,0 +1,19 @@
+//! The program, but for the handing over of the real streams.
+#![tactic(auto)]
+
+mod answer;
+mod commands;
+mod fault;
+mod line;
+mod parts;
+mod running;
+mod streams;
+mod words;
+
+pub use answer::respond;
+pub use fault::{Refusal, ToolFault};
+pub use running::run;
+pub use words::Request;
+
+#[cfg(test)]
+mod tests;

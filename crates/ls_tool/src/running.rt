@@ -1,0 +1,45 @@
+// The whole run, over any streams.
+
+ghost use Rattle.std.specs.Prelude.{◌≡◌, IfSome, map, string_bytes};
+ghost use Rattle.ls_tool.specs.Output.{Ends, Told};
+
+use crate::answer::respond;
+use crate::fault::{Refusal, ToolFault};
+use crate::line::fault_line;
+use crate::streams::write_out;
+use std::alloc::Global;
+use std::io::{Read, Write};
+
+/// Writes the fault's line. Where that fails too, the status alone tells of the fault.
+fn tell<E: Write>(err: &mut E, fault: ToolFault) -> u8
+    ensures status { result ≡ 1 }
+    ensures told { Told fault (E.contents err.old) (E.contents err.new) }
+{
+    let line = fault_line(fault);
+    let _ = write_out(err, line.as_bytes());
+    1
+}
+
+/// Does what the words ask for, and answers the exit status.
+pub fn run<'a, R: Read, W: Write, E: Write>(
+    alloc: Global,
+    words: &'a [String],
+    reader: &mut R,
+    out: &mut W,
+    err: &mut E,
+) -> u8
+    ensures { IfSome (R.remaining reader.old) (λ input. Ends (map string_bytes words.entry.now) input result
+        (W.contents out.old) (W.contents out.new) (E.contents err.old) (E.contents err.new)) }
+{
+    match respond(alloc, words, reader) {
+        Ok(text) => match write_out(out, text.as_bytes()) {
+            Ok(()) => 0,
+            Err(_) => tell(err, ToolFault::WriteFailed),
+        },
+        Err(Refusal::Fault(fault)) => tell(err, fault),
+        Err(Refusal::BadLine(error)) => {
+            let _ = write!(err, "{error}");
+            2
+        }
+    }
+}

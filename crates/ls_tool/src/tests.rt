@@ -1,0 +1,165 @@
+// Lines and statuses of runs over memory, and over streams that fail.
+
+use super::*;
+use std::alloc::{AllocError, Global};
+use std::io::{self, Error, ErrorKind, Read, Write};
+use std::test::Fail;
+
+fn texts(alloc: Global, words: &[&str]) -> Result<Vec<String>, AllocError> {
+    let mut texts = Vec::new(alloc);
+    for word in words {
+        texts.push(String::from_str(alloc, word)?)?;
+    }
+    Ok(texts)
+}
+
+#[test]
+fn checks(rt: HostRuntime) -> Result<(), Fail> {
+    let alloc = rt.alloc();
+    let words = texts(alloc, ["listset", "check"].as_slice())?;
+    let rows: [(&[u8], u8, &str, &str); 9] = [
+        (b"%%", 0, "legal\n", ""),
+        (
+            b"A.1 call s.add(1)\nA.1 return true\n%%\nA.1",
+            0,
+            "legal\n",
+            "",
+        ),
+        (b"A.1 call s.add(1)\n%%\nA.1 A.1", 0, "broken 72 A.1\n", ""),
+        (b"A.1 call s.put(1)\n%%\nA.1", 0, "broken 76 A.1\n", ""),
+        (b"\n\n%%\n", 1, "", "fault 77 BadHistory at 0\n"),
+        (
+            b"A.1 call s.add(1)\r\n%%\n0",
+            1,
+            "",
+            "fault 77 BadHistory at 0\n",
+        ),
+        (
+            b"A.1 call s.add(1)\n%%\n A.1 class.1",
+            1,
+            "",
+            "fault 78 BadOrder at 5\n",
+        ),
+        (b"%%\n%%", 1, "", "fault 80 WrongParts\n"),
+        (b"\xff%%", 1, "", "fault 81 NotText\n"),
+    ];
+    for (input, status, out, err) in rows {
+        let mut reader = input;
+        let mut shown = Vec::new(alloc);
+        let mut told = Vec::new(alloc);
+        let ended = run(alloc, words.as_slice(), &mut reader, &mut shown, &mut told);
+        assert_eq!(rt; shown.as_slice(), out.as_bytes());
+        assert_eq!(rt; told.as_slice(), err.as_bytes());
+        assert_eq!(rt; ended, status);
+    }
+    Ok(())
+}
+
+#[test]
+fn refuses_lines(rt: HostRuntime) -> Result<(), Fail> {
+    let alloc = rt.alloc();
+    let rows: [&[&str]; 4] = [
+        &["listset"],
+        &["listset", "--help"],
+        &["listset", "help", "check"],
+        &["listset", "check", "more"],
+    ];
+    for row in rows {
+        let words = texts(alloc, row)?;
+        let mut shown = Vec::new(alloc);
+        let mut told = Vec::new(alloc);
+        let ended = run(alloc, words.as_slice(), &mut Failing, &mut shown, &mut told);
+        assert_eq!(rt; ended, 2);
+        assert_eq!(rt; shown.len(), 0);
+        assert!(rt; !told.is_empty());
+    }
+    Ok(())
+}
+
+/// A stream that always fails.
+struct Failing;
+
+impl Drop for Failing {
+    fn drop(self) {
+        let Failing = self;
+    }
+}
+
+impl Read for Failing {
+    fn read(&mut self, _bytes: &mut [u8]) -> io::Result<usize> {
+        Err(Error::from(ErrorKind::Other))
+    }
+}
+
+impl Write for Failing {
+    fn write(&mut self, _bytes: &[u8]) -> io::Result<usize> {
+        Err(Error::from(ErrorKind::Other))
+    }
+
+    fn flush(&mut self) -> io::Result<()> {
+        Ok(())
+    }
+}
+
+/// A writer that takes everything and fails at the flush.
+struct Unflushed;
+
+impl Drop for Unflushed {
+    fn drop(self) {
+        let Unflushed = self;
+    }
+}
+
+impl Write for Unflushed {
+    fn write(&mut self, bytes: &[u8]) -> io::Result<usize> {
+        Ok(bytes.len())
+    }
+
+    fn flush(&mut self) -> io::Result<()> {
+        Err(Error::from(ErrorKind::Other))
+    }
+}
+
+#[test]
+fn tells_of_streams(rt: HostRuntime) -> Result<(), Fail> {
+    let alloc = rt.alloc();
+    let words = texts(alloc, ["listset", "check"].as_slice())?;
+    let mut shown = Vec::new(alloc);
+    let mut told = Vec::new(alloc);
+    let ended = run(alloc, words.as_slice(), &mut Failing, &mut shown, &mut told);
+    assert_eq!(rt; (ended, shown.len()), (1, 0));
+    assert_eq!(rt; told.as_slice(), b"fault 82 ReadFailed\n".as_slice());
+    told.clear();
+    let input: &[u8] = b"%%";
+    let mut reader = input;
+    let ended = run(
+        alloc,
+        words.as_slice(),
+        &mut reader,
+        &mut Failing,
+        &mut told,
+    );
+    assert_eq!(rt; ended, 1);
+    assert_eq!(rt; told.as_slice(), b"fault 83 WriteFailed\n".as_slice());
+    told.clear();
+    let mut reader = input;
+    let ended = run(
+        alloc,
+        words.as_slice(),
+        &mut reader,
+        &mut Unflushed,
+        &mut told,
+    );
+    assert_eq!(rt; ended, 1);
+    assert_eq!(rt; told.as_slice(), b"fault 83 WriteFailed\n".as_slice());
+    let mut reader = input;
+    let ended = run(
+        alloc,
+        words.as_slice(),
+        &mut reader,
+        &mut Failing,
+        &mut Failing,
+    );
+    assert_eq!(rt; ended, 1);
+    Ok(())
+}
