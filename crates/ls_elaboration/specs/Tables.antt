@@ -1,0 +1,28 @@
+-- What contracts see of the tables of names.
+use Rattle.std.specs.Prelude.{map, string_bytes}
+use Rattle.ls_elaboration.specs.Known as known
+use Rattle.ls_elaboration.specs.declared.known.Local.{Local}
+use Rattle.ls_elaboration.specs.declared.known.FieldSign.{FieldSign}
+use Rattle.ls_elaboration.specs.declared.known.MethodSign.{MethodSign}
+use Rattle.ls_elaboration.specs.declared.known.ClassSign.{ClassSign}
+use Rattle.ls_elaboration.specs.declared.known.Known.{Known}
+
+abbrev pub local_of : Local → known.Local
+local_of l = record { name = l.name.now; type = l.value_type; slot = l.slot }
+
+abbrev pub field_sign_of : FieldSign → known.FieldSign
+field_sign_of f = record { name = string_bytes f.name; type = f.value_type }
+
+abbrev pub method_sign_of : MethodSign → known.MethodSign
+method_sign_of m = record { name = string_bytes m.name; number = m.number; parameters = m.parameters.items; result = m.result }
+
+abbrev pub class_sign_of : ClassSign → known.ClassSign
+class_sign_of c = record {
+  fields = map field_sign_of c.fields.items;
+  methods = map method_sign_of c.methods.items;
+  constructor = c.constructor;
+  parameters = c.parameters.items;
+}
+
+abbrev pub known_of : Known → known.Known
+known_of k = record { names = map string_bytes k.names.now; classes = map class_sign_of k.classes.now; own = k.own }

@@ -1,0 +1,94 @@
+// The checked file of a class text's tree.
+
+ghost use Rattle.std.specs.Prelude.{◌≡◌, IfOk, length, map, string_bytes};
+ghost use Rattle.ls_checked.specs.Plain.{plain_class};
+ghost use Rattle.ls_elaboration.specs.Elaboration.{checked_class as the_class, file_methods as the_file_methods, elaborated};
+ghost use Rattle.ls_elaboration.specs.PlacedStatements.{placed_class, placed_file};
+ghost use Rattle.ls_elaboration.specs.Tables.{class_sign_of, field_sign_of};
+ghost use Rattle.ls_elaboration.specs.Outcomes.{seen_bodies, seen_outcome};
+
+use crate::known::{ClassSign, FieldSign, Known};
+use crate::methods::class_methods;
+use crate::rule::Broken;
+use crate::signs::{class_names, class_signs};
+use ls_checked::tree::{Class, File, Method};
+use ls_events::value::ValueType;
+use ls_parser::tree;
+use ls_parser::tree::ClassFile;
+use std::alloc::{AllocError, Global};
+
+/// The names of the classes, what they declare, and the checked file.
+#[derive(Drop)]
+pub struct Outcome {
+    pub names: Vec<String>,
+    pub signs: Vec<ClassSign>,
+    pub file: File,
+}
+
+fn field_types(alloc: Global, fields: &[FieldSign]) -> Result<Vec<ValueType>, AllocError>
+    ensures { IfOk result (λ v. v.items ≡ map (λ f. f.type) (map field_sign_of fields.now)) }
+{
+    let mut types = Vec::new(alloc);
+    for f in fields {
+        types.push(f.value_type)?;
+    }
+    Ok(types)
+}
+
+fn checked_class(alloc: Global, c: &ClassSign) -> Result<Class, AllocError>
+    ensures { IfOk result (λ d. plain_class d ≡ the_class (class_sign_of c.now)) }
+{
+    Ok(Class {
+        fields: field_types(alloc, &c.fields)?,
+        constructor: c.constructor,
+    })
+}
+
+fn checked_classes(alloc: Global, signs: &[ClassSign]) -> Result<Vec<Class>, AllocError>
+    ensures { IfOk result (λ v. map plain_class v.items ≡ map the_class (map class_sign_of signs.now)) }
+{
+    let mut classes = Vec::new(alloc);
+    for c in signs {
+        classes.push(checked_class(alloc, c)?)?;
+    }
+    Ok(classes)
+}
+
+// The methods of all classes.
+fn file_methods(
+    alloc: Global,
+    names: &[String],
+    signs: &[ClassSign],
+    classes: &[tree::Class],
+) -> Result<Result<Vec<Method>, Broken>, AllocError>
+    ensures { IfOk result (λ r. seen_bodies (length classes.now) r ≡ the_file_methods (map string_bytes names.now) (map class_sign_of signs.now) (map placed_class classes.now)) }
+{
+    let mut methods = Vec::new(alloc);
+    for (own, c) in classes.iter().enumerate() {
+        let known = Known {
+            names,
+            classes: signs,
+            own,
+        };
+        methods = kept!(class_methods(alloc, known, methods, &c.members)?);
+    }
+    Ok(Ok(methods))
+}
+
+/// The elaboration of a file.
+pub fn elaborate(alloc: Global, parsed: &ClassFile) -> Result<Result<Outcome, Broken>, AllocError>
+    ensures { IfOk result (λ r. seen_outcome r ≡ elaborated (placed_file parsed.now)) }
+{
+    let names = kept!(class_names(alloc, &parsed.classes)?);
+    let classes = kept!(class_signs(alloc, &names, &parsed.classes)?);
+    let methods = kept!(file_methods(alloc, &names, &classes.signs, &parsed.classes)?);
+    let file = File {
+        classes: checked_classes(alloc, &classes.signs)?,
+        methods,
+    };
+    Ok(Ok(Outcome {
+        names,
+        signs: classes.signs,
+        file,
+    }))
+}

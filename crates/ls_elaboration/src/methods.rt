@@ -1,0 +1,265 @@
+// Methods, constructors and field initialisers.
+
+ghost use Rattle.std.specs.Prelude.{◌≡◌, ◌≤◌, IfOk, map, option_map, vec_len};
+ghost use Rattle.ls_checked.specs.Plain.{plain_statement, plain_method};
+ghost use Rattle.ls_elaboration.specs.Elaborated.{each};
+ghost use Rattle.ls_elaboration.specs.TypedMethods.{parameter as the_parameter, declarator_set as the_declarator_set, member_set as the_member_set, initialisers as the_initialisers, method as the_method, written_method as the_written_method, written_constructor as the_written_constructor, one_method as the_one_method, has_constructor as the_has_constructor, default_constructor as the_default_constructor, class_methods as the_class_methods};
+ghost use Rattle.ls_elaboration.specs.Placed.{placed_name};
+ghost use Rattle.ls_elaboration.specs.PlacedStatements.{placed_parameter, placed_declarator, placed_member, placed_items, placed_type};
+ghost use Rattle.ls_elaboration.specs.Tables.{known_of};
+ghost use Rattle.ls_elaboration.specs.ScopeViews.{body_of, scope_of, seen_scope, seen_method, seen_statements, seen_methods};
+
+use crate::completion::all_complete;
+use crate::expressions::fitting;
+use crate::known::{Known, field_of};
+use crate::rule::{Broken, Rule, broken_at};
+use crate::scope::{Context, Scope, may_declare, result_of, type_of, with_variable};
+use crate::statements::{all_items, block_of};
+use ls_checked::tree::{Expression, Method, Statement};
+use ls_events::value::ValueType;
+use ls_parser::tree::{
+    BlockItem, Constructor, Declarator, Member, Method as MethodText, Name, Parameter,
+};
+use std::alloc::{AllocError, Global};
+
+// One more parameter in scope.
+fn parameter<'t>(
+    context: Context,
+    scope: Scope<'t>,
+    p: &'t Parameter,
+) -> Result<Result<Scope<'t>, Broken>, AllocError>
+    requires { vec_len scope.slots ≤ 128 }
+    ensures found { IfOk result (λ r. seen_scope r ≡ the_parameter (body_of context.entry) (scope_of scope.entry) (placed_parameter p.entry.now)) }
+    ensures low { IfOk result (λ r. IfOk r (λ s. vec_len s.slots ≤ 128)) }
+{
+    kept!(may_declare(context.span, &scope, &p.name));
+    let t = kept!(type_of(context.known.names, &p.type_name));
+    Ok(Ok(with_variable(scope, p.name.text.as_str(), t)?))
+}
+
+fn parameters<'t>(
+    context: Context,
+    before: Scope<'t>,
+    ps: &'t [Parameter],
+) -> Result<Result<Scope<'t>, Broken>, AllocError>
+    requires { vec_len before.slots ≤ 128 }
+    ensures found { IfOk result (λ r. seen_scope r ≡ each (the_parameter (body_of context.entry)) (scope_of before.entry) (map placed_parameter ps.entry.now)) }
+    ensures low { IfOk result (λ r. IfOk r (λ s. vec_len s.slots ≤ 128)) }
+{
+    let mut scope = before;
+    for p in ps {
+        scope = kept!(parameter(context, scope, p)?);
+    }
+    Ok(Ok(scope))
+}
+
+// The initialiser of a field, where it has one, behind those before it.
+fn declarator_set(
+    alloc: Global,
+    known: Known,
+    front: Vec<Statement>,
+    d: &Declarator,
+) -> Result<Result<Vec<Statement>, Broken>, AllocError>
+    ensures { IfOk result (λ r. seen_statements r ≡ the_declarator_set (known_of known.entry) (map plain_statement front.items) (placed_declarator d.now)) }
+{
+    match (field_of(known, known.own, d.name.text.as_str()), &d.value) {
+        (Some(f), Some(e)) => {
+            let value = kept!(fitting(alloc, known, &[], f.value_type, e)?);
+            let mut front = front;
+            front.push(Statement::SetField {
+                target: Expression::Slot(0),
+                field: f.number,
+                value,
+            })?;
+            Ok(Ok(front))
+        }
+        (None, _) => Ok(Ok(front)),
+        (Some(_), None) => Ok(Ok(front)),
+    }
+}
+
+fn member_set(
+    alloc: Global,
+    known: Known,
+    before: Vec<Statement>,
+    m: &Member,
+) -> Result<Result<Vec<Statement>, Broken>, AllocError>
+    ensures { IfOk result (λ r. seen_statements r ≡ the_member_set (known_of known.entry) (map plain_statement before.items) (placed_member m.now)) }
+{
+    match m {
+        Member::Field(d) => {
+            let mut front = kept!(declarator_set(alloc, known, before, &d.first)?);
+            for d in &d.more {
+                front = kept!(declarator_set(alloc, known, front, d)?);
+            }
+            Ok(Ok(front))
+        }
+        Member::Method(_) => Ok(Ok(before)),
+        Member::Constructor(_) => Ok(Ok(before)),
+    }
+}
+
+// The initialisers of a class's fields, as assignments in text order.
+fn initialisers(
+    alloc: Global,
+    known: Known,
+    members: &[Member],
+) -> Result<Result<Vec<Statement>, Broken>, AllocError>
+    ensures { IfOk result (λ r. seen_statements r ≡ the_initialisers (known_of known.entry) (map placed_member members.now)) }
+{
+    let mut front = Vec::new(alloc);
+    for m in members {
+        front = kept!(member_set(alloc, known, front, m)?);
+    }
+    Ok(Ok(front))
+}
+
+// A method or constructor, whose body begins with the statements of `front`.
+fn method<'t>(
+    alloc: Global,
+    known: Known,
+    answers: Option<ValueType>,
+    name: &Name,
+    ps: &'t [Parameter],
+    front: Vec<Statement>,
+    items: &'t [BlockItem],
+) -> Result<Result<Method, Broken>, AllocError>
+    ensures { IfOk result (λ r. seen_method r ≡ the_method (known_of known.entry) answers (placed_name name.now) (map placed_parameter ps.entry.now) (map plain_statement front.items) (placed_items items.entry.now)) }
+{
+    let context = Context {
+        known,
+        result: answers,
+        span: name.span,
+    };
+    let mut slots = Vec::new(alloc);
+    slots.push(ValueType::Class(known.own))?;
+    let scope = Scope {
+        statements: front,
+        locals: Vec::new(alloc),
+        slots,
+    };
+    let scope = kept!(parameters(context, scope, ps)?);
+    let scope = kept!(all_items(alloc, context, &[], scope, items)?);
+    if answers.is_some() && all_complete(&scope.statements) {
+        return Ok(Err(broken_at(Rule::MissingReturn, name.span)));
+    }
+    Ok(Ok(Method {
+        class: known.own,
+        parameters: ps.len(),
+        slots: scope.slots,
+        result: answers,
+        body: block_of(scope.statements),
+    }))
+}
+
+fn written_method(
+    alloc: Global,
+    known: Known,
+    m: &MethodText,
+) -> Result<Result<Method, Broken>, AllocError>
+    ensures { IfOk result (λ r. seen_method r ≡ the_written_method (known_of known.entry) (option_map placed_type m.now.result) (placed_name m.now.name) (map placed_parameter m.now.parameters.items) (placed_items m.now.body.items.items)) }
+{
+    let answers = kept!(result_of(known.names, &m.result));
+    method(
+        alloc,
+        known,
+        answers,
+        &m.name,
+        &m.parameters,
+        Vec::new(alloc),
+        &m.body.items,
+    )
+}
+
+fn written_constructor(
+    alloc: Global,
+    known: Known,
+    members: &[Member],
+    c: &Constructor,
+) -> Result<Result<Method, Broken>, AllocError>
+    ensures { IfOk result (λ r. seen_method r ≡ the_written_constructor (known_of known.entry) (map placed_member members.now) (placed_name c.now.name) (map placed_parameter c.now.parameters.items) (placed_items c.now.body.items.items)) }
+{
+    let front = kept!(initialisers(alloc, known, members)?);
+    method(
+        alloc,
+        known,
+        None,
+        &c.name,
+        &c.parameters,
+        front,
+        &c.body.items,
+    )
+}
+
+// A method or constructor behind those before it.
+fn one_method(
+    alloc: Global,
+    known: Known,
+    members: &[Member],
+    before: Vec<Method>,
+    m: &Member,
+) -> Result<Result<Vec<Method>, Broken>, AllocError>
+    ensures { IfOk result (λ r. seen_methods r ≡ the_one_method (known_of known.entry) (map placed_member members.now) (map plain_method before.items) (placed_member m.now)) }
+{
+    let method = match m {
+        Member::Field(_) => return Ok(Ok(before)),
+        Member::Method(m) => kept!(written_method(alloc, known, m)?),
+        Member::Constructor(c) => kept!(written_constructor(alloc, known, members, c)?),
+    };
+    let mut methods = before;
+    methods.push(method)?;
+    Ok(Ok(methods))
+}
+
+fn has_constructor(members: &[Member]) -> bool
+    ensures { result ≡ the_has_constructor (map placed_member members.now) }
+{
+    for m in members {
+        if let Member::Constructor(_) = m {
+            return true;
+        }
+    }
+    false
+}
+
+// The constructor of a class that is written with none.
+fn default_constructor(
+    alloc: Global,
+    known: Known,
+    members: &[Member],
+    before: Vec<Method>,
+) -> Result<Result<Vec<Method>, Broken>, AllocError>
+    ensures { IfOk result (λ r. seen_methods r ≡ the_default_constructor (known_of known.entry) (map placed_member members.now) (map plain_method before.items)) }
+{
+    if has_constructor(members) {
+        return Ok(Ok(before));
+    }
+    let front = kept!(initialisers(alloc, known, members)?);
+    let mut slots = Vec::new(alloc);
+    slots.push(ValueType::Class(known.own))?;
+    let mut methods = before;
+    methods.push(Method {
+        class: known.own,
+        parameters: 0,
+        slots,
+        result: None,
+        body: block_of(front),
+    })?;
+    Ok(Ok(methods))
+}
+
+/// The methods and constructors of a class, in text order, behind those of the classes before it.
+pub fn class_methods(
+    alloc: Global,
+    known: Known,
+    before: Vec<Method>,
+    members: &[Member],
+) -> Result<Result<Vec<Method>, Broken>, AllocError>
+    ensures { IfOk result (λ r. seen_methods r ≡ the_class_methods (known_of known.entry) (map plain_method before.items) (map placed_member members.now)) }
+{
+    let mut methods = before;
+    for m in members {
+        methods = kept!(one_method(alloc, known, members, methods, m)?);
+    }
+    default_constructor(alloc, known, members, methods)
+}

@@ -1,0 +1,184 @@
+// The operators on operands that are typed.
+
+ghost use Rattle.std.specs.Prelude.{◌≡◌, IfOk, if◌then◌else◌};
+ghost use Rattle.ls_parser.specs.declared.tree.BinaryOp.TheVariants.{And as and_written, Or as or_written};
+ghost use Rattle.ls_elaboration.specs.Operators.{unary_of as the_unary, binary_of as the_binary, computed as the_computed, compared as the_compared};
+ghost use Rattle.ls_elaboration.specs.Answers.{typed_of, seen_typed};
+
+use crate::rule::{Broken, Rule, broken_at};
+use crate::static_types::{Typed, as_type, as_value, comparable, typed_as};
+use ls_checked::tree::{Expression, Operator};
+use ls_events::value::ValueType;
+use ls_lexer::token::Span;
+use ls_parser::tree::{BinaryOp, UnaryOp};
+use std::alloc::{AllocError, Global};
+
+/// A unary operator on an operand that stands at `span`.
+pub fn unary_of(
+    alloc: Global,
+    op: UnaryOp,
+    span: Span,
+    x: Typed,
+) -> Result<Result<Typed, Broken>, AllocError>
+    ensures { IfOk result (λ r. seen_typed r ≡ the_unary op span (typed_of x)) }
+{
+    match op {
+        UnaryOp::Minus => {
+            let e = kept!(as_type(ValueType::Int, span, x));
+            Ok(typed_as(ValueType::Int, Expression::Negate(Box::new(alloc, e)?)))
+        }
+        UnaryOp::Not => {
+            let e = kept!(as_type(ValueType::Boolean, span, x));
+            Ok(typed_as(ValueType::Boolean, Expression::Not(Box::new(alloc, e)?)))
+        }
+    }
+}
+
+// Ints on both sides.
+fn computed(
+    alloc: Global,
+    t: ValueType,
+    op: Operator,
+    left: Span,
+    right: Span,
+    x: Typed,
+    y: Typed,
+) -> Result<Result<Typed, Broken>, AllocError>
+    ensures { IfOk result (λ r. seen_typed r ≡ the_computed t op left right (typed_of x) (typed_of y)) }
+{
+    let a = kept!(as_type(ValueType::Int, left, x));
+    let b = kept!(as_type(ValueType::Int, right, y));
+    Ok(typed_as(
+        t,
+        Expression::Binary(op, Box::new(alloc, a)?, Box::new(alloc, b)?),
+    ))
+}
+
+// Two values that may be compared.
+fn compared(
+    alloc: Global,
+    op: Operator,
+    span: Span,
+    left: Span,
+    right: Span,
+    x: Typed,
+    y: Typed,
+) -> Result<Result<Typed, Broken>, AllocError>
+    ensures { IfOk result (λ r. seen_typed r ≡ the_compared op span left right (typed_of x) (typed_of y)) }
+{
+    let x = kept!(as_value(left, x));
+    let y = kept!(as_value(right, y));
+    if comparable(x.of, y.of) {
+        let e = Expression::Binary(
+            op,
+            Box::new(alloc, x.expression)?,
+            Box::new(alloc, y.expression)?,
+        );
+        Ok(typed_as(ValueType::Boolean, e))
+    } else {
+        Ok(Err(broken_at(Rule::WrongType, span)))
+    }
+}
+
+// Truth values on both sides of `&&` or `||`.
+fn decided(
+    alloc: Global,
+    and: bool,
+    left: Span,
+    right: Span,
+    x: Typed,
+    y: Typed,
+) -> Result<Result<Typed, Broken>, AllocError>
+    ensures { IfOk result (λ r. seen_typed r ≡ the_binary (if and then and_written else or_written) left left right (typed_of x) (typed_of y)) }
+{
+    let a = kept!(as_type(ValueType::Boolean, left, x));
+    let b = kept!(as_type(ValueType::Boolean, right, y));
+    if and {
+        Ok(typed_as(
+            ValueType::Boolean,
+            Expression::And(Box::new(alloc, a)?, Box::new(alloc, b)?),
+        ))
+    } else {
+        Ok(typed_as(
+            ValueType::Boolean,
+            Expression::Or(Box::new(alloc, a)?, Box::new(alloc, b)?),
+        ))
+    }
+}
+
+/// A binary operator that stands at `span` with its operands, which stand at `left` and `right`.
+pub fn binary_of(
+    alloc: Global,
+    op: BinaryOp,
+    span: Span,
+    left: Span,
+    right: Span,
+    x: Typed,
+    y: Typed,
+) -> Result<Result<Typed, Broken>, AllocError>
+    ensures { IfOk result (λ r. seen_typed r ≡ the_binary op span left right (typed_of x) (typed_of y)) }
+{
+    match op {
+        BinaryOp::Or => decided(alloc, false, left, right, x, y),
+        BinaryOp::And => decided(alloc, true, left, right, x, y),
+        BinaryOp::Equal => compared(alloc, Operator::Equal, span, left, right, x, y),
+        BinaryOp::NotEqual => compared(alloc, Operator::NotEqual, span, left, right, x, y),
+        BinaryOp::Less => computed(alloc, ValueType::Boolean, Operator::Less, left, right, x, y),
+        BinaryOp::Greater => computed(
+            alloc,
+            ValueType::Boolean,
+            Operator::Greater,
+            left,
+            right,
+            x,
+            y,
+        ),
+        BinaryOp::LessEqual => computed(
+            alloc,
+            ValueType::Boolean,
+            Operator::LessEqual,
+            left,
+            right,
+            x,
+            y,
+        ),
+        BinaryOp::GreaterEqual => computed(
+            alloc,
+            ValueType::Boolean,
+            Operator::GreaterEqual,
+            left,
+            right,
+            x,
+            y,
+        ),
+        BinaryOp::Add => computed(alloc, ValueType::Int, Operator::Add, left, right, x, y),
+        BinaryOp::Subtract => computed(
+            alloc,
+            ValueType::Int,
+            Operator::Subtract,
+            left,
+            right,
+            x,
+            y,
+        ),
+        BinaryOp::Multiply => computed(
+            alloc,
+            ValueType::Int,
+            Operator::Multiply,
+            left,
+            right,
+            x,
+            y,
+        ),
+        BinaryOp::Divide => computed(alloc, ValueType::Int, Operator::Divide, left, right, x, y),
+        BinaryOp::Remainder => computed(
+            alloc,
+            ValueType::Int,
+            Operator::Remainder,
+            left,
+            right,
+            x,
+            y,
+        ),
+    }
+}

@@ -1,0 +1,330 @@
+// What the classes of a text declare.
+
+ghost use Rattle.std.specs.Prelude.{◌≡◌, IfOk, map, string_bytes};
+ghost use Rattle.ls_elaboration.specs.Signs.{is_reserved as the_reserved, one_name as the_one_name, class_names as the_class_names, parameter_types as the_parameter_types, field_met as the_field_met, fields_met as the_fields_met, method_met as the_method_met, constructor_met as the_constructor_met, member_met as the_member_met, class_met as the_class_met, one_class as the_one_class, class_signs as the_class_signs};
+ghost use Rattle.ls_elaboration.specs.Placed.{placed_name};
+ghost use Rattle.ls_elaboration.specs.PlacedStatements.{placed_parameter, placed_declarator, placed_member, placed_class, placed_declaration};
+ghost use Rattle.ls_elaboration.specs.SignViews.{met_of, seen_met, classes_of, seen_classes, seen_names, seen_types};
+
+use crate::known::{ClassSign, FieldSign, MethodSign, field_named, method_named, number_of};
+use crate::rule::{Broken, Rule, broken_at};
+use crate::scope::{MOST_SLOTS, result_of, type_of};
+use ls_events::value::ValueType;
+use ls_parser::tree::{Class, Declaration, Declarator, Member, Name, Parameter};
+use std::alloc::{AllocError, Global};
+
+pub const MOST_CLASSES: usize = 64;
+
+/// The most fields of a class.
+pub const MOST_FIELDS: usize = 64;
+
+/// The most methods and constructors of a file, default ones too.
+pub const MOST_METHODS: usize = 512;
+
+/// What has been met of a class, and the number of the next method or constructor.
+#[derive(Drop)]
+pub struct Met {
+    pub fields: Vec<FieldSign>,
+    pub methods: Vec<MethodSign>,
+    pub constructor: Option<usize>,
+    pub parameters: Vec<ValueType>,
+    pub next: usize,
+}
+
+/// The classes so far, and the number of the next method or constructor.
+#[derive(Drop)]
+pub struct Classes {
+    pub signs: Vec<ClassSign>,
+    pub next: usize,
+}
+
+fn is_reserved(name: &str) -> bool
+    ensures { result ≡ the_reserved name.now }
+{
+    name == "Integer"
+        || name == "Lock"
+        || name == "ReentrantLock"
+        || name == "AtomicMarkableReference"
+}
+
+// One more class's name.
+fn one_name(
+    alloc: Global,
+    before: Vec<String>,
+    c: &Class,
+) -> Result<Result<Vec<String>, Broken>, AllocError>
+    ensures { IfOk result (λ r. seen_names r ≡ the_one_name (map string_bytes before.items) (placed_class c.now)) }
+{
+    let name = c.name.text.as_str();
+    if is_reserved(name) {
+        return Ok(Err(broken_at(Rule::ReservedClass, c.name.span)));
+    }
+    if number_of(&before, name).is_some() {
+        return Ok(Err(broken_at(Rule::TwiceDeclared, c.name.span)));
+    }
+    if before.len() >= MOST_CLASSES {
+        return Ok(Err(broken_at(Rule::Limit, c.name.span)));
+    }
+    let mut names = before;
+    names.push(String::from_str(alloc, name)?)?;
+    Ok(Ok(names))
+}
+
+/// The names of the classes.
+pub fn class_names(
+    alloc: Global,
+    classes: &[Class],
+) -> Result<Result<Vec<String>, Broken>, AllocError>
+    ensures { IfOk result (λ r. seen_names r ≡ the_class_names (map placed_class classes.now)) }
+{
+    let mut names = Vec::new(alloc);
+    for c in classes {
+        names = kept!(one_name(alloc, names, c)?);
+    }
+    Ok(Ok(names))
+}
+
+// The types of parameters, which have room beside `this`.
+fn parameter_types(
+    alloc: Global,
+    names: &[String],
+    n: &Name,
+    ps: &[Parameter],
+) -> Result<Result<Vec<ValueType>, Broken>, AllocError>
+    ensures { IfOk result (λ r. seen_types r ≡ the_parameter_types (map string_bytes names.now) (placed_name n.now) (map placed_parameter ps.now)) }
+{
+    if ps.len() >= MOST_SLOTS {
+        return Ok(Err(broken_at(Rule::Limit, n.span)));
+    }
+    let mut types = Vec::new(alloc);
+    for p in ps {
+        types.push(kept!(type_of(names, &p.type_name)))?;
+    }
+    Ok(Ok(types))
+}
+
+fn field_met(
+    alloc: Global,
+    t: ValueType,
+    met: Met,
+    d: &Declarator,
+) -> Result<Result<Met, Broken>, AllocError>
+    ensures { IfOk result (λ r. seen_met r ≡ the_field_met t (met_of met) (placed_declarator d.now)) }
+{
+    let name = d.name.text.as_str();
+    if field_named(&met.fields, name).is_some() {
+        return Ok(Err(broken_at(Rule::TwiceDeclared, d.name.span)));
+    }
+    if met.fields.len() >= MOST_FIELDS {
+        return Ok(Err(broken_at(Rule::Limit, d.name.span)));
+    }
+    let Met {
+        mut fields,
+        methods,
+        constructor,
+        parameters,
+        next,
+    } = met;
+    fields.push(FieldSign {
+        name: String::from_str(alloc, name)?,
+        value_type: t,
+    })?;
+    Ok(Ok(Met {
+        fields,
+        methods,
+        constructor,
+        parameters,
+        next,
+    }))
+}
+
+fn method_met(
+    alloc: Global,
+    met: Met,
+    n: &Name,
+    types: Vec<ValueType>,
+    answers: Option<ValueType>,
+) -> Result<Result<Met, Broken>, AllocError>
+    ensures found { IfOk result (λ r. seen_met r ≡ the_method_met (met_of met) (placed_name n.now) types.items answers) }
+{
+    let name = n.text.as_str();
+    if method_named(&met.methods, name).is_some() {
+        return Ok(Err(broken_at(Rule::TwiceDeclared, n.span)));
+    }
+    if met.next >= MOST_METHODS {
+        return Ok(Err(broken_at(Rule::Limit, n.span)));
+    }
+    let Met {
+        fields,
+        mut methods,
+        constructor,
+        parameters,
+        next,
+    } = met;
+    let name = String::from_str(alloc, name)?;
+    methods.push(MethodSign {
+        name,
+        number: next,
+        parameters: types,
+        result: answers,
+    })?;
+    Ok(Ok(Met {
+        fields,
+        methods,
+        constructor,
+        parameters,
+        next: next + 1,
+    }))
+}
+
+// A constructor, which has the name of its class.
+fn constructor_met(class: &Name, met: Met, n: &Name, types: Vec<ValueType>) -> Result<Met, Broken>
+    ensures { seen_met result ≡ the_constructor_met (string_bytes class.now.text) (met_of met) (placed_name n.now) types.items }
+{
+    if n.text.as_str() != class.text.as_str() {
+        return Err(broken_at(Rule::UnknownType, n.span));
+    }
+    if met.constructor.is_some() {
+        return Err(broken_at(Rule::TwiceDeclared, n.span));
+    }
+    if met.next >= MOST_METHODS {
+        return Err(broken_at(Rule::Limit, n.span));
+    }
+    let Met {
+        fields,
+        methods,
+        next,
+        ..
+    } = met;
+    Ok(Met {
+        fields,
+        methods,
+        constructor: Some(next),
+        parameters: types,
+        next: next + 1,
+    })
+}
+
+fn fields_met(
+    alloc: Global,
+    names: &[String],
+    before: Met,
+    d: &Declaration,
+) -> Result<Result<Met, Broken>, AllocError>
+    ensures { IfOk result (λ r. seen_met r ≡ the_fields_met (map string_bytes names.now) (met_of before) (placed_declaration d.now)) }
+{
+    let t = kept!(type_of(names, &d.type_name));
+    let mut met = kept!(field_met(alloc, t, before, &d.first)?);
+    for d in &d.more {
+        met = kept!(field_met(alloc, t, met, d)?);
+    }
+    Ok(Ok(met))
+}
+
+fn member_met(
+    alloc: Global,
+    names: &[String],
+    class: &Name,
+    met: Met,
+    m: &Member,
+) -> Result<Result<Met, Broken>, AllocError>
+    ensures { IfOk result (λ r. seen_met r ≡ the_member_met (map string_bytes names.now) (string_bytes class.now.text) (met_of met) (placed_member m.now)) }
+{
+    match m {
+        Member::Field(d) => fields_met(alloc, names, met, d),
+        Member::Method(m) => {
+            let answers = kept!(result_of(names, &m.result));
+            let types = kept!(parameter_types(alloc, names, &m.name, &m.parameters)?);
+            method_met(alloc, met, &m.name, types, answers)
+        }
+        Member::Constructor(c) => {
+            let types = kept!(parameter_types(alloc, names, &c.name, &c.parameters)?);
+            Ok(constructor_met(class, met, &c.name, types))
+        }
+    }
+}
+
+// A class that is met whole, behind those before it.
+fn class_met(
+    alloc: Global,
+    classes: Classes,
+    n: &Name,
+    met: Met,
+) -> Result<Result<Classes, Broken>, AllocError>
+    ensures { IfOk result (λ r. seen_classes r ≡ the_class_met (classes_of classes) (placed_name n.now) (met_of met) met.constructor) }
+{
+    let Classes { mut signs, .. } = classes;
+    let Met {
+        fields,
+        methods,
+        constructor,
+        parameters,
+        next,
+    } = met;
+    match constructor {
+        Some(constructor) => {
+            signs.push(ClassSign {
+                fields,
+                methods,
+                constructor,
+                parameters,
+            })?;
+            Ok(Ok(Classes { signs, next }))
+        }
+        None => {
+            if next >= MOST_METHODS {
+                return Ok(Err(broken_at(Rule::Limit, n.span)));
+            }
+            signs.push(ClassSign {
+                fields,
+                methods,
+                constructor: next,
+                parameters: Vec::new(alloc),
+            })?;
+            Ok(Ok(Classes {
+                signs,
+                next: next + 1,
+            }))
+        }
+    }
+}
+
+fn one_class(
+    alloc: Global,
+    names: &[String],
+    classes: Classes,
+    c: &Class,
+) -> Result<Result<Classes, Broken>, AllocError>
+    ensures { IfOk result (λ r. seen_classes r ≡ the_one_class (map string_bytes names.now) (classes_of classes) (placed_class c.now)) }
+{
+    let next = classes.next;
+    let mut met = Met {
+        fields: Vec::new(alloc),
+        methods: Vec::new(alloc),
+        constructor: None,
+        parameters: Vec::new(alloc),
+        next,
+    };
+    for m in &c.members {
+        met = kept!(member_met(alloc, names, &c.name, met, m)?);
+    }
+    class_met(alloc, classes, &c.name, met)
+}
+
+/// What the classes declare.
+pub fn class_signs(
+    alloc: Global,
+    names: &[String],
+    all: &[Class],
+) -> Result<Result<Classes, Broken>, AllocError>
+    ensures { IfOk result (λ r. seen_classes r ≡ the_class_signs (map string_bytes names.now) (map placed_class all.now)) }
+{
+    let mut classes = Classes {
+        signs: Vec::new(alloc),
+        next: 0,
+    };
+    for c in all {
+        classes = kept!(one_class(alloc, names, classes, c)?);
+    }
+    Ok(Ok(classes))
+}

@@ -1,0 +1,6 @@
+pub mod Exits
+pub mod Flat
+pub mod Agreement
+pub mod Placed
+pub mod Laws
+pub mod Cases

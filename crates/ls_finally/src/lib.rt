@@ -1,0 +1,5 @@
+//! `finally` by copied exits.
+#![tactic(auto)]
+
+pub mod cases;
+pub mod laws;

@@ -1,0 +1,5 @@
+//! Lock operations become operations on the words of locks.
+#![tactic(auto)]
+
+pub mod files;
+pub mod lower;

@@ -1,0 +1,120 @@
+-- The courses of statements.
+use Rattle.std.specs.Prelude.{ℕ, zero, suc, List, [], ◌∷◌, length, nat_eq, Option, Some, None, slice_index, slice_set, if◌then◌else◌}
+use Rattle.ls_events.specs.declared.kind.Kind.{Kind}
+use Rattle.ls_events.specs.declared.action.Action.TheVariants as act
+use Rattle.ls_lowered.specs.LoweredTree.{Statement, Block, SetLocal, SetField, SetItem, Evaluate, If, While, Break, Continue, Return, Try, Guarded, Throw, Leavable, Leave, Statements, Done, Then}
+use Rattle.ls_lowered.specs.Words.{int_of, kind_word, kind_of}
+use Rattle.ls_lowered.specs.Course.{Answers, Course, Asks, Ends, Stuck, Outcome, Results, Throws, Calls, finish, and_then, perform, unless_null}
+use Rattle.ls_lowered.specs.Expressions.{find}
+
+-- how a statement completes; `Broke n` and `Continued n` leave n loops behind, `Left n` n leavable regions
+pub data Completion : Type 0 where
+  Normal : Completion
+  Broke : (loops : ℕ) → Completion
+  Continued : (loops : ℕ) → Completion
+  Returned : (word : ℕ) → Completion
+  Threw : (kind : Kind) → Completion
+  Left : (regions : ℕ) → Completion
+
+-- what follows a statement
+abbrev pub Go : Type 0
+Go = Completion → List ℕ → Answers → Course Completion
+
+-- goes on with the word of an expression; a throw completes the statement
+abbrev pub on_word : (ℕ → List ℕ → Answers → Course Completion) → Outcome ℕ → List ℕ → Answers → Course Completion
+on_word go (Results w) ls q = go w ls q
+on_word go (Throws kind) ls q = Ends (Threw kind) ls q
+
+-- what each construct makes of the completion of its part: a statement before others
+abbrev pub on_normal : (List ℕ → Answers → Course Completion) → Go
+on_normal go Normal ls q = go ls q
+on_normal go (Broke n) ls q = Ends (Broke n) ls q
+on_normal go (Continued n) ls q = Ends (Continued n) ls q
+on_normal go (Returned w) ls q = Ends (Returned w) ls q
+on_normal go (Threw kind) ls q = Ends (Threw kind) ls q
+on_normal go (Left n) ls q = Ends (Left n) ls q
+
+-- a try block: the finally block follows however it completes, and where that completes normally, so does the whole
+abbrev pub on_any : (List ℕ → Answers → Course Completion) → Go
+on_any go reason ls q = finish (go ls q) (on_normal (λ ls q. Ends reason ls q))
+
+-- a guarded region
+abbrev pub on_throw : (Kind → List ℕ → Answers → Course Completion) → Go
+on_throw go Normal ls q = Ends Normal ls q
+on_throw go (Broke n) ls q = Ends (Broke n) ls q
+on_throw go (Continued n) ls q = Ends (Continued n) ls q
+on_throw go (Returned w) ls q = Ends (Returned w) ls q
+on_throw go (Threw kind) ls q = go kind ls q
+on_throw go (Left n) ls q = Ends (Left n) ls q
+
+-- a leavable region
+abbrev pub on_leave : (List ℕ → Answers → Course Completion) → Go
+on_leave go Normal ls q = Ends Normal ls q
+on_leave go (Broke n) ls q = Ends (Broke n) ls q
+on_leave go (Continued n) ls q = Ends (Continued n) ls q
+on_leave go (Returned w) ls q = Ends (Returned w) ls q
+on_leave go (Threw kind) ls q = Ends (Threw kind) ls q
+on_leave go (Left zero) ls q = go ls q
+on_leave go (Left (suc n)) ls q = Ends (Left n) ls q
+
+-- back to a loop's condition, in a step of its own
+abbrev pub turn_back : (List ℕ → Answers → Course Completion) → List ℕ → Answers → Course Completion
+turn_back again ls [] = Asks act.Turn
+turn_back again ls (answer ∷ q) = again ls q
+
+-- a loop's body
+abbrev pub on_body : (List ℕ → Answers → Course Completion) → Go
+on_body again Normal ls q = turn_back again ls q
+on_body again (Broke zero) ls q = Ends Normal ls q
+on_body again (Broke (suc n)) ls q = Ends (Broke n) ls q
+on_body again (Continued zero) ls q = turn_back again ls q
+on_body again (Continued (suc n)) ls q = Ends (Continued n) ls q
+on_body again (Returned w) ls q = Ends (Returned w) ls q
+on_body again (Threw kind) ls q = Ends (Threw kind) ls q
+on_body again (Left n) ls q = Ends (Left n) ls q
+
+abbrev pub one_turn : (List ℕ → Answers → Course (Outcome ℕ)) → (List ℕ → Answers → Course Completion) → (List ℕ → Answers → Course Completion) → List ℕ → Answers → Course Completion
+one_turn condition body again ls q =
+    finish (condition ls q) (on_word (λ w ls q. if nat_eq w 0 then Ends Normal ls q else finish (body ls q) (on_body again)))
+
+-- each turn takes an answer, so a loop makes no more turns than there are answers
+abbrev pub turns : ℕ → (List ℕ → Answers → Course (Outcome ℕ)) → (List ℕ → Answers → Course Completion) → List ℕ → Answers → Course Completion
+turns zero condition body = one_turn condition body (λ ls q. Asks act.Turn)
+turns (suc n) condition body = one_turn condition body (turns n condition body)
+
+-- throws a kind; a word that is no kind's is stuck
+abbrev pub throw : Option Kind → List ℕ → Answers → Course Completion
+throw None ls q = Stuck
+throw (Some kind) ls q = Ends (Threw kind) ls q
+
+-- the word of an expression, and then nothing more
+abbrev pub and_normal : Course (Outcome ℕ) → Course Completion
+and_normal x = finish x (on_word (λ w ls q. Ends Normal ls q))
+
+abbrev mutual
+  pub execute : Calls → Statement → List ℕ → Answers → Course Completion
+  execute calls (Block ss) ls q = execute_all calls ss ls q
+  execute calls (SetLocal n e) ls q = finish (find calls e ls q) (on_word (λ w ls q. Ends Normal (slice_set ls n w) q))
+  execute calls (SetField e f e') ls q =
+      and_normal (and_then (find calls e ls q) (λ x ls q. and_then (find calls e' ls q) (λ y ls q.
+      unless_null x ls q (perform (act.WriteField x f y) ls q))))
+  execute calls (SetItem a i e) ls q =
+      and_normal (and_then (find calls a ls q) (λ x ls q. and_then (find calls i ls q) (λ n ls q. and_then (find calls e ls q) (λ y ls q.
+      unless_null x ls q (perform (act.WriteItem x (int_of n) y) ls q)))))
+  execute calls (Evaluate e) ls q = and_normal (find calls e ls q)
+  execute calls (If e a b) ls q =
+      finish (find calls e ls q) (on_word (λ w ls q. if nat_eq w 0 then execute calls b ls q else execute calls a ls q))
+  execute calls (While e s) ls q = turns (length q) (find calls e) (execute calls s) ls q
+  execute calls (Break n) ls q = Ends (Broke n) ls q
+  execute calls (Continue n) ls q = Ends (Continued n) ls q
+  execute calls (Return e) ls q = finish (find calls e ls q) (on_word (λ w ls q. Ends (Returned w) ls q))
+  execute calls (Try b f) ls q = finish (execute calls b ls q) (on_any (execute calls f))
+  execute calls (Guarded b n h) ls q =
+      finish (execute calls b ls q) (on_throw (λ kind ls q. execute calls h (slice_set ls n (kind_word kind)) q))
+  execute calls (Throw n) ls q = throw (kind_of (slice_index ls n)) ls q
+  execute calls (Leavable b x) ls q = finish (execute calls b ls q) (on_leave (execute calls x))
+  execute calls (Leave n) ls q = Ends (Left n) ls q
+
+  pub execute_all : Calls → Statements → List ℕ → Answers → Course Completion
+  execute_all calls Done ls q = Ends Normal ls q
+  execute_all calls (Then s ss) ls q = finish (execute calls s ls q) (on_normal (execute_all calls ss))

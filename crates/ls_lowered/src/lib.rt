@@ -1,0 +1,6 @@
+//! The lowered tree: trees over words, for all lowerings between the checked tree and the code. Their meaning, what a
+//! tree asks for after given answers, stands in specs/.
+#![tactic(auto)]
+
+pub mod fault;
+pub mod tree;

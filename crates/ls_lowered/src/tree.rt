@@ -1,0 +1,131 @@
+// Trees over machine words.
+//
+// An int is its value modulo 2^32, a boolean 0 or 1, a reference an address or 0, and what a markable holds
+// `2 * reference + mark`. Local 0 of a method is `this`; then come its parameters, its locals and its temporaries.
+// Classes, fields and methods are numbered as in the checked tree.
+
+/// The operators on one word.
+#[derive(Clone, Copy, Debug, PartialEq, Eq)]
+pub enum UnaryOperator {
+    Negate,
+    Not,
+    /// The reference of a pair.
+    ReferenceOf,
+    /// The mark of a pair.
+    MarkOf,
+}
+
+/// The operators on two words.
+#[derive(Clone, Copy, Debug, PartialEq, Eq)]
+pub enum BinaryOperator {
+    Add,
+    Subtract,
+    Multiply,
+    Divide,
+    Remainder,
+    Less,
+    LessEqual,
+    Greater,
+    GreaterEqual,
+    Equal,
+    NotEqual,
+    /// A reference and a mark as a pair's word.
+    Pack,
+}
+
+/// The operations of a lock.
+#[derive(Clone, Copy, Debug, PartialEq, Eq)]
+pub enum LockOperation {
+    Lock,
+    Unlock,
+    TryLock,
+    IsHeld,
+}
+
+#[derive(Debug, Drop)]
+#[cycle(expressions)]
+pub enum Expression {
+    Word(u64),
+    Local(usize),
+    Unary(UnaryOperator, Box<Expression>),
+    Binary(BinaryOperator, Box<Expression>, Box<Expression>),
+    And(Box<Expression>, Box<Expression>),
+    Or(Box<Expression>, Box<Expression>),
+    /// The first, then the second into the local; the word of the first.
+    Hold(Box<Expression>, usize, Box<Expression>),
+    /// The first into the local, then the second.
+    Keep(usize, Box<Expression>, Box<Expression>),
+    /// The first, then the second.
+    After(Box<Expression>, Box<Expression>),
+    /// A field of the object at an address.
+    Field(Box<Expression>, usize),
+    Item(Box<Expression>, Box<Expression>),
+    /// Writes element 0 of an array.
+    SetFirst(Box<Expression>, Box<Expression>),
+    ReadPair(Box<Expression>),
+    SetPair(Box<Expression>, Box<Expression>),
+    /// The markable, the expected pair and the new one.
+    SwapPair(Box<Expression>, Box<Expression>, Box<Expression>),
+    /// The markable, the expected reference and the new mark.
+    AttemptMark(Box<Expression>, Box<Expression>, Box<Expression>),
+    /// An operation called on a lock object.
+    OnLock(LockOperation, Box<Expression>),
+    /// The same operation on the word of the lock at an address.
+    OnLockWord(LockOperation, Box<Expression>),
+    /// A method, on an object, with further arguments.
+    Call(usize, Box<Expression>, Box<Expressions>),
+    /// A class, its constructor, and the constructor's further arguments.
+    MakeObject(usize, usize, Box<Expressions>),
+    MakeLock,
+    MakeMarkable(Box<Expression>),
+    MakeArray(Box<Expression>),
+}
+
+/// Arguments, at most 127.
+#[derive(Debug, Drop)]
+#[cycle(expressions)]
+pub enum Expressions {
+    End,
+    More(Box<Expression>, Box<Expressions>),
+}
+
+/// `Break` and `Continue` say how many loops they leave behind: 0 is the innermost. So does `Leave` of leavable regions.
+#[derive(Debug, Drop)]
+#[cycle(statements)]
+pub enum Statement {
+    Block(Vec<Statement>),
+    SetLocal(usize, Expression),
+    SetField(Expression, usize, Expression),
+    SetItem(Expression, Expression, Expression),
+    Evaluate(Expression),
+    If(Expression, Box<Statement>, Box<Statement>),
+    While(Expression, Box<Statement>),
+    Break(usize),
+    Continue(usize),
+    Return(Expression),
+    /// A try block and its finally block.
+    Try(Box<Statement>, Box<Statement>),
+    /// A throw of the first goes on at the second, with its kind in the local.
+    Guarded(Box<Statement>, usize, Box<Statement>),
+    /// Throws the kind in the local.
+    Throw(usize),
+    /// A leave of the first goes on at the second.
+    Leavable(Box<Statement>, Box<Statement>),
+    Leave(usize),
+}
+
+/// A method or a constructor.
+#[derive(Debug, Drop)]
+pub struct Method {
+    /// `this` and the parameters.
+    pub arguments: usize,
+    /// The further locals, with temporaries.
+    pub locals: usize,
+    pub body: Statement,
+}
+
+/// The methods and constructors of a file.
+#[derive(Debug, Drop)]
+pub struct File {
+    pub methods: Vec<Method>,
+}

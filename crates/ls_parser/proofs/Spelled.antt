@@ -1,0 +1,165 @@
+-- The tokens of a tree and the rest are what spells it, and the rest.
+use Rattle.std.proofs.Common.{◌≡◌, Bool, true, false, List, [], ◌∷◌, ◌++◌, Option, Some, None, refl, sym, ap, ◌∙◌, append_assoc}
+use Rattle.std.specs.List.{flat_map}
+use Rattle.std.proofs.lemmas.List.{append-nil}
+use Rattle.ls_lexer.specs.declared.sign.Sign.TheVariants as signs
+use Rattle.ls_lexer.specs.declared.word.Word.TheVariants as words
+use Rattle.ls_lexer.specs.Lexemes.{Lexeme, Named, Numeral, Reserved, Marked}
+use Rattle.ls_parser.specs.Trees.{Text, Term, Modifier, Public, Protected, Private, Final, Volatile, Annotation, TypeName, Int, Boolean, BooleanArray, Class, Markable, Declarator, Declaration, Action, Block, Empty, If, IfElse, While, Break, Continue, Return, Try, Assign, Evaluate, Items, NoItem, Do, Declare, Parameter, Member, Fields, Method, Constructor, ClassTree, Dotted, Import, File}
+use Rattle.ls_parser.specs.Spelling.{spell_term, spell_modifier, spell_type, spell_initial, spell_declarator, spell_declaration, spell_label, spell_label_before, spell_value, spell_action, spell_items, in_parens, in_braces, spell_parameter, spell_parameters, spell_result, spell_member, spell_class, spell_dotted, spell_all, spell_import, spell_package, spell}
+use Rattle.ls_parser.proofs.Onto.{onto, onto_spells}
+use Rattle.ls_parser.proofs.Lists.{onto_all, onto_all_spells}
+use Rattle.ls_parser.proofs.OntoActions.{onto_modifier, onto_type, onto_initial, onto_declarator, onto_next_declarator, onto_declaration, onto_label, onto_label_before, onto_value, onto_condition, onto_action, onto_items, onto_block}
+use Rattle.ls_parser.proofs.OntoClasses.{onto_parameter, onto_next_parameter, onto_group, onto_parameters, onto_result, onto_member, onto_class_tree, onto_part, onto_dotted, onto_star, onto_import, onto_header, onto_file}
+
+modifier_spells : (m : Modifier) (rest : List Lexeme) → onto_modifier m rest ≡ spell_modifier m ++ rest
+modifier_spells Public rest = refl
+modifier_spells Protected rest = refl
+modifier_spells Private rest = refl
+modifier_spells Final rest = refl
+modifier_spells Volatile rest = refl
+modifier_spells (Annotation name) rest = refl
+
+modifiers_spell : (ms : List Modifier) (rest : List Lexeme) → onto_all onto_modifier ms rest ≡ flat_map spell_modifier ms ++ rest
+modifiers_spell ms rest = onto_all_spells onto_modifier spell_modifier modifier_spells ms rest
+
+type_spells : (t : TypeName) (rest : List Lexeme) → onto_type t rest ≡ spell_type t ++ rest
+type_spells Int rest = refl
+type_spells Boolean rest = refl
+type_spells BooleanArray rest = refl
+type_spells (Class name) rest = refl
+type_spells (Markable name) rest = refl
+
+initial_spells : (value : Option Term) (rest : List Lexeme) → onto_initial value rest ≡ spell_initial value ++ rest
+initial_spells None rest = refl
+initial_spells (Some value) rest = ap (λ (ks : List Lexeme). Marked signs.Assign ∷ ks) (onto_spells value rest)
+
+declarator_spells : (d : Declarator) (rest : List Lexeme) → onto_declarator d rest ≡ spell_declarator d ++ rest
+declarator_spells d rest = ap (λ (ks : List Lexeme). Named d.name ∷ ks) (initial_spells d.value rest)
+
+more_spells : (ds : List Declarator) (rest : List Lexeme) → onto_all onto_next_declarator ds rest ≡ flat_map (λ m. Marked signs.Comma ∷ spell_declarator m) ds ++ rest
+more_spells ds rest = onto_all_spells onto_next_declarator (λ m. Marked signs.Comma ∷ spell_declarator m) (λ d rest'. ap (λ (ks : List Lexeme). Marked signs.Comma ∷ ks) (declarator_spells d rest')) ds rest
+
+declaration_spells : (d : Declaration) (rest : List Lexeme) → onto_declaration d rest ≡ spell_declaration d ++ rest
+declaration_spells d rest =
+    let ks1 : List Lexeme = onto_all onto_next_declarator d.more (Marked signs.Semicolon ∷ rest) in
+    let ks2 : List Lexeme = onto_declarator d.first ks1 in
+    modifiers_spell d.modifiers (onto_type d.type_name ks2)
+    ∙ ap (λ (ks : List Lexeme). flat_map spell_modifier d.modifiers ++ ks) (type_spells d.type_name ks2 ∙ ap (λ (ks : List Lexeme). spell_type d.type_name ++ ks) (declarator_spells d.first ks1 ∙ ap (λ (ks : List Lexeme). spell_declarator d.first ++ ks) (more_spells d.more (Marked signs.Semicolon ∷ rest))))
+    ∙ simp append_assoc
+
+label_spells : (label : Option Text) (rest : List Lexeme) → onto_label label rest ≡ spell_label label ++ rest
+label_spells None rest = refl
+label_spells (Some name) rest = refl
+
+label_before_spells : (label : Option Text) (rest : List Lexeme) → onto_label_before label rest ≡ spell_label_before label ++ rest
+label_before_spells None rest = refl
+label_before_spells (Some name) rest = refl
+
+value_spells : (value : Option Term) (rest : List Lexeme) → onto_value value rest ≡ spell_value value ++ rest
+value_spells None rest = refl
+value_spells (Some value) rest = onto_spells value rest
+
+abbrev cons : Lexeme → List Lexeme → List Lexeme
+cons k ks = k ∷ ks
+
+abbrev on : List Lexeme → List Lexeme → List Lexeme
+on front ks = front ++ ks
+
+condition_spells : (c : Term) (rest : List Lexeme) → onto_condition c rest ≡ in_parens (spell_term c) ++ rest
+condition_spells c rest = ap (cons (Marked signs.OpenParen)) (onto_spells c (Marked signs.CloseParen ∷ rest) ∙ sym (append_assoc (spell_term c) (Marked signs.CloseParen ∷ []) rest))
+
+braced : (ts : Items) (rest : List Lexeme) → onto_items ts (Marked signs.CloseBrace ∷ rest) ≡ spell_items ts ++ Marked signs.CloseBrace ∷ rest → onto_block ts rest ≡ in_braces (spell_items ts) ++ rest
+braced ts rest e = ap (cons (Marked signs.OpenBrace)) (e ∙ sym (append_assoc (spell_items ts) (Marked signs.CloseBrace ∷ []) rest))
+
+mutual
+  action_spells : (t : Action) (rest : List Lexeme) → onto_action t rest ≡ spell_action t ++ rest
+  action_spells (Block items) rest = braced items rest (items_spell items (Marked signs.CloseBrace ∷ rest))
+  action_spells Empty rest = refl
+  action_spells (If condition first) rest =
+      ap (cons (Reserved words.If)) (condition_spells condition (onto_action first rest) ∙ ap (on (in_parens (spell_term condition))) (action_spells first rest) ∙ sym (append_assoc (in_parens (spell_term condition)) (spell_action first) rest))
+  action_spells (IfElse condition first second) rest =
+      ap (cons (Reserved words.If)) (condition_spells condition (onto_action first (Reserved words.Else ∷ onto_action second rest))
+      ∙ ap (on (in_parens (spell_term condition))) (action_spells first (Reserved words.Else ∷ onto_action second rest) ∙ ap (λ (ks : List Lexeme). spell_action first ++ Reserved words.Else ∷ ks) (action_spells second rest))
+      ∙ simp append_assoc)
+  action_spells (While label condition body) rest =
+      label_before_spells label (Reserved words.While ∷ onto_condition condition (onto_action body rest))
+      ∙ ap (λ (ks : List Lexeme). spell_label_before label ++ Reserved words.While ∷ ks) (condition_spells condition (onto_action body rest) ∙ ap (on (in_parens (spell_term condition))) (action_spells body rest) ∙ sym (append_assoc (in_parens (spell_term condition)) (spell_action body) rest))
+      ∙ sym (append_assoc (spell_label_before label) (Reserved words.While ∷ (in_parens (spell_term condition) ++ spell_action body)) rest)
+  action_spells (Break label) rest = ap (cons (Reserved words.Break)) (label_spells label (Marked signs.Semicolon ∷ rest) ∙ sym (append_assoc (spell_label label) (Marked signs.Semicolon ∷ []) rest))
+  action_spells (Continue label) rest = ap (cons (Reserved words.Continue)) (label_spells label (Marked signs.Semicolon ∷ rest) ∙ sym (append_assoc (spell_label label) (Marked signs.Semicolon ∷ []) rest))
+  action_spells (Return value) rest = ap (cons (Reserved words.Return)) (value_spells value (Marked signs.Semicolon ∷ rest) ∙ sym (append_assoc (spell_value value) (Marked signs.Semicolon ∷ []) rest))
+  action_spells (Try body finally) rest =
+      ap (cons (Reserved words.Try)) (braced body (Reserved words.Finally ∷ onto_block finally rest) (items_spell body (Marked signs.CloseBrace ∷ Reserved words.Finally ∷ onto_block finally rest)) ∙ ap (λ (ks : List Lexeme). in_braces (spell_items body) ++ Reserved words.Finally ∷ ks) (braced finally rest (items_spell finally (Marked signs.CloseBrace ∷ rest)))
+      ∙ sym (append_assoc (in_braces (spell_items body)) (Reserved words.Finally ∷ in_braces (spell_items finally)) rest))
+  action_spells (Assign target value) rest =
+      onto_spells target (Marked signs.Assign ∷ onto value (Marked signs.Semicolon ∷ rest))
+      ∙ ap (λ (ks : List Lexeme). spell_term target ++ Marked signs.Assign ∷ ks) (onto_spells value (Marked signs.Semicolon ∷ rest) ∙ sym (append_assoc (spell_term value) (Marked signs.Semicolon ∷ []) rest))
+      ∙ sym (append_assoc (spell_term target) (Marked signs.Assign ∷ (spell_term value ++ Marked signs.Semicolon ∷ [])) rest)
+  action_spells (Evaluate value) rest = onto_spells value (Marked signs.Semicolon ∷ rest) ∙ sym (append_assoc (spell_term value) (Marked signs.Semicolon ∷ []) rest)
+
+  items_spell : (ts : Items) (rest : List Lexeme) → onto_items ts rest ≡ spell_items ts ++ rest
+  items_spell NoItem rest = refl
+  items_spell (Do first others) rest = action_spells first (onto_items others rest) ∙ ap (on (spell_action first)) (items_spell others rest) ∙ sym (append_assoc (spell_action first) (spell_items others) rest)
+  items_spell (Declare first others) rest = declaration_spells first (onto_items others rest) ∙ ap (on (spell_declaration first)) (items_spell others rest) ∙ sym (append_assoc (spell_declaration first) (spell_items others) rest)
+
+block_spells : (ts : Items) (rest : List Lexeme) → onto_block ts rest ≡ in_braces (spell_items ts) ++ rest
+block_spells ts rest = braced ts rest (items_spell ts (Marked signs.CloseBrace ∷ rest))
+
+-- ---- classes
+
+parameter_spells : (p : Parameter) (rest : List Lexeme) → onto_parameter p rest ≡ spell_parameter p ++ rest
+parameter_spells p rest =
+    modifiers_spell p.modifiers (onto_type p.type_name (Named p.name ∷ rest)) ∙ ap (on (flat_map spell_modifier p.modifiers)) (type_spells p.type_name (Named p.name ∷ rest)) ∙ simp append_assoc
+
+group_spells : (ps : List Parameter) (rest : List Lexeme) → onto_group ps rest ≡ spell_parameters ps ++ Marked signs.CloseParen ∷ rest
+group_spells [] rest = refl
+group_spells (p ∷ ps) rest =
+    parameter_spells p (onto_all onto_next_parameter ps (Marked signs.CloseParen ∷ rest))
+    ∙ ap (on (spell_parameter p)) (onto_all_spells onto_next_parameter (λ q. Marked signs.Comma ∷ spell_parameter q) (λ q rest'. ap (cons (Marked signs.Comma)) (parameter_spells q rest')) ps (Marked signs.CloseParen ∷ rest))
+    ∙ sym (append_assoc (spell_parameter p) (flat_map (λ q. Marked signs.Comma ∷ spell_parameter q) ps) (Marked signs.CloseParen ∷ rest))
+
+parameters_spell : (ps : List Parameter) (rest : List Lexeme) → onto_parameters ps rest ≡ in_parens (spell_parameters ps) ++ rest
+parameters_spell ps rest = ap (cons (Marked signs.OpenParen)) (group_spells ps rest ∙ sym (append_assoc (spell_parameters ps) (Marked signs.CloseParen ∷ []) rest))
+
+result_spells : (t : Option TypeName) (rest : List Lexeme) → onto_result t rest ≡ spell_result t ++ rest
+result_spells None rest = refl
+result_spells (Some t) rest = type_spells t rest
+
+member_spells : (m : Member) (rest : List Lexeme) → onto_member m rest ≡ spell_member m ++ rest
+member_spells (Fields d) rest = declaration_spells d rest
+member_spells (Method modifiers result name parameters body) rest =
+    let ks : List Lexeme = Named name ∷ onto_parameters parameters (onto_block body rest) in
+    modifiers_spell modifiers (onto_result result ks) ∙ ap (on (flat_map spell_modifier modifiers)) (result_spells result ks ∙ ap (λ (r : List Lexeme). spell_result result ++ Named name ∷ r) (parameters_spell parameters (onto_block body rest) ∙ ap (on (in_parens (spell_parameters parameters))) (block_spells body rest)))
+    ∙ simp append_assoc
+member_spells (Constructor modifiers name parameters body) rest =
+    modifiers_spell modifiers (Named name ∷ onto_parameters parameters (onto_block body rest)) ∙ ap (λ (r : List Lexeme). flat_map spell_modifier modifiers ++ Named name ∷ r) (parameters_spell parameters (onto_block body rest) ∙ ap (on (in_parens (spell_parameters parameters))) (block_spells body rest))
+    ∙ simp append_assoc
+
+class_spells : (c : ClassTree) (rest : List Lexeme) → onto_class_tree c rest ≡ spell_class c ++ rest
+class_spells c rest =
+    modifiers_spell c.modifiers (Reserved words.Class ∷ Named c.name ∷ Marked signs.OpenBrace ∷ onto_all onto_member c.members (Marked signs.CloseBrace ∷ rest))
+    ∙ ap (λ (r : List Lexeme). flat_map spell_modifier c.modifiers ++ Reserved words.Class ∷ Named c.name ∷ Marked signs.OpenBrace ∷ r) (onto_all_spells onto_member spell_member member_spells c.members (Marked signs.CloseBrace ∷ rest))
+    ∙ simp append_assoc
+
+dotted_spells : (d : Dotted) (rest : List Lexeme) → onto_dotted d rest ≡ spell_dotted d ++ rest
+dotted_spells d rest = ap (cons (Named d.first)) (onto_all_spells onto_part (λ name. Marked signs.Dot ∷ Named name ∷ []) (λ t rest'. refl) d.more rest)
+
+star_spells : (all : Bool) (rest : List Lexeme) → onto_star all rest ≡ spell_all all ++ rest
+star_spells true rest = refl
+star_spells false rest = refl
+
+import_spells : (i : Import) (rest : List Lexeme) → onto_import i rest ≡ spell_import i ++ rest
+import_spells i rest =
+    ap (cons (Reserved words.Import)) (dotted_spells i.path (onto_star i.all (Marked signs.Semicolon ∷ rest)) ∙ ap (on (spell_dotted i.path)) (star_spells i.all (Marked signs.Semicolon ∷ rest)) ∙ simp append_assoc)
+
+header_spells : (name : Option Dotted) (rest : List Lexeme) → onto_header name rest ≡ spell_package name ++ rest
+header_spells None rest = refl
+header_spells (Some name) rest = ap (cons (Reserved words.Package)) (dotted_spells name (Marked signs.Semicolon ∷ rest) ∙ sym (append_assoc (spell_dotted name) (Marked signs.Semicolon ∷ []) rest))
+
+pub file_spells : (f : File) → onto_file f [] ≡ spell f
+file_spells f =
+    header_spells f.package_name (onto_all onto_import f.imports (onto_all onto_class_tree f.classes []))
+    ∙ ap (on (spell_package f.package_name)) (onto_all_spells onto_import spell_import import_spells f.imports (onto_all onto_class_tree f.classes [])
+    ∙ ap (on (flat_map spell_import f.imports)) (onto_all_spells onto_class_tree spell_class class_spells f.classes [] ∙ append-nil (flat_map spell_class f.classes)))
+    ∙ sym (append_assoc (spell_package f.package_name) (flat_map spell_import f.imports) (flat_map spell_class f.classes))

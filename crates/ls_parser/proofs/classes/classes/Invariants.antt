@@ -1,0 +1,14 @@
+use Rattle.std.proofs.Common.{◌≡◌, ◌≤◌, length, map}
+use Rattle.ls_lexer.specs.Lexemes.{lexemes}
+use Rattle.ls_lexer.specs.declared.sign.Sign.TheVariants as signs
+use Rattle.ls_parser.specs.Reading.{one_more, many_at, not_yet, behind_comma}
+use Rattle.ls_parser.specs.Views.{bare_class}
+use Rattle.ls_parser.specs.ReadingClasses.{class_at, is_left}
+use Rattle.ls_parser.proofs.Repeats.{InRepeat}
+use Rattle.ls_parser.proofs.classes.classes.Given as goal
+
+abbrev pub invariant-loop-context : goal.invariant-loop-context
+invariant-loop-context l = InRepeat is_left (one_more class_at) (length (lexemes l.all.rest.now)) (map bare_class l.all.tree.items) (lexemes l.all.rest.now) (many_at is_left class_at (lexemes l.fn.tokens))
+
+abbrev pub decreases-loop-context : goal.decreases-loop-context
+decreases-loop-context l = length l.all.rest.now

@@ -1,0 +1,13 @@
+use Rattle.std.proofs.Common.{◌≡◌, length, map}
+use Rattle.ls_lexer.specs.Lexemes.{lexemes}
+use Rattle.ls_parser.specs.Views.{bare_parameter}
+use Rattle.ls_parser.specs.Reading.{group_at}
+use Rattle.ls_parser.specs.ReadingClasses.{parameter_at}
+use Rattle.ls_parser.proofs.Repeats.{InGroup}
+use Rattle.ls_parser.proofs.classes.parameter_group.Given as goal
+
+abbrev pub invariant-loop-context : goal.invariant-loop-context
+invariant-loop-context l = InGroup parameter_at (map bare_parameter l.all.tree.items) (lexemes l.all.rest.now) (group_at parameter_at (lexemes l.fn.tokens))
+
+abbrev pub decreases-loop-context : goal.decreases-loop-context
+decreases-loop-context l = length l.all.rest.now

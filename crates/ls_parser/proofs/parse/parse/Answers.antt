@@ -1,0 +1,15 @@
+use Rattle.std.proofs.Common.{◌≡◌, sym, subst}
+use Rattle.ls_lexer.specs.Lexemes.{lexemes}
+use Rattle.ls_parser.specs.Trees.{File}
+use Rattle.ls_parser.specs.Views.{file_of}
+use Rattle.ls_parser.specs.FileView.{bare_file}
+use Rattle.ls_parser.specs.Spells.{Spells}
+use Rattle.ls_parser.proofs.Files.{found_is}
+use Rattle.ls_parser.proofs.parse.parse.Goals as goal
+
+pub returns-clause-found : goal.returns-clause-found
+returns-clause-found c =
+    let parts = c.in_ok-parts.parts in
+    let e = c.new.ensures in
+    let same : bare_file c.new.result ≡ file_of parts.header parts.imports.items parts.classes.items = λ i. file_of (e.0 i) (e.1 i).items (e.2 i).items in
+    subst (λ (f : File). Spells f (lexemes c.args.tokens.now)) (sym same) (found_is (lexemes c.args.tokens.now) _ c.in_ok-parts.ensures)

@@ -1,0 +1,12 @@
+pub mod Trees
+pub mod Spelling
+pub mod WellFormed
+pub mod Views
+pub mod Answers
+pub mod Reading
+pub mod ReadingTerms
+pub mod ReadingActions
+pub mod ReadingClasses
+pub mod Spells
+pub mod Laws
+pub mod FileView

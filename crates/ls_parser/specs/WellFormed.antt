@@ -1,0 +1,169 @@
+-- Which trees the grammar has.
+use Rattle.std.specs.Prelude.{◌≡◌, ◌≢◌, ℕ, ◌+◌, ◌<◌, ◌≤◌, max, Bool, true, false, List, [], ◌∷◌, Option, Some, None, IfSome, codes, ⊤}
+use Rattle.std.specs.List.{AllByRecursion}
+use Rattle.ls_parser.specs.declared.tree.UnaryOp.{UnaryOp}
+use Rattle.ls_parser.specs.declared.tree.UnaryOp.TheVariants as unary
+use Rattle.ls_parser.specs.declared.tree.BinaryOp.{BinaryOp}
+use Rattle.ls_parser.specs.declared.tree.BinaryOp.TheVariants as binary
+use Rattle.ls_parser.specs.Trees.{Text, Term, Number, True, False, Null, This, Name, Paren, Unary, Binary, Field, Call, CallOn, Item, New, NewMarkable, NewArray, Terms, NoTerm, MoreTerms, Declarator, Declaration, Action, Block, Empty, If, IfElse, While, Break, Continue, Return, Try, Assign, Evaluate, Items, NoItem, Do, Declare, Piece, Doing, Declaring, Member, Fields, Method, Constructor, ClassTree, File}
+
+-- how loosely an operator binds
+abbrev pub rank_of : BinaryOp → ℕ
+rank_of binary.Or = 6
+rank_of binary.And = 5
+rank_of binary.Equal = 4
+rank_of binary.NotEqual = 4
+rank_of binary.Less = 3
+rank_of binary.Greater = 3
+rank_of binary.LessEqual = 3
+rank_of binary.GreaterEqual = 3
+rank_of binary.Add = 2
+rank_of binary.Subtract = 2
+rank_of binary.Multiply = 1
+rank_of binary.Divide = 1
+rank_of binary.Remainder = 1
+
+-- what stands without a binary operator has rank 0
+abbrev pub rank : Term → ℕ
+rank (Binary op left right) = rank_of op
+rank _ = 0
+
+-- without an operator
+abbrev pub is_post : Term → Bool
+is_post (Binary op left right) = false
+is_post (Unary op operand) = false
+is_post _ = true
+
+abbrev pub is_new_array : Term → Bool
+is_new_array (NewArray length) = true
+is_new_array _ = false
+
+-- what may stand as a statement
+abbrev pub is_call : Term → Bool
+is_call (Call name arguments) = true
+is_call (CallOn target name arguments) = true
+is_call (New class arguments) = true
+is_call (NewMarkable class arguments) = true
+is_call _ = false
+
+abbrev pub is_minus : UnaryOp → Bool
+is_minus unary.Minus = true
+is_minus unary.Not = false
+
+abbrev mutual
+  -- whether it stands directly after a unary minus
+  pub WellFormed : Bool → Term → Type 0
+  WellFormed after_minus (Number text) = after_minus ≡ false → text ≢ codes "2147483648"
+  WellFormed after_minus True = ⊤
+  WellFormed after_minus False = ⊤
+  WellFormed after_minus Null = ⊤
+  WellFormed after_minus This = ⊤
+  WellFormed after_minus (Name text) = ⊤
+  WellFormed after_minus (Paren inner) = WellFormed false inner
+  WellFormed after_minus (Unary op operand) = (rank operand ≡ 0) × WellFormed (is_minus op) operand
+  WellFormed after_minus (Binary op left right) = (rank left ≤ rank_of op) × (rank right < rank_of op) × WellFormed false left × WellFormed false right
+  WellFormed after_minus (Field target name) = (is_post target ≡ true) × WellFormed after_minus target
+  WellFormed after_minus (Call name arguments) = AreWellFormed arguments
+  WellFormed after_minus (CallOn target name arguments) = (is_post target ≡ true) × WellFormed after_minus target × AreWellFormed arguments
+  WellFormed after_minus (Item array index) = (is_post array ≡ true) × (is_new_array array ≡ false) × WellFormed after_minus array × WellFormed false index
+  WellFormed after_minus (New class arguments) = AreWellFormed arguments
+  WellFormed after_minus (NewMarkable class arguments) = AreWellFormed arguments
+  WellFormed after_minus (NewArray length) = WellFormed false length
+
+  pub AreWellFormed : Terms → Type 0
+  AreWellFormed NoTerm = ⊤
+  AreWellFormed (MoreTerms first others) = WellFormed false first × AreWellFormed others
+
+-- Height in nodes: each block, statement, local declaration, expression and pair of parentheses is one.
+abbrev mutual
+  pub term_height : Term → ℕ
+  term_height (Paren inner) = term_height inner + 1
+  term_height (Unary op operand) = term_height operand + 1
+  term_height (Binary op left right) = max (term_height left) (term_height right) + 1
+  term_height (Field target name) = term_height target + 1
+  term_height (Call name arguments) = terms_height arguments + 1
+  term_height (CallOn target name arguments) = max (term_height target) (terms_height arguments) + 1
+  term_height (Item array index) = max (term_height array) (term_height index) + 1
+  term_height (New class arguments) = terms_height arguments + 1
+  term_height (NewMarkable class arguments) = terms_height arguments + 1
+  term_height (NewArray length) = term_height length + 1
+  term_height _ = 1
+
+  pub terms_height : Terms → ℕ
+  terms_height NoTerm = 0
+  terms_height (MoreTerms first others) = max (term_height first) (terms_height others)
+
+abbrev pub value_height : Option Term → ℕ
+value_height None = 0
+value_height (Some value) = term_height value
+
+abbrev pub declarators_height : List Declarator → ℕ
+declarators_height [] = 0
+declarators_height (d ∷ ds) = max (value_height d.value) (declarators_height ds)
+
+abbrev pub declaration_height : Declaration → ℕ
+declaration_height d = declarators_height (d.first ∷ d.more) + 1
+
+abbrev mutual
+  pub action_height : Action → ℕ
+  action_height (Block items) = items_height items + 1
+  action_height (If condition first) = max (term_height condition) (action_height first) + 1
+  action_height (IfElse condition first second) = max (term_height condition) (max (action_height first) (action_height second)) + 1
+  action_height (While label condition body) = max (term_height condition) (action_height body) + 1
+  action_height (Return value) = value_height value + 1
+  action_height (Try body finally) = max (items_height body) (items_height finally) + 2
+  action_height (Assign target value) = max (term_height target) (term_height value) + 1
+  action_height (Evaluate value) = term_height value + 1
+  action_height _ = 1
+
+  pub items_height : Items → ℕ
+  items_height NoItem = 0
+  items_height (Do first others) = max (action_height first) (items_height others)
+  items_height (Declare first others) = max (declaration_height first) (items_height others)
+
+abbrev pub piece_height : Piece → ℕ
+piece_height (Doing action) = action_height action
+piece_height (Declaring declaration) = declaration_height declaration
+
+-- an `else` behind it would belong to an `if` in it
+abbrev pub ends_open : Action → Bool
+ends_open (If condition first) = true
+ends_open (IfElse condition first second) = ends_open second
+ends_open (While label condition body) = ends_open body
+ends_open _ = false
+
+abbrev pub WellFormedValue : Option Term → Type 0
+WellFormedValue value = IfSome value (WellFormed false)
+
+abbrev pub WellFormedDeclaration : Declaration → Type 0
+WellFormedDeclaration d = AllByRecursion (λ (m : Declarator). WellFormedValue m.value) (d.first ∷ d.more)
+
+abbrev mutual
+  pub WellFormedAction : Action → Type 0
+  WellFormedAction (Block items) = WellFormedItems items
+  WellFormedAction Empty = ⊤
+  WellFormedAction (If condition first) = WellFormed false condition × WellFormedAction first
+  WellFormedAction (IfElse condition first second) = WellFormed false condition × WellFormedAction first × (ends_open first ≡ false) × WellFormedAction second
+  WellFormedAction (While label condition body) = WellFormed false condition × WellFormedAction body
+  WellFormedAction (Break label) = ⊤
+  WellFormedAction (Continue label) = ⊤
+  WellFormedAction (Return value) = WellFormedValue value
+  WellFormedAction (Try body finally) = WellFormedItems body × WellFormedItems finally
+  WellFormedAction (Assign target value) = (is_post target ≡ true) × WellFormed false target × WellFormed false value
+  WellFormedAction (Evaluate value) = (is_call value ≡ true) × WellFormed false value
+
+  pub WellFormedItems : Items → Type 0
+  WellFormedItems NoItem = ⊤
+  WellFormedItems (Do first others) = WellFormedAction first × WellFormedItems others
+  WellFormedItems (Declare first others) = WellFormedDeclaration first × WellFormedItems others
+
+abbrev pub most_nodes : ℕ
+most_nodes = 128
+
+abbrev pub WellFormedMember : Member → Type 0
+WellFormedMember (Fields declaration) = WellFormedDeclaration declaration × (declarators_height (declaration.first ∷ declaration.more) ≤ most_nodes)
+WellFormedMember (Method modifiers result name parameters body) = WellFormedItems body × (items_height body + 1 ≤ most_nodes)
+WellFormedMember (Constructor modifiers name parameters body) = WellFormedItems body × (items_height body + 1 ≤ most_nodes)
+
+abbrev pub WellFormedFile : File → Type 0
+WellFormedFile f = AllByRecursion (λ (c : ClassTree). AllByRecursion WellFormedMember c.members) f.classes

@@ -1,0 +1,483 @@
+// Members, classes and files.
+
+ghost use Rattle.std.specs.Prelude.{◌≡◌, ◌+◌, ◌-◌, ◌<◌, ◌≤◌, ◌^◌, ◌++◌, ◌∷◌, [], IfOk, Some, None, length, map, option_map, is_some};
+ghost use Rattle.ls_lexer.specs.Lexemes.{lexemes};
+ghost use Rattle.ls_lexer.specs.declared.sign.Sign.TheVariants as signs;
+ghost use Rattle.ls_parser.specs.Views.{name_text, bare_modifier, bare_type, bare_parameter, bare_member, bare_class, bare_dotted, bare_import};
+ghost use Rattle.ls_parser.specs.Answers.{Gives, Finds};
+ghost use Rattle.ls_parser.specs.Reading.{one_more, behind_comma, many_at, not_yet, group_at};
+ghost use Rattle.ls_parser.specs.ReadingClasses.{parameter_at, parameters_at, starts_call, constructor_at, method_at, typed_at, unmodified_at, member_at, class_at, part_at, dotted_at, after_star, more_path, import_at, package_at, header_at, starts_import, is_left};
+
+use crate::declarations::{declarators, modifiers, type_name};
+use crate::statements::block;
+use crate::tokens::{
+    Context, Read, expect, expect_word, name, name_part, push, sign_part, starts_with, word_part,
+};
+use crate::tree::{
+    Class, Constructor, Dotted, Import, Member, Method, Modifier, Name, Parameter, Type,
+};
+use ls_lexer::fault::TextFault;
+use ls_lexer::sign::Sign;
+use ls_lexer::token::Token;
+use ls_lexer::word::Word;
+
+/// The greatest height of a body or of a field's initialiser.
+pub const MOST_NODES: usize = 128;
+
+// ---- parameters
+
+fn parameter<'t, 'a>(
+    context: Context,
+    tokens: &'t [Token<'a>],
+) -> Result<Read<'t, 'a, Parameter>, TextFault>
+    ensures { Gives (λ p. (bare_parameter p.tree, lexemes p.rest.now)) result (parameter_at (lexemes tokens.now)) }
+{
+    let modifiers = modifiers(context, tokens)?;
+    let type_name = type_name(context, modifiers.rest)?;
+    let name = name(context, type_name.rest)?;
+    Ok(Read {
+        tree: Parameter {
+            modifiers: modifiers.tree,
+            type_name: type_name.tree,
+            name: name.tree,
+        },
+        rest: name.rest,
+    })
+}
+
+// What stands behind an opening parenthesis.
+#[tactic(auto, using(crate::proofs::Repeats::group_none, crate::proofs::Repeats::group_begins, crate::proofs::Repeats::group_ends, crate::proofs::Repeats::group_goes_on))]
+fn parameter_group<'t, 'a>(
+    context: Context,
+    tokens: &'t [Token<'a>],
+) -> Result<Read<'t, 'a, Vec<Parameter>>, TextFault>
+    ensures { Gives (λ p. (map bare_parameter p.tree.items, lexemes p.rest.now)) result (group_at parameter_at (lexemes tokens.now)) }
+{
+    if let Some(rest) = sign_part(tokens, Sign::CloseParen) {
+        return Ok(Read {
+            tree: Vec::new(context.alloc),
+            rest,
+        });
+    }
+    let first = parameter(context, tokens)?;
+    let mut all = Read {
+        tree: push(Vec::new(context.alloc), first.tree)?,
+        rest: first.rest,
+    };
+    while !starts_with(all.rest, Sign::CloseParen) {
+        all = one_parameter(context, all)?;
+    }
+    let rest = expect(context, all.rest, Sign::CloseParen)?;
+    Ok(Read {
+        tree: all.tree,
+        rest,
+    })
+}
+
+#[tactic(auto, using(crate::proofs::Rows::map_push))]
+fn one_parameter<'t, 'a>(
+    context: Context,
+    before: Read<'t, 'a, Vec<Parameter>>,
+) -> Result<Read<'t, 'a, Vec<Parameter>>, TextFault>
+    ensures { Gives (λ p. (map bare_parameter p.tree.items, lexemes p.rest.now)) result (one_more (behind_comma parameter_at) (map bare_parameter before.entry.tree.items) (lexemes before.entry.rest.now)) }
+{
+    let tokens = expect(context, before.rest, Sign::Comma)?;
+    let found = parameter(context, tokens)?;
+    Ok(Read {
+        tree: push(before.tree, found.tree)?,
+        rest: found.rest,
+    })
+}
+
+fn parameters<'t, 'a>(
+    context: Context,
+    tokens: &'t [Token<'a>],
+) -> Result<Read<'t, 'a, Vec<Parameter>>, TextFault>
+    ensures { Gives (λ p. (map bare_parameter p.tree.items, lexemes p.rest.now)) result (parameters_at (lexemes tokens.now)) }
+{
+    let open = expect(context, tokens, Sign::OpenParen)?;
+    parameter_group(context, open)
+}
+
+// ---- members
+
+// A name and an opening parenthesis.
+fn starts_call(tokens: &[Token]) -> bool
+    ensures { result ≡ starts_call (lexemes tokens.now) }
+{
+    match name_part(tokens) {
+        Some((_, rest)) => starts_with(rest, Sign::OpenParen),
+        None => false,
+    }
+}
+
+fn constructor<'t, 'a>(
+    context: Context,
+    modifiers: Vec<Modifier>,
+    tokens: &'t [Token<'a>],
+) -> Result<Read<'t, 'a, Member>, TextFault>
+    ensures { Gives (λ m. (bare_member m.tree, lexemes m.rest.now)) result (constructor_at (map bare_modifier modifiers.items) (lexemes tokens.now)) }
+{
+    let name = name(context, tokens)?;
+    let parameters = parameters(context, name.rest)?;
+    let body = block(context, parameters.rest, MOST_NODES)?;
+    Ok(Read {
+        tree: Member::Constructor(Constructor {
+            modifiers,
+            name: name.tree,
+            parameters: parameters.tree,
+            body: body.tree,
+        }),
+        rest: body.rest,
+    })
+}
+
+// What stands behind the modifiers and the result of a method; no result is `void`.
+fn method<'t, 'a>(
+    context: Context,
+    modifiers: Vec<Modifier>,
+    answer: Option<Type>,
+    tokens: &'t [Token<'a>],
+) -> Result<Read<'t, 'a, Member>, TextFault>
+    ensures { Gives (λ m. (bare_member m.tree, lexemes m.rest.now)) result (method_at (map bare_modifier modifiers.items) (option_map bare_type answer) (lexemes tokens.now)) }
+{
+    let name = name(context, tokens)?;
+    let parameters = parameters(context, name.rest)?;
+    let body = block(context, parameters.rest, MOST_NODES)?;
+    Ok(Read {
+        tree: Member::Method(Method {
+            modifiers,
+            result: answer,
+            name: name.tree,
+            parameters: parameters.tree,
+            body: body.tree,
+        }),
+        rest: body.rest,
+    })
+}
+
+// What stands behind the modifiers and a type. All the tokens begin with the modifiers.
+fn typed<'t, 'a>(
+    context: Context,
+    all: &'t [Token<'a>],
+    modifiers: Vec<Modifier>,
+    type_name: Type,
+    tokens: &'t [Token<'a>],
+) -> Result<Read<'t, 'a, Member>, TextFault>
+    ensures { Gives (λ m. (bare_member m.tree, lexemes m.rest.now)) result (typed_at (map bare_modifier modifiers.items) (bare_type type_name) (lexemes tokens.now)) }
+{
+    if starts_call(tokens) {
+        return method(context, modifiers, Some(type_name), tokens);
+    }
+    let fields = declarators(context, all, modifiers, type_name, tokens, MOST_NODES)?;
+    Ok(Read {
+        tree: Member::Field(fields.tree),
+        rest: fields.rest,
+    })
+}
+
+// What stands behind the modifiers.
+fn unmodified<'t, 'a>(
+    context: Context,
+    all: &'t [Token<'a>],
+    modifiers: Vec<Modifier>,
+    tokens: &'t [Token<'a>],
+) -> Result<Read<'t, 'a, Member>, TextFault>
+    ensures { Gives (λ m. (bare_member m.tree, lexemes m.rest.now)) result (unmodified_at (map bare_modifier modifiers.items) (lexemes tokens.now)) }
+{
+    if starts_call(tokens) {
+        return constructor(context, modifiers, tokens);
+    }
+    if let Some(rest) = word_part(tokens, Word::Void) {
+        return method(context, modifiers, None, rest);
+    }
+    let type_name = type_name(context, tokens)?;
+    typed(context, all, modifiers, type_name.tree, type_name.rest)
+}
+
+fn member<'t, 'a>(
+    context: Context,
+    tokens: &'t [Token<'a>],
+) -> Result<Read<'t, 'a, Member>, TextFault>
+    ensures { Gives (λ m. (bare_member m.tree, lexemes m.rest.now)) result (member_at (lexemes tokens.now)) }
+{
+    let modifiers = modifiers(context, tokens)?;
+    unmodified(context, tokens, modifiers.tree, modifiers.rest)
+}
+
+fn members<'t, 'a>(
+    context: Context,
+    tokens: &'t [Token<'a>],
+) -> Result<Read<'t, 'a, Vec<Member>>, TextFault>
+    ensures { Gives (λ m. (map bare_member m.tree.items, lexemes m.rest.now)) result (many_at (not_yet signs.CloseBrace) member_at (lexemes tokens.now)) }
+{
+    let mut all = Read {
+        tree: Vec::new(context.alloc),
+        rest: tokens,
+    };
+    while !starts_with(all.rest, Sign::CloseBrace) {
+        all = one_member(context, all)?;
+    }
+    Ok(all)
+}
+
+#[tactic(auto, using(crate::proofs::Rows::map_push))]
+fn one_member<'t, 'a>(
+    context: Context,
+    before: Read<'t, 'a, Vec<Member>>,
+) -> Result<Read<'t, 'a, Vec<Member>>, TextFault>
+    ensures { Gives (λ m. (map bare_member m.tree.items, lexemes m.rest.now)) result (one_more member_at (map bare_member before.entry.tree.items) (lexemes before.entry.rest.now)) }
+{
+    let found = member(context, before.rest)?;
+    Ok(Read {
+        tree: push(before.tree, found.tree)?,
+        rest: found.rest,
+    })
+}
+
+// ---- classes
+
+fn class<'t, 'a>(
+    context: Context,
+    tokens: &'t [Token<'a>],
+) -> Result<Read<'t, 'a, Class>, TextFault>
+    ensures { Gives (λ c. (bare_class c.tree, lexemes c.rest.now)) result (class_at (lexemes tokens.now)) }
+{
+    let modifiers = modifiers(context, tokens)?;
+    let named = expect_word(context, modifiers.rest, Word::Class)?;
+    let name = name(context, named)?;
+    let open = expect(context, name.rest, Sign::OpenBrace)?;
+    let members = members(context, open)?;
+    let rest = expect(context, members.rest, Sign::CloseBrace)?;
+    Ok(Read {
+        tree: Class {
+            modifiers: modifiers.tree,
+            name: name.tree,
+            members: members.tree,
+        },
+        rest,
+    })
+}
+
+fn is_left(tokens: &[Token]) -> bool
+    ensures { result ≡ is_left (lexemes tokens.now) }
+{
+    tokens.split_first().is_some()
+}
+
+/// Classes up to the end of the tokens.
+pub fn classes<'t, 'a>(
+    context: Context,
+    tokens: &'t [Token<'a>],
+) -> Result<Read<'t, 'a, Vec<Class>>, TextFault>
+    ensures { Gives (λ c. (map bare_class c.tree.items, lexemes c.rest.now)) result (many_at is_left class_at (lexemes tokens.now)) }
+{
+    let mut all = Read {
+        tree: Vec::new(context.alloc),
+        rest: tokens,
+    };
+    while is_left(all.rest) {
+        all = one_class(context, all)?;
+    }
+    Ok(all)
+}
+
+#[tactic(auto, using(crate::proofs::Rows::map_push))]
+fn one_class<'t, 'a>(
+    context: Context,
+    before: Read<'t, 'a, Vec<Class>>,
+) -> Result<Read<'t, 'a, Vec<Class>>, TextFault>
+    ensures { Gives (λ c. (map bare_class c.tree.items, lexemes c.rest.now)) result (one_more class_at (map bare_class before.entry.tree.items) (lexemes before.entry.rest.now)) }
+{
+    let found = class(context, before.rest)?;
+    Ok(Read {
+        tree: push(before.tree, found.tree)?,
+        rest: found.rest,
+    })
+}
+
+// ---- packages and imports
+
+// Names behind dots, up to a semicolon.
+fn package_parts<'t, 'a>(
+    context: Context,
+    tokens: &'t [Token<'a>],
+) -> Result<Read<'t, 'a, Vec<Name>>, TextFault>
+    ensures { Gives (λ d. (map name_text d.tree.items, lexemes d.rest.now)) result (many_at (not_yet signs.Semicolon) part_at (lexemes tokens.now)) }
+{
+    let mut all = Read {
+        tree: Vec::new(context.alloc),
+        rest: tokens,
+    };
+    while !starts_with(all.rest, Sign::Semicolon) {
+        all = one_part(context, all)?;
+    }
+    Ok(all)
+}
+
+// Names behind dots, up to a semicolon or `.*`.
+fn import_parts<'t, 'a>(
+    context: Context,
+    tokens: &'t [Token<'a>],
+) -> Result<Read<'t, 'a, Vec<Name>>, TextFault>
+    ensures { Gives (λ d. (map name_text d.tree.items, lexemes d.rest.now)) result (many_at more_path part_at (lexemes tokens.now)) }
+{
+    let mut all = Read {
+        tree: Vec::new(context.alloc),
+        rest: tokens,
+    };
+    while more_path(all.rest) {
+        all = one_part(context, all)?;
+    }
+    Ok(all)
+}
+
+#[tactic(auto, using(crate::proofs::Rows::map_push))]
+fn one_part<'t, 'a>(
+    context: Context,
+    before: Read<'t, 'a, Vec<Name>>,
+) -> Result<Read<'t, 'a, Vec<Name>>, TextFault>
+    ensures { Gives (λ d. (map name_text d.tree.items, lexemes d.rest.now)) result (one_more part_at (map name_text before.entry.tree.items) (lexemes before.entry.rest.now)) }
+{
+    let tokens = expect(context, before.rest, Sign::Dot)?;
+    let found = name(context, tokens)?;
+    Ok(Read {
+        tree: push(before.tree, found.tree)?,
+        rest: found.rest,
+    })
+}
+
+// What is left behind `.*`.
+fn star_part<'t, 'a>(tokens: &'t [Token<'a>]) -> Option<&'t [Token<'a>]>
+    ensures { Finds (λ rest. lexemes rest.now) result (after_star (lexemes tokens.now)) }
+{
+    let rest = sign_part(tokens, Sign::Dot)?;
+    sign_part(rest, Sign::Star)
+}
+
+fn more_path(tokens: &[Token]) -> bool
+    ensures { result ≡ more_path (lexemes tokens.now) }
+{
+    !(starts_with(tokens, Sign::Semicolon) || star_part(tokens).is_some())
+}
+
+// What stands behind `import`.
+fn path<'t, 'a>(
+    context: Context,
+    tokens: &'t [Token<'a>],
+) -> Result<Read<'t, 'a, Dotted>, TextFault>
+    ensures { Gives (λ d. (bare_dotted d.tree, lexemes d.rest.now)) result (dotted_at more_path (lexemes tokens.now)) }
+{
+    let first = name(context, tokens)?;
+    let more = import_parts(context, first.rest)?;
+    Ok(Read {
+        tree: Dotted {
+            first: first.tree,
+            more: more.tree,
+        },
+        rest: more.rest,
+    })
+}
+
+fn import<'t, 'a>(
+    context: Context,
+    tokens: &'t [Token<'a>],
+) -> Result<Read<'t, 'a, Import>, TextFault>
+    ensures { Gives (λ i. (bare_import i.tree, lexemes i.rest.now)) result (import_at (lexemes tokens.now)) }
+{
+    let named = expect_word(context, tokens, Word::Import)?;
+    let path = path(context, named)?;
+    match star_part(path.rest) {
+        Some(rest) => Ok(Read {
+            tree: Import {
+                path: path.tree,
+                all: true,
+            },
+            rest: expect(context, rest, Sign::Semicolon)?,
+        }),
+        None => Ok(Read {
+            tree: Import {
+                path: path.tree,
+                all: false,
+            },
+            rest: expect(context, path.rest, Sign::Semicolon)?,
+        }),
+    }
+}
+
+fn starts_import(tokens: &[Token]) -> bool
+    ensures { result ≡ starts_import (lexemes tokens.now) }
+{
+    word_part(tokens, Word::Import).is_some()
+}
+
+pub fn imports<'t, 'a>(
+    context: Context,
+    tokens: &'t [Token<'a>],
+) -> Result<Read<'t, 'a, Vec<Import>>, TextFault>
+    ensures { Gives (λ i. (map bare_import i.tree.items, lexemes i.rest.now)) result (many_at starts_import import_at (lexemes tokens.now)) }
+{
+    let mut all = Read {
+        tree: Vec::new(context.alloc),
+        rest: tokens,
+    };
+    while starts_import(all.rest) {
+        all = one_import(context, all)?;
+    }
+    Ok(all)
+}
+
+#[tactic(auto, using(crate::proofs::Rows::map_push))]
+fn one_import<'t, 'a>(
+    context: Context,
+    before: Read<'t, 'a, Vec<Import>>,
+) -> Result<Read<'t, 'a, Vec<Import>>, TextFault>
+    ensures { Gives (λ i. (map bare_import i.tree.items, lexemes i.rest.now)) result (one_more import_at (map bare_import before.entry.tree.items) (lexemes before.entry.rest.now)) }
+{
+    let found = import(context, before.rest)?;
+    Ok(Read {
+        tree: push(before.tree, found.tree)?,
+        rest: found.rest,
+    })
+}
+
+// What stands behind `package`.
+fn package_name<'t, 'a>(
+    context: Context,
+    tokens: &'t [Token<'a>],
+) -> Result<Read<'t, 'a, Dotted>, TextFault>
+    ensures { Gives (λ d. (bare_dotted d.tree, lexemes d.rest.now)) result (package_at (lexemes tokens.now)) }
+{
+    let first = name(context, tokens)?;
+    let more = package_parts(context, first.rest)?;
+    let rest = expect(context, more.rest, Sign::Semicolon)?;
+    Ok(Read {
+        tree: Dotted {
+            first: first.tree,
+            more: more.tree,
+        },
+        rest,
+    })
+}
+
+/// The package, if one is named.
+pub fn header<'t, 'a>(
+    context: Context,
+    tokens: &'t [Token<'a>],
+) -> Result<Read<'t, 'a, Option<Dotted>>, TextFault>
+    ensures { Gives (λ h. (option_map bare_dotted h.tree, lexemes h.rest.now)) result (header_at (lexemes tokens.now)) }
+{
+    match word_part(tokens, Word::Package) {
+        Some(rest) => {
+            let name = package_name(context, rest)?;
+            Ok(Read {
+                tree: Some(name.tree),
+                rest: name.rest,
+            })
+        }
+        None => Ok(Read {
+            tree: None,
+            rest: tokens,
+        }),
+    }
+}

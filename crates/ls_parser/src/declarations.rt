@@ -1,0 +1,303 @@
+// Modifiers, types, and declarations of fields and locals.
+
+ghost use Rattle.std.specs.Prelude.{◌≡◌, ◌+◌, ◌-◌, ◌<◌, ◌≤◌, ◌^◌, ◌++◌, ◌∷◌, [], IfOk, Some, length, map, option_map, max};
+ghost use Rattle.ls_lexer.specs.Lexemes.{lexemes};
+ghost use Rattle.ls_lexer.specs.declared.sign.Sign.TheVariants as signs;
+ghost use Rattle.ls_parser.specs.WellFormed.{value_height, declarators_height};
+ghost use Rattle.ls_parser.specs.Views.{name_text, bare, bare_modifier, bare_type, bare_declarator, bare_declaration};
+ghost use Rattle.ls_parser.specs.Answers.{Gives, Finds};
+ghost use Rattle.ls_parser.specs.Reading.{one_more, behind_comma, many_at, not_yet};
+ghost use Rattle.ls_parser.specs.ReadingTerms.{term_at};
+ghost use Rattle.ls_parser.specs.ReadingActions.{modifier_of_word, modifier_word_at, starts_modifier, modifier_at, modifiers_at, boolean_at, named_type_at, type_at, declarator_at, declarators_at, declaration_at, starts_type, named_declaration, starts_declaration};
+
+use crate::primaries::{class_name, is_markable};
+use crate::terms::binary;
+use crate::tokens::{
+    Context, Part, Read, expect, expect_word, make_name, name, name_part, push, sign_part, span_to,
+    starts_with, word_part,
+};
+use crate::tree::{Declaration, Declarator, Expr, Modifier, Name, Type};
+use ls_lexer::fault::TextFault;
+use ls_lexer::sign::Sign;
+use ls_lexer::token::{Token, TokenKind};
+use ls_lexer::word::Word;
+
+fn modifier_word(word: Word) -> Option<Modifier>
+    ensures { option_map bare_modifier result ≡ modifier_of_word word }
+{
+    match word {
+        Word::Public => Some(Modifier::Public),
+        Word::Protected => Some(Modifier::Protected),
+        Word::Private => Some(Modifier::Private),
+        Word::Final => Some(Modifier::Final),
+        Word::Volatile => Some(Modifier::Volatile),
+        _ => None,
+    }
+}
+
+fn modifier_part<'t, 'a>(tokens: &'t [Token<'a>]) -> Option<Read<'t, 'a, Modifier>>
+    ensures { Finds (λ m. (bare_modifier m.tree, lexemes m.rest.now)) result (modifier_word_at (lexemes tokens.now)) }
+{
+    let (token, rest) = tokens.split_first()?;
+    let TokenKind::Word(word) = token.kind else {
+        return None;
+    };
+    let tree = modifier_word(word)?;
+    Some(Read { tree, rest })
+}
+
+pub fn starts_modifier(tokens: &[Token]) -> bool
+    ensures { result ≡ starts_modifier (lexemes tokens.now) }
+{
+    modifier_part(tokens).is_some() || starts_with(tokens, Sign::At)
+}
+
+fn modifier<'t, 'a>(
+    context: Context,
+    tokens: &'t [Token<'a>],
+) -> Result<Read<'t, 'a, Modifier>, TextFault>
+    ensures { Gives (λ m. (bare_modifier m.tree, lexemes m.rest.now)) result (modifier_at (lexemes tokens.now)) }
+{
+    if let Some(found) = modifier_part(tokens) {
+        return Ok(found);
+    }
+    let rest = expect(context, tokens, Sign::At)?;
+    let name = name(context, rest)?;
+    Ok(Read {
+        tree: Modifier::Annotation(name.tree),
+        rest: name.rest,
+    })
+}
+
+pub fn modifiers<'t, 'a>(
+    context: Context,
+    tokens: &'t [Token<'a>],
+) -> Result<Read<'t, 'a, Vec<Modifier>>, TextFault>
+    ensures { Gives (λ m. (map bare_modifier m.tree.items, lexemes m.rest.now)) result (modifiers_at (lexemes tokens.now)) }
+{
+    let mut all = Read {
+        tree: Vec::new(context.alloc),
+        rest: tokens,
+    };
+    while starts_modifier(all.rest) {
+        all = one_modifier(context, all)?;
+    }
+    Ok(all)
+}
+
+#[tactic(auto, using(crate::proofs::Rows::map_push))]
+fn one_modifier<'t, 'a>(
+    context: Context,
+    before: Read<'t, 'a, Vec<Modifier>>,
+) -> Result<Read<'t, 'a, Vec<Modifier>>, TextFault>
+    ensures { Gives (λ m. (map bare_modifier m.tree.items, lexemes m.rest.now)) result (one_more modifier_at (map bare_modifier before.entry.tree.items) (lexemes before.entry.rest.now)) }
+{
+    let found = modifier(context, before.rest)?;
+    Ok(Read {
+        tree: push(before.tree, found.tree)?,
+        rest: found.rest,
+    })
+}
+
+// What stands behind `boolean`.
+fn boolean_type<'t, 'a>(
+    context: Context,
+    tokens: &'t [Token<'a>],
+) -> Result<Read<'t, 'a, Type>, TextFault>
+    ensures { Gives (λ t. (bare_type t.tree, lexemes t.rest.now)) result (boolean_at (lexemes tokens.now)) }
+{
+    match sign_part(tokens, Sign::OpenBracket) {
+        Some(open) => Ok(Read {
+            tree: Type::BooleanArray,
+            rest: expect(context, open, Sign::CloseBracket)?,
+        }),
+        None => Ok(Read {
+            tree: Type::Boolean,
+            rest: tokens,
+        }),
+    }
+}
+
+// A class's name, or the name of markables and their class. The first token is the name itself.
+fn named_type<'t, 'a>(
+    context: Context,
+    text: &'a str,
+    all: &'t [Token<'a>],
+    tokens: &'t [Token<'a>],
+) -> Result<Read<'t, 'a, Type>, TextFault>
+    ensures { Gives (λ t. (bare_type t.tree, lexemes t.rest.now)) result (named_type_at text.now (lexemes tokens.now)) }
+{
+    if is_markable(text) && starts_with(tokens, Sign::Less) {
+        let name = class_name(context, tokens)?;
+        Ok(Read {
+            tree: Type::Markable(name.tree),
+            rest: name.rest,
+        })
+    } else {
+        let name = make_name(context, text, span_to(all, tokens))?;
+        Ok(Read {
+            tree: Type::Class(name),
+            rest: tokens,
+        })
+    }
+}
+
+pub fn type_name<'t, 'a>(
+    context: Context,
+    tokens: &'t [Token<'a>],
+) -> Result<Read<'t, 'a, Type>, TextFault>
+    ensures { Gives (λ t. (bare_type t.tree, lexemes t.rest.now)) result (type_at (lexemes tokens.now)) }
+{
+    if let Some((text, rest)) = name_part(tokens) {
+        return named_type(context, text, tokens, rest);
+    }
+    if let Some(rest) = word_part(tokens, Word::Int) {
+        return Ok(Read {
+            tree: Type::Int,
+            rest,
+        });
+    }
+    let rest = expect_word(context, tokens, Word::Boolean)?;
+    boolean_type(context, rest)
+}
+
+fn declarator<'t, 'a>(
+    context: Context,
+    tokens: &'t [Token<'a>],
+    limit: usize,
+) -> Result<Part<'t, 'a, Declarator>, TextFault>
+    ensures read { Gives (λ d. (bare_declarator d.tree, lexemes d.rest.now)) result (declarator_at (term_at limit) (lexemes tokens.now)) }
+    ensures height { IfOk result (λ d. (d.height ≡ value_height ((bare_declarator d.tree).value)) × (d.height ≤ limit)) }
+{
+    let name = name(context, tokens)?;
+    match sign_part(name.rest, Sign::Assign) {
+        Some(rest) => {
+            let value = binary(context, rest, 6, limit)?;
+            Ok(Part {
+                tree: Declarator {
+                    name: name.tree,
+                    value: Some(value.tree),
+                },
+                height: value.height,
+                rest: value.rest,
+            })
+        }
+        None => Ok(Part {
+            tree: Declarator {
+                name: name.tree,
+                value: None,
+            },
+            height: 0,
+            rest: name.rest,
+        }),
+    }
+}
+
+fn more_declarators<'t, 'a>(
+    context: Context,
+    tokens: &'t [Token<'a>],
+    limit: usize,
+) -> Result<Part<'t, 'a, Vec<Declarator>>, TextFault>
+    ensures read { Gives (λ d. (map bare_declarator d.tree.items, lexemes d.rest.now)) result (many_at (not_yet signs.Semicolon) (behind_comma (declarator_at (term_at limit))) (lexemes tokens.now)) }
+    ensures height { IfOk result (λ d. (d.height ≡ declarators_height (map bare_declarator d.tree.items)) × (d.height ≤ limit)) }
+{
+    let mut all = Part {
+        tree: Vec::new(context.alloc),
+        height: 0,
+        rest: tokens,
+    };
+    while !starts_with(all.rest, Sign::Semicolon) {
+        all = one_declarator(context, all, limit)?;
+    }
+    Ok(all)
+}
+
+#[tactic(auto, using(crate::proofs::Rows::map_push, crate::proofs::Rows::declarators_height_push))]
+fn one_declarator<'t, 'a>(
+    context: Context,
+    before: Part<'t, 'a, Vec<Declarator>>,
+    limit: usize,
+) -> Result<Part<'t, 'a, Vec<Declarator>>, TextFault>
+    requires height { (before.height ≡ declarators_height (map bare_declarator before.tree.items)) × (before.height ≤ limit) }
+    ensures read { Gives (λ d. (map bare_declarator d.tree.items, lexemes d.rest.now)) result (one_more (behind_comma (declarator_at (term_at limit))) (map bare_declarator before.entry.tree.items) (lexemes before.entry.rest.now)) }
+    ensures height { IfOk result (λ d. (d.height ≡ declarators_height (map bare_declarator d.tree.items)) × (d.height ≤ limit)) }
+{
+    let tokens = expect(context, before.rest, Sign::Comma)?;
+    let found = declarator(context, tokens, limit)?;
+    Ok(Part {
+        tree: push(before.tree, found.tree)?,
+        height: before.height.max(found.height),
+        rest: found.rest,
+    })
+}
+
+// What stands behind the modifiers and the type, up to and with the semicolon. All the tokens begin with the
+// modifiers. The height is that of the highest initialiser, and each is at most as high as the limit.
+pub fn declarators<'t, 'a>(
+    context: Context,
+    all: &'t [Token<'a>],
+    modifiers: Vec<Modifier>,
+    type_name: Type,
+    tokens: &'t [Token<'a>],
+    limit: usize,
+) -> Result<Part<'t, 'a, Declaration>, TextFault>
+    ensures read { Gives (λ d. (bare_declaration d.tree, lexemes d.rest.now)) result (declarators_at (term_at limit) (map bare_modifier modifiers.items) (bare_type type_name) (lexemes tokens.now)) }
+    ensures height { IfOk result (λ d. (d.height ≡ max (value_height ((bare_declaration d.tree).first.value)) (declarators_height ((bare_declaration d.tree).more))) × (d.height ≤ limit)) }
+{
+    let first = declarator(context, tokens, limit)?;
+    let more = more_declarators(context, first.rest, limit)?;
+    let rest = expect(context, more.rest, Sign::Semicolon)?;
+    Ok(Part {
+        tree: Declaration {
+            modifiers,
+            type_name,
+            first: first.tree,
+            more: more.tree,
+            span: span_to(all, rest),
+        },
+        height: first.height.max(more.height),
+        rest,
+    })
+}
+
+pub fn declaration<'t, 'a>(
+    context: Context,
+    tokens: &'t [Token<'a>],
+    limit: usize,
+) -> Result<Part<'t, 'a, Declaration>, TextFault>
+    ensures read { Gives (λ d. (bare_declaration d.tree, lexemes d.rest.now)) result (declaration_at (term_at limit) (lexemes tokens.now)) }
+    ensures height { IfOk result (λ d. (d.height ≡ max (value_height ((bare_declaration d.tree).first.value)) (declarators_height ((bare_declaration d.tree).more))) × (d.height ≤ limit)) }
+{
+    let modifiers = modifiers(context, tokens)?;
+    let type_name = type_name(context, modifiers.rest)?;
+    declarators(
+        context,
+        tokens,
+        modifiers.tree,
+        type_name.tree,
+        type_name.rest,
+        limit,
+    )
+}
+
+// Whether a declaration begins, and no statement: a modifier, a type by its word, two names, or a name and `<`.
+pub fn starts_declaration(tokens: &[Token]) -> bool
+    ensures { result ≡ starts_declaration (lexemes tokens.now) }
+{
+    starts_modifier(tokens) || starts_type(tokens) || named_declaration(tokens)
+}
+
+fn starts_type(tokens: &[Token]) -> bool
+    ensures { result ≡ starts_type (lexemes tokens.now) }
+{
+    word_part(tokens, Word::Int).is_some() || word_part(tokens, Word::Boolean).is_some()
+}
+
+fn named_declaration(tokens: &[Token]) -> bool
+    ensures { result ≡ named_declaration (lexemes tokens.now) }
+{
+    match name_part(tokens) {
+        Some((_, rest)) => name_part(rest).is_some() || starts_with(rest, Sign::Less),
+        None => false,
+    }
+}

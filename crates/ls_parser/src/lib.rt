@@ -1,0 +1,19 @@
+//! Trees of class texts: the parser, and the spelling of a tree.
+#![tactic(auto)]
+
+mod classes;
+mod declarations;
+mod operators;
+pub mod parse;
+mod primaries;
+mod simple_statements;
+mod statements;
+mod terms;
+mod tokens;
+pub mod tree;
+
+pub use crate::tree::ClassFile;
+pub use ls_lexer::lexing::lex;
+
+#[cfg(test)]
+mod tests;

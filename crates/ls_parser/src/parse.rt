@@ -1,0 +1,81 @@
+// From tokens and texts to trees.
+
+ghost use Rattle.std.specs.Prelude.{◌≡◌, ◌<◌, IfOk, IfErr, IsErrOf, Some, length};
+ghost use Rattle.ls_lexer.specs.Lexemes.{lexemes};
+ghost use Rattle.ls_lexer.specs.Places.{text_limit};
+ghost use Rattle.ls_lexer.specs.declared.fault.TextFault.TheVariants.{TooLong};
+ghost use Rattle.ls_parser.specs.Trees.{File};
+ghost use Rattle.ls_parser.specs.Views.{file_of};
+ghost use Rattle.ls_parser.specs.FileView.{bare_file};
+ghost use Rattle.ls_parser.specs.Answers.{Refuses, Gives};
+ghost use Rattle.ls_parser.specs.ReadingClasses.{file_at};
+ghost use Rattle.ls_parser.specs.Spells.{Spells, TextSpells};
+ghost use Rattle.ls_parser.specs.Laws.{OneTree, OneFile};
+
+use crate::classes::{classes, header, imports};
+use crate::tokens::Context;
+use crate::tree::{Class, ClassFile, Dotted, Import};
+use ls_lexer::fault::TextFault;
+use ls_lexer::lexing::lex;
+use ls_lexer::token::Token;
+use std::alloc::Global;
+
+#[derive(Drop)]
+struct Parts {
+    header: Option<Dotted>,
+    imports: Vec<Import>,
+    classes: Vec<Class>,
+}
+
+#[tactic(auto, unfolding(crate::specs::ReadingClasses::file_at))]
+fn read_parts(context: Context, tokens: &[Token]) -> Result<Parts, TextFault>
+    ensures { Gives (λ p. file_of p.header p.imports.items p.classes.items) result (file_at (lexemes tokens.now)) }
+{
+    let header = header(context, tokens)?;
+    let imports = imports(context, header.rest)?;
+    let classes = classes(context, imports.rest)?;
+    Ok(Parts {
+        header: header.tree,
+        imports: imports.tree,
+        classes: classes.tree,
+    })
+}
+
+/// The file that the tokens spell. A fault other than want of memory says that they spell none. `BadNumber` is
+/// 2147483648 without a minus before it, `TooDeep` a body or an initialiser over the greatest height, and `Syntax` all
+/// else, at the end of the last token where tokens are wanting.
+#[tactic(auto, using(crate::proofs::Files::found_is, crate::proofs::Files::formed_is, crate::proofs::Files::refused_is))]
+pub fn parse(alloc: Global, tokens: &[Token]) -> Result<ClassFile, TextFault>
+    ensures found { IfOk result (λ f. Spells (bare_file f) (lexemes tokens.now)) }
+    ensures refused { IfErr result (λ e. Refuses e ((f : File) → Spells f (lexemes tokens.now) → ⊥)) }
+{
+    let end = match tokens.last() {
+        Some(token) => token.span.end,
+        None => 0,
+    };
+    let parts = read_parts(Context { alloc, end }, tokens)?;
+    Ok(ClassFile::new(parts.header, parts.imports, parts.classes))
+}
+
+/// The file that the text spells. A fault other than want of memory says that it spells none.
+#[tactic(auto, using(crate::proofs::Files::text_found, crate::proofs::Files::text_refused, crate::proofs::Files::lexing_refused))]
+pub fn parse_text(alloc: Global, text: &str) -> Result<ClassFile, TextFault>
+    ensures found { IfOk result (λ f. TextSpells (bare_file f) text.now) }
+    ensures refused { IfErr result (λ e. Refuses e ((f : File) → TextSpells f text.now → ⊥)) }
+    ensures long { text_limit < length text.now → IsErrOf result TooLong }
+{
+    let tokens = lex(alloc, text)?;
+    parse(alloc, &tokens)
+}
+
+/// No list of tokens spells two files.
+#[tactic(auto, using(crate::proofs::Files::one_file))]
+pub fn one_tree()
+    ensures { OneTree }
+{}
+
+/// No text spells two files.
+#[tactic(auto, using(crate::proofs::Files::one_file_of_text))]
+pub fn one_file()
+    ensures { OneFile }
+{}

@@ -1,0 +1,295 @@
+// Statements and blocks.
+
+ghost use Rattle.std.specs.Prelude.{◌≡◌, ◌+◌, ◌-◌, ◌<◌, ◌≤◌, ◌^◌, IfOk, Some, map, option_map, false};
+ghost use Rattle.ls_lexer.specs.Lexemes.{lexeme_of, lexemes};
+ghost use Rattle.ls_lexer.specs.declared.sign.Sign.TheVariants as signs;
+ghost use Rattle.ls_parser.specs.Trees as trees;
+ghost use Rattle.ls_parser.specs.WellFormed.{action_height, items_height, piece_height};
+ghost use Rattle.ls_parser.specs.Views.{name_text, bare_statement, bare_piece, items_of, bare_block};
+ghost use Rattle.ls_parser.specs.Answers.{Gives};
+ghost use Rattle.ls_parser.specs.Reading.{one_more, many_at, not_yet};
+ghost use Rattle.ls_parser.specs.ReadingTerms.{term_at, post_at};
+ghost use Rattle.ls_parser.specs.ReadingActions.{piece_at, local_at, if_at, while_at, try_at, other_at, first_of, begun_at, action_at, block_at, block_in};
+
+use crate::declarations::starts_declaration;
+use crate::simple_statements::{
+    block_tree, break_statement, condition, continue_statement, label_part, label_span, local,
+    return_statement, try_tree, used,
+};
+use crate::terms::post;
+use crate::tokens::{
+    Context, Part, boxed, expect, expect_word, make_name, push, span_to, starts_with, syntax,
+    too_deep, word_part,
+};
+use crate::tree::{Block, BlockItem, Name, Statement};
+use ls_lexer::fault::TextFault;
+use ls_lexer::sign::Sign;
+use ls_lexer::token::{Token, TokenKind};
+use ls_lexer::word::Word;
+use std::alloc::AllocError;
+
+#[cycle(statements)]
+#[tactic(auto, using(crate::proofs::StatementSteps::action_step, crate::proofs::StatementSteps::action_nothing, crate::proofs::StatementSteps::action_zero))]
+fn statement<'t, 'a>(
+    context: Context,
+    tokens: &'t [Token<'a>],
+    limit: usize,
+) -> Result<Part<'t, 'a, Statement>, TextFault>
+    ensures read { Gives (λ p. (bare_statement p.tree, lexemes p.rest.now)) result (action_at limit (lexemes tokens.now)) }
+    ensures height { IfOk result (λ p. (p.height ≡ action_height (bare_statement p.tree)) × (p.height ≤ limit)) }
+{
+    if limit == 0 {
+        return Err(too_deep(context, tokens));
+    }
+    match tokens.split_first() {
+        Some((token, rest)) => begun(context, tokens, token, rest, limit - 1),
+        None => Err(syntax(context, tokens)),
+    }
+}
+
+// The statement that a token begins, where the limit is for what stands in it.
+#[cycle(statements)]
+#[tactic(auto, using(crate::proofs::StatementSteps::block_next))]
+fn begun<'t, 'a>(
+    context: Context,
+    all: &'t [Token<'a>],
+    token: &Token<'a>,
+    rest: &'t [Token<'a>],
+    limit: usize,
+) -> Result<Part<'t, 'a, Statement>, TextFault>
+    requires { limit + 1 < 2 ^ 64 }
+    ensures read { Gives (λ p. (bare_statement p.tree, lexemes p.rest.now)) result (begun_at limit (first_of (lexeme_of token.now.kind)) (lexemes all.now) (lexemes rest.now)) }
+    ensures height { IfOk result (λ p. (p.height ≡ action_height (bare_statement p.tree)) × (p.height ≤ limit + 1)) }
+{
+    match token.kind {
+        TokenKind::Sign(Sign::Semicolon) => Ok(Part {
+            tree: Statement::Empty(token.span),
+            height: 1,
+            rest,
+        }),
+        TokenKind::Sign(Sign::OpenBrace) => block_statement(context, all, limit + 1),
+        TokenKind::Word(Word::If) => if_statement(context, all, rest, limit),
+        TokenKind::Word(Word::While) => while_statement(context, all, None, rest, limit),
+        TokenKind::Word(Word::Break) => break_statement(context, all, rest),
+        TokenKind::Word(Word::Continue) => continue_statement(context, all, rest),
+        TokenKind::Word(Word::Return) => return_statement(context, all, rest, limit),
+        TokenKind::Word(Word::Try) => try_statement(context, all, rest, limit),
+        _ => other_statement(context, all, limit),
+    }
+}
+
+#[cycle(statements)]
+fn block_statement<'t, 'a>(
+    context: Context,
+    tokens: &'t [Token<'a>],
+    limit: usize,
+) -> Result<Part<'t, 'a, Statement>, TextFault>
+    requires { 0 < limit }
+    ensures read { Gives (λ p. (bare_statement p.tree, lexemes p.rest.now)) result (block_in (block_at limit) (lexemes tokens.now)) }
+    ensures height { IfOk result (λ p. (p.height ≡ action_height (bare_statement p.tree)) × (p.height ≤ limit)) }
+{
+    let block = block(context, tokens, limit)?;
+    Ok(Part {
+        tree: block_tree(block.tree),
+        height: block.height,
+        rest: block.rest,
+    })
+}
+
+/// Statements and local declarations in braces.
+#[cycle(statements)]
+#[tactic(auto, using(crate::proofs::StatementSteps::block_zero, crate::proofs::StatementSteps::block_step))]
+pub fn block<'t, 'a>(
+    context: Context,
+    tokens: &'t [Token<'a>],
+    limit: usize,
+) -> Result<Part<'t, 'a, Block>, TextFault>
+    ensures read { Gives (λ p. (bare_block p.tree, lexemes p.rest.now)) result (block_at limit (lexemes tokens.now)) }
+    ensures height { IfOk result (λ p. (p.height ≡ items_height (bare_block p.tree) + 1) × (p.height ≤ limit)) }
+{
+    if limit == 0 {
+        return Err(too_deep(context, tokens));
+    }
+    let open = expect(context, tokens, Sign::OpenBrace)?;
+    let items = block_items(context, open, limit - 1)?;
+    let rest = expect(context, items.rest, Sign::CloseBrace)?;
+    Ok(Part {
+        tree: Block {
+            items: items.tree,
+            span: span_to(tokens, rest),
+        },
+        height: items.height + 1,
+        rest,
+    })
+}
+
+#[cycle(statements)]
+fn block_items<'t, 'a>(
+    context: Context,
+    tokens: &'t [Token<'a>],
+    limit: usize,
+) -> Result<Part<'t, 'a, Vec<BlockItem>>, TextFault>
+    ensures read { Gives (λ p. (map bare_piece p.tree.items, lexemes p.rest.now)) result (many_at (not_yet signs.CloseBrace) (piece_at (local_at limit) (action_at limit)) (lexemes tokens.now)) }
+    ensures height { IfOk result (λ p. (p.height ≡ items_height (items_of p.tree.items)) × (p.height ≤ limit)) }
+{
+    let mut all = Part {
+        tree: Vec::new(context.alloc),
+        height: 0,
+        rest: tokens,
+    };
+    while !starts_with(all.rest, Sign::CloseBrace) {
+        all = one_item(context, all, limit)?;
+    }
+    Ok(all)
+}
+
+#[cycle(statements)]
+#[tactic(auto, using(crate::proofs::Rows::map_push, crate::proofs::StatementRows::collected_height_push))]
+fn one_item<'t, 'a>(
+    context: Context,
+    before: Part<'t, 'a, Vec<BlockItem>>,
+    limit: usize,
+) -> Result<Part<'t, 'a, Vec<BlockItem>>, TextFault>
+    requires height { (before.height ≡ items_height (items_of before.tree.items)) × (before.height ≤ limit) }
+    ensures read { Gives (λ p. (map bare_piece p.tree.items, lexemes p.rest.now)) result (one_more (piece_at (local_at limit) (action_at limit)) (map bare_piece before.entry.tree.items) (lexemes before.entry.rest.now)) }
+    ensures height { IfOk result (λ p. (p.height ≡ items_height (items_of p.tree.items)) × (p.height ≤ limit)) }
+{
+    let item = block_item(context, before.rest, limit)?;
+    Ok(Part {
+        tree: push(before.tree, item.tree)?,
+        height: before.height.max(item.height),
+        rest: item.rest,
+    })
+}
+
+#[cycle(statements)]
+fn block_item<'t, 'a>(
+    context: Context,
+    tokens: &'t [Token<'a>],
+    limit: usize,
+) -> Result<Part<'t, 'a, BlockItem>, TextFault>
+    ensures read { Gives (λ p. (bare_piece p.tree, lexemes p.rest.now)) result (piece_at (local_at limit) (action_at limit) (lexemes tokens.now)) }
+    ensures height { IfOk result (λ p. (p.height ≡ piece_height (bare_piece p.tree)) × (p.height ≤ limit)) }
+{
+    if starts_declaration(tokens) {
+        return local(context, tokens, limit);
+    }
+    let found = statement(context, tokens, limit)?;
+    Ok(Part {
+        tree: BlockItem::Statement(found.tree),
+        height: found.height,
+        rest: found.rest,
+    })
+}
+
+#[cycle(statements)]
+fn if_statement<'t, 'a>(
+    context: Context,
+    all: &'t [Token<'a>],
+    tokens: &'t [Token<'a>],
+    limit: usize,
+) -> Result<Part<'t, 'a, Statement>, TextFault>
+    requires { limit + 1 < 2 ^ 64 }
+    ensures read { Gives (λ p. (bare_statement p.tree, lexemes p.rest.now)) result (if_at (term_at limit) (action_at limit) (lexemes tokens.now)) }
+    ensures height { IfOk result (λ p. (p.height ≡ action_height (bare_statement p.tree)) × (p.height ≤ limit + 1)) }
+{
+    let condition = condition(context, tokens, limit)?;
+    let first = statement(context, condition.rest, limit)?;
+    match word_part(first.rest, Word::Else) {
+        Some(rest) => {
+            let second = statement(context, rest, limit)?;
+            Ok(Part {
+                tree: Statement::If {
+                    condition: condition.tree,
+                    then: boxed(context.alloc, first.tree)?,
+                    otherwise: Some(boxed(context.alloc, second.tree)?),
+                    span: span_to(all, second.rest),
+                },
+                height: condition.height.max(first.height).max(second.height) + 1,
+                rest: second.rest,
+            })
+        }
+        None => Ok(Part {
+            tree: Statement::If {
+                condition: condition.tree,
+                then: boxed(context.alloc, first.tree)?,
+                otherwise: None,
+                span: span_to(all, first.rest),
+            },
+            height: condition.height.max(first.height) + 1,
+            rest: first.rest,
+        }),
+    }
+}
+
+#[cycle(statements)]
+fn while_statement<'t, 'a>(
+    context: Context,
+    all: &'t [Token<'a>],
+    label: Option<Name>,
+    tokens: &'t [Token<'a>],
+    limit: usize,
+) -> Result<Part<'t, 'a, Statement>, TextFault>
+    requires { limit + 1 < 2 ^ 64 }
+    ensures read { Gives (λ p. (bare_statement p.tree, lexemes p.rest.now)) result (while_at (term_at limit) (action_at limit) (option_map name_text label) (lexemes tokens.now)) }
+    ensures height { IfOk result (λ p. (p.height ≡ action_height (bare_statement p.tree)) × (p.height ≤ limit + 1)) }
+{
+    let condition = condition(context, tokens, limit)?;
+    let body = statement(context, condition.rest, limit)?;
+    Ok(Part {
+        tree: Statement::While {
+            label,
+            condition: condition.tree,
+            body: boxed(context.alloc, body.tree)?,
+            span: span_to(all, body.rest),
+        },
+        height: condition.height.max(body.height) + 1,
+        rest: body.rest,
+    })
+}
+
+#[cycle(statements)]
+fn try_statement<'t, 'a>(
+    context: Context,
+    all: &'t [Token<'a>],
+    tokens: &'t [Token<'a>],
+    limit: usize,
+) -> Result<Part<'t, 'a, Statement>, TextFault>
+    requires { limit + 1 < 2 ^ 64 }
+    ensures read { Gives (λ p. (bare_statement p.tree, lexemes p.rest.now)) result (try_at (block_at limit) (lexemes tokens.now)) }
+    ensures height { IfOk result (λ p. (p.height ≡ action_height (bare_statement p.tree)) × (p.height ≤ limit + 1)) }
+{
+    let body = block(context, tokens, limit)?;
+    let rest = expect_word(context, body.rest, Word::Finally)?;
+    let finally = block(context, rest, limit)?;
+    let span = span_to(all, finally.rest);
+    Ok(Part {
+        tree: try_tree(body.tree, finally.tree, span),
+        height: body.height.max(finally.height) + 1,
+        rest: finally.rest,
+    })
+}
+
+// A loop with a label, an assignment or a call.
+#[cycle(statements)]
+fn other_statement<'t, 'a>(
+    context: Context,
+    tokens: &'t [Token<'a>],
+    limit: usize,
+) -> Result<Part<'t, 'a, Statement>, TextFault>
+    requires { limit + 1 < 2 ^ 64 }
+    ensures read { Gives (λ p. (bare_statement p.tree, lexemes p.rest.now)) result (other_at (post_at limit false) (term_at limit) (action_at limit) (lexemes tokens.now)) }
+    ensures height { IfOk result (λ p. (p.height ≡ action_height (bare_statement p.tree)) × (p.height ≤ limit + 1)) }
+{
+    match label_part(tokens) {
+        Some((text, rest)) => {
+            let label = make_name(context, text, label_span(tokens))?;
+            let rest = expect_word(context, rest, Word::While)?;
+            while_statement(context, tokens, Some(label), rest, limit)
+        }
+        None => {
+            let target = post(context, tokens, limit, false)?;
+            used(context, target, limit)
+        }
+    }
+}

@@ -1,0 +1,167 @@
+// The next tokens, and what reading makes of them.
+
+ghost use Rattle.std.specs.Prelude.{◌≡◌, ◌++◌, ◌∷◌, [], IfOk, length};
+ghost use Rattle.ls_lexer.specs.Lexemes.{lexemes};
+ghost use Rattle.ls_parser.specs.Reading.{after_sign, after_word, name_at, starts};
+ghost use Rattle.ls_parser.specs.Views.{name_text};
+ghost use Rattle.ls_parser.specs.Answers.{Gives, Finds};
+
+use crate::tree::Name;
+use ls_lexer::fault::TextFault;
+use ls_lexer::sign::Sign;
+use ls_lexer::token::{Span, Token, TokenKind};
+use ls_lexer::word::Word;
+use std::alloc::{AllocError, Global};
+
+/// What making a tree needs: memory, and the end of the text for a fault there.
+#[derive(Clone, Copy)]
+pub struct Context {
+    pub alloc: Global,
+    pub end: usize,
+}
+
+/// What is read, and the tokens behind it.
+#[derive(Drop)]
+pub struct Read<'t, 'a, T> {
+    pub tree: T,
+    pub rest: &'t [Token<'a>],
+}
+
+/// What is read, how high it is, and the tokens behind it.
+#[derive(Drop)]
+pub struct Part<'t, 'a, T> {
+    pub tree: T,
+    pub height: usize,
+    pub rest: &'t [Token<'a>],
+}
+
+// Where the first token stands, or the end of the text.
+pub fn place(tokens: &[Token], end: usize) -> usize {
+    match tokens {
+        [token, ..] => token.span.start,
+        [] => end,
+    }
+}
+
+pub fn syntax(context: Context, tokens: &[Token]) -> TextFault {
+    TextFault::Syntax {
+        at: place(tokens, context.end),
+    }
+}
+
+pub fn too_deep(context: Context, tokens: &[Token]) -> TextFault {
+    TextFault::TooDeep {
+        at: place(tokens, context.end),
+    }
+}
+
+// From the first of the tokens to the last one before the rest.
+pub fn span_to(tokens: &[Token], rest: &[Token]) -> Span {
+    let taken = tokens.len().saturating_sub(rest.len());
+    Span {
+        start: place(tokens, 0),
+        end: match tokens.get(taken.saturating_sub(1)) {
+            Some(token) => token.span.end,
+            None => 0,
+        },
+    }
+}
+
+pub fn sign_part<'t, 'a>(tokens: &'t [Token<'a>], wanted: Sign) -> Option<&'t [Token<'a>]>
+    ensures { Finds (λ rest. lexemes rest.now) result (after_sign wanted (lexemes tokens.now)) }
+{
+    let (token, rest) = tokens.split_first()?;
+    let TokenKind::Sign(sign) = token.kind else {
+        return None;
+    };
+    if sign == wanted { Some(rest) } else { None }
+}
+
+pub fn word_part<'t, 'a>(tokens: &'t [Token<'a>], wanted: Word) -> Option<&'t [Token<'a>]>
+    ensures { Finds (λ rest. lexemes rest.now) result (after_word wanted (lexemes tokens.now)) }
+{
+    let (token, rest) = tokens.split_first()?;
+    let TokenKind::Word(word) = token.kind else {
+        return None;
+    };
+    if word == wanted { Some(rest) } else { None }
+}
+
+/// The text of a name, and the tokens behind it.
+pub fn name_part<'t, 'a>(tokens: &'t [Token<'a>]) -> Option<(&'a str, &'t [Token<'a>])>
+    ensures { Finds (λ x. (x.0.now, lexemes x.1.now)) result (name_at (lexemes tokens.now)) }
+{
+    let (token, rest) = tokens.split_first()?;
+    let TokenKind::Name(text) = token.kind else {
+        return None;
+    };
+    Some((text, rest))
+}
+
+pub fn starts_with(tokens: &[Token], wanted: Sign) -> bool
+    ensures { result ≡ starts wanted (lexemes tokens.now) }
+{
+    sign_part(tokens, wanted).is_some()
+}
+
+pub fn expect<'t, 'a>(
+    context: Context,
+    tokens: &'t [Token<'a>],
+    wanted: Sign,
+) -> Result<&'t [Token<'a>], TextFault>
+    ensures { Gives (λ rest. lexemes rest.now) result (after_sign wanted (lexemes tokens.now)) }
+{
+    match sign_part(tokens, wanted) {
+        Some(rest) => Ok(rest),
+        None => Err(syntax(context, tokens)),
+    }
+}
+
+pub fn expect_word<'t, 'a>(
+    context: Context,
+    tokens: &'t [Token<'a>],
+    wanted: Word,
+) -> Result<&'t [Token<'a>], TextFault>
+    ensures { Gives (λ rest. lexemes rest.now) result (after_word wanted (lexemes tokens.now)) }
+{
+    match word_part(tokens, wanted) {
+        Some(rest) => Ok(rest),
+        None => Err(syntax(context, tokens)),
+    }
+}
+
+pub fn make_name(context: Context, text: &str, span: Span) -> Result<Name, AllocError>
+    ensures { IfOk result (λ n. name_text n ≡ text.now) }
+{
+    let text = String::from_str(context.alloc, text)?;
+    Ok(Name { text, span })
+}
+
+pub fn name<'t, 'a>(
+    context: Context,
+    tokens: &'t [Token<'a>],
+) -> Result<Read<'t, 'a, Name>, TextFault>
+    ensures { Gives (λ n. (name_text n.tree, lexemes n.rest.now)) result (name_at (lexemes tokens.now)) }
+{
+    match name_part(tokens) {
+        Some((text, rest)) => Ok(Read {
+            tree: make_name(context, text, span_to(tokens, rest))?,
+            rest,
+        }),
+        None => Err(syntax(context, tokens)),
+    }
+}
+
+/// One more at the end.
+pub fn push<T: Drop>(mut items: Vec<T>, item: T) -> Result<Vec<T>, AllocError>
+    ensures { IfOk result (λ v. v.items ≡ items.items ++ item ∷ []) }
+{
+    items.push(item)?;
+    Ok(items)
+}
+
+pub fn boxed<T: Drop>(alloc: Global, value: T) -> Result<Box<T>, AllocError>
+    ensures { IfOk result (λ b. b.value ≡ value) }
+{
+    Ok(Box::new(alloc, value)?)
+}

@@ -1,0 +1,15 @@
+pub mod Rows
+pub mod Files
+pub mod Numbers
+pub mod Values
+pub mod Sim
+pub mod Operations
+pub mod Good
+pub mod CallForms
+pub mod MarkForms
+pub mod Exprs
+pub mod Shorter
+pub mod Stmts
+pub mod Frames
+pub mod Methods
+pub mod Cases

@@ -1,0 +1,288 @@
+-- The words of each typed statement ask what it asks.
+use Rattle.std.proofs.Common.{◌≡◌, ◌≢◌, ℕ, zero, suc, ◌+◌, ◌<◌, ◌≤◌, ◌^◌, Bool, true, false, cond, ⊎_elim, List, [], ◌∷◌, length, Option, Some, None, refl, sym, ap, ◌∙◌, subst, arith}
+use Rattle.std.specs.Prelude.{slice_index, slice_index_or, slice_set, slice_get, nat_eq}
+use Rattle.std.proofs.lemmas.List.{length-set, get_or-set_same, get_or-set_other, length-map}
+use Rattle.std.proofs.lemmas.Bool.{cases_lt}
+use Rattle.ls_events.specs.declared.action.Action.TheVariants as act
+use Rattle.ls_events.specs.declared.value.Value.{Value}
+use Rattle.ls_events.specs.declared.value.ValueType.{ValueType}
+use Rattle.ls_events.specs.declared.value.ValueType.TheVariants as types
+use Rattle.ls_checked.specs.CheckedTree.{File, Expression, Statement, Block, SetSlot, SetField, SetItem, Evaluate, If, While, Break, Continue, ReturnNothing, ReturnValue, Try, Statements, Then}
+use Rattle.ls_checked.specs.CheckedTree as checked
+use Rattle.ls_meaning.specs.declared.sort.Sort.{Sort}
+use Rattle.ls_meaning.specs.declared.sort.Sort.TheVariants.{NoValue, ValueOf}
+use Rattle.ls_meaning.specs.declared.completion.Completion.{Completion}
+use Rattle.ls_meaning.specs.declared.completion.Completion.TheVariants.{Normal, Broke, Continued, Returned, Threw}
+use Rattle.ls_meaning.specs.Values.{int_of, truth_of, reference_of, nothing}
+use Rattle.ls_meaning.specs.Course.{Answers, Evaluated, Asks, Results, Throws}
+use Rattle.ls_meaning.specs.Expressions.{Calls, evaluate}
+use Rattle.ls_meaning.specs.Statements.{Executed, AsksFor, Completes, on_value, then_do, finally_do, turn_back, after_body, one_turn, turns, execute, execute_all}
+use Rattle.ls_lowered.specs.Words as words
+use Rattle.ls_lowered.specs.Course as low
+use Rattle.ls_lowered.specs.Expressions.{find}
+use Rattle.ls_lowered.specs.Statements as does
+use Rattle.ls_lowered.specs.Methods.{told}
+use Rattle.ls_refs.specs.ValueWords.{value_word}
+use Rattle.ls_refs.specs.Sorts.{HasType, HasSort}
+use Rattle.ls_refs.specs.Typing.{IsTyped, IsTypedStatement, AreTypedStatements}
+use Rattle.ls_refs.specs.Temporaries.{temporaries, statement_temporaries, block_temporaries}
+use Rattle.ls_refs.specs.Lowered.{lowered, lowered_statement, lowered_block}
+use Rattle.ls_refs.specs.Laws.{answer_word, answer_words, in_words, Suited}
+use Rattle.ls_refs.proofs.Numbers.{int_back}
+use Rattle.ls_refs.proofs.Values.{reference_word, truth_word, int_word, int_fits}
+use Rattle.ls_refs.proofs.Sim.{suited_eq, ends, word_ends, Sim, sim_eq, Agrees, then_agrees, perform_agrees, null_agrees}
+use Rattle.ls_refs.proofs.Good.{Holds, holds_kept, get_within, CallsAgree}
+use Rattle.ls_refs.proofs.Exprs.{agrees}
+use Rattle.ls_refs.proofs.Shorter.{CallsWithin, evaluate_within, execute_within, turns_eq}
+
+abbrev pub Go : Type 0
+Go = Completion Value → List Value → Answers → Evaluated Value
+
+abbrev pub GoWord : Type 0
+GoWord = does.Completion → List ℕ → low.Answers → low.Told
+
+abbrev pub finish_by : Executed → Go → Evaluated Value
+finish_by (AsksFor a s) g = Asks a s
+finish_by (Completes c ls rest) g = g c ls rest
+
+-- the word that is returned, and the completion in words
+abbrev pub returned_word : Option Value → ℕ
+returned_word None = 0
+returned_word (Some v) = value_word v
+
+abbrev pub completion_word : Completion Value → does.Completion
+completion_word Normal = does.Normal
+completion_word (Broke n) = does.Broke n
+completion_word (Continued n) = does.Continued n
+completion_word (Returned v) = does.Returned (returned_word v)
+completion_word (Threw k) = does.Threw k
+
+-- an expression, and then a statement
+value_by : (x : Evaluated Value) (ls : List Value) (k : Value → Answers → Executed) (g : Go) → finish_by (on_value x ls k) g ≡ ends x (λ v r. finish_by (k v r) g) (λ n r. g (Threw n) ls r)
+value_by (Asks a s) ls k g = refl
+value_by (Results v r) ls k g = refl
+value_by (Throws n r) ls k g = refl
+
+word_by : (x : low.Course (low.Outcome ℕ)) (k : ℕ → List ℕ → low.Answers → low.Course does.Completion) (g : GoWord) → told (low.finish x (does.on_word k)) g ≡ word_ends x (λ w l r. told (k w l r) g) (λ n l r. g (does.Threw n) l r)
+word_by (low.Asks a) k g = refl
+word_by (low.Ends (low.Results w) l r) k g = refl
+word_by (low.Ends (low.Throws n) l r) k g = refl
+word_by low.Stuck k g = refl
+
+-- a statement, and then what its construct makes of it
+finish_told : (x : low.Course does.Completion) (f : does.Go) (g : GoWord) → told (low.finish x f) g ≡ told x (λ c l r. told (f c l r) g)
+finish_told (low.Asks a) f g = refl
+finish_told (low.Ends c l r) f g = refl
+finish_told low.Stuck f g = refl
+
+abbrev on_normal : (List Value → Answers → Executed) → Go → Go
+on_normal b g Normal ls r = finish_by (b ls r) g
+on_normal b g (Broke n) ls r = g (Broke n) ls r
+on_normal b g (Continued n) ls r = g (Continued n) ls r
+on_normal b g (Returned v) ls r = g (Returned v) ls r
+on_normal b g (Threw n) ls r = g (Threw n) ls r
+
+then_by : (x : Executed) (b : List Value → Answers → Executed) (g : Go) → finish_by (then_do x b) g ≡ finish_by x (on_normal b g)
+then_by (AsksFor a s) b g = refl
+then_by (Completes Normal ls r) b g = refl
+then_by (Completes (Broke n) ls r) b g = refl
+then_by (Completes (Continued n) ls r) b g = refl
+then_by (Completes (Returned n) ls r) b g = refl
+then_by (Completes (Threw n) ls r) b g = refl
+
+finally_by : (x : Executed) (b : List Value → Answers → Executed) (g : Go) → finish_by (finally_do x b) g ≡ finish_by x (λ c ls r. finish_by (then_do (b ls r) (λ ls r. Completes c ls r)) g)
+finally_by (AsksFor a s) b g = refl
+finally_by (Completes c ls r) b g = refl
+
+abbrev on_body : (List Value → Answers → Executed) → Go → Go
+on_body b g Normal ls r = finish_by (turn_back b ls r) g
+on_body b g (Broke zero) ls r = g Normal ls r
+on_body b g (Broke (suc n)) ls r = g (Broke n) ls r
+on_body b g (Continued zero) ls r = finish_by (turn_back b ls r) g
+on_body b g (Continued (suc n)) ls r = g (Continued n) ls r
+on_body b g (Returned v) ls r = g (Returned v) ls r
+on_body b g (Threw n) ls r = g (Threw n) ls r
+
+body_by : (x : Executed) (b : List Value → Answers → Executed) (g : Go) → finish_by (after_body x b) g ≡ finish_by x (on_body b g)
+body_by (AsksFor a s) b g = refl
+body_by (Completes Normal ls r) b g = refl
+body_by (Completes (Broke zero) ls r) b g = refl
+body_by (Completes (Broke (suc n)) ls r) b g = refl
+body_by (Completes (Continued zero) ls r) b g = refl
+body_by (Completes (Continued (suc n)) ls r) b g = refl
+body_by (Completes (Returned n) ls r) b g = refl
+body_by (Completes (Threw n) ls r) b g = refl
+
+-- a value that is returned has the type that the method answers
+abbrev pub ReturnedHas : (ℕ → ValueType → Type 0) → Option ValueType → Option Value → Type 0
+ReturnedHas P r None = Unit {0}
+ReturnedHas P r (Some v) = (t : ValueType) × (r ≡ Some t) × HasType P v t
+
+abbrev pub CompletionHas : (ℕ → ValueType → Type 0) → Option ValueType → Completion Value → Type 0
+CompletionHas P r (Returned v) = ReturnedHas P r v
+CompletionHas P r _ = Unit {0}
+
+pub record AgreesBy (P : ℕ → ValueType → Type 0) (slots : List ValueType) (r : Option ValueType) (room : ℕ) (x : Answers → Executed) (x' : low.Answers → low.Course does.Completion) : Type 0 where
+  pub sim : (g : Go) (g' : GoWord) →
+      ((c : Completion Value) (ls : List Value) (l : List ℕ) → CompletionHas P r c → Holds P slots ls l → length l ≡ room → Sim P (g c ls) (g' (completion_word c) l)) →
+      Sim P (λ q. finish_by (x q) g) (λ q. told (x' q) g')
+
+module _ (P : ℕ → ValueType → Type 0) (slots : List ValueType) (r : Option ValueType) (room : ℕ) where
+  -- what follows goes on alike, from any locals that agree
+  abbrev Follows : (List Value → Answers → Executed) → (List ℕ → low.Answers → low.Course does.Completion) → Type 0
+  Follows b b' = (ls : List Value) (l : List ℕ) → Holds P slots ls l → length l ≡ room → AgreesBy P slots r room (λ q. b ls q) (λ q. b' l q)
+
+  abbrev Rest : Go → GoWord → Type 0
+  Rest g g' = (c : Completion Value) (ls : List Value) (l : List ℕ) → CompletionHas P r c → Holds P slots ls l → length l ≡ room → Sim P (g c ls) (g' (completion_word c) l)
+
+  ends_agrees : (c : Completion Value) (ls : List Value) (l : List ℕ) → CompletionHas P r c → Holds P slots ls l → length l ≡ room → AgreesBy P slots r room (λ q. Completes c ls q) (λ q. low.Ends (completion_word c) l q)
+  ends_agrees c ls l hc h e = record { sim = λ g g' kg. kg c ls l hc h e }
+
+  value_agrees : (base : ℕ) (old : List ℕ) (s : Sort) (ls : List Value) (x : Answers → Evaluated Value) (x' : low.Answers → low.Course (low.Outcome ℕ)) (k : Value → Answers → Executed) (k' : ℕ → List ℕ → low.Answers → low.Course does.Completion) → length slots ≤ base → length old ≡ room → Holds P slots ls old →
+      Agrees P (HasSort P s) value_word base old x x' → ((v : Value) (l : List ℕ) → HasSort P s v → Holds P slots ls l → length l ≡ room → AgreesBy P slots r room (λ q. k v q) (λ q. k' (value_word v) l q)) →
+      AgreesBy P slots r room (λ q. on_value (x q) ls k) (λ q. low.finish (x' q) (does.on_word k'))
+  value_agrees base old s ls x x' k k' le e h a f = record {
+    sim = λ g g' kg. sim_eq P _ _ _ _ (λ q. value_by (x q) ls k g) (λ q. word_by (x' q) k' g')
+        (a.sim (λ v q. finish_by (k v q) g) (λ n q. g (Threw n) ls q) (λ w l q. told (k' w l q) g') (λ n l q. g' (does.Threw n) l q)
+        (λ v l hv kp. (f v l hv (holds_kept P slots ls base old l le kp h) (kp.long ∙ e)).sim g g' kg)
+        (λ n l kp. kg (Threw n) ls l tt (holds_kept P slots ls base old l le kp h) (kp.long ∙ e)));
+  }
+
+  both_agree : (x : Answers → Executed) (x' : low.Answers → low.Course does.Completion) (b : List Value → Answers → Executed) (b' : List ℕ → low.Answers → low.Course does.Completion) → AgreesBy P slots r room x x' → Follows b b' →
+      AgreesBy P slots r room (λ q. then_do (x q) b) (λ q. low.finish (x' q) (does.on_normal b'))
+  both_agree x x' b b' a f = record {
+    sim = λ g g' kg. sim_eq P _ _ _ _ (λ q. then_by (x q) b g) (λ q. finish_told (x' q) (does.on_normal b') g') (a.sim (on_normal b g) (λ c l r. told (does.on_normal b' c l r) g') (goes g g' kg));
+  }
+    where
+      goes : (g : Go) (g' : GoWord) → Rest g g' → Rest (on_normal b g) (λ c l r. told (does.on_normal b' c l r) g')
+      goes g g' kg Normal ls l hc h e = (f ls l h e).sim g g' kg
+      goes g g' kg (Broke n) ls l hc h e = kg (Broke n) ls l hc h e
+      goes g g' kg (Continued n) ls l hc h e = kg (Continued n) ls l hc h e
+      goes g g' kg (Returned n) ls l hc h e = kg (Returned n) ls l hc h e
+      goes g g' kg (Threw n) ls l hc h e = kg (Threw n) ls l hc h e
+
+  finally_agree : (x : Answers → Executed) (x' : low.Answers → low.Course does.Completion) (b : List Value → Answers → Executed) (b' : List ℕ → low.Answers → low.Course does.Completion) → AgreesBy P slots r room x x' → Follows b b' →
+      AgreesBy P slots r room (λ q. finally_do (x q) b) (λ q. low.finish (x' q) (does.on_any b'))
+  finally_agree x x' b b' a f = record {
+    sim = λ g g' kg. sim_eq P _ _ _ _ (λ q. finally_by (x q) b g) (λ q. finish_told (x' q) (does.on_any b') g')
+        (a.sim (λ c ls r. finish_by (then_do (b ls r) (λ ls r. Completes c ls r)) g) (λ c l r. told (does.on_any b' c l r) g')
+        (λ c ls l hc h e. (both_agree (λ q. b ls q) (λ q. b' l q) (λ ls r. Completes c ls r) (λ l r. low.Ends (completion_word c) l r) (f ls l h e) (λ ls l h e. ends_agrees c ls l hc h e)).sim g g' kg));
+  }
+
+  back_agree : (b : List Value → Answers → Executed) (b' : List ℕ → low.Answers → low.Course does.Completion) (ls : List Value) (l : List ℕ) → Holds P slots ls l → length l ≡ room → Follows b b' → AgreesBy P slots r room (λ q. turn_back b ls q) (λ q. does.turn_back b' l q)
+  back_agree b b' ls l h e f = record { sim = λ g g' kg. record { is = goes g g' kg } }
+    where
+      goes : (g : Go) (g' : GoWord) → Rest g g' → (qs : Answers) → Suited P (λ q. finish_by (turn_back b ls q) g) qs → told (does.turn_back b' l (answer_words qs)) g' ≡ in_words (finish_by (turn_back b ls qs) g)
+      goes g g' kg [] u = refl
+      goes g g' kg (x ∷ rest) u = ((f ls l h e).sim g g' kg).is rest u.1
+
+  body_agree : (x : Answers → Executed) (x' : low.Answers → low.Course does.Completion) (b : List Value → Answers → Executed) (b' : List ℕ → low.Answers → low.Course does.Completion) → AgreesBy P slots r room x x' → Follows b b' →
+      AgreesBy P slots r room (λ q. after_body (x q) b) (λ q. low.finish (x' q) (does.on_body b'))
+  body_agree x x' b b' a f = record {
+    sim = λ g g' kg. sim_eq P _ _ _ _ (λ q. body_by (x q) b g) (λ q. finish_told (x' q) (does.on_body b') g') (a.sim (on_body b g) (λ c l r. told (does.on_body b' c l r) g') (goes g g' kg));
+  }
+    where
+      goes : (g : Go) (g' : GoWord) → Rest g g' → Rest (on_body b g) (λ c l r. told (does.on_body b' c l r) g')
+      goes g g' kg Normal ls l hc h e = (back_agree b b' ls l h e f).sim g g' kg
+      goes g g' kg (Broke zero) ls l hc h e = kg Normal ls l tt h e
+      goes g g' kg (Broke (suc n)) ls l hc h e = kg (Broke n) ls l tt h e
+      goes g g' kg (Continued zero) ls l hc h e = (back_agree b b' ls l h e f).sim g g' kg
+      goes g g' kg (Continued (suc n)) ls l hc h e = kg (Continued n) ls l tt h e
+      goes g g' kg (Returned n) ls l hc h e = kg (Returned n) ls l hc h e
+      goes g g' kg (Threw n) ls l hc h e = kg (Threw n) ls l hc h e
+
+  choose_agree : (v : Value) (x y : Answers → Executed) (x' y' : low.Answers → low.Course does.Completion) → HasType P v types.Boolean → AgreesBy P slots r room x x' → AgreesBy P slots r room y y' →
+      AgreesBy P slots r room (λ q. cond (truth_of v) (x q) (y q)) (λ q. cond (nat_eq (value_word v) 0) (y' q) (x' q))
+  choose_agree v x y x' y' hv a b = subst (λ w. AgreesBy P slots r room (λ q. cond (truth_of v) (x q) (y q)) (λ q. cond (nat_eq w 0) (y' q) (x' q))) (sym (truth_word P v hv)) (by_case (truth_of v))
+    where
+      by_case : (t : Bool) → AgreesBy P slots r room (λ q. cond t (x q) (y q)) (λ q. cond (nat_eq (words.bool_word t) 0) (y' q) (x' q))
+      by_case true = a
+      by_case false = b
+
+  module _ (base : ℕ) (le : length slots ≤ base) (c : List Value → Answers → Evaluated Value) (b : List Value → Answers → Executed) (c' : List ℕ → low.Answers → low.Course (low.Outcome ℕ)) (b' : List ℕ → low.Answers → low.Course does.Completion)
+      (tested : (ls : List Value) (l : List ℕ) → Holds P slots ls l → length l ≡ room → Agrees P (HasSort P (ValueOf types.Boolean)) value_word base l (λ q. c ls q) (λ q. c' l q)) (done : Follows b b') where
+    turn_agrees : (f : List Value → Answers → Executed) (f' : List ℕ → low.Answers → low.Course does.Completion) → Follows f f' → Follows (one_turn c b f) (does.one_turn c' b' f')
+    turn_agrees f f' k ls l h e = value_agrees base l (ValueOf types.Boolean) ls _ _ _ _ le e h (tested ls l h e) (λ v l2 hv h2 e2.
+        choose_agree v (λ q. after_body (b ls q) f) (λ q. Completes Normal ls q) (λ q. low.finish (b' l2 q) (does.on_body f')) (λ q. low.Ends does.Normal l2 q) hv (body_agree _ _ f f' (done ls l2 h2 e2) k) (ends_agrees Normal ls l2 tt h2 e2))
+
+    turns_agree : (n : ℕ) → Follows (turns n c b) (does.turns n c' b')
+    turns_agree zero ls l h e = turn_agrees (λ ls rest. AsksFor act.Turn NoValue) (λ l rest. low.Asks act.Turn) (λ ls l h e. record { sim = λ g g' kg. record { is = λ qs s. refl } }) ls l h e
+    turns_agree (suc n) ls l h e = turn_agrees (turns n c b) (does.turns n c' b') (turns_agree n) ls l h e
+
+at_or : (Q : ℕ → Type 0) (i j : ℕ) → Q i → (i ≢ j → Q j) → Q j
+at_or Q i j a b = ⊎_elim (λ l. b (λ e. omega arith)) (λ l. ⊎_elim (λ k. b (λ e. omega arith)) (λ k. let e : i ≡ j = omega arith in subst Q e a) (cases_lt i j)) (cases_lt j i)
+
+abbrev or_int : Option ValueType → ValueType
+or_int None = types.Int
+or_int (Some t) = t
+
+-- a local is set
+holds_set : (P : ℕ → ValueType → Type 0) (slots : List ValueType) (ls : List Value) (l : List ℕ) (i : ℕ) (t : ValueType) (v : Value) → slice_get slots i ≡ Some t → HasType P v t → length slots ≤ length l → Holds P slots ls l → Holds P slots (slice_set ls i v) (slice_set l i (value_word v))
+holds_set P slots ls l i t v e hv le h =
+    let within = get_within slots i t e in
+    let here : i < length ls = omega (arith, within, h.long) in
+    record {
+      long = length-set ls i v ∙ h.long;
+      typed = λ j s2 e2. at_or (λ k. (s3 : ValueType) → slice_get slots k ≡ Some s3 → HasType P (slice_index_or (slice_set ls i v) k nothing) s3) i j
+          (λ s3 e3. subst (λ z. HasType P z s3) (sym (get_or-set_same ls i v nothing here)) (subst (λ z. HasType P v z) (ap or_int (sym e ∙ e3)) hv))
+          (λ ne s3 e3. subst (λ z. HasType P z s3) (sym (get_or-set_other ls i j v nothing (λ z. ne (sym z)))) (h.typed j s3 e3)) s2 e2;
+      worded = λ j small. at_or (λ k. slice_index (slice_set l i (value_word v)) k ≡ value_word (slice_index_or (slice_set ls i v) k nothing)) i j
+          (get_or-set_same l i (value_word v) 0 (omega arith) ∙ ap value_word (sym (get_or-set_same ls i v nothing here)))
+          (λ ne. get_or-set_other l i j (value_word v) 0 (λ z. ne (sym z)) ∙ h.worded j small ∙ ap value_word (sym (get_or-set_other ls i j v nothing (λ z. ne (sym z)))));
+    }
+
+module _ (P : ℕ → ValueType → Type 0) (null : (n : ℕ) (t : ValueType) → n ≡ 0 → P n t) (small : (n : ℕ) (t : ValueType) → P n t → n < 2 ^ 32) (file : File) (calls : Calls) (calls' : low.Calls) (called : CallsAgree P file calls calls') (within : CallsWithin calls) (slots : List ValueType) (r : Option ValueType) (room : ℕ) where
+  -- an expression of a statement
+  part : (e : Expression) (s : Sort) (base : ℕ) (ls : List Value) (l : List ℕ) → IsTyped file slots s e → Holds P slots ls l → length slots ≤ base → base + temporaries e ≤ length l → Agrees P (HasSort P s) value_word base l (λ q. evaluate file.classes calls e ls q) (λ q. find calls' (lowered file.classes base e) l q)
+  part e s base ls l t h le big = (agrees P null small file calls calls' called slots e s t).good base ls l h le big
+
+  mutual
+    pub agrees_by : (s : Statement) (base : ℕ) (ls : List Value) (l : List ℕ) → IsTypedStatement file slots r s → Holds P slots ls l → length l ≡ room → length slots ≤ base → base + statement_temporaries s ≤ room →
+        AgreesBy P slots r room (λ q. execute file.classes calls s ls q) (λ q. does.execute calls' (lowered_statement file.classes base s) l q)
+    agrees_by (Block ss) base ls l t h e le big = all_agree_by ss base ls l t h e le big
+    agrees_by (SetSlot i x) base ls l t h e le big = value_agrees P slots r room base l (ValueOf t.0) ls _ _ _ _ le e h (part x (ValueOf t.0) base ls l t.2 h le (omega arith)) (λ v l2 hv h2 e2.
+        ends_agrees P slots r room Normal _ _ tt (holds_set P slots ls l2 i t.0 v t.1 hv (omega arith) h2) (length-set l2 i (value_word v) ∙ e2))
+    agrees_by (SetField x f y) base ls l t h e le big = value_agrees P slots r room base l NoValue ls _ _ _ _ le e h
+        (let b = base + temporaries x in
+        then_agrees P _ _ _ _ base base b l _ _ _ _ (omega arith) (omega arith) (part x (ValueOf (types.Class t.0)) base ls l t.3 h le (omega arith)) (λ o l2 ho k.
+        then_agrees P _ _ _ _ b b b l2 _ _ _ _ (omega arith) (omega arith) (part y (ValueOf t.1) b ls l2 t.4 (holds_kept P slots ls base l l2 le k h) (omega arith) (omega (arith, k.long))) (λ v l3 hv k2.
+        null_agrees P _ _ b l3 _ _ _ _ (reference_word P o (types.Class t.0) tt ho) (perform_agrees P b l3 (act.WriteField (reference_of o) f v) (act.WriteField (value_word o) f (value_word v)) (ap (λ n. act.WriteField n f (value_word v)) (reference_word P o (types.Class t.0) tt ho))))))
+        (λ v l2 hv h2 e2. ends_agrees P slots r room Normal ls l2 tt h2 e2)
+    agrees_by (SetItem x i y) base ls l t h e le big = value_agrees P slots r room base l NoValue ls _ _ _ _ le e h
+        (let b = base + temporaries x in let c = base + temporaries x + temporaries i in
+        then_agrees P _ _ _ _ base base b l _ _ _ _ (omega arith) (omega arith) (part x (ValueOf types.BooleanArray) base ls l t.0 h le (omega arith)) (λ o l2 ho k.
+        then_agrees P _ _ _ _ b b c l2 _ _ _ _ (omega arith) (omega arith) (part i (ValueOf types.Int) b ls l2 t.1 (holds_kept P slots ls base l l2 le k h) (omega arith) (omega (arith, k.long))) (λ n l3 hn k2.
+        then_agrees P _ _ _ _ c c c l3 _ _ _ _ (omega arith) (omega arith) (part y (ValueOf types.Boolean) c ls l3 t.2 (holds_kept P slots ls b l2 l3 (omega arith) k2 (holds_kept P slots ls base l l2 le k h)) (omega arith) (omega (arith, k.long, k2.long))) (λ v l4 hv k3.
+        null_agrees P _ _ c l4 _ _ _ _ (reference_word P o types.BooleanArray tt ho) (perform_agrees P c l4 (act.WriteItem (reference_of o) (int_of n) v) (act.WriteItem (value_word o) (words.int_of (value_word n)) (value_word v))
+        (ap (λ z. act.WriteItem z (words.int_of (value_word n)) (value_word v)) (reference_word P o types.BooleanArray tt ho) ∙ ap (λ z. act.WriteItem (reference_of o) z (value_word v)) (ap words.int_of (int_word P n hn) ∙ int_back (int_of n) (int_fits P n hn))))))))
+        (λ v l2 hv h2 e2. ends_agrees P slots r room Normal ls l2 tt h2 e2)
+    agrees_by (Evaluate x) base ls l t h e le big = value_agrees P slots r room base l t.0 ls _ _ _ _ le e h (part x t.0 base ls l t.1 h le (omega arith)) (λ v l2 hv h2 e2. ends_agrees P slots r room Normal ls l2 tt h2 e2)
+    agrees_by (If x a b) base ls l t h e le big = value_agrees P slots r room base l (ValueOf types.Boolean) ls _ _ _ _ le e h (part x (ValueOf types.Boolean) base ls l t.0 h le (omega arith)) (λ v l2 hv h2 e2.
+        choose_agree P slots r room v _ _ _ _ hv (agrees_by a (base + temporaries x) ls l2 t.1 h2 e2 (omega arith) (omega arith)) (agrees_by b (base + temporaries x + statement_temporaries a) ls l2 t.2 h2 e2 (omega arith) (omega arith)))
+    agrees_by (While x s) base ls l t h e le big = record {
+      sim = λ g g' kg.
+          let c = evaluate file.classes calls x in
+          let b = execute file.classes calls s in
+          let c' = find calls' (lowered file.classes base x) in
+          let b' = does.execute calls' (lowered_statement file.classes (base + temporaries x) s) in
+          let all = λ (n : ℕ). (turns_agree P slots r room base le c b c' b'
+          (λ ls2 l2 h2 e2. part x (ValueOf types.Boolean) base ls2 l2 t.0 h2 le (omega arith))
+          (λ ls2 l2 h2 e2. agrees_by s (base + temporaries x) ls2 l2 t.1 h2 e2 (omega arith) (omega arith))
+          n ls l h e).sim g g' kg in
+          let enough = λ (qs : Answers) (u : Suited P (λ q. finish_by (turns (length q) c b ls q) g) qs).
+          suited_eq P (λ q. finish_by (turns (length q) c b ls q) g) (λ q. finish_by (turns (length qs) c b ls q) g) qs
+          (λ q less. ap (λ z. finish_by z g) (turns_eq c b (λ n. evaluate_within calls within n file.classes x) (execute_within file.classes calls within s) (length q) (length qs) ls q (omega arith) less)) u in
+          record {
+            is = λ qs u. ap (λ n. told (does.turns n c' b' l (answer_words qs)) g') (length-map qs answer_word) ∙ (all (length qs)).is qs (enough qs u);
+          };
+    }
+    agrees_by (Break n) base ls l t h e le big = ends_agrees P slots r room (Broke n) ls l tt h e
+    agrees_by (Continue n) base ls l t h e le big = ends_agrees P slots r room (Continued n) ls l tt h e
+    agrees_by ReturnNothing base ls l t h e le big = ends_agrees P slots r room (Returned None) ls l tt h e
+    agrees_by (ReturnValue x) base ls l t h e le big = value_agrees P slots r room base l (ValueOf t.0) ls _ _ _ _ le e h (part x (ValueOf t.0) base ls l t.2 h le (omega arith)) (λ v l2 hv h2 e2. ends_agrees P slots r room (Returned (Some v)) ls l2 (t.0, t.1, hv) h2 e2)
+    agrees_by (Try a b) base ls l t h e le big = finally_agree P slots r room _ _ _ _ (agrees_by a base ls l t.0 h e le (omega arith)) (λ ls2 l2 h2 e2. agrees_by b (base + statement_temporaries a) ls2 l2 t.1 h2 e2 (omega arith) (omega arith))
+
+    pub all_agree_by : (ss : Statements) (base : ℕ) (ls : List Value) (l : List ℕ) → AreTypedStatements file slots r ss → Holds P slots ls l → length l ≡ room → length slots ≤ base → base + block_temporaries ss ≤ room →
+        AgreesBy P slots r room (λ q. execute_all file.classes calls ss ls q) (λ q. does.execute_all calls' (lowered_block file.classes base ss) l q)
+    all_agree_by checked.Done base ls l t h e le big = ends_agrees P slots r room Normal ls l tt h e
+    all_agree_by (Then s ss) base ls l t h e le big = both_agree P slots r room _ _ _ _ (agrees_by s base ls l t.0 h e le (omega arith)) (λ ls2 l2 h2 e2. all_agree_by ss (base + statement_temporaries s) ls2 l2 t.1 h2 e2 (omega arith) (omega arith))

@@ -1,0 +1,8 @@
+use Rattle.std.proofs.Common.{◌≤◌, take}
+use Rattle.std.specs.Prelude.{All}
+use Rattle.ls_checked.specs.Plain.{plain_method as checked_method}
+use Rattle.ls_refs.specs.Temporaries.{locals_of}
+use Rattle.ls_refs.proofs.lower.all_fit.Given as goal
+
+abbrev pub invariant-loop-method : goal.invariant-loop-method
+invariant-loop-method l = All (λ m. locals_of (checked_method m) ≤ 128) (take l.method-index l.methods)

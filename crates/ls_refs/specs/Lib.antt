@@ -1,0 +1,7 @@
+pub mod ValueWords
+pub mod Temporaries
+pub mod Lowered
+pub mod Refused
+pub mod Sorts
+pub mod Typing
+pub mod Laws

@@ -1,0 +1,133 @@
+-- The lowered tree of a checked tree. Temporaries are numbered in text order, from the first local that is free.
+use Rattle.std.specs.Prelude.{ℕ, ◌+◌, ◌-◌, List, length, map}
+use Rattle.ls_checked.specs.declared.tree.Operator.{Operator}
+use Rattle.ls_checked.specs.declared.tree.Operator.TheVariants as written
+use Rattle.ls_checked.specs.declared.tree.Called.{Called}
+use Rattle.ls_checked.specs.declared.tree.Called.TheVariants.{Method as OfMethod, LockIt, UnlockIt, TryIt, AskIt, GetReference, IsMarked, GetBoth, SetBoth, CompareAndSet, Attempt}
+use Rattle.ls_checked.specs.CheckedTree as checked
+use Rattle.ls_lowered.specs.declared.tree.UnaryOperator.TheVariants as unary
+use Rattle.ls_lowered.specs.declared.tree.BinaryOperator.{BinaryOperator}
+use Rattle.ls_lowered.specs.declared.tree.BinaryOperator.TheVariants as binary
+use Rattle.ls_lowered.specs.declared.tree.LockOperation.TheVariants as lock
+use Rattle.ls_lowered.specs.LoweredTree.{Expression, Word, Local, Unary, Binary, And, Or, Hold, Keep, After, Field, Item, SetFirst, ReadPair, SetPair, SwapPair, AttemptMark, OnLock, Call, MakeObject, MakeLock, MakeMarkable, MakeArray, Expressions, End, More, Statement, Block, SetLocal, SetField, SetItem, Evaluate, If, While, Break, Continue, Return, Try, Statements, Done, Then, Method, File}
+use Rattle.ls_meaning.specs.Expressions.{constructor_of}
+use Rattle.ls_refs.specs.ValueWords.{value_word}
+use Rattle.ls_refs.specs.Temporaries.{own_temporaries, temporaries, statement_temporaries}
+
+abbrev pub lowered_operator : Operator → BinaryOperator
+lowered_operator written.Add = binary.Add
+lowered_operator written.Subtract = binary.Subtract
+lowered_operator written.Multiply = binary.Multiply
+lowered_operator written.Divide = binary.Divide
+lowered_operator written.Remainder = binary.Remainder
+lowered_operator written.Less = binary.Less
+lowered_operator written.LessEqual = binary.LessEqual
+lowered_operator written.Greater = binary.Greater
+lowered_operator written.GreaterEqual = binary.GreaterEqual
+lowered_operator written.Equal = binary.Equal
+lowered_operator written.NotEqual = binary.NotEqual
+
+-- the first argument, and those after it; a checked call has as many as what it calls
+abbrev pub first_of : Expressions → Expression
+first_of End = Word 0
+first_of (More e es) = e
+
+abbrev pub rest_of : Expressions → Expressions
+rest_of End = End
+rest_of (More e es) = es
+
+abbrev pub second_of : Expressions → Expression
+second_of es = first_of (rest_of es)
+
+-- a reference and a mark
+abbrev pub pack : Expression → Expression → Expression
+pack r m = Binary binary.Pack r m
+
+-- the arguments go into temporaries from `free` on in their order, while the target's word is held
+abbrev pub compare_and_set : ℕ → Expression → Expressions → Expression
+compare_and_set free target es =
+    SwapPair
+    (Hold (Hold (Hold (Hold target
+    free (first_of es))
+    (free + 1) (second_of es))
+    (free + 2) (second_of (rest_of es)))
+    (free + 3) (second_of (rest_of (rest_of es))))
+    (pack (Local free) (Local (free + 2)))
+    (pack (Local (free + 1)) (Local (free + 3)))
+
+-- the array goes into one temporary, the pair that is read into another; then the mark is written
+abbrev pub get_both : ℕ → Expression → Expression → Expression
+get_both free target array =
+    Keep (free + 1) (ReadPair (Hold target free array))
+    (After (SetFirst (Local free) (Unary unary.MarkOf (Local (free + 1))))
+    (Unary unary.ReferenceOf (Local (free + 1))))
+
+-- a call, whose target and arguments are lowered
+abbrev pub lowered_call : ℕ → Called → Expression → Expressions → Expression
+lowered_call free (OfMethod m) o es = Call m o es
+lowered_call free LockIt o es = OnLock lock.Lock o
+lowered_call free UnlockIt o es = OnLock lock.Unlock o
+lowered_call free TryIt o es = OnLock lock.TryLock o
+lowered_call free AskIt o es = OnLock lock.IsHeld o
+lowered_call free (GetReference class) o es = Unary unary.ReferenceOf (ReadPair o)
+lowered_call free (IsMarked class) o es = Unary unary.MarkOf (ReadPair o)
+lowered_call free (GetBoth class) o es = get_both free o (first_of es)
+lowered_call free SetBoth o es = SetPair o (pack (first_of es) (second_of es))
+lowered_call free CompareAndSet o es = compare_and_set free o es
+lowered_call free Attempt o es = AttemptMark o (first_of es) (second_of es)
+
+abbrev mutual
+  pub lowered : List checked.Class → ℕ → checked.Expression → Expression
+  lowered classes free (checked.Literal v) = Word (value_word v)
+  lowered classes free (checked.Slot n) = Local n
+  lowered classes free (checked.Field e class field) = Field (lowered classes free e) field
+  lowered classes free (checked.Item a i) = Item (lowered classes free a) (lowered classes (free + temporaries a) i)
+  lowered classes free (checked.Negate e) = Unary unary.Negate (lowered classes free e)
+  lowered classes free (checked.Not e) = Unary unary.Not (lowered classes free e)
+  lowered classes free (checked.Binary op a b) = Binary (lowered_operator op) (lowered classes free a) (lowered classes (free + temporaries a) b)
+  lowered classes free (checked.And a b) = And (lowered classes free a) (lowered classes (free + temporaries a) b)
+  lowered classes free (checked.Or a b) = Or (lowered classes free a) (lowered classes (free + temporaries a) b)
+  lowered classes free (checked.Call e called es) =
+      lowered_call free called (lowered classes (free + own_temporaries called) e) (all_lowered classes (free + own_temporaries called + temporaries e) es)
+  lowered classes free (checked.MakeObject class es) = MakeObject class (constructor_of classes class) (all_lowered classes free es)
+  lowered classes free checked.MakeLock = MakeLock
+  lowered classes free (checked.MakeMarkable class es) =
+      MakeMarkable (pack (first_of (all_lowered classes free es)) (second_of (all_lowered classes free es)))
+  lowered classes free (checked.MakeArray e) = MakeArray (lowered classes free e)
+
+  pub all_lowered : List checked.Class → ℕ → checked.Expressions → Expressions
+  all_lowered classes free checked.End = End
+  all_lowered classes free (checked.More e es) = More (lowered classes free e) (all_lowered classes (free + temporaries e) es)
+
+abbrev mutual
+  pub lowered_statement : List checked.Class → ℕ → checked.Statement → Statement
+  lowered_statement classes free (checked.Block ss) = Block (lowered_block classes free ss)
+  lowered_statement classes free (checked.SetSlot n e) = SetLocal n (lowered classes free e)
+  lowered_statement classes free (checked.SetField e field v) = SetField (lowered classes free e) field (lowered classes (free + temporaries e) v)
+  lowered_statement classes free (checked.SetItem a i v) =
+      SetItem (lowered classes free a) (lowered classes (free + temporaries a) i) (lowered classes (free + temporaries a + temporaries i) v)
+  lowered_statement classes free (checked.Evaluate e) = Evaluate (lowered classes free e)
+  lowered_statement classes free (checked.If e a b) =
+      If (lowered classes free e) (lowered_statement classes (free + temporaries e) a) (lowered_statement classes (free + temporaries e + statement_temporaries a) b)
+  lowered_statement classes free (checked.While e s) = While (lowered classes free e) (lowered_statement classes (free + temporaries e) s)
+  lowered_statement classes free (checked.Break n) = Break n
+  lowered_statement classes free (checked.Continue n) = Continue n
+  lowered_statement classes free checked.ReturnNothing = Return (Word 0)
+  lowered_statement classes free (checked.ReturnValue e) = Return (lowered classes free e)
+  lowered_statement classes free (checked.Try b f) =
+      Try (lowered_statement classes free b) (lowered_statement classes (free + statement_temporaries b) f)
+
+  pub lowered_block : List checked.Class → ℕ → checked.Statements → Statements
+  lowered_block classes free checked.Done = Done
+  lowered_block classes free (checked.Then s ss) = Then (lowered_statement classes free s) (lowered_block classes (free + statement_temporaries s) ss)
+
+-- the temporaries follow the method's slots
+abbrev pub lowered_method : List checked.Class → checked.Method → Method
+lowered_method classes m = record {
+  arguments = m.parameters + 1;
+  locals = length m.slots + statement_temporaries m.body - (m.parameters + 1);
+  body = lowered_statement classes (length m.slots) m.body;
+}
+
+abbrev pub lowered_file : checked.File → File
+lowered_file f = map (lowered_method f.classes) f.methods

@@ -1,0 +1,124 @@
+// How many locals a method takes.
+
+ghost use Rattle.std.specs.Prelude.{◌≡◌, ℕ, ◌+◌, ◌*◌, ◌≤◌, length};
+ghost use Rattle.std.specs.Option.{SomeIff};
+ghost use Rattle.ls_checked.specs.Plain.{plain as checked, all_plain as all_checked, plain_statement, plain_method, statements_of};
+ghost use Rattle.ls_refs.specs.Temporaries.{own_temporaries as those_of, temporaries, all_temporaries, taken, block_taken, locals_of};
+
+use crate::calls::own_temporaries;
+use ls_checked::tree::{Expression, Expressions, Method, Statement};
+
+/// The most locals of a method.
+pub const MOST_LOCALS: usize = 128;
+
+// More locals, where they aren't too many.
+fn more(so_far: usize, count: usize) -> Option<usize>
+    requires { so_far ≤ 128 }
+    ensures { SomeIff result (so_far + count ≤ 128) (so_far + count) }
+{
+    if count <= MOST_LOCALS - so_far {
+        Some(so_far + count)
+    } else {
+        None
+    }
+}
+
+/// So many locals, and the temporaries of an expression; none where they are over 128.
+#[cycle(expressions)]
+pub fn count_expression(so_far: usize, e: &Expression) -> Option<usize>
+    requires { so_far ≤ 128 }
+    ensures { SomeIff result (so_far + temporaries (checked e.now) ≤ 128) (so_far + temporaries (checked e.now)) }
+{
+    match e {
+        Expression::Literal(_) | Expression::Slot(_) | Expression::MakeLock => Some(so_far),
+        Expression::Field {
+            target,
+            class: _,
+            field: _,
+        } => count_expression(so_far, target),
+        Expression::Negate(e) | Expression::Not(e) | Expression::MakeArray(e) => count_expression(
+            so_far, e,
+        ),
+        Expression::Item(a, b)
+        | Expression::Binary(_, a, b)
+        | Expression::And(a, b)
+        | Expression::Or(a, b) => count_expression(count_expression(so_far, a)?, b),
+        Expression::Call(target, called, arguments) => {
+            let so_far = more(so_far, own_temporaries(*called))?;
+            count_expressions(count_expression(so_far, target)?, arguments)
+        }
+        Expression::MakeObject(_, arguments) | Expression::MakeMarkable(_, arguments) => {
+            count_expressions(so_far, arguments)
+        }
+    }
+}
+
+#[cycle(expressions)]
+fn count_expressions(so_far: usize, es: &Expressions) -> Option<usize>
+    requires { so_far ≤ 128 }
+    ensures { SomeIff result (so_far + all_temporaries (all_checked es.now) ≤ 128) (so_far + all_temporaries (all_checked es.now)) }
+{
+    match es {
+        Expressions::End => Some(so_far),
+        Expressions::More(first, rest) => count_expressions(count_expression(so_far, first)?, rest),
+    }
+}
+
+/// So many locals, and those that a statement takes; none where they are over 128.
+#[cycle(statements)]
+#[tactic(auto, using(crate::proofs::Rows::block_read))]
+pub fn count_statement(so_far: usize, s: &Statement) -> Option<usize>
+    requires { so_far ≤ 128 }
+    ensures { SomeIff result (so_far + taken (plain_statement s.now) ≤ 128) (so_far + taken (plain_statement s.now)) }
+{
+    match s {
+        Statement::Block(statements) => count_statements(so_far, statements),
+        Statement::SetField {
+            target,
+            field: _,
+            value,
+        } => { count_expression(count_expression(so_far, target)?, value) }
+        Statement::SetItem {
+            array,
+            index,
+            value,
+        } => {
+            let so_far = count_expression(so_far, array)?;
+            count_expression(count_expression(so_far, index)?, value)
+        }
+        Statement::SetSlot(_, e) | Statement::Evaluate(e) | Statement::ReturnValue(e) =>
+            count_expression(so_far, e),
+        Statement::If(condition, first, second) => {
+            let so_far = count_expression(so_far, condition)?;
+            count_statement(count_statement(so_far, first)?, second)
+        }
+        Statement::While(condition, body) => count_statement(
+            count_expression(so_far, condition)?,
+            body,
+        ),
+        Statement::Break(_) | Statement::Continue(_) | Statement::ReturnNothing => Some(so_far),
+        Statement::Try(body, finally) => {
+            let so_far = more(so_far, 2)?;
+            count_statement(count_statement(so_far, body)?, finally)
+        }
+    }
+}
+
+#[cycle(statements)]
+fn count_statements(so_far: usize, statements: &[Statement]) -> Option<usize>
+    requires { so_far ≤ 128 }
+    ensures { SomeIff result (so_far + block_taken (statements_of statements.now) ≤ 128) (so_far + block_taken (statements_of statements.now)) }
+{
+    let mut count = so_far;
+    for s in statements {
+        count = count_statement(count, s)?;
+    }
+    Some(count)
+}
+
+/// All locals of a method; none where they are over 128.
+pub fn count_locals(method: &Method) -> Option<usize>
+    ensures { SomeIff result (locals_of (plain_method method.now) ≤ 128) (locals_of (plain_method method.now)) }
+{
+    count_statement(more(0, method.slots.len())?, &method.body)
+}

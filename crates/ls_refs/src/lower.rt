@@ -1,0 +1,125 @@
+// Methods and files.
+
+ghost use Rattle.std.specs.Prelude.{◌≡◌, ℕ, ◌<◌, ◌≤◌, ◌↔◌, length, map, All, IfOk, IfErr, OnOk, IsTrue};
+ghost use Rattle.ls_checked.specs.Plain.{plain_method as checked_method, plain_class, plain_file as checked_file};
+ghost use Rattle.ls_lowered.specs.Plain.{plain_method, plain_file};
+ghost use Rattle.ls_refs.specs.Temporaries.{locals_of};
+ghost use Rattle.ls_refs.specs.Lowered.{lowered_method, lowered_file};
+ghost use Rattle.ls_refs.specs.Refused.{AllFit, AllSlotted, Refused};
+
+use crate::counts::count_locals;
+use crate::statements::lower_statement;
+use ls_checked::tree::{Class, File, Method};
+use ls_lowered::fault::LowerFault;
+use ls_lowered::tree::{File as LoweredFile, Method as Lowered};
+use std::alloc::{AllocError, Global};
+
+/// A tree over words, in which markable operations are operations on packed words. Locks are still objects, and `try`
+/// statements are as they were written.
+pub type RefTree = LoweredFile;
+
+// A method, where its locals aren't too many.
+fn lower_method(alloc: Global, classes: &[Class], method: &Method) -> Result<Lowered, AllocError>
+    requires slots { method.now.parameters < length method.now.slots.items }
+    requires few { locals_of (checked_method method.now) ≤ 128 }
+    ensures { IfOk result (λ m. plain_method m ≡ lowered_method (map plain_class classes.now) (checked_method method.now)) }
+{
+    let arguments = method.parameters + 1;
+    let body = lower_statement(alloc, classes, method.slots.len(), &method.body)?;
+    Ok(Lowered {
+        arguments,
+        locals: body.free - arguments,
+        body: body.tree,
+    })
+}
+
+// Whether no method has too many locals.
+fn all_fit(methods: &[Method]) -> bool
+    ensures { IsTrue result ↔ All (λ m. locals_of (checked_method m) ≤ 128) methods.now }
+{
+    for method in methods {
+        if count_locals(method).is_none() {
+            return false;
+        }
+    }
+    true
+}
+
+/// The tree of a file over words.
+pub fn lower_refs(alloc: Global, file: &File) -> Result<RefTree, LowerFault>
+    requires { AllSlotted (checked_file file.now).methods }
+    ensures tree { IfOk result (λ t. plain_file t ≡ lowered_file (checked_file file.now)) }
+    ensures fits { OnOk result (AllFit (checked_file file.now).methods) }
+    ensures refused { IfErr result (Refused (checked_file file.now)) }
+{
+    if !all_fit(&file.methods) {
+        return Err(LowerFault::TooManyLocals);
+    }
+    let mut methods = Vec::new(alloc);
+    for method in &file.methods {
+        methods.push(lower_method(alloc, &file.classes, method)?)?;
+    }
+    Ok(LoweredFile { methods })
+}
+
+#[cfg(test)]
+mod tests {
+    use super::*;
+    use ls_checked::tree::{Called, Expression, Expressions, Statement};
+    use ls_events::value::{Value, ValueType};
+    use ls_lowered::tree::{Expression as Tree, Statement as Lowered};
+    use std::test::Fail;
+
+    // `x.get(y)` on locals 0 and 1.
+    fn get(alloc: Global) -> Result<Expression, AllocError> {
+        let arguments = Expressions::More(
+            Box::new(alloc, Expression::Slot(1))?,
+            Box::new(alloc, Expressions::End)?,
+        );
+        Ok(Expression::Call(
+            Box::new(alloc, Expression::Slot(0))?,
+            Called::GetBoth(0),
+            Box::new(alloc, arguments)?,
+        ))
+    }
+
+    // A file of one method with so many slots.
+    fn file(alloc: Global, slots: usize, body: Statement) -> Result<File, AllocError> {
+        let slots = vec![in alloc; ValueType::Int; slots]?;
+        let mut methods = Vec::new(alloc);
+        methods.push(Method {
+            class: 0,
+            parameters: 0,
+            slots,
+            result: None,
+            body,
+        })?;
+        Ok(File {
+            classes: Vec::new(alloc),
+            methods,
+        })
+    }
+
+    #[test]
+    fn lowers(rt: HostRuntime) -> Result<(), Fail> {
+        let body = Statement::ReturnValue(Expression::Literal(Value::Int(-1)));
+        let tree = lower_refs(rt.alloc(), &file(rt.alloc(), 1, body)?)?;
+        let method = tree.methods.first().ok_or("no method")?;
+        assert_eq!(rt; method.arguments, 1);
+        assert_eq!(rt; method.locals, 0);
+        assert!(rt; matches!(method.body, Lowered::Return(Tree::Word(4294967295))));
+        Ok(())
+    }
+
+    #[test]
+    fn counts(rt: HostRuntime) -> Result<(), Fail> {
+        let most = file(rt.alloc(), 126, Statement::Evaluate(get(rt.alloc())?))?;
+        assert_eq!(rt; lower_refs(rt.alloc(), &most)?.methods.len(), 1);
+        let over = file(rt.alloc(), 127, Statement::Evaluate(get(rt.alloc())?))?;
+        assert_eq!(rt;
+            lower_refs(rt.alloc(), &over).err(),
+            Some(LowerFault::TooManyLocals)
+        );
+        Ok(())
+    }
+}

@@ -1,0 +1,151 @@
+// Statements.
+
+ghost use Rattle.std.specs.Prelude.{◌≡◌, ℕ, ◌+◌, ◌≤◌, IfOk, map};
+ghost use Rattle.ls_checked.specs.Plain.{plain as checked, plain_statement as checked_statement, statements_of as checked_statements, plain_class};
+ghost use Rattle.ls_lowered.specs.LoweredTree.{Block};
+ghost use Rattle.ls_lowered.specs.Plain.{plain, plain_statement, statements_of};
+ghost use Rattle.ls_refs.specs.Temporaries.{statement_temporaries, block_temporaries};
+ghost use Rattle.ls_refs.specs.Lowered.{lowered_statement, lowered_block};
+
+use crate::expressions::{Placed, lower_expression};
+use ls_checked::tree::{Class, Statement};
+use ls_lowered::tree::{Expression as Value, Statement as Tree};
+use std::alloc::{AllocError, Global};
+
+#[tactic(auto, using(ls_lowered::proofs::Rows::block_made))]
+fn block_of(statements: Vec<Tree>) -> Tree
+    ensures { plain_statement result ≡ Block (statements_of statements.items) }
+{
+    Tree::Block(statements)
+}
+
+/// A statement, with its temporaries from `free` on.
+#[cycle(statements)]
+#[tactic(auto, using(crate::proofs::Rows::block_read))]
+pub fn lower_statement(
+    alloc: Global,
+    classes: &[Class],
+    free: usize,
+    s: &Statement,
+) -> Result<Placed<Tree>, AllocError>
+    requires { free + statement_temporaries (checked_statement s.now) ≤ 128 }
+    ensures tree { IfOk result (λ r. plain_statement r.tree ≡ lowered_statement (map plain_class classes.now) free (checked_statement s.now)) }
+    ensures free { IfOk result (λ r. r.free ≡ free + statement_temporaries (checked_statement s.now)) }
+{
+    match s {
+        Statement::Block(statements) => {
+            let mut lowered = Vec::new(alloc);
+            let mut next = free;
+            for s in statements {
+                let s = lower_statement(alloc, classes, next, s)?;
+                lowered.push(s.tree)?;
+                next = s.free;
+            }
+            Ok(Placed {
+                tree: block_of(lowered),
+                free: next,
+            })
+        }
+        Statement::SetSlot(number, e) => {
+            let e = lower_expression(alloc, classes, free, e)?;
+            Ok(Placed {
+                tree: Tree::SetLocal(*number, e.tree),
+                free: e.free,
+            })
+        }
+        Statement::SetField {
+            target,
+            field,
+            value,
+        } => {
+            let target = lower_expression(alloc, classes, free, target)?;
+            let value = lower_expression(alloc, classes, target.free, value)?;
+            Ok(Placed {
+                tree: Tree::SetField(target.tree, *field, value.tree),
+                free: value.free,
+            })
+        }
+        Statement::SetItem {
+            array,
+            index,
+            value,
+        } => {
+            let array = lower_expression(alloc, classes, free, array)?;
+            let index = lower_expression(alloc, classes, array.free, index)?;
+            let value = lower_expression(alloc, classes, index.free, value)?;
+            Ok(Placed {
+                tree: Tree::SetItem(array.tree, index.tree, value.tree),
+                free: value.free,
+            })
+        }
+        Statement::Evaluate(e) => {
+            let e = lower_expression(alloc, classes, free, e)?;
+            Ok(Placed {
+                tree: Tree::Evaluate(e.tree),
+                free: e.free,
+            })
+        }
+        Statement::If(condition, first, second) => {
+            let condition = lower_expression(alloc, classes, free, condition)?;
+            let first = lower_part(alloc, classes, condition.free, first)?;
+            let second = lower_part(alloc, classes, first.free, second)?;
+            Ok(Placed {
+                tree: Tree::If(condition.tree, first.tree, second.tree),
+                free: second.free,
+            })
+        }
+        Statement::While(condition, body) => {
+            let condition = lower_expression(alloc, classes, free, condition)?;
+            let body = lower_part(alloc, classes, condition.free, body)?;
+            Ok(Placed {
+                tree: Tree::While(condition.tree, body.tree),
+                free: body.free,
+            })
+        }
+        Statement::Break(n) => Ok(Placed {
+            tree: Tree::Break(*n),
+            free,
+        }),
+        Statement::Continue(n) => Ok(Placed {
+            tree: Tree::Continue(*n),
+            free,
+        }),
+        Statement::ReturnNothing => Ok(Placed {
+            tree: Tree::Return(Value::Word(0)),
+            free,
+        }),
+        Statement::ReturnValue(e) => {
+            let e = lower_expression(alloc, classes, free, e)?;
+            Ok(Placed {
+                tree: Tree::Return(e.tree),
+                free: e.free,
+            })
+        }
+        Statement::Try(body, finally) => {
+            let body = lower_part(alloc, classes, free, body)?;
+            let finally = lower_part(alloc, classes, body.free, finally)?;
+            Ok(Placed {
+                tree: Tree::Try(body.tree, finally.tree),
+                free: finally.free,
+            })
+        }
+    }
+}
+
+#[cycle(statements)]
+fn lower_part(
+    alloc: Global,
+    classes: &[Class],
+    free: usize,
+    s: &Statement,
+) -> Result<Placed<Box<Tree>>, AllocError>
+    requires { free + statement_temporaries (checked_statement s.now) ≤ 128 }
+    ensures tree { IfOk result (λ r. plain_statement r.tree.value ≡ lowered_statement (map plain_class classes.now) free (checked_statement s.now)) }
+    ensures free { IfOk result (λ r. r.free ≡ free + statement_temporaries (checked_statement s.now)) }
+{
+    let s = lower_statement(alloc, classes, free, s)?;
+    Ok(Placed {
+        tree: Box::new(alloc, s.tree)?,
+        free: s.free,
+    })
+}

@@ -1,0 +1,4 @@
+pub mod CheckedFile
+pub mod ProgramCalls
+pub mod ThreadPrograms
+pub mod ProgramViews

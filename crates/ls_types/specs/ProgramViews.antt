@@ -1,0 +1,73 @@
+-- What contracts see of a program that is being read.
+use Rattle.std.specs.Prelude.{◌≡◌, List, map, string_bytes, Option, Some, None, Result, Ok, Err}
+use Rattle.ls_checked.specs.CheckedProgram.{Program}
+use Rattle.ls_checked.specs.PlainProgram.{plain_name, plain_call, plain_thread, plain_program}
+use Rattle.ls_checked.specs.declared.program.Program.{Program as code_program}
+use Rattle.ls_types.specs.declared.fault.ProgramFault.{ProgramFault}
+use Rattle.ls_types.specs.declared.fault.ProgramFault.TheVariants as faults
+use Rattle.ls_types.specs.declared.calls.Callee.{Callee}
+use Rattle.ls_types.specs.declared.calls.Callee.TheVariants as callees
+use Rattle.ls_types.specs.declared.calls.Pending.{Pending}
+use Rattle.ls_types.specs.declared.reading.Stage.{Stage}
+use Rattle.ls_types.specs.declared.reading.Stage.TheVariants as stages
+use Rattle.ls_types.specs.declared.reading.Parts.{Parts}
+use Rattle.ls_types.specs.declared.reading.Reading.{Reading}
+use Rattle.ls_types.specs.ProgramCalls as calls
+use Rattle.ls_types.specs.ThreadPrograms as programs
+
+abbrev pub callee_of : Callee → calls.Callee
+callee_of (callees.Maker name class class_name) = calls.Maker name.now class class_name.now
+callee_of (callees.Method name method method_name answers) = calls.Method name method method_name.now answers
+
+abbrev pub pending_of : Pending → calls.Pending
+pending_of p = record { callee = callee_of p.callee; types = p.types.items; values = p.values.items }
+
+-- what is read, or nothing where it is refused
+abbrev pub reads : {X Y : Type 0} → (X → Y) → Result X ProgramFault → Option Y
+reads view (Ok x) = Some (view x)
+reads view (Err e) = None
+
+abbrev pub reads_pending : Result Pending ProgramFault → Option calls.Pending
+reads_pending r = reads pending_of r
+
+abbrev pub stage_of : Stage → programs.Stage
+stage_of stages.AtSetup = programs.AtSetup
+stage_of stages.AtBlock = programs.AtBlock
+stage_of stages.AtCall = programs.AtCall
+stage_of (stages.AfterName name at) = programs.AfterName name.now
+stage_of (stages.AfterAssign name) = programs.AfterAssign name.now
+stage_of (stages.AfterNew name) = programs.AfterNew name.now
+stage_of (stages.AfterDot n) = programs.AfterDot n
+stage_of (stages.AtArguments p) = programs.AtArguments (pending_of p)
+stage_of (stages.AtFirst p) = programs.AtFirst (pending_of p)
+stage_of (stages.AtArgument p) = programs.AtArgument (pending_of p)
+stage_of (stages.AfterMinus p) = programs.AfterMinus (pending_of p)
+stage_of (stages.AfterArgument p) = programs.AfterArgument (pending_of p)
+stage_of (stages.AtSemicolon p) = programs.AtSemicolon (pending_of p)
+stage_of stages.AtThread = programs.AtThread
+stage_of stages.AtThreadName = programs.AtThreadName
+
+abbrev pub parts_of : Parts → programs.Parts
+parts_of r = record {
+  names = map plain_name r.names.items;
+  threads = map plain_thread r.threads.items;
+  name = string_bytes r.name;
+  calls = map plain_call r.calls.items;
+}
+
+abbrev pub reading_of : Reading → programs.Reading
+reading_of r = record { stage = stage_of r.stage; parts = parts_of r.parts }
+
+abbrev pub reads_on : Result Reading ProgramFault → Option programs.Reading
+reads_on r = reads reading_of r
+
+abbrev pub reads_program : Result code_program ProgramFault → Option Program
+reads_program r = reads plain_program r
+
+-- a refusal for another reason than want of memory says that the text is no program
+abbrev pub Refuses : ProgramFault → Option Program → Type 0
+Refuses faults.Memory p = Unit {0}
+Refuses (faults.BadProgram at) p = p ≡ None
+Refuses (faults.UnknownThing at) p = p ≡ None
+Refuses (faults.ReferenceResult at) p = p ≡ None
+Refuses faults.ProgramLimit p = p ≡ None

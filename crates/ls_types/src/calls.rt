@@ -1,0 +1,285 @@
+// The calls of a thread program against the classes of a file.
+
+ghost use Rattle.std.specs.Prelude.{◌≡◌, ◌<◌, [], IfOk, IfSome, Some, length, map, option_map, slice_get};
+ghost use Rattle.ls_checked.specs.PlainProgram.{plain_name, plain_call};
+ghost use Rattle.ls_elaboration.specs.Known.{number_of};
+ghost use Rattle.ls_elaboration.specs.Tables.{method_sign_of};
+ghost use Rattle.ls_types.specs.CheckedFile.{outcome_of, names_of};
+ghost use Rattle.ls_types.specs.ProgramCalls.{setup_named as the_setup_named, maker as the_maker, is_plain as the_plain, method_on as the_method_on, called_on as the_called_on, fits as the_fits, with_argument as the_with_argument, is_full as the_full, plain_number as the_plain_number, minus_number as the_minus_number, call_of as the_call_of, names_after as the_names_after};
+ghost use Rattle.ls_types.specs.ProgramViews.{callee_of, pending_of, reads_pending};
+
+use crate::check::Checked;
+use crate::fault::ProgramFault;
+use ls_checked::program::{ProgramCall, SetupName};
+use ls_elaboration::expressions::digits_of;
+use ls_elaboration::known::{MethodSign, method_named, number_of as class_number};
+use ls_events::value::{Value, ValueType};
+use std::alloc::{AllocError, Global};
+
+/// What is called: a class's constructor for a new setup name, or a method of what a setup name holds.
+#[derive(Clone, Copy)]
+pub enum Callee<'a> {
+    Maker {
+        name: &'a str,
+        class: usize,
+        class_name: &'a str,
+    },
+    Method {
+        name: usize,
+        method: usize,
+        method_name: &'a str,
+        answers: Option<ValueType>,
+    },
+}
+
+/// A call whose arguments are read up to here, and where the class or method is named.
+#[derive(Drop)]
+pub struct Pending<'a> {
+    pub callee: Callee<'a>,
+    pub at: usize,
+    pub types: Vec<ValueType>,
+    pub values: Vec<Value>,
+}
+
+/// The number of a setup name.
+pub fn setup_named(names: &[SetupName], name: &str) -> Option<usize>
+    ensures found { result ≡ the_setup_named (map plain_name names.now) name.now }
+    ensures small { IfSome result (λ n. n < length names.now) }
+{
+    match names {
+        [] => None,
+        [n, rest @ ..] => {
+            if n.name.as_str() == name {
+                return Some(0);
+            }
+            match setup_named(rest, name) {
+                None => None,
+                Some(i) => Some(i + 1),
+            }
+        }
+    }
+}
+
+fn begun<'a>(
+    alloc: Global,
+    callee: Callee<'a>,
+    at: usize,
+    types: &[ValueType],
+) -> Result<Pending<'a>, AllocError>
+    ensures { IfOk result (λ p. pending_of p ≡ record { callee = callee_of callee.entry; types = types.now; values = [] }) }
+{
+    Ok(Pending {
+        callee,
+        at,
+        types: Vec::from_slice(alloc, types)?,
+        values: Vec::new(alloc),
+    })
+}
+
+/// A making of a class of the file.
+pub fn maker<'a>(
+    alloc: Global,
+    checked: &Checked,
+    name: &'a str,
+    class_name: &'a str,
+    at: usize,
+) -> Result<Option<Pending<'a>>, AllocError>
+    ensures { IfOk result (λ o. option_map pending_of o ≡ the_maker (outcome_of checked.now) name.entry.now class_name.entry.now (number_of (names_of checked.now) class_name.entry.now)) }
+{
+    match class_number(checked.class_names(), class_name) {
+        None => Ok(None),
+        Some(class) => {
+            let callee = Callee::Maker {
+                name,
+                class,
+                class_name,
+            };
+            match checked.class_signs().get(class) {
+                None => Ok(Some(begun(alloc, callee, at, &[])?)),
+                Some(c) => Ok(Some(begun(alloc, callee, at, &c.parameters)?)),
+            }
+        }
+    }
+}
+
+fn is_plain(answers: Option<ValueType>) -> bool
+    ensures { result ≡ the_plain answers }
+{
+    match answers {
+        None => true,
+        Some(ValueType::Int) => true,
+        Some(ValueType::Boolean) => true,
+        Some(ValueType::BooleanArray) => false,
+        Some(ValueType::Class(_)) => false,
+        Some(ValueType::Lock) => false,
+        Some(ValueType::Markable(_)) => false,
+    }
+}
+
+// The method of a name, of the class of what a setup name holds.
+fn method_on<'c>(checked: &'c Checked, n: Option<&SetupName>, name: &str) -> Option<&'c MethodSign>
+    ensures { option_map (λ m. method_sign_of m.now) result ≡ the_method_on (outcome_of checked.entry.now) (option_map (λ s. plain_name s.now) n.entry) name.now }
+{
+    match n {
+        None => None,
+        Some(s) => match checked.class_signs().get(s.class) {
+            None => None,
+            Some(c) => method_named(&c.methods, name),
+        },
+    }
+}
+
+/// A method of what a setup name holds.
+pub fn called_on<'a>(
+    alloc: Global,
+    checked: &Checked,
+    names: &[SetupName],
+    n: usize,
+    name: &'a str,
+    at: usize,
+) -> Result<Result<Pending<'a>, ProgramFault>, AllocError>
+    ensures { IfOk result (λ r. reads_pending r ≡ the_called_on (outcome_of checked.now) n (slice_get (map plain_name names.now) n) name.entry.now) }
+{
+    match method_on(checked, names.get(n), name) {
+        None => Ok(Err(ProgramFault::UnknownThing { at })),
+        Some(m) => {
+            if is_plain(m.result) {
+                let callee = Callee::Method {
+                    name: n,
+                    method: m.number,
+                    method_name: name,
+                    answers: m.result,
+                };
+                Ok(Ok(begun(alloc, callee, at, &m.parameters)?))
+            } else {
+                Ok(Err(ProgramFault::ReferenceResult { at }))
+            }
+        }
+    }
+}
+
+fn fits(t: ValueType, v: Value) -> bool
+    ensures { result ≡ the_fits (Some t) v }
+{
+    match (t, v) {
+        (ValueType::Int, Value::Int(_)) => true,
+        (ValueType::Boolean, Value::Boolean(_)) => true,
+        _ => false,
+    }
+}
+
+/// One more argument, which stands at `at`.
+pub fn with_argument<'a>(
+    p: Pending<'a>,
+    v: Value,
+    at: usize,
+) -> Result<Result<Pending<'a>, ProgramFault>, AllocError>
+    ensures { IfOk result (λ r. reads_pending r ≡ the_with_argument (pending_of p.entry) v) }
+{
+    match p.types.get(p.values.len()) {
+        None => Ok(Err(ProgramFault::UnknownThing { at: p.at })),
+        Some(t) => {
+            if !fits(*t, v) {
+                return Ok(Err(ProgramFault::UnknownThing { at }));
+            }
+            let Pending {
+                callee,
+                at,
+                types,
+                mut values,
+            } = p;
+            values.push(v)?;
+            Ok(Ok(Pending {
+                callee,
+                at,
+                types,
+                values,
+            }))
+        }
+    }
+}
+
+/// Whether every parameter has its argument.
+pub fn is_full(p: &Pending) -> bool
+    ensures { result ≡ the_full (pending_of p.now) }
+{
+    p.values.len() == p.types.len()
+}
+
+/// A number without a minus.
+pub fn plain_number(text: &str) -> Option<Value>
+    ensures { result ≡ the_plain_number text.now }
+{
+    let n = digits_of(text.as_bytes());
+    if n < 2_147_483_648 {
+        Some(Value::Int(n as i32))
+    } else {
+        None
+    }
+}
+
+/// A number behind a minus.
+pub fn minus_number(text: &str) -> Value
+    ensures { result ≡ the_minus_number text.now }
+{
+    let n = digits_of(text.as_bytes()) as i64;
+    Value::Int((-n) as i32)
+}
+
+/// The call as the program keeps it.
+pub fn call_of(alloc: Global, names: usize, p: Pending) -> Result<ProgramCall, AllocError>
+    ensures { IfOk result (λ c. plain_call c ≡ the_call_of names (pending_of p.entry)) }
+{
+    let values = p.values;
+    match p.callee {
+        Callee::Maker {
+            class,
+            class_name,
+            ..
+        } => {
+            let class_name = String::from_str(alloc, class_name)?;
+            Ok(ProgramCall::Making {
+                name: names,
+                class,
+                class_name,
+                values,
+            })
+        }
+        Callee::Method {
+            name,
+            method,
+            method_name,
+            answers,
+        } => {
+            let method_name = String::from_str(alloc, method_name)?;
+            Ok(ProgramCall::Calling {
+                name,
+                method,
+                method_name,
+                result: answers,
+                values,
+            })
+        }
+    }
+}
+
+/// The setup names behind a call.
+pub fn names_after(
+    alloc: Global,
+    names: Vec<SetupName>,
+    callee: Callee,
+) -> Result<Vec<SetupName>, AllocError>
+    ensures { IfOk result (λ v. map plain_name v.items ≡ the_names_after (map plain_name names.items) (callee_of callee.entry)) }
+{
+    match callee {
+        Callee::Maker { name, class, .. } => {
+            let mut names = names;
+            names.push(SetupName {
+                name: String::from_str(alloc, name)?,
+                class,
+            })?;
+            Ok(names)
+        }
+        Callee::Method { .. } => Ok(names),
+    }
+}

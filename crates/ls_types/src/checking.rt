@@ -1,0 +1,42 @@
+// The check of a class text's tree.
+
+ghost use Rattle.std.specs.Prelude.{◌≡◌, IfOk, IfErr};
+ghost use Rattle.ls_elaboration.specs.Elaboration.{elaborated};
+ghost use Rattle.ls_elaboration.specs.PlacedStatements.{placed_file};
+ghost use Rattle.ls_types.specs.CheckedFile.{parsed_of, outcome_of, Names};
+
+use crate::check::{CheckFault, Checked};
+use ls_elaboration::elaboration::elaborate;
+use ls_elaboration::rule::{Broken, Rule};
+use ls_parser::tree::ClassFile;
+use std::alloc::Global;
+
+fn fault_of(b: Broken) -> CheckFault
+    ensures { Names result (Err b) }
+{
+    match b.rule {
+        Rule::UnknownName => CheckFault::UnknownName(b.span),
+        Rule::TwiceDeclared => CheckFault::TwiceDeclared(b.span),
+        Rule::UnknownType => CheckFault::UnknownType(b.span),
+        Rule::WrongType => CheckFault::WrongType(b.span),
+        Rule::WrongArguments => CheckFault::WrongArguments(b.span),
+        Rule::NotAssignable => CheckFault::NotAssignable(b.span),
+        Rule::NoLoop => CheckFault::NoLoop(b.span),
+        Rule::UnknownLabel => CheckFault::UnknownLabel(b.span),
+        Rule::MissingReturn => CheckFault::MissingReturn(b.span),
+        Rule::ReservedClass => CheckFault::ReservedClass(b.span),
+        Rule::Limit => CheckFault::Limit(b.span),
+    }
+}
+
+/// Checks a class text's tree: the checked file, or a rule that is broken and where.
+pub fn check(alloc: Global, parsed: ClassFile) -> Result<Checked, CheckFault>
+    ensures same { IfOk result (λ c. parsed_of c ≡ parsed) }
+    ensures checked { IfOk result (λ c. elaborated (placed_file parsed) ≡ Ok (outcome_of c)) }
+    ensures refused { IfErr result (λ e. Names e (elaborated (placed_file parsed))) }
+{
+    match elaborate(alloc, &parsed)? {
+        Ok(outcome) => Ok(Checked::new(parsed, outcome)),
+        Err(b) => Err(fault_of(b)),
+    }
+}

@@ -1,0 +1,34 @@
+// Why a program text is refused.
+
+use std::alloc::AllocError;
+use thiserror::Error;
+
+/// Why a program text is refused. Places are bytes from the start of the text, from 0.
+#[derive(Clone, Copy, Debug, PartialEq, Eq, Error)]
+pub enum ProgramFault {
+    #[error("memory ran out")]
+    Memory,
+    /// No text of a thread program goes on so, or a name is given twice.
+    #[error("no thread program at {at}")]
+    BadProgram { at: usize },
+    /// A class, setup name or method that isn't there, or arguments of another number or type.
+    #[error("an unknown thing at {at}")]
+    UnknownThing { at: usize },
+    /// A method that answers neither an int, a boolean nor nothing.
+    #[error("a method that answers a reference at {at}")]
+    ReferenceResult { at: usize },
+    /// Too many threads, calls of a thread, or bytes.
+    #[error("a limit of thread programs is passed")]
+    ProgramLimit,
+}
+
+impl From<AllocError> for ProgramFault {
+    ghost use Rattle.std.specs.Prelude.{◌≡◌};
+    ghost use Rattle.ls_types.specs.declared.fault.ProgramFault.TheVariants.{Memory};
+
+    ghost from_gives = { λ _ e. e ≡ Memory };
+
+    fn from(_e: AllocError) -> ProgramFault {
+        ProgramFault::Memory
+    }
+}

@@ -1,0 +1,39 @@
+// A thread program as it is read, token by token.
+
+use crate::calls::Pending;
+use ls_checked::program::{ProgramCall, SetupName, ThreadProgram};
+
+/// What is read up to here, and so what comes next.
+#[derive(Drop)]
+pub enum Stage<'a> {
+    AtSetup,
+    AtBlock,
+    AtCall,
+    AfterName(&'a str, usize),
+    AfterAssign(&'a str),
+    AfterNew(&'a str),
+    AfterDot(usize),
+    AtArguments(Pending<'a>),
+    AtFirst(Pending<'a>),
+    AtArgument(Pending<'a>),
+    AfterMinus(Pending<'a>),
+    AfterArgument(Pending<'a>),
+    AtSemicolon(Pending<'a>),
+    AtThread,
+    AtThreadName,
+}
+
+/// The setup names, the threads that are read whole, and the name and calls of the one that is being read.
+#[derive(Drop)]
+pub struct Parts {
+    pub names: Vec<SetupName>,
+    pub threads: Vec<ThreadProgram>,
+    pub name: String,
+    pub calls: Vec<ProgramCall>,
+}
+
+#[derive(Drop)]
+pub struct Reading<'a> {
+    pub stage: Stage<'a>,
+    pub parts: Parts,
+}
