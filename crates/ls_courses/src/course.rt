@@ -1,6 +1,6 @@
 // What comes next, computed from the start on the answers had so far.
 
-ghost use Rattle.std.specs.Prelude.{◌≡◌, IfOk, ◌∷◌, List, length};
+ghost use Rattle.std.specs.Prelude.{◌≡◌, IfOk, OnOk, [], ◌∷◌, ◌++◌, List, length};
 ghost use Rattle.ls_checked.specs.CheckedTree.{Item, Binary, And, Or, Call, MakeObject, MakeMarkable, SetField, SetItem, If, Try};
 ghost use Rattle.ls_checked.specs.Plain.{plain, plain_statement, all_plain, statements_of, plain_file};
 ghost use Rattle.ls_meaning.specs.Course.{Answers, with_value, unless_null};
@@ -9,11 +9,11 @@ ghost use Rattle.ls_meaning.specs.Values.{reference_of};
 ghost use Rattle.ls_meaning.specs.Statements.{Executed as Done, execute, execute_all, on_value, turns, one_turn};
 ghost use Rattle.ls_meaning.specs.Methods.{invoke, enter, frame, leave, answer_without};
 ghost use Rattle.ls_courses.specs.Seen.{seen, seen_all, seen_with, loop_end};
-ghost use Rattle.ls_courses.specs.Forms.{unary_course, after_value};
+ghost use Rattle.ls_courses.specs.Forms.{unary_course, field_course, after_value};
 ghost use Rattle.ls_courses.specs.SeenCourse.{seen_turn, course_of, statement_course};
 
-use crate::forms::{After, Unary, after_operand};
-use crate::operations::{Chosen, at_hand, choose, constructor_of, make_lock, method_at};
+use crate::forms::{After, Unary, after_operand, after_target};
+use crate::operations::{Chosen, choose, constructor_of, literal, make_lock, method_at, slot};
 use crate::outcome::{Evaluated, Executed, ask, on_object, tell};
 use crate::value::{
     divides_by_zero, int_of, operated, pair_of, reference_of, start_of, starts_of, truth_of,
@@ -136,20 +136,14 @@ pub fn evaluate<'a>(
     ensures { IfOk result (λ r. seen r ≡ evaluate (plain_file file.now).classes (invoke (plain_file file.now) depth) (plain e.now) locals.now answers.now) }
 {
     match e {
-        Expression::Literal(v) => at_hand(*v, answers),
-        Expression::Slot(n) => at_hand(value_at(locals, *n), answers),
+        Expression::Literal(v) => literal(v, answers),
+        Expression::Slot(n) => slot(locals, *n, answers),
         Expression::MakeLock => make_lock(answers),
         Expression::Field {
             target,
             class,
             field,
-        } => {
-            let form = Unary::Field {
-                class: *class,
-                field: *field,
-            };
-            unary(alloc, file, depth, form, target, locals, answers)
-        }
+        } => read(alloc, file, depth, target, *class, *field, locals, answers),
         Expression::Negate(e) => unary(alloc, file, depth, Unary::Negate, e, locals, answers),
         Expression::Not(e) => unary(alloc, file, depth, Unary::Not, e, locals, answers),
         Expression::MakeArray(e) => unary(alloc, file, depth, Unary::Array, e, locals, answers),
@@ -177,10 +171,29 @@ fn unary<'a>(
     locals: &[Value],
     answers: &'a [Answer<Value>],
 ) -> Result<Evaluated<'a, Value>, AllocError>
-    ensures { IfOk result (λ r. seen r ≡ with_value (evaluate (plain_file file.now).classes (invoke (plain_file file.now) depth) (plain e.now) locals.now answers.now) (unary_course (plain_file file.now).classes form)) }
+    ensures { IfOk result (λ r. seen r ≡ with_value (evaluate (plain_file file.now).classes (invoke (plain_file file.now) depth) (plain e.now) locals.now answers.now) (unary_course form)) }
 {
     let (v, rest) = results!(evaluate(alloc, file, depth, e, locals, answers)?);
-    Ok(after_operand(&file.classes, form, v, rest))
+    Ok(after_operand(form, v, rest))
+}
+
+// A field of an object.
+#[cycle(course)]
+#[inline(never)]
+fn read<'a>(
+    alloc: Global,
+    file: &File,
+    depth: u64,
+    target: &Expression,
+    class: usize,
+    field: usize,
+    locals: &[Value],
+    answers: &'a [Answer<Value>],
+) -> Result<Evaluated<'a, Value>, AllocError>
+    ensures { IfOk result (λ r. seen r ≡ with_value (evaluate (plain_file file.now).classes (invoke (plain_file file.now) depth) (plain target.now) locals.now answers.now) (field_course (plain_file file.now).classes class field)) }
+{
+    let (o, rest) = results!(evaluate(alloc, file, depth, target, locals, answers)?);
+    Ok(after_target(&file.classes, class, field, o, rest))
 }
 
 // An item of an array.
@@ -358,6 +371,15 @@ fn make_markable<'a>(
     Ok(ask(Action::NewMarkable(pair), sort, rest))
 }
 
+// One value more. A function of its own keeps the frame of `evaluate_all` small.
+#[inline(never)]
+fn keep(values: &mut Vec<Value>, v: Value) -> Result<(), AllocError>
+    ensures { OnOk result (values.new.items ≡ values.old.items ++ v ∷ []) }
+{
+    values.push(v)?;
+    Ok(())
+}
+
 // The values of the arguments, from the left.
 #[cycle(course)]
 #[inline(never)]
@@ -380,7 +402,7 @@ fn evaluate_all<'a>(
             Expressions::End => return Ok(Evaluated::Results(values, answers)),
             Expressions::More(e, others) => {
                 let (v, rest) = results!(evaluate(alloc, file, depth, e, locals, answers)?);
-                values.push(v)?;
+                keep(&mut values, v)?;
                 answers = rest;
                 left = others;
             }

@@ -3,7 +3,7 @@
 ghost use Rattle.std.specs.Prelude.{◌≡◌, map};
 ghost use Rattle.ls_checked.specs.Plain.{plain_class};
 ghost use Rattle.ls_courses.specs.Seen.{seen};
-ghost use Rattle.ls_courses.specs.Forms.{unary_course};
+ghost use Rattle.ls_courses.specs.Forms.{field_course, unary_course};
 
 use crate::operations::field_of;
 use crate::outcome::{Evaluated, ask, on_object};
@@ -14,10 +14,9 @@ use ls_events::kind::Kind;
 use ls_events::value::{Value, ValueType};
 use ls_meaning::sort::Sort;
 
-/// The expressions with one operand.
+/// The expressions with one operand, a field's aside.
 #[derive(Clone, Copy, Debug, PartialEq, Eq)]
 pub enum Unary {
-    Field { class: usize, field: usize },
     Negate,
     Not,
     Array,
@@ -31,24 +30,34 @@ pub enum After {
     Return,
 }
 
+/// What a field does once its object is evaluated.
+#[inline(never)]
+pub fn after_target<'a>(
+    classes: &[Class],
+    class: usize,
+    field: usize,
+    o: Value,
+    answers: &'a [Answer<Value>],
+) -> Evaluated<'a, Value>
+    ensures { seen result ≡ field_course (map plain_class classes.now) class field o answers.now }
+{
+    let action = Action::ReadField {
+        object: reference_of(o),
+        field,
+    };
+    on_object(o, action, field_of(classes, class, field), answers)
+}
+
 /// What an expression does once its operand is evaluated.
 #[inline(never)]
 pub fn after_operand<'a>(
-    classes: &[Class],
     form: Unary,
     v: Value,
     answers: &'a [Answer<Value>],
 ) -> Evaluated<'a, Value>
-    ensures { seen result ≡ unary_course (map plain_class classes.now) form v answers.now }
+    ensures { seen result ≡ unary_course form v answers.now }
 {
     match form {
-        Unary::Field { class, field } => {
-            let action = Action::ReadField {
-                object: reference_of(v),
-                field,
-            };
-            on_object(v, action, field_of(classes, class, field), answers)
-        }
         Unary::Negate => Evaluated::Results(negated(v), answers),
         Unary::Not => Evaluated::Results(Value::Boolean(!truth_of(v)), answers),
         Unary::Array => {

@@ -1,9 +1,10 @@
 // Operations of locks and of markable references, and what is looked up in a file.
 
-ghost use Rattle.std.specs.Prelude.{◌≡◌, IfOk, option_copied, slice_get, map, option_map};
+ghost use Rattle.std.specs.Prelude.{◌≡◌, IfOk, option_copied, slice_get, slice_index_or, map, option_map};
 ghost use Rattle.ls_checked.specs.Plain.{plain_file, plain_class, plain_method};
 ghost use Rattle.ls_meaning.specs.Course.{Results, ask};
 ghost use Rattle.ls_meaning.specs.Expressions.{Calls, call, get_both, constructor_of, field_of};
+ghost use Rattle.ls_meaning.specs.Values.{nothing};
 ghost use Rattle.ls_courses.specs.Seen.{seen, seen_call};
 
 use crate::outcome::{Evaluated, ask};
@@ -144,17 +145,29 @@ fn is_marked<'a>(
     }
 }
 
-// The two functions below keep the frame of `evaluate` small: a body's expressions may be 126 deep in each of 64 calls.
+// The three functions below keep the frame of `evaluate` small: a body's expressions may be 126 deep in each of 64 calls.
 
-/// A value that is at hand.
+/// A value that is written down.
 #[inline(never)]
-pub fn at_hand<'a>(
-    v: Value,
+pub fn literal<'a>(
+    v: &Value,
     answers: &'a [Answer<Value>],
 ) -> Result<Evaluated<'a, Value>, AllocError>
-    ensures { IfOk result (λ r. seen r ≡ Results v answers.now) }
+    ensures { IfOk result (λ r. seen r ≡ Results v.now answers.now) }
 {
-    Ok(Evaluated::Results(v, answers))
+    Ok(Evaluated::Results(*v, answers))
+}
+
+/// The value of a slot.
+#[inline(never)]
+pub fn slot<'a>(
+    locals: &[Value],
+    n: usize,
+    answers: &'a [Answer<Value>],
+) -> Result<Evaluated<'a, Value>, AllocError>
+    ensures { IfOk result (λ r. seen r ≡ Results (slice_index_or locals.now n nothing) answers.now) }
+{
+    Ok(Evaluated::Results(value_at(locals, n), answers))
 }
 
 /// The making of a lock.

@@ -5,6 +5,7 @@ use Rattle.ls_events.specs.declared.kind.Kind.{Kind}
 use Rattle.ls_events.specs.declared.action.Action.TheVariants as act
 use Rattle.ls_lowered.specs.LoweredTree.{Expression, Statement, Block, SetLocal, SetField, SetItem, Evaluate, If, While, Break, Continue, Return, Try, Guarded, Throw, Leavable, Leave, Statements, Done, Then}
 use Rattle.ls_lowered.specs.Words.{int_of, kind_word, kind_of}
+use Rattle.ls_events.specs.declared.action.Answer.TheVariants as answers
 use Rattle.ls_lowered.specs.Course.{Answers, Course, Asks, Ends, Stuck, Outcome, Results, Throws, Calls, finish, and_then, perform, unless_null}
 use Rattle.ls_lowered.specs.Expressions.{find}
 use Rattle.ls_lowered.specs.Statements.{Completion, Normal, Broke, Continued, Returned, Threw, Left, Go, on_word, on_normal, on_throw, on_leave, on_body, turn_back, one_turn, turns, throw, and_normal, execute, execute_all}
@@ -107,7 +108,9 @@ module _ (k d : ℕ) where
     where
       go : (old ls new : List ℕ) (q : Answers) (g g' : Go) → Agree k ls new → Above k old new → GoesOn k d old g g' → finish (turn_back f new q) g' ≡ finish (turn_back f ls q) g
       go old ls new [] g g' a u s = refl
-      go old ls new (answer ∷ q) g g' a u s = t.is old ls new q g g' a u s
+      go old ls new (answers.Done ∷ q) g g' a u s = t.is old ls new q g g' a u s
+      go old ls new (answers.Gives word ∷ q) g g' a u s = t.is old ls new q g g' a u s
+      go old ls new (answers.Fails kind ∷ q) g g' a u s = s.goes (Threw kind) ls new q tt a u
 
   body_on : (old : List ℕ) (f : List ℕ → Answers → Course Completion) (g g' : Go) → Same k d f → GoesOn k d old g g' → GoesOn k d old (λ c ls q. finish (on_body f c ls q) g) (λ c ls q. finish (on_body f c ls q) g')
   body_on old f g g' t s = record { goes = go }

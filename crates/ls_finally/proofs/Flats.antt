@@ -32,10 +32,10 @@ module _ (m room : ℕ) where
   normal_onward f f' g g' t h (Left n) ls new q i e a = h (Left n) ls new q i e a
 
   body_onward : (f f' : List ℕ → Answers → Course Completion) (g g' : Go) → Both m room f f' g g' → Onward g g' → Onward (λ c ls q. finish (on_body f c ls q) g) (λ c ls q. finish (on_body f' c ls q) g')
-  body_onward f f' g g' t h Normal ls new q i e a = back_both m room f f' g g' t ls new q e a
+  body_onward f f' g g' t h Normal ls new q i e a = back_both m room f f' g g' t (λ kind ls new q e a. h (Threw kind) ls new q tt e a) ls new q e a
   body_onward f f' g g' t h (Broke zero) ls new q i e a = h Normal ls new q tt e a
   body_onward f f' g g' t h (Broke (suc n)) ls new q i e a = h (Broke n) ls new q tt e a
-  body_onward f f' g g' t h (Continued zero) ls new q i e a = back_both m room f f' g g' t ls new q e a
+  body_onward f f' g g' t h (Continued zero) ls new q i e a = back_both m room f f' g g' t (λ kind ls new q e a. h (Threw kind) ls new q tt e a) ls new q e a
   body_onward f f' g g' t h (Continued (suc n)) ls new q i e a = h (Continued n) ls new q tt e a
   body_onward f f' g g' t h (Returned n) ls new q i e a = h (Returned n) ls new q i e a
   body_onward f f' g g' t h (Threw n) ls new q i e a = h (Threw n) ls new q i e a

@@ -1,3 +1,8 @@
+pub mod Fronts
+pub mod Blocks
+pub mod Whole
+pub mod Regions
+pub mod Flattening
 pub mod Agreeing
 pub mod Alike
 pub mod Replaced

@@ -6,6 +6,7 @@ use Rattle.ls_events.specs.declared.kind.Kind.{Kind}
 use Rattle.ls_events.specs.declared.action.Action.TheVariants as act
 use Rattle.ls_lowered.specs.LoweredTree.{Expression, Statement, Block, SetLocal, SetField, SetItem, Evaluate, If, While, Break, Continue, Return, Try, Guarded, Throw, Leavable, Leave, Statements, Done, Then}
 use Rattle.ls_lowered.specs.Words.{int_of, kind_word, kind_of}
+use Rattle.ls_events.specs.declared.action.Answer.TheVariants as answers
 use Rattle.ls_lowered.specs.Course.{Answers, Course, Asks, Ends, Stuck, Outcome, Results, Throws, Calls, finish, and_then, perform, unless_null}
 use Rattle.ls_lowered.specs.Expressions.{find}
 use Rattle.ls_lowered.specs.Statements.{Completion, Normal, Broke, Continued, Returned, Threw, Left, Go, on_word, on_normal, on_throw, on_leave, on_body, turn_back, one_turn, turns, throw, execute, execute_all}
@@ -71,9 +72,11 @@ module _ (k room : ℕ) where
   thrown_both None g g' t ls new q e a = refl
   thrown_both (Some kind) g g' t ls new q e a = t kind ls new q e a
 
-  pub back_both : (f f' : List ℕ → Answers → Course Completion) (g g' : Go) → Both f f' g g' → Both (turn_back f) (turn_back f') g g'
-  back_both f f' g g' t ls new [] e a = refl
-  back_both f f' g g' t ls new (answer ∷ q) e a = t ls new q e a
+  pub back_both : (f f' : List ℕ → Answers → Course Completion) (g g' : Go) → Both f f' g g' → ((kind : Kind) (ls new : List ℕ) (q : Answers) → length new ≡ room → Agree k ls new → g' (Threw kind) new q ≡ g (Threw kind) ls q) → Both (turn_back f) (turn_back f') g g'
+  back_both f f' g g' t h ls new [] e a = refl
+  back_both f f' g g' t h ls new (answers.Done ∷ q) e a = t ls new q e a
+  back_both f f' g g' t h ls new (answers.Gives word ∷ q) e a = t ls new q e a
+  back_both f f' g g' t h ls new (answers.Fails kind ∷ q) e a = h kind ls new q e a
 
 module _ (k r room : ℕ) (le : k ≤ r) (lt : r < room) where
   -- an exit under another construct
@@ -140,12 +143,12 @@ module _ (k r room : ℕ) (le : k ≤ r) (lt : r < room) where
       broke_ok (suc m) ls new q o le2 a = h.broke m ls new q o le2 a
 
       went_ok : (m : ℕ) (ls new : List ℕ) (q : Answers) → outward (suc l) m ≡ None → length new ≡ room → Agree k ls new → finish (on_body f' (Continued m) new q) g' ≡ finish (on_body f (Continued m) ls q) g
-      went_ok zero ls new q o le2 a = back_both k room f f' g g' again ls new q le2 a
+      went_ok zero ls new q o le2 a = back_both k room f f' g g' again h.threw ls new q le2 a
       went_ok (suc m) ls new q o le2 a = h.continued m ls new q o le2 a
 
       body_ok : Goes k r room (suc l) d j xs (λ c ls q. finish (on_body f c ls q) g) (λ c ls q. finish (on_body f' c ls q) g')
       body_ok = record {
-        normal = back_both k room f f' g g' again;
+        normal = back_both k room f f' g g' again h.threw;
         broke = broke_ok;
         continued = went_ok;
         threw = h.threw;

@@ -1,5 +1,12 @@
-//! `finally` by copied exits.
+//! `finally` by copied exits: the third lowering. Its definitions and its law stand in specs/.
 #![tactic(auto)]
 
 pub mod cases;
+mod copy;
+mod counts;
+mod exits;
+pub mod files;
+mod flatten;
 pub mod laws;
+pub mod placed;
+mod replace;

@@ -2,4 +2,5 @@
 #![tactic(auto)]
 
 pub mod files;
+pub mod laws;
 pub mod lower;

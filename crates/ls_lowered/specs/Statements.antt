@@ -2,6 +2,7 @@
 use Rattle.std.specs.Prelude.{ℕ, zero, suc, List, [], ◌∷◌, length, nat_eq, Option, Some, None, slice_index, slice_set, if◌then◌else◌}
 use Rattle.ls_events.specs.declared.kind.Kind.{Kind}
 use Rattle.ls_events.specs.declared.action.Action.TheVariants as act
+use Rattle.ls_events.specs.declared.action.Answer.TheVariants.{Done as Answered, Gives, Fails}
 use Rattle.ls_lowered.specs.LoweredTree.{Statement, Block, SetLocal, SetField, SetItem, Evaluate, If, While, Break, Continue, Return, Try, Guarded, Throw, Leavable, Leave, Statements, Done, Then}
 use Rattle.ls_lowered.specs.Words.{int_of, kind_word, kind_of}
 use Rattle.ls_lowered.specs.Course.{Answers, Course, Asks, Ends, Stuck, Outcome, Results, Throws, Calls, finish, and_then, perform, unless_null}
@@ -57,10 +58,12 @@ on_leave go (Threw kind) ls q = Ends (Threw kind) ls q
 on_leave go (Left zero) ls q = go ls q
 on_leave go (Left (suc n)) ls q = Ends (Left n) ls q
 
--- back to a loop's condition, in a step of its own
+-- back to a loop's condition, in a step of its own; no run answers it by an exception, but a list of answers may
 abbrev pub turn_back : (List ℕ → Answers → Course Completion) → List ℕ → Answers → Course Completion
 turn_back again ls [] = Asks act.Turn
-turn_back again ls (answer ∷ q) = again ls q
+turn_back again ls (Answered ∷ q) = again ls q
+turn_back again ls (Gives word ∷ q) = again ls q
+turn_back again ls (Fails kind ∷ q) = Ends (Threw kind) ls q
 
 -- a loop's body
 abbrev pub on_body : (List ℕ → Answers → Course Completion) → Go

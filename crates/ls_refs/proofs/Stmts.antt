@@ -14,6 +14,7 @@ use Rattle.ls_meaning.specs.declared.sort.Sort.TheVariants.{NoValue, ValueOf}
 use Rattle.ls_meaning.specs.declared.completion.Completion.{Completion}
 use Rattle.ls_meaning.specs.declared.completion.Completion.TheVariants.{Normal, Broke, Continued, Returned, Threw}
 use Rattle.ls_meaning.specs.Values.{int_of, truth_of, reference_of, nothing}
+use Rattle.ls_events.specs.declared.action.Answer.TheVariants as answers
 use Rattle.ls_meaning.specs.Course.{Answers, Evaluated, Asks, Results, Throws}
 use Rattle.ls_meaning.specs.Expressions.{Calls, evaluate}
 use Rattle.ls_meaning.specs.Statements.{Executed, AsksFor, Completes, on_value, then_do, finally_do, turn_back, after_body, one_turn, turns, execute, execute_all}
@@ -174,7 +175,9 @@ module _ (P : ℕ → ValueType → Type 0) (slots : List ValueType) (r : Option
     where
       goes : (g : Go) (g' : GoWord) → Rest g g' → (qs : Answers) → Suited P (λ q. finish_by (turn_back b ls q) g) qs → told (does.turn_back b' l (answer_words qs)) g' ≡ in_words (finish_by (turn_back b ls qs) g)
       goes g g' kg [] u = refl
-      goes g g' kg (x ∷ rest) u = ((f ls l h e).sim g g' kg).is rest u.1
+      goes g g' kg (answers.Done ∷ rest) u = ((f ls l h e).sim g g' kg).is rest u.1
+      goes g g' kg (answers.Gives v ∷ rest) u = ((f ls l h e).sim g g' kg).is rest u.1
+      goes g g' kg (answers.Fails k ∷ rest) u = absurd u.0
 
   body_agree : (x : Answers → Executed) (x' : low.Answers → low.Course does.Completion) (b : List Value → Answers → Executed) (b' : List ℕ → low.Answers → low.Course does.Completion) → AgreesBy P slots r room x x' → Follows b b' →
       AgreesBy P slots r room (λ q. after_body (x q) b) (λ q. low.finish (x' q) (does.on_body b'))

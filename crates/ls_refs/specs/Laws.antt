@@ -58,11 +58,16 @@ in_words (Asks action sort) = lowered.Asked (action_word action)
 in_words (Results v rest) = lowered.Gave (value_word v) (answer_words rest)
 in_words (Throws kind rest) = lowered.Raised kind (answer_words rest)
 
+-- a turn back to a loop's condition throws nothing
+abbrev pub MayFail : Action Value → Type 0
+MayFail act.Turn = ⊥
+MayFail _ = Unit {0}
+
 -- an answer that an action can have, where one of this sort is expected
 abbrev pub Suits : (ℕ → ValueType → Type 0) → Evaluated Value → Answer Value → Type 0
 Suits P (Asks action sort) Done = sort ≡ NoValue
 Suits P (Asks action sort) (Gives v) = HasSort P sort v
-Suits P (Asks action sort) (Fails kind) = Unit {0}
+Suits P (Asks action sort) (Fails kind) = MayFail action
 Suits P _ answer = ⊥
 
 -- answers in kind: each suits what is asked for after those before it

@@ -1,6 +1,6 @@
 -- What `check` may answer.
-use Rattle.std.proofs.Common.{◌≡◌, ◌∙◌, ap, sym, subst, List, Result, Ok, Err}
-use Rattle.std.specs.Prelude.{string_bytes, String}
+use Rattle.std.proofs.Common.{◌≡◌, sym, subst, List, Result, Ok, Err}
+use Rattle.std.specs.Prelude.{String}
 use Rattle.std.specs.Global.{Global}
 use Rattle.ls_report.specs.Events.{Event, Text}
 use Rattle.ls_report.specs.Reading.{BreaksAt, Explains, Says}

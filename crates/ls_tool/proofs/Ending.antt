@@ -1,6 +1,6 @@
 -- From what a layer answers to what a run does.
 use Rattle.std.specs.Prelude.{IfSome, OnErr, OnOk, String, string_bytes}
-use Rattle.std.proofs.Common.{◌≡◌, ◌≤◌, arith, length, take, take_all, ℕ, List, refl, sym, subst, Option, Some, None, Result, Ok, Err}
+use Rattle.std.proofs.Common.{◌≡◌, arith, length, take_all, ℕ, List, refl, sym, subst, Option, Some, None, Result, Ok, Err}
 use Rattle.std.specs.Global.{Global}
 use Rattle.std.specs.Io.KnownBytes.{Appends, Keeps}
 use Rattle.clap.specs.declared.error.Error.{Error}
@@ -36,6 +36,10 @@ pub decide_err : (words : List Text) (input bytes : Text) (r : Request) (f : Too
     → Gives (AnswersText r bytes) (Err f) → Decides words input (Err (refusal.Fault f))
 decide_err words input bytes r fault.Memory e b h = tt
 decide_err words input bytes r fault.ReadFailed e b h = (r, e)
+decide_err words input bytes r (fault.Text f) e b h = asked words input bytes r (fault.Text f) e b h
+decide_err words input bytes r (fault.Check f) e b h = asked words input bytes r (fault.Check f) e b h
+decide_err words input bytes r (fault.Program f) e b h = asked words input bytes r (fault.Program f) e b h
+decide_err words input bytes r (fault.Schedule f) e b h = asked words input bytes r (fault.Schedule f) e b h
 decide_err words input bytes r (fault.History f) e b h = asked words input bytes r (fault.History f) e b h
 decide_err words input bytes r (fault.Order f) e b h = asked words input bytes r (fault.Order f) e b h
 decide_err words input bytes r fault.WrongParts e b h = asked words input bytes r fault.WrongParts e b h
@@ -50,6 +54,10 @@ pub tells : (words : List Text) (input : Text) (f : ToolFault) (status : ℕ) (o
     → status ≡ 1 → Told f err err' → Decides words input (Err (refusal.Fault f)) → Ends words input status out out err err'
 tells words input fault.Memory status out err err' s t d = OutOfMemory (s, keeps out, t)
 tells words input fault.ReadFailed status out err err' s t d = ReaderFailed d.0 d.1 (s, keeps out, t)
+tells words input (fault.Text f) status out err err' s t d = AsAsked (Err (Some (fault.Text f))) d (s, keeps out, t)
+tells words input (fault.Check f) status out err err' s t d = AsAsked (Err (Some (fault.Check f))) d (s, keeps out, t)
+tells words input (fault.Program f) status out err err' s t d = AsAsked (Err (Some (fault.Program f))) d (s, keeps out, t)
+tells words input (fault.Schedule f) status out err err' s t d = AsAsked (Err (Some (fault.Schedule f))) d (s, keeps out, t)
 tells words input (fault.History f) status out err err' s t d = AsAsked (Err (Some (fault.History f))) d (s, keeps out, t)
 tells words input (fault.Order f) status out err err' s t d = AsAsked (Err (Some (fault.Order f))) d (s, keeps out, t)
 tells words input fault.WrongParts status out err err' s t d = AsAsked (Err (Some fault.WrongParts)) d (s, keeps out, t)

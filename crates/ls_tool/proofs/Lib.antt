@@ -3,3 +3,4 @@ pub mod PartLemmas
 pub mod Written
 pub mod CheckLemmas
 pub mod Ending
+pub mod SourceLemmas

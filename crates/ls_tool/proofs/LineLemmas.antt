@@ -1,6 +1,6 @@
 -- The lines of a text, one after the other.
-use Rattle.std.proofs.Common.{◌≡◌, ◌∙◌, ◌+◌, ◌<◌, ◌≤◌, ◌==◌, ℕ, zero, suc, Bool, true, false, cond, not, eqb, List, [], ◌∷◌, ◌++◌, length, take, drop, map, refl, sym, ap, append_assoc, arith}
-use Rattle.std.specs.List.{position_or_len, before_first, after_first}
+use Rattle.std.proofs.Common.{◌≡◌, ◌∙◌, ◌+◌, ◌<◌, ◌==◌, ℕ, suc, Bool, true, false, cond, eqb, List, [], ◌∷◌, length, take, drop, refl, sym, ap, arith}
+use Rattle.std.specs.List.{position_or_len}
 use Rattle.ls_tool.specs.Parts.{lines_of, onto_first}
 
 -- how far the first line feed is

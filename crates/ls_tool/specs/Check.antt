@@ -1,6 +1,5 @@
 -- What the command `check` says.
-use Rattle.std.specs.Prelude.{◌≡◌, ◌==◌, ◌-◌, ℕ, length, slice_get, Bool, true, false, List, [], ◌∷◌, ◌++◌, Option, Some, None, Result, Ok, Err, codes, if◌then◌else◌}
-use Rattle.std.specs.Fmt.{decimal}
+use Rattle.std.specs.Prelude.{◌==◌, ◌-◌, ℕ, length, slice_get, Bool, true, List, [], ◌∷◌, ◌++◌, Option, Some, None, Result, Ok, Err, codes, if◌then◌else◌}
 use Rattle.ls_report.specs.Events.{Event, Text}
 use Rattle.ls_report.specs.Reading.{BreaksAt, Says}
 use Rattle.ls_report.specs.declared.fault.HistoryFault.TheVariants as history_faults

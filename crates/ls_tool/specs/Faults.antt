@@ -1,10 +1,19 @@
 -- The lines of faults.
-use Rattle.std.specs.Prelude.{◌≡◌, ℕ, List, [], ◌∷◌, ◌++◌, codes}
+use Rattle.std.specs.Prelude.{ℕ, List, [], ◌∷◌, ◌++◌, codes}
 use Rattle.std.specs.Fmt.{decimal}
 use Rattle.ls_report.specs.declared.fault.HistoryFault.{HistoryFault}
 use Rattle.ls_report.specs.declared.fault.HistoryFault.TheVariants as history
 use Rattle.ls_orders.specs.declared.fault.OrderFault.{OrderFault}
 use Rattle.ls_orders.specs.declared.fault.OrderFault.TheVariants as order
+use Rattle.ls_lexer.specs.declared.token.Span.{Span}
+use Rattle.ls_lexer.specs.declared.fault.TextFault.{TextFault}
+use Rattle.ls_lexer.specs.declared.fault.TextFault.TheVariants as text
+use Rattle.ls_types.specs.declared.check.CheckFault.{CheckFault}
+use Rattle.ls_types.specs.declared.check.CheckFault.TheVariants as rule
+use Rattle.ls_types.specs.declared.fault.ProgramFault.{ProgramFault}
+use Rattle.ls_types.specs.declared.fault.ProgramFault.TheVariants as program
+use Rattle.ls_schedule.specs.declared.fault.ScheduleFault.{ScheduleFault}
+use Rattle.ls_schedule.specs.declared.fault.ScheduleFault.TheVariants as schedule
 use Rattle.ls_tool.specs.declared.fault.ToolFault.{ToolFault}
 use Rattle.ls_tool.specs.declared.fault.ToolFault.TheVariants as faults
 
@@ -17,6 +26,22 @@ abbrev pub lifted_order : OrderFault → ToolFault
 lifted_order order.Memory = faults.Memory
 lifted_order f = faults.Order f
 
+abbrev pub lifted_text : TextFault → ToolFault
+lifted_text text.Memory = faults.Memory
+lifted_text f = faults.Text f
+
+abbrev pub lifted_check : CheckFault → ToolFault
+lifted_check rule.Memory = faults.Memory
+lifted_check f = faults.Check f
+
+abbrev pub lifted_program : ProgramFault → ToolFault
+lifted_program program.Memory = faults.Memory
+lifted_program f = faults.Program f
+
+abbrev pub lifted_schedule : ScheduleFault → ToolFault
+lifted_schedule schedule.Memory = faults.Memory
+lifted_schedule f = faults.Schedule f
+
 -- `fault N Name`
 abbrev pub plain : List ℕ → List ℕ
 plain name = codes "fault " ++ (name ++ 10 ∷ [])
@@ -24,6 +49,47 @@ plain name = codes "fault " ++ (name ++ 10 ∷ [])
 -- `fault N Name at P`
 abbrev pub placed : List ℕ → ℕ → List ℕ
 placed name at = codes "fault " ++ (name ++ (codes " at " ++ (decimal at ++ 10 ∷ [])))
+
+-- `fault N Name at S-E`
+abbrev pub spanned : List ℕ → Span → List ℕ
+spanned name span =
+    codes "fault " ++ (name ++ (codes " at " ++ (decimal span.start ++ (45 ∷ (decimal span.end ++ 10 ∷ [])))))
+
+abbrev pub text_line : TextFault → List ℕ
+text_line text.Memory = plain (codes "1 Memory")
+text_line text.TooLong = plain (codes "2 TooLong")
+text_line (text.BadByte at) = placed (codes "3 BadByte") at
+text_line (text.OpenComment at) = placed (codes "4 OpenComment") at
+text_line (text.BadNumber at) = placed (codes "5 BadNumber") at
+text_line (text.Syntax at) = placed (codes "6 Syntax") at
+text_line (text.TooDeep at) = placed (codes "7 TooDeep") at
+
+abbrev pub check_line : CheckFault → List ℕ
+check_line rule.Memory = plain (codes "1 Memory")
+check_line (rule.UnknownName span) = spanned (codes "10 UnknownName") span
+check_line (rule.TwiceDeclared span) = spanned (codes "11 TwiceDeclared") span
+check_line (rule.UnknownType span) = spanned (codes "12 UnknownType") span
+check_line (rule.WrongType span) = spanned (codes "13 WrongType") span
+check_line (rule.WrongArguments span) = spanned (codes "14 WrongArguments") span
+check_line (rule.NotAssignable span) = spanned (codes "15 NotAssignable") span
+check_line (rule.NoLoop span) = spanned (codes "16 NoLoop") span
+check_line (rule.UnknownLabel span) = spanned (codes "17 UnknownLabel") span
+check_line (rule.MissingReturn span) = spanned (codes "18 MissingReturn") span
+check_line (rule.ReservedClass span) = spanned (codes "19 ReservedClass") span
+check_line (rule.Limit span) = spanned (codes "20 Limit") span
+
+abbrev pub program_line : ProgramFault → List ℕ
+program_line program.Memory = plain (codes "1 Memory")
+program_line (program.BadProgram at) = placed (codes "21 BadProgram") at
+program_line (program.UnknownThing at) = placed (codes "22 UnknownThing") at
+program_line (program.ReferenceResult at) = placed (codes "23 ReferenceResult") at
+program_line program.ProgramLimit = plain (codes "24 ProgramLimit")
+
+abbrev pub schedule_line : ScheduleFault → List ℕ
+schedule_line schedule.Memory = plain (codes "1 Memory")
+schedule_line (schedule.BadItem at) = placed (codes "40 BadItem") at
+schedule_line (schedule.UnknownThread at) = placed (codes "41 UnknownThread") at
+schedule_line schedule.TooManySteps = plain (codes "42 TooManySteps")
 
 abbrev pub history_line : HistoryFault → List ℕ
 history_line history.Memory = plain (codes "1 Memory")
@@ -35,6 +101,10 @@ order_line (order.BadOrder at) = placed (codes "78 BadOrder") at
 
 abbrev pub fault_line : ToolFault → List ℕ
 fault_line faults.Memory = plain (codes "1 Memory")
+fault_line (faults.Text f) = text_line f
+fault_line (faults.Check f) = check_line f
+fault_line (faults.Program f) = program_line f
+fault_line (faults.Schedule f) = schedule_line f
 fault_line (faults.History f) = history_line f
 fault_line (faults.Order f) = order_line f
 fault_line faults.WrongParts = plain (codes "80 WrongParts")

@@ -3,3 +3,4 @@ pub mod Faults
 pub mod Parts
 pub mod Check
 pub mod Output
+pub mod Source

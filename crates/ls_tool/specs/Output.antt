@@ -1,9 +1,10 @@
 -- What the program writes, for its words and its input.
-use Rattle.std.specs.Prelude.{◌≡◌, ◌==◌, ◌⊎◌, ◌≤◌, ℕ, Bool, true, false, List, [], ◌∷◌, ◌++◌, length, take, MatchBool, Option, Some, None, Result, Ok, Err, String, string_bytes}
+use Rattle.std.specs.Prelude.{◌≡◌, ◌≤◌, ℕ, List, [], ◌∷◌, length, take, MatchBool, Option, Some, None, Result, Ok, Err, String, string_bytes}
 use Rattle.std.specs.Global.{Global}
 use Rattle.std.specs.Io.KnownBytes.{Appends, Keeps}
 use Rattle.ls_report.specs.Events.{Text}
 use Rattle.ls_tool.specs.Check.{ChecksTo}
+use Rattle.ls_tool.specs.Source.{SourcesTo}
 use Rattle.ls_tool.specs.Faults.{fault_line}
 use Rattle.ls_tool.specs.Parts.{is_text, parts_of}
 use Rattle.ls_tool.specs.Words.{request_of}
@@ -18,6 +19,8 @@ use Rattle.ls_tool.specs.declared.fault.Refusal.TheVariants as refusals
 abbrev pub Answers : Request → List Text → Result Text ToolFault → Type 0
 Answers requests.Check (history ∷ order ∷ []) answer = ChecksTo history order answer
 Answers requests.Check other answer = answer ≡ Err faults.WrongParts
+Answers requests.Source (classes ∷ program ∷ schedule ∷ []) answer = SourcesTo classes program schedule answer
+Answers requests.Source other answer = answer ≡ Err faults.WrongParts
 
 abbrev pub AnswersText : Request → Text → Result Text ToolFault → Type 0
 AnswersText r input answer = MatchBool (is_text input) (Answers r (parts_of input) answer) (answer ≡ Err faults.NotText)

@@ -1,5 +1,5 @@
 -- What the command line may be, and what it asks for.
-use Rattle.std.specs.Prelude.{◌≡◌, true, List, [], ◌∷◌, codes, Option, Some, None, Result, Ok, Err}
+use Rattle.std.specs.Prelude.{◌≡◌, true, List, [], ◌∷◌, codes, Option, Some, None, Result, Ok, Err, bytes_eq, if◌then◌else◌}
 use Rattle.clap.specs.Words.{App, Row, Text, fault_of, new_app, subcommand_of, with_subcommand}
 use Rattle.clap.specs.Simple.{on_top}
 use Rattle.ls_tool.specs.declared.words.Request.{Request}
@@ -9,12 +9,15 @@ use Rattle.ls_tool.specs.declared.words.WordsFault.TheVariants as faults
 
 -- the program with its commands, one of which is wanted
 abbrev pub line : App
-line = with_subcommand (on_top (λ s. record s { subcommand_required = true }) (new_app (codes "listset")))
-    (new_app (codes "check")).top
+line =
+    with_subcommand
+    (with_subcommand (on_top (λ s. record s { subcommand_required = true }) (new_app (codes "listset")))
+    (new_app (codes "check")).top)
+    (new_app (codes "source")).top
 
 -- what a command of this name with these options asks for
 abbrev pub asked : Text → List Row → Request
-asked name rows = requests.Check
+asked name rows = if bytes_eq name (codes "source") then requests.Source else requests.Check
 
 abbrev pub asked_by : Option (Text × List Row) → Request
 asked_by None = requests.Check

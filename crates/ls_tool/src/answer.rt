@@ -6,6 +6,7 @@ ghost use Rattle.ls_tool.specs.Output.{Answers, AnswersText, Decides, Gives};
 use crate::commands::check;
 use crate::fault::{Refusal, ToolFault};
 use crate::parts::{parts_of, text_of};
+use crate::source::source;
 use crate::streams::read_whole;
 use crate::words::{Request, WordsFault, read_words};
 use std::alloc::Global;
@@ -17,7 +18,11 @@ fn decide(alloc: Global, request: Request, parts: &[String]) -> Result<String, T
 {
     match (request, parts) {
         (Request::Check, [history, order]) => check(alloc, history.as_str(), order.as_str()),
+        (Request::Source, [classes, program, schedule]) => {
+            source(alloc, classes.as_str(), program.as_str(), schedule.as_str())
+        }
         (Request::Check, _) => Err(ToolFault::WrongParts),
+        (Request::Source, _) => Err(ToolFault::WrongParts),
     }
 }
 

@@ -1,11 +1,15 @@
 // Faults of the program and of the layers below.
 
 ghost use Rattle.std.specs.Prelude.{◌≡◌};
-ghost use Rattle.ls_tool.specs.Faults.{lifted_history, lifted_order};
+ghost use Rattle.ls_tool.specs.Faults.{lifted_check, lifted_history, lifted_order, lifted_program, lifted_schedule, lifted_text};
 ghost use Rattle.ls_tool.specs.declared.fault.ToolFault.TheVariants.{Memory};
 
+use ls_lexer::fault::TextFault;
 use ls_orders::OrderFault;
 use ls_report::HistoryFault;
+use ls_schedule::fault::ScheduleFault;
+use ls_types::check::CheckFault;
+use ls_types::fault::ProgramFault;
 use std::alloc::{AllocError, AllocFailed};
 use thiserror::Error;
 
@@ -14,6 +18,14 @@ use thiserror::Error;
 pub enum ToolFault {
     #[error("out of memory")]
     Memory,
+    #[error(transparent)]
+    Text(TextFault),
+    #[error(transparent)]
+    Check(CheckFault),
+    #[error(transparent)]
+    Program(ProgramFault),
+    #[error(transparent)]
+    Schedule(ScheduleFault),
     #[error(transparent)]
     History(HistoryFault),
     #[error(transparent)]
@@ -69,6 +81,50 @@ impl From<OrderFault> for ToolFault {
         match fault {
             OrderFault::Memory => ToolFault::Memory,
             other => ToolFault::Order(other),
+        }
+    }
+}
+
+impl From<TextFault> for ToolFault {
+    ghost from_gives = { λ f e. e ≡ lifted_text f };
+
+    fn from(fault: TextFault) -> ToolFault {
+        match fault {
+            TextFault::Memory => ToolFault::Memory,
+            other => ToolFault::Text(other),
+        }
+    }
+}
+
+impl From<CheckFault> for ToolFault {
+    ghost from_gives = { λ f e. e ≡ lifted_check f };
+
+    fn from(fault: CheckFault) -> ToolFault {
+        match fault {
+            CheckFault::Memory => ToolFault::Memory,
+            other => ToolFault::Check(other),
+        }
+    }
+}
+
+impl From<ProgramFault> for ToolFault {
+    ghost from_gives = { λ f e. e ≡ lifted_program f };
+
+    fn from(fault: ProgramFault) -> ToolFault {
+        match fault {
+            ProgramFault::Memory => ToolFault::Memory,
+            other => ToolFault::Program(other),
+        }
+    }
+}
+
+impl From<ScheduleFault> for ToolFault {
+    ghost from_gives = { λ f e. e ≡ lifted_schedule f };
+
+    fn from(fault: ScheduleFault) -> ToolFault {
+        match fault {
+            ScheduleFault::Memory => ToolFault::Memory,
+            other => ToolFault::Schedule(other),
         }
     }
 }

@@ -7,6 +7,7 @@ mod fault;
 mod line;
 mod parts;
 mod running;
+mod source;
 mod streams;
 mod words;
 

@@ -1,11 +1,16 @@
 // The line of a fault, made without memory.
 
 ghost use Rattle.std.specs.Prelude.{◌≡◌, ◌≤◌, length};
-ghost use Rattle.ls_tool.specs.Faults.{fault_line, placed, plain};
+ghost use Rattle.ls_tool.specs.Faults.{fault_line, text_line, check_line, program_line, schedule_line, placed, plain, spanned};
 
 use crate::fault::ToolFault;
+use ls_lexer::fault::TextFault;
+use ls_lexer::token::Span;
 use ls_orders::OrderFault;
 use ls_report::HistoryFault;
+use ls_schedule::fault::ScheduleFault;
+use ls_types::check::CheckFault;
+use ls_types::fault::ProgramFault;
 use std::marker::Model;
 
 /// The most bytes of a line.
@@ -104,6 +109,77 @@ fn placed(name: &str, at: usize) -> Line
     line
 }
 
+fn spanned(name: &str, span: Span) -> Line
+    requires { length name.now ≤ 30 }
+    ensures { result ≡ spanned name.now span }
+{
+    let mut line = Line::new();
+    line.push_text("fault ");
+    line.push_text(name);
+    line.push_text(" at ");
+    line.push_number(span.start);
+    line.push_text("-");
+    line.push_number(span.end);
+    line.push_text("\n");
+    line
+}
+
+fn text_line(fault: TextFault) -> Line
+    ensures { result ≡ text_line fault }
+{
+    match fault {
+        TextFault::Memory => plain("1 Memory"),
+        TextFault::TooLong => plain("2 TooLong"),
+        TextFault::BadByte { at } => placed("3 BadByte", at),
+        TextFault::OpenComment { at } => placed("4 OpenComment", at),
+        TextFault::BadNumber { at } => placed("5 BadNumber", at),
+        TextFault::Syntax { at } => placed("6 Syntax", at),
+        TextFault::TooDeep { at } => placed("7 TooDeep", at),
+    }
+}
+
+fn check_line(fault: CheckFault) -> Line
+    ensures { result ≡ check_line fault }
+{
+    match fault {
+        CheckFault::Memory => plain("1 Memory"),
+        CheckFault::UnknownName(span) => spanned("10 UnknownName", span),
+        CheckFault::TwiceDeclared(span) => spanned("11 TwiceDeclared", span),
+        CheckFault::UnknownType(span) => spanned("12 UnknownType", span),
+        CheckFault::WrongType(span) => spanned("13 WrongType", span),
+        CheckFault::WrongArguments(span) => spanned("14 WrongArguments", span),
+        CheckFault::NotAssignable(span) => spanned("15 NotAssignable", span),
+        CheckFault::NoLoop(span) => spanned("16 NoLoop", span),
+        CheckFault::UnknownLabel(span) => spanned("17 UnknownLabel", span),
+        CheckFault::MissingReturn(span) => spanned("18 MissingReturn", span),
+        CheckFault::ReservedClass(span) => spanned("19 ReservedClass", span),
+        CheckFault::Limit(span) => spanned("20 Limit", span),
+    }
+}
+
+fn program_line(fault: ProgramFault) -> Line
+    ensures { result ≡ program_line fault }
+{
+    match fault {
+        ProgramFault::Memory => plain("1 Memory"),
+        ProgramFault::BadProgram { at } => placed("21 BadProgram", at),
+        ProgramFault::UnknownThing { at } => placed("22 UnknownThing", at),
+        ProgramFault::ReferenceResult { at } => placed("23 ReferenceResult", at),
+        ProgramFault::ProgramLimit => plain("24 ProgramLimit"),
+    }
+}
+
+fn schedule_line(fault: ScheduleFault) -> Line
+    ensures { result ≡ schedule_line fault }
+{
+    match fault {
+        ScheduleFault::Memory => plain("1 Memory"),
+        ScheduleFault::BadItem { at } => placed("40 BadItem", at),
+        ScheduleFault::UnknownThread { at } => placed("41 UnknownThread", at),
+        ScheduleFault::TooManySteps => plain("42 TooManySteps"),
+    }
+}
+
 /// The line of the fault on the standard error.
 pub(crate) fn fault_line(fault: ToolFault) -> Line
     ensures { result ≡ fault_line fault }
@@ -112,6 +188,10 @@ pub(crate) fn fault_line(fault: ToolFault) -> Line
         ToolFault::Memory
         | ToolFault::History(HistoryFault::Memory)
         | ToolFault::Order(OrderFault::Memory) => plain("1 Memory"),
+        ToolFault::Text(fault) => text_line(fault),
+        ToolFault::Check(fault) => check_line(fault),
+        ToolFault::Program(fault) => program_line(fault),
+        ToolFault::Schedule(fault) => schedule_line(fault),
         ToolFault::History(HistoryFault::BadHistory { at }) => placed("77 BadHistory", at),
         ToolFault::Order(OrderFault::BadOrder { at }) => placed("78 BadOrder", at),
         ToolFault::WrongParts => plain("80 WrongParts"),

@@ -56,6 +56,58 @@ fn checks(rt: HostRuntime) -> Result<(), Fail> {
 }
 
 #[test]
+fn runs_sources(rt: HostRuntime) -> Result<(), Fail> {
+    let alloc = rt.alloc();
+    let words = texts(alloc, ["listset", "source"].as_slice())?;
+    let counter =
+        b"class Counter { int v; void inc() { int t = v; int i = 0; while (i < 1) { i = i + 1; } v = t + 1; } \
+        int get() { return v; } }\n%%\nsetup { c = new Counter(); } thread A { c.inc(); } thread B { c.inc(); c.get(); }\n\
+        %%\nsetup*5 A*4 B*7 A*3 B*5\n";
+    let history =
+        "setup.1 call c = new Counter()\nsetup.1 return\nA.1 call c.inc()\nB.1 call c.inc()\nB.1 return\n\
+        A.1 return\nB.2 call c.get()\nB.2 return 1\n";
+    let rows: [(&[u8], u8, &str, &str); 7] = [
+        (counter, 0, history, ""),
+        (b"%%\nsetup { }\n%%\n", 0, "", ""),
+        (
+            b"class C { # }\n%%\nsetup { }\n%%\n",
+            1,
+            "",
+            "fault 3 BadByte at 10\n",
+        ),
+        (
+            b"class A { void f() { break; } }\n%%\nsetup { }\n%%\n",
+            1,
+            "",
+            "fault 16 NoLoop at 21-27\n",
+        ),
+        (
+            b"%%\nsetup { s = new Q(); }\n%%\n",
+            1,
+            "",
+            "fault 22 UnknownThing at 16\n",
+        ),
+        (
+            b"%%\nsetup { } thread A { } thread B { }\n%%\nA C\n",
+            1,
+            "",
+            "fault 41 UnknownThread at 2\n",
+        ),
+        (b"%%\nsetup { }\n", 1, "", "fault 80 WrongParts\n"),
+    ];
+    for (input, status, out, err) in rows {
+        let mut reader = input;
+        let mut shown = Vec::new(alloc);
+        let mut told = Vec::new(alloc);
+        let ended = run(alloc, words.as_slice(), &mut reader, &mut shown, &mut told);
+        assert_eq!(rt; shown.as_slice(), out.as_bytes());
+        assert_eq!(rt; told.as_slice(), err.as_bytes());
+        assert_eq!(rt; ended, status);
+    }
+    Ok(())
+}
+
+#[test]
 fn refuses_lines(rt: HostRuntime) -> Result<(), Fail> {
     let alloc = rt.alloc();
     let rows: [&[&str]; 4] = [

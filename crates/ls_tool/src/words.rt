@@ -13,6 +13,7 @@ use std::alloc::{AllocError, Global};
 #[derive(Clone, Copy, Debug, PartialEq, Eq)]
 pub enum Request {
     Check,
+    Source,
 }
 
 /// Why there is no request.
@@ -49,6 +50,13 @@ fn program<'a>(alloc: Global) -> Result<Command<'a>, AllocError>
         "Standard input has two parts, a history and an order, with a line %% between them:\n  \
          printf 'A.1 call s.add(1)\\nA.1 return true\\n%%%%\\nA.1\\n' | listset check",
     );
+    let source = plain_command(
+        alloc,
+        "source",
+        "Runs a program from its Java text under a schedule of source steps",
+        "Standard input has three parts, class text, thread program and schedule, with a line %% between them:\n  \
+         listset source < examples/lost_update.txt",
+    );
     let top = plain_command(
         alloc,
         "listset",
@@ -56,7 +64,9 @@ fn program<'a>(alloc: Global) -> Result<Command<'a>, AllocError>
         "Input ends with Ctrl-D. 'listset help COMMAND' tells what a command reads.",
     )
     .subcommand_required(true);
-    top.subcommand(check)
+    let one = top.subcommand(check)?;
+    let two = one.subcommand(source)?;
+    Ok(two)
 }
 
 /// What the words ask for.
@@ -89,8 +99,12 @@ fn chosen(matches: &ArgMatches<'_>) -> Request
     }
 }
 
-fn asked(_name: &str, _options: &ArgMatches<'_>) -> Request
-    ensures { result ≡ asked _name.now (rows_of (found_of _options.now)) }
+fn asked(name: &str, _options: &ArgMatches<'_>) -> Request
+    ensures { result ≡ asked name.now (rows_of (found_of _options.now)) }
 {
-    Request::Check
+    if name == "source" {
+        Request::Source
+    } else {
+        Request::Check
+    }
 }

@@ -14,6 +14,9 @@ decreases-evaluate l = l.depth * largest (plain_file l.file.now).methods + (weig
 abbrev pub decreases-unary : goal.decreases-unary
 decreases-unary l = l.depth * largest (plain_file l.file.now).methods + (weight (plain l.e.now) + 2)
 
+abbrev pub decreases-read : goal.decreases-read
+decreases-read l = l.depth * largest (plain_file l.file.now).methods + (weight (plain l.target.now) + 2)
+
 abbrev pub decreases-item : goal.decreases-item
 decreases-item l = l.depth * largest (plain_file l.file.now).methods + (weight (plain l.a.now) + weight (plain l.b.now) + 2)
 

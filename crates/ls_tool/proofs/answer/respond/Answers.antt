@@ -1,4 +1,4 @@
-use Rattle.std.proofs.Common.{◌≡◌, ◌∙◌, List, ℕ, map}
+use Rattle.std.proofs.Common.{◌∙◌, map}
 use Rattle.std.specs.Prelude.{string_bytes}
 use Rattle.ls_tool.proofs.Ending.{always, decide_bad, decide_err, decide_ok, if_known}
 use Rattle.ls_tool.proofs.answer.respond.Goals as goal

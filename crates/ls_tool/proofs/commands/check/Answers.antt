@@ -1,4 +1,4 @@
-use Rattle.std.proofs.Common.{◌≡◌, ◌∙◌, ap}
+use Rattle.std.proofs.Common.{◌∙◌, ap}
 use Rattle.std.proofs.lemmas.Result.{err_from_is_err_and}
 use Rattle.ls_tool.specs.Check.{judgement_text}
 use Rattle.ls_tool.proofs.CheckLemmas.{history_fails, order_fails, verdict_given}

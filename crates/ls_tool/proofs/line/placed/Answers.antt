@@ -1,5 +1,4 @@
-use Rattle.std.proofs.Common.{◌≡◌, ◌∙◌, ◌+◌, ◌<◌, ◌≤◌, ◌++◌, ap, arith, length, codes, [], List, ℕ}
-use Rattle.std.specs.Fmt.{decimal}
+use Rattle.std.proofs.Common.{ap, arith, length, ℕ}
 use Rattle.std.proofs.lemmas.Fmt.{length-decimal-le}
 use Rattle.std.proofs.lemmas.List.{length-append}
 use Rattle.ls_tool.proofs.line.placed.Goals as goal

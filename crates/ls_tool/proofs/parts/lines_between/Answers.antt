@@ -1,9 +1,9 @@
-use Rattle.std.proofs.Common.{◌≡◌, ◌∙◌, ◌++◌, ap, sym, arith, length, refl, map, append_assoc, ◌∷◌, [], rules, eqb}
+use Rattle.std.proofs.Common.{◌≡◌, ◌∙◌, ◌++◌, ap, sym, arith, map, append_assoc, ◌∷◌, [], rules, eqb}
 use Rattle.std.proofs.lemmas.List.{map_push}
 use Rattle.std.proofs.lemmas.Str.Pattern.{split_once_first}
 use Rattle.std.specs.List.{after_first}
 use Rattle.ls_tool.specs.Parts.{lines_of}
-use Rattle.ls_tool.proofs.LineLemmas.{feed, first_line, one_line}
+use Rattle.ls_tool.proofs.LineLemmas.{first_line, one_line}
 use Rattle.ls_tool.proofs.parts.lines_between.Goals as goal
 
 pub loop-line-preserved : goal.loop-line-preserved

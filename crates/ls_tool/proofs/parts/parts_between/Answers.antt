@@ -1,4 +1,4 @@
-use Rattle.std.proofs.Common.{◌≡◌, ◌∙◌, ◌++◌, ap, sym, map, option_map, drop, get_or, List, ℕ, ◌+◌, ◌∷◌, [], Some, None}
+use Rattle.std.proofs.Common.{◌∙◌, ◌++◌, ap, sym, map, option_map, drop, get_or, List, ℕ, ◌+◌, ◌∷◌, [], Some, None}
 use Rattle.std.specs.Prelude.{string_bytes}
 use Rattle.std.specs.Borrow.{Bor}
 use Rattle.std.proofs.lemmas.List.{map_push}

@@ -1,4 +1,4 @@
-use Rattle.std.proofs.Common.{◌≡◌, ◌∙◌, subst, List, ℕ}
+use Rattle.std.proofs.Common.{◌∙◌, subst}
 use Rattle.ls_tool.specs.Output.{Begins}
 use Rattle.ls_tool.proofs.Ending.{begins}
 use Rattle.ls_tool.proofs.running.tell.Goals as goal

@@ -1,4 +1,4 @@
-use Rattle.std.proofs.Common.{◌≡◌, ◌≤◌, ◌-◌, arith, length, drop, take, refl, length-drop}
+use Rattle.std.proofs.Common.{◌≡◌, ◌≤◌, ◌-◌, arith, length, drop, take, length-drop}
 use Rattle.std.proofs.lemmas.Grind.{common_steps}
 use Rattle.ls_tool.proofs.Written.{appends_more}
 use Rattle.ls_tool.proofs.streams.write_whole.Goals as goal

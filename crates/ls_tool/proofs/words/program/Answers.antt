@@ -1,6 +1,5 @@
-use Rattle.std.proofs.Common.{◌≡◌, ◌∙◌, ap, ap₂, true, codes}
-use Rattle.std.proofs.lemmas.Result.{IfOk-weaker}
-use Rattle.clap.specs.Words.{App, Shape, app_of, new_app, with_subcommand}
+use Rattle.std.proofs.Common.{◌∙◌, ap, ap₂, true}
+use Rattle.clap.specs.Words.{App, Shape, with_subcommand}
 use Rattle.clap.specs.Simple.{on_top, app_of_fields}
 use Rattle.ls_tool.proofs.words.program.Goals as goal
 
@@ -14,5 +13,5 @@ pub returns : goal.returns
 unfolding top marked
 returns c =
     let start = ap app_of_fields c.subcommand_required-top.ensures ∙ ap marked c.plain_command.ensures.shape in
-    IfOk-weaker c.subcommand.result _ _
-    (λ r h. h.shape c.plain_command-check.ensures.local ∙ ap₂ with_subcommand start (ap top c.plain_command-check.ensures.shape)) c.subcommand.ensures
+    let one = c.in_ok-one.ensures.shape c.plain_command-check.ensures.local ∙ ap₂ with_subcommand start (ap top c.plain_command-check.ensures.shape) in
+    c.in_ok-two.ensures.shape c.plain_command-source.ensures.local ∙ ap₂ with_subcommand one (ap top c.plain_command-source.ensures.shape)

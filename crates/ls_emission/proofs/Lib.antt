@@ -1,0 +1,16 @@
+pub mod Places
+pub mod Told
+pub mod Steps
+pub mod Runs
+pub mod Operands
+pub mod Expressions
+pub mod ExpressionRuns
+pub mod StatementPlaces
+pub mod Exits
+pub mod Statements
+pub mod StatementRuns
+pub mod Moves
+pub mod StatementMoves
+pub mod Placed
+pub mod Methods
+pub mod Reader

@@ -1,0 +1,82 @@
+-- The trees that have code: each number of a tree is there, and no `try` is left.
+use Rattle.std.specs.Prelude.{◌≡◌, ◌<◌, ◌≤◌, ℕ, suc, ◌+◌, ◌^◌, List, [], ◌∷◌, Option, Some, None, slice_get}
+use Rattle.ls_lowered.specs.LoweredTree.{Expression, Word, Local, Unary, Binary, And, Or, Hold, Keep, After, Field, Item, SetFirst, ReadPair, SetPair, SwapPair, AttemptMark, OnLock, OnLockWord, Call, MakeObject, MakeLock, MakeMarkable, MakeArray, Expressions, End, More, Statement, Block, SetLocal, SetField, SetItem, Evaluate, If, While, Break, Continue, Return, Try, Guarded, Throw, Leavable, Leave, Statements, Done, Then, Method, File}
+
+abbrev pub count : Expressions → ℕ
+count End = 0
+count (More e es) = suc (count es)
+
+-- method number m is there and takes so many arguments, `this` among them
+abbrev pub TakesIn : Option Method → ℕ → Type 0
+TakesIn None n = ⊥
+TakesIn (Some g) n = n ≡ g.arguments
+
+abbrev pub Takes : File → ℕ → ℕ → Type 0
+Takes methods m n = (m < 2 ^ 32) × TakesIn (slice_get methods m) n
+
+abbrev mutual
+  -- an expression of a method with k locals
+  pub IsEmittable : File → ℕ → Expression → Type 0
+  IsEmittable ms k (Word w) = w < 2 ^ 32
+  IsEmittable ms k (Local n) = n < k
+  IsEmittable ms k (Unary op e) = IsEmittable ms k e
+  IsEmittable ms k (Binary op a b) = IsEmittable ms k a × IsEmittable ms k b
+  IsEmittable ms k (And a b) = IsEmittable ms k a × IsEmittable ms k b
+  IsEmittable ms k (Or a b) = IsEmittable ms k a × IsEmittable ms k b
+  IsEmittable ms k (Hold a n b) = IsEmittable ms k a × (n < k) × IsEmittable ms k b
+  IsEmittable ms k (Keep n a b) = IsEmittable ms k a × (n < k) × IsEmittable ms k b
+  IsEmittable ms k (After a b) = IsEmittable ms k a × IsEmittable ms k b
+  IsEmittable ms k (Field e f) = IsEmittable ms k e × (f < 2 ^ 32)
+  IsEmittable ms k (Item a i) = IsEmittable ms k a × IsEmittable ms k i
+  IsEmittable ms k (SetFirst a e) = IsEmittable ms k a × IsEmittable ms k e
+  IsEmittable ms k (ReadPair e) = IsEmittable ms k e
+  IsEmittable ms k (SetPair e a) = IsEmittable ms k e × IsEmittable ms k a
+  IsEmittable ms k (SwapPair e a b) = IsEmittable ms k e × IsEmittable ms k a × IsEmittable ms k b
+  IsEmittable ms k (AttemptMark e a b) = IsEmittable ms k e × IsEmittable ms k a × IsEmittable ms k b
+  IsEmittable ms k (OnLock op e) = IsEmittable ms k e
+  IsEmittable ms k (OnLockWord op e) = IsEmittable ms k e
+  IsEmittable ms k (Call m e es) = Takes ms m (suc (count es)) × IsEmittable ms k e × AreEmittable ms k es
+  IsEmittable ms k (MakeObject c m es) = (c < 2 ^ 32) × Takes ms m (suc (count es)) × AreEmittable ms k es
+  IsEmittable ms k MakeLock = Unit {0}
+  IsEmittable ms k (MakeMarkable e) = IsEmittable ms k e
+  IsEmittable ms k (MakeArray e) = IsEmittable ms k e
+
+  pub AreEmittable : File → ℕ → Expressions → Type 0
+  AreEmittable ms k End = Unit {0}
+  AreEmittable ms k (More e es) = IsEmittable ms k e × AreEmittable ms k es
+
+abbrev mutual
+  -- a statement within so many loops and so many leavable regions
+  pub IsEmittableStatement : File → ℕ → ℕ → ℕ → Statement → Type 0
+  IsEmittableStatement ms k loops regions (Block ss) = AreEmittableStatements ms k loops regions ss
+  IsEmittableStatement ms k loops regions (SetLocal n e) = (n < k) × IsEmittable ms k e
+  IsEmittableStatement ms k loops regions (SetField e f a) = (f < 2 ^ 32) × IsEmittable ms k e × IsEmittable ms k a
+  IsEmittableStatement ms k loops regions (SetItem a i e) = IsEmittable ms k a × IsEmittable ms k i × IsEmittable ms k e
+  IsEmittableStatement ms k loops regions (Evaluate e) = IsEmittable ms k e
+  IsEmittableStatement ms k loops regions (If e a b) = IsEmittable ms k e × IsEmittableStatement ms k loops regions a × IsEmittableStatement ms k loops regions b
+  IsEmittableStatement ms k loops regions (While e s) = IsEmittable ms k e × IsEmittableStatement ms k (suc loops) regions s
+  IsEmittableStatement ms k loops regions (Break n) = n < loops
+  IsEmittableStatement ms k loops regions (Continue n) = n < loops
+  IsEmittableStatement ms k loops regions (Return e) = IsEmittable ms k e
+  IsEmittableStatement ms k loops regions (Try b f) = ⊥
+  IsEmittableStatement ms k loops regions (Guarded b n h) = (n < k) × IsEmittableStatement ms k loops regions b × IsEmittableStatement ms k loops regions h
+  IsEmittableStatement ms k loops regions (Throw n) = n < k
+  IsEmittableStatement ms k loops regions (Leavable b x) = IsEmittableStatement ms k loops (suc regions) b × IsEmittableStatement ms k loops regions x
+  IsEmittableStatement ms k loops regions (Leave n) = n < regions
+
+  pub AreEmittableStatements : File → ℕ → ℕ → ℕ → Statements → Type 0
+  AreEmittableStatements ms k loops regions Done = Unit {0}
+  AreEmittableStatements ms k loops regions (Then s ss) = IsEmittableStatement ms k loops regions s × AreEmittableStatements ms k loops regions ss
+
+-- each method has at least its `this`, at most 2 ^ 16 locals, and a body that has code
+pub record IsEmittableMethod (ms : File) (m : Method) : Type 0 where
+  pub this : 1 ≤ m.arguments
+  pub locals : m.arguments + m.locals ≤ 65536
+  pub body : IsEmittableStatement ms (m.arguments + m.locals) 0 0 m.body
+
+abbrev pub AllEmittable : File → List Method → Type 0
+AllEmittable ms [] = Unit {0}
+AllEmittable ms (m ∷ rest) = IsEmittableMethod ms m × AllEmittable ms rest
+
+abbrev pub IsEmittableFile : File → Type 0
+IsEmittableFile ms = AllEmittable ms ms

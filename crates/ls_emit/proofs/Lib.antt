@@ -1,0 +1,4 @@
+pub mod Blocks
+pub mod Files
+pub mod Smalls
+pub mod Weights

@@ -1,0 +1,61 @@
+-- The numbers of an emittable tree are operands.
+use Rattle.std.proofs.Common.{◌≡◌, ℕ, suc, ◌+◌, ◌<◌, ◌≤◌, ◌^◌, arith, List, [], ◌∷◌, map, length, get_or, sym, subst}
+use Rattle.ls_lowered.specs.LoweredTree.{Expression, Word, Local, Unary, Binary, And, Or, Hold, Keep, After, Field, Item, SetFirst, ReadPair, SetPair, SwapPair, AttemptMark, OnLock, OnLockWord, Call, MakeObject, MakeLock, MakeMarkable, MakeArray, Expressions, End, More, Statement, Block, SetLocal, SetField, SetItem, Evaluate, If, While, Break, Continue, Return, Try, Guarded, Throw, Leavable, Leave, Statements, Done, Then, Method, File}
+use Rattle.ls_emission.specs.Emittable.{IsEmittable, AreEmittable, IsEmittableStatement, AreEmittableStatements, IsEmittableMethod, AllEmittable, IsEmittableFile}
+use Rattle.ls_emit.specs.Small.{IsSmall, AreSmall, IsSmallStatement, AreSmallStatements}
+
+below : (k n : ℕ) → k ≤ 65536 → n < k → n < 2 ^ 32
+below k n few h = omega arith
+
+module _ (ms : File) (k : ℕ) (few : k ≤ 65536) where
+  mutual
+    pub small : (e : Expression) → IsEmittable ms k e → IsSmall e
+    small (Word w) h = h
+    small (Local n) h = below k n few h
+    small (Unary o e) h = small e h
+    small (Binary o a b) h = (small a h.0, small b h.1)
+    small (And a b) h = (small a h.0, small b h.1)
+    small (Or a b) h = (small a h.0, small b h.1)
+    small (Hold a n b) h = (small a h.0, below k n few h.1, small b h.2)
+    small (Keep n a b) h = (small a h.0, below k n few h.1, small b h.2)
+    small (After a b) h = (small a h.0, small b h.1)
+    small (Field e f) h = (small e h.0, h.1)
+    small (Item a b) h = (small a h.0, small b h.1)
+    small (SetFirst a b) h = (small a h.0, small b h.1)
+    small (ReadPair e) h = small e h
+    small (SetPair a b) h = (small a h.0, small b h.1)
+    small (SwapPair e a b) h = (small e h.0, small a h.1, small b h.2)
+    small (AttemptMark e a b) h = (small e h.0, small a h.1, small b h.2)
+    small (OnLock o e) h = small e h
+    small (OnLockWord o e) h = small e h
+    small (Call m e es) h = (h.0.0, small e h.1, all_small es h.2)
+    small (MakeObject c m es) h = (h.0, h.1.0, all_small es h.2)
+    small MakeLock h = tt
+    small (MakeMarkable e) h = small e h
+    small (MakeArray e) h = small e h
+
+    pub all_small : (es : Expressions) → AreEmittable ms k es → AreSmall es
+    all_small End h = tt
+    all_small (More e es) h = (small e h.0, all_small es h.1)
+
+  mutual
+    pub small_statement : (s : Statement) (loops regions : ℕ) → IsEmittableStatement ms k loops regions s → IsSmallStatement s
+    small_statement (Block ss) loops regions h = all_small_statements ss loops regions h
+    small_statement (SetLocal n e) loops regions h = (below k n few h.0, small e h.1)
+    small_statement (SetField e f a) loops regions h = (h.0, small e h.1, small a h.2)
+    small_statement (SetItem a i e) loops regions h = (small a h.0, small i h.1, small e h.2)
+    small_statement (Evaluate e) loops regions h = small e h
+    small_statement (If e a b) loops regions h = (small e h.0, small_statement a loops regions h.1, small_statement b loops regions h.2)
+    small_statement (While e s) loops regions h = (small e h.0, small_statement s (suc loops) regions h.1)
+    small_statement (Break n) loops regions h = tt
+    small_statement (Continue n) loops regions h = tt
+    small_statement (Return e) loops regions h = small e h
+    small_statement (Try b f) loops regions h = tt
+    small_statement (Guarded b n x) loops regions h = (below k n few h.0, small_statement b loops regions h.1, small_statement x loops regions h.2)
+    small_statement (Throw n) loops regions h = below k n few h
+    small_statement (Leavable b x) loops regions h = (small_statement b loops (suc regions) h.0, small_statement x loops regions h.1)
+    small_statement (Leave n) loops regions h = tt
+
+    pub all_small_statements : (ss : Statements) (loops regions : ℕ) → AreEmittableStatements ms k loops regions ss → AreSmallStatements ss
+    all_small_statements Done loops regions h = tt
+    all_small_statements (Then s ss) loops regions h = (small_statement s loops regions h.0, all_small_statements ss loops regions h.1)

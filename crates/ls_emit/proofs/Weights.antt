@@ -1,0 +1,25 @@
+-- How much there is to do at a statement.
+use Rattle.std.proofs.Common.{ℕ, suc, ◌+◌}
+use Rattle.ls_lowered.specs.LoweredTree.{Statement, Block, SetLocal, SetField, SetItem, Evaluate, If, While, Break, Continue, Return, Try, Guarded, Throw, Leavable, Leave, Statements, Done, Then}
+
+abbrev mutual
+  pub weight : Statement → ℕ
+  weight (Block ss) = weights ss + 1
+  weight (SetLocal n e) = 0
+  weight (SetField e f a) = 0
+  weight (SetItem a i e) = 0
+  weight (Evaluate e) = 0
+  weight (If e a b) = weight a + weight b + 1
+  weight (While e s) = weight s + 1
+  weight (Break n) = 0
+  weight (Continue n) = 0
+  weight (Return e) = 0
+  weight (Try b f) = 0
+  weight (Guarded b n h) = weight b + weight h + 1
+  weight (Throw n) = 0
+  weight (Leavable b x) = weight b + weight x + 1
+  weight (Leave n) = 0
+
+  pub weights : Statements → ℕ
+  weights Done = 0
+  weights (Then s ss) = weight s + weights ss

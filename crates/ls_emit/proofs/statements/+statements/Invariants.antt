@@ -1,0 +1,33 @@
+use Rattle.std.proofs.Common.{◌≡◌, ◌+◌, ◌*◌, ◌≤◌, ◌++◌, drop}
+use Rattle.ls_lowered.specs.Plain.{plain_statement, statements_of}
+use Rattle.ls_emission.specs.Statements.{statements_size, statements_code, statements_rows}
+use Rattle.ls_emit.specs.Places.{targets_of}
+use Rattle.ls_emit.specs.Small.{AreSmallStatements}
+use Rattle.ls_emit.proofs.Weights.{weight, weights}
+use Rattle.ls_emit.proofs.statements.+statements.Given as goal
+
+abbrev pub invariant-emit_block-loop-s : goal.invariant-emit_block-loop-s
+invariant-emit_block-loop-s l =
+    (l.out.items ++ statements_code (targets_of l.around) l.next (statements_of (drop l.s-index l.statements)) ≡ l.initial.out.items ++ statements_code (targets_of l.around) l.place (statements_of l.statements))
+    × (l.rows.items ++ statements_rows l.next (statements_of (drop l.s-index l.statements)) ≡ l.initial.rows.items ++ statements_rows l.place (statements_of l.statements))
+    × (l.next + statements_size (statements_of (drop l.s-index l.statements)) ≡ l.place + statements_size (statements_of l.statements))
+    × AreSmallStatements (statements_of (drop l.s-index l.statements))
+    × (weights (statements_of (drop l.s-index l.statements)) ≤ weights (statements_of l.statements))
+
+abbrev pub decreases-emit_statement : goal.decreases-emit_statement
+decreases-emit_statement l = 2 * weight (plain_statement l.s.now)
+
+abbrev pub decreases-emit_block : goal.decreases-emit_block
+decreases-emit_block l = 2 * weights (statements_of l.statements.now) + 1
+
+abbrev pub decreases-emit_if : goal.decreases-emit_if
+decreases-emit_if l = 2 * (weight (plain_statement l.first.now) + weight (plain_statement l.second.now)) + 1
+
+abbrev pub decreases-emit_while : goal.decreases-emit_while
+decreases-emit_while l = 2 * weight (plain_statement l.body.now) + 1
+
+abbrev pub decreases-emit_guarded : goal.decreases-emit_guarded
+decreases-emit_guarded l = 2 * (weight (plain_statement l.body.now) + weight (plain_statement l.handler.now)) + 1
+
+abbrev pub decreases-emit_leavable : goal.decreases-emit_leavable
+decreases-emit_leavable l = 2 * (weight (plain_statement l.body.now) + weight (plain_statement l.exit.now)) + 1

@@ -1,0 +1,4 @@
+pub mod Small
+pub mod Short
+pub mod Depths
+pub mod Places

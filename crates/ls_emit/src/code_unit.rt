@@ -1,0 +1,24 @@
+// The unit of a method.
+
+use ls_code::code::HandlerRow;
+use ls_code::instruction::Instruction;
+use std::marker::Model;
+
+/// A method's code as if it stood at place 0, its handler rows, its arguments (`this` among them), its further locals,
+/// and how many operands it needs.
+#[derive(Debug, Drop)]
+pub struct CodeUnit {
+    pub instructions: Vec<Instruction>,
+    pub handlers: Vec<HandlerRow>,
+    pub arguments: usize,
+    pub more: usize,
+    pub need: usize,
+}
+
+impl Model for CodeUnit {
+    ghost use Rattle.ls_emission.specs.Units.{CodeUnit as UnitValue};
+
+    ghost Value = { UnitValue };
+
+    ghost view = { λ u. record { instructions = u.instructions.items; handlers = u.handlers.items; arguments = u.arguments; more = u.more; need = u.need } };
+}

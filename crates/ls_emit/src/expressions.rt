@@ -1,0 +1,298 @@
+// The code of expressions.
+
+ghost use Rattle.std.specs.Prelude.{◌≡◌, ◌+◌, ◌<◌, ◌≤◌, ◌^◌, ◌++◌, [], ◌∷◌, IfOk, OnOk};
+ghost use Rattle.ls_code.specs.declared.instruction.Instruction.TheVariants as op;
+ghost use Rattle.ls_lowered.specs.Plain.{plain, all_plain};
+ghost use Rattle.ls_emission.specs.Expressions.{unary_code, binary_code, lock_code, lock_size as size_of_lock, size, all_size, code, all_code};
+ghost use Rattle.ls_emit.specs.Small.{IsSmall, AreSmall};
+
+use crate::sizes::{lock_size, size_of};
+use ls_code::instruction::Instruction;
+use ls_lowered::tree::{BinaryOperator, Expression, Expressions, LockOperation, UnaryOperator};
+use std::alloc::AllocError;
+
+fn unary_instruction(op: UnaryOperator) -> Instruction
+    ensures { result ≡ unary_code op }
+{
+    match op {
+        UnaryOperator::Negate => Instruction::Neg,
+        UnaryOperator::Not => Instruction::Not,
+        UnaryOperator::ReferenceOf => Instruction::ReferenceOf,
+        UnaryOperator::MarkOf => Instruction::MarkOf,
+    }
+}
+
+fn binary_instruction(op: BinaryOperator) -> Instruction
+    ensures { result ≡ binary_code op }
+{
+    match op {
+        BinaryOperator::Add => Instruction::Add,
+        BinaryOperator::Subtract => Instruction::Sub,
+        BinaryOperator::Multiply => Instruction::Mul,
+        BinaryOperator::Divide => Instruction::Div,
+        BinaryOperator::Remainder => Instruction::Rem,
+        BinaryOperator::Less => Instruction::Lt,
+        BinaryOperator::LessEqual => Instruction::Le,
+        BinaryOperator::Greater => Instruction::Gt,
+        BinaryOperator::GreaterEqual => Instruction::Ge,
+        BinaryOperator::Equal => Instruction::Eq,
+        BinaryOperator::NotEqual => Instruction::Ne,
+        BinaryOperator::Pack => Instruction::Pack,
+    }
+}
+
+/// Puts an instruction behind those that are there.
+pub fn put(out: &mut Vec<Instruction>, instruction: Instruction) -> Result<(), AllocError>
+    ensures { OnOk result (out.new.items ≡ out.old.items ++ instruction ∷ []) }
+{
+    out.push(instruction)?;
+    Ok(())
+}
+
+// An operation of a lock. One that gives no word leaves 0.
+fn put_lock_operation(out: &mut Vec<Instruction>, op: LockOperation) -> Result<(), AllocError>
+    ensures { OnOk result (out.new.items ≡ out.old.items ++ lock_code op) }
+{
+    match op {
+        LockOperation::Lock => {
+            put(out, Instruction::Lock)?;
+            put(out, Instruction::Push(0))?;
+            Ok(())
+        }
+        LockOperation::Unlock => {
+            put(out, Instruction::Unlock)?;
+            put(out, Instruction::Push(0))?;
+            Ok(())
+        }
+        LockOperation::TryLock => {
+            put(out, Instruction::TryLock)?;
+            Ok(())
+        }
+        LockOperation::IsHeld => {
+            put(out, Instruction::IsHeld)?;
+            Ok(())
+        }
+    }
+}
+
+/// The code of an expression that stands at a place, behind the code that is there; the place behind it.
+#[cycle(expressions)]
+pub fn emit_expression(
+    out: &mut Vec<Instruction>,
+    place: usize,
+    e: &Expression,
+) -> Result<usize, AllocError>
+    requires room { place + size (plain e.now) ≤ 65536 }
+    requires small { IsSmall (plain e.now) }
+    ensures code { OnOk result (out.new.items ≡ out.old.items ++ code place (plain e.now)) }
+    ensures next { IfOk result (λ next. (next ≡ place + size (plain e.now)) × (place < next)) }
+{
+    match e {
+        Expression::Word(word) => emit_alone(out, place, Instruction::Push(*word as u32)),
+        Expression::Local(number) => emit_alone(out, place, Instruction::Load(*number as u32)),
+        Expression::MakeLock => emit_alone(out, place, Instruction::NewLock),
+        Expression::Unary(op, e) => emit_on(out, place, e, unary_instruction(*op)),
+        Expression::Field(e, field) => emit_on(out, place, e, Instruction::GetField(*field as u32)),
+        Expression::ReadPair(e) => emit_on(out, place, e, Instruction::ReadPair),
+        Expression::MakeMarkable(e) => emit_on(out, place, e, Instruction::NewMarkable),
+        Expression::MakeArray(e) => emit_on(out, place, e, Instruction::NewArray),
+        Expression::OnLock(op, e) | Expression::OnLockWord(op, e) => {
+            let next = emit_expression(out, place, e)?;
+            put_lock_operation(out, *op)?;
+            Ok(next + lock_size(*op))
+        }
+        Expression::Binary(op, a, b) => emit_on_two(out, place, a, b, binary_instruction(*op)),
+        Expression::Hold(a, number, b) => {
+            emit_on_two(out, place, a, b, Instruction::Store(*number as u32))
+        }
+        Expression::Item(a, b) => emit_on_two(out, place, a, b, Instruction::GetItem),
+        Expression::SetPair(a, b) => {
+            let next = emit_on_two(out, place, a, b, Instruction::SetPair)?;
+            put(out, Instruction::Push(0))?;
+            Ok(next + 1)
+        }
+        Expression::Keep(number, a, b) => {
+            emit_around(out, place, a, Instruction::Store(*number as u32), b)
+        }
+        Expression::After(a, b) => emit_around(out, place, a, Instruction::Pop, b),
+        Expression::SetFirst(a, b) => {
+            let next = emit_around(out, place, a, Instruction::Push(0), b)?;
+            put(out, Instruction::PutItem)?;
+            put(out, Instruction::Push(0))?;
+            Ok(next + 2)
+        }
+        Expression::And(a, b) => emit_and(out, place, a, b),
+        Expression::Or(a, b) => emit_or(out, place, a, b),
+        Expression::SwapPair(e, a, b) => emit_on_three(out, place, e, a, b, Instruction::SwapPair),
+        Expression::AttemptMark(e, a, b) => {
+            emit_on_three(out, place, e, a, b, Instruction::AttemptMark)
+        }
+        Expression::Call(method, e, es) => {
+            let next = emit_expression(out, place, e)?;
+            let next = emit_all(out, next, es)?;
+            put(out, Instruction::Enter(*method as u32))?;
+            Ok(next + 1)
+        }
+        Expression::MakeObject(class, method, es) => {
+            put(out, Instruction::NewObject(*class as u32))?;
+            put(out, Instruction::Dup)?;
+            let next = emit_all(out, place + 2, es)?;
+            put(out, Instruction::Enter(*method as u32))?;
+            put(out, Instruction::Pop)?;
+            Ok(next + 2)
+        }
+    }
+}
+
+// Arguments, from the left.
+#[cycle(expressions)]
+fn emit_all(out: &mut Vec<Instruction>, place: usize, es: &Expressions) -> Result<usize, AllocError>
+    requires room { place + all_size (all_plain es.now) ≤ 65536 }
+    requires small { AreSmall (all_plain es.now) }
+    ensures code { OnOk result (out.new.items ≡ out.old.items ++ all_code place (all_plain es.now)) }
+    ensures next { IfOk result (λ next. next ≡ place + all_size (all_plain es.now)) }
+{
+    match es {
+        Expressions::End => Ok(place),
+        Expressions::More(first, others) => {
+            let next = emit_expression(out, place, first)?;
+            let next = emit_all(out, next, others)?;
+            Ok(next)
+        }
+    }
+}
+
+fn emit_alone(
+    out: &mut Vec<Instruction>,
+    place: usize,
+    instruction: Instruction,
+) -> Result<usize, AllocError>
+    requires { place + 1 ≤ 65536 }
+    ensures code { OnOk result (out.new.items ≡ out.old.items ++ instruction ∷ []) }
+    ensures next { IfOk result (λ next. (next ≡ place + 1) × (place < next)) }
+{
+    put(out, instruction)?;
+    Ok(place + 1)
+}
+
+/// An instruction on the word of an expression.
+#[cycle(expressions)]
+pub fn emit_on(
+    out: &mut Vec<Instruction>,
+    place: usize,
+    e: &Expression,
+    instruction: Instruction,
+) -> Result<usize, AllocError>
+    requires room { place + size (plain e.now) + 1 ≤ 65536 }
+    requires small { IsSmall (plain e.now) }
+    ensures code { OnOk result (out.new.items ≡ out.old.items ++ (code place (plain e.now) ++ instruction ∷ [])) }
+    ensures next { IfOk result (λ next. (next ≡ place + (size (plain e.now) + 1)) × (place < next)) }
+{
+    let next = emit_expression(out, place, e)?;
+    put(out, instruction)?;
+    Ok(next + 1)
+}
+
+/// An instruction on the words of two expressions.
+#[cycle(expressions)]
+pub fn emit_on_two(
+    out: &mut Vec<Instruction>,
+    place: usize,
+    a: &Expression,
+    b: &Expression,
+    instruction: Instruction,
+) -> Result<usize, AllocError>
+    requires room { place + size (plain a.now) + size (plain b.now) + 1 ≤ 65536 }
+    requires small { IsSmall (plain a.now) × IsSmall (plain b.now) }
+    ensures code { OnOk result (out.new.items ≡ out.old.items ++ (code place (plain a.now) ++ code (place + size (plain a.now)) (plain b.now) ++ instruction ∷ [])) }
+    ensures next { IfOk result (λ next. (next ≡ place + (size (plain a.now) + size (plain b.now) + 1)) × (place < next)) }
+{
+    let middle = emit_expression(out, place, a)?;
+    let next = emit_expression(out, middle, b)?;
+    put(out, instruction)?;
+    Ok(next + 1)
+}
+
+/// An instruction on the words of three expressions.
+#[cycle(expressions)]
+pub fn emit_on_three(
+    out: &mut Vec<Instruction>,
+    place: usize,
+    e: &Expression,
+    a: &Expression,
+    b: &Expression,
+    instruction: Instruction,
+) -> Result<usize, AllocError>
+    requires room { place + size (plain e.now) + size (plain a.now) + size (plain b.now) + 1 ≤ 65536 }
+    requires small { IsSmall (plain e.now) × IsSmall (plain a.now) × IsSmall (plain b.now) }
+    ensures code { OnOk result (out.new.items ≡ out.old.items ++ (code place (plain e.now) ++ code (place + size (plain e.now)) (plain a.now) ++ code (place + size (plain e.now) + size (plain a.now)) (plain b.now) ++ instruction ∷ [])) }
+    ensures next { IfOk result (λ next. (next ≡ place + (size (plain e.now) + size (plain a.now) + size (plain b.now) + 1)) × (place < next)) }
+{
+    let first = emit_expression(out, place, e)?;
+    let second = emit_expression(out, first, a)?;
+    let next = emit_expression(out, second, b)?;
+    put(out, instruction)?;
+    Ok(next + 1)
+}
+
+// An expression, an instruction, and another expression.
+#[cycle(expressions)]
+fn emit_around(
+    out: &mut Vec<Instruction>,
+    place: usize,
+    a: &Expression,
+    instruction: Instruction,
+    b: &Expression,
+) -> Result<usize, AllocError>
+    requires room { place + size (plain a.now) + size (plain b.now) + 1 ≤ 65536 }
+    requires small { IsSmall (plain a.now) × IsSmall (plain b.now) }
+    ensures code { OnOk result (out.new.items ≡ out.old.items ++ (code place (plain a.now) ++ instruction ∷ code (place + size (plain a.now) + 1) (plain b.now))) }
+    ensures next { IfOk result (λ next. (next ≡ place + (size (plain a.now) + size (plain b.now) + 1)) × (place < next)) }
+{
+    let middle = emit_expression(out, place, a)?;
+    put(out, instruction)?;
+    let next = emit_expression(out, middle + 1, b)?;
+    Ok(next)
+}
+
+#[cycle(expressions)]
+fn emit_and(
+    out: &mut Vec<Instruction>,
+    place: usize,
+    a: &Expression,
+    b: &Expression,
+) -> Result<usize, AllocError>
+    requires room { place + size (plain a.now) + size (plain b.now) + 3 ≤ 65536 }
+    requires small { IsSmall (plain a.now) × IsSmall (plain b.now) }
+    ensures code { OnOk result (out.new.items ≡ out.old.items ++ (code place (plain a.now) ++ op.JumpIfFalse (place + size (plain a.now) + size (plain b.now) + 2) ∷ code (place + size (plain a.now) + 1) (plain b.now) ++ op.Jump (place + size (plain a.now) + size (plain b.now) + 3) ∷ op.Push 0 ∷ [])) }
+    ensures next { IfOk result (λ next. (next ≡ place + (size (plain a.now) + size (plain b.now) + 3)) × (place < next)) }
+{
+    let middle = emit_expression(out, place, a)?;
+    let otherwise = middle + size_of(b) + 2;
+    put(out, Instruction::JumpIfFalse(otherwise as u32))?;
+    emit_expression(out, middle + 1, b)?;
+    put(out, Instruction::Jump((otherwise + 1) as u32))?;
+    put(out, Instruction::Push(0))?;
+    Ok(otherwise + 1)
+}
+
+#[cycle(expressions)]
+fn emit_or(
+    out: &mut Vec<Instruction>,
+    place: usize,
+    a: &Expression,
+    b: &Expression,
+) -> Result<usize, AllocError>
+    requires room { place + size (plain a.now) + size (plain b.now) + 3 ≤ 65536 }
+    requires small { IsSmall (plain a.now) × IsSmall (plain b.now) }
+    ensures code { OnOk result (out.new.items ≡ out.old.items ++ (code place (plain a.now) ++ op.JumpIfFalse (place + size (plain a.now) + 3) ∷ op.Push 1 ∷ op.Jump (place + size (plain a.now) + size (plain b.now) + 3) ∷ code (place + size (plain a.now) + 3) (plain b.now))) }
+    ensures next { IfOk result (λ next. (next ≡ place + (size (plain a.now) + size (plain b.now) + 3)) × (place < next)) }
+{
+    let middle = emit_expression(out, place, a)?;
+    let end = middle + size_of(b) + 3;
+    put(out, Instruction::JumpIfFalse((middle + 3) as u32))?;
+    put(out, Instruction::Push(1))?;
+    put(out, Instruction::Jump(end as u32))?;
+    emit_expression(out, middle + 3, b)?;
+    Ok(end)
+}

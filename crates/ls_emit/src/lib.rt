@@ -1,0 +1,12 @@
+//! The code of lowered trees, method by method.
+#![tactic(auto)]
+
+pub mod code_unit;
+pub mod emit;
+pub mod emittable;
+pub mod expressions;
+pub mod fault;
+pub mod needs;
+pub mod sizes;
+pub mod statements;
+pub mod targets;

@@ -1,0 +1,235 @@
+// The code of statements.
+
+ghost use Rattle.std.specs.Prelude.{◌≡◌, ◌+◌, ◌≤◌, ◌++◌, [], ◌∷◌, OnOk};
+ghost use Rattle.ls_code.specs.declared.instruction.Instruction.TheVariants as op;
+ghost use Rattle.ls_lowered.specs.LoweredTree.{If, While, Guarded, Leavable};
+ghost use Rattle.ls_lowered.specs.Plain.{plain, plain_statement, statements_of};
+ghost use Rattle.ls_emission.specs.Expressions.{size, code};
+ghost use Rattle.ls_emission.specs.Statements.{statement_size, statements_size, statement_code, statements_code, statement_rows, statements_rows};
+ghost use Rattle.ls_emit.specs.Places.{targets_of};
+ghost use Rattle.ls_emit.specs.Small.{IsSmall, IsSmallStatement, AreSmallStatements};
+
+use crate::expressions::{emit_expression, emit_on, emit_on_three, emit_on_two, put};
+use crate::sizes::size_of_statement;
+use crate::targets::{Around, find_exit, find_stop, find_turn};
+use ls_code::code::HandlerRow;
+use ls_code::instruction::Instruction;
+use ls_lowered::tree::{Expression, Statement};
+use std::alloc::AllocError;
+
+/// The code of a statement that stands from `place` to below `end`, and its handler rows, behind those that are there.
+#[cycle(statements)]
+#[tactic(auto, using(crate::proofs::Blocks::block_read))]
+pub fn emit_statement(
+    out: &mut Vec<Instruction>,
+    rows: &mut Vec<HandlerRow>,
+    around: &Around,
+    place: usize,
+    end: usize,
+    s: &Statement,
+) -> Result<(), AllocError>
+    requires ends { end ≡ place + statement_size (plain_statement s.now) }
+    requires room { end ≤ 65536 }
+    requires small { IsSmallStatement (plain_statement s.now) }
+    ensures code { OnOk result (out.new.items ≡ out.old.items ++ statement_code (targets_of around.now) place (plain_statement s.now)) }
+    ensures rows { OnOk result (rows.new.items ≡ rows.old.items ++ statement_rows place (plain_statement s.now)) }
+{
+    match s {
+        Statement::Block(statements) => emit_block(out, rows, &*around, place, statements),
+        Statement::SetLocal(number, e) => {
+            emit_value(out, place, e, Instruction::Store(*number as u32))
+        }
+        Statement::SetField(object, field, value) => {
+            emit_on_two(
+                out,
+                place,
+                object,
+                value,
+                Instruction::PutField(*field as u32),
+            )?;
+            Ok(())
+        }
+        Statement::SetItem(array, index, value) => {
+            emit_on_three(out, place, array, index, value, Instruction::PutItem)?;
+            Ok(())
+        }
+        Statement::Evaluate(e) => emit_value(out, place, e, Instruction::Pop),
+        Statement::Return(e) => emit_value(out, place, e, Instruction::LeaveWith),
+        Statement::If(condition, first, second) => {
+            emit_if(out, rows, &*around, place, end, condition, first, second)
+        }
+        Statement::While(condition, body) => {
+            emit_while(out, rows, &*around, place, end, condition, body)
+        }
+        Statement::Break(number) => put(out, Instruction::Jump(find_stop(around, *number))),
+        Statement::Continue(number) => put(out, Instruction::Jump(find_turn(around, *number))),
+        Statement::Try(_, _) => Ok(()),
+        Statement::Guarded(body, number, handler) => {
+            emit_guarded(
+                out,
+                rows,
+                &*around,
+                place,
+                end,
+                body,
+                *number as u32,
+                handler,
+            )
+        }
+        Statement::Throw(number) => emit_throw(out, *number as u32),
+        Statement::Leavable(body, exit) => {
+            emit_leavable(out, rows, &*around, place, end, body, exit)
+        }
+        Statement::Leave(number) => put(out, Instruction::Jump(find_exit(around, *number))),
+    }
+}
+
+fn emit_value(
+    out: &mut Vec<Instruction>,
+    place: usize,
+    e: &Expression,
+    instruction: Instruction,
+) -> Result<(), AllocError>
+    requires room { place + size (plain e.now) + 1 ≤ 65536 }
+    requires small { IsSmall (plain e.now) }
+    ensures { OnOk result (out.new.items ≡ out.old.items ++ (code place (plain e.now) ++ instruction ∷ [])) }
+{
+    emit_on(out, place, e, instruction)?;
+    Ok(())
+}
+
+fn emit_throw(out: &mut Vec<Instruction>, number: u32) -> Result<(), AllocError>
+    ensures { OnOk result (out.new.items ≡ out.old.items ++ op.Load number ∷ op.Throw ∷ []) }
+{
+    put(out, Instruction::Load(number))?;
+    put(out, Instruction::Throw)?;
+    Ok(())
+}
+
+#[cycle(statements)]
+fn emit_block(
+    out: &mut Vec<Instruction>,
+    rows: &mut Vec<HandlerRow>,
+    around: &Around,
+    place: usize,
+    statements: &[Statement],
+) -> Result<(), AllocError>
+    requires room { place + statements_size (statements_of statements.now) ≤ 65536 }
+    requires small { AreSmallStatements (statements_of statements.now) }
+    ensures code { OnOk result (out.new.items ≡ out.old.items ++ statements_code (targets_of around.now) place (statements_of statements.now)) }
+    ensures rows { OnOk result (rows.new.items ≡ rows.old.items ++ statements_rows place (statements_of statements.now)) }
+{
+    let mut next = place;
+    for s in statements {
+        let end = next + size_of_statement(s);
+        emit_statement(out, rows, &*around, next, end, s)?;
+        next = end;
+    }
+    Ok(())
+}
+
+#[cycle(statements)]
+fn emit_if(
+    out: &mut Vec<Instruction>,
+    rows: &mut Vec<HandlerRow>,
+    around: &Around,
+    place: usize,
+    end: usize,
+    condition: &Expression,
+    first: &Statement,
+    second: &Statement,
+) -> Result<(), AllocError>
+    requires ends { end ≡ place + (size (plain condition.now) + statement_size (plain_statement first.now) + statement_size (plain_statement second.now) + 2) }
+    requires room { end ≤ 65536 }
+    requires small { IsSmall (plain condition.now) × IsSmallStatement (plain_statement first.now) × IsSmallStatement (plain_statement second.now) }
+    ensures code { OnOk result (out.new.items ≡ out.old.items ++ statement_code (targets_of around.now) place (If (plain condition.now) (plain_statement first.now) (plain_statement second.now))) }
+    ensures rows { OnOk result (rows.new.items ≡ rows.old.items ++ statement_rows place (If (plain condition.now) (plain_statement first.now) (plain_statement second.now))) }
+{
+    let next = emit_expression(out, place, condition)?;
+    let other = end - size_of_statement(second);
+    put(out, Instruction::JumpIfFalse(other as u32))?;
+    emit_statement(out, rows, &*around, next + 1, other - 1, first)?;
+    put(out, Instruction::Jump(end as u32))?;
+    emit_statement(out, rows, &*around, other, end, second)?;
+    Ok(())
+}
+
+#[cycle(statements)]
+fn emit_while(
+    out: &mut Vec<Instruction>,
+    rows: &mut Vec<HandlerRow>,
+    around: &Around,
+    place: usize,
+    end: usize,
+    condition: &Expression,
+    body: &Statement,
+) -> Result<(), AllocError>
+    requires ends { end ≡ place + (size (plain condition.now) + statement_size (plain_statement body.now) + 2) }
+    requires room { end ≤ 65536 }
+    requires small { IsSmall (plain condition.now) × IsSmallStatement (plain_statement body.now) }
+    ensures code { OnOk result (out.new.items ≡ out.old.items ++ statement_code (targets_of around.now) place (While (plain condition.now) (plain_statement body.now))) }
+    ensures rows { OnOk result (rows.new.items ≡ rows.old.items ++ statement_rows place (While (plain condition.now) (plain_statement body.now))) }
+{
+    let next = emit_expression(out, place, condition)?;
+    put(out, Instruction::JumpIfFalse(end as u32))?;
+    let inner = Around::Loop((end - 1) as u32, end as u32, &*around);
+    emit_statement(out, rows, &inner, next + 1, end - 1, body)?;
+    put(out, Instruction::Turn(place as u32))?;
+    Ok(())
+}
+
+// A throw from the body goes on behind the jump over the handler.
+#[cycle(statements)]
+fn emit_guarded(
+    out: &mut Vec<Instruction>,
+    rows: &mut Vec<HandlerRow>,
+    around: &Around,
+    place: usize,
+    end: usize,
+    body: &Statement,
+    number: u32,
+    handler: &Statement,
+) -> Result<(), AllocError>
+    requires ends { end ≡ place + (statement_size (plain_statement body.now) + statement_size (plain_statement handler.now) + 2) }
+    requires room { end ≤ 65536 }
+    requires small { IsSmallStatement (plain_statement body.now) × IsSmallStatement (plain_statement handler.now) }
+    ensures code { OnOk result (out.new.items ≡ out.old.items ++ statement_code (targets_of around.now) place (Guarded (plain_statement body.now) number (plain_statement handler.now))) }
+    ensures rows { OnOk result (rows.new.items ≡ rows.old.items ++ statement_rows place (Guarded (plain_statement body.now) number (plain_statement handler.now))) }
+{
+    let after = end - size_of_statement(handler);
+    emit_statement(out, rows, &*around, place, after - 2, body)?;
+    put(out, Instruction::Jump(end as u32))?;
+    rows.push(HandlerRow {
+        from: place,
+        to: after - 2,
+        handler: after - 1,
+        depth: 0,
+    })?;
+    put(out, Instruction::Store(number))?;
+    emit_statement(out, rows, &*around, after, end, handler)?;
+    Ok(())
+}
+
+#[cycle(statements)]
+fn emit_leavable(
+    out: &mut Vec<Instruction>,
+    rows: &mut Vec<HandlerRow>,
+    around: &Around,
+    place: usize,
+    end: usize,
+    body: &Statement,
+    exit: &Statement,
+) -> Result<(), AllocError>
+    requires ends { end ≡ place + (statement_size (plain_statement body.now) + statement_size (plain_statement exit.now) + 1) }
+    requires room { end ≤ 65536 }
+    requires small { IsSmallStatement (plain_statement body.now) × IsSmallStatement (plain_statement exit.now) }
+    ensures code { OnOk result (out.new.items ≡ out.old.items ++ statement_code (targets_of around.now) place (Leavable (plain_statement body.now) (plain_statement exit.now))) }
+    ensures rows { OnOk result (rows.new.items ≡ rows.old.items ++ statement_rows place (Leavable (plain_statement body.now) (plain_statement exit.now))) }
+{
+    let after = end - size_of_statement(exit);
+    let inner = Around::Region(after as u32, &*around);
+    emit_statement(out, rows, &inner, place, after - 1, body)?;
+    put(out, Instruction::Jump(end as u32))?;
+    emit_statement(out, rows, &*around, after, end, exit)?;
+    Ok(())
+}

@@ -1,0 +1,8 @@
+use Rattle.std.proofs.Common.{◌≡◌, ◌+◌, ◌*◌, ◌≤◌, drop}
+use Rattle.ls_lowered.specs.Plain.{statements_of}
+use Rattle.ls_finally.specs.Flat.{all_tries}
+use Rattle.ls_finally.proofs.counts.+statements.Given as goal
+
+abbrev pub invariant-count_in_block-loop-s : goal.invariant-count_in_block-loop-s
+invariant-count_in_block-loop-s l =
+    (l.count ≤ 128) × (l.count + 2 * all_tries (statements_of (drop l.s-index l.statements)) ≡ l.so_far + 2 * all_tries (statements_of l.statements))

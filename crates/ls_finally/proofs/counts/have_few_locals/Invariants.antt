@@ -1,0 +1,8 @@
+use Rattle.std.proofs.Common.{◌≤◌, take}
+use Rattle.std.specs.Prelude.{All}
+use Rattle.ls_lowered.specs.Plain.{plain_method}
+use Rattle.ls_finally.specs.Counts.{locals_of}
+use Rattle.ls_finally.proofs.counts.have_few_locals.Given as goal
+
+abbrev pub invariant-loop-method : goal.invariant-loop-method
+invariant-loop-method l = All (λ m. locals_of (plain_method m) ≤ 128) (take l.method-index l.methods)

@@ -1,0 +1,3 @@
+mod Sizes
+mod Wholes
+mod Composed

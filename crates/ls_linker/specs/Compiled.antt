@@ -1,0 +1,22 @@
+-- What each step of the compiler makes of a checked file.
+use Rattle.ls_checked.specs.CheckedTree.{File}
+use Rattle.ls_checked.specs.CheckedProgram.{Program}
+use Rattle.ls_code.specs.Code.{Code}
+use Rattle.ls_lowered.specs.LoweredTree as lowered
+use Rattle.ls_refs.specs.Lowered.{lowered_file}
+use Rattle.ls_locks.specs.Locked.{locked_file}
+use Rattle.ls_finally.specs.Flat.{flat_file}
+use Rattle.ls_emission.specs.Units.{units_of}
+use Rattle.ls_linking.specs.Linked.{linked}
+
+-- the tree over words, with locks as words
+abbrev pub locks_of : File → lowered.File
+locks_of file = locked_file (lowered_file file)
+
+-- the tree without `try`
+abbrev pub flat_of : File → lowered.File
+flat_of file = flat_file (locks_of file)
+
+-- the whole code
+abbrev pub code_of : File → Program → Code
+code_of file program = linked file program (units_of (flat_of file))

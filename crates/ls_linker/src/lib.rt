@@ -1,0 +1,8 @@
+//! The whole code of a file and its threads: the units one after another, and the threads behind them.
+#![tactic(auto)]
+
+pub mod fault;
+pub mod laws;
+pub mod link;
+mod threads;
+mod units;

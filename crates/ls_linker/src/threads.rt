@@ -1,0 +1,282 @@
+// The code of threads.
+
+ghost use Rattle.std.specs.Prelude.{◌≡◌, ◌++◌, ◌+◌, ◌∷◌, [], IfSome, IfOk, OnOk, length, map};
+ghost use Rattle.ls_checked.specs.Plain.{plain_class};
+ghost use Rattle.ls_checked.specs.PlainProgram.{plain_call, plain_thread};
+ghost use Rattle.ls_headline.specs.InWords.{word_of as the_word};
+ghost use Rattle.ls_headline.specs.Threads.{call_result as the_result, result_type as the_result_type};
+ghost use Rattle.ls_meaning.specs.Expressions.{constructor_of as the_constructor};
+ghost use Rattle.ls_linking.specs.Threads.{pushes, result_code, call_code, calls_code, call_need as the_need, calls_need as the_needs};
+ghost use Rattle.ls_code.specs.declared.instruction.Instruction.TheVariants as op;
+ghost use Rattle.ls_linker.specs.Added.{Adds, AddsThreads, PushesThread};
+
+use crate::fault::PartFault;
+use ls_checked::program::{ProgramCall, ThreadProgram};
+use ls_checked::tree::Class;
+use ls_code::code::{CallResult, HandlerRow, Parts, Start};
+use ls_code::instruction::Instruction;
+use ls_events::value::{Value, ValueType};
+use std::alloc::{AllocError, Global};
+
+/// The word of an int or a boolean; none for other values, which no call of a thread has.
+fn word_of(value: Value) -> Option<u32>
+    ensures { IfSome result (λ word. word ≡ the_word value) }
+{
+    match value {
+        Value::Int(int) => Some(int.cast_unsigned()),
+        Value::Boolean(truth) => Some(truth as u32),
+        Value::Reference(_) => None,
+        Value::Pair { .. } => None,
+    }
+}
+
+/// A number as an operand.
+fn operand(number: usize) -> Result<u32, PartFault>
+    ensures { IfOk result (λ x. x ≡ number) }
+{
+    match u32::try_from(number) {
+        Ok(x) => Ok(x),
+        Err(_) => Err(PartFault::OutOfRange),
+    }
+}
+
+fn constructor_of(classes: &[Class], class: usize) -> usize
+    ensures { result ≡ the_constructor (map plain_class classes.now) class }
+{
+    match classes.get(class) {
+        Some(class) => class.constructor,
+        None => 0,
+    }
+}
+
+fn result_type(answers: Option<ValueType>) -> CallResult
+    ensures { result ≡ the_result_type answers }
+{
+    match answers {
+        Some(ValueType::Int) => CallResult::Int,
+        Some(ValueType::Boolean) => CallResult::Boolean,
+        _ => CallResult::Nothing,
+    }
+}
+
+fn call_result(call: &ProgramCall) -> CallResult
+    ensures { result ≡ the_result (plain_call call.now) }
+{
+    match call {
+        ProgramCall::Making { .. } => CallResult::Nothing,
+        ProgramCall::Calling {
+            result: answers,
+            ..
+        } => result_type(*answers),
+    }
+}
+
+fn push_values(code: &mut Vec<Instruction>, values: &[Value]) -> Result<(), PartFault>
+    ensures { OnOk result (Adds code.old.items (pushes values.now) code.new.items) }
+{
+    for value in values {
+        let Some(word) = word_of(*value) else {
+            return Err(PartFault::OutOfRange);
+        };
+        code.push(Instruction::Push(word))?;
+    }
+    Ok(())
+}
+
+fn push_making(
+    code: &mut Vec<Instruction>,
+    number: u32,
+    class: u32,
+    constructor: u32,
+    name: u32,
+    values: &[Value],
+) -> Result<(), PartFault>
+    ensures { OnOk result (Adds code.old.items (op.Call number ∷ op.NewObject class ∷ op.Dup ∷ pushes values.now ++ op.Enter constructor ∷ op.Pop ∷ op.PutName name ∷ op.Result number ∷ []) code.new.items) }
+{
+    code.push(Instruction::Call(number))?;
+    code.push(Instruction::NewObject(class))?;
+    code.push(Instruction::Dup)?;
+    push_values(code, values)?;
+    code.push(Instruction::Enter(constructor))?;
+    code.push(Instruction::Pop)?;
+    code.push(Instruction::PutName(name))?;
+    code.push(Instruction::Result(number))?;
+    Ok(())
+}
+
+fn push_result(
+    code: &mut Vec<Instruction>,
+    number: u32,
+    answers: CallResult,
+) -> Result<(), PartFault>
+    ensures { OnOk result (Adds code.old.items (result_code answers number) code.new.items) }
+{
+    if answers == CallResult::Nothing {
+        code.push(Instruction::Pop)?;
+    }
+    code.push(Instruction::Result(number))?;
+    Ok(())
+}
+
+fn push_calling(
+    code: &mut Vec<Instruction>,
+    number: u32,
+    name: u32,
+    method: u32,
+    answers: CallResult,
+    values: &[Value],
+) -> Result<(), PartFault>
+    ensures { OnOk result (Adds code.old.items (op.Call number ∷ op.GetName name ∷ pushes values.now ++ op.Enter method ∷ result_code answers number) code.new.items) }
+{
+    code.push(Instruction::Call(number))?;
+    code.push(Instruction::GetName(name))?;
+    push_values(code, values)?;
+    code.push(Instruction::Enter(method))?;
+    push_result(code, number, answers)?;
+    Ok(())
+}
+
+fn push_call(
+    code: &mut Vec<Instruction>,
+    classes: &[Class],
+    number: u32,
+    call: &ProgramCall,
+) -> Result<(), PartFault>
+    ensures { OnOk result (Adds code.old.items (call_code (map plain_class classes.now) number (plain_call call.now)) code.new.items) }
+{
+    match call {
+        ProgramCall::Making {
+            name,
+            class,
+            class_name: _,
+            values,
+        } => {
+            let constructor = operand(constructor_of(classes, *class))?;
+            let name = operand(*name)?;
+            push_making(code, number, operand(*class)?, constructor, name, values)
+        }
+        ProgramCall::Calling {
+            name,
+            method,
+            method_name: _,
+            result: answers,
+            values,
+        } => {
+            let answers = result_type(*answers);
+            let name = operand(*name)?;
+            push_calling(code, number, name, operand(*method)?, answers, values)
+        }
+    }
+}
+
+// The calls from a number on, and what stands behind them. No recursion is deeper than a thread has calls, 256.
+fn push_calls(
+    code: &mut Vec<Instruction>,
+    classes: &[Class],
+    number: u32,
+    calls: &[ProgramCall],
+) -> Result<(), PartFault>
+    ensures { OnOk result (Adds code.old.items (calls_code (map plain_class classes.now) number (map plain_call calls.now)) code.new.items) }
+{
+    match calls {
+        [] => {
+            code.push(Instruction::Halt)?;
+            code.push(Instruction::Trap)?;
+            Ok(())
+        }
+        [first, others @ ..] => {
+            push_call(code, classes, number, first)?;
+            let Some(next) = number.checked_add(1) else {
+                return Err(PartFault::OutOfRange);
+            };
+            push_calls(code, classes, next, others)?;
+            Ok(())
+        }
+    }
+}
+
+fn call_need(call: &ProgramCall) -> usize
+    ensures { result ≡ the_need (plain_call call.now) }
+{
+    match call {
+        ProgramCall::Making { values, .. } => 2 + values.len(),
+        ProgramCall::Calling { values, .. } => 1 + values.len(),
+    }
+}
+
+fn calls_need(calls: &[ProgramCall]) -> usize
+    ensures { result ≡ the_needs (map plain_call calls.now) }
+{
+    match calls {
+        [] => 1,
+        [first, others @ ..] => call_need(first).max(calls_need(others)),
+    }
+}
+
+fn call_results(alloc: Global, calls: &[ProgramCall]) -> Result<Vec<CallResult>, AllocError>
+    ensures { IfOk result (λ v. v.items ≡ map the_result (map plain_call calls.now)) }
+{
+    let mut results = Vec::new(alloc);
+    for call in calls {
+        results.push(call_result(call))?;
+    }
+    Ok(results)
+}
+
+// A thread's code, and the row that leads each throw to its end.
+#[tactic(auto, using(crate::proofs::Sizes::thread_pushed))]
+fn push_thread(
+    code: &mut Vec<Instruction>,
+    classes: &[Class],
+    calls: &[ProgramCall],
+) -> Result<HandlerRow, PartFault>
+    ensures { IfOk result (λ row. PushesThread (map plain_class classes.now) code.old.items (map plain_call calls.now) code.new.items row) }
+{
+    let from = code.len();
+    push_calls(code, classes, 1, calls)?;
+    let Some(last) = code.len().checked_sub(1) else {
+        return Err(PartFault::OutOfRange);
+    };
+    Ok(HandlerRow {
+        from,
+        to: last,
+        handler: last,
+        depth: 0,
+    })
+}
+
+fn add_thread(
+    alloc: Global,
+    parts: &mut Parts,
+    classes: &[Class],
+    thread: &ThreadProgram,
+) -> Result<(), PartFault>
+    ensures { OnOk result (AddsThreads (map plain_class classes.now) parts.old (plain_thread thread.now ∷ []) parts.new) }
+{
+    let place = parts.instructions.len();
+    let results = call_results(alloc, &thread.calls)?;
+    let start = Start::new(place, calls_need(&thread.calls), results);
+    parts.starts.push(start)?;
+    let row = push_thread(&mut parts.instructions, classes, &thread.calls)?;
+    parts.handlers.push(row)?;
+    Ok(())
+}
+
+/// Adds threads behind what is there.
+pub fn add_threads(
+    alloc: Global,
+    parts: &mut Parts,
+    classes: &[Class],
+    threads: &[ThreadProgram],
+) -> Result<(), PartFault>
+    ensures { OnOk result (AddsThreads (map plain_class classes.now) parts.old (map plain_thread threads.now) parts.new) }
+{
+    match threads {
+        [] => Ok(()),
+        [first, others @ ..] => {
+            add_thread(alloc, parts, classes, first)?;
+            add_threads(alloc, parts, classes, others)?;
+            Ok(())
+        }
+    }
+}

@@ -1,0 +1,11 @@
+pub mod Lists
+pub mod Whole
+pub mod Places
+pub mod Units
+pub mod Threads
+pub mod SameWords
+pub mod InKind
+pub mod Running
+pub mod Entered
+pub mod Calls
+pub mod Linked

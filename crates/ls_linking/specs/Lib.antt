@@ -1,0 +1,4 @@
+pub mod Threads
+pub mod Linked
+pub mod Laws
+pub mod Example

@@ -1,0 +1,13 @@
+pub mod Values
+pub mod Ways
+pub mod Calls
+pub mod Locals
+pub mod Expressions
+pub mod Statements
+pub mod Methods
+pub mod Threads
+pub mod Constants
+pub mod Cases
+pub mod Split
+pub mod InCall
+pub mod ThreadCalls

@@ -1,0 +1,20 @@
+use Rattle.ls_soundness.proofs.Cases.{typed_file, has_its_classes, has_no_pairs, typed_program, no_name, no_method, no_argument, no_int}
+use Rattle.ls_soundness.proofs.laws.example.Goals as goal
+
+pub returns-clause-file : goal.returns-clause-file
+returns-clause-file c = (typed_file, has_its_classes, has_no_pairs)
+
+pub returns-clause-typed : goal.returns-clause-typed
+returns-clause-typed c = typed_program
+
+pub returns-clause-no_name : goal.returns-clause-no_name
+returns-clause-no_name c = no_name
+
+pub returns-clause-no_method : goal.returns-clause-no_method
+returns-clause-no_method c = no_method
+
+pub returns-clause-with_argument : goal.returns-clause-with_argument
+returns-clause-with_argument c = no_argument
+
+pub returns-clause-for_an_int : goal.returns-clause-for_an_int
+returns-clause-for_an_int c = no_int

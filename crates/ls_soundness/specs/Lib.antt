@@ -1,0 +1,4 @@
+pub mod Programs
+pub mod Files
+pub mod Cases
+pub mod InCall

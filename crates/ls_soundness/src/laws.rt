@@ -1,0 +1,61 @@
+// The laws, each as the contract of a function that computes nothing.
+
+ghost use Rattle.ls_checked.specs.CheckedTree.{File};
+ghost use Rattle.ls_checked.specs.CheckedProgram.{Program};
+ghost use Rattle.ls_meaning.specs.Constants.{FileHasConstants, ProgramHasConstants};
+ghost use Rattle.ls_headline.specs.Threads.{IsSound};
+ghost use Rattle.ls_headline.specs.Example;
+ghost use Rattle.ls_refs.specs.Typing.{IsTypedFile};
+ghost use Rattle.ls_soundness.specs.Files.{HasItsClasses, HasNoPairs};
+ghost use Rattle.ls_soundness.specs.Programs.{IsTypedProgram};
+ghost use Rattle.ls_soundness.specs.InCall.{SuitedInCall, SuitedInMaking, SuitedInCalling, NextInMaking, NextInCalling, NextOnNull};
+ghost use Rattle.ls_soundness.specs.Cases;
+
+/// After answers that name things of the right types, a thread of a typed program of a typed file asks for an action on
+/// things and values of the right types.
+pub fn is_sound()
+    ensures { (file : File) (program : Program) → IsTypedFile file → HasItsClasses file → IsTypedProgram file program → IsSound file program }
+{}
+
+/// The constants of a typed file and of a typed program name no object.
+pub fn has_constants()
+    ensures of_file { (file : File) → IsTypedFile file → HasNoPairs file → FileHasConstants file }
+    ensures of_program { (file : File) (program : Program) → IsTypedProgram file program → ProgramHasConstants program }
+{}
+
+/// After answers in kind to a thread, the words of each call that it makes ask what the call asks and end as it ends,
+/// whatever the thread does after the call; and the answers left are in kind to that.
+pub fn suited_in_call()
+    ensures { (file : File) → IsTypedFile file → SuitedInCall file }
+{}
+
+/// So it is of the calls of a thread program.
+pub fn suited_in_thread()
+    ensures making { (file : File) (program : Program) → IsTypedFile file → SuitedInMaking file program }
+    ensures calling { (file : File) (program : Program) → IsTypedFile file → SuitedInCalling file program }
+{}
+
+/// What a thread does next in a making, in a method's call, and in one on null.
+pub fn next_in_call()
+    ensures making { (file : File) (program : Program) → NextInMaking file program }
+    ensures calling { (file : File) (program : Program) → NextInCalling file program }
+    ensures on_null { (file : File) (program : Program) → NextOnNull file program }
+{}
+
+/// What is asked of a file and of a program can be met, by the headline's example, and isn't met by programs of that file
+/// with a wrong call.
+pub fn example()
+    ensures file { IsTypedFile Example.file × HasItsClasses Example.file × HasNoPairs Example.file }
+    ensures typed { IsTypedProgram Example.file Example.program }
+    ensures no_name { IsTypedProgram Example.file Cases.of_no_name → ⊥ }
+    ensures no_method { IsTypedProgram Example.file Cases.of_no_method → ⊥ }
+    ensures with_argument { IsTypedProgram Example.file Cases.with_argument → ⊥ }
+    ensures for_an_int { IsTypedProgram Example.file Cases.for_an_int → ⊥ }
+{}
+
+/// Arguments and literals, evaluated on small cases.
+pub fn rows()
+    ensures arguments { Cases.Arguments }
+    ensures others { Cases.NoArguments }
+    ensures pairs { Cases.Pairs }
+{}

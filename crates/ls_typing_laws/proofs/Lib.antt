@@ -1,0 +1,16 @@
+pub mod Results
+pub mod Lists
+pub mod Shown
+pub mod Agreement
+pub mod Evaluated
+pub mod Bodies
+pub mod Done
+pub mod Heads
+pub mod Methods
+pub mod Declared
+pub mod Found
+pub mod Whole
+pub mod Slots
+pub mod Equal
+pub mod EqualTrees
+pub mod EqualOutcomes
