@@ -1,3 +1,4 @@
 mod Sizes
 mod Wholes
 mod Composed
+mod Built

@@ -3,6 +3,8 @@
 ghost use Rattle.std.specs.Prelude.{◌≢◌};
 ghost use Rattle.ls_linker.specs.declared.fault.LinkFault.TheVariants.{CodeTooLong};
 
+use ls_emit::fault::EmitFault;
+use ls_lowered::fault::LowerFault;
 use std::alloc::{AllocError, AllocFailed};
 use thiserror::Error;
 
@@ -47,5 +49,38 @@ impl From<PartFault> for LinkFault {
             PartFault::Memory => LinkFault::Memory,
             PartFault::OutOfRange => LinkFault::OutOfRange,
         }
+    }
+}
+
+/// Why no code is built of a checked file and a thread program.
+#[derive(Clone, Copy, Debug, Error, PartialEq, Eq)]
+pub enum BuildFault {
+    #[error("a method with too many locals or copies")]
+    Lower(LowerFault),
+    #[error("a method with too long a code")]
+    Emit(EmitFault),
+    #[error("too long a code")]
+    Link(LinkFault),
+    /// A number of a lowered tree is out of range. No file that was checked has such a tree; that it never happens is
+    /// tested, not proved.
+    #[error("not compiled yet")]
+    NotYet,
+}
+
+impl From<LowerFault> for BuildFault {
+    fn from(fault: LowerFault) -> BuildFault {
+        BuildFault::Lower(fault)
+    }
+}
+
+impl From<EmitFault> for BuildFault {
+    fn from(fault: EmitFault) -> BuildFault {
+        BuildFault::Emit(fault)
+    }
+}
+
+impl From<LinkFault> for BuildFault {
+    fn from(fault: LinkFault) -> BuildFault {
+        BuildFault::Link(fault)
     }
 }

@@ -1,0 +1,44 @@
+// Why two texts are not compiled.
+
+use ls_lexer::fault::TextFault;
+use ls_linker::fault::BuildFault;
+use ls_types::check::CheckFault;
+use ls_types::fault::ProgramFault;
+use thiserror::Error;
+
+/// Why two texts are not compiled, by the stage that refuses them. Want of memory is a fault of each stage.
+#[derive(Clone, Copy, Debug, Error, PartialEq, Eq)]
+pub enum CompileFault {
+    #[error("the class text is no class file")]
+    Text(TextFault),
+    #[error("the class file breaks a rule")]
+    Check(CheckFault),
+    #[error("the program text is no program of the class file")]
+    Program(ProgramFault),
+    #[error("the code goes past a limit")]
+    Build(BuildFault),
+}
+
+impl From<TextFault> for CompileFault {
+    fn from(fault: TextFault) -> CompileFault {
+        CompileFault::Text(fault)
+    }
+}
+
+impl From<CheckFault> for CompileFault {
+    fn from(fault: CheckFault) -> CompileFault {
+        CompileFault::Check(fault)
+    }
+}
+
+impl From<ProgramFault> for CompileFault {
+    fn from(fault: ProgramFault) -> CompileFault {
+        CompileFault::Program(fault)
+    }
+}
+
+impl From<BuildFault> for CompileFault {
+    fn from(fault: BuildFault) -> CompileFault {
+        CompileFault::Build(fault)
+    }
+}

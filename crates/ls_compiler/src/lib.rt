@@ -1,0 +1,6 @@
+//! From a class text and a program text to an image that is the same as both.
+#![tactic(auto)]
+
+pub mod compile;
+pub mod fault;
+pub mod image;

@@ -1,0 +1,31 @@
+-- What each step answers, put together.
+use Rattle.std.proofs.Common.{◌≡◌, refl, sym, subst, ap, ◌∙◌}
+use Rattle.ls_checked.specs.CheckedTree.{File}
+use Rattle.ls_checked.specs.CheckedProgram.{Program}
+use Rattle.ls_code.specs.Code.{Code}
+use Rattle.ls_lowered.specs.LoweredTree as low
+use Rattle.ls_refs.specs.Lowered.{lowered_file}
+use Rattle.ls_locks.specs.Locked.{locked_file}
+use Rattle.ls_finally.specs.Flat.{flat_file}
+use Rattle.ls_finally.specs.Placed.{AllPlaced}
+use Rattle.ls_emission.specs.Units.{CodeUnit, units_of}
+use Rattle.ls_emission.specs.Emittable.{IsEmittableFile}
+use Rattle.ls_linking.specs.Linked.{linked}
+use Rattle.ls_linker.specs.Compiled.{locks_of, flat_of, code_of}
+use Rattle.std.specs.Prelude.{List}
+
+module _ (file : File) (program : Program) (refs locks flat : low.File) (r : refs ≡ lowered_file file) (l : locks ≡ locked_file refs) (f : flat ≡ flat_file locks) where
+  locks_here : locks ≡ locks_of file
+  locks_here = l ∙ ap locked_file r
+
+  flat_here : flat ≡ flat_of file
+  flat_here = f ∙ ap flat_file locks_here
+
+  pub placed_here : AllPlaced locks locks → AllPlaced (locks_of file) (locks_of file)
+  placed_here p = subst (λ x. AllPlaced x x) locks_here p
+
+  pub emittable_here : IsEmittableFile flat → IsEmittableFile (flat_of file)
+  emittable_here e = subst IsEmittableFile flat_here e
+
+  pub code_here : (units : List CodeUnit) (code : Code) → units ≡ units_of flat → code ≡ linked file program units → code ≡ code_of file program
+  code_here units code u c = c ∙ ap (linked file program) (u ∙ ap units_of flat_here)
