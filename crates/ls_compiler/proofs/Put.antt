@@ -13,7 +13,8 @@ use Rattle.ls_types.specs.CheckedFile.{outcome_of}
 use Rattle.ls_types.specs.ThreadPrograms.{program_of}
 use Rattle.ls_types.specs.declared.check.Checked.{Checked}
 use Rattle.ls_headline.specs.Same.{Same}
-use Rattle.ls_compiler.specs.Images.{Compiles, checked_of, program_of_image, code_of_image}
+use Rattle.ls_linker.specs.Limits.{KeepsLimits}
+use Rattle.ls_compiler.specs.Images.{Compiles, IsWithinLimits, checked_of, program_of_image, code_of_image}
 use Rattle.ls_compiler.specs.declared.image.Image.{Image}
 
 pub compiled : (classes text : Text) (parsed : ClassFile) (checked : Checked) (program : Program) (code : Code) (image : Image) →
@@ -31,3 +32,9 @@ compiled classes text parsed checked program code image c p d spelled elaborates
       (subst (λ y. Same (outcome_of checked).file (plain_program y) (code_of_image image)) (sym p)
       (subst (λ z. Same (outcome_of checked).file (plain_program program) z) (sym d) same));
 }
+
+pub limited : (checked : Checked) (program : Program) (image : Image) → checked_of image ≡ checked → program_of_image image ≡ program →
+    KeepsLimits (outcome_of checked).file (plain_program program) → IsWithinLimits image
+limited checked program image c p within =
+    subst (λ x. KeepsLimits (outcome_of x).file (plain_program (program_of_image image))) (sym c)
+    (subst (λ y. KeepsLimits (outcome_of checked).file (plain_program y)) (sym p) within)

@@ -1,18 +1,29 @@
--- What an image shows, and what a compiled image owes its two texts.
-use Rattle.std.specs.Prelude.{◌≡◌, Ok, Some}
+-- What an image shows, what a compiled image owes its two texts, and what a refusal says of them.
+use Rattle.std.specs.Prelude.{◌≡◌, Some, Result, Ok, Err}
+use Rattle.ls_lexer.specs.declared.fault.TextFault.{TextFault}
+use Rattle.ls_parser.specs.Answers.{Refuses}
 use Rattle.ls_parser.specs.FileView.{bare_file}
+use Rattle.ls_parser.specs.Trees.{File as ParsedFile}
 use Rattle.ls_parser.specs.Spells.{TextSpells}
 use Rattle.ls_parser.specs.declared.tree.ClassFile.{ClassFile}
+use Rattle.ls_checked.specs.CheckedProgram.{Program as PlainProgram}
 use Rattle.ls_checked.specs.PlainProgram.{plain_program}
 use Rattle.ls_checked.specs.declared.program.Program.{Program}
 use Rattle.ls_code.specs.Code.{Code}
 use Rattle.ls_elaboration.specs.Trees.{Text}
 use Rattle.ls_elaboration.specs.Elaboration.{Outcome, elaborated}
 use Rattle.ls_elaboration.specs.PlacedStatements.{placed_file}
-use Rattle.ls_types.specs.CheckedFile.{outcome_of}
+use Rattle.ls_types.specs.CheckedFile.{outcome_of, Names}
+use Rattle.ls_types.specs.ProgramViews.{Refuses as RefusesProgram}
 use Rattle.ls_types.specs.ThreadPrograms.{program_of}
 use Rattle.ls_types.specs.declared.check.Checked.{Checked}
+use Rattle.ls_types.specs.declared.check.CheckFault.{CheckFault}
+use Rattle.ls_types.specs.declared.fault.ProgramFault.{ProgramFault}
 use Rattle.ls_headline.specs.Same.{Same}
+use Rattle.ls_linker.specs.Limits.{KeepsLimits, GoesPast}
+use Rattle.ls_linker.specs.declared.fault.BuildFault.{BuildFault}
+use Rattle.ls_compiler.specs.declared.fault.CompileFault.{CompileFault}
+use Rattle.ls_compiler.specs.declared.fault.CompileFault.TheVariants as faults
 use Rattle.ls_compiler.specs.declared.image.Image.{Image}
 
 abbrev pub checked_of : Image → Checked
@@ -33,3 +44,23 @@ pub record Compiles (classes program : Text) (image : Image) : Type 0 where
   pub elaborates : elaborated (placed_file parsed) ≡ Ok (outcome_of (checked_of image))
   pub reads : program_of (outcome_of (checked_of image)) program ≡ Some (plain_program (program_of_image image))
   pub same : Same (outcome_of (checked_of image)).file (plain_program (program_of_image image)) (code_of_image image)
+
+-- an image keeps each limit of the code
+abbrev pub IsWithinLimits : Image → Type 0
+IsWithinLimits image = KeepsLimits (outcome_of (checked_of image)).file (plain_program (program_of_image image))
+
+-- The texts are compiled, or the fault says of them what their layer's fault says: that the class text spells no file, that
+-- the file it spells breaks the rule that is named, that the program text is no program of that file, or that the two go
+-- past the limit of the code that is named. Want of memory says nothing.
+pub data CompilesTo (classes program : Text) : Result Image CompileFault → Type 0 where
+  Compiled : (image : Image) → Compiles classes program image → CompilesTo classes program (Ok image)
+  NoFile : (f : TextFault) → Refuses f ((file : ParsedFile) → TextSpells file classes → ⊥) → CompilesTo classes program (Err (faults.Text f))
+  Breaks : (parsed : ClassFile) (f : CheckFault) →
+      TextSpells (bare_file parsed) classes → Names f (elaborated (placed_file parsed)) →
+      CompilesTo classes program (Err (faults.Check f))
+  NoProgram : (parsed : ClassFile) (o : Outcome) (f : ProgramFault) →
+      TextSpells (bare_file parsed) classes → elaborated (placed_file parsed) ≡ Ok o → RefusesProgram f (program_of o program) →
+      CompilesTo classes program (Err (faults.Program f))
+  PastLimit : (parsed : ClassFile) (o : Outcome) (p : PlainProgram) (f : BuildFault) →
+      TextSpells (bare_file parsed) classes → elaborated (placed_file parsed) ≡ Ok o → program_of o program ≡ Some p → GoesPast o.file p f →
+      CompilesTo classes program (Err (faults.Build f))

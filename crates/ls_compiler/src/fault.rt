@@ -1,5 +1,8 @@
 // Why two texts are not compiled.
 
+ghost use Rattle.std.specs.Prelude.{◌≡◌};
+ghost use Rattle.ls_compiler.specs.declared.fault.CompileFault.TheVariants.{Text, Check, Program, Build};
+
 use ls_lexer::fault::TextFault;
 use ls_linker::fault::BuildFault;
 use ls_types::check::CheckFault;
@@ -20,24 +23,32 @@ pub enum CompileFault {
 }
 
 impl From<TextFault> for CompileFault {
+    ghost from_gives = { λ f e. e ≡ Text f };
+
     fn from(fault: TextFault) -> CompileFault {
         CompileFault::Text(fault)
     }
 }
 
 impl From<CheckFault> for CompileFault {
+    ghost from_gives = { λ f e. e ≡ Check f };
+
     fn from(fault: CheckFault) -> CompileFault {
         CompileFault::Check(fault)
     }
 }
 
 impl From<ProgramFault> for CompileFault {
+    ghost from_gives = { λ f e. e ≡ Program f };
+
     fn from(fault: ProgramFault) -> CompileFault {
         CompileFault::Program(fault)
     }
 }
 
 impl From<BuildFault> for CompileFault {
+    ghost from_gives = { λ f e. e ≡ Build f };
+
     fn from(fault: BuildFault) -> CompileFault {
         CompileFault::Build(fault)
     }

@@ -1,5 +1,5 @@
 -- The methods of a file.
-use Rattle.std.proofs.Common.{◌≡◌, ℕ, zero, suc, ◌+◌, ◌<◌, ◌≤◌, add-one, length, take, map, sym, ap, ◌∙◌, subst, arith, Result, Ok, Err, List, [], ◌∷◌, ◌++◌, true, false, refl}
+use Rattle.std.proofs.Common.{◌≡◌, ℕ, zero, suc, ◌+◌, ◌<◌, ◌≤◌, length, map, sym, subst, arith, Result, Ok, Err, List, [], ◌∷◌, true, false}
 use Rattle.std.specs.Prelude.{All, slice_index_or, IfErr}
 use Rattle.std.proofs.lemmas.List.{get_or-map, length-map}
 use Rattle.std.proofs.lemmas.List.Elements.{All-map}

@@ -1,5 +1,5 @@
 -- How much there is to do at a statement.
-use Rattle.std.proofs.Common.{ℕ, suc, ◌+◌}
+use Rattle.std.proofs.Common.{ℕ, ◌+◌}
 use Rattle.ls_lowered.specs.LoweredTree.{Statement, Block, SetLocal, SetField, SetItem, Evaluate, If, While, Break, Continue, Return, Try, Guarded, Throw, Leavable, Leave, Statements, Done, Then}
 
 abbrev mutual

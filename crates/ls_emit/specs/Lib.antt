@@ -1,4 +1,5 @@
 pub mod Small
 pub mod Short
+pub mod Alone
 pub mod Depths
 pub mod Places

@@ -88,9 +88,9 @@ pub fn emit_expression(
     ensures next { IfOk result (λ next. (next ≡ place + size (plain e.now)) × (place < next)) }
 {
     match e {
-        Expression::Word(word) => emit_alone(out, place, Instruction::Push(*word as u32)),
-        Expression::Local(number) => emit_alone(out, place, Instruction::Load(*number as u32)),
-        Expression::MakeLock => emit_alone(out, place, Instruction::NewLock),
+        Expression::Word(word) => emit_one(out, place, Instruction::Push(*word as u32)),
+        Expression::Local(number) => emit_one(out, place, Instruction::Load(*number as u32)),
+        Expression::MakeLock => emit_one(out, place, Instruction::NewLock),
         Expression::Unary(op, e) => emit_on(out, place, e, unary_instruction(*op)),
         Expression::Field(e, field) => emit_on(out, place, e, Instruction::GetField(*field as u32)),
         Expression::ReadPair(e) => emit_on(out, place, e, Instruction::ReadPair),
@@ -162,7 +162,8 @@ fn emit_all(out: &mut Vec<Instruction>, place: usize, es: &Expressions) -> Resul
     }
 }
 
-fn emit_alone(
+// One instruction.
+fn emit_one(
     out: &mut Vec<Instruction>,
     place: usize,
     instruction: Instruction,

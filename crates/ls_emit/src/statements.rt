@@ -6,6 +6,7 @@ ghost use Rattle.ls_lowered.specs.LoweredTree.{If, While, Guarded, Leavable};
 ghost use Rattle.ls_lowered.specs.Plain.{plain, plain_statement, statements_of};
 ghost use Rattle.ls_emission.specs.Expressions.{size, code};
 ghost use Rattle.ls_emission.specs.Statements.{statement_size, statements_size, statement_code, statements_code, statement_rows, statements_rows};
+ghost use Rattle.ls_emit.specs.Alone.{IsAlone};
 ghost use Rattle.ls_emit.specs.Places.{targets_of};
 ghost use Rattle.ls_emit.specs.Small.{IsSmall, IsSmallStatement, AreSmallStatements};
 
@@ -36,6 +37,54 @@ pub fn emit_statement(
 {
     match s {
         Statement::Block(statements) => emit_block(out, rows, &*around, place, statements),
+        Statement::If(condition, first, second) => {
+            emit_if(out, rows, &*around, place, end, condition, first, second)
+        }
+        Statement::While(condition, body) => {
+            emit_while(out, rows, &*around, place, end, condition, body)
+        }
+        Statement::Guarded(body, number, handler) => {
+            emit_guarded(
+                out,
+                rows,
+                &*around,
+                place,
+                end,
+                body,
+                *number as u32,
+                handler,
+            )
+        }
+        Statement::Leavable(body, exit) => {
+            emit_leavable(out, rows, &*around, place, end, body, exit)
+        }
+        Statement::SetLocal(_, _)
+        | Statement::SetField(_, _, _)
+        | Statement::SetItem(_, _, _)
+        | Statement::Evaluate(_)
+        | Statement::Break(_)
+        | Statement::Continue(_)
+        | Statement::Return(_)
+        | Statement::Try(_, _)
+        | Statement::Throw(_)
+        | Statement::Leave(_) => emit_alone(out, around, place, s),
+    }
+}
+
+// A statement without others in it. It stands apart so that the frames of the recursion stay small.
+#[tactic(auto, using(crate::proofs::Blocks::block_read))]
+fn emit_alone(
+    out: &mut Vec<Instruction>,
+    around: &Around,
+    place: usize,
+    s: &Statement,
+) -> Result<(), AllocError>
+    requires alone { IsAlone (plain_statement s.now) }
+    requires room { place + statement_size (plain_statement s.now) ≤ 65536 }
+    requires small { IsSmallStatement (plain_statement s.now) }
+    ensures { OnOk result (out.new.items ≡ out.old.items ++ statement_code (targets_of around.now) place (plain_statement s.now)) }
+{
+    match s {
         Statement::SetLocal(number, e) => {
             emit_value(out, place, e, Instruction::Store(*number as u32))
         }
@@ -55,35 +104,20 @@ pub fn emit_statement(
         }
         Statement::Evaluate(e) => emit_value(out, place, e, Instruction::Pop),
         Statement::Return(e) => emit_value(out, place, e, Instruction::LeaveWith),
-        Statement::If(condition, first, second) => {
-            emit_if(out, rows, &*around, place, end, condition, first, second)
-        }
-        Statement::While(condition, body) => {
-            emit_while(out, rows, &*around, place, end, condition, body)
-        }
         Statement::Break(number) => put(out, Instruction::Jump(find_stop(around, *number))),
         Statement::Continue(number) => put(out, Instruction::Jump(find_turn(around, *number))),
-        Statement::Try(_, _) => Ok(()),
-        Statement::Guarded(body, number, handler) => {
-            emit_guarded(
-                out,
-                rows,
-                &*around,
-                place,
-                end,
-                body,
-                *number as u32,
-                handler,
-            )
-        }
         Statement::Throw(number) => emit_throw(out, *number as u32),
-        Statement::Leavable(body, exit) => {
-            emit_leavable(out, rows, &*around, place, end, body, exit)
-        }
         Statement::Leave(number) => put(out, Instruction::Jump(find_exit(around, *number))),
+        Statement::Try(_, _) => Ok(()),
+        Statement::Block(_)
+        | Statement::If(_, _, _)
+        | Statement::While(_, _)
+        | Statement::Guarded(_, _, _)
+        | Statement::Leavable(_, _) => Ok(()),
     }
 }
 
+// An expression and an instruction on its word.
 fn emit_value(
     out: &mut Vec<Instruction>,
     place: usize,

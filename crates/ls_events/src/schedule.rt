@@ -70,21 +70,3 @@ impl Schedule {
         Ok(())
     }
 }
-
-#[cfg(test)]
-mod tests {
-    use super::*;
-
-    #[test]
-    fn keeps_what_is_pushed(rt: HostRuntime) {
-        let mut schedule = Schedule::new(rt.alloc());
-        assert!(rt; schedule.is_empty());
-        for thread in [2usize, 0, 7] {
-            if schedule.len() < MOST_STEPS {
-                assert!(rt; schedule.push(thread).is_ok());
-            }
-        }
-        assert!(rt; schedule.steps() == [2usize, 0, 7].as_slice());
-        assert!(rt; !schedule.is_full());
-    }
-}

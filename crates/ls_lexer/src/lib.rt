@@ -12,7 +12,5 @@ mod reserved;
 mod runs;
 mod scan;
 pub mod sign;
-#[cfg(test)]
-mod tests;
 pub mod token;
 pub mod word;

@@ -10,7 +10,8 @@ pub struct Span {
     pub end: usize,
 }
 
-/// What a token is. A name or a number comes with its text.
+/// What a token is (JLS 3.5): an identifier (JLS 3.8) or a number (JLS 3.10.1), which come with their text, a reserved word,
+/// or a separator or operator.
 #[derive(Clone, Copy, Debug, PartialEq, Eq)]
 pub enum TokenKind<'a> {
     Name(&'a str),
@@ -19,6 +20,7 @@ pub enum TokenKind<'a> {
     Sign(Sign),
 }
 
+/// A token and where it stands. The text of a name or number is the slice of the source that stands there.
 #[derive(Clone, Copy, Debug, PartialEq, Eq)]
 pub struct Token<'a> {
     pub kind: TokenKind<'a>,

@@ -14,6 +14,9 @@ use Rattle.ls_linking.specs.Linked.{linked}
 use Rattle.ls_linker.specs.Compiled.{locks_of, flat_of, code_of}
 use Rattle.std.specs.Prelude.{List}
 
+pub placed_here : (file : File) (refs locks : low.File) → refs ≡ lowered_file file → locks ≡ locked_file refs → AllPlaced (locks_of file) (locks_of file) → AllPlaced locks locks
+placed_here file refs locks r l p = subst (λ x. AllPlaced x x) (sym (l ∙ ap locked_file r)) p
+
 module _ (file : File) (program : Program) (refs locks flat : low.File) (r : refs ≡ lowered_file file) (l : locks ≡ locked_file refs) (f : flat ≡ flat_file locks) where
   locks_here : locks ≡ locks_of file
   locks_here = l ∙ ap locked_file r
@@ -21,11 +24,8 @@ module _ (file : File) (program : Program) (refs locks flat : low.File) (r : ref
   flat_here : flat ≡ flat_of file
   flat_here = f ∙ ap flat_file locks_here
 
-  pub placed_here : AllPlaced locks locks → AllPlaced (locks_of file) (locks_of file)
-  placed_here p = subst (λ x. AllPlaced x x) locks_here p
-
-  pub emittable_here : IsEmittableFile flat → IsEmittableFile (flat_of file)
-  emittable_here e = subst IsEmittableFile flat_here e
+  pub emittable_here : IsEmittableFile (flat_of file) → IsEmittableFile flat
+  emittable_here e = subst IsEmittableFile (sym flat_here) e
 
   pub code_here : (units : List CodeUnit) (code : Code) → units ≡ units_of flat → code ≡ linked file program units → code ≡ code_of file program
   code_here units code u c = c ∙ ap (linked file program) (u ∙ ap units_of flat_here)

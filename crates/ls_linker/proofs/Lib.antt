@@ -2,3 +2,4 @@ mod Sizes
 mod Wholes
 mod Composed
 mod Built
+mod Refusals

@@ -1,18 +1,17 @@
 // From a checked file and a thread program to the whole code.
 
-ghost use Rattle.std.specs.Prelude.{◌≡◌, IfOk, OnOk};
+ghost use Rattle.std.specs.Prelude.{◌≡◌, IfOk, IfErr, OnOk};
 ghost use Rattle.ls_checked.specs.Plain.{plain_file};
 ghost use Rattle.ls_checked.specs.PlainProgram.{plain_program};
 ghost use Rattle.ls_meaning.specs.Constants.{FileHasConstants, ProgramHasConstants};
 ghost use Rattle.ls_refs.specs.Typing.{IsTypedFile};
 ghost use Rattle.ls_refs.specs.Refused.{AllSlotted};
+ghost use Rattle.ls_ranges.specs.Ranged.{IsRanged};
 ghost use Rattle.ls_soundness.specs.Files.{HasItsClasses};
 ghost use Rattle.ls_soundness.specs.Programs.{IsTypedProgram};
-ghost use Rattle.ls_lowered.specs.Plain.{plain_file as lowered_file};
-ghost use Rattle.ls_finally.specs.Placed.{AllPlaced};
-ghost use Rattle.ls_emission.specs.Emittable.{IsEmittableFile};
 ghost use Rattle.ls_headline.specs.Same.{Same};
 ghost use Rattle.ls_linker.specs.Compiled.{code_of};
+ghost use Rattle.ls_linker.specs.Limits.{KeepsLimits, GoesPast};
 
 use crate::fault::BuildFault;
 use crate::laws::compiled_same;
@@ -21,40 +20,17 @@ use ls_checked::program::Program;
 use ls_checked::tree::File;
 use ls_code::code::Code;
 use ls_emit::emit::emit;
-use ls_emit::emittable::is_emittable;
 use ls_finally::files::lower_finally;
-use ls_finally::placed::is_placed;
 use ls_locks::files::lower_locks;
-use ls_lowered::tree::File as Lowered;
+use ls_ranges::{fits_lowered, ranged_is_emittable, typed_is_placed};
 use ls_refs::lower::lower_refs;
 use std::alloc::Global;
-
-// Whether `finally` can be lowered in a tree.
-fn check_placed(tree: &Lowered) -> Result<(), BuildFault>
-    ensures { OnOk result (AllPlaced (lowered_file tree.now) (lowered_file tree.now)) }
-{
-    if is_placed(tree) {
-        Ok(())
-    } else {
-        Err(BuildFault::NotYet)
-    }
-}
-
-// Whether a tree has code.
-fn check_emittable(tree: &Lowered) -> Result<(), BuildFault>
-    ensures { OnOk result (IsEmittableFile (lowered_file tree.now)) }
-{
-    if is_emittable(tree) {
-        Ok(())
-    } else {
-        Err(BuildFault::NotYet)
-    }
-}
 
 /// The whole code of a checked file and a thread program for it: it is the same as the two, for each number of cells, each
 /// schedule of instructions and each schedule of source steps that fits.
 pub fn build(alloc: Global, file: &File, program: &Program) -> Result<Code, BuildFault>
     requires typed { IsTypedFile (plain_file file.now) }
+    requires ranged { IsRanged (plain_file file.now) }
     requires classes { HasItsClasses (plain_file file.now) }
     requires constants { FileHasConstants (plain_file file.now) }
     requires slots { AllSlotted (plain_file file.now).methods }
@@ -62,13 +38,16 @@ pub fn build(alloc: Global, file: &File, program: &Program) -> Result<Code, Buil
     requires program_constants { ProgramHasConstants (plain_program program.now) }
     ensures code { IfOk result (λ code. code ≡ code_of (plain_file file.now) (plain_program program.now)) }
     ensures same { IfOk result (λ code. Same (plain_file file.now) (plain_program program.now) code) }
+    ensures within { OnOk result (KeepsLimits (plain_file file.now) (plain_program program.now)) }
+    ensures refused { IfErr result (GoesPast (plain_file file.now) (plain_program program.now)) }
 {
     compiled_same();
+    typed_is_placed();
+    fits_lowered();
+    ranged_is_emittable();
     let refs = lower_refs(alloc, file)?;
     let locks = lower_locks(alloc, refs)?;
-    check_placed(&locks)?;
     let flat = lower_finally(alloc, locks)?;
-    check_emittable(&flat)?;
     let units = emit(alloc, &flat)?;
     let code = link(alloc, &units, file, program)?;
     Ok(code)

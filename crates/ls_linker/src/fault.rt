@@ -1,7 +1,8 @@
 // Why linking refuses units or a program.
 
-ghost use Rattle.std.specs.Prelude.{◌≢◌};
+ghost use Rattle.std.specs.Prelude.{◌≡◌, ◌≢◌};
 ghost use Rattle.ls_linker.specs.declared.fault.LinkFault.TheVariants.{CodeTooLong};
+ghost use Rattle.ls_linker.specs.declared.fault.BuildFault.TheVariants.{Lower, Emit, Link};
 
 use ls_emit::fault::EmitFault;
 use ls_lowered::fault::LowerFault;
@@ -61,25 +62,27 @@ pub enum BuildFault {
     Emit(EmitFault),
     #[error("too long a code")]
     Link(LinkFault),
-    /// A number of a lowered tree is out of range. No file that was checked has such a tree; that it never happens is
-    /// tested, not proved.
-    #[error("not compiled yet")]
-    NotYet,
 }
 
 impl From<LowerFault> for BuildFault {
+    ghost from_gives = { λ f e. e ≡ Lower f };
+
     fn from(fault: LowerFault) -> BuildFault {
         BuildFault::Lower(fault)
     }
 }
 
 impl From<EmitFault> for BuildFault {
+    ghost from_gives = { λ f e. e ≡ Emit f };
+
     fn from(fault: EmitFault) -> BuildFault {
         BuildFault::Emit(fault)
     }
 }
 
 impl From<LinkFault> for BuildFault {
+    ghost from_gives = { λ f e. e ≡ Link f };
+
     fn from(fault: LinkFault) -> BuildFault {
         BuildFault::Link(fault)
     }

@@ -1,9 +1,10 @@
 // Methods and files.
 
-ghost use Rattle.std.specs.Prelude.{◌≡◌, ℕ, IfOk, map};
+ghost use Rattle.std.specs.Prelude.{◌≡◌, ℕ, IfOk, IfErr, map};
 ghost use Rattle.ls_lowered.specs.Plain.{plain_method, plain_file};
 ghost use Rattle.ls_lowered.specs.Methods.{invoke};
 ghost use Rattle.ls_locks.specs.Locked.{locked_method, locked_file};
+ghost use Rattle.ls_lowered.specs.declared.fault.LowerFault.TheVariants.{Memory};
 
 use crate::lower::lock_statement;
 use ls_lowered::fault::LowerFault;
@@ -36,41 +37,8 @@ fn lock_methods(alloc: Global, methods: &[Method]) -> Result<Vec<Method>, AllocE
 pub fn lower_locks(alloc: Global, tree: File) -> Result<File, LowerFault>
     ensures tree { IfOk result (λ t. plain_file t ≡ locked_file (plain_file tree)) }
     ensures asks { IfOk result (λ t. (depth : ℕ) → invoke (plain_file t) depth ≡ invoke (plain_file tree) depth) }
+    ensures refused { IfErr result (λ e. e ≡ Memory) }
 {
     let methods = lock_methods(alloc, &tree.methods)?;
     Ok(File { methods })
-}
-
-#[cfg(test)]
-mod tests {
-    use super::*;
-    use ls_lowered::tree::{Expression, LockOperation, Statement};
-
-    fn is_locked(methods: &[Method]) -> bool {
-        match methods {
-            [method] => matches!(
-                &method.body,
-                Statement::Evaluate(Expression::OnLockWord(LockOperation::Lock, _))
-            ),
-            _ => false,
-        }
-    }
-
-    fn locks_one(alloc: Global) -> Result<bool, LowerFault> {
-        let target = Box::new(alloc, Expression::Local(0))?;
-        let body = Statement::Evaluate(Expression::OnLock(LockOperation::Lock, target));
-        let mut methods = Vec::new(alloc);
-        methods.push(Method {
-            arguments: 1,
-            locals: 0,
-            body,
-        })?;
-        let tree = lower_locks(alloc, File { methods })?;
-        Ok(is_locked(&tree.methods))
-    }
-
-    #[test]
-    fn locks_a_method(rt: HostRuntime) {
-        assert!(rt; matches!(locks_one(rt.alloc()), Ok(true)));
-    }
 }

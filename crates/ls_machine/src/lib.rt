@@ -18,6 +18,3 @@ mod words;
 pub use fault::LoadFault;
 pub use lock_words::{lock_word, unlock_word};
 pub use machine::{MOST_CELLS, Machine};
-
-#[cfg(test)]
-mod tests;

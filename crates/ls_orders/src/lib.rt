@@ -17,6 +17,3 @@ pub use judging::check_order;
 pub use order::Order;
 pub use reading::read_order;
 pub use verdict::{Rule, Verdict};
-
-#[cfg(test)]
-mod tests;

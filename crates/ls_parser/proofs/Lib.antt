@@ -18,3 +18,5 @@ pub mod ActionsAgain
 pub mod ClassesAgain
 pub mod Spelled
 pub mod Files
+pub mod MoreKinds
+pub mod Nodes

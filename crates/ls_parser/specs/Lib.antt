@@ -10,3 +10,4 @@ pub mod ReadingClasses
 pub mod Spells
 pub mod Laws
 pub mod FileView
+pub mod Kinds

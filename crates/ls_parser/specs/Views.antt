@@ -127,6 +127,11 @@ abbrev mutual
   bare_otherwise statement_parts.None' = None
   bare_otherwise (statement_parts.Some' p s) = Some (bare_statement s)
 
+-- the same of what a variable holds
+abbrev pub bare_other : Option (Box Statement) → Option Action
+bare_other None = None
+bare_other (Some b) = Some (bare_statement b.value)
+
 abbrev pub bare_piece : BlockItem → Piece
 bare_piece (block_items.Statement s) = Doing (bare_statement s)
 bare_piece (block_items.Declaration d) = Declaring (bare_declaration d)

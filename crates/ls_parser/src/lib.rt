@@ -7,13 +7,12 @@ mod operators;
 pub mod parse;
 mod primaries;
 mod simple_statements;
+pub mod spelling;
 mod statements;
 mod terms;
 mod tokens;
 pub mod tree;
 
+pub use crate::spelling::spell;
 pub use crate::tree::ClassFile;
 pub use ls_lexer::lexing::lex;
-
-#[cfg(test)]
-mod tests;

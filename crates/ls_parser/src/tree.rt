@@ -6,13 +6,14 @@ ghost use Rattle.ls_parser.specs.Views.{file_of};
 
 use ls_lexer::token::Span;
 
+/// An identifier (JLS 3.8) and where it stands.
 #[derive(Debug, Drop)]
 pub struct Name {
     pub text: String,
     pub span: Span,
 }
 
-/// A class text as a tree: the package, the imports and the classes. Only `parse` makes one, so the tree is one of the
+/// A class text as a tree (JLS 7.3): the package, the imports and the classes. Only `parse` makes one, so the tree is one of the
 /// grammar: no body and no initialiser is over the greatest height.
 #[derive(Debug, Drop)]
 pub struct ClassFile {
@@ -60,19 +61,21 @@ impl ClassFile {
     }
 }
 
-/// `first.more.more`
+/// `first.more.more`: the name of a package (JLS 7.4.1), or the path of an import.
 #[derive(Debug, Drop)]
 pub struct Dotted {
     pub first: Name,
     pub more: Vec<Name>,
 }
 
+/// An import (JLS 7.5): of one type, or of all types of a package (`all`, spelled `.*`).
 #[derive(Debug, Drop)]
 pub struct Import {
     pub path: Dotted,
     pub all: bool,
 }
 
+/// A class (JLS 8.1).
 #[derive(Debug, Drop)]
 pub struct Class {
     pub modifiers: Vec<Modifier>,
@@ -80,6 +83,7 @@ pub struct Class {
     pub members: Vec<Member>,
 }
 
+/// A modifier (JLS 8.1.1, 8.3.1, 8.4.3) or an annotation without arguments (JLS 9.7.2).
 #[derive(Debug, Drop)]
 pub enum Modifier {
     Public,
@@ -90,6 +94,7 @@ pub enum Modifier {
     Annotation(Name),
 }
 
+/// A type (JLS 4.1): `Markable` is `AtomicMarkableReference` of the class.
 #[derive(Debug, Drop)]
 pub enum Type {
     Int,
@@ -99,6 +104,7 @@ pub enum Type {
     Markable(Name),
 }
 
+/// A member of a class (JLS 8.1.6).
 #[derive(Debug, Drop)]
 pub enum Member {
     Field(Declaration),
@@ -106,6 +112,7 @@ pub enum Member {
     Constructor(Constructor),
 }
 
+/// A method (JLS 8.4).
 #[derive(Debug, Drop)]
 pub struct Method {
     pub modifiers: Vec<Modifier>,
@@ -116,6 +123,7 @@ pub struct Method {
     pub body: Block,
 }
 
+/// A constructor (JLS 8.8).
 #[derive(Debug, Drop)]
 pub struct Constructor {
     pub modifiers: Vec<Modifier>,
@@ -124,6 +132,7 @@ pub struct Constructor {
     pub body: Block,
 }
 
+/// A parameter (JLS 8.4.1).
 #[derive(Debug, Drop)]
 pub struct Parameter {
     pub modifiers: Vec<Modifier>,
@@ -131,7 +140,7 @@ pub struct Parameter {
     pub name: Name,
 }
 
-/// Fields or locals of one type. There is at least one declarator.
+/// Fields (JLS 8.3) or locals (JLS 14.4) of one type. There is at least one declarator.
 #[derive(Debug, Drop)]
 pub struct Declaration {
     pub modifiers: Vec<Modifier>,
@@ -141,12 +150,14 @@ pub struct Declaration {
     pub span: Span,
 }
 
+/// A declared name, with the value that it begins with, if it is given one.
 #[derive(Debug, Drop)]
 pub struct Declarator {
     pub name: Name,
     pub value: Option<Expr>,
 }
 
+/// A block (JLS 14.2).
 #[derive(Debug, Drop)]
 #[cycle(statements)]
 pub struct Block {
@@ -154,6 +165,7 @@ pub struct Block {
     pub span: Span,
 }
 
+/// What stands in a block (JLS 14.2).
 #[derive(Debug, Drop)]
 #[cycle(statements)]
 pub enum BlockItem {
@@ -161,6 +173,8 @@ pub enum BlockItem {
     Declaration(Declaration),
 }
 
+/// A statement (JLS 14.5 to 14.20). `otherwise` is what stands behind `else`, and `label` the label in front of a loop or
+/// behind `break` or `continue`.
 #[derive(Debug, Drop)]
 #[cycle(statements)]
 pub enum Statement {
@@ -206,12 +220,14 @@ pub enum Statement {
     },
 }
 
+/// A unary operator (JLS 15.15).
 #[derive(Clone, Copy, Debug, PartialEq, Eq)]
 pub enum UnaryOp {
     Minus,
     Not,
 }
 
+/// A binary operator (JLS 15.17 to 15.24), from those that bind most loosely.
 #[derive(Clone, Copy, Debug, PartialEq, Eq)]
 pub enum BinaryOp {
     Or,
@@ -229,6 +245,7 @@ pub enum BinaryOp {
     Remainder,
 }
 
+/// An expression (JLS 15). A number keeps its text, and parentheses are kept.
 #[derive(Debug, Drop)]
 pub enum Expr {
     Number {

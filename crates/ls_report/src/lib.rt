@@ -14,6 +14,3 @@ pub use fault::HistoryFault;
 pub use history::{History, NamedEvent, Occurrence};
 pub use printing::print_history;
 pub use reading::read_history;
-
-#[cfg(test)]
-mod tests;

@@ -2,4 +2,5 @@ pub mod Answers
 pub mod Items
 pub mod Printing
 pub mod Reading
+pub mod Records
 pub mod RoundTrip

@@ -4,7 +4,5 @@
 pub mod run;
 mod stage;
 mod store;
-#[cfg(test)]
-mod tests;
 mod thing;
 mod thread;

@@ -4,3 +4,5 @@ pub mod Written
 pub mod CheckLemmas
 pub mod Ending
 pub mod SourceLemmas
+pub mod CompiledLemmas
+pub mod Numbers

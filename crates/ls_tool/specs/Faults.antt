@@ -12,6 +12,15 @@ use Rattle.ls_types.specs.declared.check.CheckFault.{CheckFault}
 use Rattle.ls_types.specs.declared.check.CheckFault.TheVariants as rule
 use Rattle.ls_types.specs.declared.fault.ProgramFault.{ProgramFault}
 use Rattle.ls_types.specs.declared.fault.ProgramFault.TheVariants as program
+use Rattle.ls_lowered.specs.declared.fault.LowerFault.TheVariants as lower
+use Rattle.ls_emit.specs.declared.fault.EmitFault.TheVariants as emit
+use Rattle.ls_linker.specs.declared.fault.LinkFault.TheVariants as link
+use Rattle.ls_linker.specs.declared.fault.BuildFault.{BuildFault}
+use Rattle.ls_linker.specs.declared.fault.BuildFault.TheVariants as build
+use Rattle.ls_compiler.specs.declared.fault.CompileFault.{CompileFault}
+use Rattle.ls_compiler.specs.declared.fault.CompileFault.TheVariants as stage
+use Rattle.ls_machine.specs.declared.fault.LoadFault.{LoadFault}
+use Rattle.ls_machine.specs.declared.fault.LoadFault.TheVariants as load
 use Rattle.ls_schedule.specs.declared.fault.ScheduleFault.{ScheduleFault}
 use Rattle.ls_schedule.specs.declared.fault.ScheduleFault.TheVariants as schedule
 use Rattle.ls_tool.specs.declared.fault.ToolFault.{ToolFault}
@@ -41,6 +50,22 @@ lifted_program f = faults.Program f
 abbrev pub lifted_schedule : ScheduleFault → ToolFault
 lifted_schedule schedule.Memory = faults.Memory
 lifted_schedule f = faults.Schedule f
+
+abbrev pub lifted_build : BuildFault → ToolFault
+lifted_build (build.Lower lower.Memory) = faults.Memory
+lifted_build (build.Emit emit.Memory) = faults.Memory
+lifted_build (build.Link link.Memory) = faults.Memory
+lifted_build f = faults.Build f
+
+abbrev pub lifted_compile : CompileFault → ToolFault
+lifted_compile (stage.Text f) = lifted_text f
+lifted_compile (stage.Check f) = lifted_check f
+lifted_compile (stage.Program f) = lifted_program f
+lifted_compile (stage.Build f) = lifted_build f
+
+abbrev pub lifted_cells : LoadFault → ToolFault
+lifted_cells load.Memory = faults.Memory
+lifted_cells load.BadCells = faults.BadCells
 
 -- `fault N Name`
 abbrev pub plain : List ℕ → List ℕ
@@ -85,6 +110,16 @@ program_line (program.UnknownThing at) = placed (codes "22 UnknownThing") at
 program_line (program.ReferenceResult at) = placed (codes "23 ReferenceResult") at
 program_line program.ProgramLimit = plain (codes "24 ProgramLimit")
 
+abbrev pub build_line : BuildFault → List ℕ
+build_line (build.Lower lower.Memory) = plain (codes "1 Memory")
+build_line (build.Lower lower.TooManyLocals) = plain (codes "30 TooManyLocals")
+build_line (build.Lower lower.TooManyCopies) = plain (codes "31 TooManyCopies")
+build_line (build.Emit emit.Memory) = plain (codes "1 Memory")
+build_line (build.Emit emit.CodeTooLong) = plain (codes "32 CodeTooLong")
+build_line (build.Link link.Memory) = plain (codes "1 Memory")
+build_line (build.Link link.CodeTooLong) = plain (codes "33 CodeTooLong")
+build_line (build.Link link.OutOfRange) = plain (codes "34 UnknownSymbol")
+
 abbrev pub schedule_line : ScheduleFault → List ℕ
 schedule_line schedule.Memory = plain (codes "1 Memory")
 schedule_line (schedule.BadItem at) = placed (codes "40 BadItem") at
@@ -104,6 +139,8 @@ fault_line faults.Memory = plain (codes "1 Memory")
 fault_line (faults.Text f) = text_line f
 fault_line (faults.Check f) = check_line f
 fault_line (faults.Program f) = program_line f
+fault_line (faults.Build f) = build_line f
+fault_line faults.BadCells = plain (codes "35 BadCells")
 fault_line (faults.Schedule f) = schedule_line f
 fault_line (faults.History f) = history_line f
 fault_line (faults.Order f) = order_line f

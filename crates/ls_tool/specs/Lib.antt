@@ -4,3 +4,4 @@ pub mod Parts
 pub mod Check
 pub mod Output
 pub mod Source
+pub mod Compiled

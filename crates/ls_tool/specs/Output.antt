@@ -4,6 +4,7 @@ use Rattle.std.specs.Global.{Global}
 use Rattle.std.specs.Io.KnownBytes.{Appends, Keeps}
 use Rattle.ls_report.specs.Events.{Text}
 use Rattle.ls_tool.specs.Check.{ChecksTo}
+use Rattle.ls_tool.specs.Compiled.{CountsTo, ReplaysTo}
 use Rattle.ls_tool.specs.Source.{SourcesTo}
 use Rattle.ls_tool.specs.Faults.{fault_line}
 use Rattle.ls_tool.specs.Parts.{is_text, parts_of}
@@ -19,6 +20,10 @@ use Rattle.ls_tool.specs.declared.fault.Refusal.TheVariants as refusals
 abbrev pub Answers : Request → List Text → Result Text ToolFault → Type 0
 Answers requests.Check (history ∷ order ∷ []) answer = ChecksTo history order answer
 Answers requests.Check other answer = answer ≡ Err faults.WrongParts
+Answers requests.Compile (classes ∷ program ∷ []) answer = CountsTo classes program answer
+Answers requests.Compile other answer = answer ≡ Err faults.WrongParts
+Answers (requests.Replay cells) (classes ∷ program ∷ schedule ∷ []) answer = ReplaysTo cells classes program schedule answer
+Answers (requests.Replay cells) other answer = answer ≡ Err faults.WrongParts
 Answers requests.Source (classes ∷ program ∷ schedule ∷ []) answer = SourcesTo classes program schedule answer
 Answers requests.Source other answer = answer ≡ Err faults.WrongParts
 

@@ -4,6 +4,7 @@ ghost use Rattle.std.specs.Prelude.{IfSome, map, string_bytes};
 ghost use Rattle.ls_tool.specs.Output.{Answers, AnswersText, Decides, Gives};
 
 use crate::commands::check;
+use crate::compiled::{count, replay};
 use crate::fault::{Refusal, ToolFault};
 use crate::parts::{parts_of, text_of};
 use crate::source::source;
@@ -18,10 +19,20 @@ fn decide(alloc: Global, request: Request, parts: &[String]) -> Result<String, T
 {
     match (request, parts) {
         (Request::Check, [history, order]) => check(alloc, history.as_str(), order.as_str()),
+        (Request::Compile, [classes, program]) => count(alloc, classes.as_str(), program.as_str()),
+        (Request::Replay { cells }, [classes, program, schedule]) => replay(
+            alloc,
+            cells as usize,
+            classes.as_str(),
+            program.as_str(),
+            schedule.as_str(),
+        ),
         (Request::Source, [classes, program, schedule]) => {
             source(alloc, classes.as_str(), program.as_str(), schedule.as_str())
         }
         (Request::Check, _) => Err(ToolFault::WrongParts),
+        (Request::Compile, _) => Err(ToolFault::WrongParts),
+        (Request::Replay { .. }, _) => Err(ToolFault::WrongParts),
         (Request::Source, _) => Err(ToolFault::WrongParts),
     }
 }

@@ -1,10 +1,15 @@
 // Faults of the program and of the layers below.
 
 ghost use Rattle.std.specs.Prelude.{◌≡◌};
-ghost use Rattle.ls_tool.specs.Faults.{lifted_check, lifted_history, lifted_order, lifted_program, lifted_schedule, lifted_text};
+ghost use Rattle.ls_tool.specs.Faults.{lifted_build, lifted_cells, lifted_check, lifted_compile, lifted_history, lifted_order, lifted_program, lifted_schedule, lifted_text};
 ghost use Rattle.ls_tool.specs.declared.fault.ToolFault.TheVariants.{Memory};
 
+use ls_compiler::fault::CompileFault;
+use ls_emit::fault::EmitFault;
 use ls_lexer::fault::TextFault;
+use ls_linker::fault::{BuildFault, LinkFault};
+use ls_lowered::fault::LowerFault;
+use ls_machine::LoadFault;
 use ls_orders::OrderFault;
 use ls_report::HistoryFault;
 use ls_schedule::fault::ScheduleFault;
@@ -24,6 +29,10 @@ pub enum ToolFault {
     Check(CheckFault),
     #[error(transparent)]
     Program(ProgramFault),
+    #[error(transparent)]
+    Build(BuildFault),
+    #[error("a machine can't have so many cells, or so few")]
+    BadCells,
     #[error(transparent)]
     Schedule(ScheduleFault),
     #[error(transparent)]
@@ -125,6 +134,43 @@ impl From<ScheduleFault> for ToolFault {
         match fault {
             ScheduleFault::Memory => ToolFault::Memory,
             other => ToolFault::Schedule(other),
+        }
+    }
+}
+
+impl From<BuildFault> for ToolFault {
+    ghost from_gives = { λ f e. e ≡ lifted_build f };
+
+    fn from(fault: BuildFault) -> ToolFault {
+        match fault {
+            BuildFault::Lower(LowerFault::Memory)
+            | BuildFault::Emit(EmitFault::Memory)
+            | BuildFault::Link(LinkFault::Memory) => ToolFault::Memory,
+            other => ToolFault::Build(other),
+        }
+    }
+}
+
+impl From<CompileFault> for ToolFault {
+    ghost from_gives = { λ f e. e ≡ lifted_compile f };
+
+    fn from(fault: CompileFault) -> ToolFault {
+        match fault {
+            CompileFault::Text(fault) => ToolFault::from(fault),
+            CompileFault::Check(fault) => ToolFault::from(fault),
+            CompileFault::Program(fault) => ToolFault::from(fault),
+            CompileFault::Build(fault) => ToolFault::from(fault),
+        }
+    }
+}
+
+impl From<LoadFault> for ToolFault {
+    ghost from_gives = { λ f e. e ≡ lifted_cells f };
+
+    fn from(fault: LoadFault) -> ToolFault {
+        match fault {
+            LoadFault::Memory => ToolFault::Memory,
+            LoadFault::BadCells => ToolFault::BadCells,
         }
     }
 }

@@ -3,6 +3,7 @@
 
 mod answer;
 mod commands;
+mod compiled;
 mod fault;
 mod line;
 mod parts;
@@ -15,6 +16,3 @@ pub use answer::respond;
 pub use fault::{Refusal, ToolFault};
 pub use running::run;
 pub use words::Request;
-
-#[cfg(test)]
-mod tests;

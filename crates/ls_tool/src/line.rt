@@ -1,11 +1,14 @@
 // The line of a fault, made without memory.
 
 ghost use Rattle.std.specs.Prelude.{◌≡◌, ◌≤◌, length};
-ghost use Rattle.ls_tool.specs.Faults.{fault_line, text_line, check_line, program_line, schedule_line, placed, plain, spanned};
+ghost use Rattle.ls_tool.specs.Faults.{fault_line, build_line, text_line, check_line, program_line, schedule_line, placed, plain, spanned};
 
 use crate::fault::ToolFault;
+use ls_emit::fault::EmitFault;
 use ls_lexer::fault::TextFault;
 use ls_lexer::token::Span;
+use ls_linker::fault::{BuildFault, LinkFault};
+use ls_lowered::fault::LowerFault;
 use ls_orders::OrderFault;
 use ls_report::HistoryFault;
 use ls_schedule::fault::ScheduleFault;
@@ -169,6 +172,21 @@ fn program_line(fault: ProgramFault) -> Line
     }
 }
 
+fn build_line(fault: BuildFault) -> Line
+    ensures { result ≡ build_line fault }
+{
+    match fault {
+        BuildFault::Lower(LowerFault::Memory)
+        | BuildFault::Emit(EmitFault::Memory)
+        | BuildFault::Link(LinkFault::Memory) => plain("1 Memory"),
+        BuildFault::Lower(LowerFault::TooManyLocals) => plain("30 TooManyLocals"),
+        BuildFault::Lower(LowerFault::TooManyCopies) => plain("31 TooManyCopies"),
+        BuildFault::Emit(EmitFault::CodeTooLong) => plain("32 CodeTooLong"),
+        BuildFault::Link(LinkFault::CodeTooLong) => plain("33 CodeTooLong"),
+        BuildFault::Link(LinkFault::OutOfRange) => plain("34 UnknownSymbol"),
+    }
+}
+
 fn schedule_line(fault: ScheduleFault) -> Line
     ensures { result ≡ schedule_line fault }
 {
@@ -191,6 +209,8 @@ pub(crate) fn fault_line(fault: ToolFault) -> Line
         ToolFault::Text(fault) => text_line(fault),
         ToolFault::Check(fault) => check_line(fault),
         ToolFault::Program(fault) => program_line(fault),
+        ToolFault::Build(fault) => build_line(fault),
+        ToolFault::BadCells => plain("35 BadCells"),
         ToolFault::Schedule(fault) => schedule_line(fault),
         ToolFault::History(HistoryFault::BadHistory { at }) => placed("77 BadHistory", at),
         ToolFault::Order(OrderFault::BadOrder { at }) => placed("78 BadOrder", at),

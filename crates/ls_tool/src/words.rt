@@ -1,20 +1,25 @@
 // The command line: which command the words ask for.
 
-ghost use Rattle.std.specs.Prelude.{◌≡◌, IfOk, map, string_bytes, false};
-ghost use Rattle.clap.specs.Words.{app_of, found_of, new_app, rows_of, subcommand_rows_of};
+ghost use Rattle.std.specs.Prelude.{◌≡◌, codes, IfOk, Some, map, string_bytes, false};
+ghost use Rattle.clap.specs.Words.{app_of, found_of, new_app, rows_of, rule_of, subcommand_rows_of};
 ghost use Rattle.clap.specs.declared.builder.command.Command.TheViews.{out-Command};
-ghost use Rattle.ls_tool.specs.Words.{IsWordsAnswer, asked, asked_by, line};
+ghost use Rattle.ls_tool.specs.Words.{IsWordsAnswer, asked, asked_by, line, number_of, number_rule, replay_line, u64_parser};
 
 use clap::error::ErrorKind;
-use clap::{ArgMatches, Command, Error};
+use clap::{Arg, ArgMatches, Command, Error};
 use std::alloc::{AllocError, Global};
 
 /// A command with its options.
 #[derive(Clone, Copy, Debug, PartialEq, Eq)]
 pub enum Request {
     Check,
+    Compile,
+    Replay { cells: u64 },
     Source,
 }
+
+/// The cells of a machine where none are asked for.
+const CELLS: u64 = 65_536;
 
 /// Why there is no request.
 #[derive(Debug, Drop)]
@@ -39,6 +44,49 @@ fn plain_command<'a>(
         .after_help(after_help)
 }
 
+/// The argument, with its values read as numbers of 64 bits.
+fn read_as_number<'a>(arg: Arg<'a>) -> Arg<'a>
+    ensures { result ≡ record arg.entry { value_parser = Some u64_parser } }
+{
+    arg.value_parser(clap::value_parser!(u64))
+}
+
+/// A number, as `--cells 9`.
+fn number_option<'a>(alloc: Global, name: &'a str, help: &'a str) -> Arg<'a>
+    ensures rule { rule_of result ≡ number_rule name.entry.now }
+    ensures local { result.global ≡ false }
+{
+    read_as_number(Arg::new(alloc, name))
+        .long(name)
+        .value_name("N")
+        .help(help)
+}
+
+fn cells_option<'a>(alloc: Global) -> Arg<'a>
+    ensures rule { rule_of result ≡ number_rule (codes "cells") }
+    ensures local { result.global ≡ false }
+{
+    number_option(
+        alloc,
+        "cells",
+        "how many words of memory the machine has, 1 to 1048576 [default: 65536]",
+    )
+}
+
+fn replay_command<'a>(alloc: Global) -> Result<Command<'a>, AllocError>
+    ensures shape { IfOk result (λ c. app_of c ≡ replay_line) }
+    ensures local { IfOk result (λ c. (out-Command c).has_globals ≡ false) }
+{
+    plain_command(
+        alloc,
+        "replay",
+        "Compiles a program and runs it under a schedule of machine instructions",
+        "Standard input has three parts, class text, thread program and schedule, with a line %% between them:\n  \
+         listset replay < examples/least_int.txt",
+    )
+    .arg(cells_option(alloc))
+}
+
 /// The program with its commands.
 fn program<'a>(alloc: Global) -> Result<Command<'a>, AllocError>
     ensures { IfOk result (λ c. app_of c ≡ line) }
@@ -50,6 +98,14 @@ fn program<'a>(alloc: Global) -> Result<Command<'a>, AllocError>
         "Standard input has two parts, a history and an order, with a line %% between them:\n  \
          printf 'A.1 call s.add(1)\\nA.1 return true\\n%%%%\\nA.1\\n' | listset check",
     );
+    let compile = plain_command(
+        alloc,
+        "compile",
+        "Compiles a program, and counts its classes, methods and threads",
+        "Standard input has two parts, class text and thread program, with a line %% between them:\n  \
+         printf 'class C { }\\n%%%%\\nsetup { c = new C(); }\\n' | listset compile",
+    );
+    let replay = replay_command(alloc)?;
     let source = plain_command(
         alloc,
         "source",
@@ -65,8 +121,10 @@ fn program<'a>(alloc: Global) -> Result<Command<'a>, AllocError>
     )
     .subcommand_required(true);
     let one = top.subcommand(check)?;
-    let two = one.subcommand(source)?;
-    Ok(two)
+    let two = one.subcommand(compile)?;
+    let three = two.subcommand(replay)?;
+    let four = three.subcommand(source)?;
+    Ok(four)
 }
 
 /// What the words ask for.
@@ -99,12 +157,25 @@ fn chosen(matches: &ArgMatches<'_>) -> Request
     }
 }
 
-fn asked(name: &str, _options: &ArgMatches<'_>) -> Request
-    ensures { result ≡ asked name.now (rows_of (found_of _options.now)) }
+/// The number of an option, or the default where it isn't given.
+fn number(options: &ArgMatches<'_>, name: &str, default: u64) -> u64
+    ensures { result ≡ number_of name.now default (rows_of (found_of options.now)) }
 {
-    if name == "source" {
-        Request::Source
-    } else {
-        Request::Check
+    match options.get_one::<u64>(name) {
+        Some(number) => number,
+        None => default,
+    }
+}
+
+fn asked(name: &str, options: &ArgMatches<'_>) -> Request
+    ensures { result ≡ asked name.now (rows_of (found_of options.now)) }
+{
+    match name {
+        "compile" => Request::Compile,
+        "replay" => Request::Replay {
+            cells: number(options, "cells", CELLS),
+        },
+        "source" => Request::Source,
+        _ => Request::Check,
     }
 }

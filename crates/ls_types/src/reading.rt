@@ -16,7 +16,8 @@ pub enum Stage<'a> {
     AtArguments(Pending<'a>),
     AtFirst(Pending<'a>),
     AtArgument(Pending<'a>),
-    AfterMinus(Pending<'a>),
+    /// The minus stands at the place.
+    AfterMinus(Pending<'a>, usize),
     AfterArgument(Pending<'a>),
     AtSemicolon(Pending<'a>),
     AtThread,

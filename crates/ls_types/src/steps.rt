@@ -206,7 +206,7 @@ fn after_dot<'a>(
     }
 }
 
-// An argument's value.
+// An argument's value; the argument stands at `at`.
 fn valued<'a>(
     r: Parts,
     p: Pending<'a>,
@@ -244,7 +244,7 @@ fn argument<'a>(
             }
             if is_sign(Sign::Minus, token.kind) {
                 return Ok(Ok(Reading {
-                    stage: Stage::AfterMinus(p),
+                    stage: Stage::AfterMinus(p, at),
                     parts: r,
                 }));
             }
@@ -256,14 +256,16 @@ fn argument<'a>(
 fn after_minus<'a>(
     r: Parts,
     p: Pending<'a>,
+    minus: usize,
     token: Token<'a>,
 ) -> Result<Result<Reading<'a>, ProgramFault>, AllocError>
     ensures { IfOk result (λ o. reads_on o ≡ the_after_minus (parts_of r) (pending_of p.entry) (the_number_in (lexeme_of token.entry.kind))) }
 {
-    let at = token.span.start;
     match number_in(token.kind) {
-        None => Ok(Err(ProgramFault::BadProgram { at })),
-        Some(digits) => valued(r, p, minus_number(digits), at),
+        None => Ok(Err(ProgramFault::BadProgram {
+            at: token.span.start,
+        })),
+        Some(digits) => valued(r, p, minus_number(digits), minus),
     }
 }
 
@@ -447,7 +449,7 @@ pub fn stepped<'a>(
         Stage::AtArguments(p) => Ok(only(is_sign(Sign::OpenParen, kind), Stage::AtFirst(p), r, at)),
         Stage::AtFirst(p) => at_first(r, p, token),
         Stage::AtArgument(p) => argument(r, p, token),
-        Stage::AfterMinus(p) => after_minus(r, p, token),
+        Stage::AfterMinus(p, minus) => after_minus(r, p, minus, token),
         Stage::AfterArgument(p) => Ok(after_argument(r, p, token)),
         Stage::AtSemicolon(p) => at_semicolon(alloc, r, p, token),
         Stage::AtThread => Ok(at_thread(r, token)),

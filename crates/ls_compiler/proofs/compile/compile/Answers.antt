@@ -6,15 +6,23 @@ use Rattle.ls_types.specs.CheckedFile.{outcome_of}
 use Rattle.ls_meaning.specs.Constants.{FileHasConstants}
 use Rattle.ls_refs.specs.Refused.{AllSlotted}
 use Rattle.ls_refs.specs.Typing.{IsTypedFile}
+use Rattle.ls_ranges.specs.Ranged.{IsRanged}
 use Rattle.ls_soundness.specs.Files.{HasItsClasses}
 use Rattle.ls_soundness.specs.Programs.{IsTypedProgram}
 use Rattle.ls_headline.specs.Same.{Same}
-use Rattle.ls_compiler.proofs.Put.{compiled}
+use Rattle.std.proofs.lemmas.Result.{err_from_is_err_and}
+use Rattle.ls_linker.specs.Limits.{KeepsLimits, GoesPast}
+use Rattle.ls_compiler.specs.Images.{Compiled, NoFile, Breaks, NoProgram, PastLimit}
+use Rattle.ls_compiler.proofs.Put.{compiled, limited}
 use Rattle.ls_compiler.proofs.compile.compile.Goals as goal
 
 pub build-requires-clause-typed : goal.build-requires-clause-typed
 build-requires-clause-typed c =
     subst (λ x. IsTypedFile (plain_file x)) (sym c.file.ensures) (c.elaborates_typed.ensures.file (placed_file c.in_ok-parsed.parsed) (outcome_of c.in_ok-checked.checked) c.in_ok-checked.ensures.checked)
+
+pub build-requires-clause-ranged : goal.build-requires-clause-ranged
+build-requires-clause-ranged c =
+    subst (λ x. IsRanged (plain_file x)) (sym c.file.ensures) (c.elaborates_ranged.ensures (placed_file c.in_ok-parsed.parsed) (outcome_of c.in_ok-checked.checked) c.in_ok-checked.ensures.checked)
 
 pub build-requires-clause-classes : goal.build-requires-clause-classes
 build-requires-clause-classes c =
@@ -45,8 +53,42 @@ build-requires-clause-program_constants c =
     let p = plain_program c.in_ok-program.program in
     c.has_constants.ensures.of_program o.file p (c.reads_typed.ensures (placed_file c.in_ok-parsed.parsed) o c.args.program.now p c.in_ok-checked.ensures.checked c.in_ok-program.ensures.read)
 
-pub returns : goal.returns
-returns c =
+pub returns-clause-compiled : goal.returns-clause-compiled
+returns-clause-compiled c =
     let same = subst (λ x. Same (plain_file x) (plain_program c.in_ok-program.program) c.in_ok-code.code) c.file.ensures c.in_ok-code.ensures.same in
     compiled c.args.classes.now c.args.program.now c.in_ok-parsed.parsed c.in_ok-checked.checked c.in_ok-program.program c.in_ok-code.code c.new.result
     c.new.ensures.checked c.new.ensures.program c.new.ensures.code c.in_ok-parsed.ensures.found c.in_ok-checked.ensures.checked c.in_ok-program.ensures.read same
+
+pub returns-clause-within : goal.returns-clause-within
+returns-clause-within c =
+    limited c.in_ok-checked.checked c.in_ok-program.program c.new.result c.new.ensures.checked c.new.ensures.program
+    (subst (λ x. KeepsLimits (plain_file x) (plain_program c.in_ok-program.program)) c.file.ensures c.in_ok-code.ensures.within)
+
+pub returns-clause-refused : goal.returns-clause-refused
+returns-clause-refused c = Compiled c.new.result (returns-clause-compiled c)
+
+pub returns-in_err-parsed-clause-refused : goal.returns-in_err-parsed-clause-refused
+returns-in_err-parsed-clause-refused c =
+    let p = err_from_is_err_and c.from_residual.result c.from_residual.ensures.1 in
+    rw (p.1, p.2) (NoFile c.in_err-parsed.field-0.0 c.in_err-parsed.ensures.refused)
+
+pub returns-in_err-checked-clause-refused : goal.returns-in_err-checked-clause-refused
+returns-in_err-checked-clause-refused c =
+    let p = err_from_is_err_and c.from_residual-in_err-checked.result c.from_residual-in_err-checked.ensures.1 in
+    rw (p.1, p.2) (Breaks c.in_ok-parsed.parsed c.in_err-checked.field-0.0 c.in_ok-parsed.ensures.found c.in_err-checked.ensures.refused)
+
+pub returns-in_err-program-clause-refused : goal.returns-in_err-program-clause-refused
+returns-in_err-program-clause-refused c =
+    let p = err_from_is_err_and c.from_residual-in_err-program.result c.from_residual-in_err-program.ensures.1 in
+    rw (p.1, p.2)
+    (NoProgram c.in_ok-parsed.parsed (outcome_of c.in_ok-checked.checked) c.in_err-program.field-0.0 c.in_ok-parsed.ensures.found c.in_ok-checked.ensures.checked
+    c.in_err-program.ensures.refused)
+
+pub returns-in_err-code-clause-refused : goal.returns-in_err-code-clause-refused
+returns-in_err-code-clause-refused c =
+    let p = err_from_is_err_and c.from_residual-in_err-code.result c.from_residual-in_err-code.ensures.1 in
+    let o = outcome_of c.in_ok-checked.checked in
+    let program = plain_program c.in_ok-program.program in
+    rw (p.1, p.2)
+    (PastLimit c.in_ok-parsed.parsed o program c.in_err-code.field-0.0 c.in_ok-parsed.ensures.found c.in_ok-checked.ensures.checked c.in_ok-program.ensures.read
+    (subst (λ x. GoesPast (plain_file x) program c.in_err-code.field-0.0) c.file.ensures c.in_err-code.ensures.refused))

@@ -1,8 +1,6 @@
-use Rattle.std.proofs.Common.{rules, map, refl, subst}
-use Rattle.std.specs.Prelude.{All}
+use Rattle.std.proofs.Common.{rules, refl}
 use Rattle.ls_lowered.specs.Plain.{plain_method, plain_file}
 use Rattle.ls_emit.specs.Small.{IsSmallStatement}
-use Rattle.ls_emit.specs.Short.{AllShort}
 use Rattle.ls_emit.proofs.Files.{all_small_bodies, short_methods, methods_short, no_truth, not_long, wants_memory, made, same_of}
 use Rattle.ls_emit.proofs.emit.emit.Goals as goal
 

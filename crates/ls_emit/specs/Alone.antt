@@ -1,0 +1,20 @@
+-- The statements without others in them.
+use Rattle.ls_lowered.specs.LoweredTree.{Statement, Block, SetLocal, SetField, SetItem, Evaluate, If, While, Break, Continue, Return, Try, Guarded, Throw, Leavable, Leave}
+
+-- a `try` has no code, and so nothing in it counts
+abbrev pub IsAlone : Statement → Type 0
+IsAlone (Block ss) = ⊥
+IsAlone (SetLocal n e) = Unit {0}
+IsAlone (SetField e f a) = Unit {0}
+IsAlone (SetItem a i e) = Unit {0}
+IsAlone (Evaluate e) = Unit {0}
+IsAlone (If e a b) = ⊥
+IsAlone (While e s) = ⊥
+IsAlone (Break n) = Unit {0}
+IsAlone (Continue n) = Unit {0}
+IsAlone (Return e) = Unit {0}
+IsAlone (Try b f) = Unit {0}
+IsAlone (Guarded b n h) = ⊥
+IsAlone (Throw n) = Unit {0}
+IsAlone (Leavable b x) = ⊥
+IsAlone (Leave n) = Unit {0}

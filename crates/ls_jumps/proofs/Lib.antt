@@ -1,0 +1,4 @@
+pub mod Given
+pub mod Jumping
+pub mod Bodies
+pub mod Files

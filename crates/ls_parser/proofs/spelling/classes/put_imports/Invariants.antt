@@ -1,0 +1,11 @@
+use Rattle.std.proofs.Common.{◌≡◌, ◌++◌, ◌∷◌, [], drop, map}
+use Rattle.std.specs.List.{flat_map}
+use Rattle.ls_lexer.specs.Lexemes.{Named, Marked}
+use Rattle.ls_lexer.specs.declared.sign.Sign.TheVariants as signs
+use Rattle.ls_parser.specs.Kinds.{lexemes_of}
+use Rattle.ls_parser.specs.Spelling.{spell_import}
+use Rattle.ls_parser.specs.Views.{bare_import}
+use Rattle.ls_parser.proofs.spelling.classes.put_imports.Given as goal
+
+abbrev pub invariant-loop-line : goal.invariant-loop-line
+invariant-loop-line l = lexemes_of l.out.items ++ flat_map spell_import (map bare_import (drop l.line-index l.imports)) ≡ lexemes_of l.initial.out.items ++ flat_map spell_import (map bare_import l.imports)

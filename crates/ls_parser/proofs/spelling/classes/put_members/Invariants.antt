@@ -1,0 +1,11 @@
+use Rattle.std.proofs.Common.{◌≡◌, ◌++◌, ◌∷◌, [], drop, map}
+use Rattle.std.specs.List.{flat_map}
+use Rattle.ls_lexer.specs.Lexemes.{Named, Marked}
+use Rattle.ls_lexer.specs.declared.sign.Sign.TheVariants as signs
+use Rattle.ls_parser.specs.Kinds.{lexemes_of}
+use Rattle.ls_parser.specs.Spelling.{spell_member}
+use Rattle.ls_parser.specs.Views.{bare_member}
+use Rattle.ls_parser.proofs.spelling.classes.put_members.Given as goal
+
+abbrev pub invariant-loop-member : goal.invariant-loop-member
+invariant-loop-member l = lexemes_of l.out.items ++ flat_map spell_member (map bare_member (drop l.member-index l.members)) ≡ lexemes_of l.initial.out.items ++ flat_map spell_member (map bare_member l.members)

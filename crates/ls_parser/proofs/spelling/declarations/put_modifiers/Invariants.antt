@@ -1,0 +1,11 @@
+use Rattle.std.proofs.Common.{◌≡◌, ◌++◌, ◌∷◌, [], drop, map}
+use Rattle.std.specs.List.{flat_map}
+use Rattle.ls_lexer.specs.Lexemes.{Named, Marked}
+use Rattle.ls_lexer.specs.declared.sign.Sign.TheVariants as signs
+use Rattle.ls_parser.specs.Kinds.{lexemes_of}
+use Rattle.ls_parser.specs.Spelling.{spell_modifier}
+use Rattle.ls_parser.specs.Views.{bare_modifier}
+use Rattle.ls_parser.proofs.spelling.declarations.put_modifiers.Given as goal
+
+abbrev pub invariant-loop-modifier : goal.invariant-loop-modifier
+invariant-loop-modifier l = lexemes_of l.out.items ++ flat_map spell_modifier (map bare_modifier (drop l.modifier-index l.modifiers)) ≡ lexemes_of l.initial.out.items ++ flat_map spell_modifier (map bare_modifier l.modifiers)

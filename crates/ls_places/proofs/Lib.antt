@@ -1,0 +1,7 @@
+pub mod Anywhere
+pub mod Steps
+pub mod Expressions
+pub mod Statements
+pub mod Files
+pub mod Spelled
+pub mod Texts

@@ -1,0 +1,2 @@
+pub mod Unplaced
+pub mod Laws

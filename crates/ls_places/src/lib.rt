@@ -1,0 +1,20 @@
+//! Why the elaboration of a class text doesn't depend on places.
+#![tactic(auto)]
+
+ghost use Rattle.ls_places.specs.Laws.{NoPlaces, OneAnswer};
+
+use ls_parser::parse::one_file;
+
+/// Two trees that differ in their places alone have one outcome, or break one rule.
+pub fn no_places()
+    ensures { NoPlaces }
+{}
+
+/// Two trees that one text spells have one outcome, or break one rule: so a text that is refused is refused for every
+/// tree that it spells.
+#[tactic(auto, using(crate::proofs::Texts::one_answer))]
+pub fn one_answer()
+    ensures { OneAnswer }
+{
+    one_file();
+}

@@ -1,0 +1,5 @@
+mod Results
+mod Jumps
+mod Methods
+mod Signs
+mod Whole

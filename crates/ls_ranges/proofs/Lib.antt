@@ -1,0 +1,11 @@
+mod Lists
+mod Below
+mod Calls
+mod Placed
+mod Locals
+mod Words
+mod Flattens
+mod Exits
+mod Flat
+mod Emitted
+mod Ranges

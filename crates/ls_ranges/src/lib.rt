@@ -1,0 +1,33 @@
+//! Laws of what is in range in the lowered trees of a typed file: so each of them can be lowered further, and has code.
+#![tactic(auto)]
+
+ghost use Rattle.ls_checked.specs.CheckedTree.{File};
+ghost use Rattle.ls_refs.specs.Typing.{IsTypedFile};
+ghost use Rattle.ls_refs.specs.Lowered.{lowered_file};
+ghost use Rattle.ls_refs.specs.Refused.{AllFit, AllSlotted};
+ghost use Rattle.ls_locks.specs.Locked.{locked_file};
+ghost use Rattle.ls_finally.specs.Placed.{AllPlaced};
+ghost use Rattle.ls_finally.specs.Counts.{FewLocals};
+ghost use Rattle.ls_finally.specs.Flat.{flat_file};
+ghost use Rattle.ls_emission.specs.Emittable.{IsEmittableFile};
+ghost use Rattle.ls_soundness.specs.Files.{HasItsClasses};
+ghost use Rattle.ls_ranges.specs.Ranged.{IsRanged};
+
+/// In the tree over words of a typed file each local is there, each call has as many arguments as its method, and there
+/// are no regions: so `finally` can be lowered in it.
+#[tactic(auto, using(crate::proofs::Placed::file_placed))]
+pub fn typed_is_placed()
+    ensures { (file : File) → IsTypedFile file → AllPlaced (locked_file (lowered_file file)) (locked_file (lowered_file file)) }
+{}
+
+/// Where no method of a file has too many locals, none of its lowered methods has.
+#[tactic(auto, using(crate::proofs::Locals::few_locals))]
+pub fn fits_lowered()
+    ensures { (file : File) → AllSlotted file.methods → AllFit file.methods → FewLocals (locked_file (lowered_file file)) }
+{}
+
+/// The tree without `try` of a typed file in range, where no method has too many locals, has code.
+#[tactic(auto, using(crate::proofs::Ranges::file_emittable))]
+pub fn ranged_is_emittable()
+    ensures { (file : File) → IsTypedFile file → HasItsClasses file → IsRanged file → AllFit file.methods → IsEmittableFile (flat_file (locked_file (lowered_file file))) }
+{}
