@@ -8,7 +8,7 @@ use crate::image::Image;
 use ls_linker::build::build;
 use ls_parser::parse::parse_text;
 use ls_program_laws::reads_typed;
-use ls_range_laws::elaborates_ranged;
+use ls_range_laws::{elaborates_ranged, reads_ranged};
 use ls_soundness::laws::has_constants;
 use ls_types::checking::check;
 use ls_types::program::read_program;
@@ -29,6 +29,7 @@ pub fn compile(alloc: Global, classes: &str, program: &str) -> Result<Image, Com
     elaborates_ranged();
     has_slots();
     reads_typed();
+    reads_ranged();
     has_constants();
     let code = build(alloc, checked.file(), &program)?;
     Ok(Image::new(checked, program, code))

@@ -10,7 +10,9 @@ use Rattle.ls_finally.specs.Flat.{flat_file}
 use Rattle.ls_finally.specs.Placed.{AllPlaced}
 use Rattle.ls_emission.specs.Units.{CodeUnit, units_of}
 use Rattle.ls_emission.specs.Emittable.{IsEmittableFile}
+use Rattle.ls_emit.specs.Short.{AllShort}
 use Rattle.ls_linking.specs.Linked.{linked}
+use Rattle.ls_ranges.specs.Links.{Links}
 use Rattle.ls_linker.specs.Compiled.{locks_of, flat_of, code_of}
 use Rattle.std.specs.Prelude.{List}
 
@@ -29,3 +31,9 @@ module _ (file : File) (program : Program) (refs locks flat : low.File) (r : ref
 
   pub code_here : (units : List CodeUnit) (code : Code) → units ≡ units_of flat → code ≡ linked file program units → code ≡ code_of file program
   code_here units code u c = c ∙ ap (linked file program) (u ∙ ap units_of flat_here)
+
+  pub short_here : AllShort flat → AllShort (flat_of file)
+  short_here short = subst AllShort flat_here short
+
+  pub links_here : (units : List CodeUnit) → units ≡ units_of flat → Links file program (units_of (flat_of file)) → Links file program units
+  links_here units u l = subst (Links file program) (sym (u ∙ ap units_of flat_here)) l

@@ -1,5 +1,6 @@
 mod Sizes
 mod Wholes
+mod Rooms
 mod Composed
 mod Built
 mod Refusals

@@ -27,3 +27,9 @@ thread_pushed classes calls old new from last a f e = record {
   is = a.is;
   row_is = ap (λ x. row x last) f ∙ ap (row (length old)) (last_place classes calls old new last a e);
 }
+
+pub code_some : (classes : List Class) (calls : List ProgramCall) (old new : List Instruction) → Adds old (calls_code classes 1 calls) new → 2 ≤ length new
+code_some classes calls old new a =
+    let all = ap length a.is ∙ length-append old (calls_code classes 1 calls) in
+    let some = calls_some classes 1 calls in
+    omega (arith, all, some)

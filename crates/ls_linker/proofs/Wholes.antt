@@ -12,7 +12,7 @@ length-map : {A B : Type 0} (f : A → B) (xs : List A) → length (map f xs) �
 length-map f [] = refl
 length-map f (x ∷ xs) = omega (arith, length-map f xs)
 
-units_length : (p : ℕ) (us : List CodeUnit) → length (units_code p us) ≡ words_of us
+pub units_length : (p : ℕ) (us : List CodeUnit) → length (units_code p us) ≡ words_of us
 units_length p [] = refl
 units_length p (u ∷ us) =
     length-append (map (moved p) u.instructions) (units_code (p + length u.instructions) us)

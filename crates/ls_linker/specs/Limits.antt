@@ -29,4 +29,3 @@ GoesPast file program (Emit emit.Memory) = Unit {0}
 GoesPast file program (Emit emit.CodeTooLong) = ¬ AllShort (flat_of file)
 GoesPast file program (Link link.Memory) = Unit {0}
 GoesPast file program (Link link.CodeTooLong) = 65536 < length (code_of file program).instructions
-GoesPast file program (Link link.OutOfRange) = Unit {0}

@@ -6,7 +6,7 @@ ghost use Rattle.ls_checked.specs.PlainProgram.{plain_program};
 ghost use Rattle.ls_meaning.specs.Constants.{FileHasConstants, ProgramHasConstants};
 ghost use Rattle.ls_refs.specs.Typing.{IsTypedFile};
 ghost use Rattle.ls_refs.specs.Refused.{AllSlotted};
-ghost use Rattle.ls_ranges.specs.Ranged.{IsRanged};
+ghost use Rattle.ls_ranges.specs.Ranged.{IsRanged, IsRangedProgram};
 ghost use Rattle.ls_soundness.specs.Files.{HasItsClasses};
 ghost use Rattle.ls_soundness.specs.Programs.{IsTypedProgram};
 ghost use Rattle.ls_headline.specs.Same.{Same};
@@ -22,7 +22,7 @@ use ls_code::code::Code;
 use ls_emit::emit::emit;
 use ls_finally::files::lower_finally;
 use ls_locks::files::lower_locks;
-use ls_ranges::{fits_lowered, ranged_is_emittable, typed_is_placed};
+use ls_ranges::{fits_lowered, ranged_is_emittable, ranged_links, typed_is_placed};
 use ls_refs::lower::lower_refs;
 use std::alloc::Global;
 
@@ -35,6 +35,7 @@ pub fn build(alloc: Global, file: &File, program: &Program) -> Result<Code, Buil
     requires constants { FileHasConstants (plain_file file.now) }
     requires slots { AllSlotted (plain_file file.now).methods }
     requires program { IsTypedProgram (plain_file file.now) (plain_program program.now) }
+    requires ranged_program { IsRangedProgram (plain_program program.now) }
     requires program_constants { ProgramHasConstants (plain_program program.now) }
     ensures code { IfOk result (λ code. code ≡ code_of (plain_file file.now) (plain_program program.now)) }
     ensures same { IfOk result (λ code. Same (plain_file file.now) (plain_program program.now) code) }
@@ -45,6 +46,7 @@ pub fn build(alloc: Global, file: &File, program: &Program) -> Result<Code, Buil
     typed_is_placed();
     fits_lowered();
     ranged_is_emittable();
+    ranged_links();
     let refs = lower_refs(alloc, file)?;
     let locks = lower_locks(alloc, refs)?;
     let flat = lower_finally(alloc, locks)?;

@@ -1,13 +1,14 @@
 // The whole code.
 
-ghost use Rattle.std.specs.Prelude.{◌≡◌, ◌<◌, ◌≤◌, Err, IfOk, OnOk, length, map};
+ghost use Rattle.std.specs.Prelude.{◌≡◌, ◌<◌, ◌≤◌, All, Err, IfOk, OnOk, length, map};
 ghost use Rattle.ls_checked.specs.Plain.{plain_class, plain_file};
 ghost use Rattle.ls_checked.specs.PlainProgram.{plain_program};
 ghost use Rattle.ls_linking.specs.Linked.{linked, class_size as the_size};
+ghost use Rattle.ls_ranges.specs.Links.{ThreadLinks, Links};
 ghost use Rattle.ls_linker.specs.Added.{AddsThreads, first_parts as the_first};
 ghost use Rattle.ls_linker.specs.declared.fault.LinkFault.TheVariants as faults;
 
-use crate::fault::{LinkFault, PartFault};
+use crate::fault::LinkFault;
 use crate::threads::add_threads;
 use crate::units::add_units;
 use ls_checked::program::Program;
@@ -54,7 +55,8 @@ fn add_program(
     parts: &mut Parts,
     file: &File,
     program: &Program,
-) -> Result<(), PartFault>
+) -> Result<(), AllocError>
+    requires { All (ThreadLinks (plain_file file.now).classes) (plain_program program.now).threads }
     ensures { OnOk result (AddsThreads (plain_file file.now).classes parts.old (plain_program program.now).threads parts.new) }
 {
     add_threads(alloc, parts, &file.classes, &program.threads)?;
@@ -67,7 +69,8 @@ fn linked_parts(
     units: &[CodeUnit],
     file: &File,
     program: &Program,
-) -> Result<Parts, PartFault>
+) -> Result<Parts, AllocError>
+    requires { Links (plain_file file.now) (plain_program program.now) units.now }
     ensures { IfOk result (λ parts. parts ≡ linked (plain_file file.now) (plain_program program.now) units.now) }
 {
     let mut parts = first_parts(alloc, file, program)?;
@@ -83,6 +86,7 @@ pub fn link(
     file: &File,
     program: &Program,
 ) -> Result<Code, LinkFault>
+    requires { Links (plain_file file.now) (plain_program program.now) units.now }
     ensures code { IfOk result (λ c. c ≡ linked (plain_file file.now) (plain_program program.now) units.now) }
     ensures long { result ≡ Err faults.CodeTooLong → 65536 < length (linked (plain_file file.now) (plain_program program.now) units.now).instructions }
     ensures short { IfOk result (λ c. length c.instructions ≤ 65536) }
@@ -91,8 +95,5 @@ pub fn link(
     if parts.instructions.len() > MOST_INSTRUCTIONS {
         return Err(LinkFault::CodeTooLong);
     }
-    match Code::new(parts) {
-        Some(code) => Ok(code),
-        None => Err(LinkFault::OutOfRange),
-    }
+    Ok(Code::new(parts).unwrap())
 }

@@ -1,6 +1,6 @@
 // The code of threads.
 
-ghost use Rattle.std.specs.Prelude.{◌≡◌, ◌++◌, ◌+◌, ◌∷◌, [], IfSome, IfOk, OnOk, length, map};
+ghost use Rattle.std.specs.Prelude.{◌≡◌, ◌++◌, ◌+◌, ◌∷◌, [], ◌<◌, ◌≤◌, ◌^◌, All, IfOk, OnOk, length, map};
 ghost use Rattle.ls_checked.specs.Plain.{plain_class};
 ghost use Rattle.ls_checked.specs.PlainProgram.{plain_call, plain_thread};
 ghost use Rattle.ls_headline.specs.InWords.{word_of as the_word};
@@ -8,9 +8,9 @@ ghost use Rattle.ls_headline.specs.Threads.{call_result as the_result, result_ty
 ghost use Rattle.ls_meaning.specs.Expressions.{constructor_of as the_constructor};
 ghost use Rattle.ls_linking.specs.Threads.{pushes, result_code, call_code, calls_code, call_need as the_need, calls_need as the_needs};
 ghost use Rattle.ls_code.specs.declared.instruction.Instruction.TheVariants as op;
+ghost use Rattle.ls_ranges.specs.Links.{IsWritten, CallLinks, ThreadLinks};
 ghost use Rattle.ls_linker.specs.Added.{Adds, AddsThreads, PushesThread};
 
-use crate::fault::PartFault;
 use ls_checked::program::{ProgramCall, ThreadProgram};
 use ls_checked::tree::Class;
 use ls_code::code::{CallResult, HandlerRow, Parts, Start};
@@ -18,25 +18,15 @@ use ls_code::instruction::Instruction;
 use ls_events::value::{Value, ValueType};
 use std::alloc::{AllocError, Global};
 
-/// The word of an int or a boolean; none for other values, which no call of a thread has.
-fn word_of(value: Value) -> Option<u32>
-    ensures { IfSome result (λ word. word ≡ the_word value) }
+/// The word of an int or a boolean.
+fn word_of(value: Value) -> u32
+    requires { IsWritten value }
+    ensures { result ≡ the_word value }
 {
     match value {
-        Value::Int(int) => Some(int.cast_unsigned()),
-        Value::Boolean(truth) => Some(truth as u32),
-        Value::Reference(_) => None,
-        Value::Pair { .. } => None,
-    }
-}
-
-/// A number as an operand.
-fn operand(number: usize) -> Result<u32, PartFault>
-    ensures { IfOk result (λ x. x ≡ number) }
-{
-    match u32::try_from(number) {
-        Ok(x) => Ok(x),
-        Err(_) => Err(PartFault::OutOfRange),
+        Value::Int(int) => int.cast_unsigned(),
+        Value::Boolean(truth) => truth as u32,
+        Value::Reference(_) | Value::Pair { .. } => unreachable!(),
     }
 }
 
@@ -71,14 +61,12 @@ fn call_result(call: &ProgramCall) -> CallResult
     }
 }
 
-fn push_values(code: &mut Vec<Instruction>, values: &[Value]) -> Result<(), PartFault>
+fn push_values(code: &mut Vec<Instruction>, values: &[Value]) -> Result<(), AllocError>
+    requires { All IsWritten values.now }
     ensures { OnOk result (Adds code.old.items (pushes values.now) code.new.items) }
 {
     for value in values {
-        let Some(word) = word_of(*value) else {
-            return Err(PartFault::OutOfRange);
-        };
-        code.push(Instruction::Push(word))?;
+        code.push(Instruction::Push(word_of(*value)))?;
     }
     Ok(())
 }
@@ -90,7 +78,8 @@ fn push_making(
     constructor: u32,
     name: u32,
     values: &[Value],
-) -> Result<(), PartFault>
+) -> Result<(), AllocError>
+    requires { All IsWritten values.now }
     ensures { OnOk result (Adds code.old.items (op.Call number ∷ op.NewObject class ∷ op.Dup ∷ pushes values.now ++ op.Enter constructor ∷ op.Pop ∷ op.PutName name ∷ op.Result number ∷ []) code.new.items) }
 {
     code.push(Instruction::Call(number))?;
@@ -108,7 +97,7 @@ fn push_result(
     code: &mut Vec<Instruction>,
     number: u32,
     answers: CallResult,
-) -> Result<(), PartFault>
+) -> Result<(), AllocError>
     ensures { OnOk result (Adds code.old.items (result_code answers number) code.new.items) }
 {
     if answers == CallResult::Nothing {
@@ -125,7 +114,8 @@ fn push_calling(
     method: u32,
     answers: CallResult,
     values: &[Value],
-) -> Result<(), PartFault>
+) -> Result<(), AllocError>
+    requires { All IsWritten values.now }
     ensures { OnOk result (Adds code.old.items (op.Call number ∷ op.GetName name ∷ pushes values.now ++ op.Enter method ∷ result_code answers number) code.new.items) }
 {
     code.push(Instruction::Call(number))?;
@@ -141,7 +131,8 @@ fn push_call(
     classes: &[Class],
     number: u32,
     call: &ProgramCall,
-) -> Result<(), PartFault>
+) -> Result<(), AllocError>
+    requires { CallLinks (map plain_class classes.now) (plain_call call.now) }
     ensures { OnOk result (Adds code.old.items (call_code (map plain_class classes.now) number (plain_call call.now)) code.new.items) }
 {
     match call {
@@ -151,9 +142,15 @@ fn push_call(
             class_name: _,
             values,
         } => {
-            let constructor = operand(constructor_of(classes, *class))?;
-            let name = operand(*name)?;
-            push_making(code, number, operand(*class)?, constructor, name, values)
+            let constructor = constructor_of(classes, *class) as u32;
+            push_making(
+                code,
+                number,
+                *class as u32,
+                constructor,
+                *name as u32,
+                values,
+            )
         }
         ProgramCall::Calling {
             name,
@@ -163,19 +160,21 @@ fn push_call(
             values,
         } => {
             let answers = result_type(*answers);
-            let name = operand(*name)?;
-            push_calling(code, number, name, operand(*method)?, answers, values)
+            push_calling(code, number, *name as u32, *method as u32, answers, values)
         }
     }
 }
 
 // The calls from a number on, and what stands behind them. No recursion is deeper than a thread has calls, 256.
+#[tactic(auto, using(crate::proofs::Rooms::first_of_all, crate::proofs::Rooms::others_of_all))]
 fn push_calls(
     code: &mut Vec<Instruction>,
     classes: &[Class],
     number: u32,
     calls: &[ProgramCall],
-) -> Result<(), PartFault>
+) -> Result<(), AllocError>
+    requires numbers { number + length calls.now < 2 ^ 32 }
+    requires links { All (λ call. CallLinks (map plain_class classes.now) (plain_call call)) calls.now }
     ensures { OnOk result (Adds code.old.items (calls_code (map plain_class classes.now) number (map plain_call calls.now)) code.new.items) }
 {
     match calls {
@@ -186,10 +185,7 @@ fn push_calls(
         }
         [first, others @ ..] => {
             push_call(code, classes, number, first)?;
-            let Some(next) = number.checked_add(1) else {
-                return Err(PartFault::OutOfRange);
-            };
-            push_calls(code, classes, next, others)?;
+            push_calls(code, classes, number + 1, others)?;
             Ok(())
         }
     }
@@ -229,14 +225,14 @@ fn push_thread(
     code: &mut Vec<Instruction>,
     classes: &[Class],
     calls: &[ProgramCall],
-) -> Result<HandlerRow, PartFault>
+) -> Result<HandlerRow, AllocError>
+    requires few { length calls.now ≤ 256 }
+    requires links { All (λ call. CallLinks (map plain_class classes.now) (plain_call call)) calls.now }
     ensures { IfOk result (λ row. PushesThread (map plain_class classes.now) code.old.items (map plain_call calls.now) code.new.items row) }
 {
     let from = code.len();
     push_calls(code, classes, 1, calls)?;
-    let Some(last) = code.len().checked_sub(1) else {
-        return Err(PartFault::OutOfRange);
-    };
+    let last = code.len() - 1;
     Ok(HandlerRow {
         from,
         to: last,
@@ -250,7 +246,8 @@ fn add_thread(
     parts: &mut Parts,
     classes: &[Class],
     thread: &ThreadProgram,
-) -> Result<(), PartFault>
+) -> Result<(), AllocError>
+    requires { ThreadLinks (map plain_class classes.now) (plain_thread thread.now) }
     ensures { OnOk result (AddsThreads (map plain_class classes.now) parts.old (plain_thread thread.now ∷ []) parts.new) }
 {
     let place = parts.instructions.len();
@@ -263,12 +260,14 @@ fn add_thread(
 }
 
 /// Adds threads behind what is there.
+#[tactic(auto, using(crate::proofs::Rooms::first_of_all, crate::proofs::Rooms::others_of_all))]
 pub fn add_threads(
     alloc: Global,
     parts: &mut Parts,
     classes: &[Class],
     threads: &[ThreadProgram],
-) -> Result<(), PartFault>
+) -> Result<(), AllocError>
+    requires { All (λ thread. ThreadLinks (map plain_class classes.now) (plain_thread thread)) threads.now }
     ensures { OnOk result (AddsThreads (map plain_class classes.now) parts.old (map plain_thread threads.now) parts.new) }
 {
     match threads {

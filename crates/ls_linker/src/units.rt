@@ -1,54 +1,54 @@
 // Units behind one another.
 
-ghost use Rattle.std.specs.Prelude.{◌≡◌, ◌++◌, ◌∷◌, [], IfSome, OnOk, length, map};
+ghost use Rattle.std.specs.Prelude.{◌≡◌, ◌++◌, ◌+◌, ◌*◌, ◌^◌, ◌≤◌, ◌∷◌, [], All, OnOk, length, map};
 ghost use Rattle.ls_emission.specs.Units.{moved as the_moved, moved_row as the_moved_row};
+ghost use Rattle.ls_ranges.specs.Landing.{Lands, RowLands, UnitLands};
 ghost use Rattle.ls_linker.specs.Added.{AddsUnits};
 
-use crate::fault::PartFault;
 use ls_code::code::{HandlerRow, Method, Parts};
 use ls_code::instruction::Instruction;
 use ls_emit::code_unit::CodeUnit;
+use std::alloc::AllocError;
 
-/// An instruction of a unit that begins at a place; none where a place is no operand.
-fn moved(start: u32, instruction: Instruction) -> Option<Instruction>
-    ensures { IfSome result (λ i. i ≡ the_moved start instruction) }
+/// An instruction of a unit that begins at a place.
+fn moved(start: u32, instruction: Instruction) -> Instruction
+    requires room { start ≤ 2 ^ 26 }
+    requires lands { Lands 65536 instruction }
+    ensures { result ≡ the_moved start instruction }
 {
     match instruction {
-        Instruction::Jump(place) => Some(Instruction::Jump(start.checked_add(place)?)),
-        Instruction::JumpIfFalse(place) => {
-            Some(Instruction::JumpIfFalse(start.checked_add(place)?))
-        }
-        Instruction::JumpIfTrue(place) => {
-            Some(Instruction::JumpIfTrue(start.checked_add(place)?))
-        }
-        Instruction::Turn(place) => Some(Instruction::Turn(start.checked_add(place)?)),
-        other => Some(other),
+        Instruction::Jump(place) => Instruction::Jump(start + place),
+        Instruction::JumpIfFalse(place) => Instruction::JumpIfFalse(start + place),
+        Instruction::JumpIfTrue(place) => Instruction::JumpIfTrue(start + place),
+        Instruction::Turn(place) => Instruction::Turn(start + place),
+        other => other,
     }
 }
 
-fn moved_row(start: usize, row: HandlerRow) -> Option<HandlerRow>
-    ensures { IfSome result (λ r. r ≡ the_moved_row start row) }
+fn moved_row(start: usize, row: HandlerRow) -> HandlerRow
+    requires room { start ≤ 2 ^ 26 }
+    requires lands { RowLands 65536 row }
+    ensures { result ≡ the_moved_row start row }
 {
-    Some(HandlerRow {
-        from: start.checked_add(row.from)?,
-        to: start.checked_add(row.to)?,
-        handler: start.checked_add(row.handler)?,
+    HandlerRow {
+        from: start + row.from,
+        to: start + row.to,
+        handler: start + row.handler,
         depth: row.depth,
-    })
+    }
 }
 
 fn add_instructions(
     code: &mut Vec<Instruction>,
     start: u32,
     instructions: &[Instruction],
-) -> Result<(), PartFault>
+) -> Result<(), AllocError>
+    requires room { start ≤ 2 ^ 26 }
+    requires lands { All (Lands 65536) instructions.now }
     ensures { OnOk result (code.new.items ≡ code.old.items ++ map (the_moved start) instructions.now) }
 {
     for instruction in instructions {
-        let Some(instruction) = moved(start, *instruction) else {
-            return Err(PartFault::OutOfRange);
-        };
-        code.push(instruction)?;
+        code.push(moved(start, *instruction))?;
     }
     Ok(())
 }
@@ -57,25 +57,24 @@ fn add_rows(
     handlers: &mut Vec<HandlerRow>,
     start: usize,
     rows: &[HandlerRow],
-) -> Result<(), PartFault>
+) -> Result<(), AllocError>
+    requires room { start ≤ 2 ^ 26 }
+    requires lands { All (RowLands 65536) rows.now }
     ensures { OnOk result (handlers.new.items ≡ handlers.old.items ++ map (the_moved_row start) rows.now) }
 {
     for row in rows {
-        let Some(row) = moved_row(start, *row) else {
-            return Err(PartFault::OutOfRange);
-        };
-        handlers.push(row)?;
+        handlers.push(moved_row(start, *row))?;
     }
     Ok(())
 }
 
-fn add_unit(parts: &mut Parts, unit: &CodeUnit) -> Result<(), PartFault>
+fn add_unit(parts: &mut Parts, unit: &CodeUnit) -> Result<(), AllocError>
+    requires room { length parts.old.instructions ≤ 2 ^ 26 }
+    requires lands { UnitLands unit.now }
     ensures { OnOk result (AddsUnits parts.old (unit.now ∷ []) parts.new) }
 {
     let start = parts.instructions.len();
-    let Ok(place) = u32::try_from(start) else {
-        return Err(PartFault::OutOfRange);
-    };
+    let place = start as u32;
     parts.methods.push(Method {
         start,
         arguments: unit.arguments,
@@ -87,8 +86,11 @@ fn add_unit(parts: &mut Parts, unit: &CodeUnit) -> Result<(), PartFault>
     Ok(())
 }
 
-/// Adds units behind what is there.
-pub fn add_units(parts: &mut Parts, units: &[CodeUnit]) -> Result<(), PartFault>
+/// Adds units behind what is there. A unit has at most 65,536 instructions, so each place is an operand.
+#[tactic(auto, using(crate::proofs::Rooms::first_of_all, crate::proofs::Rooms::others_of_all, crate::proofs::Rooms::unit_room))]
+pub fn add_units(parts: &mut Parts, units: &[CodeUnit]) -> Result<(), AllocError>
+    requires room { length parts.old.instructions + 65536 * length units.now ≤ 2 ^ 26 }
+    requires lands { All UnitLands units.now }
     ensures { OnOk result (AddsUnits parts.old units.now parts.new) }
 {
     match units {

@@ -3,3 +3,4 @@ mod Jumps
 mod Methods
 mod Signs
 mod Whole
+mod Programs

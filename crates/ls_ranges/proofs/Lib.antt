@@ -9,3 +9,5 @@ mod Exits
 mod Flat
 mod Emitted
 mod Ranges
+mod Landing
+mod Linking

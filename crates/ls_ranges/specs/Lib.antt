@@ -1,1 +1,3 @@
 pub mod Ranged
+pub mod Landing
+pub mod Links

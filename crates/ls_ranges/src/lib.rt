@@ -1,6 +1,7 @@
 //! Laws of what is in range in the lowered trees of a typed file: so each of them can be lowered further, and has code.
 #![tactic(auto)]
 
+ghost use Rattle.ls_checked.specs.CheckedProgram.{Program};
 ghost use Rattle.ls_checked.specs.CheckedTree.{File};
 ghost use Rattle.ls_refs.specs.Typing.{IsTypedFile};
 ghost use Rattle.ls_refs.specs.Lowered.{lowered_file};
@@ -10,8 +11,12 @@ ghost use Rattle.ls_finally.specs.Placed.{AllPlaced};
 ghost use Rattle.ls_finally.specs.Counts.{FewLocals};
 ghost use Rattle.ls_finally.specs.Flat.{flat_file};
 ghost use Rattle.ls_emission.specs.Emittable.{IsEmittableFile};
+ghost use Rattle.ls_emission.specs.Units.{units_of};
+ghost use Rattle.ls_emit.specs.Short.{AllShort};
 ghost use Rattle.ls_soundness.specs.Files.{HasItsClasses};
-ghost use Rattle.ls_ranges.specs.Ranged.{IsRanged};
+ghost use Rattle.ls_soundness.specs.Programs.{IsTypedProgram};
+ghost use Rattle.ls_ranges.specs.Links.{Links};
+ghost use Rattle.ls_ranges.specs.Ranged.{IsRanged, IsRangedProgram};
 
 /// In the tree over words of a typed file each local is there, each call has as many arguments as its method, and there
 /// are no regions: so `finally` can be lowered in it.
@@ -30,4 +35,10 @@ pub fn fits_lowered()
 #[tactic(auto, using(crate::proofs::Ranges::file_emittable))]
 pub fn ranged_is_emittable()
     ensures { (file : File) → IsTypedFile file → HasItsClasses file → IsRanged file → AllFit file.methods → IsEmittableFile (flat_file (locked_file (lowered_file file))) }
+{}
+
+/// The units of a typed file in range, where none is too long, and the threads of a typed program in range can be linked:
+/// each place, number and value of them is an operand.
+pub fn ranged_links()
+    ensures { (file : File) (program : Program) → IsRanged file → IsTypedProgram file program → IsRangedProgram program → IsTypedFile file → HasItsClasses file → AllFit file.methods → AllShort (flat_file (locked_file (lowered_file file))) → Links file program (units_of (flat_file (locked_file (lowered_file file)))) }
 {}

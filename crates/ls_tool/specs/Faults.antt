@@ -118,7 +118,6 @@ build_line (build.Emit emit.Memory) = plain (codes "1 Memory")
 build_line (build.Emit emit.CodeTooLong) = plain (codes "32 CodeTooLong")
 build_line (build.Link link.Memory) = plain (codes "1 Memory")
 build_line (build.Link link.CodeTooLong) = plain (codes "33 CodeTooLong")
-build_line (build.Link link.OutOfRange) = plain (codes "34 UnknownSymbol")
 
 abbrev pub schedule_line : ScheduleFault → List ℕ
 schedule_line schedule.Memory = plain (codes "1 Memory")

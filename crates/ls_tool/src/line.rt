@@ -183,7 +183,6 @@ fn build_line(fault: BuildFault) -> Line
         BuildFault::Lower(LowerFault::TooManyCopies) => plain("31 TooManyCopies"),
         BuildFault::Emit(EmitFault::CodeTooLong) => plain("32 CodeTooLong"),
         BuildFault::Link(LinkFault::CodeTooLong) => plain("33 CodeTooLong"),
-        BuildFault::Link(LinkFault::OutOfRange) => plain("34 UnknownSymbol"),
     }
 }
 

@@ -47,6 +47,10 @@ build-requires-clause-program c =
     let p = plain_program c.in_ok-program.program in
     subst (λ x. IsTypedProgram (plain_file x) p) (sym c.file.ensures) (c.reads_typed.ensures (placed_file c.in_ok-parsed.parsed) o c.args.program.now p c.in_ok-checked.ensures.checked c.in_ok-program.ensures.read)
 
+pub build-requires-clause-ranged_program : goal.build-requires-clause-ranged_program
+build-requires-clause-ranged_program c =
+    c.reads_ranged.ensures (outcome_of c.in_ok-checked.checked) c.args.program.now (plain_program c.in_ok-program.program) c.in_ok-program.ensures.read
+
 pub build-requires-clause-program_constants : goal.build-requires-clause-program_constants
 build-requires-clause-program_constants c =
     let o = outcome_of c.in_ok-checked.checked in

@@ -5,7 +5,7 @@ use Rattle.ls_lowered.specs.Plain as lowered
 use Rattle.ls_headline.specs.Same.{Same}
 use Rattle.std.proofs.lemmas.Result.{err_from_is_err_and}
 use Rattle.ls_linker.proofs.Refusals.{locks_past, finally_past, units_past}
-use Rattle.ls_linker.proofs.Built.{placed_here, emittable_here, code_here}
+use Rattle.ls_linker.proofs.Built.{placed_here, emittable_here, code_here, short_here, links_here}
 use Rattle.ls_linker.proofs.build.build.Goals as goal
 
 pub returns-clause-same : goal.returns-clause-same
@@ -53,3 +53,17 @@ emit-requires c =
     emittable_here (plain_file c.args.file.now) (plain_program c.args.program.now) (lowered.plain_file c.in_ok-refs.refs) (lowered.plain_file c.in_ok-locks.locks) (lowered.plain_file c.in_ok-flat.flat)
     c.in_ok-refs.ensures.tree c.in_ok-locks.ensures.tree c.in_ok-flat.ensures.tree
     (c.ranged_is_emittable.ensures (plain_file c.args.file.now) c.requires.typed c.requires.classes c.requires.ranged c.in_ok-refs.ensures.fits)
+
+pub link-requires : goal.link-requires
+link-requires c =
+    let file = plain_file c.args.file.now in
+    let program = plain_program c.args.program.now in
+    let refs = lowered.plain_file c.in_ok-refs.refs in
+    let locks = lowered.plain_file c.in_ok-locks.locks in
+    let flat = lowered.plain_file c.in_ok-flat.flat in
+    let r = c.in_ok-refs.ensures.tree in
+    let l = c.in_ok-locks.ensures.tree in
+    let f = c.in_ok-flat.ensures.tree in
+    links_here file program refs locks flat r l f c.deref.result.now (c.deref.ensures.value ∙ c.in_ok-units.ensures.units)
+    (c.ranged_links.ensures file program c.requires.ranged c.requires.program c.requires.ranged_program c.requires.typed c.requires.classes c.in_ok-refs.ensures.fits
+    (short_here file program refs locks flat r l f c.in_ok-units.ensures.short))
