@@ -136,12 +136,12 @@ fn counts_copies(rt: HostRuntime) -> Result<(), std::test::Fail> {
     Ok(())
 }
 
-// Many regions, one in the other.
+// Thousands of regions, one in the other.
 #[test]
 fn lowers_high_trees(rt: HostRuntime) -> Result<(), std::test::Fail> {
     let alloc = rt.alloc();
-    assert!(rt; matches!(accepts(alloc, with_breaks(alloc, 1500)), Ok(true)));
-    let inner = with_returns(alloc, 700)?;
+    assert!(rt; matches!(accepts(alloc, with_breaks(alloc, 4092)), Ok(true)));
+    let inner = with_returns(alloc, 2000)?;
     assert!(rt; matches!(accepts(alloc, in_finally(alloc, inner)), Ok(true)));
     Ok(())
 }
