@@ -72,10 +72,10 @@ mod images;
 mod ls_code;
 mod ls_events;
 mod ls_machine;
-use images::{Part, image};
+use images::{Part, SHORT_STEPS, image};
 use ls_code::code::Code;
 use ls_code::step::Did;
-use ls_machine::Machine;
+use ls_machine::{LoadFault, Machine};
 
 #[derive(Debug)]
 pub struct AllocError;
@@ -94,8 +94,7 @@ MAIN = """fn main() {
     let part = part_of(&words[1]).expect("a part");
     let steps: u64 = words[2].parse().expect("steps");
     let code = Code::new(image(Global, part).expect("memory")).expect("small");
-    let mut machine = Machine::load(Global, &code, 65536).expect("loaded");
-    let acted = run(&mut machine, steps, part == Part::Turns);
+    let acted = timed(Global, &code, part, steps).expect("loaded");
     println!("{acted} of {steps} steps acted");
 }
 """

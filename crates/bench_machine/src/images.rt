@@ -1,4 +1,5 @@
-// The images that are timed. Each thread has one call of one method, which loops for a long time.
+// The images that are timed. Each thread has one call of one method, which loops for a long time, or many calls of a short
+// one.
 
 use ls_code::code::{CallResult, Method, Parts, Start};
 use ls_code::instruction::Instruction;
@@ -15,16 +16,58 @@ pub enum Part {
     Calls,
     /// The first loop in two threads.
     Turns,
+    /// 256 calls of a method without a loop.
+    Methods,
 }
+
+/// How many calls the part of short methods has.
+const SHORT_CALLS: u32 = 256;
+
+/// How many steps the part of short methods goes on for: four around each call and eight in its method.
+pub const SHORT_STEPS: u64 = 256 * 12;
 
 /// The image of a part.
 pub fn image(alloc: Global, part: Part) -> Result<Parts, AllocError> {
+    match part {
+        Part::Methods => short_calls(alloc),
+        Part::Arithmetic | Part::Fields | Part::Calls | Part::Turns => loops(alloc, part),
+    }
+}
+
+/// The image of 256 calls of a short method.
+fn short_calls(alloc: Global) -> Result<Parts, AllocError> {
+    let mut instructions = Vec::new(alloc);
+    add(&mut instructions, &[Instruction::Halt])?;
+    for before in 0..SHORT_CALLS {
+        add(&mut instructions, &short_call(before + 1))?;
+    }
+    add(&mut instructions, &[Instruction::Halt])?;
+    let start = instructions.len();
+    add(&mut instructions, &short_method())?;
+    let mut methods = Vec::new(alloc);
+    methods.push(method(start, 0, 2))?;
+    let calls = vec![in alloc; CallResult::Int; SHORT_CALLS as usize]?;
+    let mut starts = Vec::new(alloc);
+    starts.push(Start::new(0, 0, Vec::new(alloc)))?;
+    starts.push(Start::new(1, 1, calls))?;
+    Ok(Parts {
+        instructions,
+        handlers: Vec::new(alloc),
+        methods,
+        sizes: vec![in alloc; 1]?,
+        starts,
+        names: 0,
+    })
+}
+
+/// The image of a loop.
+fn loops(alloc: Global, part: Part) -> Result<Parts, AllocError> {
     let mut instructions = Vec::new(alloc);
     add(&mut instructions, &start_code())?;
     match part {
         Part::Arithmetic | Part::Turns => add(&mut instructions, &local_loop())?,
         Part::Fields => add(&mut instructions, &field_loop())?,
-        Part::Calls => add(&mut instructions, &call_loop())?,
+        Part::Calls | Part::Methods => add(&mut instructions, &call_loop())?,
     }
     let mut methods = Vec::new(alloc);
     methods.push(method(6, 1, 4))?;
@@ -76,6 +119,30 @@ fn start_code() -> [Instruction; 6] {
         Instruction::Enter(0),
         Instruction::Result(1),
         Instruction::Halt,
+    ]
+}
+
+/// A call of method 0 of a new object, which has this number.
+fn short_call(number: u32) -> [Instruction; 4] {
+    [
+        Instruction::Call(number),
+        Instruction::NewObject(0),
+        Instruction::Enter(0),
+        Instruction::Result(number),
+    ]
+}
+
+/// `return (20 + 3) * 2 - 4;`
+fn short_method() -> [Instruction; 8] {
+    [
+        Instruction::Push(20),
+        Instruction::Push(3),
+        Instruction::Add,
+        Instruction::Push(2),
+        Instruction::Mul,
+        Instruction::Push(4),
+        Instruction::Sub,
+        Instruction::LeaveWith,
     ]
 }
 

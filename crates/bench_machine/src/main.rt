@@ -1,12 +1,14 @@
-//! Steps of the machine, to be timed: `bench_machine PART STEPS`, where the part is arithmetic, fields, calls or turns.
+//! Steps of the machine, to be timed: `bench_machine PART STEPS`, where the part is arithmetic, fields, calls,
+//! turns or methods.
 #![tactic(auto)]
 
 mod images;
 
-use crate::images::{Part, image};
+use crate::images::{Part, SHORT_STEPS, image};
 use ls_code::code::Code;
 use ls_code::step::Did;
-use ls_machine::Machine;
+use ls_machine::{LoadFault, Machine};
+use std::alloc::Global;
 use std::{env, io};
 
 /// How many of so many steps acted. They are steps of thread 1, or of threads 1 and 2 by turns.
@@ -24,6 +26,20 @@ fn run(machine: &mut Machine, steps: u64, by_turns: bool) -> u64 {
     acted
 }
 
+/// How many of so many steps acted. Those of short methods are taken on one machine after another.
+fn timed(alloc: Global, code: &Code, part: Part, steps: u64) -> Result<u64, LoadFault> {
+    let (machines, cells, each) = match part {
+        Part::Methods => (steps / SHORT_STEPS, 1024, SHORT_STEPS),
+        Part::Arithmetic | Part::Fields | Part::Calls | Part::Turns => (1, 65536, steps),
+    };
+    let mut acted = 0_u64;
+    for _ in 0..machines {
+        let mut machine = Machine::load(alloc, code, cells)?;
+        acted = acted.wrapping_add(run(&mut machine, each, part == Part::Turns));
+    }
+    Ok(acted)
+}
+
 /// The part of a name.
 fn part_of(name: &str) -> Option<Part> {
     match name {
@@ -31,6 +47,7 @@ fn part_of(name: &str) -> Option<Part> {
         "fields" => Some(Part::Fields),
         "calls" => Some(Part::Calls),
         "turns" => Some(Part::Turns),
+        "methods" => Some(Part::Methods),
         _ => None,
     }
 }
@@ -50,10 +67,9 @@ fn main(rt: HostRuntime) -> io::Result<()> {
         Some(code) => code,
         None => return Ok(()),
     };
-    let Ok(mut machine) = Machine::load(rt.alloc(), &code, 65536) else {
+    let Ok(acted) = timed(rt.alloc(), &code, part, steps) else {
         return Ok(());
     };
-    let acted = run(&mut machine, steps, part == Part::Turns);
     println!(rt; "{acted} of {steps} steps acted")?;
     Ok(())
 }

@@ -3,3 +3,5 @@ pub mod Rows
 pub mod Blocks
 pub mod BlockRows
 pub mod Files
+pub mod Keys
+pub mod Declarations

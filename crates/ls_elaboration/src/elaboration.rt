@@ -1,16 +1,17 @@
 // The checked file of a class text's tree.
 
-ghost use Rattle.std.specs.Prelude.{◌≡◌, IfOk, length, map, string_bytes};
+ghost use Rattle.std.specs.Prelude.{◌≡◌, IfOk, length, map};
 ghost use Rattle.ls_checked.specs.Plain.{plain_class};
 ghost use Rattle.ls_elaboration.specs.Elaboration.{checked_class as the_class, file_methods as the_file_methods, elaborated};
 ghost use Rattle.ls_elaboration.specs.PlacedStatements.{placed_class, placed_file};
-ghost use Rattle.ls_elaboration.specs.Tables.{class_sign_of, field_sign_of};
+ghost use Rattle.ls_elaboration.specs.Tables.{texts_of, class_sign_of, field_signs_of};
 ghost use Rattle.ls_elaboration.specs.Outcomes.{seen_bodies, seen_outcome};
 
-use crate::known::{ClassSign, FieldSign, Known};
+use crate::known::{ClassSign, Known};
 use crate::methods::class_methods;
 use crate::rule::Broken;
 use crate::signs::{class_names, class_signs};
+use indexmap::{IndexMap, IndexSet};
 use ls_checked::tree::{Class, File, Method};
 use ls_events::value::ValueType;
 use ls_parser::tree;
@@ -20,17 +21,20 @@ use std::alloc::{AllocError, Global};
 /// The names of the classes, what they declare, and the checked file.
 #[derive(Drop)]
 pub struct Outcome {
-    pub names: Vec<String>,
+    pub names: IndexSet<String>,
     pub signs: Vec<ClassSign>,
     pub file: File,
 }
 
-fn field_types(alloc: Global, fields: &[FieldSign]) -> Result<Vec<ValueType>, AllocError>
-    ensures { IfOk result (λ v. v.items ≡ map (λ f. f.type) (map field_sign_of fields.now)) }
+fn field_types(
+    alloc: Global,
+    fields: &IndexMap<String, ValueType>,
+) -> Result<Vec<ValueType>, AllocError>
+    ensures { IfOk result (λ v. v.items ≡ map (λ f. f.type) (field_signs_of fields.now)) }
 {
     let mut types = Vec::new(alloc);
-    for f in fields {
-        types.push(f.value_type)?;
+    for t in fields.values() {
+        types.push(*t)?;
     }
     Ok(types)
 }
@@ -57,11 +61,11 @@ fn checked_classes(alloc: Global, signs: &[ClassSign]) -> Result<Vec<Class>, All
 // The methods of all classes.
 fn file_methods(
     alloc: Global,
-    names: &[String],
+    names: &IndexSet<String>,
     signs: &[ClassSign],
     classes: &[tree::Class],
 ) -> Result<Result<Vec<Method>, Broken>, AllocError>
-    ensures { IfOk result (λ r. seen_bodies (length classes.now) r ≡ the_file_methods (map string_bytes names.now) (map class_sign_of signs.now) (map placed_class classes.now)) }
+    ensures { IfOk result (λ r. seen_bodies (length classes.now) r ≡ the_file_methods (texts_of names.now) (map class_sign_of signs.now) (map placed_class classes.now)) }
 {
     let mut methods = Vec::new(alloc);
     for (own, c) in classes.iter().enumerate() {

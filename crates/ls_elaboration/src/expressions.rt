@@ -8,7 +8,7 @@ ghost use Rattle.ls_elaboration.specs.Placed.{placed, placed_name, placed_all, p
 ghost use Rattle.ls_elaboration.specs.Tables.{local_of, known_of};
 ghost use Rattle.ls_elaboration.specs.Answers.{typed_of, member_of as seen_member, seen_typed, seen_plain, seen_all};
 
-use crate::known::{Known, Local, field_of, local_named, method_of};
+use crate::known::{Known, Local, field_of, local_named};
 use crate::members::{Member, made, maker_of, markable_maker, member_of, method_member};
 use crate::operators::{binary_of, unary_of};
 use crate::places::span_of;
@@ -276,7 +276,7 @@ fn own_call(
 ) -> Result<Result<Typed, Broken>, AllocError>
     ensures { IfOk result (λ r. seen_typed r ≡ the_typed (known_of known.entry) (map local_of locals.now) (a_call (placed_name n.now) (placed_all arguments.now) span)) }
 {
-    match method_member(alloc, method_of(known, known.own, n.text.as_str()))? {
+    match method_member(alloc, known, known.own, n.text.as_str())? {
         None => Ok(Err(broken_at(Rule::UnknownName, n.span))),
         Some(m) => {
             let es = kept!(passed(alloc, known, locals, &m.parameters, arguments, span)?);

@@ -1,10 +1,12 @@
 // What a text declares, and how names find it.
 
-ghost use Rattle.std.specs.Prelude.{◌≡◌, ◌<◌, IfSome, map, length, option_map, slice_get};
-ghost use Rattle.std.specs.Prelude.{string_bytes};
+ghost use Rattle.std.specs.Prelude.{◌≡◌, ◌<◌, IfSome, map, option_map, slice_get};
+ghost use Rattle.indexmap.specs.IndexMap.{index_map_len};
+ghost use Rattle.indexmap.specs.IndexSet.{index_set_len};
 ghost use Rattle.ls_elaboration.specs.Known.{local_named as the_local, field_named as the_field, method_named as the_method, number_of as the_number, field_of as the_field_of, method_of as the_method_of};
-ghost use Rattle.ls_elaboration.specs.Tables.{local_of, field_sign_of, method_sign_of, class_sign_of, known_of};
+ghost use Rattle.ls_elaboration.specs.Tables.{local_of, texts_of, field_signs_of, method_sign_of, method_signs_of, class_sign_of, known_of};
 
+use indexmap::{IndexMap, IndexSet};
 use ls_events::value::ValueType;
 
 /// A local or parameter in scope, and its slot.
@@ -15,34 +17,29 @@ pub struct Local<'t> {
     pub slot: usize,
 }
 
-#[derive(Debug, Drop)]
-pub struct FieldSign {
-    pub name: String,
-    pub value_type: ValueType,
-}
-
-/// A method, its number in the file, the types of its parameters, and the type that it answers: none where it is void.
+/// A method: its number in the file, the types of its parameters, and the type that it answers, which is none where it is void.
 #[derive(Debug, Drop)]
 pub struct MethodSign {
-    pub name: String,
     pub number: usize,
     pub parameters: Vec<ValueType>,
     pub result: Option<ValueType>,
 }
 
-/// What a class declares, and the number of its constructor with the types of its parameters.
+/// What a class declares, by name, and the number of its constructor with the types of its parameters. A field's number is its
+/// index.
 #[derive(Debug, Drop)]
 pub struct ClassSign {
-    pub fields: Vec<FieldSign>,
-    pub methods: Vec<MethodSign>,
+    pub fields: IndexMap<String, ValueType>,
+    pub methods: IndexMap<String, MethodSign>,
     pub constructor: usize,
     pub parameters: Vec<ValueType>,
 }
 
-/// The names of the classes, what they declare, and the number of the class in which code stands.
+/// The names of the classes, what they declare, and the number of the class in which code stands. A class's number is the index of
+/// its name.
 #[derive(Clone, Copy)]
 pub struct Known<'k> {
-    pub names: &'k [String],
+    pub names: &'k IndexSet<String>,
     pub classes: &'k [ClassSign],
     pub own: usize,
 }
@@ -54,23 +51,11 @@ pub struct FoundField {
 }
 
 /// The number of a class.
-pub fn number_of(names: &[String], name: &str) -> Option<usize>
-    ensures found { result ≡ the_number (map string_bytes names.now) name.now }
-    ensures small { IfSome result (λ n. n < length names.now) }
+pub fn number_of(names: &IndexSet<String>, name: &str) -> Option<usize>
+    ensures found { result ≡ the_number (texts_of names.now) name.now }
+    ensures small { IfSome result (λ n. n < index_set_len names.now) }
 {
-    match names {
-        [] => None,
-        [n, rest @ ..] => {
-            if n.as_str() == name {
-                Some(0)
-            } else {
-                match number_of(rest, name) {
-                    None => None,
-                    Some(n) => Some(n + 1),
-                }
-            }
-        }
-    }
+    names.get_index_of(name)
 }
 
 /// A local in scope.
@@ -90,45 +75,25 @@ pub fn local_named<'t>(locals: &[Local<'t>], name: &str) -> Option<Local<'t>>
 }
 
 /// A field among those of a class.
-pub fn field_named(fields: &[FieldSign], name: &str) -> Option<FoundField>
-    ensures found { result ≡ the_field (map field_sign_of fields.now) name.now }
-    ensures small { IfSome result (λ f. f.number < length fields.now) }
+pub fn field_named(fields: &IndexMap<String, ValueType>, name: &str) -> Option<FoundField>
+    ensures found { result ≡ the_field (field_signs_of fields.now) name.now }
+    ensures small { IfSome result (λ f. f.number < index_map_len fields.now) }
 {
-    match fields {
-        [] => None,
-        [f, rest @ ..] => {
-            if f.name.as_str() == name {
-                Some(FoundField {
-                    number: 0,
-                    value_type: f.value_type,
-                })
-            } else {
-                match field_named(rest, name) {
-                    None => None,
-                    Some(x) => Some(FoundField {
-                        number: x.number + 1,
-                        value_type: x.value_type,
-                    }),
-                }
-            }
-        }
-    }
+    let (number, _, value_type) = fields.get_full(name)?;
+    Some(FoundField {
+        number,
+        value_type: *value_type,
+    })
 }
 
 /// A method among those of a class.
-pub fn method_named<'a>(methods: &'a [MethodSign], name: &str) -> Option<&'a MethodSign>
-    ensures { option_map (λ m. method_sign_of m.now) result ≡ the_method (map method_sign_of methods.now) name.now }
+pub fn method_named<'a>(
+    methods: &'a IndexMap<String, MethodSign>,
+    name: &str,
+) -> Option<&'a MethodSign>
+    ensures { option_map (λ m. method_sign_of name.now m.now) result ≡ the_method (method_signs_of methods.now) name.now }
 {
-    match methods {
-        [] => None,
-        [m, rest @ ..] => {
-            if m.name.as_str() == name {
-                Some(m)
-            } else {
-                method_named(rest, name)
-            }
-        }
-    }
+    methods.get(name)
 }
 
 /// The class of a number.
@@ -150,7 +115,7 @@ pub fn field_of(known: Known, class: usize, name: &str) -> Option<FoundField>
 
 /// A method of a class.
 pub fn method_of<'a>(known: Known<'a>, class: usize, name: &str) -> Option<&'a MethodSign>
-    ensures { option_map (λ m. method_sign_of m.now) result ≡ the_method_of (known_of known.entry) class name.now }
+    ensures { option_map (λ m. method_sign_of name.now m.now) result ≡ the_method_of (known_of known.entry) class name.now }
 {
     match class_at(known, class) {
         None => None,

@@ -3,12 +3,12 @@
 ghost use Rattle.std.specs.Prelude.{◌≡◌, IfOk, option_map, map, string_bytes, if◌then◌else◌};
 ghost use Rattle.ls_checked.specs.Plain.{plain, all_plain};
 ghost use Rattle.ls_elaboration.specs.Members.{member as the_member, method_member as the_method_member, lock_member as the_lock_member, markable_member as the_markable_member, member_of as the_member_of, maker_of as the_maker_of, markable_maker as the_markable_maker, made as the_made};
-ghost use Rattle.ls_elaboration.specs.Known.{number_of as the_number};
+ghost use Rattle.ls_elaboration.specs.Known.{number_of as the_number, method_of as the_method_of};
 ghost use Rattle.ls_elaboration.specs.Placed.{placed_name};
-ghost use Rattle.ls_elaboration.specs.Tables.{known_of, method_sign_of};
+ghost use Rattle.ls_elaboration.specs.Tables.{known_of, texts_of};
 ghost use Rattle.ls_elaboration.specs.Answers.{member_of as seen_member, seen_maker};
 
-use crate::known::{Known, MethodSign, class_at, method_of, number_of};
+use crate::known::{Known, class_at, method_of, number_of};
 use crate::rule::{Broken, Rule, broken_at};
 use crate::static_types::Static;
 use ls_checked::tree::{Called, Expression, Expressions};
@@ -57,10 +57,15 @@ fn member_with(
 }
 
 /// A method of a class as a member.
-pub fn method_member(alloc: Global, m: Option<&MethodSign>) -> Result<Option<Member>, AllocError>
-    ensures { IfOk result (λ o. option_map seen_member o ≡ the_method_member (option_map (λ m. method_sign_of m.now) m.entry)) }
+pub fn method_member(
+    alloc: Global,
+    known: Known,
+    class: usize,
+    name: &str,
+) -> Result<Option<Member>, AllocError>
+    ensures { IfOk result (λ o. option_map seen_member o ≡ the_method_member (the_method_of (known_of known.entry) class name.now)) }
 {
-    match m {
+    match method_of(known, class, name) {
         None => Ok(None),
         Some(m) => member_with(alloc, Called::Method(m.number), &m.parameters, m.result),
     }
@@ -124,7 +129,7 @@ pub fn member_of(
     ensures { IfOk result (λ o. option_map seen_member o ≡ the_member_of (known_of known.entry) target name.now) }
 {
     match target {
-        Static::Of(ValueType::Class(class)) => method_member(alloc, method_of(known, class, name)),
+        Static::Of(ValueType::Class(class)) => method_member(alloc, known, class, name),
         Static::Of(ValueType::Lock) => lock_member(alloc, name),
         Static::Of(ValueType::Markable(class)) => markable_member(alloc, class, name),
         _ => Ok(None),
@@ -173,7 +178,7 @@ pub fn markable_maker(
     known: Known,
     n: &Name,
 ) -> Result<Result<Maker, Broken>, AllocError>
-    ensures { IfOk result (λ r. seen_maker r ≡ the_markable_maker (the_number (map string_bytes known.entry.names.now) (string_bytes n.now.text)) n.now.span) }
+    ensures { IfOk result (λ r. seen_maker r ≡ the_markable_maker (the_number (texts_of known.entry.names.now) (string_bytes n.now.text)) n.now.span) }
 {
     match number_of(known.names, n.text.as_str()) {
         None => Ok(Err(broken_at(Rule::UnknownType, n.span))),

@@ -1,6 +1,6 @@
 // Blocks as they are checked: their statements, and the locals in scope.
 
-ghost use Rattle.std.specs.Prelude.{◌≡◌, ◌<◌, ◌≤◌, IfOk, length, map, option_map, string_bytes, vec_len};
+ghost use Rattle.std.specs.Prelude.{◌≡◌, ◌<◌, ◌≤◌, IfOk, length, map, option_map, vec_len};
 ghost use Rattle.std.specs.Prelude.{OnOk};
 ghost use Rattle.ls_elaboration.specs.Elaborated.{Elaborated};
 ghost use Rattle.ls_checked.specs.Plain.{plain_statement};
@@ -10,12 +10,13 @@ ghost use Rattle.ls_elaboration.specs.Known.{type_of as the_type, result_of as t
 ghost use Rattle.ls_elaboration.specs.Scopes.{start_of as the_start, with_variable as the_variable, with_statement as the_with_statement, initialised as the_initialised, declared as the_declared, declaration as the_declaration, may_declare as the_may_declare, Scope as the_scope};
 ghost use Rattle.ls_elaboration.specs.PlacedStatements.{placed_type, placed_declarator, placed_declaration};
 ghost use Rattle.ls_elaboration.specs.Placed.{placed, placed_name};
-ghost use Rattle.ls_elaboration.specs.Tables.{known_of};
+ghost use Rattle.ls_elaboration.specs.Tables.{known_of, texts_of};
 ghost use Rattle.ls_elaboration.specs.ScopeViews.{body_of, scope_of, seen_scope};
 
 use crate::expressions::fitting;
 use crate::known::{Known, Local, local_named, number_of};
 use crate::rule::{Broken, Rule, broken_at};
+use indexmap::IndexSet;
 use ls_checked::tree::{Expression, Statement};
 use ls_events::value::{Value, ValueType};
 use ls_lexer::token::Span;
@@ -53,8 +54,8 @@ pub fn start_of(t: ValueType) -> Value
 }
 
 /// The type that is written.
-pub fn type_of(names: &[String], t: &Type) -> Result<ValueType, Broken>
-    ensures { result ≡ the_type (map string_bytes names.now) (placed_type t.now) }
+pub fn type_of(names: &IndexSet<String>, t: &Type) -> Result<ValueType, Broken>
+    ensures { result ≡ the_type (texts_of names.now) (placed_type t.now) }
 {
     match t {
         Type::Int => Ok(ValueType::Int),
@@ -68,8 +69,8 @@ pub fn type_of(names: &[String], t: &Type) -> Result<ValueType, Broken>
     }
 }
 
-fn class_type(names: &[String], n: &Name) -> Result<ValueType, Broken>
-    ensures { result ≡ the_type (map string_bytes names.now) (a_class (placed_name n.now)) }
+fn class_type(names: &IndexSet<String>, n: &Name) -> Result<ValueType, Broken>
+    ensures { result ≡ the_type (texts_of names.now) (a_class (placed_name n.now)) }
 {
     if n.text.as_str() == "Lock" || n.text.as_str() == "ReentrantLock" {
         return Ok(ValueType::Lock);
@@ -81,8 +82,8 @@ fn class_type(names: &[String], n: &Name) -> Result<ValueType, Broken>
 }
 
 /// What a method answers.
-pub fn result_of(names: &[String], t: &Option<Type>) -> Result<Option<ValueType>, Broken>
-    ensures { result ≡ the_result (map string_bytes names.now) (option_map placed_type t.now) }
+pub fn result_of(names: &IndexSet<String>, t: &Option<Type>) -> Result<Option<ValueType>, Broken>
+    ensures { result ≡ the_result (texts_of names.now) (option_map placed_type t.now) }
 {
     match t {
         None => Ok(None),

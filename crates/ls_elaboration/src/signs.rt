@@ -4,11 +4,13 @@ ghost use Rattle.std.specs.Prelude.{◌≡◌, IfOk, map, string_bytes};
 ghost use Rattle.ls_elaboration.specs.Signs.{is_reserved as the_reserved, one_name as the_one_name, class_names as the_class_names, parameter_types as the_parameter_types, field_met as the_field_met, fields_met as the_fields_met, method_met as the_method_met, constructor_met as the_constructor_met, member_met as the_member_met, class_met as the_class_met, one_class as the_one_class, class_signs as the_class_signs};
 ghost use Rattle.ls_elaboration.specs.Placed.{placed_name};
 ghost use Rattle.ls_elaboration.specs.PlacedStatements.{placed_parameter, placed_declarator, placed_member, placed_class, placed_declaration};
+ghost use Rattle.ls_elaboration.specs.Tables.{texts_of};
 ghost use Rattle.ls_elaboration.specs.SignViews.{met_of, seen_met, classes_of, seen_classes, seen_names, seen_types};
 
-use crate::known::{ClassSign, FieldSign, MethodSign, field_named, method_named, number_of};
+use crate::known::{ClassSign, MethodSign};
 use crate::rule::{Broken, Rule, broken_at};
 use crate::scope::{MOST_SLOTS, result_of, type_of};
+use indexmap::{IndexMap, IndexSet};
 use ls_events::value::ValueType;
 use ls_parser::tree::{Class, Declaration, Declarator, Member, Name, Parameter};
 use std::alloc::{AllocError, Global};
@@ -24,8 +26,8 @@ pub const MOST_METHODS: usize = 512;
 /// What has been met of a class, and the number of the next method or constructor.
 #[derive(Drop)]
 pub struct Met {
-    pub fields: Vec<FieldSign>,
-    pub methods: Vec<MethodSign>,
+    pub fields: IndexMap<String, ValueType>,
+    pub methods: IndexMap<String, MethodSign>,
     pub constructor: Option<usize>,
     pub parameters: Vec<ValueType>,
     pub next: usize,
@@ -50,23 +52,23 @@ fn is_reserved(name: &str) -> bool
 // One more class's name.
 fn one_name(
     alloc: Global,
-    before: Vec<String>,
+    before: IndexSet<String>,
     c: &Class,
-) -> Result<Result<Vec<String>, Broken>, AllocError>
-    ensures { IfOk result (λ r. seen_names r ≡ the_one_name (map string_bytes before.items) (placed_class c.now)) }
+) -> Result<Result<IndexSet<String>, Broken>, AllocError>
+    ensures { IfOk result (λ r. seen_names r ≡ the_one_name (texts_of before) (placed_class c.now)) }
 {
     let name = c.name.text.as_str();
     if is_reserved(name) {
         return Ok(Err(broken_at(Rule::ReservedClass, c.name.span)));
     }
-    if number_of(&before, name).is_some() {
+    if before.contains(name) {
         return Ok(Err(broken_at(Rule::TwiceDeclared, c.name.span)));
     }
     if before.len() >= MOST_CLASSES {
         return Ok(Err(broken_at(Rule::Limit, c.name.span)));
     }
     let mut names = before;
-    names.push(String::from_str(alloc, name)?)?;
+    names.insert(String::from_str(alloc, name)?)?;
     Ok(Ok(names))
 }
 
@@ -74,10 +76,10 @@ fn one_name(
 pub fn class_names(
     alloc: Global,
     classes: &[Class],
-) -> Result<Result<Vec<String>, Broken>, AllocError>
+) -> Result<Result<IndexSet<String>, Broken>, AllocError>
     ensures { IfOk result (λ r. seen_names r ≡ the_class_names (map placed_class classes.now)) }
 {
-    let mut names = Vec::new(alloc);
+    let mut names = IndexSet::new(alloc);
     for c in classes {
         names = kept!(one_name(alloc, names, c)?);
     }
@@ -87,11 +89,11 @@ pub fn class_names(
 // The types of parameters, which have room beside `this`.
 fn parameter_types(
     alloc: Global,
-    names: &[String],
+    names: &IndexSet<String>,
     n: &Name,
     ps: &[Parameter],
 ) -> Result<Result<Vec<ValueType>, Broken>, AllocError>
-    ensures { IfOk result (λ r. seen_types r ≡ the_parameter_types (map string_bytes names.now) (placed_name n.now) (map placed_parameter ps.now)) }
+    ensures { IfOk result (λ r. seen_types r ≡ the_parameter_types (texts_of names.now) (placed_name n.now) (map placed_parameter ps.now)) }
 {
     if ps.len() >= MOST_SLOTS {
         return Ok(Err(broken_at(Rule::Limit, n.span)));
@@ -112,7 +114,7 @@ fn field_met(
     ensures { IfOk result (λ r. seen_met r ≡ the_field_met t (met_of met) (placed_declarator d.now)) }
 {
     let name = d.name.text.as_str();
-    if field_named(&met.fields, name).is_some() {
+    if met.fields.contains_key(name) {
         return Ok(Err(broken_at(Rule::TwiceDeclared, d.name.span)));
     }
     if met.fields.len() >= MOST_FIELDS {
@@ -125,10 +127,7 @@ fn field_met(
         parameters,
         next,
     } = met;
-    fields.push(FieldSign {
-        name: String::from_str(alloc, name)?,
-        value_type: t,
-    })?;
+    fields.insert(String::from_str(alloc, name)?, t)?;
     Ok(Ok(Met {
         fields,
         methods,
@@ -148,7 +147,7 @@ fn method_met(
     ensures found { IfOk result (λ r. seen_met r ≡ the_method_met (met_of met) (placed_name n.now) types.items answers) }
 {
     let name = n.text.as_str();
-    if method_named(&met.methods, name).is_some() {
+    if met.methods.contains_key(name) {
         return Ok(Err(broken_at(Rule::TwiceDeclared, n.span)));
     }
     if met.next >= MOST_METHODS {
@@ -161,13 +160,12 @@ fn method_met(
         parameters,
         next,
     } = met;
-    let name = String::from_str(alloc, name)?;
-    methods.push(MethodSign {
-        name,
+    let sign = MethodSign {
         number: next,
         parameters: types,
         result: answers,
-    })?;
+    };
+    methods.insert(String::from_str(alloc, name)?, sign)?;
     Ok(Ok(Met {
         fields,
         methods,
@@ -207,11 +205,11 @@ fn constructor_met(class: &Name, met: Met, n: &Name, types: Vec<ValueType>) -> R
 
 fn fields_met(
     alloc: Global,
-    names: &[String],
+    names: &IndexSet<String>,
     before: Met,
     d: &Declaration,
 ) -> Result<Result<Met, Broken>, AllocError>
-    ensures { IfOk result (λ r. seen_met r ≡ the_fields_met (map string_bytes names.now) (met_of before) (placed_declaration d.now)) }
+    ensures { IfOk result (λ r. seen_met r ≡ the_fields_met (texts_of names.now) (met_of before) (placed_declaration d.now)) }
 {
     let t = kept!(type_of(names, &d.type_name));
     let mut met = kept!(field_met(alloc, t, before, &d.first)?);
@@ -223,12 +221,12 @@ fn fields_met(
 
 fn member_met(
     alloc: Global,
-    names: &[String],
+    names: &IndexSet<String>,
     class: &Name,
     met: Met,
     m: &Member,
 ) -> Result<Result<Met, Broken>, AllocError>
-    ensures { IfOk result (λ r. seen_met r ≡ the_member_met (map string_bytes names.now) (string_bytes class.now.text) (met_of met) (placed_member m.now)) }
+    ensures { IfOk result (λ r. seen_met r ≡ the_member_met (texts_of names.now) (string_bytes class.now.text) (met_of met) (placed_member m.now)) }
 {
     match m {
         Member::Field(d) => fields_met(alloc, names, met, d),
@@ -291,16 +289,16 @@ fn class_met(
 
 fn one_class(
     alloc: Global,
-    names: &[String],
+    names: &IndexSet<String>,
     classes: Classes,
     c: &Class,
 ) -> Result<Result<Classes, Broken>, AllocError>
-    ensures { IfOk result (λ r. seen_classes r ≡ the_one_class (map string_bytes names.now) (classes_of classes) (placed_class c.now)) }
+    ensures { IfOk result (λ r. seen_classes r ≡ the_one_class (texts_of names.now) (classes_of classes) (placed_class c.now)) }
 {
     let next = classes.next;
     let mut met = Met {
-        fields: Vec::new(alloc),
-        methods: Vec::new(alloc),
+        fields: IndexMap::new(alloc),
+        methods: IndexMap::new(alloc),
         constructor: None,
         parameters: Vec::new(alloc),
         next,
@@ -314,10 +312,10 @@ fn one_class(
 /// What the classes declare.
 pub fn class_signs(
     alloc: Global,
-    names: &[String],
+    names: &IndexSet<String>,
     all: &[Class],
 ) -> Result<Result<Classes, Broken>, AllocError>
-    ensures { IfOk result (λ r. seen_classes r ≡ the_class_signs (map string_bytes names.now) (map placed_class all.now)) }
+    ensures { IfOk result (λ r. seen_classes r ≡ the_class_signs (texts_of names.now) (map placed_class all.now)) }
 {
     let mut classes = Classes {
         signs: Vec::new(alloc),

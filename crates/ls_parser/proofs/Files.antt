@@ -1,5 +1,5 @@
 -- What reading a file says of spelling.
-use Rattle.std.proofs.Common.{◌≡◌, ℕ, ◌≤◌, ◌<◌, ◌+◌, ◌⊎◌, inl, inr, arith, length, List, [], Option, Some, None, refl, sym, ap, ◌∙◌}
+use Rattle.std.proofs.Common.{◌≡◌, ℕ, ◌≤◌, ◌<◌, ◌+◌, ◌⊎◌, inl, inr, arith, length, List, [], Option, Some, None, IsSome, refl, sym, ap, subst, ◌∙◌}
 use Rattle.ls_lexer.specs.declared.fault.TextFault.{TextFault}
 use Rattle.ls_lexer.specs.Lexemes.{Lexeme}
 use Rattle.ls_lexer.specs.Tokens.{tokens_of}
@@ -7,7 +7,7 @@ use Rattle.ls_parser.specs.Trees.{File}
 use Rattle.ls_parser.specs.Spelling.{spell}
 use Rattle.ls_parser.specs.WellFormed.{WellFormedFile}
 use Rattle.ls_parser.specs.Spells.{Spells, TextSpells}
-use Rattle.ls_parser.specs.Answers.{Refuses, Fails}
+use Rattle.ls_parser.specs.Answers.{Refuses, RefusesTokens, MayCome, Fails}
 use Rattle.ls_lexer.specs.Places.{Refused, text_limit}
 use Rattle.ls_lexer.specs.declared.fault.TextFault.TheVariants as faults
 use Rattle.ls_parser.specs.ReadingClasses.{file_at}
@@ -38,7 +38,7 @@ not_spelled ks h f s =
     let read : file_at ks ≡ Some f = ap file_at s.spelled ∙ again f s.formed in
     cc (h, read)
 
-pub refused_is : (ks : List Lexeme) (e : TextFault) → Fails e (file_at ks) → Refuses e ((f : File) → Spells f ks → ⊥)
+pub refused_is : (ks : List Lexeme) (e : TextFault) → Fails e (file_at ks) → RefusesTokens e ((f : File) → Spells f ks → ⊥)
 refused_is ks e h = means_map e (not_spelled ks) h
 
 -- ---- texts
@@ -65,14 +65,35 @@ lexing_refused text (faults.TooDeep at) h = absurd h
 other_text : (text : List ℕ) (ks : List Lexeme) → tokens_of text ≡ Some ks → ((f : File) → Spells f ks → ⊥) → (f : File) → TextSpells f text → ⊥
 other_text text ks tokens none f s = none f (record { spelled = some_is ks (spell f) (sym tokens ∙ s.tokens); formed = s.formed })
 
-pub text_refused : (text : List ℕ) (ks : List Lexeme) (e : TextFault) → tokens_of text ≡ Some ks → Refuses e ((f : File) → Spells f ks → ⊥) → Refuses e ((f : File) → TextSpells f text → ⊥)
+pub text_refused : (text : List ℕ) (ks : List Lexeme) (e : TextFault) → tokens_of text ≡ Some ks → RefusesTokens e ((f : File) → Spells f ks → ⊥) → Refuses e ((f : File) → TextSpells f text → ⊥)
 text_refused text ks faults.Memory tokens h = tt
-text_refused text ks faults.TooLong tokens h = other_text text ks tokens h
-text_refused text ks (faults.BadByte at) tokens h = other_text text ks tokens h
-text_refused text ks (faults.OpenComment at) tokens h = other_text text ks tokens h
+text_refused text ks faults.TooLong tokens h = absurd h
+text_refused text ks (faults.BadByte at) tokens h = absurd h
+text_refused text ks (faults.OpenComment at) tokens h = absurd h
 text_refused text ks (faults.BadNumber at) tokens h = other_text text ks tokens h
 text_refused text ks (faults.Syntax at) tokens h = other_text text ks tokens h
 text_refused text ks (faults.TooDeep at) tokens h = other_text text ks tokens h
+
+pub lexing_may_come : (text : List ℕ) (e : TextFault) → Refused text e → MayCome text e
+lexing_may_come text faults.Memory h = tt
+lexing_may_come text faults.TooLong h = h
+lexing_may_come text (faults.BadByte at) h = h.0
+lexing_may_come text (faults.OpenComment at) h = h.0
+lexing_may_come text (faults.BadNumber at) h = inl h.0
+lexing_may_come text (faults.Syntax at) h = absurd h
+lexing_may_come text (faults.TooDeep at) h = absurd h
+
+has_tokens : (text : List ℕ) (ks : List Lexeme) → tokens_of text ≡ Some ks → IsSome (tokens_of text)
+has_tokens text ks tokens = subst (λ (o : Option (List Lexeme)). IsSome o) (sym tokens) refl
+
+pub parsing_may_come : (text : List ℕ) (ks : List Lexeme) (e : TextFault) → tokens_of text ≡ Some ks → RefusesTokens e ((f : File) → Spells f ks → ⊥) → MayCome text e
+parsing_may_come text ks faults.Memory tokens h = tt
+parsing_may_come text ks faults.TooLong tokens h = absurd h
+parsing_may_come text ks (faults.BadByte at) tokens h = absurd h
+parsing_may_come text ks (faults.OpenComment at) tokens h = absurd h
+parsing_may_come text ks (faults.BadNumber at) tokens h = inr (has_tokens text ks tokens)
+parsing_may_come text ks (faults.Syntax at) tokens h = has_tokens text ks tokens
+parsing_may_come text ks (faults.TooDeep at) tokens h = has_tokens text ks tokens
 
 -- no text has two trees
 pub one_file_of_text : (f g : File) (text : List ℕ) → TextSpells f text → TextSpells g text → f ≡ g

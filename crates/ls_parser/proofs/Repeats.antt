@@ -4,15 +4,15 @@ use Rattle.std.proofs.lemmas.Bool.{cases_Bool}
 use Rattle.ls_lexer.specs.declared.fault.TextFault.{TextFault}
 use Rattle.ls_lexer.specs.declared.fault.TextFault.TheVariants as faults
 use Rattle.ls_lexer.specs.Lexemes.{Lexeme}
-use Rattle.ls_parser.specs.Answers.{Refuses, Fails}
+use Rattle.ls_parser.specs.Answers.{RefusesTokens, Fails}
 use Rattle.ls_lexer.specs.declared.sign.Sign.TheVariants as signs
 use Rattle.ls_parser.specs.Reading.{◌>>=◌, Reader, repeat, one_more, given, after_sign, starts, not_yet, behind_comma, group_at}
 
-pub means_map : {P Q : Type 0} (e : TextFault) → (P → Q) → Refuses e P → Refuses e Q
+pub means_map : {P Q : Type 0} (e : TextFault) → (P → Q) → RefusesTokens e P → RefusesTokens e Q
 means_map faults.Memory f h = tt
-means_map faults.TooLong f h = f h
-means_map (faults.BadByte at) f h = f h
-means_map (faults.OpenComment at) f h = f h
+means_map faults.TooLong f h = absurd h
+means_map (faults.BadByte at) f h = absurd h
+means_map (faults.OpenComment at) f h = absurd h
 means_map (faults.BadNumber at) f h = f h
 means_map (faults.Syntax at) f h = f h
 means_map (faults.TooDeep at) f h = f h

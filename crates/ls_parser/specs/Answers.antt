@@ -1,16 +1,39 @@
 -- What a function answers where it is refused, and beside what reading gives.
-use Rattle.std.specs.Prelude.{◌≡◌, Option, Some, None, Result, Ok, Err}
+use Rattle.std.specs.Prelude.{◌≡◌, ◌<◌, ◌⊎◌, ℕ, List, length, Option, Some, None, IsSome, Result, Ok, Err}
 use Rattle.ls_lexer.specs.declared.fault.TextFault.{TextFault}
 use Rattle.ls_lexer.specs.declared.fault.TextFault.TheVariants as faults
+use Rattle.ls_lexer.specs.Places.{StandsAt, text_limit}
+use Rattle.ls_lexer.specs.Tokens.{tokens_of}
 
 -- what a fault other than want of memory says
 abbrev pub Refuses : TextFault → Type 0 → Type 0
 Refuses faults.Memory claim = Unit {0}
 Refuses _ claim = claim
 
+-- what a fault says that refuses tokens: it is want of memory or one of the grammar's
+abbrev pub RefusesTokens : TextFault → Type 0 → Type 0
+RefusesTokens faults.Memory claim = Unit {0}
+RefusesTokens faults.TooLong claim = ⊥
+RefusesTokens (faults.BadByte at) claim = ⊥
+RefusesTokens (faults.OpenComment at) claim = ⊥
+RefusesTokens (faults.BadNumber at) claim = claim
+RefusesTokens (faults.Syntax at) claim = claim
+RefusesTokens (faults.TooDeep at) claim = claim
+
+-- When each fault may come of a text: want of memory at any time; of a text that is too long, and only such a text; a
+-- fault of the lexer where it stands behind gaps and tokens; a fault of the grammar only of a text that has tokens.
+abbrev pub MayCome : List ℕ → TextFault → Type 0
+MayCome text faults.Memory = Unit {0}
+MayCome text faults.TooLong = text_limit < length text
+MayCome text (faults.BadByte at) = StandsAt text at (faults.BadByte at)
+MayCome text (faults.OpenComment at) = StandsAt text at (faults.OpenComment at)
+MayCome text (faults.BadNumber at) = StandsAt text at (faults.BadNumber at) ⊎ IsSome (tokens_of text)
+MayCome text (faults.Syntax at) = IsSome (tokens_of text)
+MayCome text (faults.TooDeep at) = IsSome (tokens_of text)
+
 -- nothing is read, unless memory ran out
 abbrev pub Fails : {Y : Type 0} → TextFault → Option Y → Type 0
-Fails e read = Refuses e (read ≡ None)
+Fails e read = RefusesTokens e (read ≡ None)
 
 -- the answer, seen by view, is what is read, unless memory ran out
 abbrev pub Gives : {X Y : Type 0} → (X → Y) → Result X TextFault → Option Y → Type 0

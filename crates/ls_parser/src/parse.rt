@@ -7,7 +7,7 @@ ghost use Rattle.ls_lexer.specs.declared.fault.TextFault.TheVariants.{TooLong};
 ghost use Rattle.ls_parser.specs.Trees.{File};
 ghost use Rattle.ls_parser.specs.Views.{file_of};
 ghost use Rattle.ls_parser.specs.FileView.{bare_file};
-ghost use Rattle.ls_parser.specs.Answers.{Refuses, Gives};
+ghost use Rattle.ls_parser.specs.Answers.{Refuses, RefusesTokens, MayCome, Gives};
 ghost use Rattle.ls_parser.specs.ReadingClasses.{file_at};
 ghost use Rattle.ls_parser.specs.Spells.{Spells, TextSpells};
 ghost use Rattle.ls_parser.specs.Laws.{OneTree, OneFile};
@@ -41,13 +41,15 @@ fn read_parts(context: Context, tokens: &[Token]) -> Result<Parts, TextFault>
     })
 }
 
-/// The file that the tokens spell. A fault other than want of memory says that they spell none. `BadNumber` is
-/// 2147483648 without a minus before it, `TooDeep` a body or an initialiser over the greatest height, and `Syntax` all
-/// else, at the end of the last token where tokens are wanting.
+/// The file that the tokens spell: package, imports and classes (JLS 7.3 to 7.6), their members (JLS 8), statements
+/// (JLS 14, an `else` with the nearest `if` of 14.5) and expressions (JLS 15, operators of one rank to the left). A fault
+/// other than want of memory says that they spell none. `BadNumber` is 2147483648 without a minus before it (JLS 3.10.1),
+/// `TooDeep` a body or an initialiser over the greatest height, which is a limit of this profile, and `Syntax` all else, at
+/// the end of the last token where tokens are wanting.
 #[tactic(auto, using(crate::proofs::Files::found_is, crate::proofs::Files::formed_is, crate::proofs::Files::refused_is))]
 pub fn parse(alloc: Global, tokens: &[Token]) -> Result<ClassFile, TextFault>
     ensures found { IfOk result (λ f. Spells (bare_file f) (lexemes tokens.now)) }
-    ensures refused { IfErr result (λ e. Refuses e ((f : File) → Spells f (lexemes tokens.now) → ⊥)) }
+    ensures refused { IfErr result (λ e. RefusesTokens e ((f : File) → Spells f (lexemes tokens.now) → ⊥)) }
 {
     let end = match tokens.last() {
         Some(token) => token.span.end,
@@ -57,11 +59,15 @@ pub fn parse(alloc: Global, tokens: &[Token]) -> Result<ClassFile, TextFault>
     Ok(ClassFile::new(parts.header, parts.imports, parts.classes))
 }
 
-/// The file that the text spells. A fault other than want of memory says that it spells none.
-#[tactic(auto, using(crate::proofs::Files::text_found, crate::proofs::Files::text_refused, crate::proofs::Files::lexing_refused))]
+/// The file that the text spells: the one of its tokens (JLS 3.5). A fault other than want of memory says that it spells
+/// none. `TooLong` comes exactly where the text has more than 262,144 bytes, which is a limit of this profile, and `BadByte`
+/// and `OpenComment` only where that fault stands behind gaps and tokens. `BadNumber` comes where it stands so too, or else,
+/// as `Syntax` and `TooDeep` do, of a text that has tokens, as `parse` says.
+#[tactic(auto, using(crate::proofs::Files::text_found, crate::proofs::Files::text_refused, crate::proofs::Files::lexing_refused, crate::proofs::Files::lexing_may_come, crate::proofs::Files::parsing_may_come))]
 pub fn parse_text(alloc: Global, text: &str) -> Result<ClassFile, TextFault>
     ensures found { IfOk result (λ f. TextSpells (bare_file f) text.now) }
     ensures refused { IfErr result (λ e. Refuses e ((f : File) → TextSpells f text.now → ⊥)) }
+    ensures comes { IfErr result (λ e. MayCome text.now e) }
     ensures long { text_limit < length text.now → IsErrOf result TooLong }
 {
     let tokens = lex(alloc, text)?;

@@ -13,7 +13,8 @@ ghost use Rattle.ls_parser.specs.ReadingActions.{local_at, condition_at, jump_at
 use crate::declarations::declaration;
 use crate::terms::binary;
 use crate::tokens::{
-    Context, Part, Read, expect, make_name, name_part, sign_part, span_to, syntax, too_deep,
+    Context, Part, Read, expect, make_name, name_part, sign_part, span_from, span_to, syntax,
+    too_deep,
 };
 use crate::tree::{Block, BlockItem, Expr, Name, Statement};
 use ls_lexer::fault::TextFault;
@@ -213,10 +214,7 @@ pub fn used<'t, 'a>(
             tree: Statement::Assign {
                 target: target.tree,
                 value: value.tree,
-                span: Span {
-                    start,
-                    end: span_to(tokens, rest).end,
-                },
+                span: span_from(start, tokens, rest),
             },
             height: target.height.max(value.height) + 1,
             rest,
@@ -229,10 +227,7 @@ pub fn used<'t, 'a>(
     Ok(Part {
         tree: Statement::Expression {
             value: target.tree,
-            span: Span {
-                start,
-                end: span_to(target.rest, rest).end,
-            },
+            span: span_from(start, target.rest, rest),
         },
         height: target.height + 1,
         rest,

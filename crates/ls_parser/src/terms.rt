@@ -15,7 +15,7 @@ use crate::primaries::{
 };
 use crate::tokens::{
     Context, Part, boxed, expect, expect_word, make_name, name, name_part, push, sign_part,
-    span_to, starts_with, syntax, too_deep,
+    span_from, starts_with, syntax, too_deep,
 };
 use crate::tree::{Expr, Name, UnaryOp};
 use ls_lexer::fault::TextFault;
@@ -190,10 +190,7 @@ fn member<'t, 'a>(
     match sign_part(name.rest, Sign::OpenParen) {
         Some(rest) => {
             let arguments = arguments(context, rest, limit)?;
-            let span = Span {
-                start: left.tree.span().start,
-                end: span_to(tokens, arguments.rest).end,
-            };
+            let span = span_from(left.tree.span().start, tokens, arguments.rest);
             let target = boxed(context.alloc, left.tree)?;
             Ok(Part {
                 tree: called(Some(target), name.tree, arguments.tree, span),
@@ -235,10 +232,7 @@ fn item<'t, 'a>(
         return Err(syntax(context, left.rest));
     }
     let index = index(context, left.rest, limit)?;
-    let span = Span {
-        start: left.tree.span().start,
-        end: span_to(left.rest, index.rest).end,
-    };
+    let span = span_from(left.tree.span().start, left.rest, index.rest);
     Ok(Part {
         tree: Expr::Item {
             array: boxed(context.alloc, left.tree)?,
@@ -374,10 +368,7 @@ fn named<'t, 'a>(
     match sign_part(tokens, Sign::OpenParen) {
         Some(rest) => {
             let arguments = arguments(context, rest, limit)?;
-            let span = Span {
-                start: span.start,
-                end: span_to(tokens, arguments.rest).end,
-            };
+            let span = span_from(span.start, tokens, arguments.rest);
             Ok(Part {
                 tree: called(None, name, arguments.tree, span),
                 height: arguments.height + 1,
@@ -405,10 +396,7 @@ fn paren<'t, 'a>(
 {
     let inner = binary(context, tokens, 6, limit)?;
     let rest = expect(context, inner.rest, Sign::CloseParen)?;
-    let span = Span {
-        start: start.start,
-        end: span_to(tokens, rest).end,
-    };
+    let span = span_from(start.start, tokens, rest);
     Ok(Part {
         tree: Expr::Paren {
             inner: boxed(context.alloc, inner.tree)?,
@@ -432,18 +420,12 @@ fn made<'t, 'a>(
     ensures height { IfOk result (λ p. (p.height ≡ term_height (bare p.tree)) × (p.height ≤ limit + 1)) }
 {
     if let Some((text, rest)) = name_part(tokens) {
-        let span = Span {
-            start: start.start,
-            end: span_to(tokens, rest).end,
-        };
+        let span = span_from(start.start, tokens, rest);
         return object(context, text, span, rest, limit);
     }
     let rest = expect_word(context, tokens, Word::Boolean)?;
     let length = index(context, rest, limit)?;
-    let span = Span {
-        start: start.start,
-        end: span_to(tokens, length.rest).end,
-    };
+    let span = span_from(start.start, tokens, length.rest);
     Ok(Part {
         tree: Expr::NewArray {
             length: boxed(context.alloc, length.tree)?,
@@ -471,10 +453,7 @@ fn object<'t, 'a>(
         let class = class_name(context, tokens)?;
         let open = expect(context, class.rest, Sign::OpenParen)?;
         let arguments = arguments(context, open, limit)?;
-        let span = Span {
-            start: span.start,
-            end: span_to(tokens, arguments.rest).end,
-        };
+        let span = span_from(span.start, tokens, arguments.rest);
         Ok(Part {
             tree: new_markable(class.tree, arguments.tree, span),
             height: arguments.height + 1,
@@ -483,7 +462,7 @@ fn object<'t, 'a>(
     } else {
         let open = expect(context, tokens, Sign::OpenParen)?;
         let arguments = arguments(context, open, limit)?;
-        let end = span_to(tokens, arguments.rest).end;
+        let whole = span_from(span.start, tokens, arguments.rest);
         let class = make_name(
             context,
             text,
@@ -492,12 +471,8 @@ fn object<'t, 'a>(
                 end: span.end,
             },
         )?;
-        let span = Span {
-            start: span.start,
-            end,
-        };
         Ok(Part {
-            tree: new_object(class, arguments.tree, span),
+            tree: new_object(class, arguments.tree, whole),
             height: arguments.height + 1,
             rest: arguments.rest,
         })

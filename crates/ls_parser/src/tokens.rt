@@ -1,6 +1,7 @@
 // The next tokens, and what reading makes of them.
 
-ghost use Rattle.std.specs.Prelude.{◌≡◌, ◌++◌, ◌∷◌, [], IfOk, length};
+ghost use Rattle.std.specs.Prelude.{◌≡◌, ◌++◌, ◌∷◌, ℕ, [], IfOk, length};
+ghost use Rattle.ls_lexer.specs.declared.fault.TextFault.TheVariants.{Syntax, TooDeep};
 ghost use Rattle.ls_lexer.specs.Lexemes.{lexemes};
 ghost use Rattle.ls_parser.specs.Reading.{after_sign, after_word, name_at, starts};
 ghost use Rattle.ls_parser.specs.Views.{name_text};
@@ -43,13 +44,17 @@ pub fn place(tokens: &[Token], end: usize) -> usize {
     }
 }
 
-pub fn syntax(context: Context, tokens: &[Token]) -> TextFault {
+pub fn syntax(context: Context, tokens: &[Token]) -> TextFault
+    ensures { (at : ℕ) × (result ≡ Syntax at) }
+{
     TextFault::Syntax {
         at: place(tokens, context.end),
     }
 }
 
-pub fn too_deep(context: Context, tokens: &[Token]) -> TextFault {
+pub fn too_deep(context: Context, tokens: &[Token]) -> TextFault
+    ensures { (at : ℕ) × (result ≡ TooDeep at) }
+{
     TextFault::TooDeep {
         at: place(tokens, context.end),
     }
@@ -64,6 +69,14 @@ pub fn span_to(tokens: &[Token], rest: &[Token]) -> Span {
             Some(token) => token.span.end,
             None => 0,
         },
+    }
+}
+
+// From a place in front of the tokens to the last one before the rest.
+pub fn span_from(start: usize, tokens: &[Token], rest: &[Token]) -> Span {
+    Span {
+        start,
+        end: span_to(tokens, rest).end,
     }
 }
 

@@ -3,20 +3,10 @@
 #![tactic(auto)]
 
 #[cfg(test)]
+mod arithmetic;
+#[cfg(test)]
 mod compiling;
 #[cfg(test)]
-mod emitting;
-#[cfg(test)]
-mod finally;
-#[cfg(test)]
-mod locks;
-#[cfg(test)]
-mod machine;
-#[cfg(test)]
 mod schedules;
-#[cfg(test)]
-mod sources;
-#[cfg(test)]
-mod steps;
 #[cfg(test)]
 mod tool;

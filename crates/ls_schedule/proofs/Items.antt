@@ -1,5 +1,5 @@
 -- The items of a text, one after the other.
-use Rattle.std.proofs.Common.{◌≡◌, ◌∙◌, ◌+◌, ◌*◌, ◌-◌, ◌<◌, ◌≤◌, ℕ, suc, Bool, true, false, cond, List, [], ◌∷◌, ◌++◌, length, take, drop, min, not, refl, sym, ap, append_assoc, arith, Result, Ok, Err, get_or}
+use Rattle.std.proofs.Common.{◌≡◌, ◌∙◌, ◌+◌, ◌*◌, ◌-◌, ◌<◌, ◌≤◌, ℕ, suc, Bool, true, false, cond, List, [], ◌∷◌, length, take, drop, min, not, refl, sym, ap, arith, Result, Err, get_or}
 use Rattle.std.specs.Prelude.{unwrap_or}
 use Rattle.std.specs.List.{list_all, position, position_or_len, prefix_len}
 use Rattle.std.specs.Char.{digit_value}
@@ -11,7 +11,7 @@ use Rattle.ls_schedule.specs.declared.fault.ScheduleFault.{ScheduleFault}
 use Rattle.ls_schedule.specs.declared.fault.ScheduleFault.TheVariants as fault
 use Rattle.ls_schedule.specs.Answers.{Fails}
 use Rattle.ls_schedule.specs.Items.{Item, is_gap, items, joined, with_byte}
-use Rattle.ls_schedule.specs.Reading.{each, is_digit, ◌>>=◌}
+use Rattle.ls_schedule.specs.Reading.{is_digit}
 
 -- ---- a digit
 
@@ -92,26 +92,6 @@ items_gap at (b ∷ bs) lt e = go (is_gap b) refl
     go false g =
         let is : position_or_len is_gap (b ∷ bs) ≡ 1 + rest_len bs = rw g refl in
         absurd (omega (arith, until_gap_is (b ∷ bs)))
-
--- ---- reading one item after the other
-
--- the front has been read already
-abbrev pub with_front : {X E : Type 0} → List X → Result (List X) E → Result (List X) E
-with_front front read = read >>= λ xs. Ok (front ++ xs)
-
-push_front : {X E : Type 0} (front : List X) (x : X) (r : Result (List X) E) → with_front (front ++ x ∷ []) r ≡ with_front front (r >>= λ ys. Ok (x ∷ ys))
-push_front front x (Ok ys) = ap Ok (append_assoc front (x ∷ []) ys)
-push_front front x (Err d) = refl
-
-pub goes_on : {A X E : Type 0} (f : A → Result X E) (front : List X) (a : A) (x : X) (more : List A) (all : Result (List X) E)
-    → f a ≡ Ok x → with_front front (each f (a ∷ more)) ≡ all → with_front (front ++ x ∷ []) (each f more) ≡ all
-goes_on f front a x more all e h =
-    push_front front x (each f more) ∙ ap (λ r. with_front front (r >>= λ y. each f more >>= λ ys. Ok (y ∷ ys))) (sym e) ∙ h
-
-pub ends : {A X E : Type 0} (f : A → Result X E) (front : List X) (a : A) (d : E) (more : List A) (all : Result (List X) E)
-    → f a ≡ Err d → with_front front (each f (a ∷ more)) ≡ all → all ≡ Err d
-ends f front a d more all e h =
-    sym h ∙ ap (λ r. with_front front (r >>= λ y. each f more >>= λ ys. Ok (y ∷ ys))) e
 
 -- the fault of an item is that of all, where it isn't want of memory
 pub fails_ends : {X Y : Type 0} (d : ScheduleFault) (one : Result X ScheduleFault) (all : Result Y ScheduleFault) → (one ≡ Err d → all ≡ Err d) → Fails d one → Fails d all

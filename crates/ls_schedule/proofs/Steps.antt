@@ -1,12 +1,11 @@
 -- The steps of items, and what a cap on their counts changes: nothing.
-use Rattle.std.proofs.Common.{◌≡◌, ◌∙◌, ◌⊎◌, inl, inr, ◌+◌, ◌<◌, ◌≤◌, ℕ, zero, suc, List, [], ◌∷◌, ◌++◌, length, map, take, get_or, min, refl, sym, ap, append_assoc, append-nil, arith, Result, Ok, Err}
-use Rattle.ls_schedule.specs.declared.reading.Said.{Said}
+use Rattle.std.proofs.Common.{◌≡◌, ◌∙◌, inl, inr, ◌+◌, ◌<◌, ◌≤◌, ℕ, zero, suc, List, [], ◌∷◌, ◌++◌, length, map, min, refl, sym, ap, append_assoc, append-nil, arith, Option, Some, None, Result, Ok, Err}
 use Rattle.std.specs.List.{range_with_len}
-use Rattle.std.proofs.lemmas.Bool.{cases_lt, lt-ltb}
+use Rattle.std.proofs.lemmas.Bool.{cases_lt, le-ltb, lt-ltb}
 use Rattle.std.proofs.lemmas.List.{length-append}
 use Rattle.ls_schedule.specs.declared.fault.ScheduleFault.{ScheduleFault}
 use Rattle.ls_schedule.specs.declared.fault.ScheduleFault.TheVariants as fault
-use Rattle.ls_schedule.specs.Answers.{Fails, Gives, capped, capped_turns, threads_of, view}
+use Rattle.ls_schedule.specs.Answers.{capped, capped_schedule, more_steps}
 use Rattle.ls_schedule.specs.Items.{Item, items}
 use Rattle.ls_schedule.specs.Reading.{Turns, each, repeated, schedule_of, steps_of, turns_of, within, ◌>>=◌}
 
@@ -102,38 +101,58 @@ range_more n =
     let f : 1 + n ≡ n + 1 = omega arith in
     ap (range_with_len 1) e ∙ range_push 1 n ∙ ap (λ x. range_with_len 1 n ++ x ∷ []) f
 
--- ---- the steps so far are not more than all
+-- ---- the steps so far
 
-pub said_at : (names : ℕ) (said : List Said) (i : ℕ) (x : Said) → i < length said
-    → length (steps_of (map (view names) (take i said)) ++ repeated (get_or said i x).count (threads_of names (get_or said i x).who)) ≤ length (steps_of (map (view names) said))
-said_at names [] i x lt = absurd (omega arith)
-said_at names (s ∷ ss) zero x lt = omega (arith, length-append (repeated s.count (threads_of names s.who)) (steps_of (map (view names) ss)))
-said_at names (s ∷ ss) (suc i) x lt =
-    let one = repeated s.count (threads_of names s.who) in
-    let front = steps_of (map (view names) (take i ss)) in
-    let next = repeated (get_or ss i x).count (threads_of names (get_or ss i x).who) in
-    omega (
-      arith,
-      said_at names ss i x (omega arith),
-      length-append one (steps_of (map (view names) ss)),
-      length-append (one ++ front) next,
-      length-append one front,
-      length-append front next,
-    )
+-- the whole, where these steps are read and the items still to be read answer so
+abbrev pub goes_to : Option (List ℕ) → Result (List Turns) ScheduleFault → Result (List ℕ) ScheduleFault
+goes_to None read = read >>= λ ps. Err fault.TooManySteps
+goes_to (Some steps) read = read >>= λ ps. within (steps ++ steps_of ps)
 
-pub too_long : (d : ScheduleFault) (part all : List ℕ) → (d ≡ fault.Memory) ⊎ (d ≡ fault.TooManySteps)
-    → (d ≡ fault.TooManySteps → 1000000 < length part) → length part ≤ length all → Fails d (within all)
-too_long d part all (inl m) over le = rw m tt
-too_long d part all (inr t) over le = let big : 1000000 < length all = omega (arith, over t) in rw (t, lt-ltb _ _ big) refl
+abbrev behind : Turns → Result (List Turns) ScheduleFault → Result (List Turns) ScheduleFault
+behind p read = read >>= λ ps. Ok (p ∷ ps)
 
--- a loop over the items stops with the fault of all of them
-pub said_over : (names : ℕ) (said : List Said) (i : ℕ) (x : Said) (now ts : List ℕ) (d : ScheduleFault) → i < length said
-    → now ≡ steps_of (map (view names) (take i said)) → threads_of names (get_or said i x).who ≡ ts
-    → (d ≡ fault.Memory) ⊎ (d ≡ fault.TooManySteps)
-    → (d ≡ fault.TooManySteps → 1000000 < length (now ++ repeated (get_or said i x).count ts))
-    → Fails d (within (steps_of (map (view names) said)))
-said_over names said i x now ts d lt h e only over =
-    too_long d (now ++ repeated (get_or said i x).count ts) (steps_of (map (view names) said)) only over (rw (h, sym e) (said_at names said i x lt))
+none_more : (p : Turns) (read : Result (List Turns) ScheduleFault) → goes_to None read ≡ goes_to None (behind p read)
+none_more p (Ok ps) = refl
+none_more p (Err e) = refl
+
+over_more : (steps : List ℕ) (p : Turns) (read : Result (List Turns) ScheduleFault) → 1000000 < length (steps ++ repeated p.1 p.0)
+    → goes_to None read ≡ goes_to (Some steps) (behind p read)
+over_more steps p (Err e) over = refl
+over_more steps p (Ok ps) over =
+    let split = append_assoc steps (repeated p.1 p.0) (steps_of ps) in
+    let big : 1000000 < length (steps ++ (repeated p.1 p.0 ++ steps_of ps)) =
+    omega (arith, over, ap length split, length-append (steps ++ repeated p.1 p.0) (steps_of ps)) in
+    rw (lt-ltb _ _ big) refl
+
+fits_more : (steps : List ℕ) (p : Turns) (read : Result (List Turns) ScheduleFault)
+    → goes_to (Some (steps ++ repeated p.1 p.0)) read ≡ goes_to (Some steps) (behind p read)
+fits_more steps p (Err e) = refl
+fits_more steps p (Ok ps) = ap within (append_assoc steps (repeated p.1 p.0) (steps_of ps))
+
+step_more : (so_far : Option (List ℕ)) (p : Turns) (read : Result (List Turns) ScheduleFault)
+    → goes_to (more_steps so_far p.0 p.1) read ≡ goes_to so_far (behind p read)
+step_more None p read = none_more p read
+step_more (Some steps) p read = elim (cases_lt 1000000 (length (steps ++ repeated p.1 p.0))) [
+  | inl over ↦ rw (lt-ltb _ _ over) (over_more steps p read over)
+  | inr fits ↦ rw (le-ltb _ _ fits) (fits_more steps p read)
+]
+
+-- an item that is read
+pub goes_on_to : (f : Item → Result Turns ScheduleFault) (so_far now : Option (List ℕ)) (i : Item) (p : Turns) (more : List Item) (all : Result (List ℕ) ScheduleFault)
+    → f i ≡ Ok p → now ≡ more_steps so_far p.0 p.1 → goes_to so_far (each f (i ∷ more)) ≡ all → goes_to now (each f more) ≡ all
+goes_on_to f so_far now i p more all e n h =
+    ap (λ s. goes_to s (each f more)) n ∙ step_more so_far p (each f more)
+    ∙ ap (λ r. goes_to so_far (r >>= λ y. each f more >>= λ ys. Ok (y ∷ ys))) (sym e) ∙ h
+
+-- an item that is refused
+pub ends_with : (f : Item → Result Turns ScheduleFault) (so_far : Option (List ℕ)) (i : Item) (d : ScheduleFault) (more : List Item) (all : Result (List ℕ) ScheduleFault)
+    → f i ≡ Err d → goes_to so_far (each f (i ∷ more)) ≡ all → all ≡ Err d
+ends_with f None i d more all e h = sym h ∙ ap (λ r. goes_to None (r >>= λ y. each f more >>= λ ys. Ok (y ∷ ys))) e
+ends_with f (Some steps) i d more all e h = sym h ∙ ap (λ r. goes_to (Some steps) (r >>= λ y. each f more >>= λ ys. Ok (y ∷ ys))) e
+
+-- no item is left
+pub all_read : (steps : List ℕ) → length steps ≤ 1000000 → goes_to (Some steps) (Ok []) ≡ Ok steps
+all_read steps few = ap within (append-nil steps) ∙ rw (le-ltb _ _ few) refl
 
 -- ---- the whole
 
@@ -142,15 +161,6 @@ with_cap (Ok ps) = sym (within_capped ps)
 with_cap (Err e) = refl
 
 -- the schedule by what is kept of the items
-pub whole : (names : List (List ℕ)) (text : List ℕ) → schedule_of names text ≡ (each (capped_turns names) (items 0 text) >>= λ ps. within (steps_of ps))
+pub whole : (names : List (List ℕ)) (text : List ℕ) → schedule_of names text ≡ capped_schedule names text
 whole names text =
     with_cap (each (turns_of names) (items 0 text)) ∙ ap (λ r. r >>= λ ps. within (steps_of ps)) (sym (each_capped (turns_of names) (items 0 text)))
-
--- the schedule of what is kept of the items
-pub schedule_is : (names names' : List (List ℕ)) (text text' : List ℕ) (n : ℕ) (said said' : List Said) (r : Result (List ℕ) ScheduleFault)
-    → names' ≡ names → text' ≡ text → said' ≡ said → each (capped_turns names') (items 0 text') ≡ Ok (map (view n) said)
-    → Gives (λ s. s) r (within (steps_of (map (view n) said'))) → Gives (λ s. s) r (schedule_of names text)
-schedule_is names names' text text' n said said' r names-is text-is said-is e g =
-    let kept : schedule_of names' text' ≡ within (steps_of (map (view n) said')) = whole names' text' ∙ ap (λ q. q >>= λ ps. within (steps_of ps)) e ∙ ap (λ s. within (steps_of (map (view n) s))) (sym said-is) in
-    let all : schedule_of names text ≡ within (steps_of (map (view n) said')) = ap (λ t. schedule_of names t) (sym text-is) ∙ ap (λ ns. schedule_of ns text') (sym names-is) ∙ kept in
-    rw all g

@@ -1,13 +1,13 @@
 -- What the reader's functions answer.
-use Rattle.std.specs.Prelude.{◌≡◌, ◌-◌, ℕ, List, [], ◌∷◌, min, Result, Ok, Err}
+use Rattle.std.specs.Prelude.{◌≡◌, ◌-◌, ℕ, Bool, not, List, [], ◌∷◌, ◌++◌, length, min, nat_lt, Option, Some, None, Result, Ok, Err, if◌then◌else◌}
 use Rattle.std.specs.List.{range_with_len}
 use Rattle.ls_schedule.specs.declared.fault.ScheduleFault.{ScheduleFault}
 use Rattle.ls_schedule.specs.declared.fault.ScheduleFault.TheVariants as fault
 use Rattle.ls_schedule.specs.declared.reading.Who.{Who}
 use Rattle.ls_schedule.specs.declared.reading.Who.TheVariants as who
 use Rattle.ls_schedule.specs.declared.reading.Said.{Said}
-use Rattle.ls_schedule.specs.Items.{Item}
-use Rattle.ls_schedule.specs.Reading.{Turns, turns_of, ◌>>=◌}
+use Rattle.ls_schedule.specs.Items.{Item, items}
+use Rattle.ls_schedule.specs.Reading.{Turns, each, repeated, steps_of, turns_of, within, ◌>>=◌}
 
 -- what a function returned, seen by view, is what reading gives, unless memory ran out
 abbrev pub Fails : {Y : Type 0} → ScheduleFault → Result Y ScheduleFault → Type 0
@@ -32,3 +32,17 @@ view names said = (threads_of names said.who, said.count)
 
 abbrev pub capped_turns : List (List ℕ) → Item → Result Turns ScheduleFault
 capped_turns names item = turns_of names item >>= λ p. Ok (capped p)
+
+-- the schedule of a text whose counts are so kept
+abbrev pub capped_schedule : List (List ℕ) → List ℕ → Result (List ℕ) ScheduleFault
+capped_schedule names text = each (capped_turns names) (items 0 text) >>= λ turns. within (steps_of turns)
+
+-- the steps so far: none once they are too many
+abbrev pub so_far : Bool → List ℕ → Option (List ℕ)
+so_far fits steps = if fits then Some steps else None
+
+-- the steps so far, and these threads so often
+abbrev pub more_steps : Option (List ℕ) → List ℕ → ℕ → Option (List ℕ)
+more_steps None threads count = None
+more_steps (Some steps) threads count =
+    let all = steps ++ repeated count threads in so_far (not (nat_lt 1000000 (length all))) all

@@ -1,7 +1,7 @@
 // From a text to its schedule.
 
 ghost use Rattle.ls_lexer.specs.Names.{is_name};
-ghost use Rattle.ls_schedule.specs.Answers.{Gives, capped_turns, threads_of, view};
+ghost use Rattle.ls_schedule.specs.Answers.{Gives, capped_schedule, capped_turns, more_steps, so_far, threads_of, view};
 ghost use Rattle.ls_schedule.specs.Items.{is_gap, items};
 ghost use Rattle.ls_schedule.specs.Reading.{
   count_of,
@@ -26,10 +26,12 @@ ghost use Rattle.std.specs.Prelude.{
   ◌-◌,
   ◌++◌,
   ◌⊎◌,
+  ℕ,
   IfErr,
   IfOk,
   IsErrOf,
   OnOk,
+  Some,
   length,
   map,
   min,
@@ -182,38 +184,11 @@ fn star_at(item: &[u8]) -> Option<usize>
     item.iter().position(|b| *b == b'*')
 }
 
-// The items of the text, each of them read.
-fn read_items(
-    alloc: Global,
-    text: &[u8],
-    threads: &[ThreadProgram],
-) -> Result<Vec<Said>, ScheduleFault>
-    ensures { Gives (λ v. map (view (length threads.now)) v.items) result (each (capped_turns (map thread_name threads.now)) (items 0 text.now)) }
-{
-    let mut said = Vec::new(alloc);
-    let mut at = 0;
-    let mut rest = text;
-    while !rest.is_empty() {
-        let len = item_len(rest);
-        if len == 0 {
-            rest = &rest[1..];
-            at += 1;
-        } else {
-            let (item, after) = rest.split_at(len);
-            let next = read_item(at, item, threads)?;
-            said.push(next)?;
-            rest = after;
-            at += len;
-        }
-    }
-    Ok(said)
-}
-
 // Appends the threads once.
 fn push_all(schedule: &mut Schedule, threads: &[usize]) -> Result<(), ScheduleFault>
     requires { length schedule.old ≤ 1000000 }
     ensures ok { OnOk result (schedule.new ≡ schedule.old ++ threads.now) }
-    ensures few { OnOk result (length schedule.new ≤ 1000000) }
+    ensures few { length schedule.new ≤ 1000000 }
     ensures err { IsErrOf result TooManySteps → 1000000 < length (schedule.old ++ threads.now) }
     ensures only { IfErr result (λ e. (e ≡ Memory) ⊎ (e ≡ TooManySteps)) }
 {
@@ -230,7 +205,7 @@ fn push_all(schedule: &mut Schedule, threads: &[usize]) -> Result<(), ScheduleFa
 fn append(schedule: &mut Schedule, threads: &[usize], count: u64) -> Result<(), ScheduleFault>
     requires { length schedule.old ≤ 1000000 }
     ensures ok { OnOk result (schedule.new ≡ schedule.old ++ repeated count threads.now) }
-    ensures few { OnOk result (length schedule.new ≤ 1000000) }
+    ensures few { length schedule.new ≤ 1000000 }
     ensures err { IsErrOf result TooManySteps → 1000000 < length (schedule.old ++ repeated count threads.now) }
     ensures only { IfErr result (λ e. (e ≡ Memory) ⊎ (e ≡ TooManySteps)) }
 {
@@ -254,23 +229,76 @@ fn all_threads(alloc: Global, threads: usize) -> Result<Vec<usize>, AllocError>
     Ok(all)
 }
 
-// The steps of all items.
-fn unrolled(alloc: Global, said: &[Said], threads: usize) -> Result<Schedule, ScheduleFault>
-    ensures { Gives (λ s. s) result (within (steps_of (map (view threads) said.now))) }
+// Appends the threads so many times, and tells whether the steps fit then.
+fn goes_on(schedule: &mut Schedule, threads: &[usize], count: u64) -> Result<bool, AllocError>
+    requires { length schedule.old ≤ 1000000 }
+    ensures more { IfOk result (λ fits. so_far fits schedule.new ≡ more_steps (Some schedule.old) threads.now count) }
+    ensures few { length schedule.new ≤ 1000000 }
 {
-    let all = all_threads(alloc, threads)?;
+    match append(schedule, threads, count) {
+        Ok(()) => Ok(true),
+        Err(ScheduleFault::TooManySteps) => Ok(false),
+        Err(_) => Err(AllocError),
+    }
+}
+
+// Appends the steps of an item if those so far fit, and tells whether they all do.
+fn goes_on_with(
+    fits: bool,
+    schedule: &mut Schedule,
+    said: Said,
+    all: &[usize],
+) -> Result<bool, AllocError>
+    requires { length schedule.old ≤ 1000000 }
+    ensures more { (names : ℕ) → all.now ≡ range_with_len 1 (names - 1) → IfOk result (λ now. so_far now schedule.new ≡ more_steps (so_far fits schedule.old) (threads_of names said.who) said.count) }
+    ensures few { length schedule.new ≤ 1000000 }
+{
+    if !fits {
+        return Ok(false);
+    }
+    match said.who {
+        Who::One(thread) => goes_on(schedule, &[thread], said.count),
+        Who::All => goes_on(schedule, all, said.count),
+    }
+}
+
+// The steps of all items of the text. Once they are too many, the other items are only looked at.
+fn read_steps(
+    alloc: Global,
+    text: &[u8],
+    threads: &[ThreadProgram],
+) -> Result<Schedule, ScheduleFault>
+    ensures { Gives (λ s. s) result (capped_schedule (map thread_name threads.now) text.now) }
+{
+    let numbers = all_threads(alloc, threads.len())?;
+    let all = numbers.as_slice();
     let mut schedule = Schedule::new(alloc);
-    for item in said {
-        match item.who {
-            Who::One(thread) => append(&mut schedule, &[thread], item.count)?,
-            Who::All => append(&mut schedule, all.as_slice(), item.count)?,
+    let mut fits = true;
+    let mut at = 0;
+    let mut rest = text;
+    while !rest.is_empty() {
+        let len = item_len(rest);
+        if len == 0 {
+            rest = &rest[1..];
+            at += 1;
+        } else {
+            let (item, after) = rest.split_at(len);
+            let said = read_item(at, item, threads)?;
+            fits = goes_on_with(fits, &mut schedule, said, all)?;
+            rest = after;
+            at += len;
         }
     }
-    Ok(schedule)
+    if fits {
+        Ok(schedule)
+    } else {
+        Err(ScheduleFault::TooManySteps)
+    }
 }
 
 /// The schedule that a text names, for the threads of a program. Refused with the first item of the text that has not
 /// the form of one or names no thread, and where there is none such with `TooManySteps` if the steps are too many.
+#[tactic(auto, using(crate::proofs::Steps::whole))]
 pub fn read_schedule(
     alloc: Global,
     text: &str,
@@ -278,7 +306,5 @@ pub fn read_schedule(
 ) -> Result<Schedule, ScheduleFault>
     ensures { Gives (λ s. s) result (schedule_of (thread_names program.now) text.now) }
 {
-    let threads = program.threads.as_slice();
-    let said = read_items(alloc, text.as_bytes(), threads)?;
-    unrolled(alloc, said.as_slice(), threads.len())
+    read_steps(alloc, text.as_bytes(), program.threads.as_slice())
 }

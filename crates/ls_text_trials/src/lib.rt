@@ -3,6 +3,12 @@
 #![tactic(auto)]
 
 #[cfg(test)]
+mod accepted;
+#[cfg(test)]
+mod beginnings;
+#[cfg(test)]
+mod heights;
+#[cfg(test)]
 mod histories;
 #[cfg(test)]
 mod lexing;
@@ -10,3 +16,7 @@ mod lexing;
 mod orders;
 #[cfg(test)]
 mod parsing;
+#[cfg(test)]
+mod stored_classes;
+#[cfg(test)]
+mod trees;

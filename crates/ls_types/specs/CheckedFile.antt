@@ -1,5 +1,5 @@
 -- What a checked file shows, and what a refusal says.
-use Rattle.std.specs.Prelude.{◌≡◌, List, map, string_bytes}
+use Rattle.std.specs.Prelude.{◌≡◌, List, map}
 use Rattle.ls_checked.specs.Plain.{plain_file}
 use Rattle.ls_checked.specs.declared.tree.File.{File}
 use Rattle.ls_parser.specs.declared.tree.ClassFile.{ClassFile}
@@ -9,7 +9,7 @@ use Rattle.ls_elaboration.specs.Trees.{Text}
 use Rattle.ls_elaboration.specs.Known.{ClassSign}
 use Rattle.ls_elaboration.specs.Elaborated.{Elaborated, broken}
 use Rattle.ls_elaboration.specs.Elaboration.{Outcome}
-use Rattle.ls_elaboration.specs.Tables.{class_sign_of}
+use Rattle.ls_elaboration.specs.Tables.{texts_of, class_sign_of}
 use Rattle.ls_types.specs.declared.check.Checked.{Checked}
 use Rattle.ls_types.specs.declared.check.CheckFault.{CheckFault}
 use Rattle.ls_types.specs.declared.check.CheckFault.TheVariants as faults
@@ -22,7 +22,7 @@ file_of c = c.file
 
 -- the names of the classes, and what they declare
 abbrev pub names_of : Checked → List Text
-names_of c = map string_bytes c.names.items
+names_of c = texts_of c.names
 
 abbrev pub signs_of : Checked → List ClassSign
 signs_of c = map class_sign_of c.signs.items

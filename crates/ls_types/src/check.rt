@@ -1,11 +1,12 @@
 // Checked files.
 
-ghost use Rattle.std.specs.Prelude.{◌≡◌, Ok, map, string_bytes};
+ghost use Rattle.std.specs.Prelude.{◌≡◌, Ok, map};
 ghost use Rattle.ls_checked.specs.Plain.{plain_file};
 ghost use Rattle.ls_elaboration.specs.Elaboration.{elaborated};
 ghost use Rattle.ls_elaboration.specs.PlacedStatements.{placed_file};
-ghost use Rattle.ls_elaboration.specs.Tables.{class_sign_of};
+ghost use Rattle.ls_elaboration.specs.Tables.{texts_of, class_sign_of};
 
+use indexmap::IndexSet;
 use ls_checked::tree::File;
 use ls_elaboration::elaboration::Outcome;
 use ls_elaboration::known::ClassSign;
@@ -57,11 +58,11 @@ impl From<AllocError> for CheckFault {
 #[derive(Drop)]
 pub struct Checked {
     parsed: ClassFile,
-    names: Vec<String>,
+    names: IndexSet<String>,
     signs: Vec<ClassSign>,
     file: File,
     /// The file is the elaboration of the tree.
-    pub ghost kept: { ∥ elaborated (placed_file parsed) ≡ Ok (record { names = map string_bytes names.items; signs = map class_sign_of signs.items; file = plain_file file }) ∥₁ },
+    pub ghost kept: { ∥ elaborated (placed_file parsed) ≡ Ok (record { names = texts_of names; signs = map class_sign_of signs.items; file = plain_file file }) ∥₁ },
 }
 
 impl Checked {
@@ -71,7 +72,7 @@ impl Checked {
     pub(crate) fn new(parsed: ClassFile, outcome: Outcome) -> Checked
         requires { elaborated (placed_file parsed) ≡ Ok (outcome_seen outcome) }
         ensures same { parsed_of result ≡ parsed }
-        ensures names { names_of result ≡ map string_bytes outcome.names.items }
+        ensures names { names_of result ≡ texts_of outcome.names }
         ensures signs { signs_of result ≡ map class_sign_of outcome.signs.items }
         ensures file { file_of result ≡ outcome.file }
     {
@@ -97,9 +98,9 @@ impl Checked {
         &self.file
     }
 
-    /// The names of the classes, in text order.
-    pub fn class_names(&self) -> &[String]
-        ensures { map string_bytes result.now ≡ names_of self.now }
+    /// The names of the classes, in text order: a class's number is the index of its name.
+    pub fn class_names(&self) -> &IndexSet<String>
+        ensures { texts_of result.now ≡ names_of self.now }
     {
         &self.names
     }

@@ -1,11 +1,11 @@
 use Rattle.std.proofs.Common.{◌≡◌, drop, map}
 use Rattle.ls_elaboration.specs.Elaborated.{each}
-use Rattle.std.specs.Prelude.{string_bytes}
 use Rattle.ls_elaboration.specs.Signs.{one_name}
+use Rattle.ls_elaboration.specs.Tables.{texts_of}
 use Rattle.ls_elaboration.specs.PlacedStatements.{placed_class}
 use Rattle.ls_elaboration.proofs.signs.class_names.Given as goal
 
 abbrev pub invariant-loop-c : goal.invariant-loop-c
 invariant-loop-c l =
-    each one_name (map string_bytes l.names.items) (map placed_class (drop l.c-index l.classes))
-    ≡ each one_name (map string_bytes l.initial.names.items) (map placed_class l.classes)
+    each one_name (texts_of l.names) (map placed_class (drop l.c-index l.classes))
+    ≡ each one_name (texts_of l.initial.names) (map placed_class l.classes)

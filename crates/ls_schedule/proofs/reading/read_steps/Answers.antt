@@ -1,0 +1,32 @@
+use Rattle.std.proofs.Common.{◌∙◌, ◌+◌, ap, sym, arith, map, length}
+use Rattle.std.proofs.lemmas.Result.{err_from_is_err_and}
+use Rattle.ls_schedule.specs.Answers.{capped_turns, so_far}
+use Rattle.ls_schedule.specs.Items.{Item, items}
+use Rattle.ls_schedule.specs.Reading.{each, thread_name}
+use Rattle.ls_schedule.proofs.Items.{fails_ends, items_split}
+use Rattle.ls_schedule.proofs.Steps.{ends_with, goes_on_to, goes_to}
+use Rattle.ls_schedule.proofs.reading.read_steps.Goals as goal
+
+pub returns-in_err-said : goal.returns-in_err-said
+returns-in_err-said c =
+    let p = err_from_is_err_and c.from_residual-in_err-said.result c.from_residual-in_err-said.ensures.1 in
+    let f = capped_turns (map thread_name c.args.threads.now) in
+    let state = so_far c.loop-all.fits c.loop-all.schedule in
+    let split = items_split c.loop-all.at _ c.loop-all.rest.now _ _ c.item_len-len.ensures c.if-len-eq0.false c.split_at.ensures.front c.split_at.ensures.back in
+    let item : Item = (c.loop-all.at, c.split_at.result.0.now) in
+    let more = items (c.loop-all.at + c.item_len-len.result) c.split_at.result.1.now in
+    rw (p.1, p.2) (fails_ends _ _ _ (λ e. ends_with f state item _ more _ e (ap (λ is. goes_to state (each f is)) (sym split) ∙ c.loop-all.invariant.read)) c.in_err-said.ensures)
+
+pub loop-all-preserved : goal.loop-all-preserved
+loop-all-preserved c =
+    let f = capped_turns (map thread_name c.args.threads.now) in
+    let state = so_far c.loop-all.fits c.loop-all.schedule in
+    let split = items_split c.loop-all.at _ c.loop-all.rest.now _ _ c.item_len-len.ensures c.if-len-eq0.false c.split_at.ensures.front c.split_at.ensures.back in
+    let item : Item = (c.loop-all.at, c.split_at.result.0.now) in
+    let more = items (c.loop-all.at + c.item_len-len.result) c.split_at.result.1.now in
+    let now = c.in_ok-fits.ensures.more (length c.args.threads.now) (c.as_slice-all.ensures.value ∙ c.in_ok-numbers.ensures) in
+    record {
+      place = omega (arith, c.split_at.ensures.back_len);
+      few = c.in_ok-fits.ensures.few;
+      read = goes_on_to f state _ item _ more _ c.in_ok-said.ensures now (ap (λ is. goes_to state (each f is)) (sym split) ∙ c.loop-all.invariant.read);
+    }
