@@ -3,14 +3,14 @@
 use ls_events::value::{Value, ValueType};
 
 /// What the setup names: its name, and the class of its object.
-#[derive(Debug, Drop)]
+#[derive(Drop)]
 pub struct SetupName {
     pub name: String,
     pub class: usize,
 }
 
 /// `name = new C(values)`, or `name.method(values)`.
-#[derive(Debug, Drop)]
+#[derive(Drop)]
 pub enum ProgramCall {
     Making {
         name: usize,
@@ -28,14 +28,14 @@ pub enum ProgramCall {
     },
 }
 
-#[derive(Debug, Drop)]
+#[derive(Drop)]
 pub struct ThreadProgram {
     pub name: String,
     pub calls: Vec<ProgramCall>,
 }
 
 /// A thread program. Thread 0 is the setup, named `setup`; the others follow in text order.
-#[derive(Debug, Drop)]
+#[derive(Drop)]
 pub struct Program {
     pub names: Vec<SetupName>,
     pub threads: Vec<ThreadProgram>,

@@ -5,9 +5,10 @@
 // own methods.
 
 use ls_events::value::{Value, ValueType};
+use std::alloc::AllocError;
 
 /// The operators that evaluate both operands and then compute (JLS 15.17, 15.18, 15.20, 15.21).
-#[derive(Clone, Copy, Debug, PartialEq, Eq)]
+#[derive(Copy)]
 pub enum Operator {
     Add,
     Subtract,
@@ -22,9 +23,15 @@ pub enum Operator {
     NotEqual,
 }
 
+impl Clone for Operator {
+    fn clone(&self) -> Result<Operator, AllocError> {
+        Ok(*self)
+    }
+}
+
 /// What a call runs: a method of the file, or an operation of a lock or of a markable reference. An operation that
 /// answers what a markable holds has the number of the class that it holds references to.
-#[derive(Clone, Copy, Debug, PartialEq, Eq)]
+#[derive(Copy)]
 pub enum Called {
     Method(usize),
     LockIt,
@@ -39,7 +46,13 @@ pub enum Called {
     Attempt,
 }
 
-#[derive(Debug, Drop)]
+impl Clone for Called {
+    fn clone(&self) -> Result<Called, AllocError> {
+        Ok(*self)
+    }
+}
+
+#[derive(Drop)]
 #[cycle(expressions)]
 pub enum Expression {
     Literal(Value),
@@ -65,7 +78,7 @@ pub enum Expression {
 }
 
 /// Arguments, at most 127.
-#[derive(Debug, Drop)]
+#[derive(Drop)]
 #[cycle(expressions)]
 pub enum Expressions {
     End,
@@ -73,7 +86,7 @@ pub enum Expressions {
 }
 
 /// `Break` and `Continue` say how many loops they leave behind: 0 is the innermost.
-#[derive(Debug, Drop)]
+#[derive(Drop)]
 #[cycle(statements)]
 pub enum Statement {
     Block(Vec<Statement>),
@@ -99,7 +112,7 @@ pub enum Statement {
 }
 
 /// A method or a constructor.
-#[derive(Debug, Drop)]
+#[derive(Drop)]
 pub struct Method {
     pub class: usize,
     /// How many parameters it has, `this` aside.
@@ -112,13 +125,13 @@ pub struct Method {
 }
 
 /// A class: the types of its fields, and the number of its constructor.
-#[derive(Debug, Drop)]
+#[derive(Drop)]
 pub struct Class {
     pub fields: Vec<ValueType>,
     pub constructor: usize,
 }
 
-#[derive(Debug, Drop)]
+#[derive(Drop)]
 pub struct File {
     pub classes: Vec<Class>,
     pub methods: Vec<Method>,

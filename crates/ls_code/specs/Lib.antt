@@ -15,3 +15,4 @@ pub mod Events
 pub mod Machine
 pub mod Fed
 pub mod Laws
+pub mod Reading

@@ -9,7 +9,7 @@ use std::alloc::{AllocError, Global};
 use std::marker::Model;
 
 /// A handler row: a throw from `from` to below `to` cuts the operands to `depth` and goes on at `handler`.
-#[derive(Clone, Copy, Debug, PartialEq, Eq)]
+#[derive(Copy)]
 pub struct HandlerRow {
     pub from: usize,
     pub to: usize,
@@ -17,8 +17,14 @@ pub struct HandlerRow {
     pub depth: usize,
 }
 
+impl Clone for HandlerRow {
+    fn clone(&self) -> Result<HandlerRow, AllocError> {
+        Ok(*self)
+    }
+}
+
 /// Where a method starts, how many arguments it takes (`this` among them), its further locals, and its stack need.
-#[derive(Clone, Copy, Debug, PartialEq, Eq)]
+#[derive(Copy)]
 pub struct Method {
     pub start: usize,
     pub arguments: usize,
@@ -26,16 +32,28 @@ pub struct Method {
     pub need: usize,
 }
 
+impl Clone for Method {
+    fn clone(&self) -> Result<Method, AllocError> {
+        Ok(*self)
+    }
+}
+
 /// What a call of a thread answers.
-#[derive(Clone, Copy, Debug, PartialEq, Eq)]
+#[derive(Copy)]
 pub enum CallResult {
     Nothing,
     Int,
     Boolean,
 }
 
+impl Clone for CallResult {
+    fn clone(&self) -> Result<CallResult, AllocError> {
+        Ok(*self)
+    }
+}
+
 /// Where a thread starts, its stack need, and for each of its calls what it answers.
-#[derive(Debug, Drop)]
+#[derive(Drop)]
 pub struct Start {
     place: usize,
     need: usize,
@@ -104,7 +122,7 @@ pub const MOST_CALLS: usize = 1_048_576;
 pub const MOST_LOCALS: usize = 1_048_576;
 
 /// The parts of an image, of which nothing is known yet.
-#[derive(Debug, Drop)]
+#[derive(Drop)]
 pub struct Parts {
     pub instructions: Vec<Instruction>,
     pub handlers: Vec<HandlerRow>,
@@ -124,7 +142,7 @@ impl Model for Parts {
 
 /// What the machine runs: the code of all units, and what is known of methods, classes, threads and setup names. Its
 /// numbers are small enough that a machine can be made of it.
-#[derive(Debug, Drop)]
+#[derive(Drop)]
 pub struct Code {
     parts: Parts,
 }

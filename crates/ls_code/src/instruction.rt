@@ -3,8 +3,10 @@
 ghost use Rattle.std.specs.Prelude.{◌≡◌, ◌<◌, ◌^◌, Some};
 ghost use Rattle.ls_code.specs.Instructions.{table as table_of, decoded, encoded, opcode_of, operand_of};
 
+use std::alloc::AllocError;
+
 /// One instruction with its operand. A jump's operand is a place in the code, counted from 0.
-#[derive(Clone, Copy, Debug, PartialEq, Eq)]
+#[derive(Copy)]
 pub enum Instruction {
     Halt,
     Push(u32),
@@ -60,6 +62,12 @@ pub enum Instruction {
     Call(u32),
     Result(u32),
     Trap,
+}
+
+impl Clone for Instruction {
+    fn clone(&self) -> Result<Instruction, AllocError> {
+        Ok(*self)
+    }
 }
 
 impl Instruction {
@@ -196,7 +204,7 @@ impl Instruction {
 }
 
 /// The instructions that are about more than one frame, or about a lock's word.
-#[derive(Clone, Copy, Debug, PartialEq, Eq)]
+#[derive(Copy)]
 pub enum ThreadInstruction {
     Halt,
     Enter(u32),
@@ -211,14 +219,26 @@ pub enum ThreadInstruction {
     DropLock,
 }
 
+impl Clone for ThreadInstruction {
+    fn clone(&self) -> Result<ThreadInstruction, AllocError> {
+        Ok(*self)
+    }
+}
+
 /// How a frame goes on with an answer: it pushes it, puts it in place of some operands, drops some operands, or goes
 /// to another place.
-#[derive(Clone, Copy, Debug, PartialEq, Eq)]
+#[derive(Copy)]
 pub enum Resume {
     Push,
     Settle(usize),
     Discard(usize),
     Lead(usize),
+}
+
+impl Clone for Resume {
+    fn clone(&self) -> Result<Resume, AllocError> {
+        Ok(*self)
+    }
 }
 
 /// The instructions with one operand, by their opcodes.

@@ -1,17 +1,24 @@
 // What a step does, and where a thread stands.
 
 use ls_events::action::{Action, Answer};
+use std::alloc::AllocError;
 
 /// Whether a thread goes on.
-#[derive(Clone, Copy, Debug, PartialEq, Eq)]
+#[derive(Copy, PartialEq, Eq)]
 pub enum Mode {
     Running,
     Ended,
     Trapped,
 }
 
+impl Clone for Mode {
+    fn clone(&self) -> Result<Mode, AllocError> {
+        Ok(*self)
+    }
+}
+
 /// Where a thread stands.
-#[derive(Clone, Copy, Debug, PartialEq, Eq)]
+#[derive(Copy)]
 pub enum ThreadState {
     NotStarted,
     Running,
@@ -20,8 +27,14 @@ pub enum ThreadState {
     Stopped,
 }
 
+impl Clone for ThreadState {
+    fn clone(&self) -> Result<ThreadState, AllocError> {
+        Ok(*self)
+    }
+}
+
 /// What one step did.
-#[derive(Clone, Copy, Debug, PartialEq, Eq)]
+#[derive(Copy)]
 pub enum Did {
     /// Nothing that another thread could notice.
     Silent,
@@ -33,4 +46,10 @@ pub enum Did {
     Idle,
     /// Nothing: the cells have run out.
     Stopped,
+}
+
+impl Clone for Did {
+    fn clone(&self) -> Result<Did, AllocError> {
+        Ok(*self)
+    }
 }

@@ -1,8 +1,8 @@
 -- What an image of these parts is.
 use Rattle.std.proofs.Common.{◌≡◌, sym, subst, Some, Ok}
-use Rattle.ls_parser.specs.FileView.{bare_file}
+use Rattle.ls_tree.specs.FileView.{bare_file}
 use Rattle.ls_parser.specs.Spells.{TextSpells}
-use Rattle.ls_parser.specs.declared.tree.ClassFile.{ClassFile}
+use Rattle.ls_tree.specs.declared.tree.ClassFile.{ClassFile}
 use Rattle.ls_checked.specs.PlainProgram.{plain_program}
 use Rattle.ls_checked.specs.declared.program.Program.{Program}
 use Rattle.ls_code.specs.Code.{Code}

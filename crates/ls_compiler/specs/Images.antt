@@ -2,10 +2,10 @@
 use Rattle.std.specs.Prelude.{◌≡◌, Some, Result, Ok, Err}
 use Rattle.ls_lexer.specs.declared.fault.TextFault.{TextFault}
 use Rattle.ls_parser.specs.Answers.{Refuses}
-use Rattle.ls_parser.specs.FileView.{bare_file}
-use Rattle.ls_parser.specs.Trees.{File as ParsedFile}
+use Rattle.ls_tree.specs.FileView.{bare_file}
+use Rattle.ls_tree.specs.Trees.{File as ParsedFile}
 use Rattle.ls_parser.specs.Spells.{TextSpells}
-use Rattle.ls_parser.specs.declared.tree.ClassFile.{ClassFile}
+use Rattle.ls_tree.specs.declared.tree.ClassFile.{ClassFile}
 use Rattle.ls_checked.specs.CheckedProgram.{Program as PlainProgram}
 use Rattle.ls_checked.specs.PlainProgram.{plain_program}
 use Rattle.ls_checked.specs.declared.program.Program.{Program}

@@ -13,21 +13,34 @@ use ls_events::action::{Action, Answer};
 use ls_events::kind::Kind;
 use ls_events::value::{Value, ValueType};
 use ls_meaning::sort::Sort;
+use std::alloc::AllocError;
 
 /// The expressions with one operand, a field's aside.
-#[derive(Clone, Copy, Debug, PartialEq, Eq)]
+#[derive(Copy)]
 pub enum Unary {
     Negate,
     Not,
     Array,
 }
 
+impl Clone for Unary {
+    fn clone(&self) -> Result<Unary, AllocError> {
+        Ok(*self)
+    }
+}
+
 /// What a statement does with the value of its one expression.
-#[derive(Clone, Copy, Debug, PartialEq, Eq)]
+#[derive(Copy)]
 pub enum After {
     SetSlot(usize),
     GoOn,
     Return,
+}
+
+impl Clone for After {
+    fn clone(&self) -> Result<After, AllocError> {
+        Ok(*self)
+    }
 }
 
 /// What a field does once its object is evaluated.

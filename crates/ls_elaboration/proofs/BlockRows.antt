@@ -2,12 +2,12 @@
 use Rattle.std.proofs.Common.{◌≡◌, refl, ap, ◌∙◌, Option, Some, None}
 use Rattle.std.specs.Global.{Vec, Box}
 use Rattle.ls_lexer.specs.declared.token.Span.{Span}
-use Rattle.ls_parser.specs.declared.tree.Expr.{Expr}
-use Rattle.ls_parser.specs.declared.tree.Block.{Block}
-use Rattle.ls_parser.specs.declared.tree.BlockItem.{BlockItem}
-use Rattle.ls_parser.specs.declared.tree.BlockItem.TheBlock.{hidden-the_row-BlockItem-0, back-Statement-If-2}
-use Rattle.ls_parser.specs.declared.tree.Statement.{Statement, Row_of-BlockItem, end_of-BlockItem, more_of-BlockItem, items-the_row-BlockItem, items_hidden-the_row-BlockItem-0}
-use Rattle.ls_parser.specs.declared.tree.Statement as statements
+use Rattle.ls_tree.specs.declared.tree.Expr.{Expr}
+use Rattle.ls_tree.specs.declared.tree.Block.{Block}
+use Rattle.ls_tree.specs.declared.tree.BlockItem.{BlockItem}
+use Rattle.ls_tree.specs.declared.tree.BlockItem.TheBlock.{hidden-the_row-BlockItem-0, back-Statement-If-2}
+use Rattle.ls_tree.specs.declared.tree.Statement.{Statement, Row_of-BlockItem, end_of-BlockItem, more_of-BlockItem, items-the_row-BlockItem, items_hidden-the_row-BlockItem-0}
+use Rattle.ls_tree.specs.declared.tree.Statement as statements
 use Rattle.ls_elaboration.specs.Trees as trees
 use Rattle.ls_elaboration.specs.Placed.{placed}
 use Rattle.ls_elaboration.specs.PlacedStatements.{placed_statement, placed_before, placed_row, placed_items, placed_held, placed_other, if_of}

@@ -5,3 +5,4 @@ pub mod BlockRows
 pub mod Files
 pub mod Keys
 pub mod Declarations
+pub mod Left

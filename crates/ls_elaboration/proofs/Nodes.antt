@@ -2,8 +2,8 @@
 use Rattle.std.proofs.Common.{◌≡◌, ℕ, suc, ◌+◌, Option, Some, None, refl, arith, ap, ◌∙◌, List, length, ◌<◌, drop, get_or, sym, add-one, drop-cons}
 use Rattle.ls_lexer.specs.declared.token.Span.{Span}
 use Rattle.ls_elaboration.specs.Trees.{Name}
-use Rattle.ls_parser.specs.declared.tree.BlockItem.{BlockItem}
-use Rattle.ls_parser.specs.declared.tree.BlockItem.TheVariants as rows
+use Rattle.ls_tree.specs.declared.tree.BlockItem.{BlockItem}
+use Rattle.ls_tree.specs.declared.tree.BlockItem.TheVariants as rows
 use Rattle.ls_elaboration.specs.Placed.{call_of}
 use Rattle.ls_elaboration.specs.PlacedStatements.{if_of, placed_before, placed_items}
 use Rattle.ls_elaboration.specs.Trees.{Expression, Statement, Items, Block, Empty, If, IfElse, While, Break, Continue, Return, Try, Assign, Evaluate, NoItem, Do, Declare, Number, True, False, Null, This, Named, Paren, Unary, Binary, Field, Call, CallOn, Item, New, NewMarkable, NewArray, Expressions, End, More}

@@ -2,10 +2,10 @@
 use Rattle.std.proofs.Common.{◌≡◌, refl, ap, ◌∙◌, Option, Some, None}
 use Rattle.std.specs.Global.{Vec, Box}
 use Rattle.ls_lexer.specs.declared.token.Span.{Span}
-use Rattle.ls_parser.specs.declared.tree.Name.{Name}
-use Rattle.ls_parser.specs.declared.tree.Expr.{Expr, Row_of-Expr, end_of-Expr, more_of-Expr, items-the_row-Expr, items_hidden-the_row-Expr-0}
-use Rattle.ls_parser.specs.declared.tree.Expr as exprs
-use Rattle.ls_parser.specs.declared.tree.Expr.TheBlock.{hidden-the_row-Expr-0, back-Expr-Call-0}
+use Rattle.ls_tree.specs.declared.tree.Name.{Name}
+use Rattle.ls_tree.specs.declared.tree.Expr.{Expr, Row_of-Expr, end_of-Expr, more_of-Expr, items-the_row-Expr, items_hidden-the_row-Expr-0}
+use Rattle.ls_tree.specs.declared.tree.Expr as exprs
+use Rattle.ls_tree.specs.declared.tree.Expr.TheBlock.{hidden-the_row-Expr-0, back-Expr-Call-0}
 use Rattle.ls_elaboration.specs.Trees as trees
 use Rattle.ls_elaboration.specs.Placed.{placed, placed_name, placed_row, placed_all, placed_held, placed_target, call_of}
 

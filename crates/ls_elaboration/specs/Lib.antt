@@ -5,9 +5,9 @@ pub mod StaticTypes
 pub mod Members
 pub mod Operators
 pub mod TypedExpressions
-pub mod Completion
 pub mod Scopes
 pub mod TypedStatements
+pub mod Left
 pub mod TypedMethods
 pub mod Signs
 pub mod Elaboration

@@ -3,10 +3,10 @@ use Rattle.std.specs.Prelude.{if◌then◌else◌}
 use Rattle.ls_lexer.specs.declared.token.Span.{Span}
 use Rattle.ls_events.specs.declared.value.ValueType.{ValueType}
 use Rattle.ls_events.specs.declared.value.ValueType.TheVariants.{Int, Boolean}
-use Rattle.ls_parser.specs.declared.tree.UnaryOp.{UnaryOp}
-use Rattle.ls_parser.specs.declared.tree.UnaryOp.TheVariants.{Minus, Not}
-use Rattle.ls_parser.specs.declared.tree.BinaryOp.{BinaryOp}
-use Rattle.ls_parser.specs.declared.tree.BinaryOp.TheVariants as written
+use Rattle.ls_tree.specs.declared.tree.UnaryOp.{UnaryOp}
+use Rattle.ls_tree.specs.declared.tree.UnaryOp.TheVariants.{Minus, Not}
+use Rattle.ls_tree.specs.declared.tree.BinaryOp.{BinaryOp}
+use Rattle.ls_tree.specs.declared.tree.BinaryOp.TheVariants as written
 use Rattle.ls_checked.specs.declared.tree.Operator.{Operator}
 use Rattle.ls_checked.specs.declared.tree.Operator.TheVariants as operators
 use Rattle.ls_elaboration.specs.declared.rule.Rule.TheVariants.{WrongType}

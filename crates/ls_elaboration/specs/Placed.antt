@@ -2,9 +2,9 @@
 use Rattle.std.specs.Prelude.{List, [], ◌∷◌, Option, Some, None, string_bytes}
 use Rattle.std.specs.Global.{Box}
 use Rattle.ls_lexer.specs.declared.token.Span.{Span}
-use Rattle.ls_parser.specs.declared.tree.Name.{Name}
-use Rattle.ls_parser.specs.declared.tree.Expr.{Expr, Row_of-Expr, end_of-Expr, more_of-Expr, Held-Expr-Call-0, None', Some'}
-use Rattle.ls_parser.specs.declared.tree.Expr.TheVariants as exprs
+use Rattle.ls_tree.specs.declared.tree.Name.{Name}
+use Rattle.ls_tree.specs.declared.tree.Expr.{Expr, Row_of-Expr, end_of-Expr, more_of-Expr, Held-Expr-Call-0, None', Some'}
+use Rattle.ls_tree.specs.declared.tree.Expr.TheVariants as exprs
 use Rattle.ls_elaboration.specs.Trees as trees
 
 abbrev pub placed_name : Name → trees.Name

@@ -1,19 +1,19 @@
 -- The trees with places that the parsed statements and classes of the code stand for.
 use Rattle.std.specs.Prelude.{List, [], ◌∷◌, Option, Some, None, map, option_map}
 use Rattle.std.specs.Global.{Box}
-use Rattle.ls_parser.specs.declared.tree.«Type».{«Type»}
-use Rattle.ls_parser.specs.declared.tree.«Type».TheVariants as names
-use Rattle.ls_parser.specs.declared.tree.Declarator.{Declarator}
-use Rattle.ls_parser.specs.declared.tree.Declaration.{Declaration}
-use Rattle.ls_parser.specs.declared.tree.Statement.{Statement, Row_of-BlockItem, end_of-BlockItem, more_of-BlockItem, Held-Statement-If-2, None', Some'}
-use Rattle.ls_parser.specs.declared.tree.Statement.TheVariants as statements
-use Rattle.ls_parser.specs.declared.tree.BlockItem.{BlockItem}
-use Rattle.ls_parser.specs.declared.tree.BlockItem.TheVariants as rows
-use Rattle.ls_parser.specs.declared.tree.Parameter.{Parameter}
-use Rattle.ls_parser.specs.declared.tree.Member.{Member}
-use Rattle.ls_parser.specs.declared.tree.Member.TheVariants as members
-use Rattle.ls_parser.specs.declared.tree.Class.{Class}
-use Rattle.ls_parser.specs.declared.tree.ClassFile.{ClassFile}
+use Rattle.ls_tree.specs.declared.tree.«Type».{«Type»}
+use Rattle.ls_tree.specs.declared.tree.«Type».TheVariants as names
+use Rattle.ls_tree.specs.declared.tree.Declarator.{Declarator}
+use Rattle.ls_tree.specs.declared.tree.Declaration.{Declaration}
+use Rattle.ls_tree.specs.declared.tree.Statement.{Statement, Row_of-BlockItem, end_of-BlockItem, more_of-BlockItem, Held-Statement-If-2, None', Some'}
+use Rattle.ls_tree.specs.declared.tree.Statement.TheVariants as statements
+use Rattle.ls_tree.specs.declared.tree.BlockItem.{BlockItem}
+use Rattle.ls_tree.specs.declared.tree.BlockItem.TheVariants as rows
+use Rattle.ls_tree.specs.declared.tree.Parameter.{Parameter}
+use Rattle.ls_tree.specs.declared.tree.Member.{Member}
+use Rattle.ls_tree.specs.declared.tree.Member.TheVariants as members
+use Rattle.ls_tree.specs.declared.tree.Class.{Class}
+use Rattle.ls_tree.specs.declared.tree.ClassFile.{ClassFile}
 use Rattle.ls_elaboration.specs.Trees as trees
 use Rattle.ls_elaboration.specs.Placed.{placed, placed_name}
 

@@ -2,8 +2,8 @@
 -- annotations have no effect, and are left out.
 use Rattle.std.specs.Prelude.{ℕ, List, Option}
 use Rattle.ls_lexer.specs.declared.token.Span.{Span}
-use Rattle.ls_parser.specs.declared.tree.UnaryOp.{UnaryOp}
-use Rattle.ls_parser.specs.declared.tree.BinaryOp.{BinaryOp}
+use Rattle.ls_tree.specs.declared.tree.UnaryOp.{UnaryOp}
+use Rattle.ls_tree.specs.declared.tree.BinaryOp.{BinaryOp}
 
 abbrev pub Text : Type 0
 Text = List ℕ

@@ -15,7 +15,7 @@ use crate::static_types::{Static, Typed};
 use ls_checked::tree::{Expression, Statement};
 use ls_events::value::ValueType;
 use ls_lexer::token::Span;
-use ls_parser::tree::Expr;
+use ls_tree::tree::Expr;
 use std::alloc::{AllocError, Global};
 
 /// A local, a field of an object, or an element of an array.

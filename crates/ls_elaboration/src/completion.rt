@@ -1,15 +1,22 @@
 // Which statements can complete normally.
 
-ghost use Rattle.std.specs.Prelude.{◌≡◌, map};
+ghost use Rattle.std.specs.Prelude.{◌≡◌, IfOk, map};
 ghost use Rattle.ls_checked.specs.Plain.{plain, plain_statement};
 ghost use Rattle.ls_elaboration.specs.TypedStatements.{sequence};
-ghost use Rattle.ls_elaboration.specs.Completion.{is_true as the_true, breaks as the_breaks, any_breaks as the_any_breaks, can_complete as the_can_complete, all_complete as the_all_complete};
+ghost use Rattle.ls_elaboration.specs.Left.{outward as the_outward, has as the_has, left as the_left, all_left as the_all_left};
+ghost use Rattle.ls_completion.specs.Completion.{is_true as the_true, can_complete as the_can_complete, all_complete as the_all_complete};
 
 use ls_checked::tree::{Expression, Statement};
 use ls_events::value::Value;
+use std::alloc::{AllocError, Global};
 
-// More loops round a statement than its height allows.
-const MOST_LOOPS: usize = 128;
+// How a statement may end: whether it can complete normally, and the loops that a `break` in it can leave, counted
+// outward from the innermost round it.
+#[derive(Drop)]
+struct Ways {
+    completes: bool,
+    left: Vec<usize>,
+}
 
 fn is_true(e: &Expression) -> bool
     ensures { result ≡ the_true (plain e.now) }
@@ -20,66 +27,124 @@ fn is_true(e: &Expression) -> bool
     }
 }
 
-// Whether a `break` of the loop stands where no `finally` that can't complete normally replaces it.
-#[cycle(completion)]
-#[tactic(auto, using(crate::proofs::Blocks::block_read))]
-fn breaks(loop_number: usize, s: &Statement) -> bool
-    ensures { result ≡ the_breaks loop_number (plain_statement s.now) }
+// Whether the innermost loop is among them.
+fn has_innermost(left: &[usize]) -> bool
+    ensures { result ≡ the_has 0 left.now }
 {
-    match s {
-        Statement::Block(ss) => any_breaks(loop_number, ss),
-        Statement::If(_, a, b) => breaks(loop_number, a) || breaks(loop_number, b),
-        Statement::While(_, s) => loop_number < MOST_LOOPS && breaks(loop_number + 1, s),
-        Statement::Break(n) => *n == loop_number,
-        Statement::Try(b, f) => (can_complete(f) && breaks(loop_number, b))
-            || breaks(loop_number, f),
-        _ => false,
-    }
-}
-
-#[cycle(completion)]
-fn any_breaks(loop_number: usize, ss: &[Statement]) -> bool
-    ensures { result ≡ the_any_breaks loop_number (sequence (map plain_statement ss.now)) }
-{
-    for s in ss {
-        if breaks(loop_number, s) {
+    for n in left {
+        if *n == 0 {
             return true;
         }
     }
     false
 }
 
-// Whether a statement can complete normally.
+// The same loops from outside of the innermost.
+#[tactic(auto, using(crate::proofs::Left::goes_out, crate::proofs::Left::joined))]
+fn outward(alloc: Global, left: &[usize]) -> Result<Vec<usize>, AllocError>
+    ensures { IfOk result (λ r. r.items ≡ the_outward left.now) }
+{
+    let mut outer = Vec::new(alloc);
+    for n in left {
+        if *n > 0 {
+            outer.push(*n - 1)?;
+        }
+    }
+    Ok(outer)
+}
+
 #[cycle(completion)]
-#[tactic(auto, using(crate::proofs::Blocks::block_read))]
-fn can_complete(s: &Statement) -> bool
-    ensures { result ≡ the_can_complete (plain_statement s.now) }
+#[tactic(auto, using(crate::proofs::Blocks::block_read, crate::proofs::Left::left_broken))]
+fn ways_of(alloc: Global, s: &Statement) -> Result<Ways, AllocError>
+    ensures completes { IfOk result (λ w. w.completes ≡ the_can_complete (plain_statement s.now)) }
+    ensures left { IfOk result (λ w. w.left.items ≡ the_left (plain_statement s.now)) }
 {
     match s {
-        Statement::Block(ss) => all_complete(ss),
-        Statement::If(_, a, b) => can_complete(a) || can_complete(b),
-        Statement::While(c, s) => !is_true(c) || breaks(0, s),
-        Statement::Break(_)
-        | Statement::Continue(_)
-        | Statement::ReturnNothing
-        | Statement::ReturnValue(_) => false,
-        Statement::Try(b, f) => can_complete(b) && can_complete(f),
+        Statement::Block(ss) => all_ways(alloc, ss),
+        Statement::If(_, a, b) => {
+            let Ways {
+                completes: first,
+                mut left,
+            } = ways_of(alloc, a)?;
+            let Ways {
+                completes: second,
+                left: more,
+            } = ways_of(alloc, b)?;
+            left.extend_from_slice(&more)?;
+            Ok(Ways {
+                completes: first || second,
+                left,
+            })
+        }
+        Statement::While(c, s) => {
+            let Ways { completes: _, left } = ways_of(alloc, s)?;
+            let completes = !is_true(c) || has_innermost(&left);
+            let left = outward(alloc, &left)?;
+            Ok(Ways { completes, left })
+        }
+        Statement::Break(n) => {
+            let mut left = Vec::new(alloc);
+            left.push(*n)?;
+            Ok(Ways {
+                completes: false,
+                left,
+            })
+        }
+        Statement::Continue(_) | Statement::ReturnNothing | Statement::ReturnValue(_) => {
+            Ok(Ways {
+                completes: false,
+                left: Vec::new(alloc),
+            })
+        }
+        Statement::Try(b, f) => {
+            let Ways {
+                completes: body,
+                left: within,
+            } = ways_of(alloc, b)?;
+            let Ways {
+                completes: finally,
+                left: last,
+            } = ways_of(alloc, f)?;
+            let mut left = if finally { within } else { Vec::new(alloc) };
+            left.extend_from_slice(&last)?;
+            Ok(Ways {
+                completes: body && finally,
+                left,
+            })
+        }
         Statement::SetSlot(..)
         | Statement::SetField { .. }
         | Statement::SetItem { .. }
-        | Statement::Evaluate(_) => true,
+        | Statement::Evaluate(_) => Ok(Ways {
+            completes: true,
+            left: Vec::new(alloc),
+        }),
     }
 }
 
-/// Whether statements, one after another, can complete normally.
 #[cycle(completion)]
-pub fn all_complete(ss: &[Statement]) -> bool
-    ensures { result ≡ the_all_complete (sequence (map plain_statement ss.now)) }
+#[tactic(auto, using(crate::proofs::Left::joined))]
+fn all_ways(alloc: Global, ss: &[Statement]) -> Result<Ways, AllocError>
+    ensures completes { IfOk result (λ w. w.completes ≡ the_all_complete (sequence (map plain_statement ss.now))) }
+    ensures left { IfOk result (λ w. w.left.items ≡ the_all_left (sequence (map plain_statement ss.now))) }
 {
+    let mut completes = true;
+    let mut left = Vec::new(alloc);
     for s in ss {
-        if !can_complete(s) {
-            return false;
-        }
+        let Ways {
+            completes: this,
+            left: more,
+        } = ways_of(alloc, s)?;
+        completes = completes && this;
+        left.extend_from_slice(&more)?;
     }
-    true
+    Ok(Ways { completes, left })
+}
+
+/// Whether statements, one after another, can complete normally.
+pub fn all_complete(alloc: Global, ss: &[Statement]) -> Result<bool, AllocError>
+    ensures { IfOk result (λ r. r ≡ the_all_complete (sequence (map plain_statement ss.now))) }
+{
+    let Ways { completes, left: _ } = all_ways(alloc, ss)?;
+    Ok(completes)
 }

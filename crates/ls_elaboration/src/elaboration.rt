@@ -14,8 +14,8 @@ use crate::signs::{class_names, class_signs};
 use indexmap::{IndexMap, IndexSet};
 use ls_checked::tree::{Class, File, Method};
 use ls_events::value::ValueType;
-use ls_parser::tree;
-use ls_parser::tree::ClassFile;
+use ls_tree::tree;
+use ls_tree::tree::ClassFile;
 use std::alloc::{AllocError, Global};
 
 /// The names of the classes, what they declare, and the checked file.

@@ -17,7 +17,7 @@ use crate::static_types::{Static, Typed, as_array, as_type, as_value, result_typ
 use ls_checked::tree::{Expression, Expressions};
 use ls_events::value::{Value, ValueType};
 use ls_lexer::token::Span;
-use ls_parser::tree::{BinaryOp, Expr, Name};
+use ls_tree::tree::{BinaryOp, Expr, Name};
 use std::alloc::{AllocError, Global};
 
 /// The value of decimal digits, no number being above 2147483648.

@@ -18,7 +18,7 @@ pub struct Local<'t> {
 }
 
 /// A method: its number in the file, the types of its parameters, and the type that it answers, which is none where it is void.
-#[derive(Debug, Drop)]
+#[derive(Drop)]
 pub struct MethodSign {
     pub number: usize,
     pub parameters: Vec<ValueType>,
@@ -27,7 +27,7 @@ pub struct MethodSign {
 
 /// What a class declares, by name, and the number of its constructor with the types of its parameters. A field's number is its
 /// index.
-#[derive(Debug, Drop)]
+#[derive(Drop)]
 pub struct ClassSign {
     pub fields: IndexMap<String, ValueType>,
     pub methods: IndexMap<String, MethodSign>,

@@ -13,7 +13,7 @@ use crate::rule::{Broken, Rule, broken_at};
 use crate::static_types::Static;
 use ls_checked::tree::{Called, Expression, Expressions};
 use ls_events::value::ValueType;
-use ls_parser::tree::Name;
+use ls_tree::tree::Name;
 use std::alloc::{AllocError, Global};
 
 /// What may be called, the types of its arguments, and that of its result.

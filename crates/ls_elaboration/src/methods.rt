@@ -17,7 +17,7 @@ use crate::scope::{Context, Scope, may_declare, result_of, type_of, with_variabl
 use crate::statements::{all_items, block_of};
 use ls_checked::tree::{Expression, Method, Statement};
 use ls_events::value::ValueType;
-use ls_parser::tree::{
+use ls_tree::tree::{
     BlockItem, Constructor, Declarator, Member, Method as MethodText, Name, Parameter,
 };
 use std::alloc::{AllocError, Global};
@@ -140,7 +140,7 @@ fn method<'t>(
     };
     let scope = kept!(parameters(context, scope, ps)?);
     let scope = kept!(all_items(alloc, context, &[], scope, items)?);
-    if answers.is_some() && all_complete(&scope.statements) {
+    if answers.is_some() && all_complete(alloc, &scope.statements)? {
         return Ok(Err(broken_at(Rule::MissingReturn, name.span)));
     }
     Ok(Ok(Method {

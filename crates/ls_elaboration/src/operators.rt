@@ -1,7 +1,7 @@
 // The operators on operands that are typed.
 
 ghost use Rattle.std.specs.Prelude.{◌≡◌, IfOk, if◌then◌else◌};
-ghost use Rattle.ls_parser.specs.declared.tree.BinaryOp.TheVariants.{And as and_written, Or as or_written};
+ghost use Rattle.ls_tree.specs.declared.tree.BinaryOp.TheVariants.{And as and_written, Or as or_written};
 ghost use Rattle.ls_elaboration.specs.Operators.{unary_of as the_unary, binary_of as the_binary, computed as the_computed, compared as the_compared};
 ghost use Rattle.ls_elaboration.specs.Answers.{typed_of, seen_typed};
 
@@ -10,7 +10,7 @@ use crate::static_types::{Typed, as_type, as_value, comparable, typed_as};
 use ls_checked::tree::{Expression, Operator};
 use ls_events::value::ValueType;
 use ls_lexer::token::Span;
-use ls_parser::tree::{BinaryOp, UnaryOp};
+use ls_tree::tree::{BinaryOp, UnaryOp};
 use std::alloc::{AllocError, Global};
 
 /// A unary operator on an operand that stands at `span`.

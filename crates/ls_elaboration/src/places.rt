@@ -5,7 +5,7 @@ ghost use Rattle.ls_elaboration.specs.Trees.{span_of as the_span};
 ghost use Rattle.ls_elaboration.specs.Placed.{placed};
 
 use ls_lexer::token::Span;
-use ls_parser::tree::Expr;
+use ls_tree::tree::Expr;
 
 pub fn span_of(e: &Expr) -> Span
     ensures { result ≡ the_span (placed e.now) }

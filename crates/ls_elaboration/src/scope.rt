@@ -20,7 +20,7 @@ use indexmap::IndexSet;
 use ls_checked::tree::{Expression, Statement};
 use ls_events::value::{Value, ValueType};
 use ls_lexer::token::Span;
-use ls_parser::tree::{Declaration, Declarator, Expr, Name, Type};
+use ls_tree::tree::{Declaration, Declarator, Expr, Name, Type};
 use std::alloc::{AllocError, Global};
 
 /// The most slots of a method: `this`, parameters and locals.

@@ -12,7 +12,7 @@ use crate::rule::{Broken, Rule, broken_at};
 use crate::scope::{MOST_SLOTS, result_of, type_of};
 use indexmap::{IndexMap, IndexSet};
 use ls_events::value::ValueType;
-use ls_parser::tree::{Class, Declaration, Declarator, Member, Name, Parameter};
+use ls_tree::tree::{Class, Declaration, Declarator, Member, Name, Parameter};
 use std::alloc::{AllocError, Global};
 
 pub const MOST_CLASSES: usize = 64;

@@ -22,8 +22,8 @@ use crate::scope::{Context, Scope, declaration};
 use ls_checked::tree::Statement;
 use ls_events::value::ValueType;
 use ls_lexer::token::Span;
-use ls_parser::tree;
-use ls_parser::tree::{BlockItem, Expr, Name};
+use ls_tree::tree;
+use ls_tree::tree::{BlockItem, Expr, Name};
 use std::alloc::{AllocError, Global};
 
 /// A statement, and the types of the method's slots behind it.

@@ -143,12 +143,12 @@ module _ (s : Setting) (enter : EnterRuns s) where
         (λ y z ls1 q1 e1 l1. object_run s (act.AttemptMark x y (bool_of z)) (then.Settle 3) c op.AttemptMark x ls1 (z ∷ y ∷ x ∷ stack) stack q1 go h (behind_two s a b (p + size e) (op.AttemptMark ∷ []) back).0 refl (λ w. refl) (omega arith) e1 (fewer s (p + (size e + size a + size b + 1)) (c + 1) stack q q1 go (omega arith) (omega arith) takes) (narrow s p (p + (size e + size a + size b + 1)) c (c + 1) q q1 h (omega arith) (omega arith) (omega arith) catches)))
     runs (OnLock o e) p ls stack q go h has fits room le el takes catches =
         let c = p + size e in
-        first_run s e p (lock_code o) (λ x ls q. unless_null x ls q (operate_lock o x ls q)) ls stack q go h (runs e p) has fits room (omega arith) el (narrow s p (p + (size e + lock_size o)) p c q q h (omega arith) (omega arith) (omega arith) catches)
-        (λ x ls1 q1 e1 l1. lock_run s o c x ls1 stack q1 go h (behind s e p (lock_code o) has) (omega arith) (omega (arith, one_need e)) e1 (fewer s (p + (size e + lock_size o)) (c + lock_size o) stack q q1 go (omega arith) l1 takes) (narrow s p (p + (size e + lock_size o)) c (c + lock_size o) q q1 h (omega arith) (omega arith) l1 catches))
+        first_run s e p (lock_code (p + size e) o) (λ x ls q. unless_null x ls q (operate_lock o x ls q)) ls stack q go h (runs e p) has fits (omega arith) (omega arith) el (narrow s p (p + (size e + lock_size o)) p c q q h (omega arith) (omega arith) (omega arith) catches)
+        (λ x ls1 q1 e1 l1. lock_run s o c x ls1 stack q1 go h (behind s e p (lock_code (p + size e) o) has) (omega arith) (omega (arith, one_need e)) e1 (fewer s (p + (size e + lock_size o)) (c + lock_size o) stack q q1 go (omega arith) l1 takes) (narrow s p (p + (size e + lock_size o)) c (c + lock_size o) q q1 h (omega arith) (omega arith) l1 catches))
     runs (OnLockWord o e) p ls stack q go h has fits room le el takes catches =
         let c = p + size e in
-        first_run s e p (lock_code o) (λ x ls q. unless_null x ls q (operate_lock o x ls q)) ls stack q go h (runs e p) has fits room (omega arith) el (narrow s p (p + (size e + lock_size o)) p c q q h (omega arith) (omega arith) (omega arith) catches)
-        (λ x ls1 q1 e1 l1. lock_run s o c x ls1 stack q1 go h (behind s e p (lock_code o) has) (omega arith) (omega (arith, one_need e)) e1 (fewer s (p + (size e + lock_size o)) (c + lock_size o) stack q q1 go (omega arith) l1 takes) (narrow s p (p + (size e + lock_size o)) c (c + lock_size o) q q1 h (omega arith) (omega arith) l1 catches))
+        first_run s e p (lock_code (p + size e) o) (λ x ls q. unless_null x ls q (operate_lock o x ls q)) ls stack q go h (runs e p) has fits (omega arith) (omega arith) el (narrow s p (p + (size e + lock_size o)) p c q q h (omega arith) (omega arith) (omega arith) catches)
+        (λ x ls1 q1 e1 l1. lock_run s o c x ls1 stack q1 go h (behind s e p (lock_code (p + size e) o) has) (omega arith) (omega (arith, one_need e)) e1 (fewer s (p + (size e + lock_size o)) (c + lock_size o) stack q q1 go (omega arith) l1 takes) (narrow s p (p + (size e + lock_size o)) c (c + lock_size o) q q1 h (omega arith) (omega arith) l1 catches))
     runs (Call m e es) p ls stack q go h has0 fits room le el takes catches =
         let has = has_two s.code.instructions p (code p e) (all_code (p + size e) es) (op.Enter m ∷ []) has0 in
         let d = p + size e in

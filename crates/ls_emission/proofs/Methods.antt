@@ -17,7 +17,8 @@ use Rattle.ls_code.specs.Throws.{find_row, thrown}
 use Rattle.ls_code.specs.Moves.{Beyond}
 use Rattle.ls_code.specs.Calls.{CallMove, Calls as Enters, CallThrows, CallStuck, with_callee}
 use Rattle.ls_code.specs.Steps.{thrown_thread, call_move, found_move, thread_move}
-use Rattle.ls_code.specs.Fed.{Fed, fed, Paused, resume}
+use Rattle.ls_code.specs.Fed.{Fed, Paused}
+use Rattle.ls_code.specs.Reading.{fed, resume}
 use Rattle.ls_lowered.specs.LoweredTree.{File}
 use Rattle.ls_lowered.specs.Course.{Answers, Course, Asks, Ends, Stuck, Throws, returned}
 use Rattle.ls_lowered.specs.Statements.{Completion, execute}

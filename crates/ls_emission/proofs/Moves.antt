@@ -50,11 +50,11 @@ module _ (start : ℕ) where
   binary_stays binary.NotEqual = refl
   binary_stays binary.Pack = refl
 
-  lock_stays : (o : LockOperation) → map (moved start) (lock_code o) ≡ lock_code o
-  lock_stays Lock = refl
-  lock_stays Unlock = refl
-  lock_stays TryLock = refl
-  lock_stays IsHeld = refl
+  lock_stays : (o : LockOperation) (p q : ℕ) → q ≡ start + p → map (moved start) (lock_code p o) ≡ lock_code q o
+  lock_stays Lock p q e = cons (op.See 1) _ (op.Take 1 ∷ op.JumpIfFalse p ∷ op.Pop ∷ op.Push 0 ∷ []) _ refl (cons (op.Take 1) _ (op.JumpIfFalse p ∷ op.Pop ∷ op.Push 0 ∷ []) _ refl (cons (op.JumpIfFalse p) _ (op.Pop ∷ op.Push 0 ∷ []) _ (jump_if_false p q e) refl))
+  lock_stays Unlock p q e = refl
+  lock_stays TryLock p q e = refl
+  lock_stays IsHeld p q e = refl
 
   mutual
     pub moves : (e : Expression) (p q : ℕ) → q ≡ start + p → map (moved start) (code p e) ≡ code q e
@@ -84,8 +84,8 @@ module _ (start : ℕ) where
     moves (SetPair e a) p q x = join (code p e ++ code (p + size e) a) (code q e ++ code (q + size e) a) (op.SetPair ∷ op.Push 0 ∷ []) (op.SetPair ∷ op.Push 0 ∷ []) (join (code p e) (code q e) (code (p + size e) a) (code (q + size e) a) (moves e p q x) (moves a (p + size e) (q + size e) (omega arith))) refl
     moves (SwapPair e a b) p q x = last (code p e ++ code (p + size e) a ++ code (p + size e + size a) b) (code q e ++ code (q + size e) a ++ code (q + size e + size a) b) op.SwapPair (join (code p e ++ code (p + size e) a) (code q e ++ code (q + size e) a) (code (p + size e + size a) b) (code (q + size e + size a) b) (join (code p e) (code q e) (code (p + size e) a) (code (q + size e) a) (moves e p q x) (moves a (p + size e) (q + size e) (omega arith))) (moves b (p + size e + size a) (q + size e + size a) (omega arith))) refl
     moves (AttemptMark e a b) p q x = last (code p e ++ code (p + size e) a ++ code (p + size e + size a) b) (code q e ++ code (q + size e) a ++ code (q + size e + size a) b) op.AttemptMark (join (code p e ++ code (p + size e) a) (code q e ++ code (q + size e) a) (code (p + size e + size a) b) (code (q + size e + size a) b) (join (code p e) (code q e) (code (p + size e) a) (code (q + size e) a) (moves e p q x) (moves a (p + size e) (q + size e) (omega arith))) (moves b (p + size e + size a) (q + size e + size a) (omega arith))) refl
-    moves (OnLock o e) p q x = join (code p e) (code q e) (lock_code o) (lock_code o) (moves e p q x) (lock_stays o)
-    moves (OnLockWord o e) p q x = join (code p e) (code q e) (lock_code o) (lock_code o) (moves e p q x) (lock_stays o)
+    moves (OnLock o e) p q x = join (code p e) (code q e) (lock_code (p + size e) o) (lock_code (q + size e) o) (moves e p q x) (lock_stays o (p + size e) (q + size e) (omega arith))
+    moves (OnLockWord o e) p q x = join (code p e) (code q e) (lock_code (p + size e) o) (lock_code (q + size e) o) (moves e p q x) (lock_stays o (p + size e) (q + size e) (omega arith))
     moves (Call m e es) p q x = last (code p e ++ all_code (p + size e) es) (code q e ++ all_code (q + size e) es) (op.Enter m) (join (code p e) (code q e) (all_code (p + size e) es) (all_code (q + size e) es) (moves e p q x) (all_move es (p + size e) (q + size e) (omega arith))) refl
     moves (MakeObject c m es) p q x =
         cons (op.NewObject c) (op.NewObject c) (op.Dup ∷ (all_code (p + 2) es ++ op.Enter m ∷ op.Pop ∷ [])) (op.Dup ∷ (all_code (q + 2) es ++ op.Enter m ∷ op.Pop ∷ [])) refl

@@ -36,11 +36,11 @@ has_three whole p a b c d h = has_two whole p a b (c ++ d) (has_two whole p (a +
 pub has_at : (whole : List Instruction) (p q : ℕ) (a : List Instruction) → p ≡ q → HasAt whole p a → HasAt whole q a
 has_at whole p q a e h = subst (λ m. HasAt whole m a) e h
 
-lock_size_is : (o : LockOperation) → length (lock_code o) ≡ lock_size o
-lock_size_is Lock = refl
-lock_size_is Unlock = refl
-lock_size_is TryLock = refl
-lock_size_is IsHeld = refl
+lock_size_is : (o : LockOperation) (p : ℕ) → length (lock_code p o) ≡ lock_size o
+lock_size_is Lock p = refl
+lock_size_is Unlock p = refl
+lock_size_is TryLock p = refl
+lock_size_is IsHeld p = refl
 
 -- two parts
 both : (a b : List Instruction) (m n : ℕ) → length a ≡ m → length b ≡ n → length (a ++ b) ≡ m + n
@@ -64,8 +64,8 @@ mutual
   size_is (SetPair e a) p = simp (length-append, size_is e p, size_is a (p + size e)) (omega arith)
   size_is (SwapPair e a b) p = simp (length-append, size_is e p, size_is a (p + size e), size_is b (p + size e + size a)) (omega arith)
   size_is (AttemptMark e a b) p = simp (length-append, size_is e p, size_is a (p + size e), size_is b (p + size e + size a)) (omega arith)
-  size_is (OnLock o e) p = both (code p e) (lock_code o) _ _ (size_is e p) (lock_size_is o)
-  size_is (OnLockWord o e) p = both (code p e) (lock_code o) _ _ (size_is e p) (lock_size_is o)
+  size_is (OnLock o e) p = both (code p e) (lock_code (p + size e) o) _ _ (size_is e p) (lock_size_is o (p + size e))
+  size_is (OnLockWord o e) p = both (code p e) (lock_code (p + size e) o) _ _ (size_is e p) (lock_size_is o (p + size e))
   size_is (Call m e es) p = simp (length-append, size_is e p, all_size_is es (p + size e)) (omega arith)
   size_is (MakeObject c m es) p = simp (length-append, all_size_is es (p + 2)) (omega arith)
   size_is MakeLock p = refl

@@ -1,5 +1,5 @@
 -- What the instructions of a statement do behind its expressions.
-use Rattle.std.proofs.Common.{◌≡◌, ℕ, zero, suc, ◌+◌, ◌<◌, ◌≤◌, List, [], ◌∷◌, ◌++◌, length, Option, Some, None, refl, sym, ap, ◌∙◌, arith, slice_get, nat_eq, if◌then◌else◌}
+use Rattle.std.proofs.Common.{◌≡◌, ℕ, zero, suc, ◌+◌, ◌<◌, ◌≤◌, List, [], ◌∷◌, ◌++◌, length, Option, Some, None, refl, sym, ap, ◌∙◌, arith, slice_get, nat_eq, if◌then◌else◌, Bool, true, false}
 use Rattle.ls_events.specs.declared.kind.Kind.{Kind}
 use Rattle.ls_events.specs.declared.kind.Kind.TheVariants.{NullPointer}
 use Rattle.ls_events.specs.declared.action.Action.{Action}
@@ -14,7 +14,8 @@ use Rattle.ls_code.specs.declared.instruction.Resume.TheVariants as then
 use Rattle.ls_code.specs.Calls.{left_with}
 use Rattle.ls_code.specs.Moves.{FrameMove, Asks as FrameAsks, Beyond, frame_move, resumed}
 use Rattle.ls_code.specs.Steps.{Still, thread_move, on_kind, throw_move}
-use Rattle.ls_code.specs.Fed.{Fed, Lost, carry, quiet, passed, resume, TooLong}
+use Rattle.ls_code.specs.Fed.{Fed, Lost, TooLong}
+use Rattle.ls_code.specs.Reading.{carry, begins_early, read_move, quiet, resume}
 use Rattle.ls_lowered.specs.LoweredTree.{Expression}
 use Rattle.ls_lowered.specs.Words.{kind_of}
 use Rattle.ls_lowered.specs.Course.{Answers, Course, Ends, Results, finish, ask, perform, unless_null}
@@ -61,10 +62,10 @@ module _ (s : Setting) where
       silent s c ls (w ∷ ops) (left_with (here s c ls (w ∷ ops)) s.base.below w) q o (move_at s.code s.number s.bound s.base c ls (w ∷ ops) op.LeaveWith (Beyond wide.LeaveWith) has refl) lt r
 
   stuck : (c : ℕ) (ls ops : List ℕ) (q : Answers) → thread_move s.code (here s c ls ops) ≡ Still → (n : ℕ) → fed_from s.code s.number s.bound n (Some (here s c ls ops)) q ≡ Lost
-  stuck c ls ops [] e zero = ap (λ m. resume s.code s.number s.bound [] (passed s.code s.number s.bound (carry s.number m (λ t. TooLong)))) e
-  stuck c ls ops (x ∷ q) e zero = ap (λ m. resume s.code s.number s.bound (x ∷ q) (passed s.code s.number s.bound (carry s.number m (λ t. TooLong)))) e
-  stuck c ls ops [] e (suc n) = ap (λ m. resume s.code s.number s.bound [] (passed s.code s.number s.bound (carry s.number m (quiet s.code s.number n)))) e
-  stuck c ls ops (x ∷ q) e (suc n) = ap (λ m. resume s.code s.number s.bound (x ∷ q) (passed s.code s.number s.bound (carry s.number m (quiet s.code s.number n)))) e
+  stuck c ls ops [] e zero = ap (λ m. resume s.code s.number s.bound [] (carry false (begins_early m) (read_move s.code s.number (here s c ls ops) m) (λ t. TooLong))) e
+  stuck c ls ops (x ∷ q) e zero = ap (λ m. resume s.code s.number s.bound (x ∷ q) (carry false (begins_early m) (read_move s.code s.number (here s c ls ops) m) (λ t. TooLong))) e
+  stuck c ls ops [] e (suc n) = ap (λ m. resume s.code s.number s.bound [] (carry true (begins_early m) (read_move s.code s.number (here s c ls ops) m) (quiet s.code s.number n))) e
+  stuck c ls ops (x ∷ q) e (suc n) = ap (λ m. resume s.code s.number s.bound (x ∷ q) (carry true (begins_early m) (read_move s.code s.number (here s c ls ops) m) (quiet s.code s.number n))) e
 
   -- the kind of a word is thrown, if it is a kind's
   kind_run : (o : Option Kind) (c w : ℕ) (ls : List ℕ) (q : Answers) (g : Go) → thread_move s.code (here s c ls (w ∷ [])) ≡ on_kind o (λ kind. throw_move s.code (here s c ls (w ∷ [])) kind) → c < s.budget → ((kind : Kind) → Reaches s (c + 1) (raised s kind c ls (w ∷ [])) q (g (Threw kind) ls q)) → Reaches s c (Some (here s c ls (w ∷ []))) q (end (throw o ls q) g)

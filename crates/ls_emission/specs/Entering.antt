@@ -8,7 +8,8 @@ use Rattle.ls_code.specs.Thread.{Thread, with_top}
 use Rattle.ls_code.specs.Moves.{pushed}
 use Rattle.ls_code.specs.Throws.{thrown}
 use Rattle.ls_code.specs.Steps.{thrown_thread}
-use Rattle.ls_code.specs.Fed.{Fed, fed, resume, passed, carry_on, quiet}
+use Rattle.ls_code.specs.Fed.{Fed, carry_on}
+use Rattle.ls_code.specs.Reading.{fed, resume, quiet}
 use Rattle.ls_code.specs.Fed as fed
 use Rattle.ls_code.specs.declared.instruction.Instruction.TheVariants as op
 use Rattle.ls_code.specs.declared.step.Mode.TheVariants as mode
@@ -26,7 +27,7 @@ told_by Lost go h = fed.Lost
 
 -- a fed thread, or one that is stuck
 abbrev pub fed_from : Code → ℕ → ℕ → ℕ → Option Thread → Answers → Fed
-fed_from c number bound n t answers = resume c number bound answers (passed c number bound (carry_on t (quiet c number n)))
+fed_from c number bound n t answers = resume c number bound answers (carry_on t (quiet c number n))
 
 -- the thread behind its entering instruction, with the word that the method gave on these operands
 abbrev pub given_back : Thread → List ℕ → ℕ → Thread

@@ -32,16 +32,16 @@ binary_code binary.NotEqual = op.Ne
 binary_code binary.Pack = op.Pack
 
 -- an operation that gives no word leaves 0
-abbrev pub lock_code : LockOperation → List Instruction
-lock_code Lock = op.Lock ∷ op.Push 0 ∷ []
-lock_code Unlock = op.Unlock ∷ op.Push 0 ∷ []
-lock_code TryLock = op.TryLock ∷ []
-lock_code IsHeld = op.IsHeld ∷ []
+abbrev pub lock_code : ℕ → LockOperation → List Instruction
+lock_code p Lock = op.See 1 ∷ op.Take 1 ∷ op.JumpIfFalse p ∷ op.Pop ∷ op.Push 0 ∷ []
+lock_code p Unlock = op.See 3 ∷ op.DropLock ∷ op.Push 0 ∷ []
+lock_code p TryLock = op.See 2 ∷ op.Take 2 ∷ op.Pack ∷ op.MarkOf ∷ []
+lock_code p IsHeld = op.IsHeld ∷ []
 
 abbrev pub lock_size : LockOperation → ℕ
-lock_size Lock = 2
-lock_size Unlock = 2
-lock_size TryLock = 1
+lock_size Lock = 5
+lock_size Unlock = 3
+lock_size TryLock = 4
 lock_size IsHeld = 1
 
 -- how many instructions
@@ -97,8 +97,8 @@ abbrev mutual
   code p (SetPair e a) = code p e ++ code (p + size e) a ++ op.SetPair ∷ op.Push 0 ∷ []
   code p (SwapPair e a b) = code p e ++ code (p + size e) a ++ code (p + size e + size a) b ++ op.SwapPair ∷ []
   code p (AttemptMark e a b) = code p e ++ code (p + size e) a ++ code (p + size e + size a) b ++ op.AttemptMark ∷ []
-  code p (OnLock o e) = code p e ++ lock_code o
-  code p (OnLockWord o e) = code p e ++ lock_code o
+  code p (OnLock o e) = code p e ++ lock_code (p + size e) o
+  code p (OnLockWord o e) = code p e ++ lock_code (p + size e) o
   code p (Call m e es) = code p e ++ all_code (p + size e) es ++ op.Enter m ∷ []
   code p (MakeObject c m es) = op.NewObject c ∷ op.Dup ∷ all_code (p + 2) es ++ op.Enter m ∷ op.Pop ∷ []
   code p MakeLock = op.NewLock ∷ []

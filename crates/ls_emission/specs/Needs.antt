@@ -20,8 +20,8 @@ abbrev mutual
   need (SetPair e a) = max (need e) (1 + need a)
   need (SwapPair e a b) = max (need e) (max (1 + need a) (2 + need b))
   need (AttemptMark e a b) = max (need e) (max (1 + need a) (2 + need b))
-  need (OnLock op e) = need e
-  need (OnLockWord op e) = need e
+  need (OnLock op e) = need e + 1
+  need (OnLockWord op e) = need e + 1
   need (Call m e es) = max (need e) (1 + all_need es)
   need (MakeObject c m es) = 2 + all_need es
   need MakeLock = 1

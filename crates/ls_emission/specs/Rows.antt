@@ -5,7 +5,8 @@ use Rattle.ls_events.specs.declared.action.Action.TheVariants as act
 use Rattle.ls_events.specs.declared.action.Answer.TheVariants.{Done as Answered, Gives, Fails}
 use Rattle.ls_code.specs.Code.{Code}
 use Rattle.ls_code.specs.Thread.{Thread}
-use Rattle.ls_code.specs.Fed.{Fed, fed}
+use Rattle.ls_code.specs.Fed.{Fed}
+use Rattle.ls_code.specs.Reading.{fed}
 use Rattle.ls_code.specs.Fed as fed
 use Rattle.ls_code.specs.declared.code.HandlerRow.{HandlerRow}
 use Rattle.ls_code.specs.declared.instruction.Instruction.{Instruction}

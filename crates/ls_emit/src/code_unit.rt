@@ -6,7 +6,7 @@ use std::marker::Model;
 
 /// A method's code as if it stood at place 0, its handler rows, its arguments (`this` among them), its further locals,
 /// and how many operands it needs.
-#[derive(Debug, Drop)]
+#[derive(Drop)]
 pub struct CodeUnit {
     pub instructions: Vec<Instruction>,
     pub handlers: Vec<HandlerRow>,

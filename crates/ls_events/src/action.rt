@@ -2,10 +2,11 @@
 // machine.
 
 use crate::kind::Kind;
+use std::alloc::AllocError;
 
 /// One atomic action of a thread. An object is named by its number, and by its address in the machine. Fields, classes,
 /// methods and setup names are numbered in text order from 0, a thread's calls from 1.
-#[derive(Clone, Copy, Debug, PartialEq, Eq)]
+#[derive(Copy)]
 pub enum Action<V> {
     ReadField {
         object: u64,
@@ -54,10 +55,22 @@ pub enum Action<V> {
     Trap(usize, Kind),
 }
 
+impl<V: Copy> Clone for Action<V> {
+    fn clone(&self) -> Result<Action<V>, AllocError> {
+        Ok(*self)
+    }
+}
+
 /// What an action is answered.
-#[derive(Clone, Copy, Debug, PartialEq, Eq)]
+#[derive(Copy)]
 pub enum Answer<V> {
     Done,
     Gives(V),
     Fails(Kind),
+}
+
+impl<V: Copy> Clone for Answer<V> {
+    fn clone(&self) -> Result<Answer<V>, AllocError> {
+        Ok(*self)
+    }
 }

@@ -1,7 +1,9 @@
 // The exceptions.
 
+use std::alloc::AllocError;
+
 /// An exception, by its class.
-#[derive(Clone, Copy, Debug, PartialEq, Eq)]
+#[derive(Copy, PartialEq, Eq)]
 pub enum Kind {
     Arithmetic,
     NullPointer,
@@ -10,4 +12,10 @@ pub enum Kind {
     IllegalMonitorState,
     StackOverflow,
     Error,
+}
+
+impl Clone for Kind {
+    fn clone(&self) -> Result<Kind, AllocError> {
+        Ok(*self)
+    }
 }

@@ -7,7 +7,7 @@ use std::marker::Model;
 pub const MOST_STEPS: usize = 1_000_000;
 
 /// Which thread takes each step of a run, by number: 0 is the setup. A number need not be that of a thread.
-#[derive(Debug, Drop)]
+#[derive(Drop)]
 pub struct Schedule {
     steps: Vec<usize>,
 }

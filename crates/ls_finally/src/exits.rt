@@ -17,11 +17,17 @@ pub enum Loops<'a> {
 }
 
 /// A jump out of a statement, past so many loops outside of it, or a return.
-#[derive(Clone, Copy, Debug)]
+#[derive(Copy)]
 pub enum Exit {
     Break(usize),
     Continue(usize),
     Return,
+}
+
+impl Clone for Exit {
+    fn clone(&self) -> Result<Exit, AllocError> {
+        Ok(*self)
+    }
 }
 
 /// How far a jump that leaves so many loops behind goes beyond these; none where its target is one of them.

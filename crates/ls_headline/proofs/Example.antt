@@ -24,14 +24,16 @@ use Rattle.ls_code.specs.Calls.{Calls, CallThrows, with_callee}
 use Rattle.ls_code.specs.Moves.{Throws as FrameThrows, Asks as FrameAsks}
 use Rattle.ls_code.specs.Steps.{call_move, of_frame, answered}
 use Rattle.ls_code.specs.Machine.{started}
-use Rattle.ls_code.specs.Fed.{Paused, quiet, passed, resume, fed}
+use Rattle.ls_code.specs.Fed.{Paused}
+use Rattle.ls_code.specs.Exchanges.{Says, Quietly, Touches, throwing, saw}
+use Rattle.ls_code.specs.Reading.{carry, quiet, resume, fed, planned_move, after_lock as goes_on}
 use Rattle.ls_code.specs.declared.code.Method.{Method}
 use Rattle.ls_code.specs.declared.code.CallResult.TheVariants as result
 use Rattle.ls_code.specs.declared.instruction.Resume.TheVariants.{Discard}
 use Rattle.ls_code.specs.declared.step.Mode.TheVariants as mode
 use Rattle.ls_headline.specs.InWords.{word_of, map_answer}
 use Rattle.ls_headline.specs.Sorts.{Suits, Suited, InKind}
-use Rattle.ls_headline.specs.Threads.{told, IsWhole, Asks, calls_of, at_least_one}
+use Rattle.ls_headline.specs.Threads.{told, Asks, calls_of, at_least_one}
 use Rattle.ls_headline.specs.Example.{file, program, code}
 use Rattle.ls_headline.proofs.Feeding.{asking}
 
@@ -39,7 +41,7 @@ abbrev words : Answers → List (Answer ℕ)
 words had = map (map_answer word_of) had
 
 abbrev bound : ℕ
-bound = 1216
+bound = 1408
 
 abbrev P : ℕ → ValueType → Type 0
 P n t = n < 2 ^ 32
@@ -55,7 +57,7 @@ abbrev in_setup : ℕ → List ℕ → Thread
 in_setup c operands = record { top = record { counter = c; locals = []; operands = operands; need = 2 }; below = []; mode = mode.Running; calls = result.Nothing ∷ []; ended = 0; pending = true }
 
 abbrev constructor_at : Method
-constructor_at = record { start = 18; arguments = 1; more = 0; need = 0 }
+constructor_at = record { start = 21; arguments = 1; more = 0; need = 0 }
 
 setup_enters : (n k : ℕ) → n ≢ 0 → quiet code 0 k (in_setup 3 (n ∷ n ∷ [])) ≡ Paused (act.Enter 1) (λ answer. Some (with_callee constructor_at (in_setup 3 (n ∷ n ∷ []))))
 setup_enters n k h =
@@ -63,7 +65,7 @@ setup_enters n k h =
     (ap (λ b. call_move code (in_setup 3 (n ∷ n ∷ [])) 1 (if b then CallThrows NullPointer else (if nat_lt 0 64 then Calls (with_callee constructor_at (in_setup 3 (n ∷ n ∷ []))) else CallThrows StackOverflow))) (not_null n h))
 
 setup_on : (x : Answer Value) (n : ℕ) (rest : Answers) → n ≢ 0 → fed code 0 bound bound (started setup_start) (words (x ∷ (Gives (Reference n) ∷ rest))) ≡ resume code 0 bound (words rest) (Paused (act.Enter 1) (λ answer. Some (with_callee constructor_at (in_setup 3 (n ∷ n ∷ [])))))
-setup_on x n rest h = ap (λ q. resume code 0 bound (words rest) (passed code 0 bound q)) (setup_enters n 1215 h)
+setup_on x n rest h = ap (λ q. resume code 0 bound (words rest) q) (setup_enters n 1407 h)
 
 setup_asks : (had : Answers) → InKind file program 0 had → fed code 0 bound bound (started setup_start) (words had) ≡ told (next file program 0 had)
 unfolding invoke depth_limit
@@ -93,27 +95,26 @@ abbrev lowest : List ℕ → Frame
 lowest operands = record { counter = 9; locals = []; operands = operands; need = 1 }
 
 abbrev method_at : Method
-method_at = record { start = 13; arguments = 1; more = 1; need = 1 }
+method_at = record { start = 13; arguments = 1; more = 1; need = 2 }
 
 abbrev locking : ℕ → ℕ → Thread
-locking n k = at_work (record { counter = 16; locals = n ∷ k ∷ []; operands = k ∷ []; need = 1 }) (lowest [] ∷ [])
+locking n k = at_work (record { counter = 16; locals = n ∷ k ∷ []; operands = k ∷ []; need = 2 }) (lowest [] ∷ [])
 
 work_enters : (n k : ℕ) → n ≢ 0 → quiet code 1 k (at_work (lowest (n ∷ [])) []) ≡ Paused (act.Enter 0) (λ answer. Some (with_callee method_at (at_work (lowest (n ∷ [])) [])))
 work_enters n k h =
     asking code 1 k (at_work (lowest (n ∷ [])) []) (act.Enter 0) _ refl
     (ap (λ b. call_move code (at_work (lowest (n ∷ [])) []) 0 (if b then CallThrows NullPointer else (if nat_lt 0 64 then Calls (with_callee method_at (at_work (lowest (n ∷ [])) [])) else CallThrows StackOverflow))) (not_null n h))
 
-work_locks : (n k j : ℕ) → k ≢ 0 → quiet code 1 j (locking n k) ≡ Paused (act.Lock k) (answered code (locking n k) (Discard 1))
+work_locks : (n k j : ℕ) → k ≢ 0 → quiet code 1 (suc j) (locking n k) ≡ Paused (act.Lock k) (goes_on code 1 (locking n k))
 work_locks n k j h =
-    asking code 1 j (locking n k) (act.Lock k) _ refl
-    (ap (λ b. of_frame code (locking n k) (if b then FrameThrows NullPointer else FrameAsks (act.Lock k) (Discard 1))) (not_null k h))
+    ap (λ b. carry true true (planned_move code 1 (locking n k) (if b then Says (Quietly (throwing code (locking n k) NullPointer)) else Touches (act.Lock k) (act.ReadPair k) (saw code (locking n k) 1 1 k))) (quiet code 1 j)) (not_null k h)
 
 work_on : (x : Answer Value) (n : ℕ) (rest : Answers) → n ≢ 0 → fed code 1 bound bound (started work_start) (words (x ∷ (Gives (Reference n) ∷ rest))) ≡ resume code 1 bound (words rest) (Paused (act.Enter 0) (λ answer. Some (with_callee method_at (at_work (lowest (n ∷ [])) []))))
-work_on x n rest h = ap (λ q. resume code 1 bound (words rest) (passed code 1 bound q)) (work_enters n 1216 h)
+work_on x n rest h = ap (λ q. resume code 1 bound (words rest) q) (work_enters n 1408 h)
 
-work_further : (x y : Answer Value) (n k : ℕ) (rest : Answers) → n ≢ 0 → k ≢ 0 → fed code 1 bound bound (started work_start) (words (x ∷ (Gives (Reference n) ∷ (y ∷ (Gives (Reference k) ∷ rest))))) ≡ resume code 1 bound (words rest) (Paused (act.Lock k) (answered code (locking n k) (Discard 1)))
+work_further : (x y : Answer Value) (n k : ℕ) (rest : Answers) → n ≢ 0 → k ≢ 0 → fed code 1 bound bound (started work_start) (words (x ∷ (Gives (Reference n) ∷ (y ∷ (Gives (Reference k) ∷ rest))))) ≡ resume code 1 bound (words rest) (Paused (act.Lock k) (goes_on code 1 (locking n k)))
 work_further x y n k rest h g =
-    work_on x n (y ∷ (Gives (Reference k) ∷ rest)) h ∙ ap (λ q. resume code 1 bound (words rest) (passed code 1 bound q)) (work_locks n k 1214 g)
+    work_on x n (y ∷ (Gives (Reference k) ∷ rest)) h ∙ ap (λ q. resume code 1 bound (words rest) q) (work_locks n k 1405 g)
 
 -- what the source does next after a name that isn't null, and after a lock
 abbrev entered : ℕ → Bool → Answers → Next
@@ -212,5 +213,4 @@ example_asks = record {
   threads = threads_all;
   names = refl;
   sizes = sizes_all;
-  whole = all_of IsWhole code.instructions (tt, (tt, (tt, (tt, (tt, (tt, (tt, (tt, (tt, (tt, (tt, (tt, (tt, (tt, (tt, (tt, (tt, (tt, (tt, tt)))))))))))))))))));
 }

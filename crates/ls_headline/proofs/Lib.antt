@@ -10,7 +10,12 @@ pub mod FieldCases
 pub mod ThingCases
 pub mod AllCases
 pub mod Answers
-pub mod Whole
+pub mod LockWords
+pub mod Codes
+pub mod PartsThere
+pub mod Others
+pub mod LockCells
+pub mod Middle
 pub mod StepBack
 pub mod StepForth
 pub mod Total

@@ -1,8 +1,10 @@
 -- One step of the machine, and what the source does for it.
-use Rattle.std.proofs.Common.{◌≡◌, ℕ, zero, suc, ◌+◌, ◌<◌, ◌≤◌, ◌^◌, Bool, true, false, ◌&&◌, ◌||◌, List, [], ◌∷◌, ◌++◌, length, map, Option, Some, None, refl, sym, ap, ◌∙◌, subst, arith, slice_get, slice_set, nat_eq, if◌then◌else◌}
+use Rattle.std.proofs.Common.{◌≡◌, ℕ, zero, suc, ◌+◌, ◌<◌, ◌≤◌, ◌^◌, ◌==◌, ◌≢◌, ◌⊎◌, inl, inr, Bool, true, false, ◌&&◌, ◌||◌, List, [], ◌∷◌, ◌++◌, length, map, Option, Some, None, refl, sym, ap, ◌∙◌, subst, arith, slice_get, slice_set, nat_eq, if◌then◌else◌}
+use Rattle.std.proofs.lemmas.Bool.Decides.{eqb_tells}
 use Rattle.ls_events.specs.declared.event.Event.{Event}
 use Rattle.ls_events.specs.declared.value.Value.{Value}
 use Rattle.ls_events.specs.declared.value.ValueType.{ValueType}
+use Rattle.ls_events.specs.declared.value.ValueType.TheVariants as type
 use Rattle.ls_events.specs.declared.action.Action.{Action}
 use Rattle.ls_events.specs.declared.action.Answer.{Answer}
 use Rattle.ls_checked.specs.CheckedTree.{File}
@@ -21,14 +23,32 @@ use Rattle.ls_code.specs.Cells.{Cells}
 use Rattle.ls_code.specs.Cells as cells
 use Rattle.ls_code.specs.Steps.{Move, Silent, Still, Asks as MoveAsks, Plans, thread_move}
 use Rattle.ls_code.specs.Steps as machine_steps
-use Rattle.ls_code.specs.Fed.{Pause, Paused, Passes, IsOver, IsStuck, TooLong, quiet, quiet_from, passed, resume}
+use Rattle.ls_code.specs.Fed.{Pause, Paused, Passes, IsOver, IsStuck, TooLong}
+use Rattle.ls_code.specs.Locks.{taken_of, left_of, is_own}
+use Rattle.ls_code.specs.declared.lock_word.Taken.{Taken}
+use Rattle.ls_code.specs.declared.lock_word.Taken.TheVariants as taken
+use Rattle.ls_code.specs.declared.lock_word.Left.{Left}
+use Rattle.ls_code.specs.declared.lock_word.Left.TheVariants as left
+use Rattle.ls_code.specs.declared.step.Did.TheVariants as did
+use Rattle.ls_code.specs.Exchanges.{throwing}
+use Rattle.ls_events.specs.declared.kind.Kind.TheVariants.{IllegalMonitorState, Error}
+use Rattle.ls_events.specs.declared.action.Action.TheVariants as act
+use Rattle.ls_events.specs.declared.action.Answer.TheVariants.{Done as AnswerDone, Gives, Fails}
+use Rattle.ls_meaning.specs.Store.{Thing}
+use Rattle.ls_code.specs.Reading.{seen, exchanged, full_word, word_of_another, after_lock, after_try, after_unlock, whole_move, quiet, quiet_from, resume}
+use Rattle.ls_headline.specs.Parts.{one, LockParts, TryParts, UnlockParts, IsPlanned, Parts}
+use Rattle.ls_headline.proofs.PartsThere.{parts_are_there}
+use Rattle.ls_headline.proofs.LockWords.{Fresh, fresh_now, lost_other, full_now, own_left, not_left}
+use Rattle.ls_headline.proofs.LockCells.{lock_is, unlock_is, store_is, won_is, lost_is, another_is, full_is}
+use Rattle.ls_headline.proofs.Others.{Sees, lock_on, lock_word, lock_renamed, renamed_lock, lock_named, LockNamed, sees_kept, word_there}
+use Rattle.ls_headline.proofs.Middle.{Middle, Here, Saw, Lost, Told, OwnFor, same_mode, middle_kept}
 use Rattle.ls_code.specs.Machine.{Machine, Entry, started, is_running, setup_ended, is_due, due_step, open_step, machine_step, machine_run, machine_trace}
 use Rattle.ls_code.specs.Machine as machine
 use Rattle.ls_code.specs.declared.step.Mode.{Mode}
 use Rattle.ls_code.specs.declared.step.Mode.TheVariants as mode
 use Rattle.ls_headline.specs.InWords.{word_of, written, map_action, map_answer, in_words}
 use Rattle.ls_meaning.specs.Renamings.{renamed}
-use Rattle.ls_headline.specs.Sorts.{Refers, ActionHas, Suits, InKind, Known}
+use Rattle.ls_headline.specs.Sorts.{Names, Refers, ActionHas, Suits, InKind, Known}
 use Rattle.ls_headline.specs.Threads.{told, Asks}
 use Rattle.ls_headline.proofs.Meaning.{Means}
 use Rattle.ls_meaning.specs.Renamings.{renamed_next}
@@ -37,10 +57,9 @@ use Rattle.ls_headline.specs.Same.{total}
 use Rattle.ls_headline.proofs.Lists.{set_here, index_there, get_within, each_set, map_end, length-set}
 use Rattle.ls_headline.proofs.Runs.{stepped_so, md}
 use Rattle.ls_headline.proofs.LiftBack
-use Rattle.ls_headline.proofs.Feeding.{IsLoud, silent_keeps, asking, ended, stand, told_one, resumed, stand-append, passed_loud, Stands}
-use Rattle.ls_headline.proofs.Whole.{NoPlan, no_plan}
+use Rattle.ls_headline.proofs.Feeding.{IsLoud, silent_keeps, asking, beginning, asked_by, silent_is, still, NoPlan, none, ended, stand, told_one, resumed, stand-append, Stands}
 use Rattle.ls_headline.proofs.Cells.{address_one, length_all, things_fit, offset_below, AgreeTo}
-use Rattle.ls_headline.proofs.Effects.{Extends, refers_more, things_length, many_length, renaming, Holds, Grows, Agrees}
+use Rattle.ls_headline.proofs.Effects.{Extends, refers_more, things_length, thing_there, many_length, renaming, Holds, Grows, Agrees}
 use Rattle.ls_headline.proofs.Effects as effects
 use Rattle.ls_headline.proofs.AllCases.{names_of, effects_agree}
 use Rattle.ls_headline.proofs.Answers.{action_words, answers_words, suited_end, suited_more, suited_renamed, answer_agree, answers_agree, action_agree, Says, says}
@@ -68,19 +87,19 @@ module _ (file : File) (program : Program) (code : Code) (asks : Asks file progr
   abbrev pub fed_to : ℕ → Start → List (Answer ℕ) → Pause
   fed_to t s ws = stand code t bound ws (stands t (started s))
 
-  -- a thread of the machine stands on its way from what it was told to what it asks next
-  abbrev pub Each : List ValueType → (ℕ → ℕ) → ℕ → Option Answers → Option Thread → Type 0
-  Each σ ρ t None None = Unit {0}
-  Each σ ρ t (Some had) (Some x) =
-      (s : Start) × (slice_get code.starts t ≡ Some s) × Known file program σ t had × (stands t x ≡ fed_to t s (words ρ had))
-  Each σ ρ t _ _ = ⊥
+  -- a thread of the machine is in the midst of what a thread does that stands on its way from what it was told to what it asks next
+  abbrev pub Each : Cells → List ValueType → (ℕ → ℕ) → ℕ → Option Answers → Option Thread → Type 0
+  Each c σ ρ t None None = Unit {0}
+  Each c σ ρ t (Some had) (Some x) =
+      (s : Start) × (slice_get code.starts t ≡ Some s) × Known file program σ t had × (y : Thread) × (stands t y ≡ fed_to t s (words ρ had)) × Middle code c t y x
+  Each c σ ρ t _ _ = ⊥
 
   pub record Follows (s : State) (m : Machine) : Type 0 where
     pub sorts : List ValueType
     pub image : m.code ≡ code
     pub holds : StoreHolds sorts s.store m.cells
     pub count : length s.answers ≡ length program.threads
-    pub each : (t : ℕ) → Each sorts (renaming names s.store) t (slice_get s.answers t) (slice_get m.threads t)
+    pub each : (t : ℕ) → Each m.cells sorts (renaming names s.store) t (slice_get s.answers t) (slice_get m.threads t)
 
   abbrev pub InWords : (ℕ → ℕ) → Next → Pause → Type 0
   InWords ρ (Goes a s) (Paused b go) = b ≡ map_action ρ (written ρ) a
@@ -126,7 +145,7 @@ module _ (file : File) (program : Program) (code : Code) (asks : Asks file progr
       omega (arith, offset_below st.things n within, used_length σ st c holds)
 
   -- a fed thread asks what the source asks, in words
-  asks_words : (σ : List ValueType) (st : Store) (c : Cells) → StoreHolds σ st c → (t : ℕ) (s : Start) (had : Answers) → slice_get code.starts t ≡ Some s → Known file program σ t had → InWords (renaming names st) (next file program t had) (fed_to t s (words (renaming names st) had))
+  pub asks_words : (σ : List ValueType) (st : Store) (c : Cells) → StoreHolds σ st c → (t : ℕ) (s : Start) (had : Answers) → slice_get code.starts t ≡ Some s → Known file program σ t had → InWords (renaming names st) (next file program t had) (fed_to t s (words (renaming names st) had))
   asks_words σ st c holds t s had start known =
       let ρ = renaming names st in
       let law : (h : Answers) → next file program t (map (map_answer (renamed ρ)) h) ≡ renamed_next ρ (next file program t h) = λ h. sound.renames ρ (record { null = refl; apart = address_one names st.things }) t h in
@@ -153,10 +172,16 @@ module _ (file : File) (program : Program) (code : Code) (asks : Asks file progr
   in_words_loud ρ Trapped (IsOver m) h = tt
   in_words_loud ρ Trapped IsStuck h = tt
 
-  -- a thread of the machine stands where the source says
-  pub stands_so : (σ : List ValueType) (st : Store) (c : Cells) → StoreHolds σ st c → (t : ℕ) (had : Answers) (x : Thread) → Each σ (renaming names st) t (Some had) (Some x) → InWords (renaming names st) (next file program t had) (stands t x)
+  -- the thread that begins the operation stands where the source says
+  pub stands_so : (σ : List ValueType) (st : Store) (c : Cells) → StoreHolds σ st c → (t : ℕ) (had : Answers) (x : Thread) (each : Each c σ (renaming names st) t (Some had) (Some x)) → InWords (renaming names st) (next file program t had) (stands t each.3)
   stands_so σ st c holds t had x each =
-      subst (λ q. InWords (renaming names st) (next file program t had) q) (sym each.3) (asks_words σ st c holds t each.0 had each.1 each.2)
+      subst (λ q. InWords (renaming names st) (next file program t had) q) (sym each.4) (asks_words σ st c holds t each.0 had each.1 each.2)
+
+  pub loud_so : (σ : List ValueType) (st : Store) (c : Cells) → StoreHolds σ st c → (t : ℕ) (had : Answers) (x : Thread) (each : Each c σ (renaming names st) t (Some had) (Some x)) → IsLoud (stands t each.3)
+  loud_so σ st c holds t had x each = in_words_loud (renaming names st) (next file program t had) _ (stands_so σ st c holds t had x each)
+
+  pub mode_so : (σ : List ValueType) (st : Store) (c : Cells) (t : ℕ) (had : Answers) (x : Thread) (each : Each c σ (renaming names st) t (Some had) (Some x)) → x.mode ≡ each.3.mode
+  mode_so σ st c t had x each = same_mode code c t each.3 x each.5
 
   -- never stuck
   pub not_stuck : (ρ : ℕ → ℕ) (d : Next) → InWords ρ d IsStuck → ⊥
@@ -170,14 +195,14 @@ module _ (file : File) (program : Program) (code : Code) (asks : Asks file progr
   over_same ρ Ended h = refl
   over_same ρ Trapped h = absurd h
 
-  over_mode : (σ : List ValueType) (st : Store) (c : Cells) → StoreHolds σ st c → (had : Answers) (x : Thread) → Each σ (renaming names st) 0 (Some had) (Some x) → (m : Mode) → x.mode ≡ m → machine.has_ended m ≡ true → has_ended (next file program 0 had) ≡ true
+  over_mode : (σ : List ValueType) (st : Store) (c : Cells) → StoreHolds σ st c → (had : Answers) (x : Thread) → Each c σ (renaming names st) 0 (Some had) (Some x) → (m : Mode) → x.mode ≡ m → machine.has_ended m ≡ true → has_ended (next file program 0 had) ≡ true
   over_mode σ st c holds had x each mode.Running em e = cc
   over_mode σ st c holds had x each mode.Trapped em e = cc
   over_mode σ st c holds had x each mode.Ended em e =
-      let at : stands 0 x ≡ IsOver mode.Ended = ap (passed code 0 bound) (ended code 0 bound x em) in
+      let at : stands 0 each.3 ≡ IsOver mode.Ended = ended code 0 bound each.3 (sym (mode_so σ st c 0 had x each) ∙ em) in
       over_same (renaming names st) (next file program 0 had) (subst (λ q. InWords (renaming names st) (next file program 0 had) q) at (stands_so σ st c holds 0 had x each))
 
-  over_at : (s : State) (σ : List ValueType) (c : Cells) → StoreHolds σ s.store c → (o : Option Answers) (p : Option Thread) → slice_get s.answers 0 ≡ o → Each σ (renaming names s.store) 0 o p → setup_ended p ≡ true → has_ended (next file program 0 (answers_of s 0)) ≡ true
+  over_at : (s : State) (σ : List ValueType) (c : Cells) → StoreHolds σ s.store c → (o : Option Answers) (p : Option Thread) → slice_get s.answers 0 ≡ o → Each c σ (renaming names s.store) 0 o p → setup_ended p ≡ true → has_ended (next file program 0 (answers_of s 0)) ≡ true
   over_at s σ c holds None None eo each e = cc
   over_at s σ c holds None (Some x) eo each e = absurd each
   over_at s σ c holds (Some had) None eo each e = absurd each
@@ -207,12 +232,54 @@ module _ (file : File) (program : Program) (code : Code) (asks : Asks file progr
       runs mode.Ended e = cc
       runs mode.Trapped e = cc
 
-  each_more : (σ σ' : List ValueType) (ρ ρ' : ℕ → ℕ) → Extends σ σ' → AgreeTo (length σ) ρ ρ' → (u : ℕ) (o : Option Answers) (p : Option Thread) → Each σ ρ u o p → Each σ' ρ' u o p
-  each_more σ σ' ρ ρ' e a u None None h = tt
-  each_more σ σ' ρ ρ' e a u None (Some x) h = absurd h
-  each_more σ σ' ρ ρ' e a u (Some had) None h = absurd h
-  each_more σ σ' ρ ρ' e a u (Some had) (Some x) h =
-      (h.0, h.1, suited_more (Refers σ) (Refers σ') (refers_more σ σ' e) (next file program u) had h.2, h.3 ∙ ap (fed_to u h.0) (answers_agree σ ρ ρ' a (next file program u) had h.2))
+  -- the lock that a thread's operation is on
+  abbrev pub LockThere : List ValueType → Store → Cells → ℕ → Type 0
+  LockThere σ st c lock = (n : ℕ) × Names σ n type.Lock × (renaming names st n ≡ lock)
+
+  some_lock : (σ : List ValueType) (ρ : ℕ → ℕ) (o : Option ℕ) (lock : ℕ) → LockNamed σ o → renamed_lock ρ o ≡ Some lock → (n : ℕ) × Names σ n type.Lock × (ρ n ≡ lock)
+  some_lock σ ρ None lock h e = cc
+  some_lock σ ρ (Some n) lock h e = (n, h, cc)
+
+  lock_there : (σ : List ValueType) (st : Store) (c : Cells) (t : ℕ) (had : Answers) → Known file program σ t had → (b : Action ℕ) (go : Answer ℕ → Option Thread) (lock : ℕ) → lock_on b ≡ Some lock → (d : Next) → next file program t had ≡ d → InWords (renaming names st) d (Paused b go) → LockThere σ st c lock
+  lock_there σ st c t had known b go lock on Ended ed w = absurd w
+  lock_there σ st c t had known b go lock on Trapped ed w = absurd w
+  lock_there σ st c t had known b go lock on (Goes a q) ed w =
+      some_lock σ (renaming names st) (lock_on a) lock (lock_named file program σ t a q (sound.sound σ t had a q known ed))
+      (sym (lock_renamed (renaming names st) (written (renaming names st)) a) ∙ ap lock_on (sym w) ∙ on)
+
+  -- a thread that begins an operation
+  pub began : (σ : List ValueType) (st : Store) (c : Cells) → StoreHolds σ st c → (t : ℕ) (had : Answers) (x : Thread) (each : Each c σ (renaming names st) t (Some had) (Some x)) → each.3.mode ≡ mode.Running → (b : Action ℕ) (go : Answer ℕ → Option Thread) → whole_move code t each.3 ≡ MoveAsks b go → stands t each.3 ≡ Paused b go
+  began σ st c holds t had x each runs b go em = beginning code t bound each.3 b go runs em (loud_so σ st c holds t had x each)
+
+  pub lock_of : (σ : List ValueType) (st : Store) (c : Cells) → StoreHolds σ st c → (t : ℕ) (had : Answers) (x : Thread) (each : Each c σ (renaming names st) t (Some had) (Some x)) → each.3.mode ≡ mode.Running → (b : Action ℕ) (go : Answer ℕ → Option Thread) → whole_move code t each.3 ≡ MoveAsks b go → (lock : ℕ) → lock_on b ≡ Some lock → LockThere σ st c lock
+  lock_of σ st c holds t had x each runs b go em lock on =
+      lock_there σ st c t had each.2 b go lock on (next file program t had) refl
+      (subst (λ q. InWords (renaming names st) (next file program t had) q) (began σ st c holds t had x each runs b go em) (stands_so σ st c holds t had x each))
+
+  names_more : (σ σ' : List ValueType) → Extends σ σ' → (n : ℕ) → Names σ n type.Lock → Names σ' n type.Lock
+  names_more σ σ' e zero h = absurd h
+  names_more σ σ' e (suc n) h = e n type.Lock h
+
+  names_within : (σ : List ValueType) (n : ℕ) → Names σ n type.Lock → n ≤ length σ
+  names_within σ zero h = absurd h
+  names_within σ (suc n) h = get_within σ n type.Lock h
+
+  -- what another thread's action leaves of a thread
+  each_more : (σ σ' : List ValueType) (st st' : Store) (c c' : Cells) → StoreHolds σ st c → StoreHolds σ' st' c' → Extends σ σ' → AgreeTo (length σ) (renaming names st) (renaming names st') → (t : ℕ) (a : Action Value) (y : Answer Value) → effect file.classes st t a ≡ Does st' y → (u : ℕ) → u ≢ t → (o : Option Answers) (p : Option Thread) → Each c σ (renaming names st) u o p → Each c' σ' (renaming names st') u o p
+  each_more σ σ' st st' c c' holds holds' e ag t a y does u d None None h = tt
+  each_more σ σ' st st' c c' holds holds' e ag t a y does u d None (Some x) h = absurd h
+  each_more σ σ' st st' c c' holds holds' e ag t a y does u d (Some had) None h = absurd h
+  each_more σ σ' st st' c c' holds holds' e ag t a y does u d (Some had) (Some x) h = (
+    h.0,
+    h.1,
+    suited_more (Refers σ) (Refers σ') (refers_more σ σ' e) (next file program u) had h.2,
+    h.3,
+    h.4 ∙ ap (fed_to u h.0) (answers_agree σ (renaming names st) (renaming names st') ag (next file program u) had h.2),
+    middle_kept code c u h.3 x c' (λ runs b go lock w em on sees.
+        let l = lock_of σ st c holds u had x h runs b go em lock on in
+        subst (λ z. Sees c' u z w) l.2
+        (sees_kept file.classes named code.sizes room σ σ' st st' c c' holds holds' u t (λ z. d (sym z)) a y does l.0 l.1 (names_more σ σ' e l.0 l.1) (ag l.0 (names_within σ l.0 l.1)) w (subst (λ z. Sees c u z w) (sym l.2) sees))) h.5,
+  )
 
   -- what is kept of an entry, whatever is made later
   abbrev pub Live : State → source.Entry Value → Type 0
@@ -243,24 +310,24 @@ module _ (file : File) (program : Program) (code : Code) (asks : Asks file progr
   acts_as s a = map_action (renaming names s.store) (written (renaming names s.store)) a
 
   -- a thread goes on, and the source is where it was
-  pub went_on : (s : State) (m : Machine) (h : Follows s m) (t : ℕ) (had : Answers) (x x' : Thread) (stopped : Bool) (events : List Event) → slice_get s.answers t ≡ Some had → slice_get m.threads t ≡ Some x → Each h.sorts (renaming names s.store) t (Some had) (Some x') → Follows s (went m t x' m.cells stopped events)
+  pub went_on : (s : State) (m : Machine) (h : Follows s m) (t : ℕ) (had : Answers) (x x' : Thread) (stopped : Bool) (events : List Event) → slice_get s.answers t ≡ Some had → slice_get m.threads t ≡ Some x → Each m.cells h.sorts (renaming names s.store) t (Some had) (Some x') → Follows s (went m t x' m.cells stopped events)
   went_on s m h t had x x' stopped events at there each' = record {
     sorts = h.sorts;
     image = h.image;
     holds = h.holds;
     count = h.count;
-    each = λ u. subst (λ l. Each h.sorts (renaming names s.store) u (slice_get l u) (slice_get (slice_set m.threads t x') u)) (set_here s.answers t had at)
-        (each_set (Each h.sorts (renaming names s.store)) s.answers m.threads t had had x x' at there (λ v d. h.each v) each' u);
+    each = λ u. subst (λ l. Each m.cells h.sorts (renaming names s.store) u (slice_get l u) (slice_get (slice_set m.threads t x') u)) (set_here s.answers t had at)
+        (each_set (Each m.cells h.sorts (renaming names s.store)) s.answers m.threads t had had x x' at there (λ v d. h.each v) each' u);
   }
 
   -- where an answer leads
-  some_thread : (ρ : ℕ → ℕ) (t : ℕ) (d : Next) (o : Option Thread) → InWords ρ d (passed code t bound (quiet_from code t bound o)) → (x : Thread) × (o ≡ Some x)
+  some_thread : (ρ : ℕ → ℕ) (t : ℕ) (d : Next) (o : Option Thread) → InWords ρ d (quiet_from code t bound o) → (x : Thread) × (o ≡ Some x)
   some_thread ρ t d None h = absurd (not_stuck ρ d h)
   some_thread ρ t d (Some x) h = (x, refl)
 
   -- both perform the same action
-  pub both_act : (s : State) (m : Machine) (h : Follows s m) (t : ℕ) (had : Answers) (x : Thread) → slice_get s.answers t ≡ Some had → slice_get m.threads t ≡ Some x → Each h.sorts (renaming names s.store) t (Some had) (Some x) → (a : Action Value) (q : Sort) → next file program t had ≡ Goes a q → ActionHas file program h.sorts t a q → (go : Answer ℕ → Option Thread) → stands t x ≡ Paused (acts_as s a) go → (st' : Store) (y : Answer Value) (c' : Cells) (w : Answer ℕ) → effects.Done file.classes named code.sizes room h.sorts s.store a q st' y c' w → (x' : Thread) × (go w ≡ Some x') × ((stopped : Bool) (events : List Event) → Follows (told_to s t had st' y) (went m t x' c' stopped events)) × (line_in t (acts_as s a) w ≡ write (told_to s t had st' y) (line t a y)) × Live (told_to s t had st' y) (line t a y) × Later s (told_to s t had st' y)
-  both_act s m h t had x at there each a q goes has go acts st' y c' w done =
+  pub both_act : (s : State) (m : Machine) (h : Follows s m) (t : ℕ) (had : Answers) (x : Thread) → slice_get s.answers t ≡ Some had → slice_get m.threads t ≡ Some x → (each : Each m.cells h.sorts (renaming names s.store) t (Some had) (Some x)) → (a : Action Value) (q : Sort) → next file program t had ≡ Goes a q → ActionHas file program h.sorts t a q → (go : Answer ℕ → Option Thread) → stands t each.3 ≡ Paused (acts_as s a) go → (st' : Store) (y : Answer Value) (c' : Cells) (w : Answer ℕ) → effect file.classes s.store t a ≡ Does st' y → (x_of : Thread → Thread) → ((y' : Thread) → go w ≡ Some y' → IsLoud (stands t y') → (y'' : Thread) × (stands t y'' ≡ stands t y') × Middle code c' t y'' (x_of y')) → effects.Done file.classes named code.sizes room h.sorts s.store a q st' y c' w → (y' : Thread) × (go w ≡ Some y') × ((stopped : Bool) (events : List Event) → Follows (told_to s t had st' y) (went m t (x_of y') c' stopped events)) × (line_in t (acts_as s a) w ≡ write (told_to s t had st' y) (line t a y)) × Live (told_to s t had st' y) (line t a y) × Later s (told_to s t had st' y)
+  both_act s m h t had x at there each a q goes has go acts st' y c' w does x_of mid done =
       let σ = h.sorts in
       let σ' = done.sorts in
       let ρ = renaming names s.store in
@@ -271,11 +338,13 @@ module _ (file : File) (program : Program) (code : Code) (asks : Asks file progr
       let known : Known file program σ' t (had ++ y ∷ []) = suited_end (Refers σ') (next file program t) had y (suited_more (Refers σ) (Refers σ') (refers_more σ σ' done.extends) (next file program t) had each.2) (subst (λ d. Suits (Refers σ') d y) (sym goes) done.suits) in
       let said : words ρ' (had ++ y ∷ []) ≡ words ρ had ++ w ∷ [] =
       map_end (map_answer (written ρ')) had y ∙ ap (λ l. l ++ map_answer (written ρ') y ∷ []) (sym (answers_agree σ ρ ρ' agree (next file program t) had each.2)) ∙ ap (λ z. words ρ had ++ z ∷ []) (sym done.word) in
-      let way : fed_to t each.0 (words ρ' (had ++ y ∷ [])) ≡ passed code t bound (quiet_from code t bound (go w)) =
-      ap (fed_to t each.0) said ∙ stand-append code t bound (words ρ had) w (stands t (started each.0)) ∙ ap (λ z. told_one code t bound z w) (sym each.3 ∙ acts) in
+      let way : fed_to t each.0 (words ρ' (had ++ y ∷ [])) ≡ quiet_from code t bound (go w) =
+      ap (fed_to t each.0) said ∙ stand-append code t bound (words ρ had) w (stands t (started each.0)) ∙ ap (λ z. told_one code t bound z w) (sym each.4 ∙ acts) in
       let leads = some_thread ρ' t (next file program t (had ++ y ∷ [])) (go w)
       (subst (λ z. InWords ρ' (next file program t (had ++ y ∷ [])) z) way (asks_words σ' st' c' done.holds t each.0 (had ++ y ∷ []) each.1 known)) in
-      let way' : stands t leads.0 ≡ fed_to t each.0 (words ρ' (had ++ y ∷ [])) = sym (way ∙ ap (λ o. passed code t bound (quiet_from code t bound o)) leads.1) in (
+      let way' : stands t leads.0 ≡ fed_to t each.0 (words ρ' (had ++ y ∷ [])) = sym (way ∙ ap (λ o. quiet_from code t bound o) leads.1) in
+      let loud : IsLoud (stands t leads.0) = subst IsLoud (sym way') (in_words_loud ρ' (next file program t (had ++ y ∷ [])) _ (asks_words σ' st' c' done.holds t each.0 (had ++ y ∷ []) each.1 known)) in
+      let mids = mid leads.0 leads.1 loud in (
         leads.0,
         leads.1,
         (λ stopped events. record {
@@ -283,9 +352,9 @@ module _ (file : File) (program : Program) (code : Code) (asks : Asks file progr
           image = h.image;
           holds = done.holds;
           count = length-set s.answers t (had ++ y ∷ []) ∙ h.count;
-          each = each_set (Each σ' ρ') s.answers m.threads t had (had ++ y ∷ []) x leads.0 at there
-              (λ u d. each_more σ σ' ρ ρ' done.extends agree u (slice_get s.answers u) (slice_get m.threads u) (h.each u))
-              (each.0, each.1, known, way');
+          each = each_set (Each c' σ' ρ') s.answers m.threads t had (had ++ y ∷ []) x (x_of leads.0) at there
+              (λ u d. each_more σ σ' s.store st' m.cells c' h.holds done.holds done.extends agree t a y does u d (slice_get s.answers u) (slice_get m.threads u) (h.each u))
+              (each.0, each.1, known, mids.0, mids.1 ∙ way', mids.2);
         }),
         entry_same t _ _ _ _ (action_agree file program σ ρ ρ' agree t a q has) done.word,
         ((λ ρ2 ag. entry_same t _ _ _ _ (action_agree file program σ ρ' ρ2 (λ n le. ag n (omega (arith, done.grows.things))) t a q has) (answer_agree σ' ρ' ρ2 (λ n le. ag n (omega arith)) (Goes a q) y done.suits)), says file program σ t a q has),
@@ -318,18 +387,18 @@ module _ (file : File) (program : Program) (code : Code) (asks : Asks file progr
   pub agree_here : (s : State) (m : Machine) (h : Follows s m) (t : ℕ) (a : Action Value) (q : Sort) → ActionHas file program h.sorts t a q → Agrees file.classes named code.sizes room h.sorts s.store a q (effect file.classes s.store t a) (cells.effect m.cells t (acts_as s a))
   agree_here s m h t a q has = effects_agree file program code.sizes room small asks.sizes h.sorts s.store m.cells h.holds t a q has
 
-  back_effect : (s : State) (m : Machine) (h : Follows s m) (t : ℕ) (had : Answers) (x : Thread) → has_started file program s t ≡ true → slice_get s.answers t ≡ Some had → slice_get m.threads t ≡ Some x → Each h.sorts (renaming names s.store) t (Some had) (Some x) → (a : Action Value) (q : Sort) → next file program t had ≡ Goes a q → ActionHas file program h.sorts t a q → (go : Answer ℕ → Option Thread) → stands t x ≡ Paused (acts_as s a) go → (d : Effect) (e : cells.Effect) → effect file.classes s.store t a ≡ d → Agrees file.classes named code.sizes room h.sorts s.store a q d e → BackStep s m t (so t (moved m t (machine_steps.settled m.cells x (acts_as s a) go e)))
+  back_effect : (s : State) (m : Machine) (h : Follows s m) (t : ℕ) (had : Answers) (x : Thread) → has_started file program s t ≡ true → slice_get s.answers t ≡ Some had → slice_get m.threads t ≡ Some x → (each : Each m.cells h.sorts (renaming names s.store) t (Some had) (Some x)) → (a : Action Value) (q : Sort) → next file program t had ≡ Goes a q → ActionHas file program h.sorts t a q → (go : Answer ℕ → Option Thread) → stands t each.3 ≡ Paused (acts_as s a) go → (d : Effect) (e : cells.Effect) → effect file.classes s.store t a ≡ d → Agrees file.classes named code.sizes room h.sorts s.store a q d e → BackStep s m t (so t (moved m t (machine_steps.settled m.cells x (acts_as s a) go e)))
   back_effect s m h t had x start at there each a q goes has go acts d cells.Waits de ag = went_on s m h t had x x false _ at there each
   back_effect s m h t had x start at there each a q goes has go acts d cells.Stops de ag = went_on s m h t had x x true _ at there each
   back_effect s m h t had x start at there each a q goes has go acts Waits cells.Unfit de ag = absurd ag
   back_effect s m h t had x start at there each a q goes has go acts (Does st' y) cells.Unfit de ag = absurd ag
   back_effect s m h t had x start at there each a q goes has go acts Waits (cells.Answers c' w) de ag = absurd ag
   back_effect s m h t had x start at there each a q goes has go acts (Does st' y) (cells.Answers c' w) de ag =
-      let both = both_act s m h t had x at there each a q goes has go acts st' y c' w ag in
+      let both = both_act s m h t had x at there each a q goes has go acts st' y c' w de (λ z. z) (λ y' e l. (y', refl, Here refl)) ag in
       subst (λ o. BackStep s m t (so t (moved m t (machine_steps.replied c' x (acts_as s a) w o)))) (sym both.1)
       (refl, (told_to s t had st' y, line t a y, source_acts s t had a q st' y start at goes de, both.2 false _, both.3, both.4, both.5))
 
-  back_asked : (s : State) (m : Machine) (h : Follows s m) (t : ℕ) (had : Answers) (x : Thread) → has_started file program s t ≡ true → slice_get s.answers t ≡ Some had → slice_get m.threads t ≡ Some x → Each h.sorts (renaming names s.store) t (Some had) (Some x) → (b : Action ℕ) (go : Answer ℕ → Option Thread) → stands t x ≡ Paused b go → (d : Next) → next file program t had ≡ d → InWords (renaming names s.store) d (Paused b go) → BackStep s m t (so t (moved m t (machine_steps.settled m.cells x b go (cells.effect m.cells t b))))
+  back_asked : (s : State) (m : Machine) (h : Follows s m) (t : ℕ) (had : Answers) (x : Thread) → has_started file program s t ≡ true → slice_get s.answers t ≡ Some had → slice_get m.threads t ≡ Some x → (each : Each m.cells h.sorts (renaming names s.store) t (Some had) (Some x)) → (b : Action ℕ) (go : Answer ℕ → Option Thread) → stands t each.3 ≡ Paused b go → (d : Next) → next file program t had ≡ d → InWords (renaming names s.store) d (Paused b go) → BackStep s m t (so t (moved m t (machine_steps.settled m.cells x b go (cells.effect m.cells t b))))
   back_asked s m h t had x start at there each b go acts Ended goes w = absurd w
   back_asked s m h t had x start at there each b go acts Trapped goes w = absurd w
   back_asked s m h t had x start at there each b go acts (Goes a q) goes w =
@@ -337,34 +406,311 @@ module _ (file : File) (program : Program) (code : Code) (asks : Asks file progr
       subst (λ z. BackStep s m t (so t (moved m t (machine_steps.settled m.cells x z go (cells.effect m.cells t z))))) (sym w)
       (back_effect s m h t had x start at there each a q goes has go (acts ∙ ap (λ z. Paused z go) w) (effect file.classes s.store t a) _ refl (agree_here s m h t a q has))
 
+  -- the acting instruction of an operation
+  abbrev Acting : State → Machine → ℕ → Action ℕ → (Answer ℕ → Option Thread) → Cells → Answer ℕ → (Thread → Thread) → Type 0
+  Acting s m t b go c' w x_of = (y' : Thread) × (go w ≡ Some y') × BackStep s m t (so t (moved m t (machine_steps.outcome_of (x_of y') c' (did.Acted b w))))
+
+  abbrev Mids : ℕ → (Answer ℕ → Option Thread) → Cells → Answer ℕ → (Thread → Thread) → Type 0
+  Mids t go c' w x_of = (y' : Thread) → go w ≡ Some y' → IsLoud (stands t y') → (y'' : Thread) × (stands t y'' ≡ stands t y') × Middle code c' t y'' (x_of y')
+
+  acting_by : (s : State) (m : Machine) (h : Follows s m) (t : ℕ) (had : Answers) (x : Thread) → has_started file program s t ≡ true → slice_get s.answers t ≡ Some had → slice_get m.threads t ≡ Some x → (each : Each m.cells h.sorts (renaming names s.store) t (Some had) (Some x)) → (a : Action Value) (q : Sort) → next file program t had ≡ Goes a q → ActionHas file program h.sorts t a q → (go : Answer ℕ → Option Thread) → stands t each.3 ≡ Paused (acts_as s a) go → (c' : Cells) (w : Answer ℕ) (x_of : Thread → Thread) → Mids t go c' w x_of → (d : Effect) → effect file.classes s.store t a ≡ d → Agrees file.classes named code.sizes room h.sorts s.store a q d (cells.Answers c' w) → Acting s m t (acts_as s a) go c' w x_of
+  acting_by s m h t had x start at there each a q goes has go acts c' w x_of mid Waits de ag = absurd ag
+  acting_by s m h t had x start at there each a q goes has go acts c' w x_of mid (Does st' y) de ag =
+      let both = both_act s m h t had x at there each a q goes has go acts st' y c' w de x_of mid ag in
+      (both.0, both.1, (refl, (told_to s t had st' y, line t a y, source_acts s t had a q st' y start at goes de, both.2 false _, both.3, both.4, both.5)))
+
+  acting : (s : State) (m : Machine) (h : Follows s m) (t : ℕ) (had : Answers) (x : Thread) → has_started file program s t ≡ true → slice_get s.answers t ≡ Some had → slice_get m.threads t ≡ Some x → (each : Each m.cells h.sorts (renaming names s.store) t (Some had) (Some x)) → (b : Action ℕ) (go : Answer ℕ → Option Thread) → stands t each.3 ≡ Paused b go → (c' : Cells) (w : Answer ℕ) → cells.effect m.cells t b ≡ cells.Answers c' w → (x_of : Thread → Thread) → Mids t go c' w x_of → (d : Next) → next file program t had ≡ d → InWords (renaming names s.store) d (Paused b go) → Acting s m t b go c' w x_of
+  acting s m h t had x start at there each b go acts c' w ee x_of mid Ended goes iw = absurd iw
+  acting s m h t had x start at there each b go acts c' w ee x_of mid Trapped goes iw = absurd iw
+  acting s m h t had x start at there each b go acts c' w ee x_of mid (Goes a q) goes iw =
+      let has : ActionHas file program h.sorts t a q = sound.sound h.sorts t had a q each.2 goes in
+      subst (λ z. Acting s m t z go c' w x_of) (sym iw)
+      (acting_by s m h t had x start at there each a q goes has go (acts ∙ ap (λ z. Paused z go) iw) c' w x_of mid (effect file.classes s.store t a) refl
+      (subst (λ e. Agrees file.classes named code.sizes room h.sorts s.store a q (effect file.classes s.store t a) e) (ap (cells.effect m.cells t) (sym iw) ∙ ee) (agree_here s m h t a q has)))
+
   -- a thread that runs, by what it does next
   pub standing : (t : ℕ) (x : Thread) (b : Action ℕ) (go : Answer ℕ → Option Thread) → x.mode ≡ mode.Running → thread_move code x ≡ MoveAsks b go → stands t x ≡ Paused b go
-  standing t x b go runs em = ap (passed code t bound) (asking code t bound x b go runs em)
+  standing t x b go runs em = asking code t bound x b go runs em
 
-  pub keeps : (σ : List ValueType) (st : Store) (c : Cells) → StoreHolds σ st c → (t : ℕ) (had : Answers) (x x' : Thread) → Each σ (renaming names st) t (Some had) (Some x) → x.mode ≡ mode.Running → thread_move code x ≡ Silent x' → Each σ (renaming names st) t (Some had) (Some x')
-  keeps σ st c holds t had x x' each runs em =
-      let loud : IsLoud (quiet code t bound x) = passed_loud code t bound (quiet code t bound x) (in_words_loud (renaming names st) (next file program t had) _ (stands_so σ st c holds t had x each)) in
-      (each.0, each.1, each.2, ap (passed code t bound) (silent_keeps code t bound x x' runs em loud) ∙ each.3)
+  module _ (s : State) (m : Machine) (h : Follows s m) (t : ℕ) (had : Answers) (start : has_started file program s t ≡ true) (at : slice_get s.answers t ≡ Some had) where
+    abbrev Step : machine_steps.Outcome → Type 0
+    Step o = BackStep s m t (so t (moved m t o))
 
-  back_move : (s : State) (m : Machine) (h : Follows s m) (t : ℕ) (had : Answers) (x : Thread) → x.mode ≡ mode.Running → has_started file program s t ≡ true → slice_get s.answers t ≡ Some had → slice_get m.threads t ≡ Some x → Each h.sorts (renaming names s.store) t (Some had) (Some x) → (e : Move) → thread_move code x ≡ e → BackStep s m t (so t (moved m t (machine_steps.performed m.cells t x e)))
-  back_move s m h t had x runs start at there each Still em = went_on s m h t had x x false _ at there each
-  back_move s m h t had x runs start at there each (Plans go) em = absurd (subst NoPlan em (no_plan code asks.whole x))
-  back_move s m h t had x runs start at there each (MoveAsks b go) em =
-      let acts = standing t x b go runs em in
-      back_asked s m h t had x start at there each b go acts (next file program t had) refl (subst (λ q. InWords (renaming names s.store) (next file program t had) q) acts (stands_so h.sorts s.store m.cells h.holds t had x each))
-  back_move s m h t had x runs start at there each (Silent x') em =
-      went_on s m h t had x x' false _ at there (keeps h.sorts s.store m.cells h.holds t had x x' each runs em)
+    -- a silent instruction: y begins the operation, and x' is where the thread comes to
+    abbrev EachOf : Thread → Type 0
+    EachOf x = Each m.cells h.sorts (renaming names s.store) t (Some had) (Some x)
 
-  back_had : (s : State) (m : Machine) (h : Follows s m) (t : ℕ) (x : Thread) → x.mode ≡ mode.Running → has_started file program s t ≡ true → slice_get m.threads t ≡ Some x → (o : Option Answers) → slice_get s.answers t ≡ o → Each h.sorts (renaming names s.store) t o (Some x) → BackStep s m t (so t (moved m t (machine_steps.performed m.cells t x (thread_move code x))))
+    pub comes_to : (x x' : Thread) → slice_get m.threads t ≡ Some x → (each : EachOf x) → (y : Thread) → stands t y ≡ stands t each.3 → Middle code m.cells t y x' → Step (machine_steps.outcome_of x' m.cells did.Silent)
+    comes_to x x' there each y same mid = went_on s m h t had x x' false _ at there (each.0, each.1, each.2, y, same ∙ each.4, mid)
+
+    module _ (y : Thread) (runs : y.mode ≡ mode.Running) (b : Action ℕ) (go : Answer ℕ → Option Thread) (em : whole_move code t y ≡ MoveAsks b go) (planned : IsPlanned (thread_move code y)) (x : Thread) (there : slice_get m.threads t ≡ Some x) (start_ : Start) (es : slice_get code.starts t ≡ Some start_) (known : Known file program h.sorts t had) (way : stands t y ≡ fed_to t start_ (words (renaming names s.store) had)) (mid : Middle code m.cells t y x) where
+      abbrev each : EachOf x
+      each = (start_, es, known, y, way, mid)
+
+      abbrev acts : stands t y ≡ Paused b go
+      acts = began h.sorts s.store m.cells h.holds t had x each runs b go em
+
+      acts_here : (c' : Cells) (w : Answer ℕ) → cells.effect m.cells t b ≡ cells.Answers c' w → (x_of : Thread → Thread) → Mids t go c' w x_of → Acting s m t b go c' w x_of
+      acts_here c' w ee x_of mids =
+          acting s m h t had x start at there each b go acts c' w ee x_of mids (next file program t had) refl
+          (subst (λ q. InWords (renaming names s.store) (next file program t had) q) acts (stands_so h.sorts s.store m.cells h.holds t had x each))
+
+      -- where the thread goes on as its origin does
+      acts_so : (c' : Cells) (w : Answer ℕ) → cells.effect m.cells t b ≡ cells.Answers c' w → (x' : Thread) → go w ≡ Some x' → Step (machine_steps.outcome_of x' c' (did.Acted b w))
+      acts_so c' w ee x' eg =
+          let r = acts_here c' w ee (λ z. z) (λ y' e l. (y', refl, Here refl)) in
+          let same : r.0 ≡ x' = (let z : Some r.0 ≡ Some x' = sym r.1 ∙ eg in cc) in
+          subst (λ z. Step (machine_steps.outcome_of z c' (did.Acted b w))) same r.2
+
+      acts_thrown : (c' : Cells) (w : Answer ℕ) → cells.effect m.cells t b ≡ cells.Answers c' w → (o : Option Thread) → go w ≡ o → Step (machine_steps.ended_so c' x o (did.Acted b w))
+      acts_thrown c' w ee o eg =
+          let r = acts_here c' w ee (λ z. z) (λ y' e l. (y', refl, Here refl)) in
+          subst (λ z. Step (machine_steps.ended_so c' x z (did.Acted b w))) (sym r.1 ∙ eg) r.2
+
+      -- the lock, and its word
+      abbrev Word : ℕ → Type 0
+      Word a = (o : Thing) × effects.ThingHas file.classes h.sorts o type.Lock × (cells.cell_at m.cells a 0 ≡ Some (lock_word o))
+
+      named_word : (n a : ℕ) → Names h.sorts n type.Lock → renaming names s.store n ≡ a → Word a
+      named_word zero a is e = absurd is
+      named_word (suc k) a is e =
+          let r = thing_there file.classes h.sorts s.store.things h.sorts k type.Lock h.holds.typed is in
+          (r.0, r.2, ap (λ z. cells.cell_at m.cells z 0) (sym e) ∙ word_there file.classes named code.sizes room h.sorts s.store m.cells h.holds k r.0 r.1 r.2)
+
+      word_of_lock : (a : ℕ) → lock_on b ≡ Some a → Word a
+      word_of_lock a on = (let l = lock_of h.sorts s.store m.cells h.holds t had x each runs b go em a on in named_word l.0 a l.1 l.2)
+
+      sees_now : (a w : ℕ) → cells.cell_at m.cells a 0 ≡ Some w → Sees m.cells t a w
+      sees_now a w ec = (w, ec, fresh_now t w)
+
+      saw : (a w : ℕ) → lock_on b ≡ Some a → Sees m.cells t a w → OwnFor t w b → Step (machine_steps.outcome_of (seen y w) m.cells did.Silent)
+      saw a w on sees own = comes_to x (seen y w) there each y refl (Saw runs b go a w em planned on refl sees own)
+
+  module _ (s : State) (m : Machine) (h : Follows s m) (t : ℕ) (had : Answers) (start : has_started file program s t ≡ true) (at : slice_get s.answers t ≡ Some had) (y : Thread) (runs : y.mode ≡ mode.Running) (x : Thread) (there : slice_get m.threads t ≡ Some x) (start_ : Start) (es : slice_get code.starts t ≡ Some start_) (known : Known file program h.sorts t had) (way : stands t y ≡ fed_to t start_ (words (renaming names s.store) had)) (mid : Middle code m.cells t y x) where
+    abbrev Comes : machine_steps.Outcome → Type 0
+    Comes o = BackStep s m t (so t (moved m t o))
+
+    module _ (a : ℕ) (planned : IsPlanned (thread_move code y)) where
+      abbrev c : Cells
+      c = m.cells
+
+      -- a tryLock that isn't won
+      told_mids : (go : Answer ℕ → Option Thread) → go ≡ after_try code t y → TryParts code t y a → (w : ℕ) → taken_of w t ≡ taken.Other → Mids t go c (Gives 0) (λ z. seen y w)
+      told_mids go eg parts w ek y' e l =
+          let is : y' ≡ seen y (word_of_another t) = (let z : Some y' ≡ Some (seen y (word_of_another t)) = sym e ∙ ap (λ f. f (Gives 0)) eg in cc) in
+          (y', refl, Told (ap (λ z. z.mode) is ∙ runs) y a w parts is refl ek)
+
+      lost_mids : (go : Answer ℕ → Option Thread) → go ≡ after_try code t y → TryParts code t y a → Mids t go c (Gives 0) (λ z. exchanged y 0)
+      lost_mids go eg parts y' e l =
+          let is : y' ≡ seen y (word_of_another t) = (let z : Some y' ≡ Some (seen y (word_of_another t)) = sym e ∙ ap (λ f. f (Gives 0)) eg in cc) in
+          let silent : whole_move code t y' ≡ Silent (exchanged y 0) = ap (whole_move code t) is ∙ parts.told_whole (word_of_another t) (another_is t) in
+          (exchanged y 0, silent_keeps code t bound y' (exchanged y 0) (ap (λ z. z.mode) is ∙ runs) silent l, Here refl)
+
+      module _ (go : Answer ℕ → Option Thread) (em : whole_move code t y ≡ MoveAsks (act.Lock a) go) (parts : LockParts code t y a) (eg : go ≡ after_lock code t y) where
+        see_lock : x ≡ y → Comes (one code t c x)
+        see_lock here =
+            let r = word_of_lock s m h t had start at y runs (act.Lock a) go em planned x there start_ es known way mid a refl in
+            subst Comes (sym (ap (one code t c) here ∙ parts.see c (lock_word r.0) r.2))
+            (saw s m h t had start at y runs (act.Lock a) go em planned x there start_ es known way mid a (lock_word r.0) refl (sees_now s m h t had start at y runs (act.Lock a) go em planned x there start_ es known way mid a (lock_word r.0) r.2) tt)
+
+        lost_lock : Comes (machine_steps.outcome_of (exchanged y 0) c did.Silent)
+        lost_lock = comes_to s m h t had start at x (exchanged y 0) there (start_, es, known, y, way, mid) y refl (Lost runs a go em planned refl)
+
+        take_lock : (w : ℕ) → x ≡ seen y w → Sees c t a w → (k : Taken) → taken_of w t ≡ k → Comes (one code t c x)
+        take_lock w is sees taken.Other ek = subst Comes (sym (ap (one code t c) is ∙ parts.other c w ek)) lost_lock
+        take_lock w is (now, ec, fresh) taken.TooMany ek =
+            let same : now ≡ w = full_now t w now fresh ek in
+            let r = word_of_lock s m h t had start at y runs (act.Lock a) go em planned x there start_ es known way mid a refl in
+            let word : lock_word r.0 ≡ w = (let z : Some (lock_word r.0) ≡ Some now = sym r.2 ∙ ec in (let e : lock_word r.0 ≡ now = cc in e ∙ same)) in
+            let full : w ≡ full_word t = sym word ∙ full_is file.classes h.sorts r.0 t r.1 (ap (λ z. taken_of z t) word ∙ ek) in
+            subst Comes (sym (ap (one code t c) is ∙ parts.full c w ek))
+            (subst (λ z. Comes (machine_steps.ended_so c z (throwing code (seen y w) Error) (did.Acted (act.Lock a) (Fails Error)))) is
+            (acts_thrown s m h t had start at y runs (act.Lock a) go em planned x there start_ es known way mid c (Fails Error)
+            (lock_is c a t now taken.TooMany AnswerDone cells.Waits ec (ap (λ z. taken_of z t) same ∙ ek))
+            (throwing code (seen y w) Error) (ap (λ f. f (Fails Error)) eg ∙ ap (λ z. throwing code (seen y z) Error) (sym full))))
+        take_lock w is (now, ec, fresh) (taken.Taken next_) ek = by_test (eqb_tells now w)
+          where
+            by_test : (((now == w) ≡ true) × (now ≡ w)) ⊎ (((now == w) ≡ false) × (now ≢ w)) → Comes (one code t c x)
+            by_test (inl (bt, same)) =
+                let ew : cells.cell_at c a 0 ≡ Some w = ec ∙ ap Some same in
+                let st = store_is c a next_ w ew in
+                subst Comes (sym (ap (one code t c) is ∙ parts.won c st.0 w next_ ek (won_is c st.0 a t w next_ ew st.1)))
+                (acts_so s m h t had start at y runs (act.Lock a) go em planned x there start_ es known way mid st.0 AnswerDone
+                (lock_is c a t w (taken.Taken next_) AnswerDone cells.Waits ew ek ∙ st.1 AnswerDone) (exchanged y 1) (ap (λ f. f AnswerDone) eg))
+            by_test (inr (bt, apart)) =
+                subst Comes (sym (ap (one code t c) is ∙ parts.lost c c w next_ ek (lost_is c a t w next_ now ec bt))) lost_lock
+
+        back_lock : x ≡ exchanged y 0 → Comes (one code t c x)
+        back_lock is =
+            subst Comes (sym (ap (one code t c) is ∙ parts.back c))
+            (comes_to s m h t had start at x y there (start_, es, known, y, way, mid) y refl (Here refl))
+
+      module _ (go : Answer ℕ → Option Thread) (em : whole_move code t y ≡ MoveAsks (act.TryLock a) go) (parts : TryParts code t y a) (eg : go ≡ after_try code t y) where
+        see_try : x ≡ y → Comes (one code t c x)
+        see_try here = by_word (taken_of (lock_word r.0) t) refl
+          where
+            r : Word s m h t had start at y runs (act.TryLock a) go em planned x there start_ es known way mid a
+            r = word_of_lock s m h t had start at y runs (act.TryLock a) go em planned x there start_ es known way mid a refl
+
+            keeps : taken_of (lock_word r.0) t ≢ taken.Other → Comes (machine_steps.outcome_of (seen y (lock_word r.0)) c did.Silent)
+            keeps differs = saw s m h t had start at y runs (act.TryLock a) go em planned x there start_ es known way mid a (lock_word r.0) refl (sees_now s m h t had start at y runs (act.TryLock a) go em planned x there start_ es known way mid a (lock_word r.0) r.2) differs
+
+            by_word : (k : Taken) → taken_of (lock_word r.0) t ≡ k → Comes (one code t c x)
+            by_word taken.Other ek =
+                subst Comes (sym (ap (one code t c) here ∙ parts.see_other c (lock_word r.0) r.2 ek))
+                (acts_here s m h t had start at y runs (act.TryLock a) go em planned x there start_ es known way mid c (Gives 0)
+                (lock_is c a t (lock_word r.0) taken.Other (Gives 1) (cells.Answers c (Gives 0)) r.2 ek) (λ z. seen y (lock_word r.0)) (told_mids go eg parts (lock_word r.0) ek)).2
+            by_word taken.TooMany ek = subst Comes (sym (ap (one code t c) here ∙ parts.see_full c (lock_word r.0) r.2 ek)) (keeps (λ z. let q : taken.TooMany ≡ taken.Other = sym ek ∙ z in absurd (cc)))
+            by_word (taken.Taken next_) ek = subst Comes (sym (ap (one code t c) here ∙ parts.see c (lock_word r.0) next_ r.2 ek)) (keeps (λ z. let q : taken.Taken next_ ≡ taken.Other = sym ek ∙ z in absurd (cc)))
+
+        take_try : (w : ℕ) → x ≡ seen y w → Sees c t a w → taken_of w t ≢ taken.Other → (k : Taken) → taken_of w t ≡ k → Comes (one code t c x)
+        take_try w is (now, ec, fresh) differs taken.Other ek = absurd (differs ek)
+        take_try w is (now, ec, fresh) differs taken.TooMany ek =
+            let same : now ≡ w = full_now t w now fresh ek in
+            let r = word_of_lock s m h t had start at y runs (act.TryLock a) go em planned x there start_ es known way mid a refl in
+            let word : lock_word r.0 ≡ w = (let z : Some (lock_word r.0) ≡ Some now = sym r.2 ∙ ec in (let e : lock_word r.0 ≡ now = cc in e ∙ same)) in
+            let full : w ≡ full_word t = sym word ∙ full_is file.classes h.sorts r.0 t r.1 (ap (λ z. taken_of z t) word ∙ ek) in
+            subst Comes (sym (ap (one code t c) is ∙ parts.full c w ek))
+            (subst (λ z. Comes (machine_steps.ended_so c z (throwing code (seen y w) Error) (did.Acted (act.TryLock a) (Fails Error)))) is
+            (acts_thrown s m h t had start at y runs (act.TryLock a) go em planned x there start_ es known way mid c (Fails Error)
+            (lock_is c a t now taken.TooMany (Gives 1) (cells.Answers c (Gives 0)) ec (ap (λ z. taken_of z t) same ∙ ek))
+            (throwing code (seen y w) Error) (ap (λ f. f (Fails Error)) eg ∙ ap (λ z. throwing code (seen y z) Error) (sym full))))
+        take_try w is (now, ec, fresh) differs (taken.Taken next_) ek = by_test (eqb_tells now w)
+          where
+            by_test : (((now == w) ≡ true) × (now ≡ w)) ⊎ (((now == w) ≡ false) × (now ≢ w)) → Comes (one code t c x)
+            by_test (inl (bt, same)) =
+                let ew : cells.cell_at c a 0 ≡ Some w = ec ∙ ap Some same in
+                let st = store_is c a next_ w ew in
+                subst Comes (sym (ap (one code t c) is ∙ parts.won c st.0 w next_ ek (won_is c st.0 a t w next_ ew st.1)))
+                (acts_so s m h t had start at y runs (act.TryLock a) go em planned x there start_ es known way mid st.0 (Gives 1)
+                (lock_is c a t w (taken.Taken next_) (Gives 1) (cells.Answers c (Gives 0)) ew ek ∙ st.1 (Gives 1)) (exchanged y 1) (ap (λ f. f (Gives 1)) eg))
+            by_test (inr (bt, apart)) =
+                subst Comes (sym (ap (one code t c) is ∙ parts.lost c c w next_ ek (lost_is c a t w next_ now ec bt)))
+                (acts_here s m h t had start at y runs (act.TryLock a) go em planned x there start_ es known way mid c (Gives 0)
+                (lock_is c a t now taken.Other (Gives 1) (cells.Answers c (Gives 0)) ec (lost_other t w now next_ fresh ek apart)) (λ z. exchanged y 0) (lost_mids go eg parts)).2
+
+      module _ (go : Answer ℕ → Option Thread) (em : whole_move code t y ≡ MoveAsks (act.Unlock a) go) (parts : UnlockParts code t y a) (eg : go ≡ after_unlock code y) where
+        see_unlock : x ≡ y → Comes (one code t c x)
+        see_unlock here = by_owner (is_own (lock_word r.0) t) refl
+          where
+            r : Word s m h t had start at y runs (act.Unlock a) go em planned x there start_ es known way mid a
+            r = word_of_lock s m h t had start at y runs (act.Unlock a) go em planned x there start_ es known way mid a refl
+
+            by_owner : (z : Bool) → is_own (lock_word r.0) t ≡ z → Comes (one code t c x)
+            by_owner true ez =
+                subst Comes (sym (ap (one code t c) here ∙ parts.see c (lock_word r.0) _ r.2 (own_left (lock_word r.0) t ez)))
+                (saw s m h t had start at y runs (act.Unlock a) go em planned x there start_ es known way mid a (lock_word r.0) refl (sees_now s m h t had start at y runs (act.Unlock a) go em planned x there start_ es known way mid a (lock_word r.0) r.2) ez)
+            by_owner false ez =
+                subst Comes (sym (ap (one code t c) here ∙ parts.see_other c (lock_word r.0) r.2 (not_left (lock_word r.0) t ez)))
+                (subst (λ z. Comes (machine_steps.ended_so c z (throwing code y IllegalMonitorState) (did.Acted (act.Unlock a) (Fails IllegalMonitorState)))) here
+                (acts_thrown s m h t had start at y runs (act.Unlock a) go em planned x there start_ es known way mid c (Fails IllegalMonitorState)
+                (unlock_is c a t (lock_word r.0) left.NotOwner r.2 (not_left (lock_word r.0) t ez)) (throwing code y IllegalMonitorState) (ap (λ f. f (Fails IllegalMonitorState)) eg)))
+
+        drop_unlock : (w : ℕ) → x ≡ seen y w → Sees c t a w → is_own w t ≡ true → (next_ : ℕ) → left_of w t ≡ left.Left next_ → Comes (one code t c x)
+        drop_unlock w is (now, ec, fresh) own next_ ek =
+            let same : now ≡ w = fresh.0 own in
+            let st = store_is c a next_ now ec in
+            subst Comes (sym (ap (one code t c) is ∙ parts.drop c st.0 w next_ ek (st.1 AnswerDone) _ refl))
+            (acts_so s m h t had start at y runs (act.Unlock a) go em planned x there start_ es known way mid st.0 AnswerDone
+            (unlock_is c a t now (left.Left next_) ec (ap (λ z. left_of z t) same ∙ ek) ∙ st.1 AnswerDone) _ (ap (λ f. f AnswerDone) eg))
+
+    same_lock : (a lock w : ℕ) → Some a ≡ Some lock → Sees m.cells t lock w → Sees m.cells t a w
+    same_lock a lock w e sees = (let z : lock ≡ a = cc in subst (λ v. Sees m.cells t v w) z sees)
+
+    -- SEE, by the operation
+    see_any : (b : Action ℕ) (go : Answer ℕ → Option Thread) → whole_move code t y ≡ MoveAsks b go → IsPlanned (thread_move code y) → Parts code t y b go → x ≡ y → Comes (one code t m.cells x)
+    see_any (act.Lock a) go em planned parts here = see_lock a planned go em parts.0 parts.1 here
+    see_any (act.TryLock a) go em planned parts here = see_try a planned go em parts.0 parts.1 here
+    see_any (act.Unlock a) go em planned parts here = see_unlock a planned go em parts.0 parts.1 here
+    see_any (act.ReadField o i) go em planned parts here = absurd parts
+    see_any (act.WriteField o i v) go em planned parts here = absurd parts
+    see_any (act.ReadItem o i) go em planned parts here = absurd parts
+    see_any (act.WriteItem o i v) go em planned parts here = absurd parts
+    see_any (act.ReadName o) go em planned parts here = absurd parts
+    see_any (act.WriteName o v) go em planned parts here = absurd parts
+    see_any (act.New o) go em planned parts here = absurd parts
+    see_any act.NewLock go em planned parts here = absurd parts
+    see_any (act.NewMarkable v) go em planned parts here = absurd parts
+    see_any (act.NewArray o) go em planned parts here = absurd parts
+    see_any (act.IsHeld o) go em planned parts here = absurd parts
+    see_any (act.ReadPair o) go em planned parts here = absurd parts
+    see_any (act.SetPair o v) go em planned parts here = absurd parts
+    see_any (act.SwapPair o v v') go em planned parts here = absurd parts
+    see_any (act.AttemptMark o r m') go em planned parts here = absurd parts
+    see_any act.Turn go em planned parts here = absurd parts
+    see_any (act.Enter o) go em planned parts here = absurd parts
+    see_any (act.Call o) go em planned parts here = absurd parts
+    see_any (act.Return o v) go em planned parts here = absurd parts
+    see_any (act.Trap o v) go em planned parts here = absurd parts
+
+    -- TAKE and DROP, by the operation
+    take_any : (b : Action ℕ) (go : Answer ℕ → Option Thread) → whole_move code t y ≡ MoveAsks b go → IsPlanned (thread_move code y) → Parts code t y b go → (lock w : ℕ) → lock_on b ≡ Some lock → x ≡ seen y w → Sees m.cells t lock w → OwnFor t w b → Comes (one code t m.cells x)
+    take_any (act.Lock a) go em planned parts lock w on is sees own = take_lock a planned go em parts.0 parts.1 w is (same_lock a lock w on sees) (taken_of w t) refl
+    take_any (act.TryLock a) go em planned parts lock w on is sees own = take_try a planned go em parts.0 parts.1 w is (same_lock a lock w on sees) own (taken_of w t) refl
+    take_any (act.Unlock a) go em planned parts lock w on is sees own = drop_unlock a planned go em parts.0 parts.1 w is (same_lock a lock w on sees) own _ (own_left w t own)
+    take_any (act.ReadField o i) go em planned parts lock w on is sees own = absurd parts
+    take_any (act.WriteField o i v) go em planned parts lock w on is sees own = absurd parts
+    take_any (act.ReadItem o i) go em planned parts lock w on is sees own = absurd parts
+    take_any (act.WriteItem o i v) go em planned parts lock w on is sees own = absurd parts
+    take_any (act.ReadName o) go em planned parts lock w on is sees own = absurd parts
+    take_any (act.WriteName o v) go em planned parts lock w on is sees own = absurd parts
+    take_any (act.New o) go em planned parts lock w on is sees own = absurd parts
+    take_any act.NewLock go em planned parts lock w on is sees own = absurd parts
+    take_any (act.NewMarkable v) go em planned parts lock w on is sees own = absurd parts
+    take_any (act.NewArray o) go em planned parts lock w on is sees own = absurd parts
+    take_any (act.IsHeld o) go em planned parts lock w on is sees own = absurd parts
+    take_any (act.ReadPair o) go em planned parts lock w on is sees own = absurd parts
+    take_any (act.SetPair o v) go em planned parts lock w on is sees own = absurd parts
+    take_any (act.SwapPair o v v') go em planned parts lock w on is sees own = absurd parts
+    take_any (act.AttemptMark o r m') go em planned parts lock w on is sees own = absurd parts
+    take_any act.Turn go em planned parts lock w on is sees own = absurd parts
+    take_any (act.Enter o) go em planned parts lock w on is sees own = absurd parts
+    take_any (act.Call o) go em planned parts lock w on is sees own = absurd parts
+    take_any (act.Return o v) go em planned parts lock w on is sees own = absurd parts
+    take_any (act.Trap o v) go em planned parts lock w on is sees own = absurd parts
+
+    back_whole : x ≡ y → (d : Move) → whole_move code t y ≡ d → Comes (one code t m.cells x)
+    back_whole here Still em =
+        absurd (not_stuck (renaming names s.store) (next file program t had) (subst (λ q. InWords (renaming names s.store) (next file program t had) q) (still code t bound y runs em) (stands_so h.sorts s.store m.cells h.holds t had x (start_, es, known, y, way, mid))))
+    back_whole here (Plans go) em = absurd (subst (NoPlan code t) em (none code t y (thread_move code y)))
+    back_whole here (Silent x') em =
+        subst Comes (sym (ap (one code t m.cells) here ∙ silent_is code t y x' m.cells em))
+        (comes_to s m h t had start at x x' there (start_, es, known, y, way, mid) x' (silent_keeps code t bound y x' runs em (loud_so h.sorts s.store m.cells h.holds t had x (start_, es, known, y, way, mid))) (Here refl))
+    back_whole here (MoveAsks b go) em = by_instruction (asked_by code t y b go (thread_move code y) em)
+      where
+        by_instruction : (thread_move code y ≡ MoveAsks b go) ⊎ IsPlanned (thread_move code y) → Comes (one code t m.cells x)
+        by_instruction (inl et) =
+            let acts = began h.sorts s.store m.cells h.holds t had x (start_, es, known, y, way, mid) runs b go em in
+            subst Comes (sym (ap (λ z. machine_steps.performed m.cells t x (thread_move code z)) here ∙ ap (machine_steps.performed m.cells t x) et))
+            (back_asked s m h t had x start at there (start_, es, known, y, way, mid) b go acts (next file program t had) refl (subst (λ q. InWords (renaming names s.store) (next file program t had) q) acts (stands_so h.sorts s.store m.cells h.holds t had x (start_, es, known, y, way, mid))))
+        by_instruction (inr planned) = see_any b go em planned (parts_are_there code t y b go planned em) here
+
+  back_middle : (s : State) (m : Machine) (h : Follows s m) (t : ℕ) (had : Answers) → has_started file program s t ≡ true → slice_get s.answers t ≡ Some had → (x : Thread) → x.mode ≡ mode.Running → slice_get m.threads t ≡ Some x → (each : Each m.cells h.sorts (renaming names s.store) t (Some had) (Some x)) → (mid : Middle code m.cells t each.3 x) → BackStep s m t (so t (moved m t (one code t m.cells x)))
+  back_middle s m h t had start at x runs there each (Here e) =
+      back_whole s m h t had start at each.3 (sym (ap (λ z. z.mode) e) ∙ runs) x there each.0 each.1 each.2 each.4 (Here e) e (whole_move code t each.3) refl
+  back_middle s m h t had start at x runs there each (Saw r b go lock w em planned on is sees own) =
+      take_any s m h t had start at each.3 r x there each.0 each.1 each.2 each.4 (Saw r b go lock w em planned on is sees own) b go em planned (parts_are_there code t each.3 b go planned em) lock w on is sees own
+  back_middle s m h t had start at x runs there each (Lost r a go em planned is) =
+      let parts = parts_are_there code t each.3 (act.Lock a) go planned em in
+      back_lock s m h t had start at each.3 r x there each.0 each.1 each.2 each.4 (Lost r a go em planned is) a planned go em parts.0 parts.1 is
+  back_middle s m h t had start at x runs there each (Told r z a w parts ey ex ek) =
+      let silent : whole_move code t each.3 ≡ Silent (exchanged z 0) = ap (whole_move code t) ey ∙ parts.told_whole (word_of_another t) (another_is t) in
+      subst (λ o. BackStep s m t (so t (moved m t o))) (sym (ap (one code t m.cells) ex ∙ parts.told m.cells w ek))
+      (comes_to s m h t had start at x (exchanged z 0) there each (exchanged z 0) (silent_keeps code t bound each.3 (exchanged z 0) r silent (loud_so h.sorts s.store m.cells h.holds t had x each)) (Here refl))
+
+  back_move : (s : State) (m : Machine) (h : Follows s m) (t : ℕ) (had : Answers) (x : Thread) → x.mode ≡ mode.Running → has_started file program s t ≡ true → slice_get s.answers t ≡ Some had → slice_get m.threads t ≡ Some x → Each m.cells h.sorts (renaming names s.store) t (Some had) (Some x) → BackStep s m t (so t (moved m t (machine_steps.performed m.cells t x (thread_move code x))))
+  back_move s m h t had x runs start at there each = back_middle s m h t had start at x runs there each each.5
+
+  back_had : (s : State) (m : Machine) (h : Follows s m) (t : ℕ) (x : Thread) → x.mode ≡ mode.Running → has_started file program s t ≡ true → slice_get m.threads t ≡ Some x → (o : Option Answers) → slice_get s.answers t ≡ o → Each m.cells h.sorts (renaming names s.store) t o (Some x) → BackStep s m t (so t (moved m t (machine_steps.performed m.cells t x (thread_move code x))))
   back_had s m h t x runs start there None at each = absurd each
-  back_had s m h t x runs start there (Some had) at each = back_move s m h t had x runs start at there each (thread_move code x) refl
+  back_had s m h t x runs start there (Some had) at each = back_move s m h t had x runs start at there each
 
   back_due : (s : State) (m : Machine) (h : Follows s m) (t : ℕ) (x : Thread) → slice_get m.threads t ≡ Some x → (b : Bool) → is_due m.threads t x ≡ b → BackStep s m t (so t (due_step m t x b))
   back_due s m h t x there false eb = h
   back_due s m h t x there true eb =
       let start = started_back s m h t x eb in
       subst (λ p. BackStep s m t (so t (moved m t (machine_steps.performed m.cells t x (thread_move p x))))) (sym h.image)
-      (back_had s m h t x start.0 start.1 there (slice_get s.answers t) refl (subst (λ p. Each h.sorts (renaming names s.store) t (slice_get s.answers t) p) there (h.each t)))
+      (back_had s m h t x start.0 start.1 there (slice_get s.answers t) refl (subst (λ p. Each m.cells h.sorts (renaming names s.store) t (slice_get s.answers t) p) there (h.each t)))
 
   back_open : (s : State) (m : Machine) (h : Follows s m) (t : ℕ) (x : Thread) → slice_get m.threads t ≡ Some x → (b : Bool) → BackStep s m t (so t (open_step m t x b))
   back_open s m h t x there true = h

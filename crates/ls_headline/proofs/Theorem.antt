@@ -1,8 +1,9 @@
 -- The main theorem.
-use Rattle.std.proofs.Common.{◌≤◌, ◌≡◌, ℕ, zero, suc, ◌+◌, List, [], ◌∷◌, length, map, replicate, Option, Some, refl, sym, ap, ◌∙◌, subst, arith, append-nil, slice_get}
+use Rattle.std.proofs.Common.{◌≤◌, ◌≡◌, ℕ, zero, suc, ◌+◌, List, [], ◌∷◌, length, map, replicate, Option, Some, None, refl, sym, ap, ◌∙◌, subst, arith, append-nil, slice_get}
 use Rattle.std.proofs.lemmas.List.{length-replicate, length-map}
 use Rattle.ls_events.specs.declared.value.Value.{Value}
 use Rattle.ls_events.specs.declared.value.Value.TheVariants.{Reference}
+use Rattle.ls_events.specs.declared.value.ValueType.{ValueType}
 use Rattle.ls_events.specs.declared.value.ValueType.TheVariants as type
 use Rattle.ls_checked.specs.CheckedTree.{File}
 use Rattle.ls_checked.specs.CheckedProgram.{Program, SetupName, ThreadProgram}
@@ -25,6 +26,7 @@ use Rattle.ls_headline.proofs.Cells.{sizes_of, AgreeTo}
 use Rattle.ls_headline.proofs.Effects.{HaveTypes, renaming}
 use Rattle.ls_headline.proofs.AllCases.{names_of}
 use Rattle.ls_headline.proofs.StepBack
+use Rattle.ls_headline.proofs.Middle.{Here}
 use Rattle.ls_headline.proofs.StepForth
 use Rattle.ls_headline.proofs.Histories.{events_in, history_is, AllSay, events_back}
 use Rattle.ls_headline.proofs.Births.{addresses, numbered_agrees, grows_refl, grows_trans, grows_step, births_right, addresses_differ}
@@ -74,7 +76,7 @@ module _ (file : File) (program : Program) (code : Code) (asks : Asks file progr
   write = StepBack.write file program code asks sound room within.most
 
   abbrev Has : ℕ → Option Answers → Option Thread → Type 0
-  Has t o p = StepBack.Each file program code asks sound room within.most [] (renaming names s0.store) t o p
+  Has t o p = StepForth.Each file program code asks sound room within.most [] (renaming names s0.store) t o p
 
   each_start : (xs : List Start) (ys : List ThreadProgram) (k t : ℕ) → ((u : ℕ) → calls_of (slice_get xs u) (slice_get ys u)) → ((u : ℕ) (x : Start) → slice_get xs u ≡ Some x → slice_get code.starts (k + u) ≡ Some x) → Has (k + t) (slice_get (map (λ y. []) ys) t) (slice_get (map started xs) t)
   each_start [] [] k t c h = tt
@@ -90,8 +92,8 @@ module _ (file : File) (program : Program) (code : Code) (asks : Asks file progr
   count : names ≡ length program.names
   count = length-map program.names (λ x. type.Class x.class)
 
-  follows_start : Follows s0 m0
-  follows_start = record {
+  steady_start : StepForth.Follows file program code asks sound room within.most s0 m0
+  steady_start = record {
     sorts = [];
     image = refl;
     holds = record {
@@ -105,6 +107,21 @@ module _ (file : File) (program : Program) (code : Code) (asks : Asks file progr
     };
     count = length-map program.threads (λ y. []);
     each = λ t. let e : 0 + t ≡ t = omega arith in subst (λ n. Has n (slice_get (map (λ y. []) program.threads) t) (slice_get (map started code.starts) t)) e (each_start code.starts program.threads 0 t asks.threads (λ u x g. let e' : u ≡ 0 + u = omega arith in subst (λ n. slice_get code.starts n ≡ Some x) e' g));
+  }
+
+  back_each : (σ : List ValueType) (t : ℕ) (o : Option Answers) (p : Option Thread) → StepForth.Each file program code asks sound room within.most σ (renaming names s0.store) t o p → StepBack.Each file program code asks sound room within.most m0.cells σ (renaming names s0.store) t o p
+  back_each σ t None None h = tt
+  back_each σ t None (Some x) h = absurd h
+  back_each σ t (Some had) None h = absurd h
+  back_each σ t (Some had) (Some x) h = (h.0, h.1, h.2, x, h.3, Here refl)
+
+  follows_start : Follows s0 m0
+  follows_start = record {
+    sorts = steady_start.sorts;
+    image = refl;
+    holds = steady_start.holds;
+    count = steady_start.count;
+    each = λ t. back_each steady_start.sorts t (slice_get s0.answers t) (slice_get m0.threads t) (steady_start.each t);
   }
 
   stable : (s s' : State) (e : source.Entry Value) → Live s e → Later s s' → write s e ≡ write s' e
@@ -183,7 +200,7 @@ module _ (file : File) (program : Program) (code : Code) (asks : Asks file progr
 
   pub machine_right : (ts : List ℕ) → Fits file program room ts → Alike file program code room (to_machine file program code room ts) ts
   machine_right ts fits =
-      let made = StepForth.setup_made file program code asks sound room within.most s0 m0 follows_start refl (has_setup_ended file program s0) refl in
+      let made = StepForth.setup_made file program code asks sound room within.most s0 m0 steady_start refl (has_setup_ended file program s0) refl in
       let fits' : FitsNow (run sd s0 ts) = omega (arith, count) in
       let r = LiftForth.to_machine_right file program bound write InStep Later Live FitsNow forth_laws ts s0 m0 made.0 made.1 fits' in
       alike (to_machine file program code room ts) ts _ fits' refl r.0 (same_alive (run sd s0 ts) (trace sd s0 ts) r.1)

@@ -77,7 +77,7 @@ held_left owner holds t b d eb ed h =
 free_left : (t : ℕ) → left_of 0 t ≡ left.NotOwner
 free_left t = let e : (0 == t + 1) ≡ false = grind (arith, nat_tests) in ap (λ b. if b then left.Left (if nat_le (0 % 2 ^ 32) 1 then 0 else 0 - 1) else left.NotOwner) e
 
-held_own : (owner holds t : ℕ) → holds ≤ 2147483647 → is_own (held_word owner holds) t ≡ nat_eq owner t
+pub held_own : (owner holds t : ℕ) → holds ≤ 2147483647 → is_own (held_word owner holds) t ≡ nat_eq owner t
 held_own owner holds t h =
     let e2 : held_word owner holds / 2 ^ 32 ≡ owner + 1 = omega arith in
     let e4 : (owner + 1 == t + 1) ≡ nat_eq owner t = grind (arith, nat_tests) in

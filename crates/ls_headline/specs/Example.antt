@@ -41,10 +41,10 @@ code = record {
   instructions =
       op.Call 1 ∷ op.NewObject 0 ∷ op.Dup ∷ op.Enter 1 ∷ op.PutName 0 ∷ op.Result 1 ∷ op.Halt
       ∷ op.Call 1 ∷ op.GetName 0 ∷ op.Enter 0 ∷ op.Result 1 ∷ op.Halt ∷ op.Trap
-      ∷ op.NewLock ∷ op.Store 1 ∷ op.Load 1 ∷ op.Lock ∷ op.Leave
+      ∷ op.NewLock ∷ op.Store 1 ∷ op.Load 1 ∷ op.See 1 ∷ op.Take 1 ∷ op.JumpIfFalse 16 ∷ op.Pop ∷ op.Leave
       ∷ op.Leave ∷ [];
   handlers = record { from = 7; to = 12; handler = 12; depth = 0 } ∷ [];
-  methods = record { start = 13; arguments = 1; more = 1; need = 1 } ∷ record { start = 18; arguments = 1; more = 0; need = 0 } ∷ [];
+  methods = record { start = 13; arguments = 1; more = 1; need = 2 } ∷ record { start = 21; arguments = 1; more = 0; need = 0 } ∷ [];
   sizes = 1 ∷ [];
   starts = record { place = 0; need = 2; calls = Nothing ∷ [] } ∷ record { place = 7; need = 1; calls = Nothing ∷ [] } ∷ [];
   names = 1;

@@ -1,3 +1,4 @@
+pub mod Parts
 pub mod InWords
 pub mod Sorts
 pub mod Translations

@@ -21,15 +21,15 @@ CellsOfThings = total (Object [] ∷ FreeLock ∷ Array 3 (λ i. Boolean false) 
 
 -- each acting instruction is one source step; a step that isn't due yet, a silent one and one after the end are none
 abbrev pub ScheduleToSource : Type 0
-ScheduleToSource = to_source code 9 (1 ∷ replicate 8 0 ++ replicate 12 1) ≡ replicate 5 0 ++ replicate 6 1
+ScheduleToSource = to_source code 9 (1 ∷ replicate 8 0 ++ replicate 15 1) ≡ replicate 5 0 ++ replicate 6 1
 
 -- the instructions up to each acting one, and the setup's last, silent one with its return
 abbrev pub ScheduleToMachine : Type 0
-ScheduleToMachine = to_machine file program code 9 (1 ∷ replicate 5 0 ++ replicate 7 1) ≡ replicate 8 0 ++ replicate 9 1
+ScheduleToMachine = to_machine file program code 9 (1 ∷ replicate 5 0 ++ replicate 7 1) ≡ replicate 8 0 ++ replicate 12 1
 
 -- the name has cell 1, the object 2, the lock 3
 abbrev pub BirthsOfRun : Type 0
-BirthsOfRun = births (machine_trace (loaded code 9) (replicate 8 0 ++ replicate 9 1)) ≡ 2 ∷ 3 ∷ []
+BirthsOfRun = births (machine_trace (loaded code 9) (replicate 8 0 ++ replicate 12 1)) ≡ 2 ∷ 3 ∷ []
 
 -- object 1 stands at 2 and object 2 at 3
 abbrev pub NumbersOfBirths : Type 0

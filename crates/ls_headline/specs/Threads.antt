@@ -1,6 +1,5 @@
 -- What is asked of an image and of the meaning, so that the image's runs are the source's.
 use Rattle.std.specs.Prelude.{◌≡◌, ℕ, zero, suc, List, length, map, Option, Some, None, slice_get}
-use Rattle.std.specs.List.{All}
 use Rattle.ls_events.specs.declared.value.Value.{Value}
 use Rattle.ls_events.specs.declared.value.ValueType.{ValueType}
 use Rattle.ls_events.specs.declared.value.ValueType.TheVariants as type
@@ -12,10 +11,9 @@ use Rattle.ls_meaning.specs.Course.{Answers}
 use Rattle.ls_meaning.specs.Threads.{Next, Goes, Ended, Trapped, next}
 use Rattle.ls_code.specs.Code.{Code, Start}
 use Rattle.ls_code.specs.Machine.{started}
-use Rattle.ls_code.specs.Fed.{Fed, fed}
+use Rattle.ls_code.specs.Fed.{Fed}
+use Rattle.ls_code.specs.Reading.{fed}
 use Rattle.ls_code.specs.Fed as fed
-use Rattle.ls_code.specs.declared.instruction.Instruction.{Instruction}
-use Rattle.ls_code.specs.declared.instruction.Instruction.TheVariants.{See, Take, DropLock}
 use Rattle.ls_code.specs.declared.code.CallResult.{CallResult}
 use Rattle.ls_code.specs.declared.code.CallResult.TheVariants as result
 use Rattle.ls_headline.specs.InWords.{word_of, map_action, map_answer}
@@ -49,13 +47,6 @@ calls_of None None = Unit {0}
 calls_of (Some s) (Some t) = s.calls ≡ map call_result t.calls
 calls_of _ _ = ⊥
 
--- locks are taken in one step
-abbrev pub IsWhole : Instruction → Type 0
-IsWhole (See p) = ⊥
-IsWhole (Take p) = ⊥
-IsWhole DropLock = ⊥
-IsWhole i = Unit {0}
-
 -- what the image promises
 pub record Asks (file : File) (program : Program) (code : Code) : Type 0 where
   -- each thread, fed with answers in kind, asks what the source asks next, and ends as it does; it is never stuck, nor
@@ -67,7 +58,6 @@ pub record Asks (file : File) (program : Program) (code : Code) : Type 0 where
   pub names : code.names ≡ length program.names
   -- the cells of an object of each class
   pub sizes : (c : ℕ) (class : Class) → slice_get file.classes c ≡ Some class → slice_get code.sizes c ≡ Some (at_least_one (length class.fields))
-  pub whole : All IsWhole code.instructions
 
 -- what the meaning of a file and a program promises
 pub record IsSound (file : File) (program : Program) : Type 0 where

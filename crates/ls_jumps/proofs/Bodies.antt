@@ -12,7 +12,7 @@ use Rattle.ls_elaboration.specs.Known.{Known, Local, local_named, type_of}
 use Rattle.ls_elaboration.specs.TypedExpressions.{typed, fitting}
 use Rattle.ls_elaboration.specs.Scopes.{Body, Scope, most_slots, start_of, with_variable, with_statement, may_declare, initialised, declared, declaration}
 use Rattle.ls_elaboration.specs.TypedStatements.{Loops, WithSlots, jump, label_text, variable, Place, AtSlot, AtField, AtItem, assigned, assignment, returned, opened, closed, followed, statement, items}
-use Rattle.ls_jumps.specs.Jumps.{JumpsInLoops}
+use Rattle.ls_completion.specs.Jumps.{JumpsInLoops}
 use Rattle.ls_jumps.proofs.Given.{Gives, bind, after, unless, each_keeps, Each, each_push}
 use Rattle.ls_jumps.proofs.Jumping.{jump_low, fresh_gives, one_more, in_sequence}
 

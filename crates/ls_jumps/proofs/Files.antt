@@ -11,13 +11,14 @@ use Rattle.ls_elaboration.specs.Trees.{Text, Name, Expression, TypeName, Declara
 use Rattle.ls_elaboration.specs.Elaborated.{Elaborated, each}
 use Rattle.ls_elaboration.specs.Known.{Known, ClassSign, field_of, type_of, result_of}
 use Rattle.ls_elaboration.specs.TypedExpressions.{fitting}
-use Rattle.ls_elaboration.specs.Completion.{can_complete}
+use Rattle.ls_completion.specs.Completion.{can_complete}
 use Rattle.ls_elaboration.specs.Scopes.{Body, Scope}
 use Rattle.ls_elaboration.specs.TypedStatements.{sequence, items}
 use Rattle.ls_elaboration.specs.TypedMethods.{parameter, field_set, declarator_set, member_set, initialisers, finished, method, written_method, written_constructor, one_method, has_constructor, default_constructor, class_methods}
 use Rattle.ls_elaboration.specs.Signs.{class_names, class_signs}
 use Rattle.ls_elaboration.specs.Elaboration.{Bodies, one_body, file_methods, Outcome, elaborated}
-use Rattle.ls_jumps.specs.Jumps.{JumpsInLoops, HasItsLoops, HasItsEnds}
+use Rattle.ls_completion.specs.Jumps.{JumpsInLoops}
+use Rattle.ls_jumps.specs.Jumps.{HasItsLoops, HasItsEnds}
 use Rattle.ls_jumps.proofs.Given.{Gives, bind, after, unless, each_keeps, gives_of, Each, each_push, each_at}
 use Rattle.ls_jumps.proofs.Jumping.{in_sequence}
 use Rattle.ls_jumps.proofs.Bodies.{Kept, may_gives, items_kept}

@@ -7,7 +7,7 @@ use Rattle.ls_elaboration.specs.declared.rule.Rule.TheVariants as rules
 use Rattle.ls_elaboration.specs.Trees.{Text, Name}
 use Rattle.ls_elaboration.specs.Elaborated.{Elaborated}
 use Rattle.ls_elaboration.specs.TypedStatements.{Loops, is_label, loop_named, found_loop, jump, fresh_label, sequence}
-use Rattle.ls_jumps.specs.Jumps.{JumpsInLoops, JumpInLoops}
+use Rattle.ls_completion.specs.Jumps.{JumpsInLoops, JumpInLoops}
 use Rattle.ls_jumps.proofs.Given.{Gives, unless, Each}
 
 abbrev Low : ℕ → Option ℕ → Type 0

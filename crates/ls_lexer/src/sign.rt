@@ -1,7 +1,9 @@
 // Separators and operators.
 
+use std::alloc::AllocError;
+
 /// A separator (JLS 3.11) or an operator (JLS 3.12), used by the grammar or not.
-#[derive(Clone, Copy, Debug, PartialEq, Eq)]
+#[derive(Copy, PartialEq, Eq)]
 pub enum Sign {
     OpenParen,
     CloseParen,
@@ -53,4 +55,10 @@ pub enum Sign {
     ShiftLeftAssign,
     ShiftRightAssign,
     UnsignedShiftRightAssign,
+}
+
+impl Clone for Sign {
+    fn clone(&self) -> Result<Sign, AllocError> {
+        Ok(*self)
+    }
 }

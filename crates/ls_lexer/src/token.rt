@@ -12,7 +12,7 @@ pub struct Span {
 
 /// What a token is (JLS 3.5): an identifier (JLS 3.8) or a number (JLS 3.10.1), which come with their text, a reserved word,
 /// or a separator or operator.
-#[derive(Clone, Copy, Debug, PartialEq, Eq)]
+#[derive(Clone, Copy, PartialEq, Eq)]
 pub enum TokenKind<'a> {
     Name(&'a str),
     Number(&'a str),
@@ -21,7 +21,7 @@ pub enum TokenKind<'a> {
 }
 
 /// A token and where it stands. The text of a name or number is the slice of the source that stands there.
-#[derive(Clone, Copy, Debug, PartialEq, Eq)]
+#[derive(Clone, Copy)]
 pub struct Token<'a> {
     pub kind: TokenKind<'a>,
     pub span: Span,

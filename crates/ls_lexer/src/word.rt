@@ -1,7 +1,9 @@
 // The reserved words.
 
+use std::alloc::AllocError;
+
 /// A reserved word: a keyword (JLS 3.9), or `true`, `false` (JLS 3.10.3) or `null` (JLS 3.10.7).
-#[derive(Clone, Copy, Debug, PartialEq, Eq)]
+#[derive(Copy, PartialEq, Eq)]
 pub enum Word {
     Abstract,
     Continue,
@@ -56,4 +58,10 @@ pub enum Word {
     True,
     False,
     Null,
+}
+
+impl Clone for Word {
+    fn clone(&self) -> Result<Word, AllocError> {
+        Ok(*self)
+    }
 }

@@ -1,5 +1,5 @@
 -- The courses of expressions. Operands go from left to right, and the test for null comes after them.
-use Rattle.std.specs.Prelude.{ℕ, ◌/◌, ◌%◌, ◌^◌, pos, List, [], ◌∷◌, nat_eq, int_lt, slice_index, slice_set, if◌then◌else◌}
+use Rattle.std.specs.Prelude.{ℕ, zero, suc, ◌/◌, ◌%◌, ◌^◌, pos, List, [], ◌∷◌, nat_eq, int_lt, slice_index, slice_set, if◌then◌else◌}
 use Rattle.ls_events.specs.declared.kind.Kind.TheVariants.{Arithmetic, NegativeArraySize}
 use Rattle.ls_events.specs.declared.action.Action.TheVariants as act
 use Rattle.ls_lowered.specs.declared.tree.UnaryOperator.{UnaryOperator}
@@ -41,11 +41,16 @@ operate op.Divide x y locals rest = divided op.Divide x y locals rest
 operate op.Remainder x y locals rest = divided op.Remainder x y locals rest
 operate o x y locals rest = Ends (Results (binary_word o x y)) locals rest
 
--- an operation of the lock at an address; lock and unlock give no word
+-- 0 for 0, and 1 for anything else
+abbrev pub flag_word : ℕ → ℕ
+flag_word zero = 0
+flag_word (suc n) = 1
+
+-- an operation of the lock at an address; lock and unlock give no word, and tryLock 0 or 1
 abbrev pub operate_lock : LockOperation → ℕ → List ℕ → Answers → Course (Outcome ℕ)
 operate_lock Lock x locals rest = perform (act.Lock x) locals rest
 operate_lock Unlock x locals rest = perform (act.Unlock x) locals rest
-operate_lock TryLock x locals rest = ask (act.TryLock x) locals rest
+operate_lock TryLock x locals rest = and_then (ask (act.TryLock x) locals rest) (λ w ls q. Ends (Results (flag_word w)) ls q)
 operate_lock IsHeld x locals rest = ask (act.IsHeld x) locals rest
 
 -- a length below 0 makes nothing

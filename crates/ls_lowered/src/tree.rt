@@ -4,8 +4,10 @@
 // `2 * reference + mark`. Local 0 of a method is `this`; then come its parameters, its locals and its temporaries.
 // Classes, fields and methods are numbered as in the checked tree.
 
+use std::alloc::AllocError;
+
 /// The operators on one word.
-#[derive(Clone, Copy, Debug, PartialEq, Eq)]
+#[derive(Copy)]
 pub enum UnaryOperator {
     Negate,
     Not,
@@ -15,8 +17,14 @@ pub enum UnaryOperator {
     MarkOf,
 }
 
+impl Clone for UnaryOperator {
+    fn clone(&self) -> Result<UnaryOperator, AllocError> {
+        Ok(*self)
+    }
+}
+
 /// The operators on two words.
-#[derive(Clone, Copy, Debug, PartialEq, Eq)]
+#[derive(Copy)]
 pub enum BinaryOperator {
     Add,
     Subtract,
@@ -33,8 +41,14 @@ pub enum BinaryOperator {
     Pack,
 }
 
+impl Clone for BinaryOperator {
+    fn clone(&self) -> Result<BinaryOperator, AllocError> {
+        Ok(*self)
+    }
+}
+
 /// The operations of a lock.
-#[derive(Clone, Copy, Debug, PartialEq, Eq)]
+#[derive(Copy)]
 pub enum LockOperation {
     Lock,
     Unlock,
@@ -42,7 +56,13 @@ pub enum LockOperation {
     IsHeld,
 }
 
-#[derive(Debug, Drop)]
+impl Clone for LockOperation {
+    fn clone(&self) -> Result<LockOperation, AllocError> {
+        Ok(*self)
+    }
+}
+
+#[derive(Drop)]
 #[cycle(expressions)]
 pub enum Expression {
     Word(u64),
@@ -82,7 +102,7 @@ pub enum Expression {
 }
 
 /// Arguments, at most 127.
-#[derive(Debug, Drop)]
+#[derive(Drop)]
 #[cycle(expressions)]
 pub enum Expressions {
     End,
@@ -90,7 +110,7 @@ pub enum Expressions {
 }
 
 /// `Break` and `Continue` say how many loops they leave behind: 0 is the innermost. So does `Leave` of leavable regions.
-#[derive(Debug, Drop)]
+#[derive(Drop)]
 #[cycle(statements)]
 pub enum Statement {
     Block(Vec<Statement>),
@@ -115,7 +135,7 @@ pub enum Statement {
 }
 
 /// A method or a constructor.
-#[derive(Debug, Drop)]
+#[derive(Drop)]
 pub struct Method {
     /// `this` and the parameters.
     pub arguments: usize,
@@ -125,7 +145,7 @@ pub struct Method {
 }
 
 /// The methods and constructors of a file.
-#[derive(Debug, Drop)]
+#[derive(Drop)]
 pub struct File {
     pub methods: Vec<Method>,
 }

@@ -3,9 +3,10 @@
 use ls_code::instruction::{Resume, ThreadInstruction};
 use ls_events::action::{Action, Answer};
 use ls_events::kind::Kind;
+use std::alloc::AllocError;
 
 /// How a frame goes on after a silent instruction; the other instructions are left to `acting`. It fits into two bytes.
-#[derive(Clone, Copy, PartialEq, Eq)]
+#[derive(Copy)]
 pub enum Quick {
     Next,
     Throws(Kind),
@@ -13,8 +14,14 @@ pub enum Quick {
     Other,
 }
 
+impl Clone for Quick {
+    fn clone(&self) -> Result<Quick, AllocError> {
+        Ok(*self)
+    }
+}
+
 /// How a frame goes on at an instruction that isn't silent.
-#[derive(Clone, Copy, PartialEq, Eq)]
+#[derive(Copy)]
 pub enum Flow {
     Throws(Kind),
     Stuck,
@@ -22,19 +29,37 @@ pub enum Flow {
     Beyond(ThreadInstruction),
 }
 
+impl Clone for Flow {
+    fn clone(&self) -> Result<Flow, AllocError> {
+        Ok(*self)
+    }
+}
+
 /// What became of a call of a method: it was entered, it throws, or the thread is stuck.
-#[derive(Clone, Copy, PartialEq, Eq)]
+#[derive(Copy)]
 pub enum Entered {
     Entered,
     Throws(Kind),
     Stuck,
 }
 
+impl Clone for Entered {
+    fn clone(&self) -> Result<Entered, AllocError> {
+        Ok(*self)
+    }
+}
+
 /// How the cells answer an action: with an answer, or the thread waits, or the machine stops, or there is no such cell.
-#[derive(Clone, Copy, PartialEq, Eq)]
+#[derive(Copy)]
 pub enum Reply {
     Answered(Answer<u64>),
     Waits,
     Stops,
     Unfit,
+}
+
+impl Clone for Reply {
+    fn clone(&self) -> Result<Reply, AllocError> {
+        Ok(*self)
+    }
 }

@@ -1,9 +1,10 @@
 // What kind of answer an action has.
 
 use ls_events::value::ValueType;
+use std::alloc::AllocError;
 
 /// What an action is answered, where it throws nothing.
-#[derive(Clone, Copy, Debug, PartialEq, Eq)]
+#[derive(Copy)]
 pub enum Sort {
     /// Only that it is done.
     NoValue,
@@ -13,4 +14,10 @@ pub enum Sort {
     NewOf(ValueType),
     /// What a markable holds: a reference to an object of a class, or null, and a mark.
     PairOf(usize),
+}
+
+impl Clone for Sort {
+    fn clone(&self) -> Result<Sort, AllocError> {
+        Ok(*self)
+    }
 }

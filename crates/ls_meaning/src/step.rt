@@ -2,9 +2,10 @@
 
 use ls_events::action::{Action, Answer};
 use ls_events::value::Value;
+use std::alloc::AllocError;
 
 /// What a thread asks for next.
-#[derive(Clone, Copy, Debug, PartialEq, Eq)]
+#[derive(Copy)]
 pub enum Asked {
     Asks(Action<Value>),
     /// Its last event has happened; so it is for the number of no thread.
@@ -13,12 +14,24 @@ pub enum Asked {
     NotStarted,
 }
 
+impl Clone for Asked {
+    fn clone(&self) -> Result<Asked, AllocError> {
+        Ok(*self)
+    }
+}
+
 /// What a step of a thread does.
-#[derive(Clone, Copy, Debug, PartialEq, Eq)]
+#[derive(Copy)]
 pub enum Did {
     Acted(Action<Value>, Answer<Value>),
     /// It asks for a lock that another thread owns.
     Waits,
     /// It hasn't started or has ended.
     Idle,
+}
+
+impl Clone for Did {
+    fn clone(&self) -> Result<Did, AllocError> {
+        Ok(*self)
+    }
 }

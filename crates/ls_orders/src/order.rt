@@ -4,7 +4,7 @@ use std::marker::Model;
 
 /// Calls in an order, each by its text, as `A.1`: the thread's name and the call's number among those of its thread,
 /// which may have any number of digits.
-#[derive(Debug, Drop)]
+#[derive(Drop)]
 pub struct Order {
     calls: Vec<String>,
 }

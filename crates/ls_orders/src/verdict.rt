@@ -1,7 +1,9 @@
 // Verdicts.
 
+use std::alloc::AllocError;
+
 /// What an order or its history breaks, in the order of the tests.
-#[derive(Clone, Copy, Debug, PartialEq, Eq)]
+#[derive(Copy, PartialEq, Eq)]
 pub enum Rule {
     NotASetCall,
     UnknownCall,
@@ -11,8 +13,14 @@ pub enum Rule {
     WrongReply,
 }
 
+impl Clone for Rule {
+    fn clone(&self) -> Result<Rule, AllocError> {
+        Ok(*self)
+    }
+}
+
 /// Whether an order is legal, or the first rule that is broken, with the text of the first call that breaks it.
-#[derive(Debug, Drop, PartialEq, Eq)]
+#[derive(Drop)]
 pub enum Verdict {
     Legal,
     Broken { rule: Rule, call: String },

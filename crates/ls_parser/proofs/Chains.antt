@@ -4,9 +4,9 @@ use Rattle.std.proofs.lemmas.Bool.{lt-leb}
 use Rattle.ls_lexer.specs.declared.fault.TextFault.{TextFault}
 use Rattle.ls_lexer.specs.declared.token.Token.{Token}
 use Rattle.ls_lexer.specs.Lexemes.{Lexeme, lexemes}
-use Rattle.ls_parser.specs.declared.tree.BinaryOp.{BinaryOp}
-use Rattle.ls_parser.specs.Trees.{Term, Binary}
-use Rattle.ls_parser.specs.WellFormed.{term_height, is_minus}
+use Rattle.ls_tree.specs.declared.tree.BinaryOp.{BinaryOp}
+use Rattle.ls_tree.specs.Trees.{Term, Binary}
+use Rattle.ls_tree.specs.WellFormed.{term_height, is_minus}
 use Rattle.ls_parser.specs.Answers.{Fails}
 use Rattle.ls_parser.specs.Reading.{◌>>=◌, Reader, given, repeat}
 use Rattle.ls_parser.specs.ReadingTerms.{operator_at, has_operator, joined_at, binary_at, unary_of, signed_at, unary_at, post_of, post_at}

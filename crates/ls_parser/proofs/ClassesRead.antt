@@ -4,8 +4,8 @@ use Rattle.std.specs.List.{AllByRecursion}
 use Rattle.ls_lexer.specs.declared.sign.Sign.TheVariants as signs
 use Rattle.ls_lexer.specs.declared.word.Word.TheVariants as words
 use Rattle.ls_lexer.specs.Lexemes.{Lexeme, Named, Numeral, Reserved, Marked}
-use Rattle.ls_parser.specs.Trees.{Text, Modifier, TypeName, Declaration, Parameter, Member, Fields, Method, Constructor, ClassTree, Dotted, Import, File}
-use Rattle.ls_parser.specs.WellFormed.{most_nodes, WellFormedMember, WellFormedFile}
+use Rattle.ls_tree.specs.Trees.{Text, Modifier, TypeName, Declaration, Parameter, Member, Fields, Method, Constructor, ClassTree, Dotted, Import, File}
+use Rattle.ls_tree.specs.WellFormed.{most_nodes, WellFormedMember, WellFormedFile}
 use Rattle.ls_parser.specs.Reading.{◌>>=◌, Reader, given, after_sign, after_word, name_at, starts, not_yet, one_more, many_from, many_at, behind_comma, others_at, group_at}
 use Rattle.ls_parser.specs.ReadingTerms.{term_at}
 use Rattle.ls_parser.specs.ReadingActions.{modifiers_at, type_at, declarators_at, block_at}

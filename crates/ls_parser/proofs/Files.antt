@@ -3,9 +3,9 @@ use Rattle.std.proofs.Common.{◌≡◌, ℕ, ◌≤◌, ◌<◌, ◌+◌, ◌�
 use Rattle.ls_lexer.specs.declared.fault.TextFault.{TextFault}
 use Rattle.ls_lexer.specs.Lexemes.{Lexeme}
 use Rattle.ls_lexer.specs.Tokens.{tokens_of}
-use Rattle.ls_parser.specs.Trees.{File}
+use Rattle.ls_tree.specs.Trees.{File}
 use Rattle.ls_parser.specs.Spelling.{spell}
-use Rattle.ls_parser.specs.WellFormed.{WellFormedFile}
+use Rattle.ls_tree.specs.WellFormed.{WellFormedFile}
 use Rattle.ls_parser.specs.Spells.{Spells, TextSpells}
 use Rattle.ls_parser.specs.Answers.{Refuses, RefusesTokens, MayCome, Fails}
 use Rattle.ls_lexer.specs.Places.{Refused, text_limit}

@@ -1,7 +1,7 @@
 -- How many nodes a tree has: the measure of the recursion on expressions and statements.
 use Rattle.std.proofs.Common.{◌≡◌, ℕ, ◌+◌, Option, Some, None, refl, List, [], ◌∷◌}
-use Rattle.ls_parser.specs.Trees.{Text, Term, Number, True, False, Null, This, Name, Paren, Unary, Binary, Field, Call, CallOn, Item, New, NewMarkable, NewArray, Terms, NoTerm, MoreTerms, Action, Block, Empty, If, IfElse, While, Break, Continue, Return, Try, Assign, Evaluate, Items, NoItem, Do, Declare}
-use Rattle.ls_parser.specs.Views.{call_of, if_of}
+use Rattle.ls_tree.specs.Trees.{Text, Term, Number, True, False, Null, This, Name, Paren, Unary, Binary, Field, Call, CallOn, Item, New, NewMarkable, NewArray, Terms, NoTerm, MoreTerms, Action, Block, Empty, If, IfElse, While, Break, Continue, Return, Try, Assign, Evaluate, Items, NoItem, Do, Declare}
+use Rattle.ls_tree.specs.Views.{call_of, if_of}
 
 abbrev mutual
   pub nodes : Term → ℕ

@@ -3,8 +3,8 @@ use Rattle.std.proofs.Common.{◌≡◌, ℕ, ◌+◌, ◌<◌, ◌≤◌, Bool,
 use Rattle.ls_lexer.specs.Lexemes.{Lexeme, Named, Numeral, Reserved, Marked}
 use Rattle.ls_lexer.specs.declared.sign.Sign.TheVariants as signs
 use Rattle.ls_lexer.specs.declared.word.Word.TheVariants as words
-use Rattle.ls_parser.specs.Trees
-use Rattle.ls_parser.specs.Trees.{Text, Modifier, TypeName, Parameter, Member, Fields, Method, Constructor, ClassTree, Dotted, Import, File}
+use Rattle.ls_tree.specs.Trees
+use Rattle.ls_tree.specs.Trees.{Text, Modifier, TypeName, Parameter, Member, Fields, Method, Constructor, ClassTree, Dotted, Import, File}
 use Rattle.ls_parser.proofs.Lists.{onto_all, onto_all_longer}
 use Rattle.ls_parser.proofs.OntoActions.{onto_modifier, modifier_longer, onto_type, onto_declaration, declaration_longer, onto_block, items_longer}
 

@@ -4,8 +4,8 @@ use Rattle.std.proofs.lemmas.Bool.{lt-leb}
 use Rattle.ls_lexer.specs.declared.fault.TextFault.{TextFault}
 use Rattle.ls_lexer.specs.declared.sign.Sign.TheVariants as signs
 use Rattle.ls_lexer.specs.Lexemes.{Lexeme}
-use Rattle.ls_parser.specs.Trees.{Term}
-use Rattle.ls_parser.specs.WellFormed.{term_height}
+use Rattle.ls_tree.specs.Trees.{Term}
+use Rattle.ls_tree.specs.WellFormed.{term_height}
 use Rattle.ls_parser.specs.Answers.{Fails}
 use Rattle.ls_parser.specs.Reading.{◌>>=◌, Reader, given, after_sign, repeat}
 use Rattle.ls_parser.specs.ReadingTerms.{has_suffix, suffix_at, member_at, item_at, primary_at, term_at, post_at}

@@ -7,7 +7,7 @@ use Rattle.ls_lexer.specs.contracts.word.Word.{the_type as word_type}
 use Rattle.ls_lexer.specs.declared.sign.Sign.{Sign}
 use Rattle.ls_lexer.specs.declared.word.Word.{Word}
 use Rattle.ls_lexer.specs.Lexemes.{Lexeme, Named, Numeral, Reserved, Marked}
-use Rattle.ls_parser.specs.Trees.{Text}
+use Rattle.ls_tree.specs.Trees.{Text}
 use Rattle.ls_parser.specs.Reading.{given, after_sign, after_word, name_at}
 
 pub guard_some : {A : Type 0} (b : Bool) (x y : A) → cond b (Some x) None ≡ Some y → (b ≡ true) × (x ≡ y)

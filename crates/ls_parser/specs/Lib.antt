@@ -1,7 +1,4 @@
-pub mod Trees
 pub mod Spelling
-pub mod WellFormed
-pub mod Views
 pub mod Answers
 pub mod Reading
 pub mod ReadingTerms
@@ -9,5 +6,4 @@ pub mod ReadingActions
 pub mod ReadingClasses
 pub mod Spells
 pub mod Laws
-pub mod FileView
 pub mod Kinds

@@ -9,7 +9,7 @@ use Rattle.ls_lexer.specs.declared.word.Word.TheVariants as words
 use Rattle.ls_lexer.specs.declared.sign.Sign.{Sign}
 use Rattle.ls_lexer.specs.declared.sign.Sign.TheVariants as signs
 use Rattle.ls_lexer.specs.Lexemes.{Lexeme, Named, Numeral, Reserved, Marked}
-use Rattle.ls_parser.specs.Trees.{Text}
+use Rattle.ls_tree.specs.Trees.{Text}
 
 infixl 10 ◌>>=◌
 abbrev pub ◌>>=◌ : {A B : Type 0} → Option A → (A → Option B) → Option B

@@ -6,12 +6,12 @@ use Rattle.ls_lexer.specs.declared.word.Word.TheVariants as words
 use Rattle.ls_lexer.specs.declared.sign.Sign.{Sign}
 use Rattle.ls_lexer.specs.declared.sign.Sign.TheVariants as signs
 use Rattle.ls_lexer.specs.Lexemes.{Lexeme, Named, Numeral, Reserved, Marked}
-use Rattle.ls_parser.specs.declared.tree.UnaryOp.{UnaryOp}
-use Rattle.ls_parser.specs.declared.tree.UnaryOp.TheVariants as unary
-use Rattle.ls_parser.specs.declared.tree.BinaryOp.{BinaryOp}
-use Rattle.ls_parser.specs.declared.tree.BinaryOp.TheVariants as binary
-use Rattle.ls_parser.specs.Trees.{Text, Term, Number, True, False, Null, This, Name, Paren, Unary, Binary, Field, Call, CallOn, Item, New, NewMarkable, NewArray, Terms, listed}
-use Rattle.ls_parser.specs.WellFormed.{rank_of, term_height, is_new_array, is_minus}
+use Rattle.ls_tree.specs.declared.tree.UnaryOp.{UnaryOp}
+use Rattle.ls_tree.specs.declared.tree.UnaryOp.TheVariants as unary
+use Rattle.ls_tree.specs.declared.tree.BinaryOp.{BinaryOp}
+use Rattle.ls_tree.specs.declared.tree.BinaryOp.TheVariants as binary
+use Rattle.ls_tree.specs.Trees.{Text, Term, Number, True, False, Null, This, Name, Paren, Unary, Binary, Field, Call, CallOn, Item, New, NewMarkable, NewArray, Terms, listed}
+use Rattle.ls_tree.specs.WellFormed.{rank_of, term_height, is_new_array, is_minus}
 use Rattle.ls_parser.specs.Reading.{◌>>=◌, Reader, given, after_sign, after_word, name_at, starts, repeat, group_at, is_markable}
 
 abbrev pub operator_of_sign : Sign → Option BinaryOp

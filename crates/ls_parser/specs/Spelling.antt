@@ -5,11 +5,11 @@ use Rattle.ls_lexer.specs.Lexemes.{Lexeme, Named, Numeral, Reserved, Marked}
 use Rattle.ls_lexer.specs.declared.word.Word.TheVariants as words
 use Rattle.ls_lexer.specs.declared.sign.Sign.{Sign}
 use Rattle.ls_lexer.specs.declared.sign.Sign.TheVariants as signs
-use Rattle.ls_parser.specs.declared.tree.UnaryOp.{UnaryOp}
-use Rattle.ls_parser.specs.declared.tree.UnaryOp.TheVariants as unary
-use Rattle.ls_parser.specs.declared.tree.BinaryOp.{BinaryOp}
-use Rattle.ls_parser.specs.declared.tree.BinaryOp.TheVariants as binary
-use Rattle.ls_parser.specs.Trees.{Text, Term, Number, True, False, Null, This, Name, Paren, Unary, Binary, Field, Call, CallOn, Item, New, NewMarkable, NewArray, Terms, NoTerm, MoreTerms, Modifier, Public, Protected, Private, Final, Volatile, Annotation, TypeName, Int, Boolean, BooleanArray, Class, Markable, Declarator, Declaration, Action, Block, Empty, If, IfElse, While, Break, Continue, Return, Try, Assign, Evaluate, Items, NoItem, Do, Declare, Piece, Doing, Declaring, Parameter, Member, Fields, Method, Constructor, ClassTree, Dotted, Import, File}
+use Rattle.ls_tree.specs.declared.tree.UnaryOp.{UnaryOp}
+use Rattle.ls_tree.specs.declared.tree.UnaryOp.TheVariants as unary
+use Rattle.ls_tree.specs.declared.tree.BinaryOp.{BinaryOp}
+use Rattle.ls_tree.specs.declared.tree.BinaryOp.TheVariants as binary
+use Rattle.ls_tree.specs.Trees.{Text, Term, Number, True, False, Null, This, Name, Paren, Unary, Binary, Field, Call, CallOn, Item, New, NewMarkable, NewArray, Terms, NoTerm, MoreTerms, Modifier, Public, Protected, Private, Final, Volatile, Annotation, TypeName, Int, Boolean, BooleanArray, Class, Markable, Declarator, Declaration, Action, Block, Empty, If, IfElse, While, Break, Continue, Return, Try, Assign, Evaluate, Items, NoItem, Do, Declare, Piece, Doing, Declaring, Parameter, Member, Fields, Method, Constructor, ClassTree, Dotted, Import, File}
 
 abbrev pub sign_of_unary : UnaryOp → Sign
 sign_of_unary unary.Minus = signs.Minus

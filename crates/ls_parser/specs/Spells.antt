@@ -3,9 +3,9 @@ use Rattle.std.specs.Prelude.{◌≡◌, ℕ, ◌≤◌, List, length, Some}
 use Rattle.ls_lexer.specs.Lexemes.{Lexeme}
 use Rattle.ls_lexer.specs.Places.{text_limit}
 use Rattle.ls_lexer.specs.Tokens.{tokens_of}
-use Rattle.ls_parser.specs.Trees.{File}
+use Rattle.ls_tree.specs.Trees.{File}
 use Rattle.ls_parser.specs.Spelling.{spell}
-use Rattle.ls_parser.specs.WellFormed.{WellFormedFile}
+use Rattle.ls_tree.specs.WellFormed.{WellFormedFile}
 
 -- The tokens are those of the file, which is one of the grammar.
 pub record Spells (f : File) (ks : List Lexeme) : Type 0 where

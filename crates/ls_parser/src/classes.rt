@@ -3,7 +3,7 @@
 ghost use Rattle.std.specs.Prelude.{◌≡◌, ◌+◌, ◌-◌, ◌<◌, ◌≤◌, ◌^◌, ◌++◌, ◌∷◌, [], IfOk, Some, None, length, map, option_map, is_some};
 ghost use Rattle.ls_lexer.specs.Lexemes.{lexemes};
 ghost use Rattle.ls_lexer.specs.declared.sign.Sign.TheVariants as signs;
-ghost use Rattle.ls_parser.specs.Views.{name_text, bare_modifier, bare_type, bare_parameter, bare_member, bare_class, bare_dotted, bare_import};
+ghost use Rattle.ls_tree.specs.Views.{name_text, bare_modifier, bare_type, bare_parameter, bare_member, bare_class, bare_dotted, bare_import};
 ghost use Rattle.ls_parser.specs.Answers.{Gives, Finds};
 ghost use Rattle.ls_parser.specs.Reading.{one_more, behind_comma, many_at, not_yet, group_at};
 ghost use Rattle.ls_parser.specs.ReadingClasses.{parameter_at, parameters_at, starts_call, constructor_at, method_at, typed_at, unmodified_at, member_at, class_at, part_at, dotted_at, after_star, more_path, import_at, package_at, header_at, starts_import, is_left};
@@ -13,13 +13,13 @@ use crate::statements::block;
 use crate::tokens::{
     Context, Read, expect, expect_word, name, name_part, push, sign_part, starts_with, word_part,
 };
-use crate::tree::{
-    Class, Constructor, Dotted, Import, Member, Method, Modifier, Name, Parameter, Type,
-};
 use ls_lexer::fault::TextFault;
 use ls_lexer::sign::Sign;
 use ls_lexer::token::Token;
 use ls_lexer::word::Word;
+use ls_tree::tree::{
+    Class, Constructor, Dotted, Import, Member, Method, Modifier, Name, Parameter, Type,
+};
 
 /// The greatest height of a body or of a field's initialiser.
 pub const MOST_NODES: usize = 128;

@@ -3,8 +3,8 @@
 ghost use Rattle.std.specs.Prelude.{◌≡◌, ◌+◌, ◌-◌, ◌<◌, ◌≤◌, ◌^◌, ◌++◌, ◌∷◌, [], IfOk, Some, length, map, option_map, max};
 ghost use Rattle.ls_lexer.specs.Lexemes.{lexemes};
 ghost use Rattle.ls_lexer.specs.declared.sign.Sign.TheVariants as signs;
-ghost use Rattle.ls_parser.specs.WellFormed.{value_height, declarators_height};
-ghost use Rattle.ls_parser.specs.Views.{name_text, bare, bare_modifier, bare_type, bare_declarator, bare_declaration};
+ghost use Rattle.ls_tree.specs.WellFormed.{value_height, declarators_height};
+ghost use Rattle.ls_tree.specs.Views.{name_text, bare, bare_modifier, bare_type, bare_declarator, bare_declaration};
 ghost use Rattle.ls_parser.specs.Answers.{Gives, Finds};
 ghost use Rattle.ls_parser.specs.Reading.{one_more, behind_comma, many_at, not_yet};
 ghost use Rattle.ls_parser.specs.ReadingTerms.{term_at};
@@ -16,11 +16,11 @@ use crate::tokens::{
     Context, Part, Read, expect, expect_word, make_name, name, name_part, push, sign_part, span_to,
     starts_with, word_part,
 };
-use crate::tree::{Declaration, Declarator, Expr, Modifier, Name, Type};
 use ls_lexer::fault::TextFault;
 use ls_lexer::sign::Sign;
 use ls_lexer::token::{Token, TokenKind};
 use ls_lexer::word::Word;
+use ls_tree::tree::{Declaration, Declarator, Expr, Modifier, Name, Type};
 
 fn modifier_word(word: Word) -> Option<Modifier>
     ensures { option_map bare_modifier result ≡ modifier_of_word word }

@@ -11,8 +11,7 @@ pub mod spelling;
 mod statements;
 mod terms;
 mod tokens;
-pub mod tree;
 
 pub use crate::spelling::spell;
-pub use crate::tree::ClassFile;
 pub use ls_lexer::lexing::lex;
+pub use ls_tree::tree::ClassFile;

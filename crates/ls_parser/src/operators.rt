@@ -2,18 +2,18 @@
 
 ghost use Rattle.std.specs.Prelude.{◌≡◌, ◌-◌, ◌<◌, IfOk, Some};
 ghost use Rattle.ls_lexer.specs.Lexemes.{lexeme_of, lexemes};
-ghost use Rattle.ls_parser.specs.Trees.{Binary};
-ghost use Rattle.ls_parser.specs.WellFormed.{rank_of};
-ghost use Rattle.ls_parser.specs.Views.{bare};
+ghost use Rattle.ls_tree.specs.Trees.{Binary};
+ghost use Rattle.ls_tree.specs.WellFormed.{rank_of};
+ghost use Rattle.ls_tree.specs.Views.{bare};
 ghost use Rattle.ls_parser.specs.Answers.{Finds};
 ghost use Rattle.ls_parser.specs.ReadingTerms.{operator_of_sign, operator_at, has_operator, unary_of};
 
 use crate::tokens::{Context, boxed};
-use crate::tree::{BinaryOp, Expr, UnaryOp};
 use ls_lexer::fault::TextFault;
 use ls_lexer::sign::Sign;
 use ls_lexer::token::{Span, Token, TokenKind};
 use ls_lexer::word::Word;
+use ls_tree::tree::{BinaryOp, Expr, UnaryOp};
 use std::alloc::AllocError;
 
 // ---- operators

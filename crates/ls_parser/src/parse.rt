@@ -4,9 +4,9 @@ ghost use Rattle.std.specs.Prelude.{◌≡◌, ◌<◌, IfOk, IfErr, IsErrOf, So
 ghost use Rattle.ls_lexer.specs.Lexemes.{lexemes};
 ghost use Rattle.ls_lexer.specs.Places.{text_limit};
 ghost use Rattle.ls_lexer.specs.declared.fault.TextFault.TheVariants.{TooLong};
-ghost use Rattle.ls_parser.specs.Trees.{File};
-ghost use Rattle.ls_parser.specs.Views.{file_of};
-ghost use Rattle.ls_parser.specs.FileView.{bare_file};
+ghost use Rattle.ls_tree.specs.Trees.{File};
+ghost use Rattle.ls_tree.specs.Views.{file_of};
+ghost use Rattle.ls_tree.specs.FileView.{bare_file};
 ghost use Rattle.ls_parser.specs.Answers.{Refuses, RefusesTokens, MayCome, Gives};
 ghost use Rattle.ls_parser.specs.ReadingClasses.{file_at};
 ghost use Rattle.ls_parser.specs.Spells.{Spells, TextSpells};
@@ -14,10 +14,10 @@ ghost use Rattle.ls_parser.specs.Laws.{OneTree, OneFile};
 
 use crate::classes::{classes, header, imports};
 use crate::tokens::Context;
-use crate::tree::{Class, ClassFile, Dotted, Import};
 use ls_lexer::fault::TextFault;
 use ls_lexer::lexing::lex;
 use ls_lexer::token::Token;
+use ls_tree::tree::{Class, ClassFile, Dotted, Import};
 use std::alloc::Global;
 
 #[derive(Drop)]

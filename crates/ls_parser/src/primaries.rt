@@ -2,19 +2,19 @@
 
 ghost use Rattle.std.specs.Prelude.{◌≡◌, ◌-◌, ◌<◌, IfOk};
 ghost use Rattle.ls_lexer.specs.Lexemes.{lexemes};
-ghost use Rattle.ls_parser.specs.Trees.{NewArray, New, NewMarkable};
-ghost use Rattle.ls_parser.specs.WellFormed.{term_height, is_new_array};
-ghost use Rattle.ls_parser.specs.Views.{name_text, bare, bare_target, call_of, terms_of};
+ghost use Rattle.ls_tree.specs.Trees.{NewArray, New, NewMarkable};
+ghost use Rattle.ls_tree.specs.WellFormed.{term_height, is_new_array};
+ghost use Rattle.ls_tree.specs.Views.{name_text, bare, bare_target, call_of, terms_of};
 ghost use Rattle.ls_parser.specs.Answers.{Gives};
 ghost use Rattle.ls_parser.specs.Reading.{is_markable};
 ghost use Rattle.ls_parser.specs.ReadingTerms.{has_suffix, is_largest, number_here, class_at};
 
 use crate::tokens::{Context, Part, Read, expect, name, starts_with};
-use crate::tree::{Expr, Name};
 use ls_lexer::fault::TextFault;
 use ls_lexer::sign::Sign;
 use ls_lexer::token::{Span, Token};
 use ls_lexer::word::Word;
+use ls_tree::tree::{Expr, Name};
 use std::alloc::AllocError;
 
 // ---- what stands behind a primary

@@ -3,7 +3,7 @@
 ghost use Rattle.std.specs.Prelude.{◌≡◌, IfOk, List};
 ghost use Rattle.ls_lexer.specs.Lexemes.{lexemes};
 ghost use Rattle.ls_lexer.specs.declared.token.Token.{Token};
-ghost use Rattle.ls_parser.specs.FileView.{bare_file};
+ghost use Rattle.ls_tree.specs.FileView.{bare_file};
 ghost use Rattle.ls_parser.specs.Kinds.{lexemes_of};
 ghost use Rattle.ls_parser.specs.Spelling.{spell};
 ghost use Rattle.ls_parser.specs.Spells.{Spells};
@@ -15,8 +15,8 @@ mod statements;
 mod terms;
 
 use crate::spelling::classes::{put_classes, put_imports, put_package};
-use crate::tree::ClassFile;
 use ls_lexer::token::TokenKind;
+use ls_tree::tree::ClassFile;
 use std::alloc::{AllocError, Global};
 
 /// The kinds of the tokens that spell a file (JLS 3.5), with the text of each name and number lent by the tree. Of a file

@@ -3,9 +3,9 @@
 ghost use Rattle.std.specs.Prelude.{◌≡◌, ◌+◌, ◌-◌, ◌<◌, ◌≤◌, ◌^◌, IfOk, Some, map, option_map, false};
 ghost use Rattle.ls_lexer.specs.Lexemes.{lexeme_of, lexemes};
 ghost use Rattle.ls_lexer.specs.declared.sign.Sign.TheVariants as signs;
-ghost use Rattle.ls_parser.specs.Trees as trees;
-ghost use Rattle.ls_parser.specs.WellFormed.{action_height, items_height, piece_height};
-ghost use Rattle.ls_parser.specs.Views.{name_text, bare_statement, bare_piece, items_of, bare_block};
+ghost use Rattle.ls_tree.specs.Trees as trees;
+ghost use Rattle.ls_tree.specs.WellFormed.{action_height, items_height, piece_height};
+ghost use Rattle.ls_tree.specs.Views.{name_text, bare_statement, bare_piece, items_of, bare_block};
 ghost use Rattle.ls_parser.specs.Answers.{Gives};
 ghost use Rattle.ls_parser.specs.Reading.{one_more, many_at, not_yet};
 ghost use Rattle.ls_parser.specs.ReadingTerms.{term_at, post_at};
@@ -21,11 +21,11 @@ use crate::tokens::{
     Context, Part, boxed, expect, expect_word, make_name, push, span_to, starts_with, syntax,
     too_deep, word_part,
 };
-use crate::tree::{Block, BlockItem, Name, Statement};
 use ls_lexer::fault::TextFault;
 use ls_lexer::sign::Sign;
 use ls_lexer::token::{Token, TokenKind};
 use ls_lexer::word::Word;
+use ls_tree::tree::{Block, BlockItem, Name, Statement};
 use std::alloc::AllocError;
 
 #[cycle(statements)]

@@ -2,9 +2,9 @@
 
 ghost use Rattle.std.specs.Prelude.{◌≡◌, ◌+◌, ◌-◌, ◌<◌, ◌≤◌, ◌^◌, IfOk, Some, false, length, map};
 ghost use Rattle.ls_lexer.specs.Lexemes.{lexemes};
-ghost use Rattle.ls_parser.specs.Trees.{Unary, Paren, Field, Item, NewArray, New};
-ghost use Rattle.ls_parser.specs.WellFormed.{term_height, terms_height, is_new_array, is_minus};
-ghost use Rattle.ls_parser.specs.Views.{bare, terms_of};
+ghost use Rattle.ls_tree.specs.Trees.{Unary, Paren, Field, Item, NewArray, New};
+ghost use Rattle.ls_tree.specs.WellFormed.{term_height, terms_height, is_new_array, is_minus};
+ghost use Rattle.ls_tree.specs.Views.{bare, terms_of};
 ghost use Rattle.ls_parser.specs.Answers.{Gives};
 ghost use Rattle.ls_parser.specs.Reading.{one_more, behind_comma, is_markable};
 ghost use Rattle.ls_parser.specs.ReadingTerms.{has_operator, joined_at, binary_at, signed_at, unary_at, term_at, post_at, has_suffix, suffix_at, member_at, index_at, item_at, arguments_at, primary_at, named_at, object_at, new_at, paren_at};
@@ -17,11 +17,11 @@ use crate::tokens::{
     Context, Part, boxed, expect, expect_word, make_name, name, name_part, push, sign_part,
     span_from, starts_with, syntax, too_deep,
 };
-use crate::tree::{Expr, Name, UnaryOp};
 use ls_lexer::fault::TextFault;
 use ls_lexer::sign::Sign;
 use ls_lexer::token::{Span, Token, TokenKind};
 use ls_lexer::word::Word;
+use ls_tree::tree::{Expr, Name, UnaryOp};
 use std::alloc::AllocError;
 
 #[cycle(terms)]

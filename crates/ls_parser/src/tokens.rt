@@ -4,14 +4,14 @@ ghost use Rattle.std.specs.Prelude.{◌≡◌, ◌++◌, ◌∷◌, ℕ, [], IfO
 ghost use Rattle.ls_lexer.specs.declared.fault.TextFault.TheVariants.{Syntax, TooDeep};
 ghost use Rattle.ls_lexer.specs.Lexemes.{lexemes};
 ghost use Rattle.ls_parser.specs.Reading.{after_sign, after_word, name_at, starts};
-ghost use Rattle.ls_parser.specs.Views.{name_text};
+ghost use Rattle.ls_tree.specs.Views.{name_text};
 ghost use Rattle.ls_parser.specs.Answers.{Gives, Finds};
 
-use crate::tree::Name;
 use ls_lexer::fault::TextFault;
 use ls_lexer::sign::Sign;
 use ls_lexer::token::{Span, Token, TokenKind};
 use ls_lexer::word::Word;
+use ls_tree::tree::Name;
 use std::alloc::{AllocError, Global};
 
 /// What making a tree needs: memory, and the end of the text for a fault there.

@@ -12,7 +12,7 @@ use Rattle.ls_elaboration.specs.Trees.{Text, Name, Expression, TypeName, Declara
 use Rattle.ls_elaboration.specs.Elaborated.{each}
 use Rattle.ls_elaboration.specs.Known.{Known, ClassSign, field_of, type_of, result_of, number_of, field_named, method_named}
 use Rattle.ls_elaboration.specs.TypedExpressions.{fitting}
-use Rattle.ls_elaboration.specs.Completion.{can_complete}
+use Rattle.ls_completion.specs.Completion.{can_complete}
 use Rattle.ls_elaboration.specs.Scopes.{Body, Scope, most_slots}
 use Rattle.ls_elaboration.specs.TypedStatements.{sequence, items}
 use Rattle.ls_elaboration.specs.TypedMethods.{parameter, field_set, declarator_set, member_set, initialisers, finished, method, written_method, written_constructor, one_method, has_constructor, default_constructor, class_methods}

@@ -1,7 +1,7 @@
 -- The tree without places of the bare tree that a text spells.
 use Rattle.std.proofs.Common.{map}
 use Rattle.std.specs.Prelude.{option_map}
-use Rattle.ls_parser.specs.Trees as bare
+use Rattle.ls_tree.specs.Trees as bare
 use Rattle.ls_elaboration.specs.Trees
 use Rattle.ls_elaboration.specs.Trees.{Text, Name, Expression, Expressions, TypeName, Declarator, Declaration, Statement, Items, Parameter, Member, ClassTree, File}
 use Rattle.ls_places.specs.Unplaced.{nowhere}

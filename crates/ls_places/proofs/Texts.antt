@@ -1,26 +1,26 @@
 -- Trees that one text spells differ in their places alone.
 use Rattle.std.proofs.Common.{◌≡◌, refl, sym, ap, ◌∙◌, List, [], ◌∷◌, Option, Some, None, map}
 use Rattle.std.specs.Prelude.{option_map}
-use Rattle.ls_parser.specs.declared.tree.Name.{Name}
-use Rattle.ls_parser.specs.declared.tree.Expr.{Expr, Row_of-Expr, end_of-Expr, more_of-Expr}
-use Rattle.ls_parser.specs.declared.tree.Expr as exprs_parts
-use Rattle.ls_parser.specs.declared.tree.Expr.TheVariants as exprs
-use Rattle.ls_parser.specs.declared.tree.«Type».{«Type»}
-use Rattle.ls_parser.specs.declared.tree.«Type».TheVariants as types
-use Rattle.ls_parser.specs.declared.tree.Declarator.{Declarator}
-use Rattle.ls_parser.specs.declared.tree.Declaration.{Declaration}
-use Rattle.ls_parser.specs.declared.tree.Statement.{Statement, Row_of-BlockItem, end_of-BlockItem, more_of-BlockItem}
-use Rattle.ls_parser.specs.declared.tree.Statement as statement_parts
-use Rattle.ls_parser.specs.declared.tree.Statement.TheVariants as statements
-use Rattle.ls_parser.specs.declared.tree.BlockItem.{BlockItem}
-use Rattle.ls_parser.specs.declared.tree.BlockItem.TheVariants as rows
-use Rattle.ls_parser.specs.declared.tree.Parameter.{Parameter}
-use Rattle.ls_parser.specs.declared.tree.Member.{Member}
-use Rattle.ls_parser.specs.declared.tree.Member.TheVariants as members
-use Rattle.ls_parser.specs.declared.tree.Class.{Class}
-use Rattle.ls_parser.specs.declared.tree.ClassFile.{ClassFile}
-use Rattle.ls_parser.specs.Views.{name_text, bare, bare_row, bare_type, bare_declarator, bare_declaration, bare_statement, bare_items, items_of, bare_parameter, bare_member, bare_class}
-use Rattle.ls_parser.specs.FileView.{bare_file}
+use Rattle.ls_tree.specs.declared.tree.Name.{Name}
+use Rattle.ls_tree.specs.declared.tree.Expr.{Expr, Row_of-Expr, end_of-Expr, more_of-Expr}
+use Rattle.ls_tree.specs.declared.tree.Expr as exprs_parts
+use Rattle.ls_tree.specs.declared.tree.Expr.TheVariants as exprs
+use Rattle.ls_tree.specs.declared.tree.«Type».{«Type»}
+use Rattle.ls_tree.specs.declared.tree.«Type».TheVariants as types
+use Rattle.ls_tree.specs.declared.tree.Declarator.{Declarator}
+use Rattle.ls_tree.specs.declared.tree.Declaration.{Declaration}
+use Rattle.ls_tree.specs.declared.tree.Statement.{Statement, Row_of-BlockItem, end_of-BlockItem, more_of-BlockItem}
+use Rattle.ls_tree.specs.declared.tree.Statement as statement_parts
+use Rattle.ls_tree.specs.declared.tree.Statement.TheVariants as statements
+use Rattle.ls_tree.specs.declared.tree.BlockItem.{BlockItem}
+use Rattle.ls_tree.specs.declared.tree.BlockItem.TheVariants as rows
+use Rattle.ls_tree.specs.declared.tree.Parameter.{Parameter}
+use Rattle.ls_tree.specs.declared.tree.Member.{Member}
+use Rattle.ls_tree.specs.declared.tree.Member.TheVariants as members
+use Rattle.ls_tree.specs.declared.tree.Class.{Class}
+use Rattle.ls_tree.specs.declared.tree.ClassFile.{ClassFile}
+use Rattle.ls_tree.specs.Views.{name_text, bare, bare_row, bare_type, bare_declarator, bare_declaration, bare_statement, bare_items, items_of, bare_parameter, bare_member, bare_class}
+use Rattle.ls_tree.specs.FileView.{bare_file}
 use Rattle.ls_parser.specs.Laws.{OneFile}
 use Rattle.ls_elaboration.specs.Trees
 use Rattle.ls_elaboration.specs.Placed.{placed, placed_row, placed_name}

@@ -1,7 +1,7 @@
 -- What elaboration answers doesn't depend on places.
 use Rattle.std.specs.Prelude.{◌≡◌, ℕ, List, Ok, Err}
-use Rattle.ls_parser.specs.declared.tree.ClassFile.{ClassFile}
-use Rattle.ls_parser.specs.FileView.{bare_file}
+use Rattle.ls_tree.specs.declared.tree.ClassFile.{ClassFile}
+use Rattle.ls_tree.specs.FileView.{bare_file}
 use Rattle.ls_parser.specs.Spells.{TextSpells}
 use Rattle.ls_elaboration.specs.Trees.{File}
 use Rattle.ls_elaboration.specs.Elaborated.{Elaborated}

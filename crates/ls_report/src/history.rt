@@ -7,7 +7,7 @@ use std::alloc::{AllocError, Global};
 use std::marker::Model;
 
 /// What happened to a call.
-#[derive(Debug, Drop)]
+#[derive(Drop)]
 pub enum Occurrence {
     /// `object = new class(arguments)`.
     Made {
@@ -27,7 +27,7 @@ pub enum Occurrence {
 }
 
 /// An event of a thread's call. A thread's calls are numbered from 1.
-#[derive(Debug, Drop)]
+#[derive(Drop)]
 pub struct NamedEvent {
     pub thread: String,
     pub call: usize,
@@ -35,7 +35,7 @@ pub struct NamedEvent {
 }
 
 /// The events of a history, in order.
-#[derive(Debug, Drop)]
+#[derive(Drop)]
 pub struct History {
     events: Vec<NamedEvent>,
 }

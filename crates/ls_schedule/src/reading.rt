@@ -51,17 +51,29 @@ use std::alloc::{AllocError, Global};
 const MOST_COUNT: u64 = 1_000_001;
 
 // Which threads an item names.
-#[derive(Clone, Copy, Debug, PartialEq, Eq)]
+#[derive(Copy)]
 pub enum Who {
     One(usize),
     All,
 }
 
+impl Clone for Who {
+    fn clone(&self) -> Result<Who, AllocError> {
+        Ok(*self)
+    }
+}
+
 // An item: these threads, so many times. A count above a schedule's greatest length is kept as 1,000,001.
-#[derive(Clone, Copy, Debug, PartialEq, Eq)]
+#[derive(Copy)]
 pub struct Said {
     pub who: Who,
     pub count: u64,
+}
+
+impl Clone for Said {
+    fn clone(&self) -> Result<Said, AllocError> {
+        Ok(*self)
+    }
 }
 
 fn is_gap(b: u8) -> bool

@@ -13,7 +13,7 @@ use ls_machine::{LoadFault, Machine};
 use std::alloc::{AllocError, Global};
 
 /// A schedule of instructions, and the history that a machine has after it.
-#[derive(Debug, Drop)]
+#[derive(Drop)]
 pub struct Record {
     schedule: Schedule,
     history: Vec<Event>,

@@ -28,10 +28,16 @@ pub enum Thing {
 }
 
 /// What an action does: it waits, or it has an answer.
-#[derive(Clone, Copy, PartialEq, Eq, Debug)]
+#[derive(Copy)]
 pub enum Effect {
     Waits,
     Does(Answer<Value>),
+}
+
+impl Clone for Effect {
+    fn clone(&self) -> Result<Effect, AllocError> {
+        Ok(*self)
+    }
 }
 
 const MOST_HOLDS: u32 = 2147483647;

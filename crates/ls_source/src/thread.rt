@@ -21,11 +21,17 @@ use ls_meaning::sort::Sort;
 use std::alloc::{AllocError, Global};
 
 /// What a thread asks for, or that it has ended, by its last return or by a trap.
-#[derive(Clone, Copy, PartialEq, Eq, Debug)]
+#[derive(Copy)]
 pub enum Next {
     Goes(Action<Value>, Sort),
     Ended,
     Trapped,
+}
+
+impl Clone for Next {
+    fn clone(&self) -> Result<Next, AllocError> {
+        Ok(*self)
+    }
 }
 
 macro_rules! results {

@@ -2,7 +2,7 @@
 
 use ls_lexer::token::Span;
 use ls_parser::parse::parse_text;
-use ls_parser::tree::{BinaryOp, BlockItem, ClassFile, Expr, Member, Statement};
+use ls_tree::tree::{BinaryOp, BlockItem, ClassFile, Expr, Member, Statement};
 use std::alloc::Global;
 use std::test::Fail;
 

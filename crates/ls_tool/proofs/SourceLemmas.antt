@@ -4,11 +4,11 @@ use Rattle.std.specs.Prelude.{string_bytes, String}
 use Rattle.std.specs.Global.{Global}
 use Rattle.ls_lexer.specs.declared.fault.TextFault.{TextFault}
 use Rattle.ls_lexer.specs.declared.fault.TextFault.TheVariants as text
-use Rattle.ls_parser.specs.Trees.{File as ParsedFile}
-use Rattle.ls_parser.specs.FileView.{bare_file}
+use Rattle.ls_tree.specs.Trees.{File as ParsedFile}
+use Rattle.ls_tree.specs.FileView.{bare_file}
 use Rattle.ls_parser.specs.Spells.{TextSpells}
 use Rattle.ls_parser.specs.Answers.{Refuses}
-use Rattle.ls_parser.specs.declared.tree.ClassFile.{ClassFile}
+use Rattle.ls_tree.specs.declared.tree.ClassFile.{ClassFile}
 use Rattle.ls_checked.specs.CheckedTree.{File}
 use Rattle.ls_checked.specs.CheckedProgram.{Program}
 use Rattle.ls_checked.specs.PlainProgram.{plain_thread, plain_program}

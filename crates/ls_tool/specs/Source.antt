@@ -1,11 +1,11 @@
 -- What the command `source` says.
 use Rattle.std.specs.Prelude.{◌≡◌, ℕ, List, map, Some, None, Result, Ok, Err}
 use Rattle.ls_lexer.specs.declared.fault.TextFault.{TextFault}
-use Rattle.ls_parser.specs.Trees.{File as ParsedFile}
-use Rattle.ls_parser.specs.FileView.{bare_file}
+use Rattle.ls_tree.specs.Trees.{File as ParsedFile}
+use Rattle.ls_tree.specs.FileView.{bare_file}
 use Rattle.ls_parser.specs.Spells.{TextSpells}
 use Rattle.ls_parser.specs.Answers.{Refuses}
-use Rattle.ls_parser.specs.declared.tree.ClassFile.{ClassFile}
+use Rattle.ls_tree.specs.declared.tree.ClassFile.{ClassFile}
 use Rattle.ls_checked.specs.CheckedTree.{File}
 use Rattle.ls_checked.specs.CheckedProgram.{Program}
 use Rattle.ls_elaboration.specs.Elaboration.{Outcome, elaborated}

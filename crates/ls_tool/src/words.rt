@@ -10,12 +10,18 @@ use clap::{Arg, ArgMatches, Command, Error};
 use std::alloc::{AllocError, Global};
 
 /// A command with its options.
-#[derive(Clone, Copy, Debug, PartialEq, Eq)]
+#[derive(Copy)]
 pub enum Request {
     Check,
     Compile,
     Replay { cells: u64 },
     Source,
+}
+
+impl Clone for Request {
+    fn clone(&self) -> Result<Request, AllocError> {
+        Ok(*self)
+    }
 }
 
 /// The cells of a machine where none are asked for.

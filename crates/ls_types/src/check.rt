@@ -11,7 +11,7 @@ use ls_checked::tree::File;
 use ls_elaboration::elaboration::Outcome;
 use ls_elaboration::known::ClassSign;
 use ls_lexer::token::Span;
-use ls_parser::tree::ClassFile;
+use ls_tree::tree::ClassFile;
 use std::alloc::AllocError;
 use thiserror::Error;
 

@@ -8,7 +8,7 @@ ghost use Rattle.ls_types.specs.CheckedFile.{parsed_of, outcome_of, Names};
 use crate::check::{CheckFault, Checked};
 use ls_elaboration::elaboration::elaborate;
 use ls_elaboration::rule::{Broken, Rule};
-use ls_parser::tree::ClassFile;
+use ls_tree::tree::ClassFile;
 use std::alloc::Global;
 
 fn fault_of(b: Broken) -> CheckFault

@@ -15,7 +15,7 @@ use Rattle.ls_elaboration.specs.Trees.{Text, Name, Expression, Declarator, Decla
 use Rattle.ls_elaboration.specs.Elaborated.{with_ok, each}
 use Rattle.ls_elaboration.specs.Known.{Known, ClassSign, local_named, field_of, type_of, result_of}
 use Rattle.ls_elaboration.specs.TypedExpressions.{fitting}
-use Rattle.ls_elaboration.specs.Completion.{can_complete}
+use Rattle.ls_completion.specs.Completion.{can_complete}
 use Rattle.ls_elaboration.specs.Scopes.{Body, Scope, with_variable}
 use Rattle.ls_elaboration.specs.TypedStatements.{sequence, items}
 use Rattle.ls_elaboration.specs.TypedMethods.{parameter, field_set, declarator_set, member_set, initialisers, method, written_method, written_constructor, one_method, has_constructor, default_constructor, class_methods}

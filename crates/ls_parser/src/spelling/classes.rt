@@ -5,17 +5,17 @@ ghost use Rattle.std.specs.List.{flat_map};
 ghost use Rattle.ls_lexer.specs.Lexemes.{Named, Marked};
 ghost use Rattle.ls_lexer.specs.declared.sign.Sign.TheVariants as signs;
 ghost use Rattle.ls_parser.specs.Kinds.{lexemes_of};
-ghost use Rattle.ls_parser.specs.Trees.{Method as a_method, Constructor as a_constructor};
-ghost use Rattle.ls_parser.specs.Views.{name_text, bare_modifier, bare_type, bare_block, bare_parameter, bare_member, bare_class, bare_dotted, bare_import};
+ghost use Rattle.ls_tree.specs.Trees.{Method as a_method, Constructor as a_constructor};
+ghost use Rattle.ls_tree.specs.Views.{name_text, bare_modifier, bare_type, bare_block, bare_parameter, bare_member, bare_class, bare_dotted, bare_import};
 ghost use Rattle.ls_parser.specs.Spelling.{in_parens, in_braces, spell_parameter, spell_parameters, spell_result, spell_member, spell_class, spell_dotted, spell_all, spell_import, spell_package};
 
 use crate::spelling::declarations::{put_declaration, put_modifiers, put_type};
 use crate::spelling::kinds::{put_name, put_sign, put_word};
 use crate::spelling::statements::put_block;
-use crate::tree::{Class, Constructor, Dotted, Import, Member, Method, Name, Parameter, Type};
 use ls_lexer::sign::Sign;
 use ls_lexer::token::TokenKind;
 use ls_lexer::word::Word;
+use ls_tree::tree::{Class, Constructor, Dotted, Import, Member, Method, Name, Parameter, Type};
 use std::alloc::AllocError;
 
 fn put_parameter<'a>(

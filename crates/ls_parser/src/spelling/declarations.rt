@@ -5,15 +5,15 @@ ghost use Rattle.std.specs.List.{flat_map};
 ghost use Rattle.ls_lexer.specs.Lexemes.{Named, Marked};
 ghost use Rattle.ls_lexer.specs.declared.sign.Sign.TheVariants as signs;
 ghost use Rattle.ls_parser.specs.Kinds.{lexemes_of};
-ghost use Rattle.ls_parser.specs.Views.{bare, bare_modifier, bare_type, bare_declarator, bare_declaration};
+ghost use Rattle.ls_tree.specs.Views.{bare, bare_modifier, bare_type, bare_declarator, bare_declaration};
 ghost use Rattle.ls_parser.specs.Spelling.{spell_modifier, spell_type, spell_initial, spell_declarator, spell_declaration};
 
 use crate::spelling::kinds::{put_name, put_sign, put_word};
 use crate::spelling::terms::{put_markable, put_term};
-use crate::tree::{Declaration, Declarator, Expr, Modifier, Type};
 use ls_lexer::sign::Sign;
 use ls_lexer::token::TokenKind;
 use ls_lexer::word::Word;
+use ls_tree::tree::{Declaration, Declarator, Expr, Modifier, Type};
 use std::alloc::AllocError;
 
 fn put_modifier<'a>(out: &mut Vec<TokenKind<'a>>, modifier: &'a Modifier) -> Result<(), AllocError>

@@ -3,12 +3,12 @@
 ghost use Rattle.std.specs.Prelude.{◌≡◌, ◌++◌, ◌∷◌, [], OnOk};
 ghost use Rattle.ls_lexer.specs.Lexemes.{Named, Numeral, Reserved, Marked, lexeme_of};
 ghost use Rattle.ls_parser.specs.Kinds.{lexemes_of};
-ghost use Rattle.ls_parser.specs.Views.{name_text};
+ghost use Rattle.ls_tree.specs.Views.{name_text};
 
-use crate::tree::Name;
 use ls_lexer::sign::Sign;
 use ls_lexer::token::TokenKind;
 use ls_lexer::word::Word;
+use ls_tree::tree::Name;
 use std::alloc::AllocError;
 
 #[tactic(auto, using(crate::proofs::MoreKinds::kinds_push))]

@@ -5,17 +5,17 @@ ghost use Rattle.ls_lexer.specs.Lexemes.{Reserved, Marked};
 ghost use Rattle.ls_lexer.specs.declared.sign.Sign.TheVariants as signs;
 ghost use Rattle.ls_lexer.specs.declared.word.Word.TheVariants as words;
 ghost use Rattle.ls_parser.specs.Kinds.{lexemes_of};
-ghost use Rattle.ls_parser.specs.Trees.{While as while_loop, Try as try_finally};
-ghost use Rattle.ls_parser.specs.Views.{name_text, bare, bare_statement, bare_other, bare_piece, if_of, items_of};
+ghost use Rattle.ls_tree.specs.Trees.{While as while_loop, Try as try_finally};
+ghost use Rattle.ls_tree.specs.Views.{name_text, bare, bare_statement, bare_other, bare_piece, if_of, items_of};
 ghost use Rattle.ls_parser.specs.Spelling.{in_parens, in_braces, spell_term, spell_label, spell_label_before, spell_value, spell_action, spell_items, spell_piece};
 
 use crate::spelling::declarations::put_declaration;
 use crate::spelling::kinds::{put_name, put_sign, put_word};
 use crate::spelling::terms::{put_term, put_value};
-use crate::tree::{BlockItem, Expr, Name, Statement};
 use ls_lexer::sign::Sign;
 use ls_lexer::token::TokenKind;
 use ls_lexer::word::Word;
+use ls_tree::tree::{BlockItem, Expr, Name, Statement};
 use std::alloc::AllocError;
 
 fn put_condition<'a>(out: &mut Vec<TokenKind<'a>>, condition: &'a Expr) -> Result<(), AllocError>

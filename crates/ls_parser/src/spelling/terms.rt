@@ -5,15 +5,15 @@ ghost use Rattle.ls_lexer.specs.Lexemes.{Named, Reserved, Marked};
 ghost use Rattle.ls_lexer.specs.declared.sign.Sign.TheVariants as signs;
 ghost use Rattle.ls_lexer.specs.declared.word.Word.TheVariants as words;
 ghost use Rattle.ls_parser.specs.Kinds.{lexemes_of};
-ghost use Rattle.ls_parser.specs.Trees.{New, NewMarkable};
-ghost use Rattle.ls_parser.specs.Views.{bare, bare_target, call_of, name_text, terms_of};
+ghost use Rattle.ls_tree.specs.Trees.{New, NewMarkable};
+ghost use Rattle.ls_tree.specs.Views.{bare, bare_target, call_of, name_text, terms_of};
 ghost use Rattle.ls_parser.specs.Spelling.{sign_of as the_sign, sign_of_unary as the_unary, markable, in_parens, spell_term, spell_terms, spell_others, spell_value};
 
 use crate::spelling::kinds::{put_name, put_number, put_sign, put_text, put_word};
-use crate::tree::{BinaryOp, Expr, Name, UnaryOp};
 use ls_lexer::sign::Sign;
 use ls_lexer::token::TokenKind;
 use ls_lexer::word::Word;
+use ls_tree::tree::{BinaryOp, Expr, Name, UnaryOp};
 use std::alloc::AllocError;
 
 fn sign_of_unary(op: UnaryOp) -> Sign

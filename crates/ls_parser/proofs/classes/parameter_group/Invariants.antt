@@ -1,6 +1,6 @@
 use Rattle.std.proofs.Common.{◌≡◌, length, map}
 use Rattle.ls_lexer.specs.Lexemes.{lexemes}
-use Rattle.ls_parser.specs.Views.{bare_parameter}
+use Rattle.ls_tree.specs.Views.{bare_parameter}
 use Rattle.ls_parser.specs.Reading.{group_at}
 use Rattle.ls_parser.specs.ReadingClasses.{parameter_at}
 use Rattle.ls_parser.proofs.Repeats.{InGroup}

@@ -1,8 +1,8 @@
 use Rattle.std.proofs.Common.{◌≡◌, ◌+◌, ◌*◌, ◌≤◌, length, map}
 use Rattle.ls_lexer.specs.Lexemes.{lexemes}
 use Rattle.ls_lexer.specs.declared.sign.Sign.TheVariants as signs
-use Rattle.ls_parser.specs.WellFormed.{items_height}
-use Rattle.ls_parser.specs.Views.{bare_piece, items_of}
+use Rattle.ls_tree.specs.WellFormed.{items_height}
+use Rattle.ls_tree.specs.Views.{bare_piece, items_of}
 use Rattle.ls_parser.specs.Reading.{one_more, many_at, not_yet}
 use Rattle.ls_parser.specs.ReadingActions.{piece_at, local_at, action_at}
 use Rattle.ls_parser.proofs.Repeats.{InRepeat}

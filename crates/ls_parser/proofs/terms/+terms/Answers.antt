@@ -2,8 +2,8 @@ use Rattle.std.proofs.Common.{◌≡◌, false, map, refl}
 use Rattle.std.proofs.lemmas.Result.{err_from_is_err_and}
 use Rattle.ls_lexer.specs.Lexemes.{lexemes}
 use Rattle.ls_lexer.specs.declared.sign.Sign.TheVariants as signs
-use Rattle.ls_parser.specs.Trees.{listed}
-use Rattle.ls_parser.specs.Views.{bare}
+use Rattle.ls_tree.specs.Trees.{listed}
+use Rattle.ls_tree.specs.Views.{bare}
 use Rattle.ls_parser.specs.Reading.{starts, group_at}
 use Rattle.ls_parser.specs.ReadingTerms.{term_at}
 use Rattle.ls_parser.proofs.Repeats.{repeat_ends, repeat_fails, group_ends, group_fails, group_goes_on, fails_first}

@@ -4,7 +4,7 @@ use Rattle.ls_lexer.specs.Lexemes.{Named, Marked}
 use Rattle.ls_lexer.specs.declared.sign.Sign.TheVariants as signs
 use Rattle.ls_parser.specs.Kinds.{lexemes_of}
 use Rattle.ls_parser.specs.Spelling.{spell_import}
-use Rattle.ls_parser.specs.Views.{bare_import}
+use Rattle.ls_tree.specs.Views.{bare_import}
 use Rattle.ls_parser.proofs.spelling.classes.put_imports.Given as goal
 
 abbrev pub invariant-loop-line : goal.invariant-loop-line

@@ -1,6 +1,6 @@
 use Rattle.std.proofs.Common.{rules, arith, ◌≡◌, ◌+◌, ap, sym, ◌∙◌}
-use Rattle.ls_parser.specs.Trees as trees
-use Rattle.ls_parser.specs.Views.{bare_statement, items_of}
+use Rattle.ls_tree.specs.Trees as trees
+use Rattle.ls_tree.specs.Views.{bare_statement, items_of}
 use Rattle.ls_parser.proofs.Nodes.{action_nodes, items_nodes}
 use Rattle.ls_parser.proofs.StatementRows.{block_bare, try_bare}
 use Rattle.ls_parser.proofs.spelling.statements.+statements.Goals as goal

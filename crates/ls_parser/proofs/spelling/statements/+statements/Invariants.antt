@@ -1,8 +1,8 @@
 use Rattle.std.proofs.Common.{◌≡◌, ◌+◌, ◌*◌, ◌≤◌, ◌++◌, drop}
-use Rattle.ls_parser.specs.Trees.{NoItem, put_before}
+use Rattle.ls_tree.specs.Trees.{NoItem, put_before}
 use Rattle.ls_parser.specs.Kinds.{lexemes_of}
 use Rattle.ls_parser.specs.Spelling.{spell_items}
-use Rattle.ls_parser.specs.Views.{bare_statement, bare_other, bare_piece, items_of}
+use Rattle.ls_tree.specs.Views.{bare_statement, bare_other, bare_piece, items_of}
 use Rattle.ls_parser.proofs.Nodes.{action_nodes, items_nodes, other_nodes}
 use Rattle.ls_parser.proofs.spelling.statements.+statements.Given as goal
 

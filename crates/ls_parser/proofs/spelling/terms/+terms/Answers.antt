@@ -1,6 +1,6 @@
 use Rattle.std.proofs.Common.{rules, arith, ◌≡◌, ◌+◌, ap, ◌∙◌}
-use Rattle.ls_parser.specs.Trees as trees
-use Rattle.ls_parser.specs.Views.{bare, bare_target, call_of, name_text, terms_of}
+use Rattle.ls_tree.specs.Trees as trees
+use Rattle.ls_tree.specs.Views.{bare, bare_target, call_of, name_text, terms_of}
 use Rattle.ls_parser.proofs.Nodes.{nodes, all_nodes, call_nodes, nodes-call_of}
 use Rattle.ls_parser.proofs.Rows.{call_bare, new_bare, new_markable_bare}
 use Rattle.ls_parser.proofs.spelling.terms.+terms.Goals as goal

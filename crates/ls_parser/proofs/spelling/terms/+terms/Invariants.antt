@@ -1,7 +1,7 @@
 use Rattle.std.proofs.Common.{◌≡◌, ◌+◌, ◌*◌, ◌≤◌, ◌++◌, drop}
 use Rattle.ls_parser.specs.Kinds.{lexemes_of}
 use Rattle.ls_parser.specs.Spelling.{spell_others}
-use Rattle.ls_parser.specs.Views.{bare, bare_target, terms_of}
+use Rattle.ls_tree.specs.Views.{bare, bare_target, terms_of}
 use Rattle.ls_parser.proofs.Nodes.{nodes, all_nodes, call_nodes}
 use Rattle.ls_parser.proofs.spelling.terms.+terms.Given as goal
 

@@ -3,7 +3,7 @@ use Rattle.ls_lexer.specs.Lexemes.{Named, Marked}
 use Rattle.ls_lexer.specs.declared.sign.Sign.TheVariants as signs
 use Rattle.ls_parser.specs.Kinds.{lexemes_of}
 use Rattle.ls_parser.specs.Reading.{markable_name}
-use Rattle.ls_parser.specs.Views.{name_text}
+use Rattle.ls_tree.specs.Views.{name_text}
 use Rattle.ls_parser.proofs.MoreKinds.{first_and_more}
 use Rattle.ls_parser.proofs.spelling.terms.put_markable.Goals as goal
 

@@ -1,29 +1,29 @@
 -- What a contract sees of the code's trees: trees without their places in memory and in the text.
 use Rattle.std.specs.Prelude.{ℕ, List, [], ◌∷◌, Option, Some, None, string_bytes, map, option_map}
 use Rattle.std.specs.Global.{Box}
-use Rattle.ls_parser.specs.declared.tree.Name.{Name}
-use Rattle.ls_parser.specs.declared.tree.Expr.{Expr, Row_of-Expr, end_of-Expr, more_of-Expr, Held-Expr-Call-0, None', Some'}
-use Rattle.ls_parser.specs.declared.tree.Expr.TheVariants as exprs
-use Rattle.ls_parser.specs.declared.tree.Modifier.{Modifier}
-use Rattle.ls_parser.specs.declared.tree.Modifier.TheVariants as modifiers
-use Rattle.ls_parser.specs.declared.tree.«Type».{«Type»}
-use Rattle.ls_parser.specs.declared.tree.«Type».TheVariants as types
-use Rattle.ls_parser.specs.declared.tree.Declarator.{Declarator}
-use Rattle.ls_parser.specs.declared.tree.Declaration.{Declaration}
-use Rattle.ls_parser.specs.declared.tree.Statement.{Statement, Row_of-BlockItem, end_of-BlockItem, more_of-BlockItem, Held-Statement-If-2}
-use Rattle.ls_parser.specs.declared.tree.Statement as statement_parts
-use Rattle.ls_parser.specs.declared.tree.Statement.TheVariants as statements
-use Rattle.ls_parser.specs.declared.tree.BlockItem.{BlockItem}
-use Rattle.ls_parser.specs.declared.tree.BlockItem.TheVariants as block_items
-use Rattle.ls_parser.specs.declared.tree.Block.{Block}
-use Rattle.ls_parser.specs.declared.tree.Parameter.{Parameter}
-use Rattle.ls_parser.specs.declared.tree.Member.{Member}
-use Rattle.ls_parser.specs.declared.tree.Member.TheVariants as members
-use Rattle.ls_parser.specs.declared.tree.Class.{Class}
-use Rattle.ls_parser.specs.declared.tree.Dotted.{Dotted}
-use Rattle.ls_parser.specs.declared.tree.Import.{Import}
-use Rattle.ls_parser.specs.Trees as trees
-use Rattle.ls_parser.specs.Trees.{Text, Term, Terms, NoTerm, MoreTerms, Action, Items, NoItem, Do, Declare, listed, Piece, Doing, Declaring, collected}
+use Rattle.ls_tree.specs.declared.tree.Name.{Name}
+use Rattle.ls_tree.specs.declared.tree.Expr.{Expr, Row_of-Expr, end_of-Expr, more_of-Expr, Held-Expr-Call-0, None', Some'}
+use Rattle.ls_tree.specs.declared.tree.Expr.TheVariants as exprs
+use Rattle.ls_tree.specs.declared.tree.Modifier.{Modifier}
+use Rattle.ls_tree.specs.declared.tree.Modifier.TheVariants as modifiers
+use Rattle.ls_tree.specs.declared.tree.«Type».{«Type»}
+use Rattle.ls_tree.specs.declared.tree.«Type».TheVariants as types
+use Rattle.ls_tree.specs.declared.tree.Declarator.{Declarator}
+use Rattle.ls_tree.specs.declared.tree.Declaration.{Declaration}
+use Rattle.ls_tree.specs.declared.tree.Statement.{Statement, Row_of-BlockItem, end_of-BlockItem, more_of-BlockItem, Held-Statement-If-2}
+use Rattle.ls_tree.specs.declared.tree.Statement as statement_parts
+use Rattle.ls_tree.specs.declared.tree.Statement.TheVariants as statements
+use Rattle.ls_tree.specs.declared.tree.BlockItem.{BlockItem}
+use Rattle.ls_tree.specs.declared.tree.BlockItem.TheVariants as block_items
+use Rattle.ls_tree.specs.declared.tree.Block.{Block}
+use Rattle.ls_tree.specs.declared.tree.Parameter.{Parameter}
+use Rattle.ls_tree.specs.declared.tree.Member.{Member}
+use Rattle.ls_tree.specs.declared.tree.Member.TheVariants as members
+use Rattle.ls_tree.specs.declared.tree.Class.{Class}
+use Rattle.ls_tree.specs.declared.tree.Dotted.{Dotted}
+use Rattle.ls_tree.specs.declared.tree.Import.{Import}
+use Rattle.ls_tree.specs.Trees as trees
+use Rattle.ls_tree.specs.Trees.{Text, Term, Terms, NoTerm, MoreTerms, Action, Items, NoItem, Do, Declare, listed, Piece, Doing, Declaring, collected}
 
 abbrev pub name_text : Name → Text
 name_text name = string_bytes name.text

@@ -1,7 +1,7 @@
 -- Trees of the whole grammar, without where they lie in memory and in the text. A name is its bytes.
 use Rattle.std.specs.Prelude.{ℕ, Bool, List, [], ◌∷◌, Option}
-use Rattle.ls_parser.specs.declared.tree.UnaryOp.{UnaryOp}
-use Rattle.ls_parser.specs.declared.tree.BinaryOp.{BinaryOp}
+use Rattle.ls_tree.specs.declared.tree.UnaryOp.{UnaryOp}
+use Rattle.ls_tree.specs.declared.tree.BinaryOp.{BinaryOp}
 
 abbrev pub Text : Type 0
 Text = List ℕ

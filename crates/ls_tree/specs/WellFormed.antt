@@ -1,11 +1,11 @@
 -- Which trees the grammar has.
 use Rattle.std.specs.Prelude.{◌≡◌, ◌≢◌, ℕ, ◌+◌, ◌<◌, ◌≤◌, max, Bool, true, false, List, [], ◌∷◌, Option, Some, None, IfSome, codes, ⊤}
 use Rattle.std.specs.List.{AllByRecursion}
-use Rattle.ls_parser.specs.declared.tree.UnaryOp.{UnaryOp}
-use Rattle.ls_parser.specs.declared.tree.UnaryOp.TheVariants as unary
-use Rattle.ls_parser.specs.declared.tree.BinaryOp.{BinaryOp}
-use Rattle.ls_parser.specs.declared.tree.BinaryOp.TheVariants as binary
-use Rattle.ls_parser.specs.Trees.{Text, Term, Number, True, False, Null, This, Name, Paren, Unary, Binary, Field, Call, CallOn, Item, New, NewMarkable, NewArray, Terms, NoTerm, MoreTerms, Declarator, Declaration, Action, Block, Empty, If, IfElse, While, Break, Continue, Return, Try, Assign, Evaluate, Items, NoItem, Do, Declare, Piece, Doing, Declaring, Member, Fields, Method, Constructor, ClassTree, File}
+use Rattle.ls_tree.specs.declared.tree.UnaryOp.{UnaryOp}
+use Rattle.ls_tree.specs.declared.tree.UnaryOp.TheVariants as unary
+use Rattle.ls_tree.specs.declared.tree.BinaryOp.{BinaryOp}
+use Rattle.ls_tree.specs.declared.tree.BinaryOp.TheVariants as binary
+use Rattle.ls_tree.specs.Trees.{Text, Term, Number, True, False, Null, This, Name, Paren, Unary, Binary, Field, Call, CallOn, Item, New, NewMarkable, NewArray, Terms, NoTerm, MoreTerms, Declarator, Declaration, Action, Block, Empty, If, IfElse, While, Break, Continue, Return, Try, Assign, Evaluate, Items, NoItem, Do, Declare, Piece, Doing, Declaring, Member, Fields, Method, Constructor, ClassTree, File}
 
 -- how loosely an operator binds
 abbrev pub rank_of : BinaryOp → ℕ

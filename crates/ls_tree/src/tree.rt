@@ -1,13 +1,14 @@
 // The parsed trees.
 
 ghost use Rattle.std.specs.Prelude.{◌≡◌, option_map};
-ghost use Rattle.ls_parser.specs.WellFormed.{WellFormedFile};
-ghost use Rattle.ls_parser.specs.Views.{file_of};
+ghost use Rattle.ls_tree.specs.WellFormed.{WellFormedFile};
+ghost use Rattle.ls_tree.specs.Views.{file_of};
 
 use ls_lexer::token::Span;
+use std::alloc::AllocError;
 
 /// An identifier (JLS 3.8) and where it stands.
-#[derive(Debug, Drop)]
+#[derive(Drop)]
 pub struct Name {
     pub text: String,
     pub span: Span,
@@ -15,7 +16,7 @@ pub struct Name {
 
 /// A class text as a tree (JLS 7.3): the package, the imports and the classes. Only `parse` makes one, so the tree is one of the
 /// grammar: no body and no initialiser is over the greatest height.
-#[derive(Debug, Drop)]
+#[derive(Drop)]
 pub struct ClassFile {
     pub package: Option<Dotted>,
     pub imports: Vec<Import>,
@@ -45,11 +46,7 @@ impl ClassFile {
         &self.classes
     }
 
-    pub(crate) fn new(
-        package: Option<Dotted>,
-        imports: Vec<Import>,
-        classes: Vec<Class>,
-    ) -> ClassFile
+    pub fn new(package: Option<Dotted>, imports: Vec<Import>, classes: Vec<Class>) -> ClassFile
         requires { WellFormedFile (file_of «package» imports.items classes.items) }
         ensures { (result.«package» ≡ «package») × (result.imports ≡ imports) × (result.classes ≡ classes) }
     {
@@ -62,21 +59,21 @@ impl ClassFile {
 }
 
 /// `first.more.more`: the name of a package (JLS 7.4.1), or the path of an import.
-#[derive(Debug, Drop)]
+#[derive(Drop)]
 pub struct Dotted {
     pub first: Name,
     pub more: Vec<Name>,
 }
 
 /// An import (JLS 7.5): of one type, or of all types of a package (`all`, spelled `.*`).
-#[derive(Debug, Drop)]
+#[derive(Drop)]
 pub struct Import {
     pub path: Dotted,
     pub all: bool,
 }
 
 /// A class (JLS 8.1).
-#[derive(Debug, Drop)]
+#[derive(Drop)]
 pub struct Class {
     pub modifiers: Vec<Modifier>,
     pub name: Name,
@@ -84,7 +81,7 @@ pub struct Class {
 }
 
 /// A modifier (JLS 8.1.1, 8.3.1, 8.4.3) or an annotation without arguments (JLS 9.7.2).
-#[derive(Debug, Drop)]
+#[derive(Drop)]
 pub enum Modifier {
     Public,
     Protected,
@@ -95,7 +92,7 @@ pub enum Modifier {
 }
 
 /// A type (JLS 4.1): `Markable` is `AtomicMarkableReference` of the class.
-#[derive(Debug, Drop)]
+#[derive(Drop)]
 pub enum Type {
     Int,
     Boolean,
@@ -105,7 +102,7 @@ pub enum Type {
 }
 
 /// A member of a class (JLS 8.1.6).
-#[derive(Debug, Drop)]
+#[derive(Drop)]
 pub enum Member {
     Field(Declaration),
     Method(Method),
@@ -113,7 +110,7 @@ pub enum Member {
 }
 
 /// A method (JLS 8.4).
-#[derive(Debug, Drop)]
+#[derive(Drop)]
 pub struct Method {
     pub modifiers: Vec<Modifier>,
     // `None` is `void`.
@@ -124,7 +121,7 @@ pub struct Method {
 }
 
 /// A constructor (JLS 8.8).
-#[derive(Debug, Drop)]
+#[derive(Drop)]
 pub struct Constructor {
     pub modifiers: Vec<Modifier>,
     pub name: Name,
@@ -133,7 +130,7 @@ pub struct Constructor {
 }
 
 /// A parameter (JLS 8.4.1).
-#[derive(Debug, Drop)]
+#[derive(Drop)]
 pub struct Parameter {
     pub modifiers: Vec<Modifier>,
     pub type_name: Type,
@@ -141,7 +138,7 @@ pub struct Parameter {
 }
 
 /// Fields (JLS 8.3) or locals (JLS 14.4) of one type. There is at least one declarator.
-#[derive(Debug, Drop)]
+#[derive(Drop)]
 pub struct Declaration {
     pub modifiers: Vec<Modifier>,
     pub type_name: Type,
@@ -151,14 +148,14 @@ pub struct Declaration {
 }
 
 /// A declared name, with the value that it begins with, if it is given one.
-#[derive(Debug, Drop)]
+#[derive(Drop)]
 pub struct Declarator {
     pub name: Name,
     pub value: Option<Expr>,
 }
 
 /// A block (JLS 14.2).
-#[derive(Debug, Drop)]
+#[derive(Drop)]
 #[cycle(statements)]
 pub struct Block {
     pub items: Vec<BlockItem>,
@@ -166,7 +163,7 @@ pub struct Block {
 }
 
 /// What stands in a block (JLS 14.2).
-#[derive(Debug, Drop)]
+#[derive(Drop)]
 #[cycle(statements)]
 pub enum BlockItem {
     Statement(Statement),
@@ -175,7 +172,7 @@ pub enum BlockItem {
 
 /// A statement (JLS 14.5 to 14.20). `otherwise` is what stands behind `else`, and `label` the label in front of a loop or
 /// behind `break` or `continue`.
-#[derive(Debug, Drop)]
+#[derive(Drop)]
 #[cycle(statements)]
 pub enum Statement {
     Block(Block),
@@ -221,14 +218,20 @@ pub enum Statement {
 }
 
 /// A unary operator (JLS 15.15).
-#[derive(Clone, Copy, Debug, PartialEq, Eq)]
+#[derive(Copy)]
 pub enum UnaryOp {
     Minus,
     Not,
 }
 
+impl Clone for UnaryOp {
+    fn clone(&self) -> Result<UnaryOp, AllocError> {
+        Ok(*self)
+    }
+}
+
 /// A binary operator (JLS 15.17 to 15.24), from those that bind most loosely.
-#[derive(Clone, Copy, Debug, PartialEq, Eq)]
+#[derive(Copy, PartialEq, Eq)]
 pub enum BinaryOp {
     Or,
     And,
@@ -245,8 +248,14 @@ pub enum BinaryOp {
     Remainder,
 }
 
+impl Clone for BinaryOp {
+    fn clone(&self) -> Result<BinaryOp, AllocError> {
+        Ok(*self)
+    }
+}
+
 /// An expression (JLS 15). A number keeps its text, and parentheses are kept.
-#[derive(Debug, Drop)]
+#[derive(Drop)]
 pub enum Expr {
     Number {
         text: String,

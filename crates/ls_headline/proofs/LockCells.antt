@@ -1,0 +1,76 @@
+-- What the operations of a lock do to its cell, by the word that stands there.
+use Rattle.std.proofs.Common.{◌≡◌, ◌≢◌, ℕ, zero, suc, ◌+◌, ◌*◌, ◌/◌, ◌%◌, ◌^◌, ◌<◌, ◌≤◌, ◌==◌, Bool, true, false, List, length, Option, Some, None, refl, sym, ap, ◌∙◌, subst, arith, nat_lt, slice_get, slice_set, if◌then◌else◌}
+use Rattle.std.proofs.lemmas.Bool.{eq-eqb}
+use Rattle.std.proofs.lemmas.Bool.Decides.{eqb_tells, nat_tests}
+use Rattle.ls_events.specs.declared.kind.Kind.TheVariants.{IllegalMonitorState, Error}
+use Rattle.ls_events.specs.declared.action.Action.TheVariants as act
+use Rattle.ls_events.specs.declared.action.Answer.{Answer}
+use Rattle.ls_events.specs.declared.action.Answer.TheVariants.{Done, Gives, Fails}
+use Rattle.ls_events.specs.declared.value.ValueType.{ValueType}
+use Rattle.ls_events.specs.declared.value.ValueType.TheVariants as type
+use Rattle.ls_checked.specs.CheckedTree.{Class}
+use Rattle.ls_meaning.specs.Store.{Thing, Object, FreeLock, HeldLock, Markable, Array}
+use Rattle.ls_code.specs.Locks.{taken_of, left_of, is_own}
+use Rattle.ls_code.specs.Cells.{Cells, Effect, Answers, effect, cell_at, on_cell, with_words, written, lock_effect, unlock_effect, Unfit}
+use Rattle.ls_code.specs.declared.lock_word.Taken.{Taken}
+use Rattle.ls_code.specs.declared.lock_word.Taken.TheVariants as taken
+use Rattle.ls_code.specs.declared.lock_word.Left.{Left}
+use Rattle.ls_code.specs.declared.lock_word.Left.TheVariants as left
+use Rattle.ls_code.specs.Reading.{full_word, word_of_another}
+use Rattle.ls_headline.proofs.Lists.{get_within}
+use Rattle.ls_headline.proofs.Effects.{ThingHas}
+use Rattle.ls_headline.proofs.Cells.{held_word}
+use Rattle.ls_headline.proofs.Others.{lock_word}
+use Rattle.ls_headline.proofs.LockWords.{TakenBy, IsFree, IsOwn, IsFull, IsOthers, taken_by, own_is}
+
+abbrev pub by_taken : Cells → ℕ → Answer ℕ → Effect → Taken → Effect
+by_taken c lock won other k = elim k as (λ _. Effect) [ taken.Taken next ↦ written c lock 0 next won | taken.Other ↦ other | taken.TooMany ↦ Answers c (Fails Error) ]
+
+abbrev pub by_left : Cells → ℕ → Left → Effect
+by_left c lock k = elim k as (λ _. Effect) [ left.Left next ↦ written c lock 0 next Done | left.NotOwner ↦ Answers c (Fails IllegalMonitorState) ]
+
+pub lock_is : (c : Cells) (lock t w : ℕ) (k : Taken) (won : Answer ℕ) (other : Effect) → cell_at c lock 0 ≡ Some w → taken_of w t ≡ k → lock_effect c lock t won other ≡ by_taken c lock won other k
+lock_is c lock t w k won other ec ek = ap (λ z. on_cell z (λ word. by_taken c lock won other (taken_of word t))) ec ∙ ap (by_taken c lock won other) ek
+
+pub unlock_is : (c : Cells) (lock t w : ℕ) (k : Left) → cell_at c lock 0 ≡ Some w → left_of w t ≡ k → unlock_effect c lock t ≡ by_left c lock k
+unlock_is c lock t w k ec ek = ap (λ z. on_cell z (λ word. by_left c lock (left_of word t))) ec ∙ ap (by_left c lock) ek
+
+pub store_is : (c : Cells) (lock next now : ℕ) → cell_at c lock 0 ≡ Some now → (d : Cells) × ((y : Answer ℕ) → written c lock 0 next y ≡ Answers d y)
+store_is c zero next now ec = cc
+store_is c (suc p) next now ec =
+    let within : p + 0 < length c.words = get_within c.words (p + 0) now ec in
+    let e : nat_lt (p + 0) (length c.words) ≡ true = grind (arith, nat_tests) in
+    (with_words c (slice_set c.words (p + 0) next), λ y. ap (λ b. if b then Answers (with_words c (slice_set c.words (p + 0) next)) y else Unfit) e)
+
+pub won_is : (c d : Cells) (lock t w next : ℕ) → cell_at c lock 0 ≡ Some w → ((y : Answer ℕ) → written c lock 0 next y ≡ Answers d y) → effect c t (act.SwapPair lock w next) ≡ Answers d (Gives 1)
+won_is c d lock t w next ec f =
+    ap (λ z. on_cell z (λ old. if old == w then written c lock 0 next (Gives 1) else Answers c (Gives 0))) ec
+    ∙ ap (λ b. if b then written c lock 0 next (Gives 1) else Answers c (Gives 0)) (eq-eqb w w refl) ∙ f (Gives 1)
+
+pub lost_is : (c : Cells) (lock t w next now : ℕ) → cell_at c lock 0 ≡ Some now → (now == w) ≡ false → effect c t (act.SwapPair lock w next) ≡ Answers c (Gives 0)
+lost_is c lock t w next now ec b =
+    ap (λ z. on_cell z (λ old. if old == w then written c lock 0 next (Gives 1) else Answers c (Gives 0))) ec
+    ∙ ap (λ b. if b then written c lock 0 next (Gives 1) else Answers c (Gives 0)) b
+
+pub another_is : (t : ℕ) → taken_of (word_of_another t) t ≡ taken.Other
+another_is t = by_word (taken_by (word_of_another t) t)
+  where
+    by_word : TakenBy (word_of_another t) t → taken_of (word_of_another t) t ≡ taken.Other
+    by_word (IsFree z x) = absurd (omega arith)
+    by_word (IsOwn n o l x) = let h = own_is (word_of_another t) t o in absurd (omega arith)
+    by_word (IsFull n o l x) = let h = own_is (word_of_another t) t o in absurd (omega arith)
+    by_word (IsOthers n o x) = x
+
+-- the one word with too many holds
+pub full_is : (classes : List Class) (σ : List ValueType) (o : Thing) (t : ℕ) → ThingHas classes σ o type.Lock → taken_of (lock_word o) t ≡ taken.TooMany → lock_word o ≡ full_word t
+full_is classes σ FreeLock t h e = cc
+full_is classes σ (HeldLock owner holds) t h e = by_word (taken_by (held_word owner holds) t)
+  where
+    by_word : TakenBy (held_word owner holds) t → held_word owner holds ≡ full_word t
+    by_word (IsFree z x) = cc
+    by_word (IsOwn n o l x) = cc
+    by_word (IsFull n o l x) = let q = own_is (held_word owner holds) t o in omega (arith, h.1)
+    by_word (IsOthers n o x) = cc
+full_is classes σ (Object vs) t h e = absurd h
+full_is classes σ (Markable v) t h e = absurd h
+full_is classes σ (Array size items) t h e = absurd h

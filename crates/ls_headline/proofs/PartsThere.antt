@@ -1,0 +1,233 @@
+-- The instructions of an operation, one after another.
+use Rattle.std.proofs.Common.{◌≡◌, ◌≢◌, ◌⊎◌, inl, inr, ℕ, zero, suc, ◌+◌, ◌*◌, ◌/◌, ◌^◌, ◌==◌, Bool, true, false, ◌&&◌, List, [], ◌∷◌, length, drop, Option, Some, None, refl, sym, ap, ◌∙◌, subst, arith, slice_get, nat_lt, if◌then◌else◌}
+use Rattle.std.proofs.lemmas.Bool.Decides.{eqb_tells, nat_tests}
+use Rattle.ls_events.specs.declared.kind.Kind.TheVariants.{NullPointer, IllegalMonitorState, Error}
+use Rattle.ls_events.specs.declared.action.Action.{Action}
+use Rattle.ls_events.specs.declared.action.Action.TheVariants as act
+use Rattle.ls_events.specs.declared.action.Answer.{Answer}
+use Rattle.ls_events.specs.declared.action.Answer.TheVariants.{Done, Gives, Fails}
+use Rattle.ls_code.specs.Code.{Code}
+use Rattle.ls_code.specs.Frame.{top_one, top_two}
+use Rattle.ls_code.specs.Thread.{Thread, with_top}
+use Rattle.ls_code.specs.Locks.{taken_of, left_of, is_own}
+use Rattle.ls_code.specs.Cells.{Cells, Effect, Answers, effect, cell_at, on_cell}
+use Rattle.ls_code.specs.Moves.{discarded}
+use Rattle.ls_code.specs.Exchanges.{Seen, Quietly, Reports, Plan, Says, Touches, Stores, throwing, saw, see_at, see_named, seeing_action, taking_action, take_at, take_named, take_from, took, drop_at, drop_to, with_word, stuck}
+use Rattle.ls_code.specs.Steps.{Move, Silent, Still, Asks, Plans, Outcome, outcome_of, ended_so, seen_outcome, touched, planned, performed, fetched_move, of_frame, wide_move, silent_or_still, thread_move}
+use Rattle.ls_code.specs.declared.step.Did.TheVariants as did
+use Rattle.ls_code.specs.declared.instruction.Instruction.{Instruction}
+use Rattle.ls_code.specs.declared.instruction.Instruction.TheVariants as op
+use Rattle.ls_code.specs.declared.lock_word.Taken.{Taken}
+use Rattle.ls_code.specs.declared.lock_word.Taken.TheVariants as taken
+use Rattle.ls_code.specs.declared.lock_word.Left.{Left}
+use Rattle.ls_code.specs.declared.lock_word.Left.TheVariants as left
+use Rattle.ls_code.specs.Reading.{is_locking, is_trying, is_unlocking, is_take, is_back_to, is_drop, seen, exchanged, after_lock, after_try, after_unlock, operation, planned_move, read_move, whole_move}
+use Rattle.ls_headline.specs.Parts.{one, LockParts, TryParts, UnlockParts, IsPlanned, Parts, PartsAreThere}
+use Rattle.ls_headline.proofs.LockWords.{own_left, not_left}
+use Rattle.ls_headline.proofs.Codes.{Word, IsSee, IsTake, IsDrop, IsAnother, word_of, another, NoPlan, take_there, back_there, drop_there}
+
+and_both : (a b : Bool) → (a && b) ≡ true → (a ≡ true) × (b ≡ true)
+and_both true true e = (refl, refl)
+and_both true false e = cc
+and_both false b e = cc
+
+module _ (p : Code) (n : ℕ) (y : Thread) (a : ℕ) (rest : List ℕ) (top : y.top.operands ≡ a ∷ rest) where
+  -- SEE
+  see_move : (x : ℕ) → slice_get p.instructions y.top.counter ≡ Some (op.See x) → thread_move p y ≡ Plans (λ n. see_at p y n x (top_one y.top.operands))
+  see_move x e = ap (fetched_move p y) e
+
+  -- TAKE and DROP, with the word that was seen
+  take_move : (x : ℕ) (w : ℕ) → slice_get p.instructions (y.top.counter + 1) ≡ Some (op.Take x) → thread_move p (seen y w) ≡ Plans (λ n. take_at p (seen y w) n x (top_two (w ∷ y.top.operands)))
+  take_move x w e = ap (fetched_move p (seen y w)) e
+
+  take_plan : (x w : ℕ) (o : Action ℕ) (k : Taken) → taking_action x a ≡ Some o → taken_of w n ≡ k → take_at p (seen y w) n x (top_two (w ∷ y.top.operands)) ≡ take_from p (seen y w) x o a w k
+  take_plan x w o k eo ek =
+      ap (λ l. take_at p (seen y w) n x (top_two (w ∷ l))) top ∙ ap (take_named p (seen y w) n x a w) eo ∙ ap (take_from p (seen y w) x o a w) ek
+
+  take_is : (x w : ℕ) (o : Action ℕ) (k : Taken) (c : Cells) → slice_get p.instructions (y.top.counter + 1) ≡ Some (op.Take x) → taking_action x a ≡ Some o → taken_of w n ≡ k → one p n c (seen y w) ≡ planned c n (seen y w) (take_from p (seen y w) x o a w k)
+  take_is x w o k c e eo ek = ap (performed c n (seen y w)) (take_move x w e) ∙ ap (planned c n (seen y w)) (take_plan x w o k eo ek)
+
+  drop_is : (w : ℕ) (k : Left) (c : Cells) → slice_get p.instructions (y.top.counter + 1) ≡ Some op.DropLock → left_of w n ≡ k → one p n c (seen y w) ≡ planned c n (seen y w) (drop_to (seen y w) a k)
+  drop_is w k c e ek =
+      ap (performed c n (seen y w)) (ap (fetched_move p (seen y w)) e)
+      ∙ ap (λ l. planned c n (seen y w) (drop_at (seen y w) n (top_two (w ∷ l)))) top ∙ ap (λ z. planned c n (seen y w) (drop_to (seen y w) a z)) ek
+
+  back_is : (c : Cells) → slice_get p.instructions (y.top.counter + 1 + 1) ≡ Some (op.JumpIfFalse y.top.counter) → one p n c (exchanged y 0) ≡ outcome_of y c did.Silent
+  back_is c e = ap (performed c n (exchanged y 0)) (ap (fetched_move p (exchanged y 0)) e)
+
+  -- SEE of an operation: where the lock isn't null and the word has room
+  module _ (x : ℕ) (o : Action ℕ) (see : slice_get p.instructions y.top.counter ≡ Some (op.See x)) (plan : see_at p y n x (top_one y.top.operands) ≡ Touches o (act.ReadPair a) (saw p y n x a)) where
+    see_is : (c : Cells) (w : ℕ) → cell_at c a 0 ≡ Some w → one p n c y ≡ seen_outcome c y (saw p y n x a w)
+    see_is c w ec =
+        ap (performed c n y) (see_move x see) ∙ ap (planned c n y) plan
+        ∙ ap (λ z. touched c y (saw p y n x a) (on_cell z (λ word. Answers c (Gives word)))) ec
+
+  try_saw : (w : ℕ) (k : Taken) → taken_of w n ≡ k → saw p y n 2 a w ≡ (elim k as (λ _. Seen) [ taken.Other ↦ Reports (act.TryLock a) (Gives 0) (with_word y w) | taken.Taken next ↦ Quietly (with_word y w) | taken.TooMany ↦ Quietly (with_word y w) ])
+  try_saw w k ek = ap (λ k. elim k as (λ _. Seen) [ taken.Other ↦ Reports (act.TryLock a) (Gives 0) (with_word y w) | taken.Taken next ↦ Quietly (with_word y w) | taken.TooMany ↦ Quietly (with_word y w) ]) ek
+
+  unlock_saw : (w : ℕ) (b : Bool) → is_own w n ≡ b → saw p y n 3 a w ≡ (if b then Quietly (with_word y w) else Reports (act.Unlock a) (Fails IllegalMonitorState) (throwing p y IllegalMonitorState))
+  unlock_saw w b eb = ap (λ z. if z then Quietly (with_word y w) else Reports (act.Unlock a) (Fails IllegalMonitorState) (throwing p y IllegalMonitorState)) eb
+
+  lock_parts : slice_get p.instructions y.top.counter ≡ Some (op.See 1) → see_at p y n 1 (top_one y.top.operands) ≡ Touches (act.Lock a) (act.ReadPair a) (saw p y n 1 a) → is_locking p y.top.counter ≡ true → LockParts p n y a
+  lock_parts see plan shape =
+      let both = and_both (is_take 1 (slice_get p.instructions (y.top.counter + 1))) (is_back_to y.top.counter (slice_get p.instructions (y.top.counter + 1 + 1))) shape in
+      let at_take : slice_get p.instructions (y.top.counter + 1) ≡ Some (op.Take 1) = take_there 1 _ both.0 in
+      let at_back : slice_get p.instructions (y.top.counter + 1 + 1) ≡ Some (op.JumpIfFalse y.top.counter) = back_there y.top.counter _ both.1 in
+      record {
+        see = λ c w ec. see_is 1 (act.Lock a) see plan c w ec;
+        other = λ c w ek. take_is 1 w (act.Lock a) taken.Other c at_take refl ek;
+        full = λ c w ek. take_is 1 w (act.Lock a) taken.TooMany c at_take refl ek;
+        won = λ c d w next ek ee. take_is 1 w (act.Lock a) (taken.Taken next) c at_take refl ek ∙ ap (touched c (seen y w) (took (seen y w) 1 (act.Lock a))) ee;
+        lost = λ c d w next ek ee. take_is 1 w (act.Lock a) (taken.Taken next) c at_take refl ek ∙ ap (touched c (seen y w) (took (seen y w) 1 (act.Lock a))) ee;
+        back = λ c. back_is c at_back;
+      }
+
+  try_parts : slice_get p.instructions y.top.counter ≡ Some (op.See 2) → see_at p y n 2 (top_one y.top.operands) ≡ Touches (act.TryLock a) (act.ReadPair a) (saw p y n 2 a) → is_trying p y.top.counter ≡ true → TryParts p n y a
+  try_parts see plan shape =
+      let at_take : slice_get p.instructions (y.top.counter + 1) ≡ Some (op.Take 2) = take_there 2 _ shape in
+      record {
+        see = λ c w next ec ek. see_is 2 (act.TryLock a) see plan c w ec ∙ ap (seen_outcome c y) (try_saw w (taken.Taken next) ek);
+        see_full = λ c w ec ek. see_is 2 (act.TryLock a) see plan c w ec ∙ ap (seen_outcome c y) (try_saw w taken.TooMany ek);
+        see_other = λ c w ec ek. see_is 2 (act.TryLock a) see plan c w ec ∙ ap (seen_outcome c y) (try_saw w taken.Other ek);
+        full = λ c w ek. take_is 2 w (act.TryLock a) taken.TooMany c at_take refl ek;
+        won = λ c d w next ek ee. take_is 2 w (act.TryLock a) (taken.Taken next) c at_take refl ek ∙ ap (touched c (seen y w) (took (seen y w) 2 (act.TryLock a))) ee;
+        lost = λ c d w next ek ee. take_is 2 w (act.TryLock a) (taken.Taken next) c at_take refl ek ∙ ap (touched c (seen y w) (took (seen y w) 2 (act.TryLock a))) ee;
+        told = λ c w ek. take_is 2 w (act.TryLock a) taken.Other c at_take refl ek;
+        told_whole = λ w ek. ap (read_move p n (seen y w)) (take_move 2 w at_take) ∙ ap (planned_move p n (seen y w)) (take_plan 2 w (act.TryLock a) taken.Other refl ek);
+      }
+
+  unlock_parts : slice_get p.instructions y.top.counter ≡ Some (op.See 3) → see_at p y n 3 (top_one y.top.operands) ≡ Touches (act.Unlock a) (act.ReadPair a) (saw p y n 3 a) → is_unlocking p y.top.counter ≡ true → UnlockParts p n y a
+  unlock_parts see plan shape =
+      let at_drop : slice_get p.instructions (y.top.counter + 1) ≡ Some op.DropLock = drop_there _ shape in
+      record {
+        see = λ c w next ec ek. see_is 3 (act.Unlock a) see plan c w ec ∙ ap (seen_outcome c y) (unlock_saw w true (owner w (is_own w n) refl next ek));
+        see_other = λ c w ec ek. see_is 3 (act.Unlock a) see plan c w ec ∙ ap (seen_outcome c y) (unlock_saw w false (not_owner w (is_own w n) refl ek));
+        drop = λ c d w next ek ee s es. (let same : with_top (seen y w) (discarded (seen y w).top 2) ≡ s = cc in
+            drop_is w (left.Left next) c at_drop ek ∙ ap (touched c (seen y w) (λ word. Reports (act.Unlock a) Done (Some (with_top (seen y w) (discarded (seen y w).top 2))))) ee
+            ∙ ap (λ z. outcome_of z d (did.Acted (act.Unlock a) Done)) same);
+      }
+    where
+      owner : (w : ℕ) (b : Bool) → is_own w n ≡ b → (next : ℕ) → left_of w n ≡ left.Left next → is_own w n ≡ true
+      owner w true eb next ek = eb
+      owner w false eb next ek = let both : left.NotOwner ≡ left.Left next = sym (not_left w n eb) ∙ ek in absurd (cc)
+
+      not_owner : (w : ℕ) (b : Bool) → is_own w n ≡ b → left_of w n ≡ left.NotOwner → is_own w n ≡ false
+      not_owner w false eb ek = eb
+      not_owner w true eb ek = let both : left.Left _ ≡ left.NotOwner = sym (own_left w n eb) ∙ ek in absurd (cc)
+
+both_not : (m : Move) → NoPlan m → IsPlanned m → ⊥
+both_not (Silent t) h g = g
+both_not Still h g = g
+both_not (Asks a go) h g = g
+both_not (Plans go) h g = h
+
+silent_not : (o : Option Thread) (b : Action ℕ) (go : Answer ℕ → Option Thread) → silent_or_still o ≡ Asks b go → ⊥
+silent_not None b go e = cc
+silent_not (Some t) b go e = cc
+
+module _ (p : Code) (n : ℕ) (y : Thread) (b : Action ℕ) (go : Answer ℕ → Option Thread) where
+  -- what a move owes
+  abbrev PartsOf : Move → Type 0
+  PartsOf (Asks a g) = Parts p n y a g
+  PartsOf (Silent t) = Unit {0}
+  PartsOf Still = Unit {0}
+  PartsOf (Plans g) = Unit {0}
+
+  from_lock : (a : ℕ) (t : Bool) → (t ≡ true → LockParts p n y a) → PartsOf (if t then Asks (act.Lock a) (after_lock p n y) else Still)
+  from_lock a true f = (f refl, refl)
+  from_lock a false f = tt
+
+  from_try : (a : ℕ) (t : Bool) → (t ≡ true → TryParts p n y a) → PartsOf (if t then Asks (act.TryLock a) (after_try p n y) else Still)
+  from_try a true f = (f refl, refl)
+  from_try a false f = tt
+
+  from_unlock : (a : ℕ) (t : Bool) → (t ≡ true → UnlockParts p n y a) → PartsOf (if t then Asks (act.Unlock a) (after_unlock p y) else Still)
+  from_unlock a true f = (f refl, refl)
+  from_unlock a false f = tt
+
+  silent_parts : (o : Option Thread) → PartsOf (silent_or_still o)
+  silent_parts None = tt
+  silent_parts (Some t) = tt
+
+  -- SEE with a lock's address
+  guarded : (x a : ℕ) (o : Action ℕ) (z : Bool) (r : Bool) → (see_named p y n x a (Some o) ≡ (if z then Says (Quietly (throwing p y NullPointer)) else (if r then Touches o (act.ReadPair a) (saw p y n x a) else stuck))) → (see_named p y n x a (Some o) ≡ Touches o (act.ReadPair a) (saw p y n x a) → PartsOf (operation p n y o)) → PartsOf (planned_move p n y (see_named p y n x a (Some o)))
+  guarded x a o true r e f = subst (λ q. PartsOf (planned_move p n y q)) (sym e) (silent_parts (throwing p y NullPointer))
+  guarded x a o false false e f = subst (λ q. PartsOf (planned_move p n y q)) (sym e) tt
+  guarded x a o false true e f = subst (λ q. PartsOf (planned_move p n y q)) (sym e) (f e)
+
+  module _ (a : ℕ) (rest : List ℕ) (top : y.top.operands ≡ a ∷ rest) where
+    plan_at : (x : ℕ) (o : Action ℕ) → seeing_action x a ≡ Some o → see_named p y n x a (Some o) ≡ Touches o (act.ReadPair a) (saw p y n x a) → see_at p y n x (top_one y.top.operands) ≡ Touches o (act.ReadPair a) (saw p y n x a)
+    plan_at x o eo e = ap (λ l. see_at p y n x (top_one l)) top ∙ ap (see_named p y n x a) eo ∙ e
+
+    -- by the operand of SEE
+    by_operand : (x : ℕ) (b1 b2 b3 : Bool) → (x == 1) ≡ b1 → (x == 2) ≡ b2 → (x == 3) ≡ b3 → slice_get p.instructions y.top.counter ≡ Some (op.See x) → PartsOf (planned_move p n y (see_named p y n x a (seeing_action x a)))
+    by_operand x true b2 b3 e1 e2 e3 see =
+        let is : x ≡ 1 = grind (arith, nat_tests) in
+        let eo : seeing_action x a ≡ Some (act.Lock a) = ap (λ z. if z then Some (act.Lock a) else (if x == 2 then Some (act.TryLock a) else (if x == 3 then Some (act.Unlock a) else None))) e1 in
+        let see' : slice_get p.instructions y.top.counter ≡ Some (op.See 1) = see ∙ ap (λ z. Some (op.See z)) is in
+        subst (λ o. PartsOf (planned_move p n y (see_named p y n x a o))) (sym eo)
+        (subst (λ z. PartsOf (planned_move p n y (see_named p y n z a (Some (act.Lock a))))) (sym is)
+        (guarded 1 a (act.Lock a) (a == 0) (nat_lt (length y.top.operands) y.top.need) refl
+        (λ e. from_lock a (is_locking p y.top.counter) (λ shape. lock_parts p n y a rest top see' (plan_at 1 (act.Lock a) refl e) shape))))
+    by_operand x false true b3 e1 e2 e3 see =
+        let is : x ≡ 2 = grind (arith, nat_tests) in
+        let eo : seeing_action x a ≡ Some (act.TryLock a) = ap (λ z. if z then Some (act.Lock a) else (if x == 2 then Some (act.TryLock a) else (if x == 3 then Some (act.Unlock a) else None))) e1 ∙ ap (λ z. if z then Some (act.TryLock a) else (if x == 3 then Some (act.Unlock a) else None)) e2 in
+        let see' : slice_get p.instructions y.top.counter ≡ Some (op.See 2) = see ∙ ap (λ z. Some (op.See z)) is in
+        subst (λ o. PartsOf (planned_move p n y (see_named p y n x a o))) (sym eo)
+        (subst (λ z. PartsOf (planned_move p n y (see_named p y n z a (Some (act.TryLock a))))) (sym is)
+        (guarded 2 a (act.TryLock a) (a == 0) (nat_lt (length y.top.operands) y.top.need) refl
+        (λ e. from_try a (is_trying p y.top.counter) (λ shape. try_parts p n y a rest top see' (plan_at 2 (act.TryLock a) refl e) shape))))
+    by_operand x false false true e1 e2 e3 see =
+        let is : x ≡ 3 = grind (arith, nat_tests) in
+        let eo : seeing_action x a ≡ Some (act.Unlock a) = ap (λ z. if z then Some (act.Lock a) else (if x == 2 then Some (act.TryLock a) else (if x == 3 then Some (act.Unlock a) else None))) e1 ∙ ap (λ z. if z then Some (act.TryLock a) else (if x == 3 then Some (act.Unlock a) else None)) e2 ∙ ap (λ z. if z then Some (act.Unlock a) else None) e3 in
+        let see' : slice_get p.instructions y.top.counter ≡ Some (op.See 3) = see ∙ ap (λ z. Some (op.See z)) is in
+        subst (λ o. PartsOf (planned_move p n y (see_named p y n x a o))) (sym eo)
+        (subst (λ z. PartsOf (planned_move p n y (see_named p y n z a (Some (act.Unlock a))))) (sym is)
+        (guarded 3 a (act.Unlock a) (a == 0) (nat_lt (length y.top.operands) y.top.need) refl
+        (λ e. from_unlock a (is_unlocking p y.top.counter) (λ shape. unlock_parts p n y a rest top see' (plan_at 3 (act.Unlock a) refl e) shape))))
+    by_operand x false false false e1 e2 e3 see =
+        let eo : seeing_action x a ≡ None = ap (λ z. if z then Some (act.Lock a) else (if x == 2 then Some (act.TryLock a) else (if x == 3 then Some (act.Unlock a) else None))) e1 ∙ ap (λ z. if z then Some (act.TryLock a) else (if x == 3 then Some (act.Unlock a) else None)) e2 ∙ ap (λ z. if z then Some (act.Unlock a) else None) e3 in
+        subst (λ o. PartsOf (planned_move p n y (see_named p y n x a o))) (sym eo) tt
+
+  from_see : (x : ℕ) → slice_get p.instructions y.top.counter ≡ Some (op.See x) → (l : List ℕ) → y.top.operands ≡ l → PartsOf (planned_move p n y (see_at p y n x (top_one l)))
+  from_see x see [] el = tt
+  from_see x see (a ∷ rest) el = by_operand a rest el x (x == 1) (x == 2) (x == 3) refl refl refl see
+
+  -- TAKE and DROP begin nothing
+  from_taken : (x a w : ℕ) (o : Action ℕ) (k : Taken) → PartsOf (planned_move p n y (take_from p y x o a w k))
+  from_taken x a w o taken.Other = tt
+  from_taken x a w o taken.TooMany = tt
+  from_taken x a w o (taken.Taken next) = tt
+
+  from_named : (x a w : ℕ) (o : Option (Action ℕ)) → PartsOf (planned_move p n y (take_named p y n x a w o))
+  from_named x a w None = tt
+  from_named x a w (Some o) = from_taken x a w o (taken_of w n)
+
+  from_take : (x : ℕ) (r : Option (ℕ × ℕ)) → PartsOf (planned_move p n y (take_at p y n x r))
+  from_take x None = tt
+  from_take x (Some r) = from_named x r.0 r.1 (taking_action x r.0)
+
+  from_left : (a : ℕ) (k : Left) → PartsOf (planned_move p n y (drop_to y a k))
+  from_left a left.NotOwner = tt
+  from_left a (left.Left next) = tt
+
+  from_drop : (r : Option (ℕ × ℕ)) → PartsOf (planned_move p n y (drop_at y n r))
+  from_drop None = tt
+  from_drop (Some r) = from_left r.0 (left_of r.1 n)
+
+  by_word : (i : Instruction) → slice_get p.instructions y.top.counter ≡ Some i → IsPlanned (fetched_move p y (Some i)) → Word i → PartsOf (read_move p n y (fetched_move p y (Some i)))
+  by_word i e h (IsSee x ei) =
+      subst (λ j. PartsOf (read_move p n y (fetched_move p y (Some j)))) (sym ei) (from_see x (e ∙ ap Some ei) y.top.operands refl)
+  by_word i e h (IsTake x ei) = subst (λ j. PartsOf (read_move p n y (fetched_move p y (Some j)))) (sym ei) (from_take x (top_two y.top.operands))
+  by_word i e h (IsDrop ei) = subst (λ j. PartsOf (read_move p n y (fetched_move p y (Some j)))) (sym ei) (from_drop (top_two y.top.operands))
+  by_word i e h (IsAnother w) = absurd (both_not (fetched_move p y (Some i)) (another p y i w) h)
+
+  fetched : (o : Option Instruction) → slice_get p.instructions y.top.counter ≡ o → IsPlanned (fetched_move p y o) → PartsOf (read_move p n y (fetched_move p y o))
+  fetched None e h = absurd h
+  fetched (Some i) e h = by_word i e h (word_of i)
+
+  pub there : IsPlanned (thread_move p y) → whole_move p n y ≡ Asks b go → Parts p n y b go
+  there h e = subst PartsOf e (fetched (slice_get p.instructions y.top.counter) refl h)
+
+pub parts_are_there : PartsAreThere
+parts_are_there p n y b go h e = there p n y b go h e

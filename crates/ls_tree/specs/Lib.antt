@@ -1,0 +1,4 @@
+pub mod Trees
+pub mod WellFormed
+pub mod Views
+pub mod FileView
