@@ -9,7 +9,7 @@ fn is_locked(methods: &[Method]) -> bool {
     match methods {
         [method] => matches!(
             &method.body,
-            Statement::Evaluate(Expression::OnLockWord(LockOperation::Lock, _))
+            Statement::Evaluate(Expression::OnLock(LockOperation::Lock, _))
         ),
         _ => false,
     }

@@ -7,7 +7,7 @@ use Rattle.ls_events.specs.declared.action.Action.TheVariants as act
 use Rattle.ls_code.specs.declared.instruction.Instruction.TheVariants as op
 use Rattle.ls_code.specs.declared.instruction.Resume.TheVariants as then
 use Rattle.ls_code.specs.Moves.{Stuck as FrameStuck, Asks as FrameAsks}
-use Rattle.ls_lowered.specs.LoweredTree.{Expression, Word, Local, Unary, Binary, And, Or, Hold, Keep, After as Afterwards, Field, Item, SetFirst, ReadPair, SetPair, SwapPair, AttemptMark, OnLock, OnLockWord, Call, MakeObject, MakeLock, MakeMarkable, MakeArray, Expressions, End, More}
+use Rattle.ls_lowered.specs.LoweredTree.{Expression, Word, Local, Unary, Binary, And, Or, Hold, Keep, After as Afterwards, Field, Item, SetFirst, ReadPair, SetPair, SwapPair, AttemptMark, OnLock, Call, MakeObject, MakeLock, MakeMarkable, MakeArray, Expressions, End, More}
 use Rattle.ls_lowered.specs.Words.{int_of, bool_of}
 use Rattle.ls_lowered.specs.Course.{Answers, Course, Ends, Outcome, Results, Throws, and_then, ask, perform, unless_null, returned}
 use Rattle.ls_lowered.specs.Expressions.{unary_word, operate, operate_lock, make_array, find, find_all}

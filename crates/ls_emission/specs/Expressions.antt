@@ -9,7 +9,7 @@ use Rattle.ls_lowered.specs.declared.tree.BinaryOperator.{BinaryOperator}
 use Rattle.ls_lowered.specs.declared.tree.BinaryOperator.TheVariants as binary
 use Rattle.ls_lowered.specs.declared.tree.LockOperation.{LockOperation}
 use Rattle.ls_lowered.specs.declared.tree.LockOperation.TheVariants.{Lock, Unlock, TryLock, IsHeld}
-use Rattle.ls_lowered.specs.LoweredTree.{Expression, Word, Local, Unary, Binary, And, Or, Hold, Keep, After, Field, Item, SetFirst, ReadPair, SetPair, SwapPair, AttemptMark, OnLock, OnLockWord, Call, MakeObject, MakeLock, MakeMarkable, MakeArray, Expressions, End, More}
+use Rattle.ls_lowered.specs.LoweredTree.{Expression, Word, Local, Unary, Binary, And, Or, Hold, Keep, After, Field, Item, SetFirst, ReadPair, SetPair, SwapPair, AttemptMark, OnLock, Call, MakeObject, MakeLock, MakeMarkable, MakeArray, Expressions, End, More}
 
 abbrev pub unary_code : UnaryOperator → Instruction
 unary_code Negate = op.Neg
@@ -64,7 +64,6 @@ abbrev mutual
   size (SwapPair e a b) = size e + size a + size b + 1
   size (AttemptMark e a b) = size e + size a + size b + 1
   size (OnLock o e) = size e + lock_size o
-  size (OnLockWord o e) = size e + lock_size o
   size (Call m e es) = size e + all_size es + 1
   size (MakeObject c m es) = all_size es + 4
   size MakeLock = 1
@@ -98,7 +97,6 @@ abbrev mutual
   code p (SwapPair e a b) = code p e ++ code (p + size e) a ++ code (p + size e + size a) b ++ op.SwapPair ∷ []
   code p (AttemptMark e a b) = code p e ++ code (p + size e) a ++ code (p + size e + size a) b ++ op.AttemptMark ∷ []
   code p (OnLock o e) = code p e ++ lock_code (p + size e) o
-  code p (OnLockWord o e) = code p e ++ lock_code (p + size e) o
   code p (Call m e es) = code p e ++ all_code (p + size e) es ++ op.Enter m ∷ []
   code p (MakeObject c m es) = op.NewObject c ∷ op.Dup ∷ all_code (p + 2) es ++ op.Enter m ∷ op.Pop ∷ []
   code p MakeLock = op.NewLock ∷ []

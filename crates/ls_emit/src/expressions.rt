@@ -96,7 +96,7 @@ pub fn emit_expression(
         Expression::ReadPair(e) => emit_on(out, place, e, Instruction::ReadPair),
         Expression::MakeMarkable(e) => emit_on(out, place, e, Instruction::NewMarkable),
         Expression::MakeArray(e) => emit_on(out, place, e, Instruction::NewArray),
-        Expression::OnLock(op, e) | Expression::OnLockWord(op, e) => {
+        Expression::OnLock(op, e) => {
             let next = emit_expression(out, place, e)?;
             put_lock_operation(out, *op)?;
             Ok(next + lock_size(*op))

@@ -29,7 +29,6 @@ pub fn need(e: &Expression) -> usize
         | Expression::Field(e, _)
         | Expression::ReadPair(e)
         | Expression::OnLock(_, e)
-        | Expression::OnLockWord(_, e)
         | Expression::MakeMarkable(e)
         | Expression::MakeArray(e) => need(e),
         Expression::Binary(_, a, b)

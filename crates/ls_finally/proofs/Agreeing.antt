@@ -7,7 +7,7 @@ use Rattle.ls_events.specs.declared.kind.Kind.TheVariants.{NullPointer, Arithmet
 use Rattle.ls_events.specs.declared.action.Action.{Action}
 use Rattle.ls_events.specs.declared.action.Action.TheVariants as act
 use Rattle.ls_events.specs.declared.action.Answer.TheVariants as answers
-use Rattle.ls_lowered.specs.LoweredTree.{Expression, Word, Local, Unary, Binary, And, Or, Hold, Keep, After, Field, Item, SetFirst, ReadPair, SetPair, SwapPair, AttemptMark, OnLock, OnLockWord, Call, MakeObject, MakeLock, MakeMarkable, MakeArray, Expressions, End, More}
+use Rattle.ls_lowered.specs.LoweredTree.{Expression, Word, Local, Unary, Binary, And, Or, Hold, Keep, After, Field, Item, SetFirst, ReadPair, SetPair, SwapPair, AttemptMark, OnLock, Call, MakeObject, MakeLock, MakeMarkable, MakeArray, Expressions, End, More}
 use Rattle.ls_lowered.specs.declared.tree.BinaryOperator.{BinaryOperator}
 use Rattle.ls_lowered.specs.declared.tree.BinaryOperator.TheVariants as op
 use Rattle.ls_lowered.specs.declared.tree.LockOperation.{LockOperation}
@@ -157,7 +157,6 @@ module _ (calls : Calls) (k : ℕ) where
     found_alike (SwapPair e a b) t = then_alike k (find calls e) _ (found_alike e t.0) (λ x. then_alike k (find calls a) _ (found_alike a t.1) (λ y. then_alike k (find calls b) _ (found_alike b t.2) (λ z. null_alike k x (λ ls q. ask (act.SwapPair x y z) ls q) (ask_alike k (act.SwapPair x y z)))))
     found_alike (AttemptMark e a b) t = then_alike k (find calls e) _ (found_alike e t.0) (λ x. then_alike k (find calls a) _ (found_alike a t.1) (λ y. then_alike k (find calls b) _ (found_alike b t.2) (λ z. null_alike k x (λ ls q. ask (act.AttemptMark x y (bool_of z)) ls q) (ask_alike k (act.AttemptMark x y (bool_of z))))))
     found_alike (OnLock o e) t = then_alike k (find calls e) _ (found_alike e t) (λ x. null_alike k x (λ ls q. operate_lock o x ls q) (lock_alike k o x))
-    found_alike (OnLockWord o e) t = then_alike k (find calls e) _ (found_alike e t) (λ x. null_alike k x (λ ls q. operate_lock o x ls q) (lock_alike k o x))
     found_alike (Call m e es) t = then_alike k (find calls e) _ (found_alike e t.0) (λ x. then_alike k (find_all calls es) _ (all_found_alike es t.1) (λ ws. null_alike k x (λ ls q. returned ls (calls m (x ∷ ws) q)) (returned_alike k (calls m (x ∷ ws)))))
     found_alike (MakeObject c m es) t = then_alike k (λ ls q. ask (act.New c) ls q) _ (ask_alike k (act.New c)) (λ x. then_alike k (find_all calls es) _ (all_found_alike es t) (λ ws. null_alike k x (λ ls q. and_then (returned ls (calls m (x ∷ ws) q)) (λ w ls q. Ends (Results x) ls q)) (then_alike k (λ ls q. returned ls (calls m (x ∷ ws) q)) (λ w ls q. Ends (Results x) ls q) (returned_alike k (calls m (x ∷ ws))) (λ w. ends_alike k (Results x)))))
     found_alike MakeLock t = ask_alike k act.NewLock

@@ -15,7 +15,7 @@ use Rattle.ls_lowered.specs.declared.tree.BinaryOperator.{BinaryOperator}
 use Rattle.ls_lowered.specs.declared.tree.BinaryOperator.TheVariants as binary
 use Rattle.ls_lowered.specs.declared.tree.LockOperation.{LockOperation}
 use Rattle.ls_lowered.specs.declared.tree.LockOperation.TheVariants.{Lock, Unlock, TryLock, IsHeld}
-use Rattle.ls_lowered.specs.LoweredTree.{Expression, Word, Local, Unary, Binary, And, Or, Hold, Keep, After, Field, Item, SetFirst, ReadPair, SetPair, SwapPair, AttemptMark, OnLock, OnLockWord, Call, MakeObject, MakeLock, MakeMarkable, MakeArray, Expressions, End, More, Statement, Block, SetLocal, SetField, SetItem, Evaluate, If, While, Break, Continue, Return, Try, Guarded, Throw, Leavable, Leave, Statements, Done, Then, Method, File}
+use Rattle.ls_lowered.specs.LoweredTree.{Expression, Word, Local, Unary, Binary, And, Or, Hold, Keep, After, Field, Item, SetFirst, ReadPair, SetPair, SwapPair, AttemptMark, OnLock, Call, MakeObject, MakeLock, MakeMarkable, MakeArray, Expressions, End, More, Statement, Block, SetLocal, SetField, SetItem, Evaluate, If, While, Break, Continue, Return, Try, Guarded, Throw, Leavable, Leave, Statements, Done, Then, Method, File}
 use Rattle.ls_emission.specs.Expressions.{unary_code, binary_code, lock_code, size, code, all_code}
 use Rattle.ls_emission.specs.Statements.{Targets, no_targets, in_loop, in_region, statement_size, statement_code, statements_code}
 use Rattle.ls_emission.specs.Units.{moved, method_code, units_of}

@@ -12,7 +12,7 @@ use Rattle.ls_lowered.specs.declared.tree.BinaryOperator.TheVariants as binary
 use Rattle.ls_lowered.specs.declared.tree.LockOperation.{LockOperation}
 use Rattle.ls_lowered.specs.declared.tree.LockOperation.TheVariants as lock
 use Rattle.ls_lowered.specs.LoweredTree as low
-use Rattle.ls_lowered.specs.LoweredTree.{Expression, Word, Local, Unary, Binary, And, Or, Hold, Keep, After, Field, Item, SetFirst, ReadPair, SetPair, SwapPair, AttemptMark, OnLock, OnLockWord, Call, MakeObject, MakeLock, MakeMarkable, MakeArray, Expressions, End, More, Statement, Block, SetLocal, SetField, SetItem, Evaluate, If, While, Break, Continue, Return, Try, Guarded, Throw, Leavable, Leave, Statements, Done, Then, Method, File}
+use Rattle.ls_lowered.specs.LoweredTree.{Expression, Word, Local, Unary, Binary, And, Or, Hold, Keep, After, Field, Item, SetFirst, ReadPair, SetPair, SwapPair, AttemptMark, OnLock, Call, MakeObject, MakeLock, MakeMarkable, MakeArray, Expressions, End, More, Statement, Block, SetLocal, SetField, SetItem, Evaluate, If, While, Break, Continue, Return, Try, Guarded, Throw, Leavable, Leave, Statements, Done, Then, Method, File}
 use Rattle.ls_emission.specs.Expressions.{unary_code, binary_code, lock_code, lock_size, size, all_size, code, all_code}
 use Rattle.ls_emission.specs.Statements.{Loop, Targets, no_targets, in_loop, in_region, stop_by, turn_by, exit_by, stop_of, turn_of, exit_of, statement_size, statements_size, statement_code, statements_code, row_of, statement_rows, statements_rows}
 use Rattle.ls_emission.specs.Units.{method_size, method_code, method_rows, unit_of, units_of}
@@ -90,7 +90,6 @@ module _ (n : ℕ) where
     code_lands p (SwapPair e a b) room = joined (code p e ++ code (p + size e) a ++ code (p + size e + size a) b) (op.SwapPair ∷ []) (joined (code p e ++ code (p + size e) a) (code (p + size e + size a) b) (joined (code p e) (code (p + size e) a) (code_lands p e (omega (arith, room))) (code_lands (p + size e) a (omega (arith, room)))) (code_lands (p + size e + size a) b (omega (arith, room)))) ((tt, tt))
     code_lands p (AttemptMark e a b) room = joined (code p e ++ code (p + size e) a ++ code (p + size e + size a) b) (op.AttemptMark ∷ []) (joined (code p e ++ code (p + size e) a) (code (p + size e + size a) b) (joined (code p e) (code (p + size e) a) (code_lands p e (omega (arith, room))) (code_lands (p + size e) a (omega (arith, room)))) (code_lands (p + size e + size a) b (omega (arith, room)))) ((tt, tt))
     code_lands p (OnLock o e) room = joined (code p e) (lock_code o) (code_lands p e (omega (arith, room))) (lock_lands o)
-    code_lands p (OnLockWord o e) room = joined (code p e) (lock_code o) (code_lands p e (omega (arith, room))) (lock_lands o)
     code_lands p (Call m e es) room = joined (code p e ++ all_code (p + size e) es) (op.Enter m ∷ []) (joined (code p e) (all_code (p + size e) es) (code_lands p e (omega (arith, room))) (all_lands (p + size e) es (omega (arith, room)))) ((tt, tt))
     code_lands p (MakeObject c m es) room = joined (op.NewObject c ∷ op.Dup ∷ all_code (p + 2) es) (op.Enter m ∷ op.Pop ∷ []) ((tt, (tt, all_lands (p + 2) es (omega (arith, room))))) ((tt, (tt, tt)))
     code_lands p MakeLock room = (tt, tt)
