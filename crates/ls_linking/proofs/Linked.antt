@@ -60,7 +60,7 @@ some_result result.Int n = omega arith
 some_result result.Boolean n = omega arith
 
 -- TRAP stands at the last place
-last_traps : (whole : List Instruction) (classes : List Class) (n : ℕ) (cs : List ProgramCall) (p : ℕ) → HasAt whole p (calls_code classes n cs) → slice_get whole (p + (length (calls_code classes n cs) - 1)) ≡ Some op.Trap
+pub last_traps : (whole : List Instruction) (classes : List Class) (n : ℕ) (cs : List ProgramCall) (p : ℕ) → HasAt whole p (calls_code classes n cs) → slice_get whole (p + (length (calls_code classes n cs) - 1)) ≡ Some op.Trap
 last_traps whole classes n [] p has = has.1.0
 last_traps whole classes n (c ∷ cs) p has =
     let q = p + length (call_code classes n c) in
