@@ -10,7 +10,8 @@ use Rattle.ls_lowered.specs.declared.tree.BinaryOperator.TheVariants as binary
 use Rattle.ls_lowered.specs.declared.tree.LockOperation.{LockOperation}
 use Rattle.ls_lowered.specs.declared.tree.LockOperation.TheVariants.{Lock, Unlock, TryLock, IsHeld}
 use Rattle.ls_lowered.specs.LoweredTree.{Expression, Word, Local, Unary, Binary, And, Or, Hold, Keep, After, Field, Item, SetFirst, ReadPair, SetPair, SwapPair, AttemptMark, OnLock, Call, MakeObject, MakeLock, MakeMarkable, MakeArray, Expressions, End, More}
-use Rattle.ls_emission.specs.Expressions.{unary_code, binary_code, lock_code, size, code, all_code}
+use Rattle.ls_locks.specs.LockCode.{lock_code}
+use Rattle.ls_emission.specs.Expressions.{unary_code, binary_code, size, code, all_code}
 use Rattle.ls_emission.specs.Units.{moved}
 
 module _ (start : ℕ) where
