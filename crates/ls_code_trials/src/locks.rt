@@ -16,7 +16,19 @@ fn lowered(alloc: Global, operation: LockOperation) -> Result<Vec<Instruction>, 
 #[test]
 fn looks_again_until_it_is_won(rt: HostRuntime) -> Result<(), AllocError> {
     let code = lowered(rt.alloc(), LockOperation::Lock)?;
-    assert!(rt; matches!(code.as_slice(), [_, Instruction::See(1), Instruction::Take(1), Instruction::JumpIfFalse(1), Instruction::Pop, Instruction::Push(0)]));
+    assert!(rt;
+        matches!(
+            code.as_slice(),
+            [
+                _,
+                Instruction::See(1),
+                Instruction::Take(1),
+                Instruction::JumpIfFalse(1),
+                Instruction::Pop,
+                Instruction::Push(0)
+            ]
+        )
+    );
     assert!(rt; code.len() == 1 + lock_size(LockOperation::Lock));
     Ok(())
 }
@@ -24,7 +36,18 @@ fn looks_again_until_it_is_won(rt: HostRuntime) -> Result<(), AllocError> {
 #[test]
 fn looks_once(rt: HostRuntime) -> Result<(), AllocError> {
     let code = lowered(rt.alloc(), LockOperation::TryLock)?;
-    assert!(rt; matches!(code.as_slice(), [_, Instruction::See(2), Instruction::Take(2), Instruction::Pack, Instruction::MarkOf]));
+    assert!(rt;
+        matches!(
+            code.as_slice(),
+            [
+                _,
+                Instruction::See(2),
+                Instruction::Take(2),
+                Instruction::Pack,
+                Instruction::MarkOf
+            ]
+        )
+    );
     assert!(rt; code.len() == 1 + lock_size(LockOperation::TryLock));
     Ok(())
 }

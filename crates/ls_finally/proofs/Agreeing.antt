@@ -1,5 +1,5 @@
 -- Expressions on locals that agree below k end alike, and keep the locals above.
-use Rattle.std.proofs.Common.{◌≡◌, ◌≢◌, ℕ, zero, suc, ◌+◌, ◌<◌, ◌≤◌, ⊎_elim, Bool, true, false, List, [], ◌∷◌, length, Option, Some, None, refl, sym, ap, ◌∙◌, subst, arith, nat_eq, if◌then◌else◌, pos}
+use Rattle.std.proofs.Common.{◌≡◌, ℕ, ◌<◌, ◌≤◌, ⊎_elim, Bool, true, false, List, [], ◌∷◌, length, refl, sym, ap, ◌∙◌, subst, arith, nat_eq, if◌then◌else◌, pos}
 use Rattle.std.specs.Prelude.{slice_index, slice_set, int_lt, ◌%◌, ◌^◌}
 use Rattle.std.proofs.lemmas.List.{length-set, get_or-set_same, get_or-set_other}
 use Rattle.std.proofs.lemmas.Bool.{cases_lt}
@@ -15,7 +15,7 @@ use Rattle.ls_lowered.specs.declared.tree.LockOperation.TheVariants as lock
 use Rattle.ls_lowered.specs.Words.{int_of, bool_of}
 use Rattle.ls_lowered.specs.Course.{Answers, Course, Asks, Ends, Stuck, Outcome, Results, Throws, Calls, Told, Asked, Gave, Raised, Lost, finish, on_result, and_then, ask, perform, unless_null, returned}
 use Rattle.ls_lowered.specs.Expressions.{find, find_all, unary_word, binary_word, flag_word, divided, operate, operate_lock, make_array}
-use Rattle.ls_lowered.specs.Statements.{Completion, Go}
+use Rattle.ls_lowered.specs.Statements.{Completion}
 use Rattle.ls_finally.specs.Agreement.{Agree, IsBelow, AreBelow}
 
 pub finish_finish : {A B C : Type 0} (x : Course A) (f : A → List ℕ → Answers → Course B) (g : B → List ℕ → Answers → Course C) → finish (finish x f) g ≡ finish x (λ c ls q. finish (f c ls q) g)

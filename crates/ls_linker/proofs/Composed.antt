@@ -4,15 +4,12 @@ use Rattle.std.specs.Prelude.{slice_get}
 use Rattle.ls_events.specs.declared.value.Value.{Value}
 use Rattle.ls_events.specs.declared.value.ValueType.{ValueType}
 use Rattle.ls_checked.specs.CheckedTree.{File, Method}
-use Rattle.ls_lowered.specs.LoweredTree as low
-use Rattle.ls_lowered.specs.Course.{Answers, Told, Calls}
-use Rattle.ls_lowered.specs.Methods as courses
 use Rattle.ls_refs.specs.ValueWords.{value_word}
 use Rattle.ls_refs.specs.Sorts.{HaveTypes, IsSmall}
 use Rattle.ls_refs.specs.Typing.{IsTypedFile, parameters_of}
 use Rattle.ls_refs.specs.Lowered.{lowered_method, lowered_file}
 use Rattle.ls_refs.specs.Laws.{answer_words}
-use Rattle.ls_finally.specs.Flat.{flat_method, flat_file}
+use Rattle.ls_finally.specs.Flat.{flat_method}
 use Rattle.ls_finally.specs.Placed.{AllPlaced, Takes, TakesIn}
 use Rattle.ls_finally.specs.Laws.{KeepsCourses}
 use Rattle.ls_soundness.specs.InCall.{SuitedInCall}

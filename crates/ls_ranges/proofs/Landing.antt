@@ -1,5 +1,5 @@
 -- The jumps and rows of a unit name places of the unit, or just behind it.
-use Rattle.std.proofs.Common.{◌≡◌, ℕ, zero, suc, ◌+◌, ◌≤◌, ◌<◌, List, [], ◌∷◌, ◌++◌, length, arith}
+use Rattle.std.proofs.Common.{ℕ, zero, suc, ◌+◌, ◌≤◌, ◌<◌, List, [], ◌∷◌, ◌++◌, length, arith}
 use Rattle.std.specs.Prelude.{All, slice_index_or}
 use Rattle.std.proofs.lemmas.List.{length-append}
 use Rattle.ls_code.specs.declared.instruction.Instruction.{Instruction}
@@ -11,11 +11,10 @@ use Rattle.ls_lowered.specs.declared.tree.BinaryOperator.{BinaryOperator}
 use Rattle.ls_lowered.specs.declared.tree.BinaryOperator.TheVariants as binary
 use Rattle.ls_lowered.specs.declared.tree.LockOperation.{LockOperation}
 use Rattle.ls_lowered.specs.declared.tree.LockOperation.TheVariants as lock
-use Rattle.ls_lowered.specs.LoweredTree as low
 use Rattle.ls_lowered.specs.LoweredTree.{Expression, Word, Local, Unary, Binary, And, Or, Hold, Keep, After, Field, Item, SetFirst, ReadPair, SetPair, SwapPair, AttemptMark, OnLock, Call, MakeObject, MakeLock, MakeMarkable, MakeArray, Expressions, End, More, Statement, Block, SetLocal, SetField, SetItem, Evaluate, If, While, Break, Continue, Return, Try, Guarded, Throw, Leavable, Leave, Statements, Done, Then, Method, File}
-use Rattle.ls_locks.specs.LockCode.{lock_code, lock_size}
+use Rattle.ls_locks.specs.LockCode.{lock_code}
 use Rattle.ls_emission.specs.Expressions.{unary_code, binary_code, size, all_size, code, all_code}
-use Rattle.ls_emission.specs.Statements.{Loop, Targets, no_targets, in_loop, in_region, stop_by, turn_by, exit_by, stop_of, turn_of, exit_of, statement_size, statements_size, statement_code, statements_code, row_of, statement_rows, statements_rows}
+use Rattle.ls_emission.specs.Statements.{Targets, no_targets, in_loop, in_region, stop_of, turn_of, exit_of, statement_size, statements_size, statement_code, statements_code, row_of, statement_rows, statements_rows}
 use Rattle.ls_emission.specs.Units.{method_size, method_code, method_rows, unit_of, units_of}
 use Rattle.ls_emission.specs.Emittable.{IsEmittableMethod, AllEmittable, IsEmittableFile}
 use Rattle.ls_emission.proofs.StatementPlaces.{statement_size_is}

@@ -1,10 +1,9 @@
 -- The tree without `try` of a typed file in range has code.
-use Rattle.std.proofs.Common.{◌≡◌, ℕ, zero, suc, ◌+◌, ◌*◌, ◌-◌, ◌≤◌, ◌<◌, List, [], ◌∷◌, length, map, Option, Some, refl, ap, lit<, arith}
+use Rattle.std.proofs.Common.{◌≡◌, ℕ, suc, ◌+◌, ◌≤◌, ◌<◌, List, [], ◌∷◌, length, map, Option, Some, refl, ap, lit<, arith}
 use Rattle.std.specs.Prelude.{slice_get}
 use Rattle.ls_events.specs.declared.value.ValueType.{ValueType}
 use Rattle.ls_checked.specs.CheckedTree.{Method, File, Expression, Statement, Block, SetSlot, SetField, SetItem, Evaluate, If, While, Break, Continue, ReturnNothing, ReturnValue, Try, Statements, Done, Then}
 use Rattle.ls_meaning.specs.declared.sort.Sort.{Sort}
-use Rattle.ls_meaning.specs.declared.sort.Sort.TheVariants.{ValueOf}
 use Rattle.ls_refs.specs.Typing.{IsTyped, IsTypedStatement, AreTypedStatements, IsTypedMethod, IsTypedFile}
 use Rattle.ls_refs.specs.Temporaries as refs
 use Rattle.ls_refs.specs.Temporaries.{temporaries, statement_temporaries, block_temporaries}
