@@ -57,9 +57,7 @@ fn count_expression(so_far: usize, e: &Expression) -> usize
             let so_far = count_expression(count_expression(so_far, e), a);
             more(count_expression(so_far, b), 1)
         }
-        Expression::OnLock(op, e) => {
-            more(count_expression(so_far, e), lock_size(*op))
-        }
+        Expression::OnLock(op, e) => { more(count_expression(so_far, e), lock_size(*op)) }
         Expression::Call(_, e, es) => more(count_expressions(count_expression(so_far, e), es), 1),
         Expression::MakeObject(_, _, es) => more(count_expressions(so_far, es), 4),
     }

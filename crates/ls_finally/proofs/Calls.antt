@@ -1,14 +1,14 @@
 -- Trees whose calls have as many arguments as their methods don't see what calls do with other numbers of arguments.
-use Rattle.std.proofs.Common.{◌≡◌, ℕ, zero, suc, ◌+◌, Bool, true, false, List, [], ◌∷◌, length, Option, Some, None, refl, sym, ap, ap₂, subst, ◌∙◌, nat_eq, if◌then◌else◌, pos}
+use Rattle.std.proofs.Common.{◌≡◌, ℕ, suc, List, [], ◌∷◌, length, refl, sym, ap, ap₂, subst, ◌∙◌, nat_eq, if◌then◌else◌, pos}
 use Rattle.std.proofs.Math.Path.{fun_ext}
-use Rattle.std.specs.Prelude.{slice_index, slice_set}
+use Rattle.std.specs.Prelude.{slice_set}
 use Rattle.ls_events.specs.declared.action.Action.TheVariants as act
 use Rattle.ls_lowered.specs.LoweredTree.{Expression, Word, Local, Unary, Binary, And, Or, Hold, Keep, After, Field, Item, SetFirst, ReadPair, SetPair, SwapPair, AttemptMark, OnLock, Call, MakeObject, MakeLock, MakeMarkable, MakeArray, Expressions, End, More, Statement, Block, SetLocal, SetField, SetItem, Evaluate, If, While, Break, Continue, Return, Try, Guarded, Throw, Leavable, Leave, Statements, Done, Then, File}
 use Rattle.ls_lowered.specs.Words.{int_of, bool_of}
-use Rattle.ls_lowered.specs.Course.{Answers, Course, Asks, Ends, Stuck, Outcome, Results, Throws, Calls, finish, on_result, and_then, ask, perform, unless_null, returned}
+use Rattle.ls_lowered.specs.Course.{Answers, Course, Ends, Outcome, Results, Throws, Calls, finish, on_result, and_then, ask, perform, unless_null, returned}
 use Rattle.ls_lowered.specs.Expressions.{find, find_all, unary_word, operate, operate_lock, make_array}
 use Rattle.ls_lowered.specs.Statements.{Completion, Normal, Returned, on_word, on_normal, on_any, turns, and_normal, execute, execute_all}
-use Rattle.ls_finally.specs.Placed.{count, Takes, CallsWell, AllCallWell, IsPlaced, IsPlacedStatement, ArePlaced}
+use Rattle.ls_finally.specs.Placed.{count, Takes, CallsWell, AllCallWell, IsPlacedStatement, ArePlaced}
 use Rattle.ls_finally.proofs.Agreeing.{finish_finish}
 
 abbrev Finds : Type 0

@@ -1,5 +1,5 @@
 -- The lowered tree speaks of its locals alone, and leaves no region that it doesn't stand in.
-use Rattle.std.proofs.Common.{◌≡◌, ℕ, zero, suc, ◌+◌, ◌*◌, ◌<◌, ◌≤◌, List, [], ◌∷◌, ◌++◌, length, length-append, Option, Some, None, refl, sym, ap, ◌∙◌, subst, arith}
+use Rattle.std.proofs.Common.{◌≡◌, ℕ, suc, ◌+◌, ◌*◌, ◌<◌, ◌≤◌, List, [], ◌∷◌, ◌++◌, length, length-append, Option, Some, None, refl, arith}
 use Rattle.ls_lowered.specs.LoweredTree.{Expression, Word, Local, Unary, Binary, And, Or, Hold, Keep, After, Field, Item, SetFirst, ReadPair, SetPair, SwapPair, AttemptMark, OnLock, Call, MakeObject, MakeLock, MakeMarkable, MakeArray, Expressions, End, More, Statement, Block, SetLocal, SetField, SetItem, Evaluate, If, While, Break, Continue, Return, Try, Guarded, Throw, Leavable, Leave, Statements, Done, Then, File}
 use Rattle.ls_finally.specs.Exits.{outward, Exit, BreakOut, ContinueOut, ReturnOut, break_exit, continue_exit, exits, all_exits, both, or_leave, replaced, all_replaced, exit_of, wrapped, finally_of}
 use Rattle.ls_finally.specs.Flat.{tries, all_tries, flat, all_flat}

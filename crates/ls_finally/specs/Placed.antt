@@ -1,6 +1,6 @@
 -- What lowering asks of a tree: each local is there, each call has as many arguments as its method, and there are no
 -- regions yet.
-use Rattle.std.specs.Prelude.{◌≡◌, ℕ, zero, suc, ◌+◌, ◌<◌, List, [], ◌∷◌, Option, Some, None, slice_get}
+use Rattle.std.specs.Prelude.{◌≡◌, ℕ, suc, ◌+◌, ◌<◌, List, [], ◌∷◌, Option, Some, None, slice_get}
 use Rattle.ls_lowered.specs.LoweredTree.{Expression, Word, Local, Unary, Binary, And, Or, Hold, Keep, After, Field, Item, SetFirst, ReadPair, SetPair, SwapPair, AttemptMark, OnLock, Call, MakeObject, MakeLock, MakeMarkable, MakeArray, Expressions, End, More, Statement, Block, SetLocal, SetField, SetItem, Evaluate, If, While, Break, Continue, Return, Try, Guarded, Throw, Leavable, Leave, Statements, Done, Then, Method, File}
 use Rattle.ls_finally.specs.Agreement.{IsBelow}
 

@@ -3,6 +3,7 @@ use Rattle.std.specs.Prelude.{◌<◌, ◌≤◌, length}
 use Rattle.ls_checked.specs.CheckedTree.{File}
 use Rattle.ls_checked.specs.CheckedProgram.{Program}
 use Rattle.ls_lowered.specs.declared.fault.LowerFault.TheVariants as lower
+use Rattle.ls_refs.specs.Lowered.{lowered_file}
 use Rattle.ls_refs.specs.Refused.{AllFit}
 use Rattle.ls_finally.specs.Counts.{FewCopies}
 use Rattle.ls_emit.specs.Short.{AllShort}
@@ -10,13 +11,13 @@ use Rattle.ls_emit.specs.declared.fault.EmitFault.TheVariants as emit
 use Rattle.ls_linker.specs.declared.fault.LinkFault.TheVariants as link
 use Rattle.ls_linker.specs.declared.fault.BuildFault.{BuildFault}
 use Rattle.ls_linker.specs.declared.fault.BuildFault.TheVariants.{Lower, Emit, Link}
-use Rattle.ls_linker.specs.Compiled.{locks_of, flat_of, code_of}
+use Rattle.ls_linker.specs.Compiled.{flat_of, code_of}
 
 -- each limit of the code is kept: no method has over 128 locals, over 4,096 copies of finally blocks or over 65,536
 -- instructions, and the whole code has no more than 65,536
 pub record KeepsLimits (file : File) (program : Program) : Type 0 where
   pub locals : AllFit file.methods
-  pub copies : FewCopies (locks_of file)
+  pub copies : FewCopies (lowered_file file)
   pub short : AllShort (flat_of file)
   pub whole : length (code_of file program).instructions ≤ 65536
 
@@ -24,7 +25,7 @@ pub record KeepsLimits (file : File) (program : Program) : Type 0 where
 abbrev pub GoesPast : File → Program → BuildFault → Type 0
 GoesPast file program (Lower lower.Memory) = Unit {0}
 GoesPast file program (Lower lower.TooManyLocals) = ¬ AllFit file.methods
-GoesPast file program (Lower lower.TooManyCopies) = ¬ FewCopies (locks_of file)
+GoesPast file program (Lower lower.TooManyCopies) = ¬ FewCopies (lowered_file file)
 GoesPast file program (Emit emit.Memory) = Unit {0}
 GoesPast file program (Emit emit.CodeTooLong) = ¬ AllShort (flat_of file)
 GoesPast file program (Link link.Memory) = Unit {0}

@@ -21,7 +21,6 @@ use ls_checked::tree::File;
 use ls_code::code::Code;
 use ls_emit::emit::emit;
 use ls_finally::files::lower_finally;
-use ls_locks::files::lower_locks;
 use ls_ranges::{fits_lowered, ranged_is_emittable, ranged_links, typed_is_placed};
 use ls_refs::lower::lower_refs;
 use std::alloc::Global;
@@ -48,8 +47,7 @@ pub fn build(alloc: Global, file: &File, program: &Program) -> Result<Code, Buil
     ranged_is_emittable();
     ranged_links();
     let refs = lower_refs(alloc, file)?;
-    let locks = lower_locks(alloc, refs)?;
-    let flat = lower_finally(alloc, locks)?;
+    let flat = lower_finally(alloc, refs)?;
     let units = emit(alloc, &flat)?;
     let code = link(alloc, &units, file, program)?;
     Ok(code)

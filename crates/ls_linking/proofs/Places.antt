@@ -2,10 +2,8 @@
 use Rattle.std.proofs.Common.{◌≡◌, ℕ, ◌+◌, List, [], ◌∷◌, ◌++◌, length, Some, slice_get, refl, subst, arith, length-append}
 use Rattle.ls_code.specs.declared.instruction.Instruction.{Instruction}
 use Rattle.ls_code.specs.declared.instruction.Instruction.TheVariants as op
-use Rattle.ls_lowered.specs.declared.tree.LockOperation.{LockOperation}
-use Rattle.ls_lowered.specs.declared.tree.LockOperation.TheVariants.{Lock, Unlock, TryLock, IsHeld}
 use Rattle.ls_lowered.specs.LoweredTree.{Expression, Word, Local, Unary, Binary, And, Or, Hold, Keep, After, Field, Item, SetFirst, ReadPair, SetPair, SwapPair, AttemptMark, OnLock, Call, MakeObject, MakeLock, MakeMarkable, MakeArray, Expressions, End, More, Statement, Block, SetLocal, SetField, SetItem, Evaluate, If, While, Break, Continue, Return, Try, Guarded, Throw, Leavable, Leave, Statements, Done, Then}
-use Rattle.ls_locks.specs.LockCode.{lock_code, lock_size}
+use Rattle.ls_locks.specs.LockCode.{lock_code}
 use Rattle.ls_locks.proofs.Sizes.{lock_size_is}
 use Rattle.ls_emission.specs.Expressions.{unary_code, size, all_size, code, all_code}
 use Rattle.ls_emission.specs.Statements.{Targets, in_loop, in_region, statement_size, statements_size, statement_code, statements_code}
@@ -54,7 +52,7 @@ mutual
   size_is (SetPair e a) p = simp (length-append, size_is e p, size_is a (p + size e)) (omega arith)
   size_is (SwapPair e a b) p = simp (length-append, size_is e p, size_is a (p + size e), size_is b (p + size e + size a)) (omega arith)
   size_is (AttemptMark e a b) p = simp (length-append, size_is e p, size_is a (p + size e), size_is b (p + size e + size a)) (omega arith)
-  size_is (OnLock o e) p = both (code p e) (lock_code o) _ _ (size_is e p) (lock_size_is o)
+  size_is (OnLock o e) p = both (code p e) (lock_code (p + size e) o) _ _ (size_is e p) (lock_size_is o (p + size e))
   size_is (Call m e es) p = simp (length-append, size_is e p, all_size_is es (p + size e)) (omega arith)
   size_is (MakeObject c m es) p = simp (length-append, all_size_is es (p + 2)) (omega arith)
   size_is MakeLock p = refl
