@@ -50,7 +50,7 @@ fine_more k j [] l h = tt
 fine_more k j (i ∷ is) l h = (h.0, (let a = h.1 in omega (arith, a, l)), fine_more k j is l h.2)
 
 pushes_run : (vs : List Value) (ys : List Instruction) → run (pushes vs ++ ys) ≡ length vs + run ys
-pushes_run [] ys = refl
+pushes_run [] ys = omega arith
 pushes_run (v ∷ vs) ys = omega (arith, pushes_run vs ys)
 
 pushes_fine : (k : ℕ) (vs : List Value) (ys : List Instruction) → length vs + run ys ≤ k → Fine k ys → Fine k (pushes vs ++ ys)
@@ -62,26 +62,26 @@ abbrev Acts : List Instruction → Type 0
 Acts ys = run ys ≤ 1
 
 result_fine : (k : ℕ) (r : CallResult) (n : ℕ) (ys : List Instruction) → 1 ≤ k → Fine k ys → Fine k (result_code r n ++ ys)
-result_fine k result.Nothing n ys l h = (tt, l, tt, omega arith, h)
+result_fine k result.Nothing n ys l h = (tt, l, (tt, omega arith, h))
 result_fine k result.Int n ys l h = (tt, omega arith, h)
 result_fine k result.Boolean n ys l h = (tt, omega arith, h)
 
 call_fine : (classes : List Class) (n : ℕ) (c : ProgramCall) (k : ℕ) (ys : List Instruction) → length (values_of c) + 3 ≤ k → Fine k ys → Fine k (call_code classes n c ++ ys)
 call_fine classes n (Making name x text vs) k ys l h =
     let rest : List Instruction = op.Enter (constructor_of classes x) ∷ op.Pop ∷ op.PutName name ∷ op.Result n ∷ [] in
-    let same : pushes vs ++ (rest ++ ys) ≡ (pushes vs ++ rest) ++ ys = append_assoc (pushes vs) rest ys in
-    let behind : Fine k (rest ++ ys) = (tt, (omega (arith, l), (tt, (omega (arith, l), (tt, (omega arith, (tt, (omega arith, h)))))))) in
+    let same : pushes vs ++ (rest ++ ys) ≡ (pushes vs ++ rest) ++ ys = sym (append_assoc (pushes vs) rest ys) in
+    let behind : Fine k (rest ++ ys) = (tt, omega (arith, l), (tt, omega (arith, l), (tt, omega arith, (tt, omega arith, h)))) in
     let from : Fine k ((pushes vs ++ rest) ++ ys) = subst (Fine k) same (pushes_fine k vs (rest ++ ys) (omega (arith, l)) behind) in
     let long : run ((pushes vs ++ rest) ++ ys) ≡ length vs + 1 = ap run (sym same) ∙ pushes_run vs (rest ++ ys) in
-    (tt, omega arith, tt, omega arith, tt, omega (arith, long, l), from)
+    (tt, omega arith, (tt, omega arith, (tt, omega (arith, long, l), from)))
 call_fine classes n (Calling name m text answers vs) k ys l h =
     let rest : List Instruction = op.Enter m ∷ result_code (result_type answers) n in
-    let same : pushes vs ++ (rest ++ ys) ≡ (pushes vs ++ rest) ++ ys = append_assoc (pushes vs) rest ys in
+    let same : pushes vs ++ (rest ++ ys) ≡ (pushes vs ++ rest) ++ ys = sym (append_assoc (pushes vs) rest ys) in
     let behind : Fine k (rest ++ ys) = (tt, omega (arith, l), result_fine k (result_type answers) n ys (omega (arith, l)) h) in
-    (tt, omega arith, tt, omega arith, subst (Fine k) same (pushes_fine k vs (rest ++ ys) (omega (arith, l)) behind))
+    (tt, omega arith, (tt, omega arith, subst (Fine k) same (pushes_fine k vs (rest ++ ys) (omega (arith, l)) behind)))
 
 calls_fine : (classes : List Class) (n : ℕ) (cs : List ProgramCall) → Fine (most_values cs + 3) (calls_code classes n cs)
-calls_fine classes n [] = (tt, omega arith, tt, omega arith, tt)
+calls_fine classes n [] = (tt, omega arith, (tt, omega arith, tt))
 calls_fine classes n (c ∷ cs) =
     call_fine classes n c (most_values (c ∷ cs) + 3) (calls_code classes (n + 1) cs) (omega arith)
     (fine_more (most_values cs + 3) (most_values (c ∷ cs) + 3) (calls_code classes (n + 1) cs) (omega arith) (calls_fine classes (n + 1) cs))
@@ -186,17 +186,18 @@ module _ (c : Code) (from trap k : ℕ) (row : HandlerRow) (leads : row.handler 
   left_by n p i is s x' (inl l) h rest = let r = rest l.1 in omega (arith, l.0, r)
   left_by n p i is s x' (inr l) h rest = omega (arith, l.0, stops n s x' l.1 h)
 
+  step_at : (n : ℕ) (i : Instruction) (is : List Instruction) (p : ℕ) (x x' : Thread) → from ≤ p → HasAt c.instructions p (i ∷ is) → Fine k (i ∷ is) → x.top.counter ≡ p → (h : InFrame c (suc n) x x') →
+      (p < trap → (s : Thread) → s.top.counter ≡ p + 1 → InFrame c n s x' → n ≤ run is) → (p < trap) ⊎ (p ≡ trap) → suc n ≤ run (i ∷ is)
+  step_at n i is p x x' lo has fine e h rest (inr at) = (let no = trap_stops (suc n) x x' (e ∙ at) h in omega (arith, no))
+  step_at n i is p x x' lo has fine e h rest (inl below) =
+      let o = own_step c x trap row (ap (find_row c.handlers) e ∙ guards p lo below) leads i fine.0 (ap (slice_get c.instructions) e ∙ has.0) h.1 h.2 h.3 in
+      left_by n p i is h.1 x' (subst (λ q. Left q trap is i h.1) e (leads_run x.top.counter trap i is h.1 o)) h.4 (λ at. rest below h.1 at h.4)
+
   runs : (n : ℕ) (is : List Instruction) (p : ℕ) (x x' : Thread) → from ≤ p → p ≤ trap → p + length is ≡ trap + 1 → HasAt c.instructions p is → Fine k is → x.top.counter ≡ p → InFrame c n x x' → n ≤ run is
   runs zero is p x x' lo hi len has fine e h = omega arith
   runs (suc n) [] p x x' lo hi len has fine e h = absurd (let no : ⊥ = omega (arith, hi, len) in no)
-  runs (suc n) (i ∷ is) p x x' lo hi len has fine e h = step (before p trap hi)
-    where
-      step : (p < trap) ⊎ (p ≡ trap) → suc n ≤ run (i ∷ is)
-      step (inr at) = (let no = trap_stops (suc n) x x' (e ∙ at) h in omega (arith, no))
-      step (inl below) =
-          let o = own_step c x trap row (ap (find_row c.handlers) e ∙ guards p lo below) leads i fine.0 (ap (slice_get c.instructions) e ∙ has.0) h.1 h.2 h.3 in
-          left_by n p i is h.1 x' (subst (λ q. Left q trap is i h.1) e (leads_run x.top.counter trap i is h.1 o)) h.4
-          (λ at. runs n is (p + 1) h.1 x' (omega (arith, lo)) (omega (arith, below)) (omega (arith, len)) has.1 fine.2 at h.4)
+  runs (suc n) (i ∷ is) p x x' lo hi len has fine e h =
+      step_at n i is p x x' lo has fine e h (λ below s at h'. runs n is (p + 1) s x' (omega (arith, lo)) (omega (arith, below)) (omega (arith, len)) has.1 fine.2 at h') (before p trap hi)
 
 fine_run : (k : ℕ) (is : List Instruction) → Fine k is → run is ≤ k
 fine_run k [] h = omega arith
