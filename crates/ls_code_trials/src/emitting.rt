@@ -18,6 +18,25 @@ fn file_of(alloc: Global, locals: usize, body: Statement) -> Result<File, EmitFa
     Ok(File { methods })
 }
 
+/// Whether two codes have the same words.
+pub fn same_code(code: &[Instruction], other: &[Instruction]) -> bool {
+    for (a, b) in code.iter().zip(other.iter()) {
+        if a.word() != b.word() {
+            return false;
+        }
+    }
+    code.len() == other.len()
+}
+
+fn same_rows(rows: &[HandlerRow], others: &[HandlerRow]) -> bool {
+    for (a, b) in rows.iter().zip(others.iter()) {
+        if a.from != b.from || a.to != b.to || a.handler != b.handler || a.depth != b.depth {
+            return false;
+        }
+    }
+    rows.len() == others.len()
+}
+
 // Whether a method of one argument and two further locals has this code, these rows and this need.
 fn emits(
     alloc: Global,
@@ -33,8 +52,8 @@ fn emits(
     let units = emit(alloc, &file)?;
     match units.as_slice() {
         [unit] => Ok(
-            unit.instructions.as_slice() == instructions
-                && unit.handlers.as_slice() == handlers
+            same_code(unit.instructions.as_slice(), instructions)
+                && same_rows(unit.handlers.as_slice(), handlers)
                 && unit.need == need
                 && unit.arguments == 1
                 && unit.more == 2,

@@ -1,5 +1,9 @@
 // Trees without `try`.
 
+use crate::emitting::same_code;
+use ls_code::instruction::Instruction;
+use ls_emit::emit::emit;
+use ls_emit::emittable::is_emittable;
 use ls_finally::files::lower_finally;
 use ls_finally::placed::is_placed;
 use ls_lowered::fault::LowerFault;
@@ -83,15 +87,49 @@ fn accepts(alloc: Global, body: Result<Statement, AllocError>) -> Result<bool, L
     Ok(lowered(alloc, body?)?.is_some())
 }
 
+// the code of a tree's one method
+fn has_code(
+    alloc: Global,
+    tree: Option<File>,
+    expected: &[Instruction],
+) -> Result<bool, std::test::Fail> {
+    let tree = tree.ok_or("not placed")?;
+    if !is_emittable(&tree) {
+        return Ok(false);
+    }
+    let units = emit(alloc, &tree)?;
+    match units.as_slice() {
+        [unit] => Ok(same_code(unit.instructions.as_slice(), expected)),
+        _ => Ok(false),
+    }
+}
+
+// The finally block stands behind a throw, behind the end and behind the return.
 #[test]
 fn copies_to_each_exit(rt: HostRuntime) -> Result<(), std::test::Fail> {
     let alloc = rt.alloc();
     let tree = lowered(alloc, returns_seven(alloc)?)?;
-    let text = format!(in alloc; "{tree:?}")?;
-    assert_eq!(rt;
-        text.as_str(),
-        "Some(File { methods: [Method { arguments: 1, locals: 3, body: Leavable(Block([Guarded(Block([SetLocal(3, Word(7)), Leave(0)]), 2, Block([SetLocal(1, Word(2)), Throw(2)])), SetLocal(1, Word(2))]), Block([SetLocal(1, Word(2)), Return(Local(3))])) }] })"
-    );
+    let expected = [
+        Instruction::Push(7),
+        Instruction::Store(3),
+        Instruction::Jump(12),
+        Instruction::Jump(9),
+        Instruction::Store(2),
+        Instruction::Push(2),
+        Instruction::Store(1),
+        Instruction::Load(2),
+        Instruction::Throw,
+        Instruction::Push(2),
+        Instruction::Store(1),
+        Instruction::Jump(16),
+        Instruction::Push(2),
+        Instruction::Store(1),
+        Instruction::Load(3),
+        Instruction::LeaveWith,
+        Instruction::Push(0),
+        Instruction::LeaveWith,
+    ];
+    assert!(rt; has_code(alloc, tree, &expected)?);
     Ok(())
 }
 

@@ -1,34 +1,53 @@
-// Locks as words.
+// The code of a lock's operations.
 
-use ls_locks::files::lower_locks;
-use ls_lowered::fault::LowerFault;
-use ls_lowered::tree::{Expression, File, LockOperation, Method, Statement};
-use std::alloc::Global;
+use ls_code::instruction::Instruction;
+use ls_locks::lower::{lock_size, lower_lock};
+use ls_lowered::tree::LockOperation;
+use std::alloc::{AllocError, Global};
 
-fn is_locked(methods: &[Method]) -> bool {
-    match methods {
-        [method] => matches!(
-            &method.body,
-            Statement::Evaluate(Expression::OnLockWord(LockOperation::Lock, _))
-        ),
-        _ => false,
-    }
-}
-
-fn locks_one(alloc: Global) -> Result<bool, LowerFault> {
-    let target = Box::new(alloc, Expression::Local(0))?;
-    let body = Statement::Evaluate(Expression::OnLock(LockOperation::Lock, target));
-    let mut methods = Vec::new(alloc);
-    methods.push(Method {
-        arguments: 1,
-        locals: 0,
-        body,
-    })?;
-    let tree = lower_locks(alloc, File { methods })?;
-    Ok(is_locked(&tree.methods))
+// behind a code of one instruction
+fn lowered(alloc: Global, operation: LockOperation) -> Result<Vec<Instruction>, AllocError> {
+    let mut code = Vec::new(alloc);
+    code.push(Instruction::Load(0))?;
+    lower_lock(&mut code, 1, operation)?;
+    Ok(code)
 }
 
 #[test]
-fn locks_a_method(rt: HostRuntime) {
-    assert!(rt; matches!(locks_one(rt.alloc()), Ok(true)));
+fn looks_again_until_it_is_won(rt: HostRuntime) -> Result<(), AllocError> {
+    let code = lowered(rt.alloc(), LockOperation::Lock)?;
+    assert!(rt;
+        matches!(
+            code.as_slice(),
+            [
+                _,
+                Instruction::See(1),
+                Instruction::Take(1),
+                Instruction::JumpIfFalse(1),
+                Instruction::Pop,
+                Instruction::Push(0)
+            ]
+        )
+    );
+    assert!(rt; code.len() == 1 + lock_size(LockOperation::Lock));
+    Ok(())
+}
+
+#[test]
+fn looks_once(rt: HostRuntime) -> Result<(), AllocError> {
+    let code = lowered(rt.alloc(), LockOperation::TryLock)?;
+    assert!(rt;
+        matches!(
+            code.as_slice(),
+            [
+                _,
+                Instruction::See(2),
+                Instruction::Take(2),
+                Instruction::Pack,
+                Instruction::MarkOf
+            ]
+        )
+    );
+    assert!(rt; code.len() == 1 + lock_size(LockOperation::TryLock));
+    Ok(())
 }

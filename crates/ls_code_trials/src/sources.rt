@@ -87,21 +87,23 @@ fn steps(rt: HostRuntime) -> Result<(), Fail> {
     let f = file(alloc, ValueType::Int, Expression::Literal(Value::Int(7)))?;
     let p = program(alloc)?;
     let mut run = SourceRun::new(alloc, &f, &p)?;
-    assert_eq!(rt; run.next(alloc, 1)?, Asked::NotStarted);
-    assert_eq!(rt; run.step(alloc, 1)?, Did::Idle);
-    assert_eq!(rt;
-        run.step(alloc, 0)?,
-        Did::Acted(Action::Call(1), Answer::Done)
+    assert!(rt; matches!(run.next(alloc, 1)?, Asked::NotStarted));
+    assert!(rt; matches!(run.step(alloc, 1)?, Did::Idle));
+    assert!(rt;
+        matches!(
+            run.step(alloc, 0)?,
+            Did::Acted(Action::Call(1), Answer::Done)
+        )
     );
-    assert_eq!(rt; run.next(alloc, 0)?, Asked::Asks(Action::New(0)));
-    assert_eq!(rt; run.next(alloc, 2)?, Asked::Ended);
-    assert_eq!(rt; run.step(alloc, 2)?, Did::Idle);
+    assert!(rt; matches!(run.next(alloc, 0)?, Asked::Asks(Action::New(0))));
+    assert!(rt; matches!(run.next(alloc, 2)?, Asked::Ended));
+    assert!(rt; matches!(run.step(alloc, 2)?, Did::Idle));
     let called = Event {
         thread: 0,
         call: 1,
         happening: Happening::Called,
     };
-    assert_eq!(rt; run.history(), [called].as_slice());
+    assert!(rt; run.history() == [called].as_slice());
     Ok(())
 }
 
@@ -120,7 +122,7 @@ fn plays_to_the_end(rt: HostRuntime) -> Result<(), Fail> {
         call: 1,
         happening: Happening::Returned(Some(Value::Int(7))),
     };
-    assert_eq!(rt; last(alloc, &f, &[0, 0, 0, 0, 0, 1, 1, 1, 1])?, Some(end));
+    assert!(rt; last(alloc, &f, &[0, 0, 0, 0, 0, 1, 1, 1, 1])? == Some(end));
     Ok(())
 }
 
@@ -137,9 +139,6 @@ fn huge_array(rt: HostRuntime) -> Result<(), Fail> {
         call: 1,
         happening: Happening::Returned(Some(Value::Boolean(false))),
     };
-    assert_eq!(rt;
-        last(alloc, &f, &[0, 0, 0, 0, 0, 1, 1, 1, 1, 1, 1])?,
-        Some(end)
-    );
+    assert!(rt; last(alloc, &f, &[0, 0, 0, 0, 0, 1, 1, 1, 1, 1, 1])? == Some(end));
     Ok(())
 }

@@ -7,11 +7,12 @@ use Rattle.ls_events.specs.declared.action.Action.TheVariants as act
 use Rattle.ls_code.specs.declared.instruction.Instruction.TheVariants as op
 use Rattle.ls_code.specs.declared.instruction.Resume.TheVariants as then
 use Rattle.ls_code.specs.Moves.{Stuck as FrameStuck, Asks as FrameAsks}
-use Rattle.ls_lowered.specs.LoweredTree.{Expression, Word, Local, Unary, Binary, And, Or, Hold, Keep, After as Afterwards, Field, Item, SetFirst, ReadPair, SetPair, SwapPair, AttemptMark, OnLock, OnLockWord, Call, MakeObject, MakeLock, MakeMarkable, MakeArray, Expressions, End, More}
+use Rattle.ls_lowered.specs.LoweredTree.{Expression, Word, Local, Unary, Binary, And, Or, Hold, Keep, After as Afterwards, Field, Item, SetFirst, ReadPair, SetPair, SwapPair, AttemptMark, OnLock, Call, MakeObject, MakeLock, MakeMarkable, MakeArray, Expressions, End, More}
 use Rattle.ls_lowered.specs.Words.{int_of, bool_of}
 use Rattle.ls_lowered.specs.Course.{Answers, Course, Ends, Outcome, Results, Throws, and_then, ask, perform, unless_null, returned}
 use Rattle.ls_lowered.specs.Expressions.{unary_word, operate, operate_lock, make_array, find, find_all}
-use Rattle.ls_emission.specs.Expressions.{unary_code, binary_code, lock_code, lock_size, size, all_size, code, all_code}
+use Rattle.ls_locks.specs.LockCode.{lock_code, lock_size}
+use Rattle.ls_emission.specs.Expressions.{unary_code, binary_code, size, all_size, code, all_code}
 use Rattle.ls_emission.specs.Emittable.{count}
 use Rattle.ls_emission.specs.Entering.{TakesAll}
 use Rattle.ls_emission.proofs.Places.{has_front, has_after, has_two, has_three, has_at, size_is, all_size_is}
@@ -142,10 +143,6 @@ module _ (s : Setting) (enter : EnterRuns s) where
         (λ x ls0 q0 e0 l0. two_run s a b (p + size e) (op.AttemptMark ∷ []) (λ y z ls q. unless_null x ls q (ask (act.AttemptMark x y (bool_of z)) ls q)) ls0 (x ∷ stack) q0 go h (runs a (p + size e)) (runs b (p + size e + size a)) back fits.1 fits.2 (omega arith) (omega arith) e0 (narrow s p (p + (size e + size a + size b + 1)) (p + size e) c q q0 h (omega arith) (omega arith) l0 catches)
         (λ y z ls1 q1 e1 l1. object_run s (act.AttemptMark x y (bool_of z)) (then.Settle 3) c op.AttemptMark x ls1 (z ∷ y ∷ x ∷ stack) stack q1 go h (behind_two s a b (p + size e) (op.AttemptMark ∷ []) back).0 refl (λ w. refl) (omega arith) e1 (fewer s (p + (size e + size a + size b + 1)) (c + 1) stack q q1 go (omega arith) (omega arith) takes) (narrow s p (p + (size e + size a + size b + 1)) c (c + 1) q q1 h (omega arith) (omega arith) (omega arith) catches)))
     runs (OnLock o e) p ls stack q go h has fits room le el takes catches =
-        let c = p + size e in
-        first_run s e p (lock_code (p + size e) o) (λ x ls q. unless_null x ls q (operate_lock o x ls q)) ls stack q go h (runs e p) has fits (omega arith) (omega arith) el (narrow s p (p + (size e + lock_size o)) p c q q h (omega arith) (omega arith) (omega arith) catches)
-        (λ x ls1 q1 e1 l1. lock_run s o c x ls1 stack q1 go h (behind s e p (lock_code (p + size e) o) has) (omega arith) (omega (arith, one_need e)) e1 (fewer s (p + (size e + lock_size o)) (c + lock_size o) stack q q1 go (omega arith) l1 takes) (narrow s p (p + (size e + lock_size o)) c (c + lock_size o) q q1 h (omega arith) (omega arith) l1 catches))
-    runs (OnLockWord o e) p ls stack q go h has fits room le el takes catches =
         let c = p + size e in
         first_run s e p (lock_code (p + size e) o) (λ x ls q. unless_null x ls q (operate_lock o x ls q)) ls stack q go h (runs e p) has fits (omega arith) (omega arith) el (narrow s p (p + (size e + lock_size o)) p c q q h (omega arith) (omega arith) (omega arith) catches)
         (λ x ls1 q1 e1 l1. lock_run s o c x ls1 stack q1 go h (behind s e p (lock_code (p + size e) o) has) (omega arith) (omega (arith, one_need e)) e1 (fewer s (p + (size e + lock_size o)) (c + lock_size o) stack q q1 go (omega arith) l1 takes) (narrow s p (p + (size e + lock_size o)) c (c + lock_size o) q q1 h (omega arith) (omega arith) l1 catches))

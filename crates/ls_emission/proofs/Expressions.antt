@@ -11,11 +11,12 @@ use Rattle.ls_code.specs.declared.instruction.Resume.TheVariants as then
 use Rattle.ls_code.specs.Moves.{FrameMove, Asks as FrameAsks, frame_move, resumed}
 use Rattle.ls_lowered.specs.declared.tree.LockOperation.{LockOperation}
 use Rattle.ls_lowered.specs.declared.tree.LockOperation.TheVariants.{Lock, Unlock, TryLock, IsHeld}
-use Rattle.ls_lowered.specs.LoweredTree.{Expression, Word, Local, Unary, Binary, And, Or, Hold, Keep, After as Afterwards, Field, Item, SetFirst, ReadPair, SetPair, SwapPair, AttemptMark, OnLock, OnLockWord, Call, MakeObject, MakeLock, MakeMarkable, MakeArray, Expressions}
+use Rattle.ls_lowered.specs.LoweredTree.{Expression, Word, Local, Unary, Binary, And, Or, Hold, Keep, After as Afterwards, Field, Item, SetFirst, ReadPair, SetPair, SwapPair, AttemptMark, OnLock, Call, MakeObject, MakeLock, MakeMarkable, MakeArray, Expressions}
 use Rattle.ls_lowered.specs.Words.{int_of}
 use Rattle.ls_lowered.specs.Course.{Answers, Course, Outcome, Ends, Throws, and_then, ask, perform, unless_null, returned}
 use Rattle.ls_lowered.specs.Expressions.{operate_lock, make_array, find, find_all}
-use Rattle.ls_emission.specs.Expressions.{lock_code, lock_size, size, all_size, code, all_code}
+use Rattle.ls_locks.specs.LockCode.{lock_code, lock_size}
+use Rattle.ls_emission.specs.Expressions.{size, all_size, code, all_code}
 use Rattle.ls_emission.specs.Needs.{need, all_need}
 use Rattle.ls_emission.specs.Emittable.{count, IsEmittable, AreEmittable, TakesIn}
 use Rattle.ls_emission.specs.Entering.{TakesAll}
@@ -36,7 +37,7 @@ use Rattle.ls_code.specs.Locks.{taken_of, is_own}
 use Rattle.ls_code.specs.declared.lock_word.Taken.TheVariants as taken
 use Rattle.std.proofs.lemmas.Bool.Decides.{nat_tests}
 use Rattle.ls_emission.specs.Entering.{fed_from}
-use Rattle.ls_code.specs.Reading.{is_take, is_back_to, is_drop, seen, exchanged, full_word, word_of_another, after_lock, after_try, after_unlock, operation, planned_move, read_move, whole_move, quiet_from, resume}
+use Rattle.ls_code.specs.Reading.{is_take, is_back_to, is_drop, exchanged, full_word, word_of_another, after_lock, after_try, after_unlock, operation, planned_move, read_move, whole_move, quiet_from, resume}
 use Rattle.ls_emission.proofs.Steps.{Setting, frame, here, Reaches, renamed, silently, begins, answers_from, next}
 use Rattle.ls_emission.proofs.Runs.{Catches, Takes, narrow, fewer, throw_or, acts_on, performs, pop_run, push_run}
 
@@ -63,7 +64,6 @@ mutual
   one_need (SwapPair e a b) = omega (arith, one_need e)
   one_need (AttemptMark e a b) = omega (arith, one_need e)
   one_need (OnLock o e) = omega (arith, one_need e)
-  one_need (OnLockWord o e) = omega (arith, one_need e)
   one_need (Call m e es) = omega (arith, one_need e)
   one_need (MakeObject c m es) = omega arith
   one_need MakeLock = omega arith

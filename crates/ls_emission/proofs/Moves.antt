@@ -9,8 +9,9 @@ use Rattle.ls_lowered.specs.declared.tree.BinaryOperator.{BinaryOperator}
 use Rattle.ls_lowered.specs.declared.tree.BinaryOperator.TheVariants as binary
 use Rattle.ls_lowered.specs.declared.tree.LockOperation.{LockOperation}
 use Rattle.ls_lowered.specs.declared.tree.LockOperation.TheVariants.{Lock, Unlock, TryLock, IsHeld}
-use Rattle.ls_lowered.specs.LoweredTree.{Expression, Word, Local, Unary, Binary, And, Or, Hold, Keep, After, Field, Item, SetFirst, ReadPair, SetPair, SwapPair, AttemptMark, OnLock, OnLockWord, Call, MakeObject, MakeLock, MakeMarkable, MakeArray, Expressions, End, More}
-use Rattle.ls_emission.specs.Expressions.{unary_code, binary_code, lock_code, size, code, all_code}
+use Rattle.ls_lowered.specs.LoweredTree.{Expression, Word, Local, Unary, Binary, And, Or, Hold, Keep, After, Field, Item, SetFirst, ReadPair, SetPair, SwapPair, AttemptMark, OnLock, Call, MakeObject, MakeLock, MakeMarkable, MakeArray, Expressions, End, More}
+use Rattle.ls_locks.specs.LockCode.{lock_code}
+use Rattle.ls_emission.specs.Expressions.{unary_code, binary_code, size, code, all_code}
 use Rattle.ls_emission.specs.Units.{moved}
 
 module _ (start : ℕ) where
@@ -85,7 +86,6 @@ module _ (start : ℕ) where
     moves (SwapPair e a b) p q x = last (code p e ++ code (p + size e) a ++ code (p + size e + size a) b) (code q e ++ code (q + size e) a ++ code (q + size e + size a) b) op.SwapPair (join (code p e ++ code (p + size e) a) (code q e ++ code (q + size e) a) (code (p + size e + size a) b) (code (q + size e + size a) b) (join (code p e) (code q e) (code (p + size e) a) (code (q + size e) a) (moves e p q x) (moves a (p + size e) (q + size e) (omega arith))) (moves b (p + size e + size a) (q + size e + size a) (omega arith))) refl
     moves (AttemptMark e a b) p q x = last (code p e ++ code (p + size e) a ++ code (p + size e + size a) b) (code q e ++ code (q + size e) a ++ code (q + size e + size a) b) op.AttemptMark (join (code p e ++ code (p + size e) a) (code q e ++ code (q + size e) a) (code (p + size e + size a) b) (code (q + size e + size a) b) (join (code p e) (code q e) (code (p + size e) a) (code (q + size e) a) (moves e p q x) (moves a (p + size e) (q + size e) (omega arith))) (moves b (p + size e + size a) (q + size e + size a) (omega arith))) refl
     moves (OnLock o e) p q x = join (code p e) (code q e) (lock_code (p + size e) o) (lock_code (q + size e) o) (moves e p q x) (lock_stays o (p + size e) (q + size e) (omega arith))
-    moves (OnLockWord o e) p q x = join (code p e) (code q e) (lock_code (p + size e) o) (lock_code (q + size e) o) (moves e p q x) (lock_stays o (p + size e) (q + size e) (omega arith))
     moves (Call m e es) p q x = last (code p e ++ all_code (p + size e) es) (code q e ++ all_code (q + size e) es) (op.Enter m) (join (code p e) (code q e) (all_code (p + size e) es) (all_code (q + size e) es) (moves e p q x) (all_move es (p + size e) (q + size e) (omega arith))) refl
     moves (MakeObject c m es) p q x =
         cons (op.NewObject c) (op.NewObject c) (op.Dup ∷ (all_code (p + 2) es ++ op.Enter m ∷ op.Pop ∷ [])) (op.Dup ∷ (all_code (q + 2) es ++ op.Enter m ∷ op.Pop ∷ [])) refl

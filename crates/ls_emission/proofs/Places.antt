@@ -2,10 +2,10 @@
 use Rattle.std.proofs.Common.{◌≡◌, ℕ, ◌+◌, List, [], ◌∷◌, ◌++◌, length, Some, slice_get, refl, subst, arith, append_assoc, length-append}
 use Rattle.ls_code.specs.declared.instruction.Instruction.{Instruction}
 use Rattle.ls_code.specs.declared.instruction.Instruction.TheVariants as op
-use Rattle.ls_lowered.specs.declared.tree.LockOperation.{LockOperation}
-use Rattle.ls_lowered.specs.declared.tree.LockOperation.TheVariants.{Lock, Unlock, TryLock, IsHeld}
-use Rattle.ls_lowered.specs.LoweredTree.{Expression, Word, Local, Unary, Binary, And, Or, Hold, Keep, After, Field, Item, SetFirst, ReadPair, SetPair, SwapPair, AttemptMark, OnLock, OnLockWord, Call, MakeObject, MakeLock, MakeMarkable, MakeArray, Expressions, End, More}
-use Rattle.ls_emission.specs.Expressions.{unary_code, lock_code, lock_size, size, all_size, code, all_code}
+use Rattle.ls_lowered.specs.LoweredTree.{Expression, Word, Local, Unary, Binary, And, Or, Hold, Keep, After, Field, Item, SetFirst, ReadPair, SetPair, SwapPair, AttemptMark, OnLock, Call, MakeObject, MakeLock, MakeMarkable, MakeArray, Expressions, End, More}
+use Rattle.ls_locks.specs.LockCode.{lock_code}
+use Rattle.ls_locks.proofs.Sizes.{lock_size_is}
+use Rattle.ls_emission.specs.Expressions.{unary_code, size, all_size, code, all_code}
 
 -- the instructions stand in the whole code at this place
 abbrev pub HasAt : List Instruction → ℕ → List Instruction → Type 0
@@ -36,12 +36,6 @@ has_three whole p a b c d h = has_two whole p a b (c ++ d) (has_two whole p (a +
 pub has_at : (whole : List Instruction) (p q : ℕ) (a : List Instruction) → p ≡ q → HasAt whole p a → HasAt whole q a
 has_at whole p q a e h = subst (λ m. HasAt whole m a) e h
 
-lock_size_is : (o : LockOperation) (p : ℕ) → length (lock_code p o) ≡ lock_size o
-lock_size_is Lock p = refl
-lock_size_is Unlock p = refl
-lock_size_is TryLock p = refl
-lock_size_is IsHeld p = refl
-
 -- two parts
 both : (a b : List Instruction) (m n : ℕ) → length a ≡ m → length b ≡ n → length (a ++ b) ≡ m + n
 both a b m n x y = omega (arith, length-append a b, x, y)
@@ -65,7 +59,6 @@ mutual
   size_is (SwapPair e a b) p = simp (length-append, size_is e p, size_is a (p + size e), size_is b (p + size e + size a)) (omega arith)
   size_is (AttemptMark e a b) p = simp (length-append, size_is e p, size_is a (p + size e), size_is b (p + size e + size a)) (omega arith)
   size_is (OnLock o e) p = both (code p e) (lock_code (p + size e) o) _ _ (size_is e p) (lock_size_is o (p + size e))
-  size_is (OnLockWord o e) p = both (code p e) (lock_code (p + size e) o) _ _ (size_is e p) (lock_size_is o (p + size e))
   size_is (Call m e es) p = simp (length-append, size_is e p, all_size_is es (p + size e)) (omega arith)
   size_is (MakeObject c m es) p = simp (length-append, all_size_is es (p + 2)) (omega arith)
   size_is MakeLock p = refl

@@ -1,6 +1,6 @@
 -- The trees that have code: each number of a tree is there, and no `try` is left.
 use Rattle.std.specs.Prelude.{◌≡◌, ◌<◌, ◌≤◌, ℕ, suc, ◌+◌, ◌^◌, List, [], ◌∷◌, Option, Some, None, slice_get}
-use Rattle.ls_lowered.specs.LoweredTree.{Expression, Word, Local, Unary, Binary, And, Or, Hold, Keep, After, Field, Item, SetFirst, ReadPair, SetPair, SwapPair, AttemptMark, OnLock, OnLockWord, Call, MakeObject, MakeLock, MakeMarkable, MakeArray, Expressions, End, More, Statement, Block, SetLocal, SetField, SetItem, Evaluate, If, While, Break, Continue, Return, Try, Guarded, Throw, Leavable, Leave, Statements, Done, Then, Method, File}
+use Rattle.ls_lowered.specs.LoweredTree.{Expression, Word, Local, Unary, Binary, And, Or, Hold, Keep, After, Field, Item, SetFirst, ReadPair, SetPair, SwapPair, AttemptMark, OnLock, Call, MakeObject, MakeLock, MakeMarkable, MakeArray, Expressions, End, More, Statement, Block, SetLocal, SetField, SetItem, Evaluate, If, While, Break, Continue, Return, Try, Guarded, Throw, Leavable, Leave, Statements, Done, Then, Method, File}
 
 abbrev pub count : Expressions → ℕ
 count End = 0
@@ -34,7 +34,6 @@ abbrev mutual
   IsEmittable ms k (SwapPair e a b) = IsEmittable ms k e × IsEmittable ms k a × IsEmittable ms k b
   IsEmittable ms k (AttemptMark e a b) = IsEmittable ms k e × IsEmittable ms k a × IsEmittable ms k b
   IsEmittable ms k (OnLock op e) = IsEmittable ms k e
-  IsEmittable ms k (OnLockWord op e) = IsEmittable ms k e
   IsEmittable ms k (Call m e es) = Takes ms m (suc (count es)) × IsEmittable ms k e × AreEmittable ms k es
   IsEmittable ms k (MakeObject c m es) = (c < 2 ^ 32) × Takes ms m (suc (count es)) × AreEmittable ms k es
   IsEmittable ms k MakeLock = Unit {0}

@@ -7,9 +7,8 @@ use Rattle.ls_lowered.specs.declared.tree.UnaryOperator.{UnaryOperator}
 use Rattle.ls_lowered.specs.declared.tree.UnaryOperator.TheVariants.{Negate, Not, ReferenceOf, MarkOf}
 use Rattle.ls_lowered.specs.declared.tree.BinaryOperator.{BinaryOperator}
 use Rattle.ls_lowered.specs.declared.tree.BinaryOperator.TheVariants as binary
-use Rattle.ls_lowered.specs.declared.tree.LockOperation.{LockOperation}
-use Rattle.ls_lowered.specs.declared.tree.LockOperation.TheVariants.{Lock, Unlock, TryLock, IsHeld}
-use Rattle.ls_lowered.specs.LoweredTree.{Expression, Word, Local, Unary, Binary, And, Or, Hold, Keep, After, Field, Item, SetFirst, ReadPair, SetPair, SwapPair, AttemptMark, OnLock, OnLockWord, Call, MakeObject, MakeLock, MakeMarkable, MakeArray, Expressions, End, More}
+use Rattle.ls_lowered.specs.LoweredTree.{Expression, Word, Local, Unary, Binary, And, Or, Hold, Keep, After, Field, Item, SetFirst, ReadPair, SetPair, SwapPair, AttemptMark, OnLock, Call, MakeObject, MakeLock, MakeMarkable, MakeArray, Expressions, End, More}
+use Rattle.ls_locks.specs.LockCode.{lock_code, lock_size}
 
 abbrev pub unary_code : UnaryOperator → Instruction
 unary_code Negate = op.Neg
@@ -31,19 +30,6 @@ binary_code binary.Equal = op.Eq
 binary_code binary.NotEqual = op.Ne
 binary_code binary.Pack = op.Pack
 
--- an operation that gives no word leaves 0
-abbrev pub lock_code : ℕ → LockOperation → List Instruction
-lock_code p Lock = op.See 1 ∷ op.Take 1 ∷ op.JumpIfFalse p ∷ op.Pop ∷ op.Push 0 ∷ []
-lock_code p Unlock = op.See 3 ∷ op.DropLock ∷ op.Push 0 ∷ []
-lock_code p TryLock = op.See 2 ∷ op.Take 2 ∷ op.Pack ∷ op.MarkOf ∷ []
-lock_code p IsHeld = op.IsHeld ∷ []
-
-abbrev pub lock_size : LockOperation → ℕ
-lock_size Lock = 5
-lock_size Unlock = 3
-lock_size TryLock = 4
-lock_size IsHeld = 1
-
 -- how many instructions
 abbrev mutual
   pub size : Expression → ℕ
@@ -64,7 +50,6 @@ abbrev mutual
   size (SwapPair e a b) = size e + size a + size b + 1
   size (AttemptMark e a b) = size e + size a + size b + 1
   size (OnLock o e) = size e + lock_size o
-  size (OnLockWord o e) = size e + lock_size o
   size (Call m e es) = size e + all_size es + 1
   size (MakeObject c m es) = all_size es + 4
   size MakeLock = 1
@@ -98,7 +83,6 @@ abbrev mutual
   code p (SwapPair e a b) = code p e ++ code (p + size e) a ++ code (p + size e + size a) b ++ op.SwapPair ∷ []
   code p (AttemptMark e a b) = code p e ++ code (p + size e) a ++ code (p + size e + size a) b ++ op.AttemptMark ∷ []
   code p (OnLock o e) = code p e ++ lock_code (p + size e) o
-  code p (OnLockWord o e) = code p e ++ lock_code (p + size e) o
   code p (Call m e es) = code p e ++ all_code (p + size e) es ++ op.Enter m ∷ []
   code p (MakeObject c m es) = op.NewObject c ∷ op.Dup ∷ all_code (p + 2) es ++ op.Enter m ∷ op.Pop ∷ []
   code p MakeLock = op.NewLock ∷ []

@@ -1,6 +1,6 @@
 -- How many operands a tree's code has at most at one time.
 use Rattle.std.specs.Prelude.{ℕ, ◌+◌, max}
-use Rattle.ls_lowered.specs.LoweredTree.{Expression, Word, Local, Unary, Binary, And, Or, Hold, Keep, After, Field, Item, SetFirst, ReadPair, SetPair, SwapPair, AttemptMark, OnLock, OnLockWord, Call, MakeObject, MakeLock, MakeMarkable, MakeArray, Expressions, End, More, Statement, Block, SetLocal, SetField, SetItem, Evaluate, If, While, Break, Continue, Return, Try, Guarded, Throw, Leavable, Leave, Statements, Done, Then}
+use Rattle.ls_lowered.specs.LoweredTree.{Expression, Word, Local, Unary, Binary, And, Or, Hold, Keep, After, Field, Item, SetFirst, ReadPair, SetPair, SwapPair, AttemptMark, OnLock, Call, MakeObject, MakeLock, MakeMarkable, MakeArray, Expressions, End, More, Statement, Block, SetLocal, SetField, SetItem, Evaluate, If, While, Break, Continue, Return, Try, Guarded, Throw, Leavable, Leave, Statements, Done, Then}
 
 abbrev mutual
   pub need : Expression → ℕ
@@ -21,7 +21,6 @@ abbrev mutual
   need (SwapPair e a b) = max (need e) (max (1 + need a) (2 + need b))
   need (AttemptMark e a b) = max (need e) (max (1 + need a) (2 + need b))
   need (OnLock op e) = need e + 1
-  need (OnLockWord op e) = need e + 1
   need (Call m e es) = max (need e) (1 + all_need es)
   need (MakeObject c m es) = 2 + all_need es
   need MakeLock = 1

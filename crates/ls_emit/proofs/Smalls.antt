@@ -1,6 +1,6 @@
 -- The numbers of an emittable tree are operands.
 use Rattle.std.proofs.Common.{ℕ, suc, ◌<◌, ◌≤◌, ◌^◌, arith}
-use Rattle.ls_lowered.specs.LoweredTree.{Expression, Word, Local, Unary, Binary, And, Or, Hold, Keep, After, Field, Item, SetFirst, ReadPair, SetPair, SwapPair, AttemptMark, OnLock, OnLockWord, Call, MakeObject, MakeLock, MakeMarkable, MakeArray, Expressions, End, More, Statement, Block, SetLocal, SetField, SetItem, Evaluate, If, While, Break, Continue, Return, Try, Guarded, Throw, Leavable, Leave, Statements, Done, Then, File}
+use Rattle.ls_lowered.specs.LoweredTree.{Expression, Word, Local, Unary, Binary, And, Or, Hold, Keep, After, Field, Item, SetFirst, ReadPair, SetPair, SwapPair, AttemptMark, OnLock, Call, MakeObject, MakeLock, MakeMarkable, MakeArray, Expressions, End, More, Statement, Block, SetLocal, SetField, SetItem, Evaluate, If, While, Break, Continue, Return, Try, Guarded, Throw, Leavable, Leave, Statements, Done, Then, File}
 use Rattle.ls_emission.specs.Emittable.{IsEmittable, AreEmittable, IsEmittableStatement, AreEmittableStatements}
 use Rattle.ls_emit.specs.Small.{IsSmall, AreSmall, IsSmallStatement, AreSmallStatements}
 
@@ -27,7 +27,6 @@ module _ (ms : File) (k : ℕ) (few : k ≤ 65536) where
     small (SwapPair e a b) h = (small e h.0, small a h.1, small b h.2)
     small (AttemptMark e a b) h = (small e h.0, small a h.1, small b h.2)
     small (OnLock o e) h = small e h
-    small (OnLockWord o e) h = small e h
     small (Call m e es) h = (h.0.0, small e h.1, all_small es h.2)
     small (MakeObject c m es) h = (h.0, h.1.0, all_small es h.2)
     small MakeLock h = tt

@@ -1,6 +1,6 @@
 -- The trees whose numbers are operands: each is below 2 ^ 32.
 use Rattle.std.specs.Prelude.{◌<◌, ◌^◌}
-use Rattle.ls_lowered.specs.LoweredTree.{Expression, Word, Local, Unary, Binary, And, Or, Hold, Keep, After, Field, Item, SetFirst, ReadPair, SetPair, SwapPair, AttemptMark, OnLock, OnLockWord, Call, MakeObject, MakeLock, MakeMarkable, MakeArray, Expressions, End, More, Statement, Block, SetLocal, SetField, SetItem, Evaluate, If, While, Break, Continue, Return, Try, Guarded, Throw, Leavable, Leave, Statements, Done, Then}
+use Rattle.ls_lowered.specs.LoweredTree.{Expression, Word, Local, Unary, Binary, And, Or, Hold, Keep, After, Field, Item, SetFirst, ReadPair, SetPair, SwapPair, AttemptMark, OnLock, Call, MakeObject, MakeLock, MakeMarkable, MakeArray, Expressions, End, More, Statement, Block, SetLocal, SetField, SetItem, Evaluate, If, While, Break, Continue, Return, Try, Guarded, Throw, Leavable, Leave, Statements, Done, Then}
 
 abbrev mutual
   pub IsSmall : Expression → Type 0
@@ -21,7 +21,6 @@ abbrev mutual
   IsSmall (SwapPair e a b) = IsSmall e × IsSmall a × IsSmall b
   IsSmall (AttemptMark e a b) = IsSmall e × IsSmall a × IsSmall b
   IsSmall (OnLock op e) = IsSmall e
-  IsSmall (OnLockWord op e) = IsSmall e
   IsSmall (Call m e es) = (m < 2 ^ 32) × IsSmall e × AreSmall es
   IsSmall (MakeObject c m es) = (c < 2 ^ 32) × (m < 2 ^ 32) × AreSmall es
   IsSmall MakeLock = Unit {0}

@@ -72,7 +72,6 @@ fn is_emittable_expression(e: &Expression, methods: &[Method], locals: usize) ->
         Expression::Unary(_, e)
         | Expression::ReadPair(e)
         | Expression::OnLock(_, e)
-        | Expression::OnLockWord(_, e)
         | Expression::MakeMarkable(e)
         | Expression::MakeArray(e) => is_emittable_expression(e, methods, locals),
         Expression::Binary(_, a, b)

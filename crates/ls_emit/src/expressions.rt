@@ -3,12 +3,13 @@
 ghost use Rattle.std.specs.Prelude.{◌≡◌, ◌+◌, ◌<◌, ◌≤◌, ◌^◌, ◌++◌, [], ◌∷◌, IfOk, OnOk};
 ghost use Rattle.ls_code.specs.declared.instruction.Instruction.TheVariants as op;
 ghost use Rattle.ls_lowered.specs.Plain.{plain, all_plain};
-ghost use Rattle.ls_emission.specs.Expressions.{unary_code, binary_code, lock_code, lock_size as size_of_lock, size, all_size, code, all_code};
+ghost use Rattle.ls_emission.specs.Expressions.{unary_code, binary_code, size, all_size, code, all_code};
 ghost use Rattle.ls_emit.specs.Small.{IsSmall, AreSmall};
 
-use crate::sizes::{lock_size, size_of};
+use crate::sizes::size_of;
 use ls_code::instruction::Instruction;
-use ls_lowered::tree::{BinaryOperator, Expression, Expressions, LockOperation, UnaryOperator};
+use ls_locks::lower::{lock_size, lower_lock};
+use ls_lowered::tree::{BinaryOperator, Expression, Expressions, UnaryOperator};
 use std::alloc::AllocError;
 
 fn unary_instruction(op: UnaryOperator) -> Instruction
@@ -49,32 +50,6 @@ pub fn put(out: &mut Vec<Instruction>, instruction: Instruction) -> Result<(), A
     Ok(())
 }
 
-// An operation of a lock. One that gives no word leaves 0.
-fn put_lock_operation(out: &mut Vec<Instruction>, op: LockOperation) -> Result<(), AllocError>
-    ensures { OnOk result (out.new.items ≡ out.old.items ++ lock_code op) }
-{
-    match op {
-        LockOperation::Lock => {
-            put(out, Instruction::Lock)?;
-            put(out, Instruction::Push(0))?;
-            Ok(())
-        }
-        LockOperation::Unlock => {
-            put(out, Instruction::Unlock)?;
-            put(out, Instruction::Push(0))?;
-            Ok(())
-        }
-        LockOperation::TryLock => {
-            put(out, Instruction::TryLock)?;
-            Ok(())
-        }
-        LockOperation::IsHeld => {
-            put(out, Instruction::IsHeld)?;
-            Ok(())
-        }
-    }
-}
-
 /// The code of an expression that stands at a place, behind the code that is there; the place behind it.
 #[cycle(expressions)]
 pub fn emit_expression(
@@ -96,9 +71,9 @@ pub fn emit_expression(
         Expression::ReadPair(e) => emit_on(out, place, e, Instruction::ReadPair),
         Expression::MakeMarkable(e) => emit_on(out, place, e, Instruction::NewMarkable),
         Expression::MakeArray(e) => emit_on(out, place, e, Instruction::NewArray),
-        Expression::OnLock(op, e) | Expression::OnLockWord(op, e) => {
+        Expression::OnLock(op, e) => {
             let next = emit_expression(out, place, e)?;
-            put_lock_operation(out, *op)?;
+            lower_lock(out, next, *op)?;
             Ok(next + lock_size(*op))
         }
         Expression::Binary(op, a, b) => emit_on_two(out, place, a, b, binary_instruction(*op)),

@@ -28,10 +28,9 @@ pub fn need(e: &Expression) -> usize
         Expression::Unary(_, e)
         | Expression::Field(e, _)
         | Expression::ReadPair(e)
-        | Expression::OnLock(_, e)
-        | Expression::OnLockWord(_, e)
         | Expression::MakeMarkable(e)
         | Expression::MakeArray(e) => need(e),
+        Expression::OnLock(_, e) => need(e) + 1,
         Expression::Binary(_, a, b)
         | Expression::Hold(a, _, b)
         | Expression::Item(a, b)

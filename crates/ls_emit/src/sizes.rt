@@ -2,11 +2,12 @@
 
 ghost use Rattle.std.specs.Prelude.{◌≡◌, ◌+◌, ◌≤◌, ◌↔◌, All, IsTrue, min};
 ghost use Rattle.ls_lowered.specs.Plain.{plain, all_plain, plain_statement, statements_of, plain_method};
-ghost use Rattle.ls_emission.specs.Expressions.{size, all_size, lock_size as size_of_lock};
+ghost use Rattle.ls_emission.specs.Expressions.{size, all_size};
 ghost use Rattle.ls_emission.specs.Statements.{statement_size, statements_size};
 ghost use Rattle.ls_emission.specs.Units.{method_size};
 
-use ls_lowered::tree::{Expression, Expressions, LockOperation, Method, Statement};
+use ls_locks::lower::lock_size;
+use ls_lowered::tree::{Expression, Expressions, Method, Statement};
 
 /// The most instructions of a method.
 pub const MOST_INSTRUCTIONS: usize = 65_536;
@@ -17,24 +18,13 @@ pub const TOO_MANY: usize = 65_537;
 // So many instructions more, or too many.
 fn more(so_far: usize, count: usize) -> usize
     requires so_far { so_far ≤ 65537 }
-    requires few { count ≤ 4 }
+    requires few { count ≤ 5 }
     ensures { result ≡ min (so_far + count) 65537 }
 {
     if so_far + count <= MOST_INSTRUCTIONS {
         so_far + count
     } else {
         TOO_MANY
-    }
-}
-
-/// How many instructions an operation of a lock has.
-pub fn lock_size(op: LockOperation) -> usize
-    ensures size { result ≡ size_of_lock op }
-    ensures few { result ≤ 2 }
-{
-    match op {
-        LockOperation::Lock | LockOperation::Unlock => 2,
-        LockOperation::TryLock | LockOperation::IsHeld => 1,
     }
 }
 
@@ -67,9 +57,7 @@ fn count_expression(so_far: usize, e: &Expression) -> usize
             let so_far = count_expression(count_expression(so_far, e), a);
             more(count_expression(so_far, b), 1)
         }
-        Expression::OnLock(op, e) | Expression::OnLockWord(op, e) => {
-            more(count_expression(so_far, e), lock_size(*op))
-        }
+        Expression::OnLock(op, e) => { more(count_expression(so_far, e), lock_size(*op)) }
         Expression::Call(_, e, es) => more(count_expressions(count_expression(so_far, e), es), 1),
         Expression::MakeObject(_, _, es) => more(count_expressions(so_far, es), 4),
     }

@@ -1,5 +1,5 @@
 -- Expressions on locals that agree below k end alike, and keep the locals above.
-use Rattle.std.proofs.Common.{◌≡◌, ◌≢◌, ℕ, zero, suc, ◌+◌, ◌<◌, ◌≤◌, ⊎_elim, Bool, true, false, List, [], ◌∷◌, length, Option, Some, None, refl, sym, ap, ◌∙◌, subst, arith, nat_eq, if◌then◌else◌, pos}
+use Rattle.std.proofs.Common.{◌≡◌, ℕ, ◌<◌, ◌≤◌, ⊎_elim, Bool, true, false, List, [], ◌∷◌, length, refl, sym, ap, ◌∙◌, subst, arith, nat_eq, if◌then◌else◌, pos}
 use Rattle.std.specs.Prelude.{slice_index, slice_set, int_lt, ◌%◌, ◌^◌}
 use Rattle.std.proofs.lemmas.List.{length-set, get_or-set_same, get_or-set_other}
 use Rattle.std.proofs.lemmas.Bool.{cases_lt}
@@ -7,15 +7,15 @@ use Rattle.ls_events.specs.declared.kind.Kind.TheVariants.{NullPointer, Arithmet
 use Rattle.ls_events.specs.declared.action.Action.{Action}
 use Rattle.ls_events.specs.declared.action.Action.TheVariants as act
 use Rattle.ls_events.specs.declared.action.Answer.TheVariants as answers
-use Rattle.ls_lowered.specs.LoweredTree.{Expression, Word, Local, Unary, Binary, And, Or, Hold, Keep, After, Field, Item, SetFirst, ReadPair, SetPair, SwapPair, AttemptMark, OnLock, OnLockWord, Call, MakeObject, MakeLock, MakeMarkable, MakeArray, Expressions, End, More}
+use Rattle.ls_lowered.specs.LoweredTree.{Expression, Word, Local, Unary, Binary, And, Or, Hold, Keep, After, Field, Item, SetFirst, ReadPair, SetPair, SwapPair, AttemptMark, OnLock, Call, MakeObject, MakeLock, MakeMarkable, MakeArray, Expressions, End, More}
 use Rattle.ls_lowered.specs.declared.tree.BinaryOperator.{BinaryOperator}
 use Rattle.ls_lowered.specs.declared.tree.BinaryOperator.TheVariants as op
 use Rattle.ls_lowered.specs.declared.tree.LockOperation.{LockOperation}
 use Rattle.ls_lowered.specs.declared.tree.LockOperation.TheVariants as lock
 use Rattle.ls_lowered.specs.Words.{int_of, bool_of}
 use Rattle.ls_lowered.specs.Course.{Answers, Course, Asks, Ends, Stuck, Outcome, Results, Throws, Calls, Told, Asked, Gave, Raised, Lost, finish, on_result, and_then, ask, perform, unless_null, returned}
-use Rattle.ls_lowered.specs.Expressions.{find, find_all, unary_word, binary_word, divided, operate, operate_lock, make_array}
-use Rattle.ls_lowered.specs.Statements.{Completion, Go}
+use Rattle.ls_lowered.specs.Expressions.{find, find_all, unary_word, binary_word, flag_word, divided, operate, operate_lock, make_array}
+use Rattle.ls_lowered.specs.Statements.{Completion}
 use Rattle.ls_finally.specs.Agreement.{Agree, IsBelow, AreBelow}
 
 pub finish_finish : {A B C : Type 0} (x : Course A) (f : A → List ℕ → Answers → Course B) (g : B → List ℕ → Answers → Course C) → finish (finish x f) g ≡ finish x (λ c ls q. finish (f c ls q) g)
@@ -131,7 +131,7 @@ operate_alike k op.Pack x y = record { is = (ends_alike k (Results (binary_word 
 lock_alike : (k : ℕ) (o : LockOperation) (x : ℕ) → Alike k (λ ls q. operate_lock o x ls q)
 lock_alike k lock.Lock x = record { is = (perform_alike k (act.Lock x)).is }
 lock_alike k lock.Unlock x = record { is = (perform_alike k (act.Unlock x)).is }
-lock_alike k lock.TryLock x = record { is = (ask_alike k (act.TryLock x)).is }
+lock_alike k lock.TryLock x = record { is = (then_alike k (λ ls q. ask (act.TryLock x) ls q) (λ w ls q. Ends (Results (flag_word w)) ls q) (ask_alike k (act.TryLock x)) (λ w. ends_alike k (Results (flag_word w)))).is }
 lock_alike k lock.IsHeld x = record { is = (ask_alike k (act.IsHeld x)).is }
 
 array_alike : (k n : ℕ) → Alike k (λ ls q. make_array n ls q)
@@ -157,7 +157,6 @@ module _ (calls : Calls) (k : ℕ) where
     found_alike (SwapPair e a b) t = then_alike k (find calls e) _ (found_alike e t.0) (λ x. then_alike k (find calls a) _ (found_alike a t.1) (λ y. then_alike k (find calls b) _ (found_alike b t.2) (λ z. null_alike k x (λ ls q. ask (act.SwapPair x y z) ls q) (ask_alike k (act.SwapPair x y z)))))
     found_alike (AttemptMark e a b) t = then_alike k (find calls e) _ (found_alike e t.0) (λ x. then_alike k (find calls a) _ (found_alike a t.1) (λ y. then_alike k (find calls b) _ (found_alike b t.2) (λ z. null_alike k x (λ ls q. ask (act.AttemptMark x y (bool_of z)) ls q) (ask_alike k (act.AttemptMark x y (bool_of z))))))
     found_alike (OnLock o e) t = then_alike k (find calls e) _ (found_alike e t) (λ x. null_alike k x (λ ls q. operate_lock o x ls q) (lock_alike k o x))
-    found_alike (OnLockWord o e) t = then_alike k (find calls e) _ (found_alike e t) (λ x. null_alike k x (λ ls q. operate_lock o x ls q) (lock_alike k o x))
     found_alike (Call m e es) t = then_alike k (find calls e) _ (found_alike e t.0) (λ x. then_alike k (find_all calls es) _ (all_found_alike es t.1) (λ ws. null_alike k x (λ ls q. returned ls (calls m (x ∷ ws) q)) (returned_alike k (calls m (x ∷ ws)))))
     found_alike (MakeObject c m es) t = then_alike k (λ ls q. ask (act.New c) ls q) _ (ask_alike k (act.New c)) (λ x. then_alike k (find_all calls es) _ (all_found_alike es t) (λ ws. null_alike k x (λ ls q. and_then (returned ls (calls m (x ∷ ws) q)) (λ w ls q. Ends (Results x) ls q)) (then_alike k (λ ls q. returned ls (calls m (x ∷ ws) q)) (λ w ls q. Ends (Results x) ls q) (returned_alike k (calls m (x ∷ ws))) (λ w. ends_alike k (Results x)))))
     found_alike MakeLock t = ask_alike k act.NewLock

@@ -1,16 +1,16 @@
 -- A statement on locals that agree below k ends alike, and keeps those above.
-use Rattle.std.proofs.Common.{◌≡◌, ◌≢◌, ℕ, zero, suc, ◌+◌, ◌<◌, ◌≤◌, Bool, true, false, List, [], ◌∷◌, length, Option, Some, None, refl, sym, ap, ◌∙◌, subst, arith, nat_eq, if◌then◌else◌}
+use Rattle.std.proofs.Common.{◌≡◌, ℕ, zero, suc, ◌<◌, Bool, true, false, List, [], ◌∷◌, length, Option, Some, None, refl, sym, ap, ◌∙◌, arith, nat_eq, if◌then◌else◌}
 use Rattle.std.specs.Prelude.{slice_index, slice_set}
 use Rattle.ls_events.specs.declared.kind.Kind.{Kind}
 use Rattle.ls_events.specs.declared.action.Action.TheVariants as act
 use Rattle.ls_lowered.specs.LoweredTree.{Expression, Statement, Block, SetLocal, SetField, SetItem, Evaluate, If, While, Break, Continue, Return, Try, Guarded, Throw, Leavable, Leave, Statements, Done, Then}
 use Rattle.ls_lowered.specs.Words.{int_of, kind_word, kind_of}
 use Rattle.ls_events.specs.declared.action.Answer.TheVariants as answers
-use Rattle.ls_lowered.specs.Course.{Answers, Course, Asks, Ends, Stuck, Outcome, Results, Throws, Calls, finish, and_then, perform, unless_null}
+use Rattle.ls_lowered.specs.Course.{Answers, Course, Asks, Ends, Outcome, Results, Throws, Calls, finish, and_then, perform, unless_null}
 use Rattle.ls_lowered.specs.Expressions.{find}
-use Rattle.ls_lowered.specs.Statements.{Completion, Normal, Broke, Continued, Returned, Threw, Left, Go, on_word, on_normal, on_throw, on_leave, on_body, turn_back, one_turn, turns, throw, and_normal, execute, execute_all}
+use Rattle.ls_lowered.specs.Statements.{Completion, Normal, Broke, Continued, Returned, Threw, Left, Go, on_word, on_normal, on_throw, on_leave, on_body, turn_back, one_turn, turns, throw, execute, execute_all}
 use Rattle.ls_finally.specs.Agreement.{Agree, IsBelow, Fits, AllFit}
-use Rattle.ls_finally.proofs.Agreeing.{finish_finish, Above, above_set, agree_set, Follows, Alike, then_alike, ends_alike, perform_alike, null_alike, found_alike}
+use Rattle.ls_finally.proofs.Agreeing.{finish_finish, Above, above_set, agree_set, Alike, then_alike, perform_alike, null_alike, found_alike}
 
 -- a leave of the statement's own regions
 abbrev pub Inside : ℕ → Completion → Type 0

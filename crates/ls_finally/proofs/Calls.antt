@@ -1,14 +1,14 @@
 -- Trees whose calls have as many arguments as their methods don't see what calls do with other numbers of arguments.
-use Rattle.std.proofs.Common.{◌≡◌, ℕ, zero, suc, ◌+◌, Bool, true, false, List, [], ◌∷◌, length, Option, Some, None, refl, sym, ap, ap₂, subst, ◌∙◌, nat_eq, if◌then◌else◌, pos}
+use Rattle.std.proofs.Common.{◌≡◌, ℕ, suc, List, [], ◌∷◌, length, refl, sym, ap, ap₂, subst, ◌∙◌, nat_eq, if◌then◌else◌, pos}
 use Rattle.std.proofs.Math.Path.{fun_ext}
-use Rattle.std.specs.Prelude.{slice_index, slice_set}
+use Rattle.std.specs.Prelude.{slice_set}
 use Rattle.ls_events.specs.declared.action.Action.TheVariants as act
-use Rattle.ls_lowered.specs.LoweredTree.{Expression, Word, Local, Unary, Binary, And, Or, Hold, Keep, After, Field, Item, SetFirst, ReadPair, SetPair, SwapPair, AttemptMark, OnLock, OnLockWord, Call, MakeObject, MakeLock, MakeMarkable, MakeArray, Expressions, End, More, Statement, Block, SetLocal, SetField, SetItem, Evaluate, If, While, Break, Continue, Return, Try, Guarded, Throw, Leavable, Leave, Statements, Done, Then, File}
+use Rattle.ls_lowered.specs.LoweredTree.{Expression, Word, Local, Unary, Binary, And, Or, Hold, Keep, After, Field, Item, SetFirst, ReadPair, SetPair, SwapPair, AttemptMark, OnLock, Call, MakeObject, MakeLock, MakeMarkable, MakeArray, Expressions, End, More, Statement, Block, SetLocal, SetField, SetItem, Evaluate, If, While, Break, Continue, Return, Try, Guarded, Throw, Leavable, Leave, Statements, Done, Then, File}
 use Rattle.ls_lowered.specs.Words.{int_of, bool_of}
-use Rattle.ls_lowered.specs.Course.{Answers, Course, Asks, Ends, Stuck, Outcome, Results, Throws, Calls, finish, on_result, and_then, ask, perform, unless_null, returned}
+use Rattle.ls_lowered.specs.Course.{Answers, Course, Ends, Outcome, Results, Throws, Calls, finish, on_result, and_then, ask, perform, unless_null, returned}
 use Rattle.ls_lowered.specs.Expressions.{find, find_all, unary_word, operate, operate_lock, make_array}
 use Rattle.ls_lowered.specs.Statements.{Completion, Normal, Returned, on_word, on_normal, on_any, turns, and_normal, execute, execute_all}
-use Rattle.ls_finally.specs.Placed.{count, Takes, CallsWell, AllCallWell, IsPlaced, IsPlacedStatement, ArePlaced}
+use Rattle.ls_finally.specs.Placed.{count, Takes, CallsWell, AllCallWell, IsPlacedStatement, ArePlaced}
 use Rattle.ls_finally.proofs.Agreeing.{finish_finish}
 
 abbrev Finds : Type 0
@@ -69,7 +69,6 @@ module _ (ms : File) (calls calls' : Calls) (agree : (m : ℕ) (ws : List ℕ) (
         ap₂ (λ (f g : Finds). λ ls q. and_then (f ls q) (λ x ls q. and_then (g ls q) (λ y ls q. and_then (find calls' b ls q) (λ z ls q. unless_null x ls q (ask (act.AttemptMark x y (bool_of z)) ls q))))) (found e t.0) (found a t.1)
         ∙ ap (λ (h : Finds). λ ls q. and_then (find calls e ls q) (λ x ls q. and_then (find calls a ls q) (λ y ls q. and_then (h ls q) (λ z ls q. unless_null x ls q (ask (act.AttemptMark x y (bool_of z)) ls q))))) (found b t.2)
     found (OnLock o e) t = ap (λ (f : Finds). λ ls q. and_then (f ls q) (λ x ls q. unless_null x ls q (operate_lock o x ls q))) (found e t)
-    found (OnLockWord o e) t = ap (λ (f : Finds). λ ls q. and_then (f ls q) (λ x ls q. unless_null x ls q (operate_lock o x ls q))) (found e t)
     found (Call m e es) t =
         ap₂ (λ (f : Finds) (g : FindsAll). λ ls q. and_then (f ls q) (λ x ls q. and_then (g ls q) (λ ws ls q. unless_null x ls q (returned ls (calls' m (x ∷ ws) q))))) (found e t.1) (all_found es t.2)
         ∙ ap (λ (h : ℕ → Finds). λ ls q. and_then (find calls e ls q) (λ x ls q. h x ls q)) (fun_ext (λ x. fun_ext (λ ls. fun_ext (λ q.

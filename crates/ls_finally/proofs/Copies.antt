@@ -1,17 +1,17 @@
 -- `try b finally f` by copies ends as it does.
-use Rattle.std.proofs.Common.{◌≡◌, ◌≢◌, ℕ, zero, suc, ◌+◌, ◌<◌, ◌≤◌, List, [], ◌∷◌, length, Option, Some, None, refl, sym, ap, ◌∙◌, subst, arith}
-use Rattle.std.specs.Prelude.{slice_index, slice_set}
+use Rattle.std.proofs.Common.{◌≡◌, ℕ, zero, suc, ◌+◌, ◌<◌, List, [], ◌∷◌, length, Some, None, refl, sym, ap, ◌∙◌, arith}
+use Rattle.std.specs.Prelude.{slice_set}
 use Rattle.std.proofs.lemmas.List.{length-set, get_or-set_same}
 use Rattle.ls_events.specs.declared.kind.Kind.{Kind}
 use Rattle.ls_events.specs.declared.kind.Kind.TheVariants as kinds
-use Rattle.ls_lowered.specs.LoweredTree.{Statement, Block, Break, Continue, Return, Guarded, Throw, Leavable, Leave, Statements, Done, Then, Local}
+use Rattle.ls_lowered.specs.LoweredTree.{Statement, Break, Continue, Return, Guarded, Throw, Leavable, Done, Then, Local}
 use Rattle.ls_lowered.specs.Words.{kind_word, kind_of}
 use Rattle.ls_lowered.specs.Course.{Answers, Course, Asks, Ends, Stuck, Calls, finish}
 use Rattle.ls_lowered.specs.Statements.{Completion, Normal, Broke, Continued, Returned, Threw, Left, Go, on_normal, on_any, on_throw, on_leave, throw, execute, execute_all}
-use Rattle.ls_finally.specs.Exits.{outward, Exit, BreakOut, ContinueOut, ReturnOut, exits, both, replaced, exit_of, wrapped, finally_of}
+use Rattle.ls_finally.specs.Exits.{Exit, BreakOut, ContinueOut, ReturnOut, exits, both, replaced, exit_of, wrapped, finally_of}
 use Rattle.ls_finally.specs.Agreement.{Agree, Fits}
 use Rattle.ls_finally.proofs.Agreeing.{finish_finish, Above, above_refl, agree_slot}
-use Rattle.ls_finally.proofs.Alike.{Inside, GoesOn, same}
+use Rattle.ls_finally.proofs.Alike.{Inside, same}
 use Rattle.ls_finally.proofs.Replaced.{Goes, OutAt, nth, replaced_ok}
 
 pub kind_of-kind_word : (kind : Kind) → kind_of (kind_word kind) ≡ Some kind

@@ -1,6 +1,6 @@
 -- The lowered tree speaks of its locals alone, and leaves no region that it doesn't stand in.
-use Rattle.std.proofs.Common.{◌≡◌, ℕ, zero, suc, ◌+◌, ◌*◌, ◌<◌, ◌≤◌, List, [], ◌∷◌, ◌++◌, length, length-append, Option, Some, None, refl, sym, ap, ◌∙◌, subst, arith}
-use Rattle.ls_lowered.specs.LoweredTree.{Expression, Word, Local, Unary, Binary, And, Or, Hold, Keep, After, Field, Item, SetFirst, ReadPair, SetPair, SwapPair, AttemptMark, OnLock, OnLockWord, Call, MakeObject, MakeLock, MakeMarkable, MakeArray, Expressions, End, More, Statement, Block, SetLocal, SetField, SetItem, Evaluate, If, While, Break, Continue, Return, Try, Guarded, Throw, Leavable, Leave, Statements, Done, Then, File}
+use Rattle.std.proofs.Common.{◌≡◌, ℕ, suc, ◌+◌, ◌*◌, ◌<◌, ◌≤◌, List, [], ◌∷◌, ◌++◌, length, length-append, Option, Some, None, refl, arith}
+use Rattle.ls_lowered.specs.LoweredTree.{Expression, Word, Local, Unary, Binary, And, Or, Hold, Keep, After, Field, Item, SetFirst, ReadPair, SetPair, SwapPair, AttemptMark, OnLock, Call, MakeObject, MakeLock, MakeMarkable, MakeArray, Expressions, End, More, Statement, Block, SetLocal, SetField, SetItem, Evaluate, If, While, Break, Continue, Return, Try, Guarded, Throw, Leavable, Leave, Statements, Done, Then, File}
 use Rattle.ls_finally.specs.Exits.{outward, Exit, BreakOut, ContinueOut, ReturnOut, break_exit, continue_exit, exits, all_exits, both, or_leave, replaced, all_replaced, exit_of, wrapped, finally_of}
 use Rattle.ls_finally.specs.Flat.{tries, all_tries, flat, all_flat}
 use Rattle.ls_finally.specs.Agreement.{IsBelow, AreBelow, Fits, AllFit}
@@ -26,7 +26,6 @@ module _ (k m : ℕ) (le : k ≤ m) where
     below_more (SwapPair e a b) t = (below_more e t.0, below_more a t.1, below_more b t.2)
     below_more (AttemptMark e a b) t = (below_more e t.0, below_more a t.1, below_more b t.2)
     below_more (OnLock op e) t = below_more e t
-    below_more (OnLockWord op e) t = below_more e t
     below_more (Call n e es) t = (below_more e t.0, all_below_more es t.1)
     below_more (MakeObject c n es) t = all_below_more es t
     below_more MakeLock t = tt

@@ -1,14 +1,12 @@
 -- The tree without `try` asks for the same and ends so.
-use Rattle.std.proofs.Common.{◌≡◌, ℕ, zero, suc, ◌+◌, ◌*◌, ◌<◌, ◌≤◌, Bool, true, false, List, [], ◌∷◌, length, Option, Some, None, refl, sym, ap, ◌∙◌, subst, arith, nat_eq, if◌then◌else◌}
-use Rattle.std.specs.Prelude.{slice_index, slice_set}
+use Rattle.std.proofs.Common.{◌≡◌, ℕ, zero, suc, ◌+◌, ◌*◌, ◌≤◌, List, length, refl, sym, ◌∙◌, arith, nat_eq, if◌then◌else◌}
+use Rattle.std.specs.Prelude.{slice_set}
 use Rattle.std.proofs.lemmas.List.{length-set}
-use Rattle.ls_events.specs.declared.kind.Kind.{Kind}
 use Rattle.ls_events.specs.declared.action.Action.TheVariants as act
-use Rattle.ls_lowered.specs.LoweredTree.{Expression, Statement, Block, SetLocal, SetField, SetItem, Evaluate, If, While, Break, Continue, Return, Try, Guarded, Throw, Leavable, Leave, Statements, Done, Then, File}
-use Rattle.ls_lowered.specs.Course.{Answers, Course, Asks, Ends, Stuck, Outcome, Calls, finish}
+use Rattle.ls_lowered.specs.LoweredTree.{Statement, Block, SetLocal, SetField, SetItem, Evaluate, If, While, Break, Continue, Return, Try, Guarded, Throw, Leavable, Leave, Statements, Done, Then, File}
+use Rattle.ls_lowered.specs.Course.{Answers, Course, Asks, Ends, Outcome, Calls, finish}
 use Rattle.ls_lowered.specs.Expressions.{find}
 use Rattle.ls_lowered.specs.Statements.{Completion, Normal, Broke, Continued, Returned, Threw, Left, Go, on_normal, on_any, on_body, one_turn, turns, execute, execute_all}
-use Rattle.ls_finally.specs.Exits.{finally_of}
 use Rattle.ls_finally.specs.Flat.{tries, all_tries, flat, all_flat}
 use Rattle.ls_finally.specs.Agreement.{Agree}
 use Rattle.ls_finally.specs.Placed.{IsPlacedStatement, ArePlaced}

@@ -1,15 +1,14 @@
 -- Methods without `try` ask for the same, at every depth.
-use Rattle.std.proofs.Common.{◌≡◌, ℕ, zero, suc, ◌+◌, ◌*◌, ◌<◌, ◌≤◌, List, [], ◌∷◌, ◌++◌, length, length-append, replicate, Option, Some, None, refl, sym, ap, ◌∙◌, subst, arith}
+use Rattle.std.proofs.Common.{◌≡◌, ℕ, zero, suc, ◌+◌, ◌*◌, List, [], ◌∷◌, ◌++◌, length, length-append, replicate, Option, Some, None, refl, sym, ap, ◌∙◌, arith}
 use Rattle.std.proofs.Math.Path.{fun_ext}
 use Rattle.std.proofs.lemmas.List.{length-replicate}
 use Rattle.std.specs.Prelude.{slice_index, slice_get}
 use Rattle.ls_events.specs.declared.action.Action.TheVariants.{Enter}
 use Rattle.ls_lowered.specs.LoweredTree.{Method, File}
-use Rattle.ls_lowered.specs.Course.{Answers, Course, Asks, Ends, Stuck, Calls, Told, finish}
+use Rattle.ls_lowered.specs.Course.{Answers, Course, Asks, Ends, Stuck, Calls, finish}
 use Rattle.ls_lowered.specs.Statements.{Completion, execute}
 use Rattle.ls_lowered.specs.Methods.{given, told, run_body, enter, invoke}
 use Rattle.ls_finally.specs.Flat.{tries, flat, flat_method, flat_file}
-use Rattle.ls_finally.specs.Agreement.{Agree}
 use Rattle.ls_finally.specs.Placed.{TakesIn, Takes, IsPlacedStatement, AllPlaced}
 use Rattle.ls_finally.specs.Laws.{KeepsCourses}
 use Rattle.ls_finally.proofs.Flats.{flat_ok}

@@ -1,6 +1,6 @@
 -- Locals that agree, and statements that speak of low locals alone.
 use Rattle.std.specs.Prelude.{◌≡◌, ℕ, suc, ◌<◌, ◌≤◌, List, length, slice_index}
-use Rattle.ls_lowered.specs.LoweredTree.{Expression, Word, Local, Unary, Binary, And, Or, Hold, Keep, After, Field, Item, SetFirst, ReadPair, SetPair, SwapPair, AttemptMark, OnLock, OnLockWord, Call, MakeObject, MakeLock, MakeMarkable, MakeArray, Expressions, End, More, Statement, Block, SetLocal, SetField, SetItem, Evaluate, If, While, Break, Continue, Return, Try, Guarded, Throw, Leavable, Leave, Statements, Done, Then, Method}
+use Rattle.ls_lowered.specs.LoweredTree.{Expression, Word, Local, Unary, Binary, And, Or, Hold, Keep, After, Field, Item, SetFirst, ReadPair, SetPair, SwapPair, AttemptMark, OnLock, Call, MakeObject, MakeLock, MakeMarkable, MakeArray, Expressions, End, More, Statement, Block, SetLocal, SetField, SetItem, Evaluate, If, While, Break, Continue, Return, Try, Guarded, Throw, Leavable, Leave, Statements, Done, Then}
 
 -- the locals below k are there and the same
 pub record Agree (k : ℕ) (ls new : List ℕ) : Type 0 where
@@ -28,7 +28,6 @@ abbrev mutual
   IsBelow k (SwapPair e a b) = IsBelow k e × IsBelow k a × IsBelow k b
   IsBelow k (AttemptMark e a b) = IsBelow k e × IsBelow k a × IsBelow k b
   IsBelow k (OnLock op e) = IsBelow k e
-  IsBelow k (OnLockWord op e) = IsBelow k e
   IsBelow k (Call m e es) = IsBelow k e × AreBelow k es
   IsBelow k (MakeObject c m es) = AreBelow k es
   IsBelow k MakeLock = Unit {0}

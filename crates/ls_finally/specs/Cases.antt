@@ -1,9 +1,9 @@
 -- What the lowered tree does in small cases. Local 0 is `this`, local 1 is x, and the try has locals 2 and 3.
-use Rattle.std.specs.Prelude.{◌≡◌, ℕ, List, [], ◌∷◌}
+use Rattle.std.specs.Prelude.{◌≡◌, [], ◌∷◌}
 use Rattle.ls_events.specs.declared.kind.Kind.TheVariants.{Arithmetic}
 use Rattle.ls_lowered.specs.declared.tree.BinaryOperator.TheVariants as op
 use Rattle.ls_lowered.specs.LoweredTree.{Statement, Block, SetLocal, Evaluate, While, Break, Return, Try, Done, Then, Word, Local, Binary}
-use Rattle.ls_lowered.specs.Course.{Course, Ends, Calls, Told, Lost}
+use Rattle.ls_lowered.specs.Course.{Course, Ends, Calls, Lost}
 use Rattle.ls_lowered.specs.Statements.{Completion, Normal, Returned, Threw, execute}
 use Rattle.ls_finally.specs.Flat.{flat}
 

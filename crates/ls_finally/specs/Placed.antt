@@ -1,7 +1,7 @@
 -- What lowering asks of a tree: each local is there, each call has as many arguments as its method, and there are no
 -- regions yet.
-use Rattle.std.specs.Prelude.{◌≡◌, ℕ, zero, suc, ◌+◌, ◌<◌, List, [], ◌∷◌, Option, Some, None, slice_get}
-use Rattle.ls_lowered.specs.LoweredTree.{Expression, Word, Local, Unary, Binary, And, Or, Hold, Keep, After, Field, Item, SetFirst, ReadPair, SetPair, SwapPair, AttemptMark, OnLock, OnLockWord, Call, MakeObject, MakeLock, MakeMarkable, MakeArray, Expressions, End, More, Statement, Block, SetLocal, SetField, SetItem, Evaluate, If, While, Break, Continue, Return, Try, Guarded, Throw, Leavable, Leave, Statements, Done, Then, Method, File}
+use Rattle.std.specs.Prelude.{◌≡◌, ℕ, suc, ◌+◌, ◌<◌, List, [], ◌∷◌, Option, Some, None, slice_get}
+use Rattle.ls_lowered.specs.LoweredTree.{Expression, Word, Local, Unary, Binary, And, Or, Hold, Keep, After, Field, Item, SetFirst, ReadPair, SetPair, SwapPair, AttemptMark, OnLock, Call, MakeObject, MakeLock, MakeMarkable, MakeArray, Expressions, End, More, Statement, Block, SetLocal, SetField, SetItem, Evaluate, If, While, Break, Continue, Return, Try, Guarded, Throw, Leavable, Leave, Statements, Done, Then, Method, File}
 use Rattle.ls_finally.specs.Agreement.{IsBelow}
 
 abbrev pub count : Expressions → ℕ
@@ -35,7 +35,6 @@ abbrev mutual
   CallsWell ms (SwapPair e a b) = CallsWell ms e × CallsWell ms a × CallsWell ms b
   CallsWell ms (AttemptMark e a b) = CallsWell ms e × CallsWell ms a × CallsWell ms b
   CallsWell ms (OnLock op e) = CallsWell ms e
-  CallsWell ms (OnLockWord op e) = CallsWell ms e
   CallsWell ms (Call m e es) = Takes ms m (suc (count es)) × CallsWell ms e × AllCallWell ms es
   CallsWell ms (MakeObject c m es) = Takes ms m (suc (count es)) × AllCallWell ms es
   CallsWell ms MakeLock = Unit {0}

@@ -50,7 +50,6 @@ pub fn copy_expression(alloc: Global, e: &Expression) -> Result<Expression, Allo
             boxed(alloc, b)?,
         )),
         Expression::OnLock(op, e) => Ok(Expression::OnLock(*op, boxed(alloc, e)?)),
-        Expression::OnLockWord(op, e) => Ok(Expression::OnLockWord(*op, boxed(alloc, e)?)),
         Expression::Call(method, e, arguments) => {
             let e = boxed(alloc, e)?;
             Ok(Expression::Call(*method, e, Box::new(alloc, copy_all(alloc, arguments)?)?))

@@ -26,7 +26,6 @@ fn is_below(e: &Expression, arguments: usize, locals: usize) -> bool
         | Expression::Field(e, _)
         | Expression::ReadPair(e)
         | Expression::OnLock(_, e)
-        | Expression::OnLockWord(_, e)
         | Expression::MakeMarkable(e)
         | Expression::MakeArray(e) => is_below(e, arguments, locals),
         Expression::Binary(_, a, b)
@@ -98,7 +97,6 @@ fn calls_well(e: &Expression, methods: &[Method]) -> bool
         | Expression::Field(e, _)
         | Expression::ReadPair(e)
         | Expression::OnLock(_, e)
-        | Expression::OnLockWord(_, e)
         | Expression::MakeMarkable(e)
         | Expression::MakeArray(e) => calls_well(e, methods),
         Expression::Binary(_, a, b)

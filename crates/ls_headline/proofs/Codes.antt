@@ -12,7 +12,7 @@ use Rattle.ls_code.specs.Thread.{Thread}
 use Rattle.ls_code.specs.Kinds.{kind_of}
 use Rattle.ls_code.specs.Moves.{FrameMove, Next, Throws, Stuck, Asks as FrameAsks, Beyond, frame_move, with_room, on_one, on_two, on_three, at_object}
 use Rattle.ls_code.specs.Calls.{CallMove, Calls, CallThrows, CallStuck, enter_move, call_begun}
-use Rattle.ls_code.specs.Steps.{Move, Still, Asks, Plans, silent_or_still, call_move, on_top, on_kind, value_move, found_move, of_frame, fetched_move, thread_move}
+use Rattle.ls_code.specs.Steps.{Move, Still, Asks, Plans, silent_or_still, call_move, on_top, on_kind, value_move, found_move, of_frame}
 use Rattle.ls_code.specs.declared.code.Method.{Method}
 use Rattle.ls_code.specs.declared.code.CallResult.{CallResult}
 use Rattle.ls_code.specs.declared.code.CallResult.TheVariants as result

@@ -21,15 +21,13 @@ use Rattle.ls_code.specs.Code.{Start}
 use Rattle.ls_code.specs.Thread.{Thread}
 use Rattle.ls_code.specs.Frame.{Frame}
 use Rattle.ls_code.specs.Calls.{Calls, CallThrows, with_callee}
-use Rattle.ls_code.specs.Moves.{Throws as FrameThrows, Asks as FrameAsks}
-use Rattle.ls_code.specs.Steps.{call_move, of_frame, answered}
+use Rattle.ls_code.specs.Steps.{call_move}
 use Rattle.ls_code.specs.Machine.{started}
 use Rattle.ls_code.specs.Fed.{Paused}
 use Rattle.ls_code.specs.Exchanges.{Says, Quietly, Touches, throwing, saw}
 use Rattle.ls_code.specs.Reading.{carry, quiet, resume, fed, planned_move, after_lock as goes_on}
 use Rattle.ls_code.specs.declared.code.Method.{Method}
 use Rattle.ls_code.specs.declared.code.CallResult.TheVariants as result
-use Rattle.ls_code.specs.declared.instruction.Resume.TheVariants.{Discard}
 use Rattle.ls_code.specs.declared.step.Mode.TheVariants as mode
 use Rattle.ls_headline.specs.InWords.{word_of, map_answer}
 use Rattle.ls_headline.specs.Sorts.{Suits, Suited, InKind}

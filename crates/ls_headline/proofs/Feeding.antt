@@ -6,13 +6,13 @@ use Rattle.ls_events.specs.declared.action.Answer.{Answer}
 use Rattle.ls_code.specs.Code.{Code}
 use Rattle.ls_code.specs.Thread.{Thread}
 use Rattle.ls_code.specs.Cells.{Cells}
-use Rattle.ls_code.specs.Exchanges.{Seen, Quietly, Reports, Plan, Says, Touches, Stores}
+use Rattle.ls_code.specs.Exchanges.{Quietly, Reports, Plan, Says, Touches, Stores}
 use Rattle.ls_code.specs.Steps.{Move, Silent, Still, Asks, Plans, silent_or_still, thread_move, outcome_of, ended_so, planned, performed}
 use Rattle.ls_code.specs.declared.step.Did.TheVariants as did
 use Rattle.ls_code.specs.Fed.{Pause, Paused, Passes, IsOver, IsStuck, TooLong}
 use Rattle.ls_code.specs.declared.step.Mode.{Mode}
 use Rattle.ls_code.specs.declared.step.Mode.TheVariants as mode
-use Rattle.ls_code.specs.Reading.{is_locking, is_trying, is_unlocking, after_lock, after_try, after_unlock, operation, planned_move, read_move, whole_move, begins_early, carry, advance, quiet, quiet_from, resume}
+use Rattle.ls_code.specs.Reading.{is_locking, is_trying, is_unlocking, operation, planned_move, read_move, whole_move, begins_early, carry, advance, quiet, quiet_from, resume}
 use Rattle.ls_headline.specs.Parts.{IsPlanned}
 
 abbrev pub IsLoud : Pause → Type 0

@@ -1,7 +1,7 @@
 -- What the operations of a lock do to its cell, by the word that stands there.
-use Rattle.std.proofs.Common.{◌≡◌, ◌≢◌, ℕ, zero, suc, ◌+◌, ◌*◌, ◌/◌, ◌%◌, ◌^◌, ◌<◌, ◌≤◌, ◌==◌, Bool, true, false, List, length, Option, Some, None, refl, sym, ap, ◌∙◌, subst, arith, nat_lt, slice_get, slice_set, if◌then◌else◌}
+use Rattle.std.proofs.Common.{◌≡◌, ℕ, zero, suc, ◌+◌, ◌<◌, ◌==◌, true, false, List, length, Some, refl, ap, ◌∙◌, arith, nat_lt, slice_set, if◌then◌else◌}
 use Rattle.std.proofs.lemmas.Bool.{eq-eqb}
-use Rattle.std.proofs.lemmas.Bool.Decides.{eqb_tells, nat_tests}
+use Rattle.std.proofs.lemmas.Bool.Decides.{nat_tests}
 use Rattle.ls_events.specs.declared.kind.Kind.TheVariants.{IllegalMonitorState, Error}
 use Rattle.ls_events.specs.declared.action.Action.TheVariants as act
 use Rattle.ls_events.specs.declared.action.Answer.{Answer}
@@ -10,7 +10,7 @@ use Rattle.ls_events.specs.declared.value.ValueType.{ValueType}
 use Rattle.ls_events.specs.declared.value.ValueType.TheVariants as type
 use Rattle.ls_checked.specs.CheckedTree.{Class}
 use Rattle.ls_meaning.specs.Store.{Thing, Object, FreeLock, HeldLock, Markable, Array}
-use Rattle.ls_code.specs.Locks.{taken_of, left_of, is_own}
+use Rattle.ls_code.specs.Locks.{taken_of, left_of}
 use Rattle.ls_code.specs.Cells.{Cells, Effect, Answers, effect, cell_at, on_cell, with_words, written, lock_effect, unlock_effect, Unfit}
 use Rattle.ls_code.specs.declared.lock_word.Taken.{Taken}
 use Rattle.ls_code.specs.declared.lock_word.Taken.TheVariants as taken

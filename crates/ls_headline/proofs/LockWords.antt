@@ -1,10 +1,8 @@
 -- A lock's word that a thread saw, and what it says of the word that stands there now.
-use Rattle.std.proofs.Common.{◌≡◌, ◌≢◌, ◌⊎◌, inl, inr, ℕ, zero, suc, ◌+◌, ◌-◌, ◌*◌, ◌/◌, ◌%◌, ◌<◌, ◌≤◌, ◌^◌, ◌==◌, Bool, true, false, refl, sym, ap, ◌∙◌, subst, arith, nat_le, if◌then◌else◌}
-use Rattle.std.proofs.lemmas.Bool.Decides.{eqb_tells, nat_tests}
+use Rattle.std.proofs.Common.{◌≡◌, ◌≢◌, ℕ, ◌+◌, ◌-◌, ◌*◌, ◌/◌, ◌%◌, ◌<◌, ◌≤◌, ◌^◌, ◌==◌, Bool, true, false, refl, sym, ap, ◌∙◌, arith, nat_le, if◌then◌else◌}
+use Rattle.std.proofs.lemmas.Bool.Decides.{nat_tests}
 use Rattle.ls_code.specs.Locks.{taken_of, left_of, is_own}
-use Rattle.ls_code.specs.declared.lock_word.Taken.{Taken}
 use Rattle.ls_code.specs.declared.lock_word.Taken.TheVariants as taken
-use Rattle.ls_code.specs.declared.lock_word.Left.{Left}
 use Rattle.ls_code.specs.declared.lock_word.Left.TheVariants as left
 
 -- what stays true of the word now, whatever the others do: it is the one that was seen where that was the thread's own; else it isn't the thread's

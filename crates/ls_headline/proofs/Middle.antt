@@ -1,5 +1,5 @@
 -- A thread in the midst of an operation of a lock.
-use Rattle.std.proofs.Common.{◌≡◌, ◌≢◌, ℕ, true, Option, Some, refl, sym, ap, ◌∙◌}
+use Rattle.std.proofs.Common.{◌≡◌, ◌≢◌, ℕ, true, Option, Some, sym, ap, ◌∙◌}
 use Rattle.ls_events.specs.declared.action.Action.{Action}
 use Rattle.ls_events.specs.declared.action.Action.TheVariants as act
 use Rattle.ls_events.specs.declared.action.Answer.{Answer}

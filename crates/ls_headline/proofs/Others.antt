@@ -1,28 +1,26 @@
 -- What the others leave of a lock that a thread has seen.
-use Rattle.std.proofs.Common.{◌≡◌, ◌≢◌, ◌⊎◌, inl, inr, ℕ, zero, suc, ◌+◌, ◌-◌, ◌<◌, ◌≤◌, ◌==◌, Bool, true, false, List, [], ◌∷◌, ◌++◌, length, Option, Some, None, refl, sym, ap, ◌∙◌, subst, arith, slice_get, slice_set, nat_eq, nat_lt, if◌then◌else◌}
+use Rattle.std.proofs.Common.{◌≡◌, ◌≢◌, ◌⊎◌, inl, inr, ℕ, zero, suc, ◌+◌, ◌-◌, ◌==◌, Bool, true, false, List, [], ◌∷◌, length, Option, Some, None, refl, sym, ap, ◌∙◌, subst, arith, slice_get, slice_set, nat_eq, nat_lt, if◌then◌else◌}
 use Rattle.std.proofs.lemmas.Bool.Decides.{eqb_tells, nat_tests}
 use Rattle.ls_events.specs.declared.value.Value.{Value}
-use Rattle.ls_events.specs.declared.value.Value.TheVariants.{Reference, Boolean}
 use Rattle.ls_events.specs.declared.value.ValueType.{ValueType}
 use Rattle.ls_events.specs.declared.value.ValueType.TheVariants as type
 use Rattle.ls_events.specs.declared.kind.Kind.TheVariants.{Error}
 use Rattle.ls_events.specs.declared.action.Action.{Action}
 use Rattle.ls_events.specs.declared.action.Action.TheVariants as act
 use Rattle.ls_events.specs.declared.action.Answer.{Answer}
-use Rattle.ls_events.specs.declared.action.Answer.TheVariants.{Done, Gives, Fails}
+use Rattle.ls_events.specs.declared.action.Answer.TheVariants.{Done, Fails}
 use Rattle.ls_checked.specs.CheckedTree.{Class, File}
 use Rattle.ls_checked.specs.CheckedProgram.{Program}
 use Rattle.ls_meaning.specs.declared.sort.Sort.{Sort}
 use Rattle.ls_meaning.specs.Store.{Thing, Object, FreeLock, HeldLock, Markable, Array, Store, thing_at, with_thing, with_new}
-use Rattle.ls_meaning.specs.Effect.{Effect, Waits, Does, Change, Stays, Leaves, change, put_back, at_thing, on_thing, making, effect, held_more, held_less}
+use Rattle.ls_meaning.specs.Effect.{Does, Change, Stays, Leaves, change, put_back, at_thing, on_thing, effect}
 use Rattle.ls_code.specs.Locks.{is_own}
 use Rattle.ls_code.specs.Cells.{Cells, cell_at}
-use Rattle.ls_headline.specs.InWords.{map_action, written}
+use Rattle.ls_headline.specs.InWords.{map_action}
 use Rattle.ls_headline.specs.Sorts.{Names, ActionHas}
-use Rattle.ls_headline.specs.Same.{size_of}
 use Rattle.ls_headline.proofs.Lists.{set_same, set_other, get_within, get_left}
-use Rattle.ls_headline.proofs.Cells.{held_word, cells_of, AgreeTo}
-use Rattle.ls_headline.proofs.Effects.{ThingHas, thing_there, things_length, renaming, Holds}
+use Rattle.ls_headline.proofs.Cells.{held_word}
+use Rattle.ls_headline.proofs.Effects.{ThingHas, thing_there, renaming, Holds}
 use Rattle.ls_headline.proofs.FieldCases.{thing_is, put_is, cell_is}
 use Rattle.ls_headline.proofs.ThingCases.{held_own}
 use Rattle.ls_headline.proofs.LockWords.{Fresh, fresh_apart, zero_not_own}

@@ -1,7 +1,7 @@
 -- The instructions of an operation, one after another.
-use Rattle.std.proofs.Common.{◌≡◌, ◌≢◌, ◌⊎◌, inl, inr, ℕ, zero, suc, ◌+◌, ◌*◌, ◌/◌, ◌^◌, ◌==◌, Bool, true, false, ◌&&◌, List, [], ◌∷◌, length, drop, Option, Some, None, refl, sym, ap, ◌∙◌, subst, arith, slice_get, nat_lt, if◌then◌else◌}
-use Rattle.std.proofs.lemmas.Bool.Decides.{eqb_tells, nat_tests}
-use Rattle.ls_events.specs.declared.kind.Kind.TheVariants.{NullPointer, IllegalMonitorState, Error}
+use Rattle.std.proofs.Common.{◌≡◌, ℕ, ◌+◌, ◌==◌, Bool, true, false, ◌&&◌, List, [], ◌∷◌, length, Option, Some, None, refl, sym, ap, ◌∙◌, subst, arith, slice_get, nat_lt, if◌then◌else◌}
+use Rattle.std.proofs.lemmas.Bool.Decides.{nat_tests}
+use Rattle.ls_events.specs.declared.kind.Kind.TheVariants.{NullPointer, IllegalMonitorState}
 use Rattle.ls_events.specs.declared.action.Action.{Action}
 use Rattle.ls_events.specs.declared.action.Action.TheVariants as act
 use Rattle.ls_events.specs.declared.action.Answer.{Answer}
@@ -10,10 +10,10 @@ use Rattle.ls_code.specs.Code.{Code}
 use Rattle.ls_code.specs.Frame.{top_one, top_two}
 use Rattle.ls_code.specs.Thread.{Thread, with_top}
 use Rattle.ls_code.specs.Locks.{taken_of, left_of, is_own}
-use Rattle.ls_code.specs.Cells.{Cells, Effect, Answers, effect, cell_at, on_cell}
+use Rattle.ls_code.specs.Cells.{Cells, Answers, cell_at, on_cell}
 use Rattle.ls_code.specs.Moves.{discarded}
-use Rattle.ls_code.specs.Exchanges.{Seen, Quietly, Reports, Plan, Says, Touches, Stores, throwing, saw, see_at, see_named, seeing_action, taking_action, take_at, take_named, take_from, took, drop_at, drop_to, with_word, stuck}
-use Rattle.ls_code.specs.Steps.{Move, Silent, Still, Asks, Plans, Outcome, outcome_of, ended_so, seen_outcome, touched, planned, performed, fetched_move, of_frame, wide_move, silent_or_still, thread_move}
+use Rattle.ls_code.specs.Exchanges.{Seen, Quietly, Reports, Says, Touches, throwing, saw, see_at, see_named, seeing_action, taking_action, take_at, take_named, take_from, took, drop_at, drop_to, with_word, stuck}
+use Rattle.ls_code.specs.Steps.{Move, Silent, Still, Asks, Plans, outcome_of, seen_outcome, touched, planned, performed, fetched_move, silent_or_still, thread_move}
 use Rattle.ls_code.specs.declared.step.Did.TheVariants as did
 use Rattle.ls_code.specs.declared.instruction.Instruction.{Instruction}
 use Rattle.ls_code.specs.declared.instruction.Instruction.TheVariants as op
@@ -21,7 +21,7 @@ use Rattle.ls_code.specs.declared.lock_word.Taken.{Taken}
 use Rattle.ls_code.specs.declared.lock_word.Taken.TheVariants as taken
 use Rattle.ls_code.specs.declared.lock_word.Left.{Left}
 use Rattle.ls_code.specs.declared.lock_word.Left.TheVariants as left
-use Rattle.ls_code.specs.Reading.{is_locking, is_trying, is_unlocking, is_take, is_back_to, is_drop, seen, exchanged, after_lock, after_try, after_unlock, operation, planned_move, read_move, whole_move}
+use Rattle.ls_code.specs.Reading.{is_locking, is_trying, is_unlocking, is_take, is_back_to, seen, exchanged, after_lock, after_try, after_unlock, operation, planned_move, read_move, whole_move}
 use Rattle.ls_headline.specs.Parts.{one, LockParts, TryParts, UnlockParts, IsPlanned, Parts, PartsAreThere}
 use Rattle.ls_headline.proofs.LockWords.{own_left, not_left}
 use Rattle.ls_headline.proofs.Codes.{Word, IsSee, IsTake, IsDrop, IsAnother, word_of, another, NoPlan, take_there, back_there, drop_there}

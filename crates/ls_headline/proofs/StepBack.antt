@@ -27,7 +27,6 @@ use Rattle.ls_code.specs.Fed.{Pause, Paused, Passes, IsOver, IsStuck, TooLong}
 use Rattle.ls_code.specs.Locks.{taken_of, left_of, is_own}
 use Rattle.ls_code.specs.declared.lock_word.Taken.{Taken}
 use Rattle.ls_code.specs.declared.lock_word.Taken.TheVariants as taken
-use Rattle.ls_code.specs.declared.lock_word.Left.{Left}
 use Rattle.ls_code.specs.declared.lock_word.Left.TheVariants as left
 use Rattle.ls_code.specs.declared.step.Did.TheVariants as did
 use Rattle.ls_code.specs.Exchanges.{throwing}
@@ -35,10 +34,10 @@ use Rattle.ls_events.specs.declared.kind.Kind.TheVariants.{IllegalMonitorState, 
 use Rattle.ls_events.specs.declared.action.Action.TheVariants as act
 use Rattle.ls_events.specs.declared.action.Answer.TheVariants.{Done as AnswerDone, Gives, Fails}
 use Rattle.ls_meaning.specs.Store.{Thing}
-use Rattle.ls_code.specs.Reading.{seen, exchanged, full_word, word_of_another, after_lock, after_try, after_unlock, whole_move, quiet, quiet_from, resume}
+use Rattle.ls_code.specs.Reading.{seen, exchanged, full_word, word_of_another, after_lock, after_try, after_unlock, whole_move, quiet_from, resume}
 use Rattle.ls_headline.specs.Parts.{one, LockParts, TryParts, UnlockParts, IsPlanned, Parts}
 use Rattle.ls_headline.proofs.PartsThere.{parts_are_there}
-use Rattle.ls_headline.proofs.LockWords.{Fresh, fresh_now, lost_other, full_now, own_left, not_left}
+use Rattle.ls_headline.proofs.LockWords.{fresh_now, lost_other, full_now, own_left, not_left}
 use Rattle.ls_headline.proofs.LockCells.{lock_is, unlock_is, store_is, won_is, lost_is, another_is, full_is}
 use Rattle.ls_headline.proofs.Others.{Sees, lock_on, lock_word, lock_renamed, renamed_lock, lock_named, LockNamed, sees_kept, word_there}
 use Rattle.ls_headline.proofs.Middle.{Middle, Here, Saw, Lost, Told, OwnFor, same_mode, middle_kept}

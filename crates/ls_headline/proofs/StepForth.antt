@@ -23,11 +23,10 @@ use Rattle.ls_code.specs.Cells as cells
 use Rattle.ls_code.specs.Steps.{Move, Silent, Still, Asks as MoveAsks, Plans, thread_move}
 use Rattle.ls_code.specs.Steps as machine_steps
 use Rattle.ls_code.specs.Fed.{Pause, Paused, IsOver, IsStuck, TooLong}
-use Rattle.ls_code.specs.Locks.{taken_of, left_of, is_own}
+use Rattle.ls_code.specs.Locks.{taken_of, is_own}
 use Rattle.ls_code.specs.Exchanges.{throwing}
 use Rattle.ls_code.specs.declared.lock_word.Taken.{Taken}
 use Rattle.ls_code.specs.declared.lock_word.Taken.TheVariants as taken
-use Rattle.ls_code.specs.declared.lock_word.Left.{Left}
 use Rattle.ls_code.specs.declared.lock_word.Left.TheVariants as left
 use Rattle.ls_events.specs.declared.kind.Kind.TheVariants.{IllegalMonitorState, Error}
 use Rattle.ls_events.specs.declared.action.Action.TheVariants as act
@@ -37,7 +36,7 @@ use Rattle.ls_meaning.specs.Store.{Thing}
 use Rattle.ls_code.specs.Code.{Start}
 use Rattle.ls_headline.specs.InWords.{map_answer}
 use Rattle.ls_headline.specs.Sorts.{Names, Refers, Suits, Known}
-use Rattle.ls_code.specs.Reading.{seen, exchanged, full_word, word_of_another, after_lock, after_try, after_unlock, whole_move, begins_early, carry, quiet, quiet_from}
+use Rattle.ls_code.specs.Reading.{seen, exchanged, word_of_another, after_lock, after_try, after_unlock, whole_move, begins_early, carry, quiet, quiet_from}
 use Rattle.ls_headline.specs.Parts.{one, LockParts, TryParts, UnlockParts, IsPlanned, Parts}
 use Rattle.ls_headline.proofs.PartsThere.{parts_are_there}
 use Rattle.ls_headline.proofs.LockWords.{own_left, not_left}
@@ -49,7 +48,7 @@ use Rattle.ls_headline.proofs.Lists.{set_here, each_set, map_end, length-set}
 use Rattle.ls_headline.proofs.Effects.{Extends, refers_more, things_length, thing_there}
 use Rattle.ls_headline.proofs.Effects as effects
 use Rattle.ls_headline.proofs.AllCases.{effects_agree}
-use Rattle.ls_headline.proofs.Answers.{suited_end, suited_more, answer_agree, answers_agree, action_agree, Says, says}
+use Rattle.ls_headline.proofs.Answers.{suited_end, suited_more, answer_agree, answers_agree, action_agree, says}
 use Rattle.ls_code.specs.Machine.{Machine, Entry, started, is_running, setup_ended, is_due, due_step, open_step, machine_step, machine_run, machine_trace}
 use Rattle.ls_code.specs.Machine as machine
 use Rattle.ls_code.specs.Events.{events_of}
@@ -65,7 +64,7 @@ use Rattle.ls_headline.specs.Same.{total}
 use Rattle.ls_headline.proofs.Lists.{set_same, set_other, get_there, index_there, get_within}
 use Rattle.ls_headline.proofs.Runs.{run-append, trace-append}
 use Rattle.ls_headline.proofs.LiftForth
-use Rattle.ls_headline.proofs.Feeding.{IsLoud, silent_keeps, asking, beginning, asked_by, silent_is, NoPlan, none, ended, trapped, still, Stands, at_end, more, told_one, stand-append}
+use Rattle.ls_headline.proofs.Feeding.{IsLoud, silent_keeps, beginning, asked_by, silent_is, NoPlan, none, ended, trapped, still, Stands, at_end, more, told_one, stand-append}
 use Rattle.ls_headline.proofs.Effects.{renaming, Grows, Agrees}
 use Rattle.ls_headline.proofs.AllCases.{names_of}
 use Rattle.ls_headline.proofs.StepBack as back

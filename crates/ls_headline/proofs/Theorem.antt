@@ -63,16 +63,16 @@ module _ (file : File) (program : Program) (code : Code) (asks : Asks file progr
   abbrev bound : ℕ
   bound = most_silent code
 
-  abbrev Follows : State → Machine → Type 0
+  abbrev pub Follows : State → Machine → Type 0
   Follows = StepBack.Follows file program code asks sound room within.most
 
-  abbrev Live : State → source.Entry Value → Type 0
+  abbrev pub Live : State → source.Entry Value → Type 0
   Live = StepBack.Live file program code asks sound room within.most
 
-  abbrev Later : State → State → Type 0
+  abbrev pub Later : State → State → Type 0
   Later = StepBack.Later file program code asks sound room within.most
 
-  abbrev write : State → source.Entry Value → Entry
+  abbrev pub write : State → source.Entry Value → Entry
   write = StepBack.write file program code asks sound room within.most
 
   abbrev Has : ℕ → Option Answers → Option Thread → Type 0
@@ -115,7 +115,7 @@ module _ (file : File) (program : Program) (code : Code) (asks : Asks file progr
   back_each σ t (Some had) None h = absurd h
   back_each σ t (Some had) (Some x) h = (h.0, h.1, h.2, x, h.3, Here refl)
 
-  follows_start : Follows s0 m0
+  pub follows_start : Follows s0 m0
   follows_start = record {
     sorts = steady_start.sorts;
     image = refl;
@@ -130,7 +130,7 @@ module _ (file : File) (program : Program) (code : Code) (asks : Asks file progr
   lives : (s s' : State) (e : source.Entry Value) → Live s e → Later s s' → Live s' e
   lives s s' e l g = ((λ ρ a. sym (stable s s' e l g) ∙ l.0 ρ (λ n h. g.places n h ∙ a n (omega (arith, g.things)))), l.1)
 
-  back_laws : LiftBack.Laws State Machine (source.Entry Value) Entry sd md (λ f. f.thread) write Follows Later Live
+  pub back_laws : LiftBack.Laws State Machine (source.Entry Value) Entry sd md (λ f. f.thread) write Follows Later Live
   back_laws = record {
     grows_refl = λ s. grows_refl file program names s.store;
     grows_trans = λ a b c g h. grows_trans file program names a.store b.store c.store g h;

@@ -7,14 +7,14 @@ use Rattle.ls_events.specs.declared.action.Answer.{Answer}
 use Rattle.ls_events.specs.declared.action.Answer.TheVariants.{Done, Gives, Fails}
 use Rattle.ls_code.specs.Code.{Code}
 use Rattle.ls_code.specs.Thread.{Thread}
-use Rattle.ls_code.specs.Locks.{taken_of, left_of, is_own}
+use Rattle.ls_code.specs.Locks.{taken_of, left_of}
 use Rattle.ls_code.specs.Cells.{Cells, Answers, effect, cell_at}
 use Rattle.ls_code.specs.Exchanges.{throwing}
-use Rattle.ls_code.specs.Steps.{Move, Silent, Still, Asks, Plans, Outcome, outcome_of, ended_so, performed, thread_move}
+use Rattle.ls_code.specs.Steps.{Move, Silent, Asks, Plans, Outcome, outcome_of, ended_so, performed, thread_move}
 use Rattle.ls_code.specs.declared.step.Did.TheVariants as did
 use Rattle.ls_code.specs.declared.lock_word.Taken.TheVariants as taken
 use Rattle.ls_code.specs.declared.lock_word.Left.TheVariants as left
-use Rattle.ls_code.specs.Reading.{seen, exchanged, word_of_another, after_lock, after_try, after_unlock, whole_move}
+use Rattle.ls_code.specs.Reading.{seen, exchanged, after_lock, after_try, after_unlock, whole_move}
 
 -- one instruction of a thread with these cells
 abbrev pub one : Code → ℕ → Cells → Thread → Outcome

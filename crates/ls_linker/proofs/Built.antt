@@ -1,11 +1,10 @@
 -- What each step answers, put together.
-use Rattle.std.proofs.Common.{◌≡◌, refl, sym, subst, ap, ◌∙◌}
+use Rattle.std.proofs.Common.{◌≡◌, sym, subst, ap, ◌∙◌}
 use Rattle.ls_checked.specs.CheckedTree.{File}
 use Rattle.ls_checked.specs.CheckedProgram.{Program}
 use Rattle.ls_code.specs.Code.{Code}
 use Rattle.ls_lowered.specs.LoweredTree as low
 use Rattle.ls_refs.specs.Lowered.{lowered_file}
-use Rattle.ls_locks.specs.Locked.{locked_file}
 use Rattle.ls_finally.specs.Flat.{flat_file}
 use Rattle.ls_finally.specs.Placed.{AllPlaced}
 use Rattle.ls_emission.specs.Units.{CodeUnit, units_of}
@@ -13,18 +12,15 @@ use Rattle.ls_emission.specs.Emittable.{IsEmittableFile}
 use Rattle.ls_emit.specs.Short.{AllShort}
 use Rattle.ls_linking.specs.Linked.{linked}
 use Rattle.ls_ranges.specs.Links.{Links}
-use Rattle.ls_linker.specs.Compiled.{locks_of, flat_of, code_of}
+use Rattle.ls_linker.specs.Compiled.{flat_of, code_of}
 use Rattle.std.specs.Prelude.{List}
 
-pub placed_here : (file : File) (refs locks : low.File) → refs ≡ lowered_file file → locks ≡ locked_file refs → AllPlaced (locks_of file) (locks_of file) → AllPlaced locks locks
-placed_here file refs locks r l p = subst (λ x. AllPlaced x x) (sym (l ∙ ap locked_file r)) p
+pub placed_here : (file : File) (refs : low.File) → refs ≡ lowered_file file → AllPlaced (lowered_file file) (lowered_file file) → AllPlaced refs refs
+placed_here file refs r p = subst (λ x. AllPlaced x x) (sym r) p
 
-module _ (file : File) (program : Program) (refs locks flat : low.File) (r : refs ≡ lowered_file file) (l : locks ≡ locked_file refs) (f : flat ≡ flat_file locks) where
-  locks_here : locks ≡ locks_of file
-  locks_here = l ∙ ap locked_file r
-
+module _ (file : File) (program : Program) (refs flat : low.File) (r : refs ≡ lowered_file file) (f : flat ≡ flat_file refs) where
   flat_here : flat ≡ flat_of file
-  flat_here = f ∙ ap flat_file locks_here
+  flat_here = f ∙ ap flat_file r
 
   pub emittable_here : IsEmittableFile (flat_of file) → IsEmittableFile flat
   emittable_here e = subst IsEmittableFile (sym flat_here) e

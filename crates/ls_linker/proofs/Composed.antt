@@ -4,21 +4,17 @@ use Rattle.std.specs.Prelude.{slice_get}
 use Rattle.ls_events.specs.declared.value.Value.{Value}
 use Rattle.ls_events.specs.declared.value.ValueType.{ValueType}
 use Rattle.ls_checked.specs.CheckedTree.{File, Method}
-use Rattle.ls_lowered.specs.LoweredTree as low
-use Rattle.ls_lowered.specs.Course.{Answers, Told, Calls}
-use Rattle.ls_lowered.specs.Methods as courses
 use Rattle.ls_refs.specs.ValueWords.{value_word}
 use Rattle.ls_refs.specs.Sorts.{HaveTypes, IsSmall}
 use Rattle.ls_refs.specs.Typing.{IsTypedFile, parameters_of}
 use Rattle.ls_refs.specs.Lowered.{lowered_method, lowered_file}
 use Rattle.ls_refs.specs.Laws.{answer_words}
-use Rattle.ls_locks.specs.Locked.{locked_method, locked_file}
-use Rattle.ls_finally.specs.Flat.{flat_method, flat_file}
+use Rattle.ls_finally.specs.Flat.{flat_method}
 use Rattle.ls_finally.specs.Placed.{AllPlaced, Takes, TakesIn}
 use Rattle.ls_finally.specs.Laws.{KeepsCourses}
 use Rattle.ls_soundness.specs.InCall.{SuitedInCall}
 use Rattle.ls_linking.specs.Laws.{LoweredAsks}
-use Rattle.ls_linker.specs.Compiled.{locks_of, flat_of}
+use Rattle.ls_linker.specs.Compiled.{flat_of}
 
 got : {A B : Type 0} (f : A → B) (xs : List A) (n : ℕ) (x : A) → slice_get xs n ≡ Some x → slice_get (map f xs) n ≡ Some (f x)
 got f [] n x e = absurd (none e)
@@ -48,10 +44,9 @@ taken (suc n) [] le = absurd (let f : ⊥ = omega arith in f)
 taken (suc n) (x ∷ xs) le = let e = taken n xs (omega arith) in omega (arith, e)
 
 module _ (file : File) (typed : IsTypedFile file) (suited : SuitedInCall file)
-    (same : (methods : low.File) (depth : ℕ) → courses.invoke (locked_file methods) depth ≡ courses.invoke methods depth)
-    (keeps : KeepsCourses) (placed : AllPlaced (locks_of file) (locks_of file)) where
-  locked_at : (n : ℕ) (m : Method) → slice_get file.methods n ≡ Some m → slice_get (locks_of file) n ≡ Some (locked_method (lowered_method file.classes m))
-  locked_at n m e = got locked_method (lowered_file file) n (lowered_method file.classes m) (got (lowered_method file.classes) file.methods n m e)
+    (keeps : KeepsCourses) (placed : AllPlaced (lowered_file file) (lowered_file file)) where
+  lowered_at : (n : ℕ) (m : Method) → slice_get file.methods n ≡ Some m → slice_get (lowered_file file) n ≡ Some (lowered_method file.classes m)
+  lowered_at n m e = got (lowered_method file.classes) file.methods n m e
 
   -- the slots of a typed method are `this`, its parameters and more
   parameters_here : (n : ℕ) (m : Method) → slice_get file.methods n ≡ Some m → length (parameters_of m) ≡ m.parameters
@@ -59,8 +54,8 @@ module _ (file : File) (typed : IsTypedFile file) (suited : SuitedInCall file)
       let t = typed n m e in
       ap (λ slots. length (take m.parameters (drop 1 slots))) t.this ∙ taken m.parameters t.locals t.parameters
 
-  takes_here : (n : ℕ) (m : Method) (k : ℕ) → slice_get file.methods n ≡ Some m → k ≡ m.parameters + 1 → Takes (locks_of file) n k
-  takes_here n m k e f = subst (λ o. TakesIn o k) (sym (locked_at n m e)) f
+  takes_here : (n : ℕ) (m : Method) (k : ℕ) → slice_get file.methods n ≡ Some m → k ≡ m.parameters + 1 → Takes (lowered_file file) n k
+  takes_here n m k e f = subst (λ o. TakesIn o k) (sym (lowered_at n m e)) f
 
   pub lowered_asks : LoweredAsks file (flat_of file)
   lowered_asks = record {
@@ -68,11 +63,10 @@ module _ (file : File) (typed : IsTypedFile file) (suited : SuitedInCall file)
         let ic = suited depth n m o vs found types.0 types.1 go throw q s in
         let many : length (map value_word (o ∷ vs)) ≡ m.parameters + 1 = omega (arith, length-words (o ∷ vs), as_many (parameters_of m) vs types.1, parameters_here n m found) in
         record {
-          words = keeps (locks_of file) placed depth n (map value_word (o ∷ vs)) (answer_words q) (takes_here n m (length (map value_word (o ∷ vs))) found many)
-              ∙ ap (λ (calls : Calls). calls n (map value_word (o ∷ vs)) (answer_words q)) (same (lowered_file file) depth) ∙ ic.words;
+          words = keeps (lowered_file file) placed depth n (map value_word (o ∷ vs)) (answer_words q) (takes_here n m (length (map value_word (o ∷ vs))) found many) ∙ ic.words;
           answered = λ v rest e. (ic.answered v rest e).1;
         };
     takes = λ n m found.
-        let g = flat_method (locked_method (lowered_method file.classes m)) in
-        (g, got flat_method (locks_of file) n (locked_method (lowered_method file.classes m)) (locked_at n m found), ap (λ k. k + 1) (sym (parameters_here n m found)));
+        let g = flat_method (lowered_method file.classes m) in
+        (g, got flat_method (lowered_file file) n (lowered_method file.classes m) (lowered_at n m found), ap (λ k. k + 1) (sym (parameters_here n m found)));
   }

@@ -1,34 +1,53 @@
 -- What each layer's fault says of the checked file.
-use Rattle.std.proofs.Common.{◌≡◌, refl, sym, subst, ap, ◌∙◌}
+use Rattle.std.proofs.Common.{◌≡◌, ◌<◌, ◌≤◌, List, length, arith, refl, sym, subst, ap, ◌∙◌}
 use Rattle.ls_checked.specs.CheckedTree.{File}
 use Rattle.ls_checked.specs.CheckedProgram.{Program}
 use Rattle.ls_lowered.specs.LoweredTree as low
 use Rattle.ls_lowered.specs.declared.fault.LowerFault.{LowerFault}
 use Rattle.ls_lowered.specs.declared.fault.LowerFault.TheVariants.{Memory, TooManyLocals, TooManyCopies}
 use Rattle.ls_refs.specs.Lowered.{lowered_file}
-use Rattle.ls_locks.specs.Locked.{locked_file}
+use Rattle.ls_refs.specs.Refused.{AllFit}
 use Rattle.ls_finally.specs.Flat.{flat_file}
 use Rattle.ls_finally.specs.Counts.{FewLocals, FewCopies, Refused}
 use Rattle.ls_emit.specs.Short.{AllShort}
 use Rattle.ls_emit.specs.declared.fault.EmitFault.{EmitFault}
 use Rattle.ls_emit.specs.declared.fault.EmitFault.TheVariants as emit
-use Rattle.ls_linker.specs.declared.fault.BuildFault.TheVariants.{Lower, Emit}
-use Rattle.ls_linker.specs.Compiled.{locks_of}
-use Rattle.ls_linker.specs.Limits.{GoesPast}
+use Rattle.ls_emission.specs.Units.{CodeUnit, units_of}
+use Rattle.ls_linking.specs.Linked.{linked}
+use Rattle.ls_sizes.specs.Floor.{KeepsFloor}
+use Rattle.ls_linker.specs.declared.fault.LinkFault.{LinkFault}
+use Rattle.ls_linker.specs.declared.fault.LinkFault.TheVariants as link
+use Rattle.ls_linker.specs.declared.fault.BuildFault.TheVariants.{Lower, Emit, Link}
+use Rattle.ls_linker.specs.Compiled.{flat_of, code_of}
+use Rattle.ls_linker.specs.Limits.{GoesPast, count}
 
--- the lowering of locks is refused for want of memory alone
-pub locks_past : (file : File) (program : Program) (f : LowerFault) → f ≡ Memory → GoesPast file program (Lower f)
-locks_past file program f e = subst (λ x. GoesPast file program (Lower x)) (sym e) tt
+-- code that is too long has a count over 4,096
+long_unit : (file : File) (program : Program) → KeepsFloor → ¬ AllShort (flat_of file) → 4096 < count file program
+long_unit file program floor long =
+    let no : ¬ (count file program ≤ 4096) = λ le. long (floor file program (flat_of file) le).0 in
+    omega (arith, no)
 
-module _ (file : File) (program : Program) (refs locks : low.File) (r : refs ≡ lowered_file file) (l : locks ≡ locked_file refs) where
-  locks_here : locks ≡ locks_of file
-  locks_here = l ∙ ap locked_file r
+long_code : (file : File) (program : Program) → KeepsFloor → 65536 < length (code_of file program).instructions → 4096 < count file program
+long_code file program floor long =
+    let no : ¬ (count file program ≤ 4096) = λ le. (let short = (floor file program (flat_of file) le).1 in omega (arith, short, long)) in
+    omega (arith, no)
 
-  pub finally_past : (f : LowerFault) → FewLocals (locks_of file) → Refused locks f → GoesPast file program (Lower f)
-  finally_past Memory few refused = tt
-  finally_past TooManyLocals few refused = absurd (refused (subst FewLocals (sym locks_here) few))
-  finally_past TooManyCopies few refused = λ copies. refused (subst FewCopies (sym locks_here) copies)
+module _ (file : File) (program : Program) (refs : low.File) (r : refs ≡ lowered_file file) where
+  pub finally_past : (f : LowerFault) → AllFit file.methods → FewLocals (lowered_file file) → Refused refs f → GoesPast file program (Lower f)
+  finally_past Memory fits few refused = tt
+  finally_past TooManyLocals fits few refused = absurd (refused (subst FewLocals (sym r) few))
+  finally_past TooManyCopies fits few refused = (fits, λ copies. refused (subst FewCopies (sym r) copies))
 
-  pub units_past : (flat : low.File) (f : EmitFault) → flat ≡ flat_file locks → (f ≡ emit.CodeTooLong → ¬ AllShort flat) → GoesPast file program (Emit f)
-  units_past flat emit.Memory e long = tt
-  units_past flat emit.CodeTooLong e long = λ short. long refl (subst AllShort (sym (e ∙ ap flat_file locks_here)) short)
+  pub units_past : (flat : low.File) (f : EmitFault) → KeepsFloor → AllFit file.methods → FewCopies refs → flat ≡ flat_file refs → (f ≡ emit.CodeTooLong → ¬ AllShort flat) → GoesPast file program (Emit f)
+  units_past flat emit.Memory floor fits few e long = tt
+  units_past flat emit.CodeTooLong floor fits few e long =
+      let too_long : ¬ AllShort (flat_of file) = λ short. long refl (subst AllShort (sym (e ∙ ap flat_file r)) short) in
+      (fits, subst FewCopies r few, too_long, long_unit file program floor too_long)
+
+  pub link_past : (flat : low.File) (units : List CodeUnit) (f : LinkFault) → KeepsFloor → AllFit file.methods → FewCopies refs → flat ≡ flat_file refs → AllShort flat → units ≡ units_of flat →
+      (f ≡ link.CodeTooLong → 65536 < length (linked file program units).instructions) → GoesPast file program (Link f)
+  link_past flat units link.Memory floor fits few e short u long = tt
+  link_past flat units link.CodeTooLong floor fits few e short u long =
+      let flat_here : flat ≡ flat_of file = e ∙ ap flat_file r in
+      let too_long : 65536 < length (code_of file program).instructions = subst (λ us. 65536 < length (linked file program us).instructions) (u ∙ ap units_of flat_here) (long refl) in
+      (fits, subst FewCopies r few, subst AllShort flat_here short, too_long, long_code file program floor too_long)

@@ -1,6 +1,6 @@
 -- A thread's code ends with HALT and TRAP, and its row leads to the TRAP.
-use Rattle.std.proofs.Common.{◌≡◌, ℕ, zero, suc, ◌+◌, ◌-◌, ◌≤◌, List, [], ◌∷◌, ◌++◌, length, refl, sym, ap, ◌∙◌, map, arith}
-use Rattle.std.proofs.lemmas.List.{length-append, append-nil}
+use Rattle.std.proofs.Common.{◌≡◌, ℕ, ◌+◌, ◌-◌, ◌≤◌, List, [], ◌∷◌, length, ap, ◌∙◌, arith}
+use Rattle.std.proofs.lemmas.List.{length-append}
 use Rattle.ls_checked.specs.CheckedTree.{Class}
 use Rattle.ls_checked.specs.CheckedProgram.{ProgramCall}
 use Rattle.ls_code.specs.declared.instruction.Instruction.{Instruction}

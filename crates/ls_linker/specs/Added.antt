@@ -1,5 +1,5 @@
 -- What the steps of linking add to a code.
-use Rattle.std.specs.Prelude.{◌≡◌, ℕ, List, [], ◌++◌, length, map}
+use Rattle.std.specs.Prelude.{◌≡◌, List, [], ◌++◌, length, map}
 use Rattle.ls_checked.specs.CheckedTree.{Class, File}
 use Rattle.ls_checked.specs.CheckedProgram.{ProgramCall, ThreadProgram, Program}
 use Rattle.ls_code.specs.Code.{Code}

@@ -4,18 +4,13 @@ use Rattle.ls_checked.specs.CheckedProgram.{Program}
 use Rattle.ls_code.specs.Code.{Code}
 use Rattle.ls_lowered.specs.LoweredTree as lowered
 use Rattle.ls_refs.specs.Lowered.{lowered_file}
-use Rattle.ls_locks.specs.Locked.{locked_file}
 use Rattle.ls_finally.specs.Flat.{flat_file}
 use Rattle.ls_emission.specs.Units.{units_of}
 use Rattle.ls_linking.specs.Linked.{linked}
 
--- the tree over words, with locks as words
-abbrev pub locks_of : File → lowered.File
-locks_of file = locked_file (lowered_file file)
-
 -- the tree without `try`
 abbrev pub flat_of : File → lowered.File
-flat_of file = flat_file (locks_of file)
+flat_of file = flat_file (lowered_file file)
 
 -- the whole code
 abbrev pub code_of : File → Program → Code

@@ -1,3 +1,4 @@
 pub mod Added
 pub mod Compiled
 pub mod Limits
+pub mod Runs

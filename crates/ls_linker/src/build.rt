@@ -9,25 +9,25 @@ ghost use Rattle.ls_refs.specs.Refused.{AllSlotted};
 ghost use Rattle.ls_ranges.specs.Ranged.{IsRanged, IsRangedProgram};
 ghost use Rattle.ls_soundness.specs.Files.{HasItsClasses};
 ghost use Rattle.ls_soundness.specs.Programs.{IsTypedProgram};
-ghost use Rattle.ls_headline.specs.Same.{Same};
 ghost use Rattle.ls_linker.specs.Compiled.{code_of};
 ghost use Rattle.ls_linker.specs.Limits.{KeepsLimits, GoesPast};
+ghost use Rattle.ls_linker.specs.Runs.{Runs};
 
 use crate::fault::BuildFault;
-use crate::laws::compiled_same;
+use crate::laws::compiled_runs;
 use crate::link::link;
 use ls_checked::program::Program;
 use ls_checked::tree::File;
 use ls_code::code::Code;
 use ls_emit::emit::emit;
 use ls_finally::files::lower_finally;
-use ls_locks::files::lower_locks;
 use ls_ranges::{fits_lowered, ranged_is_emittable, ranged_links, typed_is_placed};
 use ls_refs::lower::lower_refs;
+use ls_sizes::laws::sizes;
 use std::alloc::Global;
 
-/// The whole code of a checked file and a thread program for it: it is the same as the two, for each number of cells, each
-/// schedule of instructions and each schedule of source steps that fits.
+/// The whole code of a checked file and a thread program for it, which runs as the two: it has the same histories, both ways,
+/// and no thread is silent for too long. Refused with 30 to 33, by the first limit that isn't kept.
 pub fn build(alloc: Global, file: &File, program: &Program) -> Result<Code, BuildFault>
     requires typed { IsTypedFile (plain_file file.now) }
     requires ranged { IsRanged (plain_file file.now) }
@@ -38,18 +38,18 @@ pub fn build(alloc: Global, file: &File, program: &Program) -> Result<Code, Buil
     requires ranged_program { IsRangedProgram (plain_program program.now) }
     requires program_constants { ProgramHasConstants (plain_program program.now) }
     ensures code { IfOk result (λ code. code ≡ code_of (plain_file file.now) (plain_program program.now)) }
-    ensures same { IfOk result (λ code. Same (plain_file file.now) (plain_program program.now) code) }
+    ensures runs { IfOk result (Runs (plain_file file.now) (plain_program program.now)) }
     ensures within { OnOk result (KeepsLimits (plain_file file.now) (plain_program program.now)) }
     ensures refused { IfErr result (GoesPast (plain_file file.now) (plain_program program.now)) }
 {
-    compiled_same();
+    compiled_runs();
+    sizes();
     typed_is_placed();
     fits_lowered();
     ranged_is_emittable();
     ranged_links();
     let refs = lower_refs(alloc, file)?;
-    let locks = lower_locks(alloc, refs)?;
-    let flat = lower_finally(alloc, locks)?;
+    let flat = lower_finally(alloc, refs)?;
     let units = emit(alloc, &flat)?;
     let code = link(alloc, &units, file, program)?;
     Ok(code)

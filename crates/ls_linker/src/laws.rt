@@ -1,34 +1,39 @@
 // The law of the whole way, as the contract of a function that computes nothing.
 
+ghost use Rattle.std.specs.Prelude.{◌≤◌, length};
 ghost use Rattle.ls_checked.specs.CheckedTree.{File};
 ghost use Rattle.ls_checked.specs.CheckedProgram.{Program};
 ghost use Rattle.ls_meaning.specs.Constants.{FileHasConstants, ProgramHasConstants};
 ghost use Rattle.ls_refs.specs.Typing.{IsTypedFile};
+ghost use Rattle.ls_refs.specs.Lowered.{lowered_file};
 ghost use Rattle.ls_soundness.specs.Files.{HasItsClasses};
 ghost use Rattle.ls_soundness.specs.Programs.{IsTypedProgram};
 ghost use Rattle.ls_finally.specs.Placed.{AllPlaced};
 ghost use Rattle.ls_emission.specs.Emittable.{IsEmittableFile};
-ghost use Rattle.ls_headline.specs.Same.{Same};
-ghost use Rattle.ls_linker.specs.Compiled.{locks_of, flat_of, code_of};
+ghost use Rattle.ls_linker.specs.Compiled.{flat_of, code_of};
+ghost use Rattle.ls_linker.specs.Runs.{Runs};
 
 use ls_emission::laws::units_ask;
+use ls_ends::laws::ends_in_time;
 use ls_finally::laws::keeps_courses;
 use ls_headline::laws::same_traces;
 use ls_linking::laws::linked_asks;
-use ls_locks::laws::same_courses;
+use ls_quick::laws::{frames_are_quick, threads_are_quick};
+use ls_sizes::laws::sizes;
 use ls_soundness::laws::{is_sound, suited_in_call};
 
-/// The code of a typed file and a typed program is the same as the two: for each number of cells, each schedule of
-/// instructions has a schedule of source steps with the same trace and history, and each schedule of source steps that
-/// fits has a schedule of instructions with the same trace and history.
-pub fn compiled_same()
-    ensures { (file : File) (program : Program) → IsTypedFile file → HasItsClasses file → FileHasConstants file → IsTypedProgram file program → ProgramHasConstants program → AllPlaced (locks_of file) (locks_of file) → IsEmittableFile (flat_of file) → Same file program (code_of file program) }
+/// The code of a typed file and a typed program runs as the two, where it isn't too long.
+pub fn compiled_runs()
+    ensures { (file : File) (program : Program) → IsTypedFile file → HasItsClasses file → FileHasConstants file → IsTypedProgram file program → ProgramHasConstants program → AllPlaced (lowered_file file) (lowered_file file) → IsEmittableFile (flat_of file) → length (code_of file program).instructions ≤ 65536 → Runs file program (code_of file program) }
 {
     suited_in_call();
-    same_courses();
     keeps_courses();
     units_ask();
     linked_asks();
     is_sound();
     same_traces();
+    ends_in_time();
+    frames_are_quick();
+    threads_are_quick();
+    sizes();
 }

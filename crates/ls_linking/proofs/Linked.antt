@@ -11,7 +11,7 @@ use Rattle.ls_meaning.specs.Threads.{all_calls, calls_in, next}
 use Rattle.ls_lowered.specs.LoweredTree as low
 use Rattle.ls_code.specs.Code.{Code, Start}
 use Rattle.ls_code.specs.Machine.{started}
-use Rattle.ls_code.specs.Fed.{fed}
+use Rattle.ls_code.specs.Reading.{fed}
 use Rattle.ls_code.specs.declared.instruction.Instruction.{Instruction}
 use Rattle.ls_code.specs.declared.instruction.Instruction.TheVariants as op
 use Rattle.ls_code.specs.declared.code.CallResult.{CallResult}
@@ -30,7 +30,6 @@ use Rattle.ls_linking.specs.Laws.{LoweredAsks}
 use Rattle.ls_soundness.specs.Programs.{IsTypedCall, IsTypedProgram}
 use Rattle.ls_linking.proofs.Lists.{RowsEnd, get_map}
 use Rattle.ls_linking.proofs.Places.{HasAt, has_front, has_after}
-use Rattle.ls_linking.proofs.Whole.{both, units_whole, threads_whole, all_whole_of}
 use Rattle.ls_linking.proofs.Units.{all_within, units_end, units_long, lie_in}
 use Rattle.ls_linking.proofs.Threads.{Thread, threads_from, threads_lie, started_as}
 use Rattle.ls_linking.proofs.SameWords.{answers_are}
@@ -60,7 +59,7 @@ some_result result.Int n = omega arith
 some_result result.Boolean n = omega arith
 
 -- TRAP stands at the last place
-last_traps : (whole : List Instruction) (classes : List Class) (n : ℕ) (cs : List ProgramCall) (p : ℕ) → HasAt whole p (calls_code classes n cs) → slice_get whole (p + (length (calls_code classes n cs) - 1)) ≡ Some op.Trap
+pub last_traps : (whole : List Instruction) (classes : List Class) (n : ℕ) (cs : List ProgramCall) (p : ℕ) → HasAt whole p (calls_code classes n cs) → slice_get whole (p + (length (calls_code classes n cs) - 1)) ≡ Some op.Trap
 last_traps whole classes n [] p has = has.1.0
 last_traps whole classes n (c ∷ cs) p has =
     let q = p + length (call_code classes n c) in
@@ -183,5 +182,4 @@ module _ (file : File) (program : Program) (lowered : low.File) (asks : LoweredA
     threads = started_as file.classes program.threads words;
     names = refl;
     sizes = λ c class e. get_map class_size file.classes c class e;
-    whole = all_whole_of code.instructions (both (units_code 0 (units_of lowered)) (threads_code file.classes program.threads) (units_whole lowered 0) (threads_whole file.classes program.threads));
   }

@@ -17,7 +17,8 @@ use Rattle.ls_code.specs.Moves.{FrameMove, Next, Stuck, Asks as FrameAsks}
 use Rattle.ls_code.specs.Calls.{halted, call_trapped}
 use Rattle.ls_code.specs.Steps.{Move, Silent, Still, Asks, thread_move, fetched_move, of_frame, answered, thrown_thread, value_move, on_kind}
 use Rattle.ls_code.specs.Steps as Steps
-use Rattle.ls_code.specs.Fed.{Fed, Pause, Paused, IsOver, TooLong, carry, advance, quiet, passed, resume, fed, ending}
+use Rattle.ls_code.specs.Fed.{Fed, Pause, Paused, IsOver, TooLong, ending}
+use Rattle.ls_code.specs.Reading.{begins_early, read_move, carry, quiet, resume, fed}
 use Rattle.ls_code.specs.Fed as fed
 use Rattle.ls_code.specs.declared.instruction.Resume.TheVariants as then
 use Rattle.ls_code.specs.declared.instruction.Instruction.{Instruction}
@@ -69,14 +70,14 @@ module _ (s : Setting) where
   silent : (m n : ℕ) (p : ℕ) (operands : List ℕ) (e : ℕ) (b : Bool) (u : Thread) (q : List (Answer ℕ)) → m ≡ suc n → thread_move s.code (here p operands e b) ≡ Silent u → feeds m (here p operands e b) q ≡ feeds n u q
   silent m n p operands e b u q is move =
       ap (λ k. feeds k (here p operands e b) q) is
-      ∙ ap (λ d. resume s.code s.number s.bound q (passed s.code s.number s.bound (carry s.number d (quiet s.code s.number n)))) move
+      ∙ ap (λ d. resume s.code s.number s.bound q (carry true (begins_early d) (read_move s.code s.number (here p operands e b) d) (quiet s.code s.number n))) move
 
   paused : (n : ℕ) (p : ℕ) (operands : List ℕ) (e : ℕ) (b : Bool) (action : Action ℕ) (go : Answer ℕ → Option Thread) → thread_move s.code (here p operands e b) ≡ Asks action go → quiet s.code s.number n (here p operands e b) ≡ Paused action go
-  paused zero p operands e b action go move = ap (λ d. carry s.number d (λ t. TooLong)) move
-  paused (suc n) p operands e b action go move = ap (λ d. carry s.number d (quiet s.code s.number n)) move
+  paused zero p operands e b action go move = ap (λ d. carry false (begins_early d) (read_move s.code s.number (here p operands e b) d) (λ t. TooLong)) move
+  paused (suc n) p operands e b action go move = ap (λ d. carry true (begins_early d) (read_move s.code s.number (here p operands e b) d) (quiet s.code s.number n)) move
 
   acts : (n : ℕ) (p : ℕ) (operands : List ℕ) (e : ℕ) (b : Bool) (action : Action ℕ) (go : Answer ℕ → Option Thread) (q : List (Answer ℕ)) → thread_move s.code (here p operands e b) ≡ Asks action go → feeds n (here p operands e b) q ≡ goes_on q action go
-  acts n p operands e b action go q move = ap (λ x. resume s.code s.number s.bound q (passed s.code s.number s.bound x)) (paused n p operands e b action go move)
+  acts n p operands e b action go q move = ap (resume s.code s.number s.bound q) (paused n p operands e b action go move)
 
   over_of : (m : Mode) (q : List (Answer ℕ)) → resume s.code s.number s.bound q (IsOver m) ≡ ending m
   over_of m [] = refl

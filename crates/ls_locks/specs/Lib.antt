@@ -1,1 +1,1 @@
-pub mod Locked
+pub mod LockCode

@@ -1,6 +1,4 @@
-//! Lock operations become operations on the words of locks.
+//! The lowering of a lock's operations to loads and exchanges of its word.
 #![tactic(auto)]
 
-pub mod files;
-pub mod laws;
 pub mod lower;

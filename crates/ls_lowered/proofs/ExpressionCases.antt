@@ -7,7 +7,7 @@ use Rattle.ls_events.specs.declared.action.Answer.TheVariants as answer
 use Rattle.ls_lowered.specs.declared.tree.UnaryOperator.TheVariants.{Negate, Not, ReferenceOf, MarkOf}
 use Rattle.ls_lowered.specs.declared.tree.BinaryOperator.TheVariants as op
 use Rattle.ls_lowered.specs.declared.tree.LockOperation.TheVariants as lock
-use Rattle.ls_lowered.specs.LoweredTree.{Expression, Word, Local, Unary, Binary, And, Or, Hold, Keep, After, Field, Item, SetFirst, ReadPair, SetPair, SwapPair, AttemptMark, OnLock, OnLockWord, Call, MakeObject, MakeLock, MakeMarkable, MakeArray, End, More}
+use Rattle.ls_lowered.specs.LoweredTree.{Expression, Word, Local, Unary, Binary, And, Or, Hold, Keep, After, Field, Item, SetFirst, ReadPair, SetPair, SwapPair, AttemptMark, OnLock, Call, MakeObject, MakeLock, MakeMarkable, MakeArray, End, More}
 use Rattle.ls_lowered.specs.Course.{Answers, Course, Asks, Ends, Outcome, Results, Throws, Told, Gave, Raised}
 use Rattle.ls_lowered.specs.Expressions.{find}
 
@@ -161,13 +161,13 @@ mark_attempted = refl
 locked : at (OnLock lock.Lock (Local 0)) [] ≡ Asks (act.Lock 7)
 locked = refl
 
-unlocked : at (OnLockWord lock.Unlock (Local 0)) [] ≡ Asks (act.Unlock 7)
+unlocked : at (OnLock lock.Unlock (Local 0)) [] ≡ Asks (act.Unlock 7)
 unlocked = refl
 
 tried : at (OnLock lock.TryLock (Local 0)) (answer.Gives 1 ∷ []) ≡ is 1
 tried = refl
 
-held_by_null : at (OnLockWord lock.IsHeld (Local 1)) [] ≡ Ends (Throws NullPointer) (7 ∷ 0 ∷ 4 ∷ []) []
+held_by_null : at (OnLock lock.IsHeld (Local 1)) [] ≡ Ends (Throws NullPointer) (7 ∷ 0 ∷ 4 ∷ []) []
 held_by_null = refl
 
 called : at (Call 4 (Local 0) End) [] ≡ is 5

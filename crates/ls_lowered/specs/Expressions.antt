@@ -8,7 +8,7 @@ use Rattle.ls_lowered.specs.declared.tree.BinaryOperator.{BinaryOperator}
 use Rattle.ls_lowered.specs.declared.tree.BinaryOperator.TheVariants as op
 use Rattle.ls_lowered.specs.declared.tree.LockOperation.{LockOperation}
 use Rattle.ls_lowered.specs.declared.tree.LockOperation.TheVariants.{Lock, Unlock, TryLock, IsHeld}
-use Rattle.ls_lowered.specs.LoweredTree.{Expression, Word, Local, Unary, Binary, And, Or, Hold, Keep, After, Field, Item, SetFirst, ReadPair, SetPair, SwapPair, AttemptMark, OnLock, OnLockWord, Call, MakeObject, MakeLock, MakeMarkable, MakeArray, Expressions, End, More}
+use Rattle.ls_lowered.specs.LoweredTree.{Expression, Word, Local, Unary, Binary, And, Or, Hold, Keep, After, Field, Item, SetFirst, ReadPair, SetPair, SwapPair, AttemptMark, OnLock, Call, MakeObject, MakeLock, MakeMarkable, MakeArray, Expressions, End, More}
 use Rattle.ls_lowered.specs.Words.{bool_of, int_of, sum_word, difference_word, product_word, quotient_word, remainder_word, negative_word, less_word, at_most_word, same_word, not_word, other_word, pair_word}
 use Rattle.ls_lowered.specs.Course.{Answers, Course, Ends, Outcome, Results, Throws, Calls, and_then, ask, perform, unless_null, returned}
 
@@ -89,7 +89,6 @@ abbrev mutual
       and_then (find calls e ls q) (λ x ls q. and_then (find calls a ls q) (λ y ls q. and_then (find calls b ls q) (λ z ls q.
       unless_null x ls q (ask (act.AttemptMark x y (bool_of z)) ls q))))
   find calls (OnLock o e) ls q = and_then (find calls e ls q) (λ x ls q. unless_null x ls q (operate_lock o x ls q))
-  find calls (OnLockWord o e) ls q = and_then (find calls e ls q) (λ x ls q. unless_null x ls q (operate_lock o x ls q))
   find calls (Call m e es) ls q =
       and_then (find calls e ls q) (λ x ls q. and_then (find_all calls es ls q) (λ ws ls q.
       unless_null x ls q (returned ls (calls m (x ∷ ws) q))))

@@ -28,7 +28,6 @@ mutual
     AttemptMark : (markable reference mark : Expression) → Expression
     -- an operation called on a lock object, and the same on the word of the lock at an address
     OnLock : (op : LockOperation) → (lock : Expression) → Expression
-    OnLockWord : (op : LockOperation) → (lock : Expression) → Expression
     Call : (method : ℕ) → (target : Expression) → (arguments : Expressions) → Expression
     MakeObject : (class constructor : ℕ) → (arguments : Expressions) → Expression
     MakeLock : Expression

@@ -29,7 +29,6 @@ abbrev mutual
   plain (forms.SwapPair' p e q a r b) = lowered.SwapPair (plain e) (plain a) (plain b)
   plain (forms.AttemptMark' p e q a r b) = lowered.AttemptMark (plain e) (plain a) (plain b)
   plain (forms.OnLock' op p e) = lowered.OnLock op (plain e)
-  plain (forms.OnLockWord' op p e) = lowered.OnLockWord op (plain e)
   plain (forms.Call' m p e q es) = lowered.Call m (plain e) (all_plain es)
   plain (forms.MakeObject' class constructor p es) = lowered.MakeObject class constructor (all_plain es)
   plain forms.MakeLock = lowered.MakeLock

@@ -88,10 +88,8 @@ pub enum Expression {
     SwapPair(Box<Expression>, Box<Expression>, Box<Expression>),
     /// The markable, the expected reference and the new mark.
     AttemptMark(Box<Expression>, Box<Expression>, Box<Expression>),
-    /// An operation called on a lock object.
+    /// An operation on the lock at an address.
     OnLock(LockOperation, Box<Expression>),
-    /// The same operation on the word of the lock at an address.
-    OnLockWord(LockOperation, Box<Expression>),
     /// A method, on an object, with further arguments.
     Call(usize, Box<Expression>, Box<Expressions>),
     /// A class, its constructor, and the constructor's further arguments.

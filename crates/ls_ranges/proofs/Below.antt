@@ -1,20 +1,19 @@
 -- The lowered form of a typed expression reads and sets no local but those of its method.
-use Rattle.std.proofs.Common.{◌≡◌, ℕ, ◌+◌, ◌≤◌, ◌<◌, List, [], ◌∷◌, length, arith}
+use Rattle.std.proofs.Common.{ℕ, ◌+◌, ◌≤◌, ◌<◌, List, [], ◌∷◌, length, arith}
 use Rattle.ls_events.specs.declared.value.ValueType.{ValueType}
 use Rattle.ls_events.specs.declared.value.ValueType.TheVariants as types
 use Rattle.ls_checked.specs.declared.tree.Called.TheVariants.{Method as OfMethod, LockIt, UnlockIt, TryIt, AskIt, GetReference, IsMarked, GetBoth, SetBoth, CompareAndSet, Attempt}
 use Rattle.ls_checked.specs.CheckedTree.{File, Expression, Literal, Slot, Field, Item, Negate, Not, Binary, And, Or, Call, MakeObject, MakeLock, MakeMarkable, MakeArray, Expressions, End, More}
 use Rattle.ls_meaning.specs.declared.sort.Sort.{Sort}
 use Rattle.ls_refs.specs.Typing.{IsTyped, AreTyped}
-use Rattle.ls_refs.specs.Temporaries.{temporaries, all_temporaries, own_temporaries}
+use Rattle.ls_refs.specs.Temporaries.{temporaries, all_temporaries}
 use Rattle.ls_refs.specs.Lowered.{first_of, second_of, lowered, all_lowered}
-use Rattle.ls_locks.specs.Locked.{locked, all_locked}
 use Rattle.ls_finally.specs.Agreement.{IsBelow, AreBelow}
 use Rattle.ls_ranges.proofs.Lists.{in_range}
 
 -- two typed arguments are the first and the second
-pair : (file : File) (slots : List ValueType) (k free : ℕ) (es : Expressions) (t u : ValueType) → AreTyped file slots (t ∷ u ∷ []) es → AreBelow k (all_locked (all_lowered file.classes free es)) →
-    IsBelow k (locked (first_of (all_lowered file.classes free es))) × IsBelow k (locked (second_of (all_lowered file.classes free es)))
+pair : (file : File) (slots : List ValueType) (k free : ℕ) (es : Expressions) (t u : ValueType) → AreTyped file slots (t ∷ u ∷ []) es → AreBelow k (all_lowered file.classes free es) →
+    IsBelow k (first_of (all_lowered file.classes free es)) × IsBelow k (second_of (all_lowered file.classes free es))
 pair file slots k free End t u h b = absurd h
 pair file slots k free (More x End) t u h b = absurd h.1
 pair file slots k free (More x (More y End)) t u h b = (b.0, b.1.0)
@@ -22,7 +21,7 @@ pair file slots k free (More x (More y (More z es))) t u h b = absurd h.1.1
 
 module _ (file : File) (slots : List ValueType) (k : ℕ) where
   mutual
-    pub below : (free : ℕ) (s : Sort) (e : Expression) → length slots ≤ free → free + temporaries e ≤ k → IsTyped file slots s e → IsBelow k (locked (lowered file.classes free e))
+    pub below : (free : ℕ) (s : Sort) (e : Expression) → length slots ≤ free → free + temporaries e ≤ k → IsTyped file slots s e → IsBelow k (lowered file.classes free e)
     below free s (Literal v) fits room h = tt
     below free s (Slot n) fits room h = let there = in_range slots n h.0 h.2 in omega (arith, there, fits, room)
     below free s (Field e c f) fits room h = below free _ e fits room h.3
@@ -74,7 +73,7 @@ module _ (file : File) (slots : List ValueType) (k : ℕ) where
     below free s (MakeArray e) fits room h = below free _ e fits room h.1
 
     pub all_below : (free : ℕ) (ts : List ValueType) (es : Expressions) → length slots ≤ free → free + all_temporaries es ≤ k → AreTyped file slots ts es →
-        AreBelow k (all_locked (all_lowered file.classes free es))
+        AreBelow k (all_lowered file.classes free es)
     all_below free [] End fits room h = tt
     all_below free [] (More e es) fits room h = absurd h
     all_below free (t ∷ ts) End fits room h = absurd h

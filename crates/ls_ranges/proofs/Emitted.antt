@@ -1,5 +1,5 @@
 -- The lowered form of a typed expression has code, where its locals are there and its calls have their arguments.
-use Rattle.std.proofs.Common.{◌≡◌, ℕ, suc, ◌+◌, ◌≤◌, ◌<◌, ◌^◌, List, [], ◌∷◌, length, map, Option, Some, None, option_map, refl, sym, subst, arith}
+use Rattle.std.proofs.Common.{◌≡◌, ℕ, ◌<◌, ◌^◌, List, [], ◌∷◌, length, Option, Some, None, option_map, refl, sym, subst, arith}
 use Rattle.std.specs.Prelude.{slice_get}
 use Rattle.std.proofs.lemmas.Option.{slice_get-map}
 use Rattle.ls_events.specs.declared.value.ValueType.{ValueType}
@@ -10,8 +10,7 @@ use Rattle.ls_meaning.specs.declared.sort.Sort.TheVariants.{NoValue, ValueOf}
 use Rattle.ls_meaning.specs.Expressions.{value_in, field_in, constructor_of}
 use Rattle.ls_lowered.specs.LoweredTree as low
 use Rattle.ls_refs.specs.Typing.{IsTyped, AreTyped, IsTypedFile}
-use Rattle.ls_refs.specs.Lowered.{lowered, all_lowered}
-use Rattle.ls_locks.specs.Locked.{locked, all_locked}
+use Rattle.ls_refs.specs.Lowered.{lowered, all_lowered, lowered_file}
 use Rattle.ls_finally.specs.Agreement.{IsBelow, AreBelow}
 use Rattle.ls_finally.specs.Flat.{flat_method, flat_file}
 use Rattle.ls_finally.specs.Placed as placed
@@ -20,7 +19,6 @@ use Rattle.ls_emission.specs.Emittable.{TakesIn, Takes, IsEmittable, AreEmittabl
 use Rattle.ls_soundness.specs.Files.{HasItsClasses}
 use Rattle.ls_ranges.specs.Ranged.{IsRanged}
 use Rattle.ls_ranges.proofs.Lists.{in_range}
-use Rattle.ls_ranges.proofs.Calls.{locks}
 use Rattle.ls_ranges.proofs.Words.{small_word}
 
 -- a method without `try` takes as many arguments
@@ -44,11 +42,11 @@ field_small file ranged c f t (Some class) is e =
     omega (arith, there, few)
 
 module _ (file : File) (typed : IsTypedFile file) (its : HasItsClasses file) (ranged : IsRanged file) (slots : List ValueType) (k : ℕ) where
-  takes : (m : ℕ) (g : Method) (n : ℕ) → slice_get file.methods m ≡ Some g → placed.Takes (locks file) m n → Takes (flat_file (locks file)) m n
+  takes : (m : ℕ) (g : Method) (n : ℕ) → slice_get file.methods m ≡ Some g → placed.Takes (lowered_file file) m n → Takes (flat_file (lowered_file file)) m n
   takes m g n e h =
       let there = in_range file.methods m g e in
       let few = ranged.methods in
-      (omega (arith, there, few), subst (λ o. TakesIn o n) (sym (slice_get-map flat_method (locks file) m)) (takes_flat (slice_get (locks file) m) n h))
+      (omega (arith, there, few), subst (λ o. TakesIn o n) (sym (slice_get-map flat_method (lowered_file file) m)) (takes_flat (slice_get (lowered_file file) m) n h))
 
   class_small : (c m : ℕ) (g : Method) → slice_get file.methods m ≡ Some g → g.class ≡ c → c < 2 ^ 32
   class_small c m g e is =
@@ -57,8 +55,8 @@ module _ (file : File) (typed : IsTypedFile file) (its : HasItsClasses file) (ra
       omega (arith, there, few, is)
 
   mutual
-    pub emitted : (free : ℕ) (s : Sort) (e : Expression) → IsTyped file slots s e → IsBelow k (locked (lowered file.classes free e)) → CallsWell (locks file) (locked (lowered file.classes free e)) →
-        IsEmittable (flat_file (locks file)) k (locked (lowered file.classes free e))
+    pub emitted : (free : ℕ) (s : Sort) (e : Expression) → IsTyped file slots s e → IsBelow k (lowered file.classes free e) → CallsWell (lowered_file file) (lowered file.classes free e) →
+        IsEmittable (flat_file (lowered_file file)) k (lowered file.classes free e)
     emitted free s (Literal v) h b w = small_word s v h
     emitted free s (Slot n) h b w = b
     emitted free s (Field e c f) h b w = (emitted free _ e h.3 b w, field_small file ranged c f h.0 (slice_get file.classes c) refl h.2)
@@ -118,8 +116,8 @@ module _ (file : File) (typed : IsTypedFile file) (its : HasItsClasses file) (ra
     emitted free s (MakeMarkable c (More x (More y (More z es)))) h b w = absurd h.1.1.1
     emitted free s (MakeArray e) h b w = emitted free _ e h.1 b w
 
-    pub all_emitted : (free : ℕ) (ts : List ValueType) (es : Expressions) → AreTyped file slots ts es → AreBelow k (all_locked (all_lowered file.classes free es)) →
-        AllCallWell (locks file) (all_locked (all_lowered file.classes free es)) → AreEmittable (flat_file (locks file)) k (all_locked (all_lowered file.classes free es))
+    pub all_emitted : (free : ℕ) (ts : List ValueType) (es : Expressions) → AreTyped file slots ts es → AreBelow k (all_lowered file.classes free es) →
+        AllCallWell (lowered_file file) (all_lowered file.classes free es) → AreEmittable (flat_file (lowered_file file)) k (all_lowered file.classes free es)
     all_emitted free [] End h b w = tt
     all_emitted free [] (More e es) h b w = absurd h
     all_emitted free (t ∷ ts) End h b w = absurd h

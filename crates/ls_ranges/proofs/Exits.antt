@@ -3,7 +3,7 @@ use Rattle.std.proofs.Common.{◌≡◌, ℕ, zero, suc, ◌+◌, ◌≤◌, ◌
 use Rattle.std.proofs.lemmas.List.{length-append}
 use Rattle.ls_lowered.specs.LoweredTree.{Statement, Block, SetLocal, SetField, SetItem, Evaluate, If, While, Break, Continue, Return, Try, Guarded, Throw, Leavable, Leave, Statements, Done, Then, File}
 use Rattle.ls_finally.specs.Exits.{outward, Exit, BreakOut, ContinueOut, ReturnOut, break_exit, continue_exit, exits, all_exits, both, or_leave, replaced, all_replaced, exit_of, wrapped, finally_of}
-use Rattle.ls_emission.specs.Emittable.{IsEmittable, IsEmittableStatement, AreEmittableStatements}
+use Rattle.ls_emission.specs.Emittable.{IsEmittableStatement, AreEmittableStatements}
 
 -- an exit to a loop of so many around
 abbrev Leads : ℕ → Exit → Type 0

@@ -1,5 +1,5 @@
 -- The jumps and rows of a unit name places of the unit, or just behind it.
-use Rattle.std.proofs.Common.{◌≡◌, ℕ, zero, suc, ◌+◌, ◌≤◌, ◌<◌, List, [], ◌∷◌, ◌++◌, length, arith}
+use Rattle.std.proofs.Common.{ℕ, zero, suc, ◌+◌, ◌≤◌, ◌<◌, List, [], ◌∷◌, ◌++◌, length, arith}
 use Rattle.std.specs.Prelude.{All, slice_index_or}
 use Rattle.std.proofs.lemmas.List.{length-append}
 use Rattle.ls_code.specs.declared.instruction.Instruction.{Instruction}
@@ -11,10 +11,10 @@ use Rattle.ls_lowered.specs.declared.tree.BinaryOperator.{BinaryOperator}
 use Rattle.ls_lowered.specs.declared.tree.BinaryOperator.TheVariants as binary
 use Rattle.ls_lowered.specs.declared.tree.LockOperation.{LockOperation}
 use Rattle.ls_lowered.specs.declared.tree.LockOperation.TheVariants as lock
-use Rattle.ls_lowered.specs.LoweredTree as low
-use Rattle.ls_lowered.specs.LoweredTree.{Expression, Word, Local, Unary, Binary, And, Or, Hold, Keep, After, Field, Item, SetFirst, ReadPair, SetPair, SwapPair, AttemptMark, OnLock, OnLockWord, Call, MakeObject, MakeLock, MakeMarkable, MakeArray, Expressions, End, More, Statement, Block, SetLocal, SetField, SetItem, Evaluate, If, While, Break, Continue, Return, Try, Guarded, Throw, Leavable, Leave, Statements, Done, Then, Method, File}
-use Rattle.ls_emission.specs.Expressions.{unary_code, binary_code, lock_code, lock_size, size, all_size, code, all_code}
-use Rattle.ls_emission.specs.Statements.{Loop, Targets, no_targets, in_loop, in_region, stop_by, turn_by, exit_by, stop_of, turn_of, exit_of, statement_size, statements_size, statement_code, statements_code, row_of, statement_rows, statements_rows}
+use Rattle.ls_lowered.specs.LoweredTree.{Expression, Word, Local, Unary, Binary, And, Or, Hold, Keep, After, Field, Item, SetFirst, ReadPair, SetPair, SwapPair, AttemptMark, OnLock, Call, MakeObject, MakeLock, MakeMarkable, MakeArray, Expressions, End, More, Statement, Block, SetLocal, SetField, SetItem, Evaluate, If, While, Break, Continue, Return, Try, Guarded, Throw, Leavable, Leave, Statements, Done, Then, Method, File}
+use Rattle.ls_locks.specs.LockCode.{lock_code}
+use Rattle.ls_emission.specs.Expressions.{unary_code, binary_code, size, all_size, code, all_code}
+use Rattle.ls_emission.specs.Statements.{Targets, no_targets, in_loop, in_region, stop_of, turn_of, exit_of, statement_size, statements_size, statement_code, statements_code, row_of, statement_rows, statements_rows}
 use Rattle.ls_emission.specs.Units.{method_size, method_code, method_rows, unit_of, units_of}
 use Rattle.ls_emission.specs.Emittable.{IsEmittableMethod, AllEmittable, IsEmittableFile}
 use Rattle.ls_emission.proofs.StatementPlaces.{statement_size_is}
@@ -65,11 +65,11 @@ module _ (n : ℕ) where
   binary_lands binary.NotEqual = tt
   binary_lands binary.Pack = tt
 
-  lock_lands : (o : LockOperation) → AllLand (lock_code o)
-  lock_lands lock.Lock = (tt, (tt, tt))
-  lock_lands lock.Unlock = (tt, (tt, tt))
-  lock_lands lock.TryLock = (tt, tt)
-  lock_lands lock.IsHeld = (tt, tt)
+  lock_lands : (o : LockOperation) (p : ℕ) → p ≤ n → AllLand (lock_code p o)
+  lock_lands lock.Lock p room = (tt, (tt, (jump_if_false p room, (tt, (tt, tt)))))
+  lock_lands lock.Unlock p room = (tt, (tt, (tt, tt)))
+  lock_lands lock.TryLock p room = (tt, (tt, (tt, (tt, tt))))
+  lock_lands lock.IsHeld p room = (tt, tt)
 
   mutual
     code_lands : (p : ℕ) (e : Expression) → p + size e ≤ n → AllLand (code p e)
@@ -89,8 +89,7 @@ module _ (n : ℕ) where
     code_lands p (SetPair e a) room = joined (code p e ++ code (p + size e) a) (op.SetPair ∷ op.Push 0 ∷ []) (joined (code p e) (code (p + size e) a) (code_lands p e (omega (arith, room))) (code_lands (p + size e) a (omega (arith, room)))) ((tt, (tt, tt)))
     code_lands p (SwapPair e a b) room = joined (code p e ++ code (p + size e) a ++ code (p + size e + size a) b) (op.SwapPair ∷ []) (joined (code p e ++ code (p + size e) a) (code (p + size e + size a) b) (joined (code p e) (code (p + size e) a) (code_lands p e (omega (arith, room))) (code_lands (p + size e) a (omega (arith, room)))) (code_lands (p + size e + size a) b (omega (arith, room)))) ((tt, tt))
     code_lands p (AttemptMark e a b) room = joined (code p e ++ code (p + size e) a ++ code (p + size e + size a) b) (op.AttemptMark ∷ []) (joined (code p e ++ code (p + size e) a) (code (p + size e + size a) b) (joined (code p e) (code (p + size e) a) (code_lands p e (omega (arith, room))) (code_lands (p + size e) a (omega (arith, room)))) (code_lands (p + size e + size a) b (omega (arith, room)))) ((tt, tt))
-    code_lands p (OnLock o e) room = joined (code p e) (lock_code o) (code_lands p e (omega (arith, room))) (lock_lands o)
-    code_lands p (OnLockWord o e) room = joined (code p e) (lock_code o) (code_lands p e (omega (arith, room))) (lock_lands o)
+    code_lands p (OnLock o e) room = joined (code p e) (lock_code (p + size e) o) (code_lands p e (omega (arith, room))) (lock_lands o (p + size e) (omega (arith, room)))
     code_lands p (Call m e es) room = joined (code p e ++ all_code (p + size e) es) (op.Enter m ∷ []) (joined (code p e) (all_code (p + size e) es) (code_lands p e (omega (arith, room))) (all_lands (p + size e) es (omega (arith, room)))) ((tt, tt))
     code_lands p (MakeObject c m es) room = joined (op.NewObject c ∷ op.Dup ∷ all_code (p + 2) es) (op.Enter m ∷ op.Pop ∷ []) ((tt, (tt, all_lands (p + 2) es (omega (arith, room))))) ((tt, (tt, tt)))
     code_lands p MakeLock room = (tt, tt)

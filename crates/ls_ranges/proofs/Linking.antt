@@ -1,5 +1,5 @@
 -- The units and threads of a typed file and program in range can be linked.
-use Rattle.std.proofs.Common.{◌≡◌, ℕ, ◌+◌, ◌*◌, ◌≤◌, ◌<◌, ◌^◌, List, [], ◌∷◌, length, map, Some, ◌∙◌, arith}
+use Rattle.std.proofs.Common.{◌≡◌, ℕ, List, [], ◌∷◌, length, Some, ◌∙◌, arith}
 use Rattle.std.specs.Prelude.{All, slice_get, slice_index_or}
 use Rattle.std.proofs.lemmas.List.{length-map}
 use Rattle.std.proofs.lemmas.Option.{slice_get-get_or}
@@ -7,13 +7,12 @@ use Rattle.ls_events.specs.declared.value.Value.{Value}
 use Rattle.ls_events.specs.declared.value.Value.TheVariants as values
 use Rattle.ls_events.specs.declared.value.ValueType.{ValueType}
 use Rattle.ls_events.specs.declared.value.ValueType.TheVariants as types
-use Rattle.ls_checked.specs.CheckedTree.{Method, File}
+use Rattle.ls_checked.specs.CheckedTree.{File}
 use Rattle.ls_checked.specs.CheckedProgram.{ProgramCall, Making, Calling, ThreadProgram, Program}
 use Rattle.ls_meaning.specs.Expressions.{constructor_of}
 use Rattle.ls_refs.specs.Typing.{IsTypedFile, parameters_of}
 use Rattle.ls_refs.specs.Lowered.{lowered_method, lowered_file}
 use Rattle.ls_refs.specs.Refused.{AllFit}
-use Rattle.ls_locks.specs.Locked.{locked_method, locked_file}
 use Rattle.ls_finally.specs.Flat.{flat_method, flat_file}
 use Rattle.ls_emission.specs.Units.{unit_of, units_of}
 use Rattle.ls_emit.specs.Short.{AllShort}
@@ -22,7 +21,6 @@ use Rattle.ls_soundness.specs.Programs.{IsArgument, AreArguments, IsTypedCall, I
 use Rattle.ls_ranges.specs.Ranged.{IsRanged, IsRangedProgram}
 use Rattle.ls_ranges.specs.Links.{IsWritten, CallLinks, ThreadLinks, Links}
 use Rattle.ls_ranges.proofs.Lists.{in_range}
-use Rattle.ls_ranges.proofs.Calls.{locks}
 use Rattle.ls_ranges.proofs.Ranges.{file_emittable}
 use Rattle.ls_ranges.proofs.Landing.{Each, each_all, units_land}
 
@@ -79,14 +77,14 @@ module _ (file : File) (program : Program) (ranged : IsRanged file) (typed : IsT
   threads_link : All (ThreadLinks file.classes) program.threads
   threads_link = λ k t below. thread_links k (slice_index_or program.threads k t) (slice_get-get_or program.threads k t below)
 
-  pub all_link : IsTypedFile file → HasItsClasses file → AllFit file.methods → AllShort (flat_file (locks file)) → Links file program (units_of (flat_file (locks file)))
+  pub all_link : IsTypedFile file → HasItsClasses file → AllFit file.methods → AllShort (flat_file (lowered_file file)) → Links file program (units_of (flat_file (lowered_file file)))
   all_link well its fit short =
       let methods = ranged.methods in
-      let many : length (units_of (flat_file (locks file))) ≡ length file.methods =
-      length-map (flat_file (locks file)) unit_of ∙ length-map (locks file) flat_method ∙ length-map (lowered_file file) locked_method ∙ length-map file.methods (lowered_method file.classes) in
+      let many : length (units_of (flat_file (lowered_file file))) ≡ length file.methods =
+      length-map (flat_file (lowered_file file)) unit_of ∙ length-map (lowered_file file) flat_method ∙ length-map file.methods (lowered_method file.classes) in
       record {
         few = omega (arith, methods, many);
-        all = units_land (flat_file (locks file)) (file_emittable file well its ranged fit) short;
+        all = units_land (flat_file (lowered_file file)) (file_emittable file well its ranged fit) short;
         few_threads = room.threads;
         threads = threads_link;
       }

@@ -1,19 +1,17 @@
 -- The lowered methods have as many locals as the checked ones.
-use Rattle.std.proofs.Common.{◌≡◌, ℕ, ◌+◌, ◌*◌, ◌≤◌, ◌<◌, List, length, map, refl, ap₂, arith}
+use Rattle.std.proofs.Common.{◌≡◌, ℕ, ◌+◌, ◌≤◌, ◌<◌, List, length, refl, ap₂, arith}
 use Rattle.std.specs.Prelude.{slice_index_or}
 use Rattle.std.proofs.lemmas.List.Elements.{All-map}
 use Rattle.ls_checked.specs.CheckedTree.{Class, Method, File, Statement, Block, SetSlot, SetField, SetItem, Evaluate, If, While, Break, Continue, ReturnNothing, ReturnValue, Try, Statements, Done, Then}
 use Rattle.ls_refs.specs.Lowered.{lowered_statement, lowered_block, lowered_method, lowered_file}
 use Rattle.ls_refs.specs.Temporaries as refs
 use Rattle.ls_refs.specs.Refused.{AllFit, AllSlotted}
-use Rattle.ls_locks.specs.Locked.{locked_statement, locked_statements, locked_method}
 use Rattle.ls_finally.specs.Flat.{tries, all_tries}
 use Rattle.ls_finally.specs.Counts.{FewLocals, locals_of}
-use Rattle.ls_ranges.proofs.Calls.{locks}
 
 -- a lowered statement has as many `try`s as its statement
 mutual
-  tries_same : (classes : List Class) (free : ℕ) (s : Statement) → tries (locked_statement (lowered_statement classes free s)) ≡ refs.tries s
+  tries_same : (classes : List Class) (free : ℕ) (s : Statement) → tries (lowered_statement classes free s) ≡ refs.tries s
   tries_same classes free (Block ss) = all_tries_same classes free ss
   tries_same classes free (SetSlot n e) = refl
   tries_same classes free (SetField e f v) = refl
@@ -30,18 +28,17 @@ mutual
       let y = tries_same classes (free + refs.statement_temporaries b) f in
       omega (arith, x, y)
 
-  all_tries_same : (classes : List Class) (free : ℕ) (ss : Statements) → all_tries (locked_statements (lowered_block classes free ss)) ≡ refs.block_tries ss
+  all_tries_same : (classes : List Class) (free : ℕ) (ss : Statements) → all_tries (lowered_block classes free ss) ≡ refs.block_tries ss
   all_tries_same classes free Done = refl
   all_tries_same classes free (Then s ss) = ap₂ (λ x y. x + y) (tries_same classes _ s) (all_tries_same classes _ ss)
 
-pub few_here : (classes : List Class) (m : Method) → m.parameters < length m.slots → refs.locals_of m ≤ 128 → locals_of (locked_method (lowered_method classes m)) ≤ 128
+pub few_here : (classes : List Class) (m : Method) → m.parameters < length m.slots → refs.locals_of m ≤ 128 → locals_of (lowered_method classes m) ≤ 128
 few_here classes m slots few =
     let e = tries_same classes (length m.slots) m.body in
     omega (arith, e, slots, few)
 
 -- where the methods of a file have few locals, so have its lowered methods
-pub few_locals : (file : File) → AllSlotted file.methods → AllFit file.methods → FewLocals (locks file)
+pub few_locals : (file : File) → AllSlotted file.methods → AllFit file.methods → FewLocals (lowered_file file)
 few_locals file slots fit =
-    All-map (λ m. locals_of m ≤ 128) locked_method (lowered_file file)
-    (All-map (λ m. locals_of (locked_method m) ≤ 128) (lowered_method file.classes) file.methods
-    (λ k m below. few_here file.classes (slice_index_or file.methods k m) (slots k m below) (fit k m below)))
+    All-map (λ m. locals_of m ≤ 128) (lowered_method file.classes) file.methods
+    (λ k m below. few_here file.classes (slice_index_or file.methods k m) (slots k m below) (fit k m below))

@@ -1,16 +1,14 @@
 -- The tree without `try` of a typed file in range has code.
-use Rattle.std.proofs.Common.{◌≡◌, ℕ, zero, suc, ◌+◌, ◌*◌, ◌-◌, ◌≤◌, ◌<◌, List, [], ◌∷◌, length, map, Option, Some, refl, ap, lit<, arith}
+use Rattle.std.proofs.Common.{◌≡◌, ℕ, suc, ◌+◌, ◌≤◌, ◌<◌, List, [], ◌∷◌, length, map, Option, Some, refl, ap, lit<, arith}
 use Rattle.std.specs.Prelude.{slice_get}
 use Rattle.ls_events.specs.declared.value.ValueType.{ValueType}
 use Rattle.ls_checked.specs.CheckedTree.{Method, File, Expression, Statement, Block, SetSlot, SetField, SetItem, Evaluate, If, While, Break, Continue, ReturnNothing, ReturnValue, Try, Statements, Done, Then}
 use Rattle.ls_meaning.specs.declared.sort.Sort.{Sort}
-use Rattle.ls_meaning.specs.declared.sort.Sort.TheVariants.{ValueOf}
 use Rattle.ls_refs.specs.Typing.{IsTyped, IsTypedStatement, AreTypedStatements, IsTypedMethod, IsTypedFile}
 use Rattle.ls_refs.specs.Temporaries as refs
 use Rattle.ls_refs.specs.Temporaries.{temporaries, statement_temporaries, block_temporaries}
-use Rattle.ls_refs.specs.Lowered.{lowered, lowered_statement, lowered_block, lowered_method}
+use Rattle.ls_refs.specs.Lowered.{lowered, lowered_statement, lowered_block, lowered_method, lowered_file}
 use Rattle.ls_refs.specs.Refused.{AllFit}
-use Rattle.ls_locks.specs.Locked.{locked, locked_statement, locked_statements, locked_method}
 use Rattle.ls_finally.specs.Flat.{flat_method, flat_file}
 use Rattle.ls_emission.specs.Emittable.{IsEmittable, IsEmittableMethod, AllEmittable, IsEmittableFile}
 use Rattle.ls_soundness.specs.Files.{HasItsClasses}
@@ -18,19 +16,19 @@ use Rattle.ls_ranges.specs.Ranged.{JumpsWithin, AllJumpWithin, IsRanged}
 use Rattle.ls_ranges.proofs.Flattens.{Flattens, AllFlatten}
 use Rattle.ls_ranges.proofs.Lists.{in_range, all_at}
 use Rattle.ls_ranges.proofs.Below.{below}
-use Rattle.ls_ranges.proofs.Calls.{locks, calls}
+use Rattle.ls_ranges.proofs.Calls.{calls}
 use Rattle.ls_ranges.proofs.Emitted.{emitted, field_small}
 use Rattle.ls_ranges.proofs.Flat.{flat_in}
 use Rattle.ls_ranges.proofs.Locals.{few_here}
 
 module _ (file : File) (typed : IsTypedFile file) (its : HasItsClasses file) (ranged : IsRanged file) (slots : List ValueType) (r : Option ValueType) (k : ℕ) where
   has_code : (free : ℕ) (s : Sort) (e : Expression) → length slots ≤ free → free + temporaries e ≤ k → IsTyped file slots s e →
-      IsEmittable (flat_file (locks file)) k (locked (lowered file.classes free e))
+      IsEmittable (flat_file (lowered_file file)) k (lowered file.classes free e)
   has_code free s e fits room h = emitted file typed its ranged slots k free s e h (below file slots k free s e fits room h) (calls file typed slots free s e h)
 
   mutual
     flattens : (free loops : ℕ) (s : Statement) → length slots ≤ free → free + statement_temporaries s ≤ k → IsTypedStatement file slots r s → JumpsWithin loops s →
-        Flattens (flat_file (locks file)) k loops (locked_statement (lowered_statement file.classes free s))
+        Flattens (flat_file (lowered_file file)) k loops (lowered_statement file.classes free s)
     flattens free loops (Block ss) fits room h j = all_flatten free loops ss fits room h j
     flattens free loops (SetSlot n e) fits room h j =
         let there = in_range slots n h.0 h.1 in
@@ -62,16 +60,16 @@ module _ (file : File) (typed : IsTypedFile file) (its : HasItsClasses file) (ra
         (flattens free loops b fits (omega (arith, room)) h.0 j.0, flattens (free + statement_temporaries b) loops f (omega (arith, fits)) (omega (arith, room)) h.1 j.1)
 
     all_flatten : (free loops : ℕ) (ss : Statements) → length slots ≤ free → free + block_temporaries ss ≤ k → AreTypedStatements file slots r ss → AllJumpWithin loops ss →
-        AllFlatten (flat_file (locks file)) k loops (locked_statements (lowered_block file.classes free ss))
+        AllFlatten (flat_file (lowered_file file)) k loops (lowered_block file.classes free ss)
     all_flatten free loops Done fits room h j = tt
     all_flatten free loops (Then s ss) fits room h j =
         (flattens free loops s fits (omega (arith, room)) h.0 j.0, all_flatten (free + statement_temporaries s) loops ss (omega (arith, fits)) (omega (arith, room)) h.1 j.1)
 
 module _ (file : File) (typed : IsTypedFile file) (its : HasItsClasses file) (ranged : IsRanged file) where
   method_emittable : (m : Method) → IsTypedMethod file m → JumpsWithin 0 m.body → refs.locals_of m ≤ 128 →
-      IsEmittableMethod (flat_file (locks file)) (flat_method (locked_method (lowered_method file.classes m)))
+      IsEmittableMethod (flat_file (lowered_file file)) (flat_method (lowered_method file.classes m))
   method_emittable m t j fit =
-      let low = locked_method (lowered_method file.classes m) in
+      let low = lowered_method file.classes m in
       let slots : length m.slots ≡ suc (length t.locals) = ap length t.this in
       let parameters = t.parameters in
       let few = few_here file.classes m (omega (arith, slots, parameters)) fit in
@@ -79,16 +77,16 @@ module _ (file : File) (typed : IsTypedFile file) (its : HasItsClasses file) (ra
       record {
         this = omega arith;
         locals = omega (arith, few);
-        body = flat_in (flat_file (locks file)) whole (low.arguments + low.locals) 0 0 low.body (omega arith)
+        body = flat_in (flat_file (lowered_file file)) whole (low.arguments + low.locals) 0 0 low.body (omega arith)
             (flattens file typed its ranged m.slots m.result whole (length m.slots) 0 m.body (omega arith) (omega (arith, slots, parameters)) t.body j);
       }
 
   all_emittable : (rest : List Method) → ((n : ℕ) (m : Method) → slice_get rest n ≡ Some m → IsTypedMethod file m) →
       ((n : ℕ) (m : Method) → slice_get rest n ≡ Some m → JumpsWithin 0 m.body) → ((n : ℕ) (m : Method) → slice_get rest n ≡ Some m → refs.locals_of m ≤ 128) →
-      AllEmittable (flat_file (locks file)) (map flat_method (map locked_method (map (lowered_method file.classes) rest)))
+      AllEmittable (flat_file (lowered_file file)) (map flat_method (map (lowered_method file.classes) rest))
   all_emittable [] h j f = tt
   all_emittable (m ∷ rest) h j f =
       (method_emittable m (h 0 m refl) (j 0 m refl) (f 0 m refl), all_emittable rest (λ n x e. h (suc n) x e) (λ n x e. j (suc n) x e) (λ n x e. f (suc n) x e))
 
-  pub file_emittable : AllFit file.methods → IsEmittableFile (flat_file (locks file))
+  pub file_emittable : AllFit file.methods → IsEmittableFile (flat_file (lowered_file file))
   file_emittable fit = all_emittable file.methods typed ranged.jumps (λ n m e. all_at (λ m. refs.locals_of m ≤ 128) file.methods fit n m e)

@@ -6,7 +6,6 @@ ghost use Rattle.ls_checked.specs.CheckedTree.{File};
 ghost use Rattle.ls_refs.specs.Typing.{IsTypedFile};
 ghost use Rattle.ls_refs.specs.Lowered.{lowered_file};
 ghost use Rattle.ls_refs.specs.Refused.{AllFit, AllSlotted};
-ghost use Rattle.ls_locks.specs.Locked.{locked_file};
 ghost use Rattle.ls_finally.specs.Placed.{AllPlaced};
 ghost use Rattle.ls_finally.specs.Counts.{FewLocals};
 ghost use Rattle.ls_finally.specs.Flat.{flat_file};
@@ -22,23 +21,23 @@ ghost use Rattle.ls_ranges.specs.Ranged.{IsRanged, IsRangedProgram};
 /// are no regions: so `finally` can be lowered in it.
 #[tactic(auto, using(crate::proofs::Placed::file_placed))]
 pub fn typed_is_placed()
-    ensures { (file : File) → IsTypedFile file → AllPlaced (locked_file (lowered_file file)) (locked_file (lowered_file file)) }
+    ensures { (file : File) → IsTypedFile file → AllPlaced (lowered_file file) (lowered_file file) }
 {}
 
 /// Where no method of a file has too many locals, none of its lowered methods has.
 #[tactic(auto, using(crate::proofs::Locals::few_locals))]
 pub fn fits_lowered()
-    ensures { (file : File) → AllSlotted file.methods → AllFit file.methods → FewLocals (locked_file (lowered_file file)) }
+    ensures { (file : File) → AllSlotted file.methods → AllFit file.methods → FewLocals (lowered_file file) }
 {}
 
 /// The tree without `try` of a typed file in range, where no method has too many locals, has code.
 #[tactic(auto, using(crate::proofs::Ranges::file_emittable))]
 pub fn ranged_is_emittable()
-    ensures { (file : File) → IsTypedFile file → HasItsClasses file → IsRanged file → AllFit file.methods → IsEmittableFile (flat_file (locked_file (lowered_file file))) }
+    ensures { (file : File) → IsTypedFile file → HasItsClasses file → IsRanged file → AllFit file.methods → IsEmittableFile (flat_file (lowered_file file)) }
 {}
 
 /// The units of a typed file in range, where none is too long, and the threads of a typed program in range can be linked:
 /// each place, number and value of them is an operand.
 pub fn ranged_links()
-    ensures { (file : File) (program : Program) → IsRanged file → IsTypedProgram file program → IsRangedProgram program → IsTypedFile file → HasItsClasses file → AllFit file.methods → AllShort (flat_file (locked_file (lowered_file file))) → Links file program (units_of (flat_file (locked_file (lowered_file file)))) }
+    ensures { (file : File) (program : Program) → IsRanged file → IsTypedProgram file program → IsRangedProgram program → IsTypedFile file → HasItsClasses file → AllFit file.methods → AllShort (flat_file (lowered_file file)) → Links file program (units_of (flat_file (lowered_file file))) }
 {}

@@ -6,7 +6,7 @@ use Rattle.ls_events.specs.declared.kind.Kind.{Kind}
 use Rattle.ls_events.specs.declared.action.Action.{Action}
 use Rattle.ls_events.specs.declared.action.Action.TheVariants as act
 use Rattle.ls_events.specs.declared.value.Value.{Value}
-use Rattle.ls_events.specs.declared.value.Value.TheVariants.{Boolean, Reference}
+use Rattle.ls_events.specs.declared.value.Value.TheVariants.{Int, Boolean, Reference, Pair}
 use Rattle.ls_events.specs.declared.value.ValueType.{ValueType}
 use Rattle.ls_events.specs.declared.value.ValueType.TheVariants as types
 use Rattle.ls_checked.specs.declared.tree.Called.TheVariants.{Method as OfMethod, LockIt, UnlockIt, TryIt, AskIt, GetReference, IsMarked, SetBoth, Attempt}
@@ -18,14 +18,14 @@ use Rattle.ls_meaning.specs.Expressions.{Calls, arguments}
 use Rattle.ls_lowered.specs.Words as words
 use Rattle.ls_lowered.specs.LoweredTree as trees
 use Rattle.ls_lowered.specs.Course as low
-use Rattle.ls_lowered.specs.Expressions.{find}
+use Rattle.ls_lowered.specs.Expressions.{find, flag_word}
 use Rattle.ls_refs.specs.ValueWords.{value_word}
 use Rattle.ls_refs.specs.Sorts.{HasType, HasSort}
 use Rattle.ls_refs.specs.Typing.{answer_sort, parameters_of}
 use Rattle.ls_refs.specs.Temporaries.{temporaries}
 use Rattle.ls_refs.specs.Lowered.{lowered, pack}
 use Rattle.ls_refs.proofs.Values.{reference_word, truth_word, packed, half_word, odd_word, pair_has}
-use Rattle.ls_refs.proofs.Sim.{sim_eq, word_ends, Agrees, gets_agrees, then_agrees, flat, ask_agrees, perform_agrees, null_agrees, null_and, Kept}
+use Rattle.ls_refs.proofs.Sim.{sim_eq, word_ends, ends_and, Sim, Agrees, gets_agrees, then_agrees, flat, ask_agrees, perform_agrees, null_agrees, null_and, Kept}
 use Rattle.ls_refs.proofs.Good.{Holds, holds_kept, CallsAgree, Good, Each, all_agree, one_argument}
 
 -- a temporary, after another one was set and later ones were used
@@ -72,10 +72,26 @@ module _ (P : ℕ → ValueType → Type 0) (small : (n : ℕ) (t : ValueType) �
         null_agrees P _ _ base l _ _ _ _ (reference_word P o types.Lock tt ho) (perform_agrees P base l (act.Unlock (reference_of o)) (act.Unlock (value_word o)) (ap act.Unlock (reference_word P o types.Lock tt ho))));
   }
 
+  -- an answer that is a boolean is its own flag
+  flag_is : (v : Value) → HasType P v types.Boolean → flag_word (value_word v) ≡ value_word v
+  flag_is (Boolean true) h = refl
+  flag_is (Boolean false) h = refl
+  flag_is (Int z) h = absurd h
+  flag_is (Reference n) h = absurd h
+  flag_is (Pair n m) h = absurd h
+
+  flag_agrees : (base : ℕ) (old : List ℕ) (x : Answers → Evaluated Value) (x' : low.Answers → low.Course (low.Outcome ℕ)) → Agrees P (HasSort P (ValueOf types.Boolean)) value_word base old x x' →
+      Agrees P (HasSort P (ValueOf types.Boolean)) value_word base old x (λ q. low.and_then (x' q) (λ w l r. low.Ends (low.Results (flag_word w)) l r))
+  flag_agrees base old x x' a = record {
+    sim = λ go h go' h' kg kh.
+        sim_eq P _ _ _ _ (λ q. refl) (λ q. ends_and (x' q) (λ w l r. low.Ends (low.Results (flag_word w)) l r) go' h')
+        (a.sim go h (λ w l r. go' (flag_word w) l r) h' (λ v l hv k. subst (λ w. Sim P (go v) (go' w l)) (sym (flag_is v hv)) (kg v l hv k)) kh);
+  }
+
   pub try_agrees : (e : Expression) → Good P file calls calls' slots (ValueOf types.Lock) e → Good P file calls calls' slots (ValueOf types.Boolean) (Call e TryIt End)
   try_agrees e a = record {
     good = λ base ls old h le room. then_agrees P _ _ _ _ base (base + 0) base old _ _ _ _ (omega arith) (omega arith) (a.good (base + 0) ls old h (omega arith) (omega arith)) (λ o l ho k.
-        null_agrees P _ _ base l _ _ _ _ (reference_word P o types.Lock tt ho) (ask_agrees P base l (act.TryLock (reference_of o)) (ValueOf types.Boolean) (act.TryLock (value_word o)) (ap act.TryLock (reference_word P o types.Lock tt ho))));
+        null_agrees P _ _ base l _ _ _ _ (reference_word P o types.Lock tt ho) (flag_agrees base l _ _ (ask_agrees P base l (act.TryLock (reference_of o)) (ValueOf types.Boolean) (act.TryLock (value_word o)) (ap act.TryLock (reference_word P o types.Lock tt ho)))));
   }
 
   pub held_agrees : (e : Expression) → Good P file calls calls' slots (ValueOf types.Lock) e → Good P file calls calls' slots (ValueOf types.Boolean) (Call e AskIt End)

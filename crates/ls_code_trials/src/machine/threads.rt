@@ -52,32 +52,34 @@ fn image(alloc: Global) -> Result<Code, Fail> {
 fn waits_and_goes_on(rt: HostRuntime) -> Result<(), Fail> {
     let code = image(rt.alloc())?;
     let mut machine = Machine::load(rt.alloc(), &code, 8)?;
-    assert_eq!(rt; machine.state_of(1), ThreadState::NotStarted);
-    assert_eq!(rt; machine.step(1), Did::Idle);
+    assert!(rt; matches!(machine.state_of(1), ThreadState::NotStarted));
+    assert!(rt; matches!(machine.step(1), Did::Idle));
     for _ in 0..3 {
         let _ = machine.step(0);
     }
-    assert_eq!(rt; machine.state_of(0), ThreadState::Ended);
-    assert_eq!(rt; machine.step(0), Did::Idle);
-    assert_eq!(rt; machine.step(3), Did::Idle);
+    assert!(rt; matches!(machine.state_of(0), ThreadState::Ended));
+    assert!(rt; matches!(machine.step(0), Did::Idle));
+    assert!(rt; matches!(machine.step(3), Did::Idle));
     for _ in 0..3 {
         let _ = machine.step(1);
     }
     for _ in 0..2 {
         let _ = machine.step(2);
     }
-    assert_eq!(rt; machine.step(2), Did::Waits);
-    assert_eq!(rt;
-        machine.step(1),
-        Did::Acted(Action::New(0), Answer::Gives(3))
+    assert!(rt; matches!(machine.step(2), Did::Waits));
+    assert!(rt;
+        matches!(
+            machine.step(1),
+            Did::Acted(Action::New(0), Answer::Gives(3))
+        )
     );
-    assert_eq!(rt; machine.step(1), Did::Silent);
+    assert!(rt; matches!(machine.step(1), Did::Silent));
     for _ in 0..4 {
         let _ = machine.step(1);
     }
-    assert_eq!(rt; machine.state_of(1), ThreadState::Ended);
-    assert_eq!(rt; machine.step(2), Did::Acted(Action::Lock(2), Answer::Done));
-    assert_eq!(rt; machine.state_of(2), ThreadState::Running);
+    assert!(rt; matches!(machine.state_of(1), ThreadState::Ended));
+    assert!(rt; matches!(machine.step(2), Did::Acted(Action::Lock(2), Answer::Done)));
+    assert!(rt; matches!(machine.state_of(2), ThreadState::Running));
     Ok(())
 }
 
@@ -89,17 +91,17 @@ fn stops_whole(rt: HostRuntime) -> Result<(), Fail> {
     for thread in [0, 0, 0, 1, 1, 1, 1, 1, 1, 1, 2, 2, 2] {
         let _ = machine.step(thread);
     }
-    assert_eq!(rt; machine.step(2), Did::Stopped);
-    assert_eq!(rt; machine.step(1), Did::Stopped);
-    assert_eq!(rt; machine.step(3), Did::Idle);
-    assert_eq!(rt; machine.state_of(0), ThreadState::Stopped);
-    assert_eq!(rt; machine.state_of(3), ThreadState::Ended);
+    assert!(rt; matches!(machine.step(2), Did::Stopped));
+    assert!(rt; matches!(machine.step(1), Did::Stopped));
+    assert!(rt; matches!(machine.step(3), Did::Idle));
+    assert!(rt; matches!(machine.state_of(0), ThreadState::Stopped));
+    assert!(rt; matches!(machine.state_of(3), ThreadState::Ended));
     let called = |thread| Event {
         thread,
         call: 1,
         happening: Happening::Called,
     };
-    assert_eq!(rt; machine.history(), [called(1), called(2)].as_slice());
+    assert!(rt; machine.history() == [called(1), called(2)].as_slice());
     Ok(())
 }
 

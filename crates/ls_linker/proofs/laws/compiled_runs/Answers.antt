@@ -1,0 +1,25 @@
+use Rattle.std.proofs.Common.{refl}
+use Rattle.ls_emission.specs.Units.{units_of}
+use Rattle.ls_linking.specs.Linked.{words_of, threads_code, threads_rows}
+use Rattle.ls_linking.proofs.Threads.{threads_from}
+use Rattle.ls_linking.proofs.Units.{lie_in}
+use Rattle.ls_linker.specs.Compiled.{flat_of, code_of}
+use Rattle.ls_linker.proofs.Composed.{lowered_asks}
+use Rattle.ls_linker.proofs.laws.compiled_runs.Goals as goal
+
+pub returns : goal.returns
+returns c = λ file program typed classes constants typed_program program_constants placed emittable short.
+    let flat = flat_of file in
+    let words = words_of (units_of flat) in
+    let asks = c.linked_asks.ensures file program flat (lowered_asks file typed (c.suited_in_call.ensures file typed) c.keeps_courses.ensures placed) emittable (c.units_ask.ensures flat emittable) typed_program in
+    let sound = c.is_sound.ensures file program typed classes typed_program in
+    let lies = lie_in (code_of file program) flat (threads_code file.classes program.threads) (threads_rows file.classes words program.threads) (threads_from file.classes program.threads words) refl refl refl in
+    record {
+      same = c.same_traces.ensures file program (code_of file program) asks constants program_constants sound;
+      asks = asks;
+      ends = c.ends_in_time.ensures file program (code_of file program) asks constants program_constants sound;
+      frames = c.frames_are_quick.ensures flat emittable (code_of file program) words lies;
+      threads = c.threads_are_quick.ensures file program flat;
+      short = short;
+      lean = c.sizes.ensures.code file program flat;
+    }
