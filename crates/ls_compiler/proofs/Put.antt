@@ -12,25 +12,25 @@ use Rattle.ls_elaboration.specs.PlacedStatements.{placed_file}
 use Rattle.ls_types.specs.CheckedFile.{outcome_of}
 use Rattle.ls_types.specs.ThreadPrograms.{program_of}
 use Rattle.ls_types.specs.declared.check.Checked.{Checked}
-use Rattle.ls_headline.specs.Same.{Same}
 use Rattle.ls_linker.specs.Limits.{KeepsLimits}
+use Rattle.ls_linker.specs.Runs.{Runs}
 use Rattle.ls_compiler.specs.Images.{Compiles, IsWithinLimits, checked_of, program_of_image, code_of_image}
 use Rattle.ls_compiler.specs.declared.image.Image.{Image}
 
 pub compiled : (classes text : Text) (parsed : ClassFile) (checked : Checked) (program : Program) (code : Code) (image : Image) →
     checked_of image ≡ checked → program_of_image image ≡ program → code_of_image image ≡ code →
     TextSpells (bare_file parsed) classes → elaborated (placed_file parsed) ≡ Ok (outcome_of checked) →
-    program_of (outcome_of checked) text ≡ Some (plain_program program) → Same (outcome_of checked).file (plain_program program) code →
+    program_of (outcome_of checked) text ≡ Some (plain_program program) → Runs (outcome_of checked).file (plain_program program) code →
     Compiles classes text image
-compiled classes text parsed checked program code image c p d spelled elaborates reads same = record {
+compiled classes text parsed checked program code image c p d spelled elaborates reads runs = record {
   parsed = parsed;
   spelled = spelled;
   elaborates = subst (λ x. elaborated (placed_file parsed) ≡ Ok (outcome_of x)) (sym c) elaborates;
   reads = subst (λ x. program_of (outcome_of x) text ≡ Some (plain_program (program_of_image image))) (sym c)
       (subst (λ y. program_of (outcome_of checked) text ≡ Some (plain_program y)) (sym p) reads);
-  same = subst (λ x. Same (outcome_of x).file (plain_program (program_of_image image)) (code_of_image image)) (sym c)
-      (subst (λ y. Same (outcome_of checked).file (plain_program y) (code_of_image image)) (sym p)
-      (subst (λ z. Same (outcome_of checked).file (plain_program program) z) (sym d) same));
+  runs = subst (λ x. Runs (outcome_of x).file (plain_program (program_of_image image)) (code_of_image image)) (sym c)
+      (subst (λ y. Runs (outcome_of checked).file (plain_program y) (code_of_image image)) (sym p)
+      (subst (λ z. Runs (outcome_of checked).file (plain_program program) z) (sym d) runs));
 }
 
 pub limited : (checked : Checked) (program : Program) (image : Image) → checked_of image ≡ checked → program_of_image image ≡ program →

@@ -19,8 +19,8 @@ use Rattle.ls_types.specs.ThreadPrograms.{program_of}
 use Rattle.ls_types.specs.declared.check.Checked.{Checked}
 use Rattle.ls_types.specs.declared.check.CheckFault.{CheckFault}
 use Rattle.ls_types.specs.declared.fault.ProgramFault.{ProgramFault}
-use Rattle.ls_headline.specs.Same.{Same}
 use Rattle.ls_linker.specs.Limits.{KeepsLimits, GoesPast}
+use Rattle.ls_linker.specs.Runs.{Runs}
 use Rattle.ls_linker.specs.declared.fault.BuildFault.{BuildFault}
 use Rattle.ls_compiler.specs.declared.fault.CompileFault.{CompileFault}
 use Rattle.ls_compiler.specs.declared.fault.CompileFault.TheVariants as faults
@@ -35,15 +35,17 @@ program_of_image i = i.program
 abbrev pub code_of_image : Image → Code
 code_of_image i = i.code
 
--- The class text spells a file that keeps every rule, the program text is a program of that file, and the code is the
--- same as the two: for each number of cells, each schedule of instructions has a schedule of source steps with the same
--- trace and history, and each schedule of source steps that fits has a schedule of instructions.
+-- an image's code runs as its file and its program: it has the same histories, both ways, and no thread of it is silent for too long
+abbrev pub RunsAsItsTexts : Image → Type 0
+RunsAsItsTexts image = Runs (outcome_of (checked_of image)).file (plain_program (program_of_image image)) (code_of_image image)
+
+-- the class text spells a file that keeps every rule, the program text is a program of that file, and the code runs as the two
 pub record Compiles (classes program : Text) (image : Image) : Type 0 where
   pub parsed : ClassFile
   pub spelled : TextSpells (bare_file parsed) classes
   pub elaborates : elaborated (placed_file parsed) ≡ Ok (outcome_of (checked_of image))
   pub reads : program_of (outcome_of (checked_of image)) program ≡ Some (plain_program (program_of_image image))
-  pub same : Same (outcome_of (checked_of image)).file (plain_program (program_of_image image)) (code_of_image image)
+  pub runs : RunsAsItsTexts image
 
 -- an image keeps each limit of the code
 abbrev pub IsWithinLimits : Image → Type 0

@@ -1,23 +1,29 @@
 // Images.
 
 ghost use Rattle.std.specs.Prelude.{◌≡◌};
+ghost use Rattle.ls_checked.specs.PlainProgram.{plain_program};
+ghost use Rattle.ls_linker.specs.Runs.{Runs};
+ghost use Rattle.ls_types.specs.CheckedFile.{outcome_of};
 
 use ls_checked::program::Program;
 use ls_code::code::Code;
 use ls_types::check::Checked;
 
-/// The code of a class text and a program text, with the checked file and the program that they are.
+/// The code of a class text and a program text, with the checked file and the program that they are. The code runs as the two:
+/// `laws` has what that says to whoever holds an image.
 #[derive(Drop)]
 pub struct Image {
     checked: Checked,
     program: Program,
     code: Code,
+    pub ghost kept: { ∥ Runs (outcome_of checked).file (plain_program program) code ∥₁ },
 }
 
 impl Image {
     ghost use Rattle.ls_compiler.specs.Images.{checked_of, program_of_image, code_of_image};
 
     pub(crate) fn new(checked: Checked, program: Program, code: Code) -> Image
+        requires { Runs (outcome_of checked).file (plain_program program) code }
         ensures checked { checked_of result ≡ checked }
         ensures program { program_of_image result ≡ program }
         ensures code { code_of_image result ≡ code }

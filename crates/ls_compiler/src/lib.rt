@@ -4,3 +4,4 @@
 pub mod compile;
 pub mod fault;
 pub mod image;
+pub mod laws;

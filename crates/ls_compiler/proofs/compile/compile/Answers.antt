@@ -9,7 +9,7 @@ use Rattle.ls_refs.specs.Typing.{IsTypedFile}
 use Rattle.ls_ranges.specs.Ranged.{IsRanged}
 use Rattle.ls_soundness.specs.Files.{HasItsClasses}
 use Rattle.ls_soundness.specs.Programs.{IsTypedProgram}
-use Rattle.ls_headline.specs.Same.{Same}
+use Rattle.ls_linker.specs.Runs.{Runs}
 use Rattle.std.proofs.lemmas.Result.{err_from_is_err_and}
 use Rattle.ls_linker.specs.Limits.{KeepsLimits, GoesPast}
 use Rattle.ls_compiler.specs.Images.{Compiled, NoFile, Breaks, NoProgram, PastLimit}
@@ -57,11 +57,14 @@ build-requires-clause-program_constants c =
     let p = plain_program c.in_ok-program.program in
     c.has_constants.ensures.of_program o.file p (c.reads_typed.ensures (placed_file c.in_ok-parsed.parsed) o c.args.program.now p c.in_ok-checked.ensures.checked c.in_ok-program.ensures.read)
 
+pub new-requires : goal.new-requires
+new-requires c = subst (λ x. Runs (plain_file x) (plain_program c.in_ok-program.program) c.in_ok-code.code) c.file.ensures c.in_ok-code.ensures.runs
+
 pub returns-clause-compiled : goal.returns-clause-compiled
 returns-clause-compiled c =
-    let same = subst (λ x. Same (plain_file x) (plain_program c.in_ok-program.program) c.in_ok-code.code) c.file.ensures c.in_ok-code.ensures.same in
     compiled c.args.classes.now c.args.program.now c.in_ok-parsed.parsed c.in_ok-checked.checked c.in_ok-program.program c.in_ok-code.code c.new.result
-    c.new.ensures.checked c.new.ensures.program c.new.ensures.code c.in_ok-parsed.ensures.found c.in_ok-checked.ensures.checked c.in_ok-program.ensures.read same
+    c.new.ensures.checked c.new.ensures.program c.new.ensures.code c.in_ok-parsed.ensures.found c.in_ok-checked.ensures.checked c.in_ok-program.ensures.read
+    (subst (λ x. Runs (plain_file x) (plain_program c.in_ok-program.program) c.in_ok-code.code) c.file.ensures c.in_ok-code.ensures.runs)
 
 pub returns-clause-within : goal.returns-clause-within
 returns-clause-within c =
