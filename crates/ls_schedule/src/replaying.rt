@@ -1,12 +1,13 @@
 // Replaying a schedule on the machine.
 
 ghost use Rattle.std.specs.Prelude.{◌≡◌, ◌↔◌, IfOk, IsErrOf};
-ghost use Rattle.ls_compiler.specs.Images.{code_of_image};
+ghost use Rattle.ls_compiler.specs.Images.{RunsAsItsTexts, code_of_image};
 ghost use Rattle.ls_code.specs.Machine.{Machine as MachineValue, machine_run};
 ghost use Rattle.ls_machine.specs.Room.{AreBadCells};
 ghost use Rattle.ls_schedule.specs.Records.{IsRecordOf};
 
 use ls_compiler::image::Image;
+use ls_compiler::laws::runs;
 use ls_events::event::Event;
 use ls_events::schedule::Schedule;
 use ls_machine::{LoadFault, Machine};
@@ -63,7 +64,8 @@ fn recorded(alloc: Global, machine: Machine, schedule: Schedule) -> Result<Recor
     Ok(Record { schedule, history })
 }
 
-/// The record of a schedule of instructions on a machine with so many cells: the schedule, and the machine's history of it.
+/// The record of a schedule of instructions on a machine with so many cells: the schedule, and the machine's history of it. The
+/// image runs as its texts, whoever compiled it, so the history is one of the Java text.
 /// Refused with 35 where there are no cells, more than 1,048,576, or fewer than setup names.
 pub fn replay(
     alloc: Global,
@@ -73,7 +75,9 @@ pub fn replay(
 ) -> Result<Record, LoadFault>
     ensures bad { IsErrOf result LoadFault.BadCells ↔ AreBadCells (code_of_image image.now).names cells }
     ensures record { IfOk result (IsRecordOf (code_of_image image.now) cells schedule.now) }
+    ensures image { ∥ RunsAsItsTexts image.now ∥₁ }
 {
+    runs(image);
     let machine = Machine::load(alloc, image.code(), cells)?;
     let schedule = copied(alloc, schedule)?;
     Ok(recorded(alloc, machine, schedule)?)
