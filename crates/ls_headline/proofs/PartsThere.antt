@@ -33,14 +33,14 @@ and_both false b e = cc
 
 module _ (p : Code) (n : ℕ) (y : Thread) (a : ℕ) (rest : List ℕ) (top : y.top.operands ≡ a ∷ rest) where
   -- SEE
-  see_move : (x : ℕ) → slice_get p.instructions y.top.counter ≡ Some (op.See x) → thread_move p y ≡ Plans (λ n. see_at p y n x (top_one y.top.operands))
+  pub see_move : (x : ℕ) → slice_get p.instructions y.top.counter ≡ Some (op.See x) → thread_move p y ≡ Plans (λ n. see_at p y n x (top_one y.top.operands))
   see_move x e = ap (fetched_move p y) e
 
   -- TAKE and DROP, with the word that was seen
-  take_move : (x : ℕ) (w : ℕ) → slice_get p.instructions (y.top.counter + 1) ≡ Some (op.Take x) → thread_move p (seen y w) ≡ Plans (λ n. take_at p (seen y w) n x (top_two (w ∷ y.top.operands)))
+  pub take_move : (x : ℕ) (w : ℕ) → slice_get p.instructions (y.top.counter + 1) ≡ Some (op.Take x) → thread_move p (seen y w) ≡ Plans (λ n. take_at p (seen y w) n x (top_two (w ∷ y.top.operands)))
   take_move x w e = ap (fetched_move p (seen y w)) e
 
-  take_plan : (x w : ℕ) (o : Action ℕ) (k : Taken) → taking_action x a ≡ Some o → taken_of w n ≡ k → take_at p (seen y w) n x (top_two (w ∷ y.top.operands)) ≡ take_from p (seen y w) x o a w k
+  pub take_plan : (x w : ℕ) (o : Action ℕ) (k : Taken) → taking_action x a ≡ Some o → taken_of w n ≡ k → take_at p (seen y w) n x (top_two (w ∷ y.top.operands)) ≡ take_from p (seen y w) x o a w k
   take_plan x w o k eo ek =
       ap (λ l. take_at p (seen y w) n x (top_two (w ∷ l))) top ∙ ap (take_named p (seen y w) n x a w) eo ∙ ap (take_from p (seen y w) x o a w) ek
 
@@ -121,6 +121,20 @@ both_not Still h g = g
 both_not (Asks a go) h g = g
 both_not (Plans go) h g = h
 
+-- where an operation begins: the lock's address on top, SEE with this operand, what it does, and the instructions behind it
+pub record Begins (p : Code) (n : ℕ) (y : Thread) (x a : ℕ) (o : Action ℕ) (shape : Bool) : Type 0 where
+  pub rest : List ℕ
+  pub top : y.top.operands ≡ a ∷ rest
+  pub see : slice_get p.instructions y.top.counter ≡ Some (op.See x)
+  pub plan : see_at p y n x (top_one y.top.operands) ≡ Touches o (act.ReadPair a) (saw p y n x a)
+  pub shaped : shape ≡ true
+
+abbrev pub Beginning : Code → ℕ → Thread → Action ℕ → (Answer ℕ → Option Thread) → Type 0
+Beginning p n y (act.Lock a) go = Begins p n y 1 a (act.Lock a) (is_locking p y.top.counter) × (go ≡ after_lock p n y)
+Beginning p n y (act.TryLock a) go = Begins p n y 2 a (act.TryLock a) (is_trying p y.top.counter) × (go ≡ after_try p n y)
+Beginning p n y (act.Unlock a) go = Begins p n y 3 a (act.Unlock a) (is_unlocking p y.top.counter) × (go ≡ after_unlock p y)
+Beginning p n y _ go = ⊥
+
 silent_not : (o : Option Thread) (b : Action ℕ) (go : Answer ℕ → Option Thread) → silent_or_still o ≡ Asks b go → ⊥
 silent_not None b go e = cc
 silent_not (Some t) b go e = cc
@@ -128,20 +142,20 @@ silent_not (Some t) b go e = cc
 module _ (p : Code) (n : ℕ) (y : Thread) (b : Action ℕ) (go : Answer ℕ → Option Thread) where
   -- what a move owes
   abbrev PartsOf : Move → Type 0
-  PartsOf (Asks a g) = Parts p n y a g
+  PartsOf (Asks a g) = Beginning p n y a g
   PartsOf (Silent t) = Unit {0}
   PartsOf Still = Unit {0}
   PartsOf (Plans g) = Unit {0}
 
-  from_lock : (a : ℕ) (t : Bool) → (t ≡ true → LockParts p n y a) → PartsOf (if t then Asks (act.Lock a) (after_lock p n y) else Still)
+  from_lock : (a : ℕ) (t : Bool) → (t ≡ true → Begins p n y 1 a (act.Lock a) (is_locking p y.top.counter)) → PartsOf (if t then Asks (act.Lock a) (after_lock p n y) else Still)
   from_lock a true f = (f refl, refl)
   from_lock a false f = tt
 
-  from_try : (a : ℕ) (t : Bool) → (t ≡ true → TryParts p n y a) → PartsOf (if t then Asks (act.TryLock a) (after_try p n y) else Still)
+  from_try : (a : ℕ) (t : Bool) → (t ≡ true → Begins p n y 2 a (act.TryLock a) (is_trying p y.top.counter)) → PartsOf (if t then Asks (act.TryLock a) (after_try p n y) else Still)
   from_try a true f = (f refl, refl)
   from_try a false f = tt
 
-  from_unlock : (a : ℕ) (t : Bool) → (t ≡ true → UnlockParts p n y a) → PartsOf (if t then Asks (act.Unlock a) (after_unlock p y) else Still)
+  from_unlock : (a : ℕ) (t : Bool) → (t ≡ true → Begins p n y 3 a (act.Unlock a) (is_unlocking p y.top.counter)) → PartsOf (if t then Asks (act.Unlock a) (after_unlock p y) else Still)
   from_unlock a true f = (f refl, refl)
   from_unlock a false f = tt
 
@@ -168,7 +182,7 @@ module _ (p : Code) (n : ℕ) (y : Thread) (b : Action ℕ) (go : Answer ℕ →
         subst (λ o. PartsOf (planned_move p n y (see_named p y n x a o))) (sym eo)
         (subst (λ z. PartsOf (planned_move p n y (see_named p y n z a (Some (act.Lock a))))) (sym is)
         (guarded 1 a (act.Lock a) (a == 0) (nat_lt (length y.top.operands) y.top.need) refl
-        (λ e. from_lock a (is_locking p y.top.counter) (λ shape. lock_parts p n y a rest top see' (plan_at 1 (act.Lock a) refl e) shape))))
+        (λ e. from_lock a (is_locking p y.top.counter) (λ shape. record { rest = rest; top = top; see = see'; plan = plan_at 1 (act.Lock a) refl e; shaped = shape }))))
     by_operand x false true b3 e1 e2 e3 see =
         let is : x ≡ 2 = grind (arith, nat_tests) in
         let eo : seeing_action x a ≡ Some (act.TryLock a) = ap (λ z. if z then Some (act.Lock a) else (if x == 2 then Some (act.TryLock a) else (if x == 3 then Some (act.Unlock a) else None))) e1 ∙ ap (λ z. if z then Some (act.TryLock a) else (if x == 3 then Some (act.Unlock a) else None)) e2 in
@@ -176,7 +190,7 @@ module _ (p : Code) (n : ℕ) (y : Thread) (b : Action ℕ) (go : Answer ℕ →
         subst (λ o. PartsOf (planned_move p n y (see_named p y n x a o))) (sym eo)
         (subst (λ z. PartsOf (planned_move p n y (see_named p y n z a (Some (act.TryLock a))))) (sym is)
         (guarded 2 a (act.TryLock a) (a == 0) (nat_lt (length y.top.operands) y.top.need) refl
-        (λ e. from_try a (is_trying p y.top.counter) (λ shape. try_parts p n y a rest top see' (plan_at 2 (act.TryLock a) refl e) shape))))
+        (λ e. from_try a (is_trying p y.top.counter) (λ shape. record { rest = rest; top = top; see = see'; plan = plan_at 2 (act.TryLock a) refl e; shaped = shape }))))
     by_operand x false false true e1 e2 e3 see =
         let is : x ≡ 3 = grind (arith, nat_tests) in
         let eo : seeing_action x a ≡ Some (act.Unlock a) = ap (λ z. if z then Some (act.Lock a) else (if x == 2 then Some (act.TryLock a) else (if x == 3 then Some (act.Unlock a) else None))) e1 ∙ ap (λ z. if z then Some (act.TryLock a) else (if x == 3 then Some (act.Unlock a) else None)) e2 ∙ ap (λ z. if z then Some (act.Unlock a) else None) e3 in
@@ -184,7 +198,7 @@ module _ (p : Code) (n : ℕ) (y : Thread) (b : Action ℕ) (go : Answer ℕ →
         subst (λ o. PartsOf (planned_move p n y (see_named p y n x a o))) (sym eo)
         (subst (λ z. PartsOf (planned_move p n y (see_named p y n z a (Some (act.Unlock a))))) (sym is)
         (guarded 3 a (act.Unlock a) (a == 0) (nat_lt (length y.top.operands) y.top.need) refl
-        (λ e. from_unlock a (is_unlocking p y.top.counter) (λ shape. unlock_parts p n y a rest top see' (plan_at 3 (act.Unlock a) refl e) shape))))
+        (λ e. from_unlock a (is_unlocking p y.top.counter) (λ shape. record { rest = rest; top = top; see = see'; plan = plan_at 3 (act.Unlock a) refl e; shaped = shape }))))
     by_operand x false false false e1 e2 e3 see =
         let eo : seeing_action x a ≡ None = ap (λ z. if z then Some (act.Lock a) else (if x == 2 then Some (act.TryLock a) else (if x == 3 then Some (act.Unlock a) else None))) e1 ∙ ap (λ z. if z then Some (act.TryLock a) else (if x == 3 then Some (act.Unlock a) else None)) e2 ∙ ap (λ z. if z then Some (act.Unlock a) else None) e3 in
         subst (λ o. PartsOf (planned_move p n y (see_named p y n x a o))) (sym eo) tt
@@ -226,8 +240,33 @@ module _ (p : Code) (n : ℕ) (y : Thread) (b : Action ℕ) (go : Answer ℕ →
   fetched None e h = absurd h
   fetched (Some i) e h = by_word i e h (word_of i)
 
-  pub there : IsPlanned (thread_move p y) → whole_move p n y ≡ Asks b go → Parts p n y b go
+  pub there : IsPlanned (thread_move p y) → whole_move p n y ≡ Asks b go → Beginning p n y b go
   there h e = subst PartsOf e (fetched (slice_get p.instructions y.top.counter) refl h)
 
+parts_of : (p : Code) (n : ℕ) (y : Thread) (b : Action ℕ) (go : Answer ℕ → Option Thread) → Beginning p n y b go → Parts p n y b go
+parts_of p n y (act.Lock a) go s = let b = s.0 in (lock_parts p n y a b.rest b.top b.see b.plan b.shaped, s.1)
+parts_of p n y (act.TryLock a) go s = let b = s.0 in (try_parts p n y a b.rest b.top b.see b.plan b.shaped, s.1)
+parts_of p n y (act.Unlock a) go s = let b = s.0 in (unlock_parts p n y a b.rest b.top b.see b.plan b.shaped, s.1)
+parts_of p n y (act.ReadField o i) go s = absurd s
+parts_of p n y (act.WriteField o i v) go s = absurd s
+parts_of p n y (act.ReadItem o i) go s = absurd s
+parts_of p n y (act.WriteItem o i v) go s = absurd s
+parts_of p n y (act.ReadName o) go s = absurd s
+parts_of p n y (act.WriteName o v) go s = absurd s
+parts_of p n y (act.New o) go s = absurd s
+parts_of p n y act.NewLock go s = absurd s
+parts_of p n y (act.NewMarkable v) go s = absurd s
+parts_of p n y (act.NewArray o) go s = absurd s
+parts_of p n y (act.IsHeld o) go s = absurd s
+parts_of p n y (act.ReadPair o) go s = absurd s
+parts_of p n y (act.SetPair o v) go s = absurd s
+parts_of p n y (act.SwapPair o v w) go s = absurd s
+parts_of p n y (act.AttemptMark o r m) go s = absurd s
+parts_of p n y act.Turn go s = absurd s
+parts_of p n y (act.Enter o) go s = absurd s
+parts_of p n y (act.Call o) go s = absurd s
+parts_of p n y (act.Return o v) go s = absurd s
+parts_of p n y (act.Trap o v) go s = absurd s
+
 pub parts_are_there : PartsAreThere
-parts_are_there p n y b go h e = there p n y b go h e
+parts_are_there p n y b go h e = parts_of p n y b go (there p n y b go h e)
