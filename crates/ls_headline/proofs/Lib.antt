@@ -26,3 +26,7 @@ pub mod Determined
 pub mod Example
 pub mod ExampleSound
 pub mod Shorter
+mod Exchanging
+mod OwnParts
+mod Meets
+mod FedByWords

@@ -12,6 +12,7 @@ ghost use Rattle.ls_headline.specs.InWords.{written, ArePlaces};
 ghost use Rattle.ls_headline.specs.Sorts.{HasSortBy, Refers};
 ghost use Rattle.ls_headline.specs.Threads.{Asks, IsSound};
 ghost use Rattle.ls_headline.specs.Same.{Fits, Same};
+ghost use Rattle.ls_headline.specs.ByWords.{FedByWords};
 ghost use Rattle.ls_headline.specs.Example;
 ghost use Rattle.ls_headline.specs.Rows;
 
@@ -26,6 +27,13 @@ pub fn same_traces()
 {
     next_renames();
 }
+
+/// A thread that takes locks by load and exchange, fed by its own instructions with the words that it sees and the
+/// outcomes of its exchanges, asks and ends as it is read to after the answers that these come to.
+#[tactic(auto, using(crate::proofs::FedByWords::fed_by_words))]
+pub fn fed_by_words()
+    ensures { FedByWords }
+{}
 
 /// The word of a value of a known sort determines it, so a trace in words says what the source's trace says.
 pub fn words_determine()
