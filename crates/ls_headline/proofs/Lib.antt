@@ -30,3 +30,4 @@ mod Exchanging
 mod OwnParts
 mod Meets
 mod FedByWords
+mod AskedByWords

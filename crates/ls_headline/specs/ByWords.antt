@@ -1,13 +1,18 @@
 -- The words of locks and the outcomes of exchanges that a thread of the image is fed with by its own instructions, and the
 -- answers of its operations that they come to.
-use Rattle.std.specs.Prelude.{◌≡◌, ◌≢◌, ℕ, ◌≤◌, List, [], ◌∷◌, Option, Some, None, Bool, true, false, ◌==◌, if◌then◌else◌}
+use Rattle.std.specs.Prelude.{◌≡◌, ◌≢◌, ℕ, ◌≤◌, List, [], ◌∷◌, map, Option, Some, None, Bool, true, false, ◌==◌, if◌then◌else◌, slice_get}
 use Rattle.std.specs.List.{All}
 use Rattle.ls_events.specs.declared.kind.Kind.TheVariants.{IllegalMonitorState, Error}
 use Rattle.ls_events.specs.declared.action.Action.{Action}
 use Rattle.ls_events.specs.declared.action.Action.TheVariants as act
 use Rattle.ls_events.specs.declared.action.Answer.{Answer}
 use Rattle.ls_events.specs.declared.action.Answer.TheVariants.{Done, Gives, Fails}
-use Rattle.ls_code.specs.Code.{Code}
+use Rattle.ls_checked.specs.CheckedTree.{File}
+use Rattle.ls_checked.specs.CheckedProgram.{Program}
+use Rattle.ls_meaning.specs.Course.{Answers}
+use Rattle.ls_meaning.specs.Threads.{next}
+use Rattle.ls_code.specs.Code.{Code, Start}
+use Rattle.ls_code.specs.Machine.{started}
 use Rattle.ls_code.specs.Thread.{Thread}
 use Rattle.ls_code.specs.Locks.{taken_of, is_own}
 use Rattle.ls_code.specs.Fed.{Pause, Paused, Passes, IsOver, IsStuck, TooLong, Lost}
@@ -17,6 +22,10 @@ use Rattle.ls_code.specs.declared.instruction.Instruction.{Instruction}
 use Rattle.ls_code.specs.declared.instruction.Instruction.TheVariants as op
 use Rattle.ls_code.specs.declared.lock_word.Taken.{Taken}
 use Rattle.ls_code.specs.declared.lock_word.Taken.TheVariants as taken
+use Rattle.ls_headline.specs.InWords.{word_of, map_answer}
+use Rattle.ls_headline.specs.Sorts.{InKind}
+use Rattle.ls_headline.specs.Threads.{told}
+use Rattle.ls_headline.specs.Translations.{most_silent}
 
 -- an instruction that isn't a whole operation on a lock
 abbrev pub IsExchanged : Instruction → Type 0
@@ -107,3 +116,10 @@ FedByWords =
     (p : Code) (n bound k : ℕ) (t : Thread) (words answers : List (Answer ℕ)) → All IsExchanged p.instructions → 2 ≤ bound →
     come_to p n bound words (Waits (quiet p n k t)) ≡ Some answers → fed p n bound k t answers ≢ Lost →
     own.fed p n bound k t words ≡ fed p n bound k t answers
+
+-- fed with words and outcomes that come to answers in kind, a thread asks by its own instructions what the source asks next
+abbrev pub AsksByWords : File → Program → Code → Type 0
+AsksByWords file program code =
+    (t : ℕ) (s : Start) (had : Answers) (words : List (Answer ℕ)) → slice_get code.starts t ≡ Some s → InKind file program t had →
+    come_to code t (most_silent code) words (Waits (quiet code t (most_silent code) (started s))) ≡ Some (map (map_answer word_of) had) →
+    own.fed code t (most_silent code) (most_silent code) (started s) words ≡ told (next file program t had)

@@ -1,6 +1,6 @@
 // The laws, each as the contract of a function that computes nothing.
 
-ghost use Rattle.std.specs.Prelude.{◌≡◌, ℕ, ◌++◌, List, length};
+ghost use Rattle.std.specs.Prelude.{◌≡◌, ℕ, ◌++◌, List, length, All};
 ghost use Rattle.ls_events.specs.declared.value.Value.{Value};
 ghost use Rattle.ls_events.specs.declared.value.ValueType.{ValueType};
 ghost use Rattle.ls_checked.specs.CheckedTree.{File};
@@ -12,7 +12,7 @@ ghost use Rattle.ls_headline.specs.InWords.{written, ArePlaces};
 ghost use Rattle.ls_headline.specs.Sorts.{HasSortBy, Refers};
 ghost use Rattle.ls_headline.specs.Threads.{Asks, IsSound};
 ghost use Rattle.ls_headline.specs.Same.{Fits, Same};
-ghost use Rattle.ls_headline.specs.ByWords.{FedByWords};
+ghost use Rattle.ls_headline.specs.ByWords.{IsExchanged, FedByWords, AsksByWords};
 ghost use Rattle.ls_headline.specs.Example;
 ghost use Rattle.ls_headline.specs.Rows;
 
@@ -35,6 +35,12 @@ pub fn fed_by_words()
     ensures { FedByWords }
 {}
 
+/// So an image whose threads ask what the source asks, asks for it by its own instructions.
+#[tactic(auto, using(crate::proofs::AskedByWords::asks_by_words))]
+pub fn asks_by_words()
+    ensures { (file : File) (program : Program) (code : Code) → Asks file program code → All IsExchanged code.instructions → AsksByWords file program code }
+{}
+
 /// The word of a value of a known sort determines it, so a trace in words says what the source's trace says.
 pub fn words_determine()
     ensures { (things : List ValueType) (ρ : ℕ → ℕ) → ArePlaces (length things) ρ → (s : Sort) (v w : Value) → HasSortBy (Refers things) v s → HasSortBy (Refers things) w s → written ρ v ≡ written ρ w → v ≡ w }
@@ -51,6 +57,7 @@ pub fn example()
     ensures asks { Asks Example.file Example.program Example.code }
     ensures constants { FileHasConstants Example.file × ProgramHasConstants Example.program }
     ensures sound { IsSound Example.file Example.program }
+    ensures exchanged { All IsExchanged Example.code.instructions }
 {}
 
 /// The definitions, evaluated on small cases.
@@ -63,4 +70,5 @@ pub fn rows()
     ensures numbers { Rows.NumbersOfBirths }
     ensures kinds { Rows.AnswersInKind }
     ensures room { Rows.RoomOfRun }
+    ensures by_words { Rows.WordsOfLock }
 {}
