@@ -32,6 +32,7 @@ use Rattle.ls_code.specs.declared.step.Mode.TheVariants as mode
 use Rattle.ls_headline.specs.InWords.{word_of, map_answer}
 use Rattle.ls_headline.specs.Sorts.{Suits, Suited, InKind}
 use Rattle.ls_headline.specs.Threads.{told, Asks, calls_of, at_least_one}
+use Rattle.ls_headline.specs.ByWords.{IsExchanged}
 use Rattle.ls_headline.specs.Example.{file, program, code}
 use Rattle.ls_headline.proofs.Feeding.{asking}
 
@@ -212,3 +213,6 @@ example_asks = record {
   names = refl;
   sizes = sizes_all;
 }
+
+pub example_exchanged : All IsExchanged code.instructions
+example_exchanged = all_of IsExchanged code.instructions (tt, (tt, (tt, (tt, (tt, (tt, (tt, (tt, (tt, (tt, (tt, (tt, (tt, (tt, (tt, (tt, (tt, (tt, (tt, (tt, (tt, (tt, tt))))))))))))))))))))))

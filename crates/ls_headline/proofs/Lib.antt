@@ -26,3 +26,8 @@ pub mod Determined
 pub mod Example
 pub mod ExampleSound
 pub mod Shorter
+mod Exchanging
+mod OwnParts
+mod Meets
+mod FedByWords
+mod AskedByWords

@@ -26,7 +26,7 @@ use Rattle.ls_headline.specs.Parts.{one, LockParts, TryParts, UnlockParts, IsPla
 use Rattle.ls_headline.proofs.LockWords.{own_left, not_left}
 use Rattle.ls_headline.proofs.Codes.{Word, IsSee, IsTake, IsDrop, IsAnother, word_of, another, NoPlan, take_there, back_there, drop_there}
 
-and_both : (a b : Bool) → (a && b) ≡ true → (a ≡ true) × (b ≡ true)
+pub and_both : (a b : Bool) → (a && b) ≡ true → (a ≡ true) × (b ≡ true)
 and_both true true e = (refl, refl)
 and_both true false e = cc
 and_both false b e = cc

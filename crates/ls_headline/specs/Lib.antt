@@ -6,3 +6,4 @@ pub mod Threads
 pub mod Same
 pub mod Example
 pub mod Rows
+pub mod ByWords

@@ -1,14 +1,17 @@
 -- The definitions, evaluated on small cases.
-use Rattle.std.specs.Prelude.{◌≡◌, ◌++◌, pos, negsuc, true, false, [], ◌∷◌, replicate}
+use Rattle.std.specs.Prelude.{◌≡◌, ◌++◌, pos, negsuc, true, false, [], ◌∷◌, replicate, Some}
 use Rattle.ls_events.specs.declared.value.Value.TheVariants.{Int, Boolean, Reference, Pair}
 use Rattle.ls_events.specs.declared.kind.Kind.TheVariants.{Error}
 use Rattle.ls_events.specs.declared.action.Answer.TheVariants.{Done, Gives, Fails}
 use Rattle.ls_meaning.specs.Store.{Object, FreeLock, Array}
-use Rattle.ls_code.specs.Machine.{loaded, machine_trace}
+use Rattle.ls_code.specs.Machine.{loaded, machine_trace, started}
+use Rattle.ls_code.specs.Reading.{quiet}
+use Rattle.ls_code.specs.declared.code.CallResult.TheVariants.{Nothing}
 use Rattle.ls_headline.specs.InWords.{word_of, births, numbered}
 use Rattle.ls_headline.specs.Sorts.{InKind}
 use Rattle.ls_headline.specs.Translations.{to_source, to_machine}
 use Rattle.ls_headline.specs.Same.{total, Fits}
+use Rattle.ls_headline.specs.ByWords.{Waits, come_to}
 use Rattle.ls_headline.specs.Example.{file, program, code}
 
 -- the words of -1, of true, of null, and of a pair of object 3 and a mark
@@ -47,3 +50,10 @@ AnswersInKind =
 -- one cell too few for the lock
 abbrev pub RoomOfRun : Type 0
 RoomOfRun = Fits file program 3 (replicate 5 0 ++ replicate 6 1) × (Fits file program 2 (replicate 5 0 ++ replicate 6 1) → ⊥)
+
+-- thread 1 sees the lock held by thread 2, then free, and loses its exchange; it sees it free again, and wins
+abbrev pub WordsOfLock : Type 0
+WordsOfLock =
+    come_to code 1 9 (Done ∷ Gives 2 ∷ Done ∷ Gives 3 ∷ Gives 12884901889 ∷ Gives 0 ∷ Gives 0 ∷ Gives 0 ∷ Gives 1 ∷ [])
+    (Waits (quiet code 1 9 (started (record { place = 7; need = 1; calls = Nothing ∷ [] }))))
+    ≡ Some (Done ∷ Gives 2 ∷ Done ∷ Gives 3 ∷ Done ∷ [])

@@ -1,6 +1,6 @@
 // The laws, each as the contract of a function that computes nothing.
 
-ghost use Rattle.std.specs.Prelude.{◌≡◌, ℕ, ◌++◌, List, length};
+ghost use Rattle.std.specs.Prelude.{◌≡◌, ℕ, ◌++◌, List, length, All};
 ghost use Rattle.ls_events.specs.declared.value.Value.{Value};
 ghost use Rattle.ls_events.specs.declared.value.ValueType.{ValueType};
 ghost use Rattle.ls_checked.specs.CheckedTree.{File};
@@ -12,6 +12,7 @@ ghost use Rattle.ls_headline.specs.InWords.{written, ArePlaces};
 ghost use Rattle.ls_headline.specs.Sorts.{HasSortBy, Refers};
 ghost use Rattle.ls_headline.specs.Threads.{Asks, IsSound};
 ghost use Rattle.ls_headline.specs.Same.{Fits, Same};
+ghost use Rattle.ls_headline.specs.ByWords.{IsExchanged, FedByWords, AsksByWords};
 ghost use Rattle.ls_headline.specs.Example;
 ghost use Rattle.ls_headline.specs.Rows;
 
@@ -26,6 +27,19 @@ pub fn same_traces()
 {
     next_renames();
 }
+
+/// A thread that takes locks by load and exchange, fed by its own instructions with the words that it sees and the
+/// outcomes of its exchanges, asks and ends as it is read to after the answers that these come to.
+#[tactic(auto, using(crate::proofs::FedByWords::fed_by_words))]
+pub fn fed_by_words()
+    ensures { FedByWords }
+{}
+
+/// So an image whose threads ask what the source asks, asks for it by its own instructions.
+#[tactic(auto, using(crate::proofs::AskedByWords::asks_by_words))]
+pub fn asks_by_words()
+    ensures { (file : File) (program : Program) (code : Code) → Asks file program code → All IsExchanged code.instructions → AsksByWords file program code }
+{}
 
 /// The word of a value of a known sort determines it, so a trace in words says what the source's trace says.
 pub fn words_determine()
@@ -43,6 +57,7 @@ pub fn example()
     ensures asks { Asks Example.file Example.program Example.code }
     ensures constants { FileHasConstants Example.file × ProgramHasConstants Example.program }
     ensures sound { IsSound Example.file Example.program }
+    ensures exchanged { All IsExchanged Example.code.instructions }
 {}
 
 /// The definitions, evaluated on small cases.
@@ -55,4 +70,5 @@ pub fn rows()
     ensures numbers { Rows.NumbersOfBirths }
     ensures kinds { Rows.AnswersInKind }
     ensures room { Rows.RoomOfRun }
+    ensures by_words { Rows.WordsOfLock }
 {}

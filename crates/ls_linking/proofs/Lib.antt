@@ -8,3 +8,4 @@ pub mod Running
 pub mod Entered
 pub mod Calls
 pub mod Linked
+pub mod Exchanged

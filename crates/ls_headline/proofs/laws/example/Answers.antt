@@ -1,6 +1,6 @@
-use Rattle.ls_headline.proofs.Example.{example_asks}
+use Rattle.ls_headline.proofs.Example.{example_asks, example_exchanged}
 use Rattle.ls_headline.proofs.ExampleSound.{example_sound, example_constants}
 use Rattle.ls_headline.proofs.laws.example.Goals as goal
 
 pub returns : goal.returns
-returns c = record { asks = example_asks; constants = example_constants; sound = example_sound }
+returns c = record { asks = example_asks; constants = example_constants; sound = example_sound; exchanged = example_exchanged }

@@ -12,5 +12,6 @@ returns c = record {
   births = refl;
   numbers = (refl, refl, refl);
   kinds = ((λ h. h.1.0.0 refl), (λ h. h.1.0), (λ h. h.1.0), (refl, (((λ e. absurd (omega arith)), omega arith), tt)), (refl, (omega arith, tt)));
+  by_words = refl;
   room = (omega arith, λ h. absurd (omega arith));
 }
