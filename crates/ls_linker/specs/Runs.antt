@@ -5,6 +5,7 @@ use Rattle.ls_checked.specs.CheckedProgram.{Program}
 use Rattle.ls_code.specs.Code.{Code}
 use Rattle.ls_headline.specs.Same.{Same}
 use Rattle.ls_headline.specs.Threads.{Asks}
+use Rattle.ls_headline.specs.ByWords.{AsksByWords}
 use Rattle.ls_ends.specs.InTime.{EndsInTime}
 use Rattle.ls_emission.specs.Units.{units_of}
 use Rattle.ls_quick.specs.Quick.{KeepsFrames}
@@ -18,6 +19,8 @@ pub record Runs (file : File) (program : Program) (code : Code) : Type 0 where
   pub same : Same file program code
   -- Each thread, fed with answers in kind, asks what the source asks next, and ends as it ends: it is never stuck, nor silent for too long.
   pub asks : Asks file program code
+  -- So it does by its own instructions, fed with the words of locks and the outcomes of exchanges that these answers come from.
+  pub words : AsksByWords file program code
   -- In the machine, a thread whose source has ended is so itself in time.
   pub ends : EndsInTime file program code
   -- In one frame of a method a thread makes fewer silent steps in a row than the method has instructions.

@@ -57,11 +57,11 @@ fn judges(rt: HostRuntime) -> Result<(), Fail> {
             Some((Rule::NotASetCall, "A.1")),
         ),
     ];
-    for (history, order, wanted) in rows {
+    for (row, (history, order, wanted)) in rows.into_iter().enumerate() {
         let history = ls_report::read_history(alloc, history)?;
         let order = read_order(alloc, order)?;
         let verdict = check_order(alloc, &history, &order)?;
-        assert!(rt; is_verdict(&verdict, wanted), "{verdict:?}");
+        assert!(rt; is_verdict(&verdict, wanted), "row {row}");
     }
     Ok(())
 }
