@@ -1,16 +1,14 @@
 -- What the image promises of its threads, by their own instructions.
-use Rattle.std.proofs.Common.{◌≡◌, ◌≢◌, ℕ, ◌*◌, ◌≤◌, List, [], ◌∷◌, length, map, Some, None, refl, sym, ap, ◌∙◌, arith, slice_get, All}
+use Rattle.std.proofs.Common.{◌≡◌, ◌≢◌, ℕ, ◌≤◌, List, [], ◌∷◌, length, map, refl, sym, ap, ◌∙◌, arith, slice_get, All}
 use Rattle.ls_events.specs.declared.action.Answer.{Answer}
 use Rattle.ls_checked.specs.CheckedTree.{File}
 use Rattle.ls_checked.specs.CheckedProgram.{Program}
-use Rattle.ls_meaning.specs.Course.{Answers}
 use Rattle.ls_meaning.specs.Threads.{Next, Goes, Ended, Trapped, next}
 use Rattle.ls_code.specs.Code.{Code, Start}
 use Rattle.ls_code.specs.Machine.{started}
 use Rattle.ls_code.specs.Steps.{Still, fetched_move}
 use Rattle.ls_code.specs.Fed.{Lost}
-use Rattle.ls_code.specs.Fed as own
-use Rattle.ls_code.specs.Reading.{read_move, whole_move, fed, quiet, resume}
+use Rattle.ls_code.specs.Reading.{read_move, whole_move, fed, resume}
 use Rattle.ls_code.specs.declared.instruction.Instruction.{Instruction}
 use Rattle.ls_headline.specs.InWords.{word_of, map_answer}
 use Rattle.ls_headline.specs.Threads.{told, Asks}

@@ -1,5 +1,5 @@
 -- Without the instructions that are a whole operation on a lock, no thread asks for one by one instruction.
-use Rattle.std.proofs.Common.{◌≡◌, ℕ, ◌+◌, Bool, true, false, not, ◌&&◌, ◌==◌, ◌%◌, ◌^◌, nat_le, nat_lt, List, length, Option, Some, None, slice_get, subst, refl, ap, arith, if◌then◌else◌, pos, All}
+use Rattle.std.proofs.Common.{◌≡◌, ℕ, ◌+◌, Bool, true, false, not, ◌&&◌, ◌==◌, ◌%◌, ◌^◌, nat_le, nat_lt, length, Option, Some, None, slice_get, subst, refl, if◌then◌else◌, pos, All}
 use Rattle.ls_events.specs.declared.kind.Kind.{Kind}
 use Rattle.ls_events.specs.declared.kind.Kind.TheVariants.{NegativeArraySize}
 use Rattle.ls_events.specs.declared.action.Action.{Action}

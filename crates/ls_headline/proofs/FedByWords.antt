@@ -20,7 +20,7 @@ use Rattle.ls_code.specs.declared.step.Mode.TheVariants as mode
 use Rattle.ls_code.specs.declared.instruction.Instruction.TheVariants as op
 use Rattle.ls_code.specs.declared.lock_word.Taken.{Taken}
 use Rattle.ls_code.specs.declared.lock_word.Taken.TheVariants as taken
-use Rattle.ls_headline.specs.ByWords.{IsExchanged, is_on_lock, Stage, Waits, Exchanges, Read, in_front, ends_with, too_many, seen_by_lock, seen_by_try, sees, exchanges, on_word, come_to, FedByWords}
+use Rattle.ls_headline.specs.ByWords.{IsExchanged, is_on_lock, Stage, Waits, Exchanges, Read, in_front, ends_with, seen_by_lock, seen_by_try, sees, on_word, come_to, FedByWords}
 use Rattle.ls_headline.proofs.LockWords.{own_left}
 use Rattle.ls_headline.proofs.LockCells.{another_is}
 use Rattle.ls_headline.proofs.Codes.{take_there, back_there, drop_there}

@@ -1,5 +1,5 @@
 -- What the instructions of an operation on a lock come to one after another, where the thread is fed with words.
-use Rattle.std.proofs.Common.{◌≡◌, ℕ, zero, suc, ◌+◌, Bool, List, ◌∷◌, Some, ap, ◌∙◌, slice_get}
+use Rattle.std.proofs.Common.{◌≡◌, ℕ, zero, suc, ◌+◌, Bool, ◌∷◌, Some, ap, ◌∙◌, slice_get}
 use Rattle.ls_events.specs.declared.action.Action.{Action}
 use Rattle.ls_code.specs.Code.{Code}
 use Rattle.ls_code.specs.Frame.{top_two}

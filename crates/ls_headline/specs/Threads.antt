@@ -50,7 +50,7 @@ calls_of _ _ = ⊥
 -- what the image promises
 pub record Asks (file : File) (program : Program) (code : Code) : Type 0 where
   -- each thread, fed with answers in kind, asks what the source asks next, and ends as it does; it is never stuck, nor
-  -- silent for too long
+  -- silent for too long, where its waiting for a lock doesn't count
   pub asks : (t : ℕ) (s : Start) (had : Answers) → slice_get code.starts t ≡ Some s → InKind file program t had →
       fed code t (most_silent code) (most_silent code) (started s) (map (map_answer word_of) had) ≡ told (next file program t had)
   -- the threads of the program, with their calls, and its names

@@ -15,7 +15,7 @@ use Rattle.ls_code.specs.declared.step.Did.TheVariants as did
 abbrev pub to_source : Code → ℕ → List ℕ → List ℕ
 to_source code cells schedule = map (λ e. e.thread) (machine_trace (loaded code cells) schedule)
 
--- the most silent steps of a thread in a row
+-- the most silent steps of a thread in a row; the steps by which it waits for a lock have no end, and don't count
 abbrev pub most_silent : Code → ℕ
 most_silent code = 64 * length code.instructions
 
