@@ -19,6 +19,7 @@ use crate::known::{Known, Local};
 use crate::places::span_of;
 use crate::rule::{Broken, Rule, broken_at};
 use crate::scope::{Context, Scope, declaration};
+use crate::together::{beside, two};
 use ls_checked::tree::Statement;
 use ls_events::value::ValueType;
 use ls_lexer::token::Span;
@@ -320,12 +321,20 @@ fn try_finally<'t>(
     ensures found { IfOk result (λ r. seen_formed r ≡ the_statement (body_of context.entry) (map option_copied loops.now) (map local_of locals.now) slots.items (try_written (placed_items body.entry.now) (placed_items finally.entry.now))) }
     ensures low { IfOk result (λ r. IfOk r (λ x. vec_len x.slots ≤ 128)) }
 {
-    let b = kept!(block(alloc, context, loops, locals, slots, body)?);
-    let f = kept!(block(alloc, context, loops, locals, b.slots, finally)?);
-    let statement = Statement::Try(Box::new(alloc, b.statement)?, Box::new(alloc, f.statement)?);
+    let Formed {
+        statement: b,
+        slots,
+    } = kept!(block(alloc, context, loops, locals, slots, body)?);
+    let f = block(alloc, context, loops, locals, slots, finally);
+    let (b, f) = kept!(beside(b, f)?);
+    let Formed {
+        statement: f,
+        slots,
+    } = f;
+    let (b, f) = two(alloc, b, f)?;
     Ok(Ok(Formed {
-        statement,
-        slots: f.slots,
+        statement: Statement::Try(b, f),
+        slots,
     }))
 }
 

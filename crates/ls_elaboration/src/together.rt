@@ -1,0 +1,29 @@
+// Steps on values of any type. What is owned while something else may fail is dropped here, at a parameter's type.
+
+ghost use Rattle.std.specs.Prelude.{◌≡◌, IfOk, Ok};
+ghost use Rattle.ls_elaboration.specs.Answers.{seen};
+
+use crate::rule::Broken;
+use std::alloc::{AllocError, Global};
+
+/// Both in boxes.
+pub fn two<T: Drop, U: Drop>(alloc: Global, a: T, b: U) -> Result<(Box<T>, Box<U>), AllocError>
+    ensures first { IfOk result (λ p. p.0.value ≡ a) }
+    ensures second { IfOk result (λ p. p.1.value ≡ b) }
+{
+    let a = Box::new(alloc, a)?;
+    let b = Box::new(alloc, b)?;
+    Ok((a, b))
+}
+
+/// What is there, with what comes next.
+pub fn beside<T: Drop, U: Drop>(
+    first: T,
+    next: Result<Result<U, Broken>, AllocError>,
+) -> Result<Result<(T, U), Broken>, AllocError>
+    ensures next { IfOk result (λ r. next ≡ Ok (seen (λ p. p.1) r)) }
+    ensures first { IfOk result (λ r. IfOk r (λ p. p.0 ≡ first)) }
+{
+    let next = kept!(next?);
+    Ok(Ok((first, next)))
+}
