@@ -16,7 +16,36 @@ pub fn two<T: Drop, U: Drop>(alloc: Global, a: T, b: U) -> Result<(Box<T>, Box<U
     Ok((a, b))
 }
 
+/// What is there, with a value in a box.
+pub fn with_box<T: Drop, U: Drop>(alloc: Global, first: T, value: U) -> Result<(T, Box<U>), AllocError>
+    ensures first { IfOk result (λ p. p.0 ≡ first) }
+    ensures boxed { IfOk result (λ p. p.1.value ≡ value) }
+{
+    let value = Box::new(alloc, value)?;
+    Ok((first, value))
+}
+
 /// What is there, with what comes next.
+pub fn also<T: Drop, U: Drop>(first: T, next: Result<U, AllocError>) -> Result<(T, U), AllocError>
+    ensures next { IfOk result (λ p. next ≡ Ok p.1) }
+    ensures first { IfOk result (λ p. p.0 ≡ first) }
+{
+    let next = next?;
+    Ok((first, next))
+}
+
+/// What is there, with what a test answers.
+pub fn with<T: Drop, U: Drop>(first: T, next: Result<U, Broken>) -> Result<(T, U), Broken>
+    ensures next { next ≡ seen (λ p. p.1) result }
+    ensures first { IfOk result (λ p. p.0 ≡ first) }
+{
+    match next {
+        Ok(next) => Ok((first, next)),
+        Err(broken) => Err(broken),
+    }
+}
+
+/// What is there, with what comes next, unless a rule is broken there.
 pub fn beside<T: Drop, U: Drop>(
     first: T,
     next: Result<Result<U, Broken>, AllocError>,
