@@ -14,6 +14,7 @@ use crate::operators::{binary_of, unary_of};
 use crate::places::span_of;
 use crate::rule::{Broken, Rule, broken_at};
 use crate::static_types::{Static, Typed, as_array, as_type, as_value, result_type, typed_as};
+use crate::together::{beside, found, two, with};
 use ls_checked::tree::{Expression, Expressions};
 use ls_events::value::{Value, ValueType};
 use ls_lexer::token::Span;
@@ -135,9 +136,9 @@ fn call_of(
 ) -> Result<Result<Typed, Broken>, AllocError>
     ensures { IfOk result (λ r. seen_typed r ≡ the_call (seen_member m) (plain target) (all_plain es)) }
 {
-    let expression = Expression::Call(Box::new(alloc, target)?, m.called, Box::new(alloc, es)?);
+    let (target, es) = two(alloc, target, es)?;
     Ok(Ok(Typed {
-        expression,
+        expression: Expression::Call(target, m.called, es),
         of: result_type(m.result),
     }))
 }
@@ -242,7 +243,8 @@ fn binary(
     ensures { IfOk result (λ r. seen_typed r ≡ the_typed (known_of known.entry) (map local_of locals.now) (a_binary op (placed left.now) (placed right.now) span)) }
 {
     let x = kept!(typed(alloc, known, locals, left)?);
-    let y = kept!(typed(alloc, known, locals, right)?);
+    let y = typed(alloc, known, locals, right);
+    let (x, y) = kept!(beside(x, y)?);
     binary_of(alloc, op, span, span_of(left), span_of(right), x, y)
 }
 
@@ -279,7 +281,8 @@ fn own_call(
     match method_member(alloc, known, known.own, n.text.as_str())? {
         None => Ok(Err(broken_at(Rule::UnknownName, n.span))),
         Some(m) => {
-            let es = kept!(passed(alloc, known, locals, &m.parameters, arguments, span)?);
+            let es = passed(alloc, known, locals, &m.parameters, arguments, span);
+            let (m, es) = kept!(beside(m, es)?);
             call_of(alloc, m, Expression::Slot(0), es)
         }
     }
@@ -299,13 +302,12 @@ fn call_on(
     ensures { IfOk result (λ r. seen_typed r ≡ the_typed (known_of known.entry) (map local_of locals.now) (a_call_on (placed target.now) (placed_name n.now) (placed_all arguments.now) span)) }
 {
     let x = kept!(typed(alloc, known, locals, target)?);
-    match member_of(alloc, known, x.of, n.text.as_str())? {
-        None => Ok(Err(broken_at(Rule::UnknownName, n.span))),
-        Some(m) => {
-            let es = kept!(passed(alloc, known, locals, &m.parameters, arguments, span)?);
-            call_of(alloc, m, x.expression, es)
-        }
-    }
+    let m = member_of(alloc, known, x.of, n.text.as_str());
+    let m = found(m, broken_at(Rule::UnknownName, n.span));
+    let (x, m) = kept!(beside(x, m)?);
+    let es = passed(alloc, known, locals, &m.parameters, arguments, span);
+    let ((x, m), es) = kept!(beside((x, m), es)?);
+    call_of(alloc, m, x.expression, es)
 }
 
 // An element of an array.
@@ -322,12 +324,11 @@ fn item(
 {
     let x = kept!(typed(alloc, known, locals, array)?);
     let a = kept!(as_array(span_of(array), x));
-    let y = kept!(typed(alloc, known, locals, index)?);
-    let i = kept!(as_type(ValueType::Int, span_of(index), y));
-    Ok(typed_as(
-        ValueType::Boolean,
-        Expression::Item(Box::new(alloc, a)?, Box::new(alloc, i)?),
-    ))
+    let y = typed(alloc, known, locals, index);
+    let (a, y) = kept!(beside(a, y)?);
+    let (a, i) = kept!(with(a, as_type(ValueType::Int, span_of(index), y)));
+    let (a, i) = two(alloc, a, i)?;
+    Ok(typed_as(ValueType::Boolean, Expression::Item(a, i)))
 }
 
 // An object or a lock.
@@ -343,7 +344,8 @@ fn making(
     ensures { IfOk result (λ r. seen_typed r ≡ the_typed (known_of known.entry) (map local_of locals.now) (a_new (placed_name class.now) (placed_all arguments.now) span)) }
 {
     let m = kept!(maker_of(alloc, known, class)?);
-    let es = kept!(passed(alloc, known, locals, &m.parameters, arguments, span)?);
+    let es = passed(alloc, known, locals, &m.parameters, arguments, span);
+    let (m, es) = kept!(beside(m, es)?);
     Ok(typed_as(m.value_type, made(alloc, m.makes, es)?))
 }
 
@@ -359,7 +361,8 @@ fn markable(
     ensures { IfOk result (λ r. seen_typed r ≡ the_typed (known_of known.entry) (map local_of locals.now) (a_new_markable (placed_name class.now) (placed_all arguments.now) span)) }
 {
     let m = kept!(markable_maker(alloc, known, class)?);
-    let es = kept!(passed(alloc, known, locals, &m.parameters, arguments, span)?);
+    let es = passed(alloc, known, locals, &m.parameters, arguments, span);
+    let (m, es) = kept!(beside(m, es)?);
     Ok(typed_as(m.value_type, made(alloc, m.makes, es)?))
 }
 
@@ -382,8 +385,10 @@ fn passed(
         ([t, ts @ ..], [e, es @ ..]) => {
             let x = kept!(typed(alloc, known, locals, e)?);
             let a = kept!(as_type(*t, span_of(e), x));
-            let rest = kept!(passed(alloc, known, locals, ts, es, span)?);
-            Ok(Ok(Expressions::More(Box::new(alloc, a)?, Box::new(alloc, rest)?)))
+            let rest = passed(alloc, known, locals, ts, es, span);
+            let (a, rest) = kept!(beside(a, rest)?);
+            let (a, rest) = two(alloc, a, rest)?;
+            Ok(Ok(Expressions::More(a, rest)))
         }
     }
 }

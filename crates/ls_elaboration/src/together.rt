@@ -1,6 +1,7 @@
 // Steps on values of any type. What is owned while something else may fail is dropped here, at a parameter's type.
 
-ghost use Rattle.std.specs.Prelude.{◌≡◌, IfOk, Ok};
+ghost use Rattle.std.specs.Prelude.{◌≡◌, IfErr, IfOk, Ok};
+ghost use Rattle.std.specs.Result.{result_ok};
 ghost use Rattle.ls_elaboration.specs.Answers.{seen};
 
 use crate::rule::Broken;
@@ -55,4 +56,18 @@ pub fn beside<T: Drop, U: Drop>(
 {
     let next = kept!(next?);
     Ok(Ok((first, next)))
+}
+
+/// What is found, or the rule that is broken where nothing is.
+pub fn found<T: Drop>(
+    sought: Result<Option<T>, AllocError>,
+    missing: Broken,
+) -> Result<Result<T, Broken>, AllocError>
+    ensures found { IfOk result (λ r. sought ≡ Ok (result_ok r)) }
+    ensures missing { IfOk result (λ r. IfErr r (λ b. b ≡ missing)) }
+{
+    match sought? {
+        None => Ok(Err(missing)),
+        Some(x) => Ok(Ok(x)),
+    }
 }
