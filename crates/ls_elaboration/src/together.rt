@@ -1,6 +1,6 @@
 // Steps on values of any type. What is owned while something else may fail is dropped here, at a parameter's type.
 
-ghost use Rattle.std.specs.Prelude.{◌≡◌, IfErr, IfOk, Ok};
+ghost use Rattle.std.specs.Prelude.{◌≡◌, ◌∷◌, ◌++◌, [], IfErr, IfOk, Ok};
 ghost use Rattle.std.specs.Result.{result_ok};
 ghost use Rattle.ls_elaboration.specs.Answers.{seen};
 
@@ -17,8 +17,20 @@ pub fn two<T: Drop, U: Drop>(alloc: Global, a: T, b: U) -> Result<(Box<T>, Box<U
     Ok((a, b))
 }
 
+/// One more at the end.
+pub fn push<T: Drop>(mut items: Vec<T>, item: T) -> Result<Vec<T>, AllocError>
+    ensures { IfOk result (λ v. v.items ≡ items.items ++ item ∷ []) }
+{
+    items.push(item)?;
+    Ok(items)
+}
+
 /// What is there, with a value in a box.
-pub fn with_box<T: Drop, U: Drop>(alloc: Global, first: T, value: U) -> Result<(T, Box<U>), AllocError>
+pub fn with_box<T: Drop, U: Drop>(
+    alloc: Global,
+    first: T,
+    value: U,
+) -> Result<(T, Box<U>), AllocError>
     ensures first { IfOk result (λ p. p.0 ≡ first) }
     ensures boxed { IfOk result (λ p. p.1.value ≡ value) }
 {
