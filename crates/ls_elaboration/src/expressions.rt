@@ -2,13 +2,16 @@
 
 ghost use Rattle.std.specs.Prelude.{◌≡◌, ◌≤◌, IfOk, map};
 ghost use Rattle.ls_checked.specs.Plain.{plain, all_plain};
+ghost use Rattle.ls_checked.specs.CheckedTree.{Expression as checked_expression, Field as checked_field};
+ghost use Rattle.ls_elaboration.specs.Elaborated.{with_ok};
+ghost use Rattle.ls_elaboration.specs.StaticTypes.{typed_as as typing};
 ghost use Rattle.ls_elaboration.specs.TypedExpressions.{typed as the_typed, passed as the_passed, name_of as the_name, field_at as the_field_at, is_integer as the_integer, integer_constant as the_constant, call_of as the_call, number as the_number, digits_value, fitting as the_fitting};
-ghost use Rattle.ls_elaboration.specs.Trees.{Call as a_call, CallOn as a_call_on, New as a_new, NewMarkable as a_new_markable, NewArray as a_new_array, Item as an_item, Field as a_field, Binary as a_binary};
+ghost use Rattle.ls_elaboration.specs.Trees.{Call as a_call, CallOn as a_call_on, New as a_new, NewMarkable as a_new_markable, Item as an_item, Binary as a_binary};
 ghost use Rattle.ls_elaboration.specs.Placed.{placed, placed_name, placed_all, placed_target, call_of as call_written};
 ghost use Rattle.ls_elaboration.specs.Tables.{local_of, known_of};
 ghost use Rattle.ls_elaboration.specs.Answers.{typed_of, member_of as seen_member, seen_typed, seen_plain, seen_all};
 
-use crate::known::{Known, Local, field_of, local_named};
+use crate::known::{FoundField, Known, Local, field_of, local_named};
 use crate::members::{Member, made, maker_of, markable_maker, member_of, method_member};
 use crate::operators::{binary_of, unary_of};
 use crate::places::span_of;
@@ -71,6 +74,19 @@ fn name_typed(
     }
 }
 
+// The class of an object, and its field of a name.
+fn field_in(known: Known, of: Static, n: &Name) -> Result<(usize, FoundField), Broken>
+    ensures { (e : checked_expression) → the_field_at (known_of known.entry) of e (placed_name n.now) ≡ with_ok result (λ p. typing p.1.value_type (checked_field e p.0 p.1.number)) }
+{
+    match of {
+        Static::Of(ValueType::Class(class)) => match field_of(known, class, n.text.as_str()) {
+            None => Err(broken_at(Rule::UnknownName, n.span)),
+            Some(f) => Ok((class, f)),
+        },
+        _ => Err(broken_at(Rule::UnknownName, n.span)),
+    }
+}
+
 // A field of an object.
 fn field_at(
     alloc: Global,
@@ -80,24 +96,15 @@ fn field_at(
 ) -> Result<Result<Typed, Broken>, AllocError>
     ensures { IfOk result (λ r. seen_typed r ≡ the_field_at (known_of known.entry) x.of (plain x.expression) (placed_name n.now)) }
 {
-    let Typed { expression, of } = x;
-    match of {
-        Static::Of(ValueType::Class(class)) => match field_of(known, class, n.text.as_str()) {
-            None => Ok(Err(broken_at(Rule::UnknownName, n.span))),
-            Some(f) => {
-                let target = Box::new(alloc, expression)?;
-                Ok(typed_as(
-                    f.value_type,
-                    Expression::Field {
-                        target,
-                        class,
-                        field: f.number,
-                    },
-                ))
-            }
-        },
-        _ => Ok(Err(broken_at(Rule::UnknownName, n.span))),
-    }
+    let found = field_in(known, x.of, n);
+    let (expression, (class, f)) = kept!(with(x.expression, found));
+    let target = Box::new(alloc, expression)?;
+    let e = Expression::Field {
+        target,
+        class,
+        field: f.number,
+    };
+    Ok(typed_as(f.value_type, e))
 }
 
 // Whether an expression is the name `Integer`, and that of no local or field in scope.

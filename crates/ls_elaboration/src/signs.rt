@@ -1,7 +1,7 @@
 // What the classes of a text declare.
 
 ghost use Rattle.std.specs.Prelude.{◌≡◌, IfOk, map, string_bytes};
-ghost use Rattle.ls_elaboration.specs.Signs.{is_reserved as the_reserved, one_name as the_one_name, class_names as the_class_names, parameter_types as the_parameter_types, field_met as the_field_met, fields_met as the_fields_met, method_met as the_method_met, constructor_met as the_constructor_met, member_met as the_member_met, class_met as the_class_met, one_class as the_one_class, class_signs as the_class_signs};
+ghost use Rattle.ls_elaboration.specs.Signs.{is_reserved as the_reserved, one_name as the_one_name, class_names as the_class_names, parameter_types as the_parameter_types, field_met as the_field_met, fields_met as the_fields_met, method_met as the_method_met, constructor_met as the_constructor_met, member_met as the_member_met, nothing_met as the_nothing_met, class_met as the_class_met, one_class as the_one_class, class_signs as the_class_signs};
 ghost use Rattle.ls_elaboration.specs.Placed.{placed_name};
 ghost use Rattle.ls_elaboration.specs.PlacedStatements.{placed_parameter, placed_declarator, placed_member, placed_class, placed_declaration};
 ghost use Rattle.ls_elaboration.specs.Tables.{texts_of};
@@ -256,6 +256,18 @@ fn class_met(
     }
 }
 
+fn nothing_met(alloc: Global, next: usize) -> Met
+    ensures { met_of result ≡ the_nothing_met next }
+{
+    Met {
+        fields: IndexMap::new(alloc),
+        methods: IndexMap::new(alloc),
+        constructor: None,
+        parameters: Vec::new(alloc),
+        next,
+    }
+}
+
 fn one_class(
     alloc: Global,
     names: &IndexSet<String>,
@@ -264,13 +276,7 @@ fn one_class(
 ) -> Result<Result<(), Broken>, AllocError>
     ensures { IfOk result (λ r. seen (λ u. classes_of classes.new) r ≡ the_one_class (texts_of names.now) (classes_of classes.old) (placed_class c.now)) }
 {
-    let mut met = Met {
-        fields: IndexMap::new(alloc),
-        methods: IndexMap::new(alloc),
-        constructor: None,
-        parameters: Vec::new(alloc),
-        next: classes.next,
-    };
+    let mut met = nothing_met(alloc, classes.next);
     for m in &c.members {
         kept!(member_met(alloc, names, &c.name, &mut met, m)?);
     }

@@ -1,6 +1,6 @@
 // Steps on values of any type. What is owned while something else may fail is dropped here, at a parameter's type.
 
-ghost use Rattle.std.specs.Prelude.{◌≡◌, ◌∷◌, ◌++◌, [], IfErr, IfOk, Ok};
+ghost use Rattle.std.specs.Prelude.{◌≡◌, ◌∷◌, ◌++◌, [], Err, IfErr, IfOk, Ok, if◌then◌else◌};
 ghost use Rattle.std.specs.Result.{result_ok};
 ghost use Rattle.ls_elaboration.specs.Answers.{seen};
 
@@ -82,4 +82,11 @@ pub fn found<T: Drop>(
         None => Ok(Err(missing)),
         Some(x) => Ok(Ok(x)),
     }
+}
+
+/// What is there, if it passes.
+pub fn passing<T: Drop>(x: T, passes: bool, broken: Broken) -> Result<T, Broken>
+    ensures { result ≡ (if passes then Ok x else Err broken) }
+{
+    if passes { Ok(x) } else { Err(broken) }
 }
