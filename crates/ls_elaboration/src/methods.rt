@@ -21,7 +21,7 @@ use crate::known::{Known, field_of};
 use crate::rule::{Broken, Rule, broken_at};
 use crate::scope::{Context, Scope, may_declare, result_of, type_of, with_variable};
 use crate::statements::{all_items, block_of};
-use crate::together::{also, beside, push};
+use crate::together::{also, beside, push, with};
 use ls_checked::tree::{Expression, Method, Statement};
 use ls_events::value::ValueType;
 use ls_lexer::token::Span;
@@ -40,8 +40,9 @@ fn parameter<'t>(
     ensures found { IfOk result (λ r. seen_scope r ≡ the_parameter (body_of context.entry) (scope_of scope.entry) (placed_parameter p.entry.now)) }
     ensures low { IfOk result (λ r. IfOk r (λ s. vec_len s.slots ≤ 128)) }
 {
-    kept!(may_declare(context.span, &scope, &p.name));
-    let t = kept!(type_of(context.known.names, &p.type_name));
+    let may = may_declare(context.span, &scope, &p.name);
+    let (scope, _) = kept!(with(scope, may));
+    let (scope, t) = kept!(with(scope, type_of(context.known.names, &p.type_name)));
     Ok(Ok(with_variable(scope, p.name.text.as_str(), t)?))
 }
 
