@@ -17,6 +17,7 @@ use crate::calls::{
 use crate::check::Checked;
 use crate::fault::ProgramFault;
 use crate::reading::{Parts, Reading, Stage};
+use crate::together::{also, beside, passing};
 use ls_checked::program::ThreadProgram;
 use ls_events::value::Value;
 use ls_lexer::sign::Sign;
@@ -116,16 +117,15 @@ fn at_call<'a>(
             parts: r,
         })),
         None => {
-            if is_sign(Sign::CloseBrace, token.kind) {
-                Ok(Ok(Reading {
-                    stage: Stage::AtThread,
-                    parts: closed(alloc, r)?,
-                }))
-            } else {
-                Ok(Err(ProgramFault::BadProgram {
-                    at: token.span.start,
-                }))
-            }
+            let closes = is_sign(Sign::CloseBrace, token.kind);
+            let fault = ProgramFault::BadProgram {
+                at: token.span.start,
+            };
+            let r = read!(passing(r, closes, fault));
+            Ok(Ok(Reading {
+                stage: Stage::AtThread,
+                parts: closed(alloc, r)?,
+            }))
         }
     }
 }
@@ -197,7 +197,8 @@ fn after_dot<'a>(
     match name_in(token.kind) {
         None => Ok(Err(ProgramFault::BadProgram { at })),
         Some(method) => {
-            let p = read!(called_on(alloc, checked, &r.names, n, method, at)?);
+            let p = called_on(alloc, checked, &r.names, n, method, at);
+            let (r, p) = read!(beside(r, p)?);
             Ok(Ok(Reading {
                 stage: Stage::AtArguments(p),
                 parts: r,
@@ -215,7 +216,7 @@ fn valued<'a>(
 ) -> Result<Result<Reading<'a>, ProgramFault>, AllocError>
     ensures { IfOk result (λ o. reads_on o ≡ the_with_call (parts_of r) after_argument_stage (the_with_argument (pending_of p.entry) v)) }
 {
-    let p = read!(with_argument(p, v, at)?);
+    let (r, p) = read!(beside(r, with_argument(p, v, at))?);
     Ok(Ok(Reading {
         stage: Stage::AfterArgument(p),
         parts: r,
@@ -272,14 +273,13 @@ fn after_minus<'a>(
 fn arguments_end<'a>(r: Parts, p: Pending<'a>) -> Result<Reading<'a>, ProgramFault>
     ensures { reads_on result ≡ the_arguments_end (parts_of r) (pending_of p.entry) }
 {
-    if is_full(&p) {
-        Ok(Reading {
-            stage: Stage::AtSemicolon(p),
-            parts: r,
-        })
-    } else {
-        Err(ProgramFault::UnknownThing { at: p.at })
-    }
+    let full = is_full(&p);
+    let fault = ProgramFault::UnknownThing { at: p.at };
+    let next = Reading {
+        stage: Stage::AtSemicolon(p),
+        parts: r,
+    };
+    passing(next, full, fault)
 }
 
 fn at_first<'a>(
@@ -305,15 +305,14 @@ fn after_argument<'a>(
     if is_sign(Sign::CloseParen, token.kind) {
         return arguments_end(r, p);
     }
-    if is_sign(Sign::Comma, token.kind) {
-        return Ok(Reading {
-            stage: Stage::AtArgument(p),
-            parts: r,
-        });
-    }
-    Err(ProgramFault::BadProgram {
+    let next = Reading {
+        stage: Stage::AtArgument(p),
+        parts: r,
+    };
+    let fault = ProgramFault::BadProgram {
         at: token.span.start,
-    })
+    };
+    passing(next, is_sign(Sign::Comma, token.kind), fault)
 }
 
 // One more call.
@@ -344,14 +343,13 @@ fn at_semicolon<'a>(
 ) -> Result<Result<Reading<'a>, ProgramFault>, AllocError>
     ensures { IfOk result (λ o. reads_on o ≡ the_at_semicolon (parts_of r) (pending_of p.entry) (lexeme_of token.entry.kind)) }
 {
-    if !is_sign(Sign::Semicolon, token.kind) {
-        return Ok(Err(ProgramFault::BadProgram {
-            at: token.span.start,
-        }));
-    }
-    if r.calls.len() >= MOST_CALLS {
-        return Ok(Err(ProgramFault::ProgramLimit));
-    }
+    let fault = ProgramFault::BadProgram {
+        at: token.span.start,
+    };
+    let ends = is_sign(Sign::Semicolon, token.kind);
+    let room = r.calls.len() < MOST_CALLS;
+    let (r, p) = read!(passing((r, p), ends, fault));
+    let (r, p) = read!(passing((r, p), room, ProgramFault::ProgramLimit));
     Ok(Ok(Reading {
         stage: Stage::AtCall,
         parts: with_finished(alloc, r, p)?,
@@ -378,10 +376,9 @@ fn at_thread_name<'a>(
     match name_in(token.kind) {
         None => Ok(Err(ProgramFault::BadProgram { at })),
         Some(text) => {
-            if text == "all" || thread_named(&r.threads, text) {
-                return Ok(Err(ProgramFault::BadProgram { at }));
-            }
-            let name = String::from_str(alloc, text)?;
+            let free = text != "all" && !thread_named(&r.threads, text);
+            let r = read!(passing(r, free, ProgramFault::BadProgram { at }));
+            let (r, name) = also(r, String::from_str(alloc, text))?;
             let parts = Parts {
                 names: r.names,
                 threads: r.threads,
@@ -405,11 +402,11 @@ fn only<'a>(
 ) -> Result<Reading<'a>, ProgramFault>
     ensures { reads_on result ≡ the_when stands (the_at (parts_of r) (stage_of stage.entry)) }
 {
-    if stands {
-        Ok(Reading { stage, parts: r })
-    } else {
-        Err(ProgramFault::BadProgram { at })
-    }
+    passing(
+        Reading { stage, parts: r },
+        stands,
+        ProgramFault::BadProgram { at },
+    )
 }
 
 fn is_text(text: &str, name: Option<&str>) -> bool
@@ -461,16 +458,19 @@ pub fn stepped<'a>(
 fn at_thread<'a>(r: Parts, token: Token<'a>) -> Result<Reading<'a>, ProgramFault>
     ensures { reads_on result ≡ the_at_thread (parts_of r) (lexeme_of token.entry.kind) }
 {
-    if !is_text("thread", name_in(token.kind)) {
-        return Err(ProgramFault::BadProgram {
-            at: token.span.start,
-        });
+    let fault = ProgramFault::BadProgram {
+        at: token.span.start,
+    };
+    let stands = is_text("thread", name_in(token.kind));
+    let room = r.threads.len() <= MOST_THREADS;
+    match passing(r, stands, fault) {
+        Ok(r) => {
+            let next = Reading {
+                stage: Stage::AtThreadName,
+                parts: r,
+            };
+            passing(next, room, ProgramFault::ProgramLimit)
+        }
+        Err(fault) => Err(fault),
     }
-    if r.threads.len() > MOST_THREADS {
-        return Err(ProgramFault::ProgramLimit);
-    }
-    Ok(Reading {
-        stage: Stage::AtThreadName,
-        parts: r,
-    })
 }
