@@ -17,7 +17,7 @@ use crate::calls::{
 use crate::check::Checked;
 use crate::fault::ProgramFault;
 use crate::reading::{Parts, Reading, Stage};
-use crate::together::{also, beside, passing};
+use crate::together::passing;
 use ls_checked::program::ThreadProgram;
 use ls_events::value::Value;
 use ls_lexer::sign::Sign;
@@ -117,15 +117,16 @@ fn at_call<'a>(
             parts: r,
         })),
         None => {
-            let closes = is_sign(Sign::CloseBrace, token.kind);
-            let fault = ProgramFault::BadProgram {
-                at: token.span.start,
-            };
-            let r = read!(passing(r, closes, fault));
-            Ok(Ok(Reading {
-                stage: Stage::AtThread,
-                parts: closed(alloc, r)?,
-            }))
+            if is_sign(Sign::CloseBrace, token.kind) {
+                Ok(Ok(Reading {
+                    stage: Stage::AtThread,
+                    parts: closed(alloc, r)?,
+                }))
+            } else {
+                Ok(Err(ProgramFault::BadProgram {
+                    at: token.span.start,
+                }))
+            }
         }
     }
 }
@@ -197,8 +198,7 @@ fn after_dot<'a>(
     match name_in(token.kind) {
         None => Ok(Err(ProgramFault::BadProgram { at })),
         Some(method) => {
-            let p = called_on(alloc, checked, &r.names, n, method, at);
-            let (r, p) = read!(beside(r, p)?);
+            let p = read!(called_on(alloc, checked, &r.names, n, method, at)?);
             Ok(Ok(Reading {
                 stage: Stage::AtArguments(p),
                 parts: r,
@@ -216,7 +216,7 @@ fn valued<'a>(
 ) -> Result<Result<Reading<'a>, ProgramFault>, AllocError>
     ensures { IfOk result (λ o. reads_on o ≡ the_with_call (parts_of r) after_argument_stage (the_with_argument (pending_of p.entry) v)) }
 {
-    let (r, p) = read!(beside(r, with_argument(p, v, at))?);
+    let p = read!(with_argument(p, v, at)?);
     Ok(Ok(Reading {
         stage: Stage::AfterArgument(p),
         parts: r,
@@ -343,13 +343,14 @@ fn at_semicolon<'a>(
 ) -> Result<Result<Reading<'a>, ProgramFault>, AllocError>
     ensures { IfOk result (λ o. reads_on o ≡ the_at_semicolon (parts_of r) (pending_of p.entry) (lexeme_of token.entry.kind)) }
 {
-    let fault = ProgramFault::BadProgram {
-        at: token.span.start,
-    };
-    let ends = is_sign(Sign::Semicolon, token.kind);
-    let room = r.calls.len() < MOST_CALLS;
-    let (r, p) = read!(passing((r, p), ends, fault));
-    let (r, p) = read!(passing((r, p), room, ProgramFault::ProgramLimit));
+    if !is_sign(Sign::Semicolon, token.kind) {
+        return Ok(Err(ProgramFault::BadProgram {
+            at: token.span.start,
+        }));
+    }
+    if r.calls.len() >= MOST_CALLS {
+        return Ok(Err(ProgramFault::ProgramLimit));
+    }
     Ok(Ok(Reading {
         stage: Stage::AtCall,
         parts: with_finished(alloc, r, p)?,
@@ -376,9 +377,10 @@ fn at_thread_name<'a>(
     match name_in(token.kind) {
         None => Ok(Err(ProgramFault::BadProgram { at })),
         Some(text) => {
-            let free = text != "all" && !thread_named(&r.threads, text);
-            let r = read!(passing(r, free, ProgramFault::BadProgram { at }));
-            let (r, name) = also(r, String::from_str(alloc, text))?;
+            if text == "all" || thread_named(&r.threads, text) {
+                return Ok(Err(ProgramFault::BadProgram { at }));
+            }
+            let name = String::from_str(alloc, text)?;
             let parts = Parts {
                 names: r.names,
                 threads: r.threads,
@@ -458,19 +460,16 @@ pub fn stepped<'a>(
 fn at_thread<'a>(r: Parts, token: Token<'a>) -> Result<Reading<'a>, ProgramFault>
     ensures { reads_on result ≡ the_at_thread (parts_of r) (lexeme_of token.entry.kind) }
 {
-    let fault = ProgramFault::BadProgram {
-        at: token.span.start,
-    };
-    let stands = is_text("thread", name_in(token.kind));
-    let room = r.threads.len() <= MOST_THREADS;
-    match passing(r, stands, fault) {
-        Ok(r) => {
-            let next = Reading {
-                stage: Stage::AtThreadName,
-                parts: r,
-            };
-            passing(next, room, ProgramFault::ProgramLimit)
-        }
-        Err(fault) => Err(fault),
+    if !is_text("thread", name_in(token.kind)) {
+        return Err(ProgramFault::BadProgram {
+            at: token.span.start,
+        });
     }
+    if r.threads.len() > MOST_THREADS {
+        return Err(ProgramFault::ProgramLimit);
+    }
+    Ok(Reading {
+        stage: Stage::AtThreadName,
+        parts: r,
+    })
 }
