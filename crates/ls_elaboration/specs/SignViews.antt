@@ -21,9 +21,6 @@ met_of m = record {
   next = m.next;
 }
 
-abbrev pub seen_met : Result Met Broken → Elaborated signs.Met
-seen_met r = seen met_of r
-
 abbrev pub classes_of : Classes → signs.Classes
 classes_of c = record { signs = map class_sign_of c.signs.items; next = c.next }
 

@@ -12,6 +12,7 @@ use crate::known::{Known, Local};
 use crate::places::span_of;
 use crate::rule::{Broken, Rule, broken_at};
 use crate::static_types::{Static, Typed};
+use crate::together::beside;
 use ls_checked::tree::{Expression, Statement};
 use ls_events::value::ValueType;
 use ls_lexer::token::Span;
@@ -89,6 +90,7 @@ pub fn assignment(
 {
     let x = kept!(typed(alloc, known, locals, target)?);
     let to = kept!(left_side(span_of(target), x));
-    let v = kept!(fitting(alloc, known, locals, to.value_type, value)?);
+    let v = fitting(alloc, known, locals, to.value_type, value);
+    let (to, v) = kept!(beside(to, v)?);
     Ok(Ok(assigned(to.place, v)))
 }

@@ -1,11 +1,12 @@
 // Which statements can complete normally.
 
-ghost use Rattle.std.specs.Prelude.{◌≡◌, IfOk, map};
+ghost use Rattle.std.specs.Prelude.{◌≡◌, ◌++◌, [], IfOk, if◌then◌else◌, map};
 ghost use Rattle.ls_checked.specs.Plain.{plain, plain_statement};
 ghost use Rattle.ls_elaboration.specs.TypedStatements.{sequence};
 ghost use Rattle.ls_elaboration.specs.Left.{outward as the_outward, has as the_has, left as the_left, all_left as the_all_left};
 ghost use Rattle.ls_completion.specs.Completion.{is_true as the_true, can_complete as the_can_complete, all_complete as the_all_complete};
 
+use crate::together::{also, push};
 use ls_checked::tree::{Expression, Statement};
 use ls_events::value::Value;
 use std::alloc::{AllocError, Global};
@@ -53,6 +54,27 @@ fn outward(alloc: Global, left: &[usize]) -> Result<Vec<usize>, AllocError>
     Ok(outer)
 }
 
+fn joined(left: Vec<usize>, more: Vec<usize>) -> Result<Vec<usize>, AllocError>
+    ensures { IfOk result (λ r. r.items ≡ left.items ++ more.items) }
+{
+    let mut left = left;
+    left.extend_from_slice(&more)?;
+    Ok(left)
+}
+
+// Out of a body only where its `finally` completes, and out of that.
+fn past(
+    alloc: Global,
+    within: Vec<usize>,
+    finally: bool,
+    last: Vec<usize>,
+) -> Result<Vec<usize>, AllocError>
+    ensures { IfOk result (λ r. r.items ≡ (if finally then within.items else []) ++ last.items) }
+{
+    let left = if finally { within } else { Vec::new(alloc) };
+    joined(left, last)
+}
+
 #[cycle(completion)]
 #[tactic(auto, using(crate::proofs::Blocks::block_read, crate::proofs::Left::left_broken))]
 fn ways_of(alloc: Global, s: &Statement) -> Result<Ways, AllocError>
@@ -62,18 +84,11 @@ fn ways_of(alloc: Global, s: &Statement) -> Result<Ways, AllocError>
     match s {
         Statement::Block(ss) => all_ways(alloc, ss),
         Statement::If(_, a, b) => {
-            let Ways {
-                completes: first,
-                mut left,
-            } = ways_of(alloc, a)?;
-            let Ways {
-                completes: second,
-                left: more,
-            } = ways_of(alloc, b)?;
-            left.extend_from_slice(&more)?;
+            let first = ways_of(alloc, a)?;
+            let (first, second) = also(first, ways_of(alloc, b))?;
             Ok(Ways {
-                completes: first || second,
-                left,
+                completes: first.completes || second.completes,
+                left: joined(first.left, second.left)?,
             })
         }
         Statement::While(c, s) => {
@@ -83,11 +98,9 @@ fn ways_of(alloc: Global, s: &Statement) -> Result<Ways, AllocError>
             Ok(Ways { completes, left })
         }
         Statement::Break(n) => {
-            let mut left = Vec::new(alloc);
-            left.push(*n)?;
             Ok(Ways {
                 completes: false,
-                left,
+                left: push(Vec::new(alloc), *n)?,
             })
         }
         Statement::Continue(_) | Statement::ReturnNothing | Statement::ReturnValue(_) => {
@@ -97,19 +110,11 @@ fn ways_of(alloc: Global, s: &Statement) -> Result<Ways, AllocError>
             })
         }
         Statement::Try(b, f) => {
-            let Ways {
-                completes: body,
-                left: within,
-            } = ways_of(alloc, b)?;
-            let Ways {
-                completes: finally,
-                left: last,
-            } = ways_of(alloc, f)?;
-            let mut left = if finally { within } else { Vec::new(alloc) };
-            left.extend_from_slice(&last)?;
+            let body = ways_of(alloc, b)?;
+            let (body, finally) = also(body, ways_of(alloc, f))?;
             Ok(Ways {
-                completes: body && finally,
-                left,
+                completes: body.completes && finally.completes,
+                left: past(alloc, body.left, finally.completes, finally.left)?,
             })
         }
         Statement::SetSlot(..)

@@ -10,7 +10,8 @@ ghost use Rattle.ls_elaboration.specs.Outcomes.{seen_bodies, seen_outcome};
 use crate::known::{ClassSign, Known};
 use crate::methods::class_methods;
 use crate::rule::Broken;
-use crate::signs::{class_names, class_signs};
+use crate::signs::{Classes, class_names, class_signs};
+use crate::together::{also, beside};
 use indexmap::{IndexMap, IndexSet};
 use ls_checked::tree::{Class, File, Method};
 use ls_events::value::ValueType;
@@ -84,15 +85,15 @@ pub fn elaborate(alloc: Global, parsed: &ClassFile) -> Result<Result<Outcome, Br
     ensures { IfOk result (λ r. seen_outcome r ≡ elaborated (placed_file parsed.now)) }
 {
     let names = kept!(class_names(alloc, &parsed.classes)?);
-    let classes = kept!(class_signs(alloc, &names, &parsed.classes)?);
-    let methods = kept!(file_methods(alloc, &names, &classes.signs, &parsed.classes)?);
-    let file = File {
-        classes: checked_classes(alloc, &classes.signs)?,
-        methods,
-    };
+    let classes = class_signs(alloc, &names, &parsed.classes);
+    let (names, Classes { signs, .. }) = kept!(beside(names, classes)?);
+    let methods = file_methods(alloc, &names, &signs, &parsed.classes);
+    let ((names, signs), methods) = kept!(beside((names, signs), methods)?);
+    let classes = checked_classes(alloc, &signs);
+    let ((names, signs, methods), classes) = also((names, signs, methods), classes)?;
     Ok(Ok(Outcome {
         names,
-        signs: classes.signs,
-        file,
+        signs,
+        file: File { classes, methods },
     }))
 }

@@ -2,18 +2,22 @@
 
 ghost use Rattle.std.specs.Prelude.{◌≡◌, ◌≤◌, IfOk, map};
 ghost use Rattle.ls_checked.specs.Plain.{plain, all_plain};
+ghost use Rattle.ls_checked.specs.CheckedTree.{Expression as checked_expression, Field as checked_field};
+ghost use Rattle.ls_elaboration.specs.Elaborated.{with_ok};
+ghost use Rattle.ls_elaboration.specs.StaticTypes.{typed_as as typing};
 ghost use Rattle.ls_elaboration.specs.TypedExpressions.{typed as the_typed, passed as the_passed, name_of as the_name, field_at as the_field_at, is_integer as the_integer, integer_constant as the_constant, call_of as the_call, number as the_number, digits_value, fitting as the_fitting};
-ghost use Rattle.ls_elaboration.specs.Trees.{Call as a_call, CallOn as a_call_on, New as a_new, NewMarkable as a_new_markable, NewArray as a_new_array, Item as an_item, Field as a_field, Binary as a_binary};
+ghost use Rattle.ls_elaboration.specs.Trees.{Call as a_call, CallOn as a_call_on, New as a_new, NewMarkable as a_new_markable, Item as an_item, Binary as a_binary};
 ghost use Rattle.ls_elaboration.specs.Placed.{placed, placed_name, placed_all, placed_target, call_of as call_written};
 ghost use Rattle.ls_elaboration.specs.Tables.{local_of, known_of};
 ghost use Rattle.ls_elaboration.specs.Answers.{typed_of, member_of as seen_member, seen_typed, seen_plain, seen_all};
 
-use crate::known::{Known, Local, field_of, local_named};
+use crate::known::{FoundField, Known, Local, field_of, local_named};
 use crate::members::{Member, made, maker_of, markable_maker, member_of, method_member};
 use crate::operators::{binary_of, unary_of};
 use crate::places::span_of;
 use crate::rule::{Broken, Rule, broken_at};
 use crate::static_types::{Static, Typed, as_array, as_type, as_value, result_type, typed_as};
+use crate::together::{beside, found, two, with};
 use ls_checked::tree::{Expression, Expressions};
 use ls_events::value::{Value, ValueType};
 use ls_lexer::token::Span;
@@ -70,6 +74,19 @@ fn name_typed(
     }
 }
 
+// The class of an object, and its field of a name.
+fn field_in(known: Known, of: Static, n: &Name) -> Result<(usize, FoundField), Broken>
+    ensures { (e : checked_expression) → the_field_at (known_of known.entry) of e (placed_name n.now) ≡ with_ok result (λ p. typing p.1.value_type (checked_field e p.0 p.1.number)) }
+{
+    match of {
+        Static::Of(ValueType::Class(class)) => match field_of(known, class, n.text.as_str()) {
+            None => Err(broken_at(Rule::UnknownName, n.span)),
+            Some(f) => Ok((class, f)),
+        },
+        _ => Err(broken_at(Rule::UnknownName, n.span)),
+    }
+}
+
 // A field of an object.
 fn field_at(
     alloc: Global,
@@ -79,24 +96,15 @@ fn field_at(
 ) -> Result<Result<Typed, Broken>, AllocError>
     ensures { IfOk result (λ r. seen_typed r ≡ the_field_at (known_of known.entry) x.of (plain x.expression) (placed_name n.now)) }
 {
-    let Typed { expression, of } = x;
-    match of {
-        Static::Of(ValueType::Class(class)) => match field_of(known, class, n.text.as_str()) {
-            None => Ok(Err(broken_at(Rule::UnknownName, n.span))),
-            Some(f) => {
-                let target = Box::new(alloc, expression)?;
-                Ok(typed_as(
-                    f.value_type,
-                    Expression::Field {
-                        target,
-                        class,
-                        field: f.number,
-                    },
-                ))
-            }
-        },
-        _ => Ok(Err(broken_at(Rule::UnknownName, n.span))),
-    }
+    let found = field_in(known, x.of, n);
+    let (expression, (class, f)) = kept!(with(x.expression, found));
+    let target = Box::new(alloc, expression)?;
+    let e = Expression::Field {
+        target,
+        class,
+        field: f.number,
+    };
+    Ok(typed_as(f.value_type, e))
 }
 
 // Whether an expression is the name `Integer`, and that of no local or field in scope.
@@ -135,9 +143,9 @@ fn call_of(
 ) -> Result<Result<Typed, Broken>, AllocError>
     ensures { IfOk result (λ r. seen_typed r ≡ the_call (seen_member m) (plain target) (all_plain es)) }
 {
-    let expression = Expression::Call(Box::new(alloc, target)?, m.called, Box::new(alloc, es)?);
+    let (target, es) = two(alloc, target, es)?;
     Ok(Ok(Typed {
-        expression,
+        expression: Expression::Call(target, m.called, es),
         of: result_type(m.result),
     }))
 }
@@ -242,7 +250,8 @@ fn binary(
     ensures { IfOk result (λ r. seen_typed r ≡ the_typed (known_of known.entry) (map local_of locals.now) (a_binary op (placed left.now) (placed right.now) span)) }
 {
     let x = kept!(typed(alloc, known, locals, left)?);
-    let y = kept!(typed(alloc, known, locals, right)?);
+    let y = typed(alloc, known, locals, right);
+    let (x, y) = kept!(beside(x, y)?);
     binary_of(alloc, op, span, span_of(left), span_of(right), x, y)
 }
 
@@ -279,7 +288,8 @@ fn own_call(
     match method_member(alloc, known, known.own, n.text.as_str())? {
         None => Ok(Err(broken_at(Rule::UnknownName, n.span))),
         Some(m) => {
-            let es = kept!(passed(alloc, known, locals, &m.parameters, arguments, span)?);
+            let es = passed(alloc, known, locals, &m.parameters, arguments, span);
+            let (m, es) = kept!(beside(m, es)?);
             call_of(alloc, m, Expression::Slot(0), es)
         }
     }
@@ -299,13 +309,12 @@ fn call_on(
     ensures { IfOk result (λ r. seen_typed r ≡ the_typed (known_of known.entry) (map local_of locals.now) (a_call_on (placed target.now) (placed_name n.now) (placed_all arguments.now) span)) }
 {
     let x = kept!(typed(alloc, known, locals, target)?);
-    match member_of(alloc, known, x.of, n.text.as_str())? {
-        None => Ok(Err(broken_at(Rule::UnknownName, n.span))),
-        Some(m) => {
-            let es = kept!(passed(alloc, known, locals, &m.parameters, arguments, span)?);
-            call_of(alloc, m, x.expression, es)
-        }
-    }
+    let m = member_of(alloc, known, x.of, n.text.as_str());
+    let m = found(m, broken_at(Rule::UnknownName, n.span));
+    let (x, m) = kept!(beside(x, m)?);
+    let es = passed(alloc, known, locals, &m.parameters, arguments, span);
+    let ((x, m), es) = kept!(beside((x, m), es)?);
+    call_of(alloc, m, x.expression, es)
 }
 
 // An element of an array.
@@ -322,12 +331,11 @@ fn item(
 {
     let x = kept!(typed(alloc, known, locals, array)?);
     let a = kept!(as_array(span_of(array), x));
-    let y = kept!(typed(alloc, known, locals, index)?);
-    let i = kept!(as_type(ValueType::Int, span_of(index), y));
-    Ok(typed_as(
-        ValueType::Boolean,
-        Expression::Item(Box::new(alloc, a)?, Box::new(alloc, i)?),
-    ))
+    let y = typed(alloc, known, locals, index);
+    let (a, y) = kept!(beside(a, y)?);
+    let (a, i) = kept!(with(a, as_type(ValueType::Int, span_of(index), y)));
+    let (a, i) = two(alloc, a, i)?;
+    Ok(typed_as(ValueType::Boolean, Expression::Item(a, i)))
 }
 
 // An object or a lock.
@@ -343,7 +351,8 @@ fn making(
     ensures { IfOk result (λ r. seen_typed r ≡ the_typed (known_of known.entry) (map local_of locals.now) (a_new (placed_name class.now) (placed_all arguments.now) span)) }
 {
     let m = kept!(maker_of(alloc, known, class)?);
-    let es = kept!(passed(alloc, known, locals, &m.parameters, arguments, span)?);
+    let es = passed(alloc, known, locals, &m.parameters, arguments, span);
+    let (m, es) = kept!(beside(m, es)?);
     Ok(typed_as(m.value_type, made(alloc, m.makes, es)?))
 }
 
@@ -359,7 +368,8 @@ fn markable(
     ensures { IfOk result (λ r. seen_typed r ≡ the_typed (known_of known.entry) (map local_of locals.now) (a_new_markable (placed_name class.now) (placed_all arguments.now) span)) }
 {
     let m = kept!(markable_maker(alloc, known, class)?);
-    let es = kept!(passed(alloc, known, locals, &m.parameters, arguments, span)?);
+    let es = passed(alloc, known, locals, &m.parameters, arguments, span);
+    let (m, es) = kept!(beside(m, es)?);
     Ok(typed_as(m.value_type, made(alloc, m.makes, es)?))
 }
 
@@ -382,8 +392,10 @@ fn passed(
         ([t, ts @ ..], [e, es @ ..]) => {
             let x = kept!(typed(alloc, known, locals, e)?);
             let a = kept!(as_type(*t, span_of(e), x));
-            let rest = kept!(passed(alloc, known, locals, ts, es, span)?);
-            Ok(Ok(Expressions::More(Box::new(alloc, a)?, Box::new(alloc, rest)?)))
+            let rest = passed(alloc, known, locals, ts, es, span);
+            let (a, rest) = kept!(beside(a, rest)?);
+            let (a, rest) = two(alloc, a, rest)?;
+            Ok(Ok(Expressions::More(a, rest)))
         }
     }
 }

@@ -25,3 +25,4 @@ pub mod scope;
 pub mod signs;
 pub mod statements;
 pub mod static_types;
+pub mod together;

@@ -1,8 +1,14 @@
 // Methods, constructors and field initialisers.
 
-ghost use Rattle.std.specs.Prelude.{◌≡◌, ◌≤◌, IfOk, map, option_map, vec_len};
+ghost use Rattle.std.specs.Prelude.{◌≡◌, ◌≤◌, ◌&&◌, ◌∷◌, [], IfOk, is_some, map, option_map, vec_len};
+ghost use Rattle.ls_events.specs.declared.value.ValueType.TheVariants.{Class as class_type};
+ghost use Rattle.ls_checked.specs.CheckedTree.{Method as checked_method};
+ghost use Rattle.ls_completion.specs.Completion.{all_complete as the_all_complete};
+ghost use Rattle.ls_elaboration.specs.declared.rule.Rule.TheVariants.{MissingReturn};
+ghost use Rattle.ls_elaboration.specs.Answers.{unless_refused};
+ghost use Rattle.ls_elaboration.specs.TypedStatements.{sequence};
 ghost use Rattle.ls_checked.specs.Plain.{plain_statement, plain_method};
-ghost use Rattle.ls_elaboration.specs.Elaborated.{each};
+ghost use Rattle.ls_elaboration.specs.Elaborated.{Elaborated, each, unless_broken};
 ghost use Rattle.ls_elaboration.specs.TypedMethods.{parameter as the_parameter, declarator_set as the_declarator_set, member_set as the_member_set, initialisers as the_initialisers, method as the_method, written_method as the_written_method, written_constructor as the_written_constructor, one_method as the_one_method, has_constructor as the_has_constructor, default_constructor as the_default_constructor, class_methods as the_class_methods};
 ghost use Rattle.ls_elaboration.specs.Placed.{placed_name};
 ghost use Rattle.ls_elaboration.specs.PlacedStatements.{placed_parameter, placed_declarator, placed_member, placed_items, placed_type};
@@ -15,8 +21,10 @@ use crate::known::{Known, field_of};
 use crate::rule::{Broken, Rule, broken_at};
 use crate::scope::{Context, Scope, may_declare, result_of, type_of, with_variable};
 use crate::statements::{all_items, block_of};
+use crate::together::{also, beside, push, with};
 use ls_checked::tree::{Expression, Method, Statement};
 use ls_events::value::ValueType;
+use ls_lexer::token::Span;
 use ls_tree::tree::{
     BlockItem, Constructor, Declarator, Member, Method as MethodText, Name, Parameter,
 };
@@ -32,8 +40,9 @@ fn parameter<'t>(
     ensures found { IfOk result (λ r. seen_scope r ≡ the_parameter (body_of context.entry) (scope_of scope.entry) (placed_parameter p.entry.now)) }
     ensures low { IfOk result (λ r. IfOk r (λ s. vec_len s.slots ≤ 128)) }
 {
-    kept!(may_declare(context.span, &scope, &p.name));
-    let t = kept!(type_of(context.known.names, &p.type_name));
+    let may = may_declare(context.span, &scope, &p.name);
+    let (scope, _) = kept!(with(scope, may));
+    let (scope, t) = kept!(with(scope, type_of(context.known.names, &p.type_name)));
     Ok(Ok(with_variable(scope, p.name.text.as_str(), t)?))
 }
 
@@ -64,14 +73,14 @@ fn declarator_set(
 {
     match (field_of(known, known.own, d.name.text.as_str()), &d.value) {
         (Some(f), Some(e)) => {
-            let value = kept!(fitting(alloc, known, &[], f.value_type, e)?);
-            let mut front = front;
-            front.push(Statement::SetField {
+            let value = fitting(alloc, known, &[], f.value_type, e);
+            let (front, value) = kept!(beside(front, value)?);
+            let s = Statement::SetField {
                 target: Expression::Slot(0),
                 field: f.number,
                 value,
-            })?;
-            Ok(Ok(front))
+            };
+            Ok(Ok(push(front, s)?))
         }
         (None, _) => Ok(Ok(front)),
         (Some(_), None) => Ok(Ok(front)),
@@ -114,6 +123,30 @@ fn initialisers(
     Ok(Ok(front))
 }
 
+// The slot of `this`.
+fn first_slot(alloc: Global, known: Known) -> Result<Vec<ValueType>, AllocError>
+    ensures { IfOk result (λ v. v.items ≡ class_type known.entry.own ∷ []) }
+{
+    let mut slots = Vec::new(alloc);
+    slots.push(ValueType::Class(known.own))?;
+    Ok(slots)
+}
+
+// Whether a method that answers a value can't complete without one.
+fn answered(
+    alloc: Global,
+    answers: Option<ValueType>,
+    body: &[Statement],
+    span: Span,
+) -> Result<Result<(), Broken>, AllocError>
+    ensures { IfOk result (λ r. (go : Elaborated checked_method) → unless_broken (is_some answers && the_all_complete (sequence (map plain_statement body.now))) MissingReturn span go ≡ unless_refused r go) }
+{
+    if answers.is_some() && all_complete(alloc, body)? {
+        return Ok(Err(broken_at(Rule::MissingReturn, span)));
+    }
+    Ok(Ok(()))
+}
+
 // A method or constructor, whose body begins with the statements of `front`.
 fn method<'t>(
     alloc: Global,
@@ -131,8 +164,7 @@ fn method<'t>(
         result: answers,
         span: name.span,
     };
-    let mut slots = Vec::new(alloc);
-    slots.push(ValueType::Class(known.own))?;
+    let (front, slots) = also(front, first_slot(alloc, known))?;
     let scope = Scope {
         statements: front,
         locals: Vec::new(alloc),
@@ -140,9 +172,8 @@ fn method<'t>(
     };
     let scope = kept!(parameters(context, scope, ps)?);
     let scope = kept!(all_items(alloc, context, &[], scope, items)?);
-    if answers.is_some() && all_complete(alloc, &scope.statements)? {
-        return Ok(Err(broken_at(Rule::MissingReturn, name.span)));
-    }
+    let answered = answered(alloc, answers, &scope.statements, name.span);
+    let (scope, _) = kept!(beside(scope, answered)?);
     Ok(Ok(Method {
         class: known.own,
         parameters: ps.len(),
@@ -201,14 +232,19 @@ fn one_method(
 ) -> Result<Result<Vec<Method>, Broken>, AllocError>
     ensures { IfOk result (λ r. seen_methods r ≡ the_one_method (known_of known.entry) (map placed_member members.now) (map plain_method before.items) (placed_member m.now)) }
 {
-    let method = match m {
-        Member::Field(_) => return Ok(Ok(before)),
-        Member::Method(m) => kept!(written_method(alloc, known, m)?),
-        Member::Constructor(c) => kept!(written_constructor(alloc, known, members, c)?),
-    };
-    let mut methods = before;
-    methods.push(method)?;
-    Ok(Ok(methods))
+    match m {
+        Member::Field(_) => Ok(Ok(before)),
+        Member::Method(m) => {
+            let m = written_method(alloc, known, m);
+            let (methods, m) = kept!(beside(before, m)?);
+            Ok(Ok(push(methods, m)?))
+        }
+        Member::Constructor(c) => {
+            let m = written_constructor(alloc, known, members, c);
+            let (methods, m) = kept!(beside(before, m)?);
+            Ok(Ok(push(methods, m)?))
+        }
+    }
 }
 
 fn has_constructor(members: &[Member]) -> bool
@@ -234,18 +270,17 @@ fn default_constructor(
     if has_constructor(members) {
         return Ok(Ok(before));
     }
-    let front = kept!(initialisers(alloc, known, members)?);
-    let mut slots = Vec::new(alloc);
-    slots.push(ValueType::Class(known.own))?;
-    let mut methods = before;
-    methods.push(Method {
+    let front = initialisers(alloc, known, members);
+    let (methods, front) = kept!(beside(before, front)?);
+    let ((methods, front), slots) = also((methods, front), first_slot(alloc, known))?;
+    let made = Method {
         class: known.own,
         parameters: 0,
         slots,
         result: None,
         body: block_of(front),
-    })?;
-    Ok(Ok(methods))
+    };
+    Ok(Ok(push(methods, made)?))
 }
 
 /// The methods and constructors of a class, in text order, behind those of the classes before it.

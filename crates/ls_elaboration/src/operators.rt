@@ -3,10 +3,14 @@
 ghost use Rattle.std.specs.Prelude.{◌≡◌, IfOk, if◌then◌else◌};
 ghost use Rattle.ls_tree.specs.declared.tree.BinaryOp.TheVariants.{And as and_written, Or as or_written};
 ghost use Rattle.ls_elaboration.specs.Operators.{unary_of as the_unary, binary_of as the_binary, computed as the_computed, compared as the_compared};
-ghost use Rattle.ls_elaboration.specs.Answers.{typed_of, seen_typed};
+ghost use Rattle.ls_elaboration.specs.StaticTypes.{comparable as the_comparable, Typed as the_typed};
+ghost use Rattle.ls_elaboration.specs.Elaborated.{Elaborated, broken};
+ghost use Rattle.ls_elaboration.specs.declared.rule.Rule.TheVariants.{WrongType};
+ghost use Rattle.ls_elaboration.specs.Answers.{typed_of, seen_typed, unless_refused};
 
 use crate::rule::{Broken, Rule, broken_at};
-use crate::static_types::{Typed, as_type, as_value, comparable, typed_as};
+use crate::static_types::{Static, Typed, as_type, as_value, comparable, typed_as};
+use crate::together::{two, with};
 use ls_checked::tree::{Expression, Operator};
 use ls_events::value::ValueType;
 use ls_lexer::token::Span;
@@ -46,12 +50,20 @@ fn computed(
 ) -> Result<Result<Typed, Broken>, AllocError>
     ensures { IfOk result (λ r. seen_typed r ≡ the_computed t op left right (typed_of x) (typed_of y)) }
 {
-    let a = kept!(as_type(ValueType::Int, left, x));
-    let b = kept!(as_type(ValueType::Int, right, y));
-    Ok(typed_as(
-        t,
-        Expression::Binary(op, Box::new(alloc, a)?, Box::new(alloc, b)?),
-    ))
+    let (y, a) = kept!(with(y, as_type(ValueType::Int, left, x)));
+    let (a, b) = kept!(with(a, as_type(ValueType::Int, right, y)));
+    let (a, b) = two(alloc, a, b)?;
+    Ok(typed_as(t, Expression::Binary(op, a, b)))
+}
+
+fn may_compare(span: Span, x: Static, y: Static) -> Result<(), Broken>
+    ensures { (go : Elaborated the_typed) → (if the_comparable x y then go else broken WrongType span) ≡ unless_refused result go }
+{
+    if comparable(x, y) {
+        Ok(())
+    } else {
+        Err(broken_at(Rule::WrongType, span))
+    }
 }
 
 // Two values that may be compared.
@@ -66,18 +78,12 @@ fn compared(
 ) -> Result<Result<Typed, Broken>, AllocError>
     ensures { IfOk result (λ r. seen_typed r ≡ the_compared op span left right (typed_of x) (typed_of y)) }
 {
-    let x = kept!(as_value(left, x));
-    let y = kept!(as_value(right, y));
-    if comparable(x.of, y.of) {
-        let e = Expression::Binary(
-            op,
-            Box::new(alloc, x.expression)?,
-            Box::new(alloc, y.expression)?,
-        );
-        Ok(typed_as(ValueType::Boolean, e))
-    } else {
-        Ok(Err(broken_at(Rule::WrongType, span)))
-    }
+    let (y, x) = kept!(with(y, as_value(left, x)));
+    let (x, y) = kept!(with(x, as_value(right, y)));
+    let fits = may_compare(span, x.of, y.of);
+    let ((x, y), _) = kept!(with((x, y), fits));
+    let (a, b) = two(alloc, x.expression, y.expression)?;
+    Ok(typed_as(ValueType::Boolean, Expression::Binary(op, a, b)))
 }
 
 // Truth values on both sides of `&&` or `||`.
@@ -91,18 +97,13 @@ fn decided(
 ) -> Result<Result<Typed, Broken>, AllocError>
     ensures { IfOk result (λ r. seen_typed r ≡ the_binary (if and then and_written else or_written) left left right (typed_of x) (typed_of y)) }
 {
-    let a = kept!(as_type(ValueType::Boolean, left, x));
-    let b = kept!(as_type(ValueType::Boolean, right, y));
+    let (y, a) = kept!(with(y, as_type(ValueType::Boolean, left, x)));
+    let (a, b) = kept!(with(a, as_type(ValueType::Boolean, right, y)));
+    let (a, b) = two(alloc, a, b)?;
     if and {
-        Ok(typed_as(
-            ValueType::Boolean,
-            Expression::And(Box::new(alloc, a)?, Box::new(alloc, b)?),
-        ))
+        Ok(typed_as(ValueType::Boolean, Expression::And(a, b)))
     } else {
-        Ok(typed_as(
-            ValueType::Boolean,
-            Expression::Or(Box::new(alloc, a)?, Box::new(alloc, b)?),
-        ))
+        Ok(typed_as(ValueType::Boolean, Expression::Or(a, b)))
     }
 }
 

@@ -5,7 +5,7 @@ ghost use Rattle.std.specs.Prelude.{◌≡◌};
 use ls_lexer::token::Span;
 
 /// A typing rule of the language.
-#[derive(Clone, Copy, Debug, PartialEq, Eq)]
+#[derive(Clone, Copy)]
 pub enum Rule {
     UnknownName,
     TwiceDeclared,
@@ -21,7 +21,7 @@ pub enum Rule {
 }
 
 /// A broken rule, and the name, expression or statement where it is broken.
-#[derive(Clone, Copy, Debug, PartialEq, Eq)]
+#[derive(Clone, Copy)]
 pub struct Broken {
     pub rule: Rule,
     pub span: Span,

@@ -16,6 +16,7 @@ ghost use Rattle.ls_elaboration.specs.ScopeViews.{body_of, scope_of, seen_scope}
 use crate::expressions::fitting;
 use crate::known::{Known, Local, local_named, number_of};
 use crate::rule::{Broken, Rule, broken_at};
+use crate::together::{beside, with};
 use indexmap::IndexSet;
 use ls_checked::tree::{Expression, Statement};
 use ls_events::value::{Value, ValueType};
@@ -170,7 +171,8 @@ fn initialised<'t>(
     match value {
         None => Ok(Ok(scope)),
         Some(e) => {
-            let v = kept!(fitting(alloc, known, &scope.locals, t, e)?);
+            let v = fitting(alloc, known, &scope.locals, t, e);
+            let (scope, v) = kept!(beside(scope, v)?);
             Ok(Ok(with_statement(scope, Statement::SetSlot(slot, v))?))
         }
     }
@@ -188,7 +190,8 @@ fn declared<'t>(
     ensures found { IfOk result (λ r. seen_scope r ≡ the_declared (body_of context.entry) t (scope_of scope.entry) (placed_declarator d.entry.now)) }
     ensures low { IfOk result (λ r. IfOk r (λ s. vec_len s.slots ≤ 128)) }
 {
-    kept!(may_declare(context.span, &scope, &d.name));
+    let may = may_declare(context.span, &scope, &d.name);
+    let (scope, _) = kept!(with(scope, may));
     let slot = scope.slots.len();
     let scope = with_variable(scope, d.name.text.as_str(), t)?;
     let scope = with_statement(
@@ -209,7 +212,7 @@ pub fn declaration<'t>(
     ensures found { IfOk result (λ r. seen_scope r ≡ the_declaration (body_of context.entry) (scope_of scope.entry) (placed_declaration d.entry.now)) }
     ensures low { IfOk result (λ r. IfOk r (λ s. vec_len s.slots ≤ 128)) }
 {
-    let t = kept!(type_of(context.known.names, &d.type_name));
+    let (scope, t) = kept!(with(scope, type_of(context.known.names, &d.type_name)));
     let mut scope = kept!(declared(alloc, context, t, scope, &d.first)?);
     for d in &d.more {
         scope = kept!(declared(alloc, context, t, scope, d)?);

@@ -1,11 +1,12 @@
 // What the classes of a text declare.
 
 ghost use Rattle.std.specs.Prelude.{◌≡◌, IfOk, map, string_bytes};
-ghost use Rattle.ls_elaboration.specs.Signs.{is_reserved as the_reserved, one_name as the_one_name, class_names as the_class_names, parameter_types as the_parameter_types, field_met as the_field_met, fields_met as the_fields_met, method_met as the_method_met, constructor_met as the_constructor_met, member_met as the_member_met, class_met as the_class_met, one_class as the_one_class, class_signs as the_class_signs};
+ghost use Rattle.ls_elaboration.specs.Signs.{is_reserved as the_reserved, one_name as the_one_name, class_names as the_class_names, parameter_types as the_parameter_types, field_met as the_field_met, fields_met as the_fields_met, method_met as the_method_met, constructor_met as the_constructor_met, member_met as the_member_met, nothing_met as the_nothing_met, class_met as the_class_met, one_class as the_one_class, class_signs as the_class_signs};
 ghost use Rattle.ls_elaboration.specs.Placed.{placed_name};
 ghost use Rattle.ls_elaboration.specs.PlacedStatements.{placed_parameter, placed_declarator, placed_member, placed_class, placed_declaration};
 ghost use Rattle.ls_elaboration.specs.Tables.{texts_of};
-ghost use Rattle.ls_elaboration.specs.SignViews.{met_of, seen_met, classes_of, seen_classes, seen_names, seen_types};
+ghost use Rattle.ls_elaboration.specs.SignViews.{met_of, classes_of, seen_classes, seen_names, seen_types};
+ghost use Rattle.ls_elaboration.specs.Answers.{seen};
 
 use crate::known::{ClassSign, MethodSign};
 use crate::rule::{Broken, Rule, broken_at};
@@ -52,24 +53,23 @@ fn is_reserved(name: &str) -> bool
 // One more class's name.
 fn one_name(
     alloc: Global,
-    before: IndexSet<String>,
+    names: &mut IndexSet<String>,
     c: &Class,
-) -> Result<Result<IndexSet<String>, Broken>, AllocError>
-    ensures { IfOk result (λ r. seen_names r ≡ the_one_name (texts_of before) (placed_class c.now)) }
+) -> Result<Result<(), Broken>, AllocError>
+    ensures { IfOk result (λ r. seen (λ u. texts_of names.new) r ≡ the_one_name (texts_of names.old) (placed_class c.now)) }
 {
     let name = c.name.text.as_str();
     if is_reserved(name) {
         return Ok(Err(broken_at(Rule::ReservedClass, c.name.span)));
     }
-    if before.contains(name) {
+    if names.contains(name) {
         return Ok(Err(broken_at(Rule::TwiceDeclared, c.name.span)));
     }
-    if before.len() >= MOST_CLASSES {
+    if names.len() >= MOST_CLASSES {
         return Ok(Err(broken_at(Rule::Limit, c.name.span)));
     }
-    let mut names = before;
     names.insert(String::from_str(alloc, name)?)?;
-    Ok(Ok(names))
+    Ok(Ok(()))
 }
 
 /// The names of the classes.
@@ -81,7 +81,7 @@ pub fn class_names(
 {
     let mut names = IndexSet::new(alloc);
     for c in classes {
-        names = kept!(one_name(alloc, names, c)?);
+        kept!(one_name(alloc, &mut names, c)?);
     }
     Ok(Ok(names))
 }
@@ -108,10 +108,10 @@ fn parameter_types(
 fn field_met(
     alloc: Global,
     t: ValueType,
-    met: Met,
+    met: &mut Met,
     d: &Declarator,
-) -> Result<Result<Met, Broken>, AllocError>
-    ensures { IfOk result (λ r. seen_met r ≡ the_field_met t (met_of met) (placed_declarator d.now)) }
+) -> Result<Result<(), Broken>, AllocError>
+    ensures { IfOk result (λ r. seen (λ u. met_of met.new) r ≡ the_field_met t (met_of met.old) (placed_declarator d.now)) }
 {
     let name = d.name.text.as_str();
     if met.fields.contains_key(name) {
@@ -120,31 +120,18 @@ fn field_met(
     if met.fields.len() >= MOST_FIELDS {
         return Ok(Err(broken_at(Rule::Limit, d.name.span)));
     }
-    let Met {
-        mut fields,
-        methods,
-        constructor,
-        parameters,
-        next,
-    } = met;
-    fields.insert(String::from_str(alloc, name)?, t)?;
-    Ok(Ok(Met {
-        fields,
-        methods,
-        constructor,
-        parameters,
-        next,
-    }))
+    met.fields.insert(String::from_str(alloc, name)?, t)?;
+    Ok(Ok(()))
 }
 
 fn method_met(
     alloc: Global,
-    met: Met,
+    met: &mut Met,
     n: &Name,
     types: Vec<ValueType>,
     answers: Option<ValueType>,
-) -> Result<Result<Met, Broken>, AllocError>
-    ensures found { IfOk result (λ r. seen_met r ≡ the_method_met (met_of met) (placed_name n.now) types.items answers) }
+) -> Result<Result<(), Broken>, AllocError>
+    ensures { IfOk result (λ r. seen (λ u. met_of met.new) r ≡ the_method_met (met_of met.old) (placed_name n.now) types.items answers) }
 {
     let name = n.text.as_str();
     if met.methods.contains_key(name) {
@@ -153,31 +140,24 @@ fn method_met(
     if met.next >= MOST_METHODS {
         return Ok(Err(broken_at(Rule::Limit, n.span)));
     }
-    let Met {
-        fields,
-        mut methods,
-        constructor,
-        parameters,
-        next,
-    } = met;
     let sign = MethodSign {
-        number: next,
+        number: met.next,
         parameters: types,
         result: answers,
     };
-    methods.insert(String::from_str(alloc, name)?, sign)?;
-    Ok(Ok(Met {
-        fields,
-        methods,
-        constructor,
-        parameters,
-        next: next + 1,
-    }))
+    met.methods.insert(String::from_str(alloc, name)?, sign)?;
+    met.next += 1;
+    Ok(Ok(()))
 }
 
 // A constructor, which has the name of its class.
-fn constructor_met(class: &Name, met: Met, n: &Name, types: Vec<ValueType>) -> Result<Met, Broken>
-    ensures { seen_met result ≡ the_constructor_met (string_bytes class.now.text) (met_of met) (placed_name n.now) types.items }
+fn constructor_met(
+    class: &Name,
+    met: &mut Met,
+    n: &Name,
+    types: Vec<ValueType>,
+) -> Result<(), Broken>
+    ensures { seen (λ u. met_of met.new) result ≡ the_constructor_met (string_bytes class.now.text) (met_of met.old) (placed_name n.now) types.items }
 {
     if n.text.as_str() != class.text.as_str() {
         return Err(broken_at(Rule::UnknownType, n.span));
@@ -188,45 +168,36 @@ fn constructor_met(class: &Name, met: Met, n: &Name, types: Vec<ValueType>) -> R
     if met.next >= MOST_METHODS {
         return Err(broken_at(Rule::Limit, n.span));
     }
-    let Met {
-        fields,
-        methods,
-        next,
-        ..
-    } = met;
-    Ok(Met {
-        fields,
-        methods,
-        constructor: Some(next),
-        parameters: types,
-        next: next + 1,
-    })
+    met.constructor = Some(met.next);
+    met.parameters = types;
+    met.next += 1;
+    Ok(())
 }
 
 fn fields_met(
     alloc: Global,
     names: &IndexSet<String>,
-    before: Met,
+    met: &mut Met,
     d: &Declaration,
-) -> Result<Result<Met, Broken>, AllocError>
-    ensures { IfOk result (λ r. seen_met r ≡ the_fields_met (texts_of names.now) (met_of before) (placed_declaration d.now)) }
+) -> Result<Result<(), Broken>, AllocError>
+    ensures { IfOk result (λ r. seen (λ u. met_of met.new) r ≡ the_fields_met (texts_of names.now) (met_of met.old) (placed_declaration d.now)) }
 {
     let t = kept!(type_of(names, &d.type_name));
-    let mut met = kept!(field_met(alloc, t, before, &d.first)?);
+    kept!(field_met(alloc, t, met, &d.first)?);
     for d in &d.more {
-        met = kept!(field_met(alloc, t, met, d)?);
+        kept!(field_met(alloc, t, met, d)?);
     }
-    Ok(Ok(met))
+    Ok(Ok(()))
 }
 
 fn member_met(
     alloc: Global,
     names: &IndexSet<String>,
     class: &Name,
-    met: Met,
+    met: &mut Met,
     m: &Member,
-) -> Result<Result<Met, Broken>, AllocError>
-    ensures { IfOk result (λ r. seen_met r ≡ the_member_met (texts_of names.now) (string_bytes class.now.text) (met_of met) (placed_member m.now)) }
+) -> Result<Result<(), Broken>, AllocError>
+    ensures { IfOk result (λ r. seen (λ u. met_of met.new) r ≡ the_member_met (texts_of names.now) (string_bytes class.now.text) (met_of met.old) (placed_member m.now)) }
 {
     match m {
         Member::Field(d) => fields_met(alloc, names, met, d),
@@ -245,13 +216,12 @@ fn member_met(
 // A class that is met whole, behind those before it.
 fn class_met(
     alloc: Global,
-    classes: Classes,
+    classes: &mut Classes,
     n: &Name,
     met: Met,
-) -> Result<Result<Classes, Broken>, AllocError>
-    ensures { IfOk result (λ r. seen_classes r ≡ the_class_met (classes_of classes) (placed_name n.now) (met_of met) met.constructor) }
+) -> Result<Result<(), Broken>, AllocError>
+    ensures { IfOk result (λ r. seen (λ u. classes_of classes.new) r ≡ the_class_met (classes_of classes.old) (placed_name n.now) (met_of met) met.constructor) }
 {
-    let Classes { mut signs, .. } = classes;
     let Met {
         fields,
         methods,
@@ -261,50 +231,54 @@ fn class_met(
     } = met;
     match constructor {
         Some(constructor) => {
-            signs.push(ClassSign {
+            classes.signs.push(ClassSign {
                 fields,
                 methods,
                 constructor,
                 parameters,
             })?;
-            Ok(Ok(Classes { signs, next }))
+            classes.next = next;
+            Ok(Ok(()))
         }
         None => {
             if next >= MOST_METHODS {
                 return Ok(Err(broken_at(Rule::Limit, n.span)));
             }
-            signs.push(ClassSign {
+            classes.signs.push(ClassSign {
                 fields,
                 methods,
                 constructor: next,
                 parameters: Vec::new(alloc),
             })?;
-            Ok(Ok(Classes {
-                signs,
-                next: next + 1,
-            }))
+            classes.next = next + 1;
+            Ok(Ok(()))
         }
+    }
+}
+
+fn nothing_met(alloc: Global, next: usize) -> Met
+    ensures { met_of result ≡ the_nothing_met next }
+{
+    Met {
+        fields: IndexMap::new(alloc),
+        methods: IndexMap::new(alloc),
+        constructor: None,
+        parameters: Vec::new(alloc),
+        next,
     }
 }
 
 fn one_class(
     alloc: Global,
     names: &IndexSet<String>,
-    classes: Classes,
+    classes: &mut Classes,
     c: &Class,
-) -> Result<Result<Classes, Broken>, AllocError>
-    ensures { IfOk result (λ r. seen_classes r ≡ the_one_class (texts_of names.now) (classes_of classes) (placed_class c.now)) }
+) -> Result<Result<(), Broken>, AllocError>
+    ensures { IfOk result (λ r. seen (λ u. classes_of classes.new) r ≡ the_one_class (texts_of names.now) (classes_of classes.old) (placed_class c.now)) }
 {
-    let next = classes.next;
-    let mut met = Met {
-        fields: IndexMap::new(alloc),
-        methods: IndexMap::new(alloc),
-        constructor: None,
-        parameters: Vec::new(alloc),
-        next,
-    };
+    let mut met = nothing_met(alloc, classes.next);
     for m in &c.members {
-        met = kept!(member_met(alloc, names, &c.name, met, m)?);
+        kept!(member_met(alloc, names, &c.name, &mut met, m)?);
     }
     class_met(alloc, classes, &c.name, met)
 }
@@ -322,7 +296,7 @@ pub fn class_signs(
         next: 0,
     };
     for c in all {
-        classes = kept!(one_class(alloc, names, classes, c)?);
+        kept!(one_class(alloc, names, &mut classes, c)?);
     }
     Ok(Ok(classes))
 }

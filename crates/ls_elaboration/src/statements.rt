@@ -1,8 +1,8 @@
 // Statements: loops, and what fits where.
 
 ghost use Rattle.std.specs.Prelude.{◌≡◌, ◌<◌, ◌≤◌, ◌∷◌, IfOk, IfSome, length, map, option_map, option_copied, vec_len};
-ghost use Rattle.ls_checked.specs.Plain.{plain_statement};
-ghost use Rattle.ls_checked.specs.CheckedTree.{Block as checked_block, Statement as checked_statement};
+ghost use Rattle.ls_checked.specs.Plain.{plain, plain_statement};
+ghost use Rattle.ls_checked.specs.CheckedTree.{Block as checked_block, If as checked_if, Statement as checked_statement};
 ghost use Rattle.ls_elaboration.specs.Elaborated.{with_ok};
 ghost use Rattle.ls_elaboration.specs.Trees.{Items, While as while_written, Block as block_written, Try as try_written};
 ghost use Rattle.ls_elaboration.specs.TypedStatements.{statement as the_statement, items as the_items, sequence, loop_named as the_loop, is_label as the_is_label, jump as the_jump, label_text, fresh_label as the_fresh_label, returned as the_returned, WithSlots};
@@ -11,7 +11,7 @@ ghost use Rattle.ls_elaboration.specs.PlacedStatements.{placed_statement, placed
 ghost use Rattle.ls_elaboration.specs.Tables.{local_of, known_of};
 ghost use Rattle.ls_elaboration.specs.Answers.{unless_refused};
 ghost use Rattle.ls_elaboration.specs.Elaborated.{Elaborated};
-ghost use Rattle.ls_elaboration.specs.ScopeViews.{body_of, scope_of, seen_scope, seen_formed, seen_statement};
+ghost use Rattle.ls_elaboration.specs.ScopeViews.{body_of, scope_of, seen_scope, formed_of, seen_formed, seen_statement};
 
 use crate::assignments::assignment;
 use crate::expressions::{fitting, typed};
@@ -19,7 +19,8 @@ use crate::known::{Known, Local};
 use crate::places::span_of;
 use crate::rule::{Broken, Rule, broken_at};
 use crate::scope::{Context, Scope, declaration};
-use ls_checked::tree::Statement;
+use crate::together::{also, beside, push, two, with, with_box};
+use ls_checked::tree::{Expression, Statement};
 use ls_events::value::ValueType;
 use ls_lexer::token::Span;
 use ls_tree::tree;
@@ -145,6 +146,18 @@ fn returned(
     }
 }
 
+fn if_of(alloc: Global, e: Expression, a: Statement, b: Formed) -> Result<Formed, AllocError>
+    ensures made { IfOk result (λ f. formed_of f ≡ record { tree = checked_if (plain e) (plain_statement a) (plain_statement b.statement); slots = b.slots.items }) }
+    ensures same { IfOk result (λ f. vec_len f.slots ≡ vec_len b.slots) }
+{
+    let Formed { statement, slots } = b;
+    let ((e, slots), (a, b)) = also((e, slots), two(alloc, a, statement))?;
+    Ok(Formed {
+        statement: Statement::If(e, a, b),
+        slots,
+    })
+}
+
 /// A statement, in loops with these labels, the innermost first.
 #[cycle(statements)]
 pub fn statement<'t>(
@@ -174,43 +187,33 @@ pub fn statement<'t>(
             otherwise,
             ..
         } => {
-            let out = branches(
+            branches(
                 alloc, context, loops, locals, slots, condition, then, otherwise,
-            )?;
-            Ok(out)
+            )
         }
         tree::Statement::While {
             label,
             condition,
             body,
             ..
-        } => {
-            let out = while_loop(alloc, context, loops, locals, slots, label, condition, body)?;
-            Ok(out)
-        }
+        } => { while_loop(alloc, context, loops, locals, slots, label, condition, body) }
         tree::Statement::Break { label, span } => {
-            let n = kept!(jump(loops, label, *span));
+            let (slots, n) = kept!(with(slots, jump(loops, label, *span)));
             Ok(Ok(Formed {
                 statement: Statement::Break(n),
                 slots,
             }))
         }
         tree::Statement::Continue { label, span } => {
-            let n = kept!(jump(loops, label, *span));
+            let (slots, n) = kept!(with(slots, jump(loops, label, *span)));
             Ok(Ok(Formed {
                 statement: Statement::Continue(n),
                 slots,
             }))
         }
         tree::Statement::Return { value, span } => {
-            let statement = kept!(returned(
-                alloc,
-                context.known,
-                locals,
-                context.result,
-                value,
-                *span
-            )?);
+            let s = returned(alloc, context.known, locals, context.result, value, *span);
+            let (slots, statement) = kept!(beside(slots, s)?);
             Ok(Ok(Formed { statement, slots }))
         }
         tree::Statement::Try { body, finally, .. } => {
@@ -226,11 +229,13 @@ pub fn statement<'t>(
             Ok(out)
         }
         tree::Statement::Assign { target, value, .. } => {
-            let statement = kept!(assignment(alloc, context.known, locals, target, value)?);
+            let s = assignment(alloc, context.known, locals, target, value);
+            let (slots, statement) = kept!(beside(slots, s)?);
             Ok(Ok(Formed { statement, slots }))
         }
         tree::Statement::Expression { value, .. } => {
-            let x = kept!(typed(alloc, context.known, locals, value)?);
+            let x = typed(alloc, context.known, locals, value);
+            let (slots, x) = kept!(beside(slots, x)?);
             Ok(Ok(Formed {
                 statement: Statement::Evaluate(x.expression),
                 slots,
@@ -255,27 +260,21 @@ fn branches<'t>(
     ensures low { IfOk result (λ r. IfOk r (λ x. vec_len x.slots ≤ 128)) }
 {
     let e = kept!(fitting(alloc, context.known, locals, ValueType::Boolean, condition)?);
-    let a = kept!(statement(alloc, context, loops, locals, slots, then)?);
+    let a = statement(alloc, context, loops, locals, slots, then);
+    let (e, a) = kept!(beside(e, a)?);
+    let Formed {
+        statement: a,
+        slots,
+    } = a;
     match otherwise {
         None => {
-            let nothing = Box::new(alloc, block_of(Vec::new(alloc)))?;
-            let statement = Statement::If(e, Box::new(alloc, a.statement)?, nothing);
-            Ok(Ok(Formed {
-                statement,
-                slots: a.slots,
-            }))
+            let statement = block_of(Vec::new(alloc));
+            Ok(Ok(if_of(alloc, e, a, Formed { statement, slots })?))
         }
         Some(other) => {
-            let b = kept!(statement(alloc, context, loops, locals, a.slots, other)?);
-            let statement = Statement::If(
-                e,
-                Box::new(alloc, a.statement)?,
-                Box::new(alloc, b.statement)?,
-            );
-            Ok(Ok(Formed {
-                statement,
-                slots: b.slots,
-            }))
+            let b = statement(alloc, context, loops, locals, slots, other);
+            let ((e, a), b) = kept!(beside((e, a), b)?);
+            Ok(Ok(if_of(alloc, e, a, b)?))
         }
     }
 }
@@ -297,12 +296,14 @@ fn while_loop<'t>(
 {
     kept!(fresh_label(loops, label));
     let e = kept!(fitting(alloc, context.known, locals, ValueType::Boolean, condition)?);
-    let inner = within(alloc, loops, label)?;
-    let s = kept!(statement(alloc, context, &inner, locals, slots, body)?);
-    let statement = Statement::While(e, Box::new(alloc, s.statement)?);
+    let (e, inner) = also(e, within(alloc, loops, label))?;
+    let s = statement(alloc, context, &inner, locals, slots, body);
+    let (e, s) = kept!(beside(e, s)?);
+    let Formed { statement, slots } = s;
+    let ((e, slots), body) = with_box(alloc, (e, slots), statement)?;
     Ok(Ok(Formed {
-        statement,
-        slots: s.slots,
+        statement: Statement::While(e, body),
+        slots,
     }))
 }
 
@@ -320,12 +321,20 @@ fn try_finally<'t>(
     ensures found { IfOk result (λ r. seen_formed r ≡ the_statement (body_of context.entry) (map option_copied loops.now) (map local_of locals.now) slots.items (try_written (placed_items body.entry.now) (placed_items finally.entry.now))) }
     ensures low { IfOk result (λ r. IfOk r (λ x. vec_len x.slots ≤ 128)) }
 {
-    let b = kept!(block(alloc, context, loops, locals, slots, body)?);
-    let f = kept!(block(alloc, context, loops, locals, b.slots, finally)?);
-    let statement = Statement::Try(Box::new(alloc, b.statement)?, Box::new(alloc, f.statement)?);
+    let Formed {
+        statement: b,
+        slots,
+    } = kept!(block(alloc, context, loops, locals, slots, body)?);
+    let f = block(alloc, context, loops, locals, slots, finally);
+    let (b, f) = kept!(beside(b, f)?);
+    let Formed {
+        statement: f,
+        slots,
+    } = f;
+    let (b, f) = two(alloc, b, f)?;
     Ok(Ok(Formed {
-        statement,
-        slots: f.slots,
+        statement: Statement::Try(b, f),
+        slots,
     }))
 }
 
@@ -343,9 +352,10 @@ fn block<'t>(
     ensures found { IfOk result (λ r. seen_formed r ≡ the_statement (body_of context.entry) (map option_copied loops.now) (map local_of locals.now) slots.items (block_written (placed_items items.entry.now))) }
     ensures low { IfOk result (λ r. IfOk r (λ x. vec_len x.slots ≤ 128)) }
 {
+    let locals = Vec::from_slice(alloc, locals)?;
     let scope = Scope {
         statements: Vec::new(alloc),
-        locals: Vec::from_slice(alloc, locals)?,
+        locals,
         slots,
     };
     let scope = kept!(all_items(alloc, context, loops, scope, items)?);
@@ -391,16 +401,18 @@ fn one_item<'t>(
     match item {
         BlockItem::Statement(s) => {
             let Scope {
-                mut statements,
+                statements,
                 locals,
                 slots,
             } = scope;
-            let s = kept!(statement(alloc, context, loops, &locals, slots, s)?);
-            statements.push(s.statement)?;
+            let s = statement(alloc, context, loops, &locals, slots, s);
+            let ((statements, locals), s) = kept!(beside((statements, locals), s)?);
+            let Formed { statement, slots } = s;
+            let ((locals, slots), statements) = also((locals, slots), push(statements, statement))?;
             Ok(Ok(Scope {
                 statements,
                 locals,
-                slots: s.slots,
+                slots,
             }))
         }
         BlockItem::Declaration(d) => {

@@ -2,10 +2,11 @@
 
 ghost use Rattle.std.specs.Prelude.{◌≡◌};
 ghost use Rattle.ls_checked.specs.Plain.{plain};
-ghost use Rattle.ls_elaboration.specs.StaticTypes.{fits as the_fits, same_type as the_same_type, is_reference as the_reference, comparable as the_comparable, typed_as as typing, as_type as the_as_type, as_value as the_as_value, as_array as the_as_array, result_type as the_result_type};
+ghost use Rattle.ls_elaboration.specs.StaticTypes.{fits as the_fits, same_type as the_same_type, is_reference as the_reference, comparable as the_comparable, typed_as as typing, as_type as the_as_type, as_value as the_as_value, is_void as the_void, is_array as the_array, as_array as the_as_array, result_type as the_result_type};
 ghost use Rattle.ls_elaboration.specs.Answers.{typed_of, seen_typed, seen_plain};
 
 use crate::rule::{Broken, Rule, broken_at};
+use crate::together::passing;
 use ls_checked::tree::Expression;
 use ls_events::value::ValueType;
 use ls_lexer::token::Span;
@@ -75,10 +76,19 @@ pub fn comparable(x: Static, y: Static) -> bool
 pub fn as_type(t: ValueType, span: Span, x: Typed) -> Result<Expression, Broken>
     ensures { seen_plain result ≡ the_as_type t span (typed_of x) }
 {
-    if fits(t, x.of) {
-        Ok(x.expression)
-    } else {
-        Err(broken_at(Rule::WrongType, span))
+    passing(
+        x.expression,
+        fits(t, x.of),
+        broken_at(Rule::WrongType, span),
+    )
+}
+
+fn is_void(x: Static) -> bool
+    ensures { result ≡ the_void x }
+{
+    match x {
+        Static::Void => true,
+        _ => false,
     }
 }
 
@@ -86,9 +96,16 @@ pub fn as_type(t: ValueType, span: Span, x: Typed) -> Result<Expression, Broken>
 pub fn as_value(span: Span, x: Typed) -> Result<Typed, Broken>
     ensures { seen_typed result ≡ the_as_value span (typed_of x) }
 {
-    match x.of {
-        Static::Void => Err(broken_at(Rule::WrongType, span)),
-        _ => Ok(x),
+    let value = !is_void(x.of);
+    passing(x, value, broken_at(Rule::WrongType, span))
+}
+
+fn is_array(x: Static) -> bool
+    ensures { result ≡ the_array x }
+{
+    match x {
+        Static::Of(ValueType::BooleanArray) => true,
+        _ => false,
     }
 }
 
@@ -96,10 +113,11 @@ pub fn as_value(span: Span, x: Typed) -> Result<Typed, Broken>
 pub fn as_array(span: Span, x: Typed) -> Result<Expression, Broken>
     ensures { seen_plain result ≡ the_as_array span (typed_of x) }
 {
-    match x.of {
-        Static::Of(ValueType::BooleanArray) => Ok(x.expression),
-        _ => Err(broken_at(Rule::WrongType, span)),
-    }
+    passing(
+        x.expression,
+        is_array(x.of),
+        broken_at(Rule::WrongType, span),
+    )
 }
 
 /// An expression of a type.

@@ -3,7 +3,6 @@ use Rattle.std.specs.Prelude.{◌≡◌, List, map}
 use Rattle.ls_checked.specs.Plain.{plain_file}
 use Rattle.ls_checked.specs.declared.tree.File.{File}
 use Rattle.ls_tree.specs.declared.tree.ClassFile.{ClassFile}
-use Rattle.ls_elaboration.specs.declared.rule.Broken.{Broken}
 use Rattle.ls_elaboration.specs.declared.rule.Rule.TheVariants as rules
 use Rattle.ls_elaboration.specs.Trees.{Text}
 use Rattle.ls_elaboration.specs.Known.{ClassSign}

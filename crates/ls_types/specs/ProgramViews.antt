@@ -1,5 +1,5 @@
 -- What contracts see of a program that is being read.
-use Rattle.std.specs.Prelude.{◌≡◌, List, map, string_bytes, Option, Some, None, Result, Ok, Err}
+use Rattle.std.specs.Prelude.{◌≡◌, map, string_bytes, Option, Some, None, Result, Ok, Err}
 use Rattle.ls_checked.specs.CheckedProgram.{Program}
 use Rattle.ls_checked.specs.PlainProgram.{plain_name, plain_call, plain_thread, plain_program}
 use Rattle.ls_checked.specs.declared.program.Program.{Program as code_program}

@@ -8,3 +8,4 @@ pub mod fault;
 pub mod program;
 mod reading;
 mod steps;
+mod together;

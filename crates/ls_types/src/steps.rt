@@ -17,6 +17,7 @@ use crate::calls::{
 use crate::check::Checked;
 use crate::fault::ProgramFault;
 use crate::reading::{Parts, Reading, Stage};
+use crate::together::passing;
 use ls_checked::program::ThreadProgram;
 use ls_events::value::Value;
 use ls_lexer::sign::Sign;
@@ -272,14 +273,13 @@ fn after_minus<'a>(
 fn arguments_end<'a>(r: Parts, p: Pending<'a>) -> Result<Reading<'a>, ProgramFault>
     ensures { reads_on result ≡ the_arguments_end (parts_of r) (pending_of p.entry) }
 {
-    if is_full(&p) {
-        Ok(Reading {
-            stage: Stage::AtSemicolon(p),
-            parts: r,
-        })
-    } else {
-        Err(ProgramFault::UnknownThing { at: p.at })
-    }
+    let full = is_full(&p);
+    let fault = ProgramFault::UnknownThing { at: p.at };
+    let next = Reading {
+        stage: Stage::AtSemicolon(p),
+        parts: r,
+    };
+    passing(next, full, fault)
 }
 
 fn at_first<'a>(
@@ -305,15 +305,14 @@ fn after_argument<'a>(
     if is_sign(Sign::CloseParen, token.kind) {
         return arguments_end(r, p);
     }
-    if is_sign(Sign::Comma, token.kind) {
-        return Ok(Reading {
-            stage: Stage::AtArgument(p),
-            parts: r,
-        });
-    }
-    Err(ProgramFault::BadProgram {
+    let next = Reading {
+        stage: Stage::AtArgument(p),
+        parts: r,
+    };
+    let fault = ProgramFault::BadProgram {
         at: token.span.start,
-    })
+    };
+    passing(next, is_sign(Sign::Comma, token.kind), fault)
 }
 
 // One more call.
@@ -405,11 +404,11 @@ fn only<'a>(
 ) -> Result<Reading<'a>, ProgramFault>
     ensures { reads_on result ≡ the_when stands (the_at (parts_of r) (stage_of stage.entry)) }
 {
-    if stands {
-        Ok(Reading { stage, parts: r })
-    } else {
-        Err(ProgramFault::BadProgram { at })
-    }
+    passing(
+        Reading { stage, parts: r },
+        stands,
+        ProgramFault::BadProgram { at },
+    )
 }
 
 fn is_text(text: &str, name: Option<&str>) -> bool

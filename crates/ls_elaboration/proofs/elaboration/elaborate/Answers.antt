@@ -7,4 +7,4 @@ use Rattle.ls_elaboration.proofs.elaboration.elaborate.Goals as goal
 
 pub returns-in-Err-3 : goal.returns-in-Err-3
 returns-in-Err-3 c =
-    sym (body_broken (map placed_class c.args.parsed.now.classes.items) (texts_of c.in-Ok.x) (classes_of c.in-Ok-2.x) c.in-Err-3.broken (search rules) (search rules) (search rules))
+    sym (body_broken (map placed_class c.args.parsed.now.classes.items) (texts_of c.in-Ok.x) (classes_of c.in-Ok-2.x.1) c.in-Err-3.broken (search rules) (search rules) (search rules))
