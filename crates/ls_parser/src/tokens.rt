@@ -178,3 +178,64 @@ pub fn boxed<T: Drop>(alloc: Global, value: T) -> Result<Box<T>, AllocError>
 {
     Ok(Box::new(alloc, value)?)
 }
+
+// Generic, as what follows: where a step may fail while a tree is held, the drop of a parameter's type is much less to
+// prove than that of a tree.
+pub fn two_boxed<T: Drop, U: Drop>(
+    alloc: Global,
+    first: T,
+    second: U,
+) -> Result<(Box<T>, Box<U>), AllocError>
+    ensures { IfOk result (λ b. (b.0.value ≡ first) × (b.1.value ≡ second)) }
+{
+    let first = Box::new(alloc, first)?;
+    let second = Box::new(alloc, second)?;
+    Ok((first, second))
+}
+
+/// The same part, its tree in a box.
+pub fn boxed_part<'t, 'a, T: Drop>(
+    alloc: Global,
+    part: Part<'t, 'a, T>,
+) -> Result<Part<'t, 'a, Box<T>>, AllocError>
+    ensures { IfOk result (λ p. (p.tree.value ≡ part.entry.tree) × (p.height ≡ part.entry.height) × (p.rest.now ≡ part.entry.rest.now)) }
+{
+    Ok(Part {
+        tree: Box::new(alloc, part.tree)?,
+        height: part.height,
+        rest: part.rest,
+    })
+}
+
+/// The same part, behind which stood a sign.
+pub fn closed_part<'t, 'a, T: Drop>(
+    context: Context,
+    part: Part<'t, 'a, T>,
+    wanted: Sign,
+) -> Result<Part<'t, 'a, T>, TextFault>
+    ensures read { Gives (λ p. lexemes p.rest.now) result (after_sign wanted (lexemes part.entry.rest.now)) }
+    ensures same { IfOk result (λ p. (p.tree ≡ part.entry.tree) × (p.height ≡ part.entry.height)) }
+{
+    let rest = expect(context, part.rest, wanted)?;
+    Ok(Part {
+        tree: part.tree,
+        height: part.height,
+        rest,
+    })
+}
+
+/// The same tree, behind which stood a sign.
+pub fn closed<'t, 'a, T: Drop>(
+    context: Context,
+    read: Read<'t, 'a, T>,
+    wanted: Sign,
+) -> Result<Read<'t, 'a, T>, TextFault>
+    ensures read { Gives (λ r. lexemes r.rest.now) result (after_sign wanted (lexemes read.entry.rest.now)) }
+    ensures same { IfOk result (λ r. r.tree ≡ read.entry.tree) }
+{
+    let rest = expect(context, read.rest, wanted)?;
+    Ok(Read {
+        tree: read.tree,
+        rest,
+    })
+}
