@@ -140,6 +140,10 @@ jump_at ks =
     (λ name. after_sign signs.Semicolon name.1 >>= λ rest. Some (Some name.0, rest))
     (after_sign signs.Semicolon ks >>= λ rest. Some (None, rest))
 
+-- an expression and a semicolon
+abbrev pub ended_at : Reader Term → Reader Term
+ended_at term ks = term ks >>= λ value. after_sign signs.Semicolon value.1 >>= λ rest. Some (value.0, rest)
+
 -- a value or none, and a semicolon
 abbrev pub value_at : Reader Term → Reader (Option Term)
 value_at term ks =

@@ -8,7 +8,7 @@ ghost use Rattle.ls_tree.specs.Views.{bare};
 ghost use Rattle.ls_parser.specs.Answers.{Finds};
 ghost use Rattle.ls_parser.specs.ReadingTerms.{operator_of_sign, operator_at, has_operator, unary_of};
 
-use crate::tokens::{Context, boxed};
+use crate::tokens::{Context, two_boxed};
 use ls_lexer::fault::TextFault;
 use ls_lexer::sign::Sign;
 use ls_lexer::token::{Span, Token, TokenKind};
@@ -94,8 +94,7 @@ pub fn join(context: Context, op: BinaryOp, left: Expr, right: Expr) -> Result<E
         start: left.span().start,
         end: right.span().end,
     };
-    let left = boxed(context.alloc, left)?;
-    let right = boxed(context.alloc, right)?;
+    let (left, right) = two_boxed(context.alloc, left, right)?;
     Ok(Expr::Binary {
         op,
         left,

@@ -2,7 +2,7 @@
 
 ghost use Rattle.std.specs.Prelude.{◌≡◌, ◌+◌, ◌-◌, ◌<◌, ◌≤◌, ◌^◌, IfOk, Some, false, length, map};
 ghost use Rattle.ls_lexer.specs.Lexemes.{lexemes};
-ghost use Rattle.ls_tree.specs.Trees.{Unary, Paren, Field, Item, NewArray, New};
+ghost use Rattle.ls_tree.specs.Trees.{Unary, Binary, Paren, Field, Item, NewArray, New};
 ghost use Rattle.ls_tree.specs.WellFormed.{term_height, terms_height, is_new_array, is_minus};
 ghost use Rattle.ls_tree.specs.Views.{bare, terms_of};
 ghost use Rattle.ls_parser.specs.Answers.{Gives};
@@ -14,14 +14,14 @@ use crate::primaries::{
     called, class_name, has_suffix, is_markable, is_new_array, new_markable, new_object, number,
 };
 use crate::tokens::{
-    Context, Part, boxed, expect, expect_word, make_name, name, name_part, push, sign_part,
-    span_from, starts_with, syntax, too_deep,
+    Context, Part, boxed_part, closed_part, expect, expect_word, make_name, name, name_part, push,
+    sign_part, span_from, starts_with, syntax, too_deep,
 };
 use ls_lexer::fault::TextFault;
 use ls_lexer::sign::Sign;
 use ls_lexer::token::{Span, Token, TokenKind};
 use ls_lexer::word::Word;
-use ls_tree::tree::{Expr, Name, UnaryOp};
+use ls_tree::tree::{BinaryOp, Expr, Name, UnaryOp};
 use std::alloc::AllocError;
 
 #[cycle(terms)]
@@ -48,7 +48,6 @@ pub fn binary<'t, 'a>(
 
 // An operator and a right operand, under it with what stands on the left.
 #[cycle(terms)]
-#[tactic(auto, using(crate::proofs::Chains::joined_is, crate::proofs::Chains::left_too_high, crate::proofs::Chains::right_too_high))]
 fn joined<'t, 'a>(
     context: Context,
     left: Part<'t, 'a, Expr>,
@@ -59,6 +58,29 @@ fn joined<'t, 'a>(
     requires height { left.height ≡ term_height (bare left.tree) }
     ensures read { Gives (λ p. (bare p.tree, lexemes p.rest.now)) result (joined_at wanted limit (binary_at (wanted - 1) limit (unary_at limit false)) (bare left.entry.tree) (lexemes left.entry.rest.now)) }
     ensures height { IfOk result (λ p. (p.height ≡ term_height (bare p.tree)) × (p.height ≤ limit) × (left.entry.height < p.height)) }
+{
+    let right = operand(context, &left, wanted, limit)?;
+    let (op, operand) = right.tree;
+    Ok(Part {
+        tree: join(context, op, left.tree, operand)?,
+        height: left.height.max(right.height) + 1,
+        rest: right.rest,
+    })
+}
+
+// The operator and the right operand of what stands on the left.
+#[cycle(terms)]
+#[tactic(auto, using(crate::proofs::Chains::joined_is, crate::proofs::Chains::left_too_high, crate::proofs::Chains::right_too_high))]
+fn operand<'t, 'a>(
+    context: Context,
+    left: &Part<'t, 'a, Expr>,
+    wanted: usize,
+    limit: usize,
+) -> Result<Part<'t, 'a, (BinaryOp, Expr)>, TextFault>
+    requires rank { (0 < wanted) × (wanted ≤ 6) }
+    requires height { left.now.height ≡ term_height (bare left.now.tree) }
+    ensures read { Gives (λ p. (Binary p.tree.0 (bare left.now.tree) (bare p.tree.1), lexemes p.rest.now)) result (joined_at wanted limit (binary_at (wanted - 1) limit (unary_at limit false)) (bare left.now.tree) (lexemes left.now.rest.now)) }
+    ensures height { IfOk result (λ p. (p.height ≡ term_height (bare p.tree.1)) × (p.height < limit) × (left.now.height < limit)) }
 {
     let Some((op, rest)) = operator_part(left.rest, wanted) else {
         return Err(syntax(context, left.rest));
@@ -71,8 +93,8 @@ fn joined<'t, 'a>(
         return Err(too_deep(context, rest));
     }
     Ok(Part {
-        tree: join(context, op, left.tree, right.tree)?,
-        height: left.height.max(right.height) + 1,
+        tree: (op, right.tree),
+        height: right.height,
         rest: right.rest,
     })
 }
@@ -118,10 +140,11 @@ fn signed<'t, 'a>(
         start: start.start,
         end: operand.tree.span().end,
     };
+    let operand = boxed_part(context.alloc, operand)?;
     Ok(Part {
         tree: Expr::Unary {
             op,
-            operand: boxed(context.alloc, operand.tree)?,
+            operand: operand.tree,
             span,
         },
         height: operand.height + 1,
@@ -167,6 +190,7 @@ fn suffix<'t, 'a>(
     if left.height >= limit {
         return Err(too_deep(context, left.rest));
     }
+    let left = boxed_part(context.alloc, left)?;
     match sign_part(left.rest, Sign::Dot) {
         Some(rest) => member(context, left, rest, limit - 1),
         None => item(context, left, limit - 1),
@@ -177,13 +201,13 @@ fn suffix<'t, 'a>(
 #[cycle(terms)]
 fn member<'t, 'a>(
     context: Context,
-    left: Part<'t, 'a, Expr>,
+    left: Part<'t, 'a, Box<Expr>>,
     tokens: &'t [Token<'a>],
     limit: usize,
 ) -> Result<Part<'t, 'a, Expr>, TextFault>
     requires limit { limit + 1 < 2 ^ 64 }
-    requires height { (left.height ≡ term_height (bare left.tree)) × (left.height ≤ limit) }
-    ensures read { Gives (λ p. (bare p.tree, lexemes p.rest.now)) result (member_at (term_at limit) (bare left.entry.tree) (lexemes tokens.now)) }
+    requires height { (left.height ≡ term_height (bare left.tree.value)) × (left.height ≤ limit) }
+    ensures read { Gives (λ p. (bare p.tree, lexemes p.rest.now)) result (member_at (term_at limit) (bare left.entry.tree.value) (lexemes tokens.now)) }
     ensures height { IfOk result (λ p. (p.height ≡ term_height (bare p.tree)) × (p.height ≤ limit + 1) × (left.entry.height < p.height)) }
 {
     let name = name(context, tokens)?;
@@ -191,9 +215,8 @@ fn member<'t, 'a>(
         Some(rest) => {
             let arguments = arguments(context, rest, limit)?;
             let span = span_from(left.tree.span().start, tokens, arguments.rest);
-            let target = boxed(context.alloc, left.tree)?;
             Ok(Part {
-                tree: called(Some(target), name.tree, arguments.tree, span),
+                tree: called(Some(left.tree), name.tree, arguments.tree, span),
                 height: left.height.max(arguments.height) + 1,
                 rest: arguments.rest,
             })
@@ -205,7 +228,7 @@ fn member<'t, 'a>(
             };
             Ok(Part {
                 tree: Expr::Field {
-                    target: boxed(context.alloc, left.tree)?,
+                    target: left.tree,
                     name: name.tree,
                     span,
                 },
@@ -220,12 +243,12 @@ fn member<'t, 'a>(
 #[cycle(terms)]
 fn item<'t, 'a>(
     context: Context,
-    left: Part<'t, 'a, Expr>,
+    left: Part<'t, 'a, Box<Expr>>,
     limit: usize,
 ) -> Result<Part<'t, 'a, Expr>, TextFault>
     requires limit { limit + 1 < 2 ^ 64 }
-    requires height { (left.height ≡ term_height (bare left.tree)) × (left.height ≤ limit) }
-    ensures read { Gives (λ p. (bare p.tree, lexemes p.rest.now)) result (item_at (term_at limit) (bare left.entry.tree) (lexemes left.entry.rest.now)) }
+    requires height { (left.height ≡ term_height (bare left.tree.value)) × (left.height ≤ limit) }
+    ensures read { Gives (λ p. (bare p.tree, lexemes p.rest.now)) result (item_at (term_at limit) (bare left.entry.tree.value) (lexemes left.entry.rest.now)) }
     ensures height { IfOk result (λ p. (p.height ≡ term_height (bare p.tree)) × (p.height ≤ limit + 1) × (left.entry.height < p.height)) }
 {
     if is_new_array(&left.tree) {
@@ -235,8 +258,8 @@ fn item<'t, 'a>(
     let span = span_from(left.tree.span().start, left.rest, index.rest);
     Ok(Part {
         tree: Expr::Item {
-            array: boxed(context.alloc, left.tree)?,
-            index: boxed(context.alloc, index.tree)?,
+            array: left.tree,
+            index: index.tree,
             span,
         },
         height: left.height.max(index.height) + 1,
@@ -249,18 +272,14 @@ fn index<'t, 'a>(
     context: Context,
     tokens: &'t [Token<'a>],
     limit: usize,
-) -> Result<Part<'t, 'a, Expr>, TextFault>
-    ensures read { Gives (λ p. (bare p.tree, lexemes p.rest.now)) result (index_at (term_at limit) (lexemes tokens.now)) }
-    ensures height { IfOk result (λ p. (p.height ≡ term_height (bare p.tree)) × (p.height ≤ limit)) }
+) -> Result<Part<'t, 'a, Box<Expr>>, TextFault>
+    ensures read { Gives (λ p. (bare p.tree.value, lexemes p.rest.now)) result (index_at (term_at limit) (lexemes tokens.now)) }
+    ensures height { IfOk result (λ p. (p.height ≡ term_height (bare p.tree.value)) × (p.height ≤ limit)) }
 {
     let open = expect(context, tokens, Sign::OpenBracket)?;
     let index = binary(context, open, 6, limit)?;
-    let rest = expect(context, index.rest, Sign::CloseBracket)?;
-    Ok(Part {
-        tree: index.tree,
-        height: index.height,
-        rest,
-    })
+    let index = closed_part(context, index, Sign::CloseBracket)?;
+    Ok(boxed_part(context.alloc, index)?)
 }
 
 #[cycle(terms)]
@@ -395,15 +414,16 @@ fn paren<'t, 'a>(
     ensures height { IfOk result (λ p. (p.height ≡ term_height (bare p.tree)) × (p.height ≤ limit + 1)) }
 {
     let inner = binary(context, tokens, 6, limit)?;
-    let rest = expect(context, inner.rest, Sign::CloseParen)?;
-    let span = span_from(start.start, tokens, rest);
+    let inner = closed_part(context, inner, Sign::CloseParen)?;
+    let inner = boxed_part(context.alloc, inner)?;
+    let span = span_from(start.start, tokens, inner.rest);
     Ok(Part {
         tree: Expr::Paren {
-            inner: boxed(context.alloc, inner.tree)?,
+            inner: inner.tree,
             span,
         },
         height: inner.height + 1,
-        rest,
+        rest: inner.rest,
     })
 }
 
@@ -428,7 +448,7 @@ fn made<'t, 'a>(
     let span = span_from(start.start, tokens, length.rest);
     Ok(Part {
         tree: Expr::NewArray {
-            length: boxed(context.alloc, length.tree)?,
+            length: length.tree,
             span,
         },
         height: length.height + 1,

@@ -9,10 +9,13 @@ use Rattle.ls_parser.proofs.Repeats.{InRepeat, InGroup}
 use Rattle.ls_parser.proofs.terms.+terms.Given as goal
 
 abbrev pub decreases-binary : goal.decreases-binary
-decreases-binary l = l.limit * 40 + l.wanted * 2 + 4
+decreases-binary l = l.limit * 40 + l.wanted * 3 + 5
 
 abbrev pub decreases-joined : goal.decreases-joined
-decreases-joined l = l.limit * 40 + l.wanted * 2 + 3
+decreases-joined l = l.limit * 40 + l.wanted * 3 + 4
+
+abbrev pub decreases-operand : goal.decreases-operand
+decreases-operand l = l.limit * 40 + l.wanted * 3 + 3
 
 abbrev pub decreases-unary : goal.decreases-unary
 decreases-unary l = l.limit * 40 + 3
