@@ -20,3 +20,4 @@ pub mod Spelled
 pub mod Files
 pub mod MoreKinds
 pub mod Nodes
+pub mod Steps

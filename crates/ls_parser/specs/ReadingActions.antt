@@ -73,6 +73,13 @@ declarator_at value ks =
 abbrev pub declaration_of : List Modifier → TypeName → Declarator → List Declarator → Declaration
 declaration_of modifiers type_name first more = record { modifiers = modifiers; type_name = type_name; first = first; more = more }
 
+-- declarators and a semicolon
+abbrev pub declarator_list_at : Reader Term → Reader (Declarator × List Declarator)
+declarator_list_at value ks =
+    declarator_at value ks >>= λ first.
+    many_at (not_yet signs.Semicolon) (behind_comma (declarator_at value)) first.1 >>= λ more.
+    after_sign signs.Semicolon more.1 >>= λ rest. Some ((first.0, more.0), rest)
+
 -- behind modifiers and a type
 abbrev pub declarators_at : Reader Term → List Modifier → TypeName → Reader Declaration
 declarators_at value modifiers type_name ks =

@@ -3,22 +3,23 @@
 ghost use Rattle.std.specs.Prelude.{◌≡◌, ◌+◌, ◌-◌, ◌<◌, ◌≤◌, ◌^◌, ◌++◌, ◌∷◌, [], IfOk, Some, None, length, map, option_map, is_some};
 ghost use Rattle.ls_lexer.specs.Lexemes.{lexemes};
 ghost use Rattle.ls_lexer.specs.declared.sign.Sign.TheVariants as signs;
-ghost use Rattle.ls_tree.specs.Views.{name_text, bare_modifier, bare_type, bare_parameter, bare_member, bare_class, bare_dotted, bare_import};
+ghost use Rattle.ls_tree.specs.Views.{name_text, bare_modifier, bare_type, bare_parameter, bare_block, bare_member, bare_class, bare_dotted, bare_import};
 ghost use Rattle.ls_parser.specs.Answers.{Gives, Finds};
-ghost use Rattle.ls_parser.specs.Reading.{one_more, behind_comma, many_at, not_yet, group_at};
-ghost use Rattle.ls_parser.specs.ReadingClasses.{parameter_at, parameters_at, starts_call, constructor_at, method_at, typed_at, unmodified_at, member_at, class_at, part_at, dotted_at, after_star, more_path, import_at, package_at, header_at, starts_import, is_left};
+ghost use Rattle.ls_parser.specs.Reading.{after_sign, one_more, behind_comma, many_at, not_yet, group_at};
+ghost use Rattle.ls_parser.specs.ReadingClasses.{parameter_at, parameters_at, starts_call, callable_at, constructor_at, method_at, typed_at, unmodified_at, member_at, class_body_at, class_at, part_at, dotted_at, after_star, more_path, import_of, import_at, package_at, header_at, starts_import, is_left};
 
 use crate::declarations::{declarators, modifiers, type_name};
 use crate::statements::block;
 use crate::tokens::{
-    Context, Read, expect, expect_word, name, name_part, push, sign_part, starts_with, word_part,
+    Context, Read, closed, expect, expect_word, name, name_part, push, sign_part, starts_with,
+    word_part,
 };
 use ls_lexer::fault::TextFault;
 use ls_lexer::sign::Sign;
 use ls_lexer::token::Token;
 use ls_lexer::word::Word;
 use ls_tree::tree::{
-    Class, Constructor, Dotted, Import, Member, Method, Modifier, Name, Parameter, Type,
+    Block, Class, Constructor, Dotted, Import, Member, Method, Modifier, Name, Parameter, Type,
 };
 
 /// The greatest height of a body or of a field's initialiser.
@@ -111,6 +112,23 @@ fn starts_call(tokens: &[Token]) -> bool
     }
 }
 
+// A name, parameters and a body.
+fn callable<'t, 'a>(
+    context: Context,
+    tokens: &'t [Token<'a>],
+) -> Result<Read<'t, 'a, (Name, Vec<Parameter>, Block)>, TextFault>
+    ensures { Gives (λ c. ((name_text c.tree.0, map bare_parameter c.tree.1.items, bare_block c.tree.2), lexemes c.rest.now)) result (callable_at (lexemes tokens.now)) }
+{
+    let name = name(context, tokens)?;
+    let parameters = parameters(context, name.rest)?;
+    let body = block(context, parameters.rest, MOST_NODES)?;
+    Ok(Read {
+        tree: (name.tree, parameters.tree, body.tree),
+        rest: body.rest,
+    })
+}
+
+#[tactic(auto, using(crate::proofs::Steps::constructor_found, crate::proofs::Steps::constructor_fails))]
 fn constructor<'t, 'a>(
     context: Context,
     modifiers: Vec<Modifier>,
@@ -118,21 +136,20 @@ fn constructor<'t, 'a>(
 ) -> Result<Read<'t, 'a, Member>, TextFault>
     ensures { Gives (λ m. (bare_member m.tree, lexemes m.rest.now)) result (constructor_at (map bare_modifier modifiers.items) (lexemes tokens.now)) }
 {
-    let name = name(context, tokens)?;
-    let parameters = parameters(context, name.rest)?;
-    let body = block(context, parameters.rest, MOST_NODES)?;
+    let found = callable(context, tokens)?;
     Ok(Read {
         tree: Member::Constructor(Constructor {
             modifiers,
-            name: name.tree,
-            parameters: parameters.tree,
-            body: body.tree,
+            name: found.tree.0,
+            parameters: found.tree.1,
+            body: found.tree.2,
         }),
-        rest: body.rest,
+        rest: found.rest,
     })
 }
 
 // What stands behind the modifiers and the result of a method; no result is `void`.
+#[tactic(auto, using(crate::proofs::Steps::method_found, crate::proofs::Steps::method_fails))]
 fn method<'t, 'a>(
     context: Context,
     modifiers: Vec<Modifier>,
@@ -141,18 +158,16 @@ fn method<'t, 'a>(
 ) -> Result<Read<'t, 'a, Member>, TextFault>
     ensures { Gives (λ m. (bare_member m.tree, lexemes m.rest.now)) result (method_at (map bare_modifier modifiers.items) (option_map bare_type answer) (lexemes tokens.now)) }
 {
-    let name = name(context, tokens)?;
-    let parameters = parameters(context, name.rest)?;
-    let body = block(context, parameters.rest, MOST_NODES)?;
+    let found = callable(context, tokens)?;
     Ok(Read {
         tree: Member::Method(Method {
             modifiers,
             result: answer,
-            name: name.tree,
-            parameters: parameters.tree,
-            body: body.tree,
+            name: found.tree.0,
+            parameters: found.tree.1,
+            body: found.tree.2,
         }),
-        rest: body.rest,
+        rest: found.rest,
     })
 }
 
@@ -237,6 +252,18 @@ fn one_member<'t, 'a>(
 
 // ---- classes
 
+// Members in braces.
+fn class_body<'t, 'a>(
+    context: Context,
+    tokens: &'t [Token<'a>],
+) -> Result<Read<'t, 'a, Vec<Member>>, TextFault>
+    ensures { Gives (λ m. (map bare_member m.tree.items, lexemes m.rest.now)) result (class_body_at (lexemes tokens.now)) }
+{
+    let open = expect(context, tokens, Sign::OpenBrace)?;
+    let members = members(context, open)?;
+    closed(context, members, Sign::CloseBrace)
+}
+
 fn class<'t, 'a>(
     context: Context,
     tokens: &'t [Token<'a>],
@@ -246,16 +273,14 @@ fn class<'t, 'a>(
     let modifiers = modifiers(context, tokens)?;
     let named = expect_word(context, modifiers.rest, Word::Class)?;
     let name = name(context, named)?;
-    let open = expect(context, name.rest, Sign::OpenBrace)?;
-    let members = members(context, open)?;
-    let rest = expect(context, members.rest, Sign::CloseBrace)?;
+    let members = class_body(context, name.rest)?;
     Ok(Read {
         tree: Class {
             modifiers: modifiers.tree,
             name: name.tree,
             members: members.tree,
         },
-        rest,
+        rest: members.rest,
     })
 }
 
@@ -379,6 +404,23 @@ fn path<'t, 'a>(
     })
 }
 
+// An import, where a semicolon is left.
+fn imported<'t, 'a>(
+    context: Context,
+    path: Dotted,
+    all: bool,
+    tokens: &'t [Token<'a>],
+) -> Result<Read<'t, 'a, Import>, TextFault>
+    ensures read { Gives (λ i. lexemes i.rest.now) result (after_sign signs.Semicolon (lexemes tokens.now)) }
+    ensures same { IfOk result (λ i. bare_import i.tree ≡ import_of (bare_dotted path) all) }
+{
+    let rest = expect(context, tokens, Sign::Semicolon)?;
+    Ok(Read {
+        tree: Import { path, all },
+        rest,
+    })
+}
+
 fn import<'t, 'a>(
     context: Context,
     tokens: &'t [Token<'a>],
@@ -388,20 +430,8 @@ fn import<'t, 'a>(
     let named = expect_word(context, tokens, Word::Import)?;
     let path = path(context, named)?;
     match star_part(path.rest) {
-        Some(rest) => Ok(Read {
-            tree: Import {
-                path: path.tree,
-                all: true,
-            },
-            rest: expect(context, rest, Sign::Semicolon)?,
-        }),
-        None => Ok(Read {
-            tree: Import {
-                path: path.tree,
-                all: false,
-            },
-            rest: expect(context, path.rest, Sign::Semicolon)?,
-        }),
+        Some(rest) => imported(context, path.tree, true, rest),
+        None => imported(context, path.tree, false, path.rest),
     }
 }
 
@@ -450,13 +480,13 @@ fn package_name<'t, 'a>(
 {
     let first = name(context, tokens)?;
     let more = package_parts(context, first.rest)?;
-    let rest = expect(context, more.rest, Sign::Semicolon)?;
+    let more = closed(context, more, Sign::Semicolon)?;
     Ok(Read {
         tree: Dotted {
             first: first.tree,
             more: more.tree,
         },
-        rest,
+        rest: more.rest,
     })
 }
 

@@ -8,13 +8,13 @@ ghost use Rattle.ls_tree.specs.Views.{name_text, bare, bare_modifier, bare_type,
 ghost use Rattle.ls_parser.specs.Answers.{Gives, Finds};
 ghost use Rattle.ls_parser.specs.Reading.{one_more, behind_comma, many_at, not_yet};
 ghost use Rattle.ls_parser.specs.ReadingTerms.{term_at};
-ghost use Rattle.ls_parser.specs.ReadingActions.{modifier_of_word, modifier_word_at, starts_modifier, modifier_at, modifiers_at, boolean_at, named_type_at, type_at, declarator_at, declarators_at, declaration_at, starts_type, named_declaration, starts_declaration};
+ghost use Rattle.ls_parser.specs.ReadingActions.{modifier_of_word, modifier_word_at, starts_modifier, modifier_at, modifiers_at, boolean_at, named_type_at, type_at, declarator_at, declarator_list_at, declarators_at, declaration_at, starts_type, named_declaration, starts_declaration};
 
 use crate::primaries::{class_name, is_markable};
 use crate::terms::binary;
 use crate::tokens::{
-    Context, Part, Read, expect, expect_word, make_name, name, name_part, push, sign_part, span_to,
-    starts_with, word_part,
+    Context, Part, Read, closed_part, expect, expect_word, make_name, name, name_part, push,
+    sign_part, span_to, starts_with, word_part,
 };
 use ls_lexer::fault::TextFault;
 use ls_lexer::sign::Sign;
@@ -231,8 +231,28 @@ fn one_declarator<'t, 'a>(
     })
 }
 
+// Declarators and a semicolon.
+fn declarator_list<'t, 'a>(
+    context: Context,
+    tokens: &'t [Token<'a>],
+    limit: usize,
+) -> Result<Part<'t, 'a, (Declarator, Vec<Declarator>)>, TextFault>
+    ensures read { Gives (λ d. ((bare_declarator d.tree.0, map bare_declarator d.tree.1.items), lexemes d.rest.now)) result (declarator_list_at (term_at limit) (lexemes tokens.now)) }
+    ensures height { IfOk result (λ d. (d.height ≡ max (value_height ((bare_declarator d.tree.0).value)) (declarators_height (map bare_declarator d.tree.1.items))) × (d.height ≤ limit)) }
+{
+    let first = declarator(context, tokens, limit)?;
+    let more = more_declarators(context, first.rest, limit)?;
+    let more = closed_part(context, more, Sign::Semicolon)?;
+    Ok(Part {
+        tree: (first.tree, more.tree),
+        height: first.height.max(more.height),
+        rest: more.rest,
+    })
+}
+
 // What stands behind the modifiers and the type, up to and with the semicolon. All the tokens begin with the
 // modifiers. The height is that of the highest initialiser, and each is at most as high as the limit.
+#[tactic(auto, using(crate::proofs::Steps::list_found, crate::proofs::Steps::list_fails))]
 pub fn declarators<'t, 'a>(
     context: Context,
     all: &'t [Token<'a>],
@@ -244,19 +264,17 @@ pub fn declarators<'t, 'a>(
     ensures read { Gives (λ d. (bare_declaration d.tree, lexemes d.rest.now)) result (declarators_at (term_at limit) (map bare_modifier modifiers.items) (bare_type type_name) (lexemes tokens.now)) }
     ensures height { IfOk result (λ d. (d.height ≡ max (value_height ((bare_declaration d.tree).first.value)) (declarators_height ((bare_declaration d.tree).more))) × (d.height ≤ limit)) }
 {
-    let first = declarator(context, tokens, limit)?;
-    let more = more_declarators(context, first.rest, limit)?;
-    let rest = expect(context, more.rest, Sign::Semicolon)?;
+    let list = declarator_list(context, tokens, limit)?;
     Ok(Part {
         tree: Declaration {
             modifiers,
             type_name,
-            first: first.tree,
-            more: more.tree,
-            span: span_to(all, rest),
+            first: list.tree.0,
+            more: list.tree.1,
+            span: span_to(all, list.rest),
         },
-        height: first.height.max(more.height),
-        rest,
+        height: list.height,
+        rest: list.rest,
     })
 }
 

@@ -9,7 +9,7 @@ ghost use Rattle.ls_parser.specs.Answers.{Gives};
 ghost use Rattle.ls_parser.specs.Reading.{is_markable};
 ghost use Rattle.ls_parser.specs.ReadingTerms.{has_suffix, is_largest, number_here, class_at};
 
-use crate::tokens::{Context, Part, Read, expect, name, starts_with};
+use crate::tokens::{Context, Part, Read, closed, expect, name, starts_with};
 use ls_lexer::fault::TextFault;
 use ls_lexer::sign::Sign;
 use ls_lexer::token::{Span, Token};
@@ -86,11 +86,7 @@ pub fn class_name<'t, 'a>(
 {
     let open = expect(context, tokens, Sign::Less)?;
     let name = name(context, open)?;
-    let rest = expect(context, name.rest, Sign::Greater)?;
-    Ok(Read {
-        tree: name.tree,
-        rest,
-    })
+    closed(context, name, Sign::Greater)
 }
 
 pub fn new_object(class: Name, arguments: Vec<Expr>, span: Span) -> Expr
