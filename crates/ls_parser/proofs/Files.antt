@@ -4,9 +4,9 @@ use Rattle.ls_lexer.specs.declared.fault.TextFault.{TextFault}
 use Rattle.ls_lexer.specs.Lexemes.{Lexeme}
 use Rattle.ls_lexer.specs.Tokens.{tokens_of}
 use Rattle.ls_tree.specs.Trees.{File}
-use Rattle.ls_parser.specs.Spelling.{spell}
+use Rattle.ls_spelling.specs.Spelling.{spell}
 use Rattle.ls_tree.specs.WellFormed.{WellFormedFile}
-use Rattle.ls_parser.specs.Spells.{Spells, TextSpells}
+use Rattle.ls_spelling.specs.Spells.{Spells, TextSpells}
 use Rattle.ls_parser.specs.Answers.{Refuses, RefusesTokens, MayCome, Fails}
 use Rattle.ls_lexer.specs.Places.{Refused, text_limit}
 use Rattle.ls_lexer.specs.declared.fault.TextFault.TheVariants as faults

@@ -18,6 +18,4 @@ pub mod ActionsAgain
 pub mod ClassesAgain
 pub mod Spelled
 pub mod Files
-pub mod MoreKinds
-pub mod Nodes
 pub mod Steps

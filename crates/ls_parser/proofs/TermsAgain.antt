@@ -12,7 +12,7 @@ use Rattle.ls_tree.specs.declared.tree.UnaryOp.TheVariants as unary
 use Rattle.ls_tree.specs.declared.tree.BinaryOp.{BinaryOp}
 use Rattle.ls_tree.specs.declared.tree.BinaryOp.TheVariants as binary
 use Rattle.ls_tree.specs.Trees.{Text, Term, Number, True, False, Null, This, Name, Paren, Unary, Binary, Field, Call, CallOn, Item, New, NewMarkable, NewArray, Terms, NoTerm, MoreTerms, listed}
-use Rattle.ls_parser.specs.Spelling.{sign_of, sign_of_unary}
+use Rattle.ls_spelling.specs.Spelling.{sign_of, sign_of_unary}
 use Rattle.ls_tree.specs.WellFormed.{rank_of, rank, is_post, is_new_array, is_minus, WellFormed, AreWellFormed, term_height, terms_height}
 use Rattle.ls_parser.specs.Reading.{◌>>=◌, Reader, given, after_sign, starts, not_yet, repeat, many_from, behind_comma, group_at, markable_name, is_markable}
 use Rattle.ls_parser.specs.ReadingTerms.{operator_of_sign, operator_at, has_operator, below, joined_at, binary_at, arguments_at, has_suffix, suffix_at, index_at, largest, is_largest, primary_at, post_of, unary_of, signed_at, unary_at, term_at, post_at}

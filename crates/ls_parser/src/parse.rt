@@ -9,7 +9,7 @@ ghost use Rattle.ls_tree.specs.Views.{file_of};
 ghost use Rattle.ls_tree.specs.FileView.{bare_file};
 ghost use Rattle.ls_parser.specs.Answers.{Refuses, RefusesTokens, MayCome, Gives};
 ghost use Rattle.ls_parser.specs.ReadingClasses.{file_at};
-ghost use Rattle.ls_parser.specs.Spells.{Spells, TextSpells};
+ghost use Rattle.ls_spelling.specs.Spells.{Spells, TextSpells};
 ghost use Rattle.ls_parser.specs.Laws.{OneTree, OneFile};
 
 use crate::classes::{classes, header, imports};

@@ -1,4 +1,4 @@
-use Rattle.ls_parser.proofs.Rows.{call_bare}
+use Rattle.ls_spelling.proofs.Rows.{call_bare}
 use Rattle.ls_parser.proofs.primaries.called.Goals as goal
 
 pub returns : goal.returns

@@ -1,4 +1,4 @@
-use Rattle.ls_parser.proofs.Rows.{new_markable_bare}
+use Rattle.ls_spelling.proofs.Rows.{new_markable_bare}
 use Rattle.ls_parser.proofs.primaries.new_markable.Goals as goal
 
 pub returns : goal.returns
