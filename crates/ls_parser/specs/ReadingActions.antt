@@ -73,6 +73,12 @@ declarator_at value ks =
 abbrev pub declaration_of : List Modifier → TypeName → Declarator → List Declarator → Declaration
 declaration_of modifiers type_name first more = record { modifiers = modifiers; type_name = type_name; first = first; more = more }
 
+-- declarators behind commas, and a semicolon
+abbrev pub more_declarators_at : Reader Term → Reader (List Declarator)
+more_declarators_at value ks =
+    many_at (not_yet signs.Semicolon) (behind_comma (declarator_at value)) ks >>= λ more.
+    after_sign signs.Semicolon more.1 >>= λ rest. Some (more.0, rest)
+
 -- declarators and a semicolon
 abbrev pub declarator_list_at : Reader Term → Reader (Declarator × List Declarator)
 declarator_list_at value ks =

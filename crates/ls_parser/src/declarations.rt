@@ -8,7 +8,7 @@ ghost use Rattle.ls_tree.specs.Views.{name_text, bare, bare_modifier, bare_type,
 ghost use Rattle.ls_parser.specs.Answers.{Gives, Finds};
 ghost use Rattle.ls_parser.specs.Reading.{one_more, behind_comma, many_at, not_yet};
 ghost use Rattle.ls_parser.specs.ReadingTerms.{term_at};
-ghost use Rattle.ls_parser.specs.ReadingActions.{modifier_of_word, modifier_word_at, starts_modifier, modifier_at, modifiers_at, boolean_at, named_type_at, type_at, declarator_at, declarator_list_at, declarators_at, declaration_at, starts_type, named_declaration, starts_declaration};
+ghost use Rattle.ls_parser.specs.ReadingActions.{modifier_of_word, modifier_word_at, starts_modifier, modifier_at, modifiers_at, boolean_at, named_type_at, type_at, declarator_at, more_declarators_at, declarator_list_at, declarators_at, declaration_at, starts_type, named_declaration, starts_declaration};
 
 use crate::primaries::{class_name, is_markable};
 use crate::terms::binary;
@@ -38,12 +38,16 @@ fn modifier_word(word: Word) -> Option<Modifier>
 fn modifier_part<'t, 'a>(tokens: &'t [Token<'a>]) -> Option<Read<'t, 'a, Modifier>>
     ensures { Finds (λ m. (bare_modifier m.tree, lexemes m.rest.now)) result (modifier_word_at (lexemes tokens.now)) }
 {
-    let (token, rest) = tokens.split_first()?;
-    let TokenKind::Word(word) = token.kind else {
-        return None;
-    };
-    let tree = modifier_word(word)?;
-    Some(Read { tree, rest })
+    match tokens {
+        [token, rest @ ..] => match token.kind {
+            TokenKind::Word(word) => {
+                let tree = modifier_word(word)?;
+                Some(Read { tree, rest })
+            }
+            _ => None,
+        },
+        [] => None,
+    }
 }
 
 pub fn starts_modifier(tokens: &[Token]) -> bool
@@ -231,6 +235,27 @@ fn one_declarator<'t, 'a>(
     })
 }
 
+// More declarators behind what is held already, and a semicolon. Generic over what is held: so its drop is that of a
+// parameter's type, where a step fails.
+fn with_declarators<'t, 'a, T: Drop>(
+    context: Context,
+    held: Part<'t, 'a, T>,
+    limit: usize,
+) -> Result<Part<'t, 'a, (T, Vec<Declarator>)>, TextFault>
+    requires { held.height ≤ limit }
+    ensures read { Gives (λ d. (map bare_declarator d.tree.1.items, lexemes d.rest.now)) result (more_declarators_at (term_at limit) (lexemes held.entry.rest.now)) }
+    ensures held { IfOk result (λ d. d.tree.0 ≡ held.entry.tree) }
+    ensures height { IfOk result (λ d. (d.height ≡ max held.entry.height (declarators_height (map bare_declarator d.tree.1.items))) × (d.height ≤ limit)) }
+{
+    let more = more_declarators(context, held.rest, limit)?;
+    let more = closed_part(context, more, Sign::Semicolon)?;
+    Ok(Part {
+        tree: (held.tree, more.tree),
+        height: held.height.max(more.height),
+        rest: more.rest,
+    })
+}
+
 // Declarators and a semicolon.
 fn declarator_list<'t, 'a>(
     context: Context,
@@ -241,13 +266,7 @@ fn declarator_list<'t, 'a>(
     ensures height { IfOk result (λ d. (d.height ≡ max (value_height ((bare_declarator d.tree.0).value)) (declarators_height (map bare_declarator d.tree.1.items))) × (d.height ≤ limit)) }
 {
     let first = declarator(context, tokens, limit)?;
-    let more = more_declarators(context, first.rest, limit)?;
-    let more = closed_part(context, more, Sign::Semicolon)?;
-    Ok(Part {
-        tree: (first.tree, more.tree),
-        height: first.height.max(more.height),
-        rest: more.rest,
-    })
+    with_declarators(context, first, limit)
 }
 
 // What stands behind the modifiers and the type, up to and with the semicolon. All the tokens begin with the

@@ -59,15 +59,19 @@ pub fn operator_part<'t, 'a>(
 ) -> Option<(BinaryOp, &'t [Token<'a>])>
     ensures { Finds (λ x. (x.0, lexemes x.1.now)) result (operator_at wanted (lexemes tokens.now)) }
 {
-    let (token, rest) = tokens.split_first()?;
-    let TokenKind::Sign(sign) = token.kind else {
-        return None;
-    };
-    let op = operator_of(sign)?;
-    if rank(op) == wanted {
-        Some((op, rest))
-    } else {
-        None
+    match tokens {
+        [token, rest @ ..] => match token.kind {
+            TokenKind::Sign(sign) => {
+                let op = operator_of(sign)?;
+                if rank(op) == wanted {
+                    Some((op, rest))
+                } else {
+                    None
+                }
+            }
+            _ => None,
+        },
+        [] => None,
     }
 }
 

@@ -296,8 +296,8 @@ fn other_statement<'t, 'a>(
 {
     match label_part(tokens) {
         Some((text, rest)) => {
-            let label = make_name(context, text, label_span(tokens))?;
             let rest = expect_word(context, rest, Word::While)?;
+            let label = make_name(context, text, label_span(tokens))?;
             while_statement(context, tokens, Some(label), rest, limit)
         }
         None => {

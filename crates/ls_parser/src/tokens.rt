@@ -83,32 +83,38 @@ pub fn span_from(start: usize, tokens: &[Token], rest: &[Token]) -> Span {
 pub fn sign_part<'t, 'a>(tokens: &'t [Token<'a>], wanted: Sign) -> Option<&'t [Token<'a>]>
     ensures { Finds (λ rest. lexemes rest.now) result (after_sign wanted (lexemes tokens.now)) }
 {
-    let (token, rest) = tokens.split_first()?;
-    let TokenKind::Sign(sign) = token.kind else {
-        return None;
-    };
-    if sign == wanted { Some(rest) } else { None }
+    match tokens {
+        [token, rest @ ..] => match token.kind {
+            TokenKind::Sign(sign) if sign == wanted => Some(rest),
+            _ => None,
+        },
+        [] => None,
+    }
 }
 
 pub fn word_part<'t, 'a>(tokens: &'t [Token<'a>], wanted: Word) -> Option<&'t [Token<'a>]>
     ensures { Finds (λ rest. lexemes rest.now) result (after_word wanted (lexemes tokens.now)) }
 {
-    let (token, rest) = tokens.split_first()?;
-    let TokenKind::Word(word) = token.kind else {
-        return None;
-    };
-    if word == wanted { Some(rest) } else { None }
+    match tokens {
+        [token, rest @ ..] => match token.kind {
+            TokenKind::Word(word) if word == wanted => Some(rest),
+            _ => None,
+        },
+        [] => None,
+    }
 }
 
 /// The text of a name, and the tokens behind it.
 pub fn name_part<'t, 'a>(tokens: &'t [Token<'a>]) -> Option<(&'a str, &'t [Token<'a>])>
     ensures { Finds (λ x. (x.0.now, lexemes x.1.now)) result (name_at (lexemes tokens.now)) }
 {
-    let (token, rest) = tokens.split_first()?;
-    let TokenKind::Name(text) = token.kind else {
-        return None;
-    };
-    Some((text, rest))
+    match tokens {
+        [token, rest @ ..] => match token.kind {
+            TokenKind::Name(text) => Some((text, rest)),
+            _ => None,
+        },
+        [] => None,
+    }
 }
 
 pub fn starts_with(tokens: &[Token], wanted: Sign) -> bool
@@ -171,12 +177,6 @@ pub fn push<T: Drop>(mut items: Vec<T>, item: T) -> Result<Vec<T>, AllocError>
 {
     items.push(item)?;
     Ok(items)
-}
-
-pub fn boxed<T: Drop>(alloc: Global, value: T) -> Result<Box<T>, AllocError>
-    ensures { IfOk result (λ b. b.value ≡ value) }
-{
-    Ok(Box::new(alloc, value)?)
 }
 
 // Generic, as what follows: where a step may fail while a tree is held, the drop of a parameter's type is much less to
