@@ -5,11 +5,11 @@ use Rattle.ls_lexer.specs.declared.sign.Sign.TheVariants as signs
 use Rattle.ls_lexer.specs.Lexemes.{Lexeme}
 use Rattle.ls_tree.specs.Trees.{Text, Term, Modifier, TypeName, Declarator, Items, Parameter, Member, Method, Constructor}
 use Rattle.ls_tree.specs.WellFormed.{most_nodes}
-use Rattle.ls_parser.specs.Answers.{Fails}
-use Rattle.ls_parser.specs.Reading.{◌>>=◌, Reader, after_sign, name_at, many_at, not_yet, behind_comma}
+use Rattle.ls_terms.specs.Answers.{Fails}
+use Rattle.ls_terms.specs.Reading.{◌>>=◌, Reader, after_sign, name_at, many_at, not_yet, behind_comma}
 use Rattle.ls_parser.specs.ReadingActions.{declarator_at, declarator_list_at, declarators_at, declaration_of, block_at}
 use Rattle.ls_parser.specs.ReadingClasses.{parameters_at, callable_at, constructor_at, method_at}
-use Rattle.ls_parser.proofs.Repeats.{fails_first}
+use Rattle.ls_terms.proofs.Repeats.{fails_first}
 
 one_step : {C R S : Type 0} (c : Option C) (r : C → R) (f : R → S) → (c >>= λ z. Some (f (r z))) ≡ ((c >>= λ z. Some (r z)) >>= λ v. Some (f v))
 one_step None r f = refl

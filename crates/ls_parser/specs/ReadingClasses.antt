@@ -5,8 +5,8 @@ use Rattle.ls_lexer.specs.declared.sign.Sign.TheVariants as signs
 use Rattle.ls_lexer.specs.Lexemes.{Lexeme, Named, Numeral, Reserved, Marked}
 use Rattle.ls_tree.specs.Trees.{Text, Modifier, TypeName, Items, Parameter, Member, Fields, Method, Constructor, ClassTree, Dotted, Import, File}
 use Rattle.ls_tree.specs.WellFormed.{most_nodes}
-use Rattle.ls_parser.specs.Reading.{◌>>=◌, Reader, given, after_sign, after_word, name_at, starts, many_at, not_yet, group_at}
-use Rattle.ls_parser.specs.ReadingTerms.{term_at}
+use Rattle.ls_terms.specs.Reading.{◌>>=◌, Reader, given, after_sign, after_word, name_at, starts, many_at, not_yet, group_at}
+use Rattle.ls_terms.specs.ReadingTerms.{term_at}
 use Rattle.ls_parser.specs.ReadingActions.{modifiers_at, type_at, declarators_at, block_at}
 
 abbrev pub parameter_of : List Modifier → TypeName → Text → Parameter

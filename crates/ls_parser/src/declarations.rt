@@ -5,21 +5,21 @@ ghost use Rattle.ls_lexer.specs.Lexemes.{lexemes};
 ghost use Rattle.ls_lexer.specs.declared.sign.Sign.TheVariants as signs;
 ghost use Rattle.ls_tree.specs.WellFormed.{value_height, declarators_height};
 ghost use Rattle.ls_tree.specs.Views.{name_text, bare, bare_modifier, bare_type, bare_declarator, bare_declaration};
-ghost use Rattle.ls_parser.specs.Answers.{Gives, Finds};
-ghost use Rattle.ls_parser.specs.Reading.{one_more, behind_comma, many_at, not_yet};
-ghost use Rattle.ls_parser.specs.ReadingTerms.{term_at};
+ghost use Rattle.ls_terms.specs.Answers.{Gives, Finds};
+ghost use Rattle.ls_terms.specs.Reading.{one_more, behind_comma, many_at, not_yet};
+ghost use Rattle.ls_terms.specs.ReadingTerms.{term_at};
 ghost use Rattle.ls_parser.specs.ReadingActions.{modifier_of_word, modifier_word_at, starts_modifier, modifier_at, modifiers_at, boolean_at, named_type_at, type_at, declarator_at, more_declarators_at, declarator_list_at, declarators_at, declaration_at, starts_type, named_declaration, starts_declaration};
 
-use crate::primaries::{class_name, is_markable};
-use crate::terms::binary;
-use crate::tokens::{
-    Context, Part, Read, closed_part, expect, expect_word, make_name, name, name_part, push,
-    sign_part, span_to, starts_with, word_part,
-};
 use ls_lexer::fault::TextFault;
 use ls_lexer::sign::Sign;
 use ls_lexer::token::{Token, TokenKind};
 use ls_lexer::word::Word;
+use ls_terms::primaries::{class_name, is_markable};
+use ls_terms::terms::binary;
+use ls_terms::tokens::{
+    Context, Part, Read, closed_part, expect, expect_word, make_name, name, name_part, push,
+    sign_part, span_to, starts_with, word_part,
+};
 use ls_tree::tree::{Declaration, Declarator, Expr, Modifier, Name, Type};
 
 fn modifier_word(word: Word) -> Option<Modifier>
@@ -89,7 +89,7 @@ pub fn modifiers<'t, 'a>(
     Ok(all)
 }
 
-#[tactic(auto, using(crate::proofs::Rows::map_push))]
+#[tactic(auto, using(ls_terms::proofs::Rows::map_push))]
 fn one_modifier<'t, 'a>(
     context: Context,
     before: Read<'t, 'a, Vec<Modifier>>,
@@ -216,7 +216,7 @@ fn more_declarators<'t, 'a>(
     Ok(all)
 }
 
-#[tactic(auto, using(crate::proofs::Rows::map_push, crate::proofs::Rows::declarators_height_push))]
+#[tactic(auto, using(ls_terms::proofs::Rows::map_push, ls_terms::proofs::Rows::declarators_height_push))]
 fn one_declarator<'t, 'a>(
     context: Context,
     before: Part<'t, 'a, Vec<Declarator>>,

@@ -6,20 +6,20 @@ ghost use Rattle.ls_lexer.specs.declared.sign.Sign.TheVariants as signs;
 ghost use Rattle.ls_tree.specs.Trees as trees;
 ghost use Rattle.ls_tree.specs.WellFormed.{term_height, action_height, piece_height, is_call};
 ghost use Rattle.ls_tree.specs.Views.{name_text, bare, bare_statement, bare_piece, bare_block};
-ghost use Rattle.ls_parser.specs.Answers.{Gives, Finds};
-ghost use Rattle.ls_parser.specs.ReadingTerms.{term_at};
+ghost use Rattle.ls_terms.specs.Answers.{Gives, Finds};
+ghost use Rattle.ls_terms.specs.ReadingTerms.{term_at};
 ghost use Rattle.ls_parser.specs.ReadingActions.{local_at, condition_at, jump_at, ended_at, label_at, used_at, declared_at, break_at, continue_at, return_at};
 
 use crate::declarations::declaration;
-use crate::terms::binary;
-use crate::tokens::{
-    Context, Part, Read, closed_part, expect, make_name, name_part, sign_part, span_from, span_to,
-    syntax, too_deep,
-};
 use ls_lexer::fault::TextFault;
 use ls_lexer::sign::Sign;
 use ls_lexer::token::{Span, Token};
 use ls_lexer::word::Word;
+use ls_terms::terms::binary;
+use ls_terms::tokens::{
+    Context, Part, Read, closed_part, expect, make_name, name_part, sign_part, span_from, span_to,
+    syntax, too_deep,
+};
 use ls_tree::tree::{Block, BlockItem, Expr, Name, Statement};
 use std::alloc::AllocError;
 

@@ -6,9 +6,9 @@ ghost use Rattle.ls_lexer.specs.declared.sign.Sign.TheVariants as signs;
 ghost use Rattle.ls_tree.specs.Trees as trees;
 ghost use Rattle.ls_tree.specs.WellFormed.{action_height, items_height, piece_height};
 ghost use Rattle.ls_tree.specs.Views.{name_text, bare_statement, bare_piece, items_of, bare_block};
-ghost use Rattle.ls_parser.specs.Answers.{Gives};
-ghost use Rattle.ls_parser.specs.Reading.{one_more, many_at, not_yet};
-ghost use Rattle.ls_parser.specs.ReadingTerms.{term_at, post_at};
+ghost use Rattle.ls_terms.specs.Answers.{Gives};
+ghost use Rattle.ls_terms.specs.Reading.{one_more, many_at, not_yet};
+ghost use Rattle.ls_terms.specs.ReadingTerms.{term_at, post_at};
 ghost use Rattle.ls_parser.specs.ReadingActions.{piece_at, local_at, if_at, while_at, try_at, other_at, first_of, begun_at, action_at, block_at, block_in};
 
 use crate::declarations::starts_declaration;
@@ -16,15 +16,15 @@ use crate::simple_statements::{
     block_tree, break_statement, condition, continue_statement, label_part, label_span, local,
     return_statement, try_tree, used,
 };
-use crate::terms::post;
-use crate::tokens::{
-    Context, Part, boxed_part, closed_part, expect, expect_word, make_name, push, span_to,
-    starts_with, syntax, too_deep, word_part,
-};
 use ls_lexer::fault::TextFault;
 use ls_lexer::sign::Sign;
 use ls_lexer::token::{Token, TokenKind};
 use ls_lexer::word::Word;
+use ls_terms::terms::post;
+use ls_terms::tokens::{
+    Context, Part, boxed_part, closed_part, expect, expect_word, make_name, push, span_to,
+    starts_with, syntax, too_deep, word_part,
+};
 use ls_tree::tree::{Block, BlockItem, Name, Statement};
 use std::alloc::AllocError;
 
@@ -144,7 +144,7 @@ fn block_items<'t, 'a>(
 }
 
 #[cycle(statements)]
-#[tactic(auto, using(crate::proofs::Rows::map_push, crate::proofs::StatementRows::collected_height_push))]
+#[tactic(auto, using(ls_terms::proofs::Rows::map_push, crate::proofs::StatementRows::collected_height_push))]
 fn one_item<'t, 'a>(
     context: Context,
     before: Part<'t, 'a, Vec<BlockItem>>,

@@ -1,7 +1,7 @@
 use Rattle.std.proofs.Common.{map}
 use Rattle.ls_lexer.specs.Lexemes.{lexemes}
 use Rattle.ls_tree.specs.Views.{bare_modifier, bare_type, bare_declarator}
-use Rattle.ls_parser.specs.ReadingTerms.{term_at}
+use Rattle.ls_terms.specs.ReadingTerms.{term_at}
 use Rattle.ls_parser.proofs.Steps.{list_found}
 use Rattle.ls_parser.proofs.declarations.declarators.Goals as goal
 

@@ -3,9 +3,9 @@ use Rattle.ls_lexer.specs.Lexemes.{lexemes}
 use Rattle.ls_lexer.specs.declared.sign.Sign.TheVariants as signs
 use Rattle.ls_tree.specs.WellFormed.{items_height}
 use Rattle.ls_tree.specs.Views.{bare_piece, items_of}
-use Rattle.ls_parser.specs.Reading.{one_more, many_at, not_yet}
+use Rattle.ls_terms.specs.Reading.{one_more, many_at, not_yet}
 use Rattle.ls_parser.specs.ReadingActions.{piece_at, local_at, action_at}
-use Rattle.ls_parser.proofs.Repeats.{InRepeat}
+use Rattle.ls_terms.proofs.Repeats.{InRepeat}
 use Rattle.ls_parser.proofs.statements.+statements.Given as goal
 
 abbrev pub decreases-statement : goal.decreases-statement
