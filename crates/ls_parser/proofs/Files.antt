@@ -1,5 +1,5 @@
 -- What reading a file says of spelling.
-use Rattle.std.proofs.Common.{◌≡◌, ℕ, ◌≤◌, ◌<◌, ◌+◌, ◌⊎◌, inl, inr, arith, length, List, [], Option, Some, None, IsSome, refl, sym, ap, subst, ◌∙◌}
+use Rattle.std.proofs.Common.{◌≡◌, ℕ, ◌<◌, inl, inr, arith, length, List, Option, Some, None, IsSome, refl, sym, ap, subst, ◌∙◌}
 use Rattle.ls_lexer.specs.declared.fault.TextFault.{TextFault}
 use Rattle.ls_lexer.specs.Lexemes.{Lexeme}
 use Rattle.ls_lexer.specs.Tokens.{tokens_of}
@@ -13,7 +13,6 @@ use Rattle.ls_lexer.specs.declared.fault.TextFault.TheVariants as faults
 use Rattle.ls_parser.specs.ReadingClasses.{file_at}
 use Rattle.std.proofs.lemmas.Bool.{cases_lt}
 use Rattle.ls_terms.proofs.Repeats.{some_is, means_map}
-use Rattle.ls_parser.proofs.OntoClasses.{onto_file}
 use Rattle.ls_parser.proofs.Spelled.{file_spells}
 use Rattle.ls_parser.proofs.ClassesRead.{file_sound}
 use Rattle.ls_parser.proofs.ClassesAgain.{file_complete}

@@ -1,6 +1,6 @@
 -- The tokens of members, classes and files, and then the rest.
-use Rattle.std.proofs.Common.{◌≡◌, ℕ, ◌+◌, ◌<◌, ◌≤◌, Bool, true, false, length, List, [], ◌∷◌, ◌++◌, Option, Some, None, refl, sym, ap, ◌∙◌, arith}
-use Rattle.ls_lexer.specs.Lexemes.{Lexeme, Named, Numeral, Reserved, Marked}
+use Rattle.std.proofs.Common.{◌<◌, ◌≤◌, Bool, true, false, length, List, [], ◌∷◌, Option, Some, None, arith}
+use Rattle.ls_lexer.specs.Lexemes.{Lexeme, Named, Reserved, Marked}
 use Rattle.ls_lexer.specs.declared.sign.Sign.TheVariants as signs
 use Rattle.ls_lexer.specs.declared.word.Word.TheVariants as words
 use Rattle.ls_tree.specs.Trees

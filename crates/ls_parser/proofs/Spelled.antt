@@ -4,7 +4,7 @@ use Rattle.std.specs.List.{flat_map}
 use Rattle.std.proofs.lemmas.List.{append-nil}
 use Rattle.ls_lexer.specs.declared.sign.Sign.TheVariants as signs
 use Rattle.ls_lexer.specs.declared.word.Word.TheVariants as words
-use Rattle.ls_lexer.specs.Lexemes.{Lexeme, Named, Numeral, Reserved, Marked}
+use Rattle.ls_lexer.specs.Lexemes.{Lexeme, Named, Reserved, Marked}
 use Rattle.ls_tree.specs.Trees.{Text, Term, Modifier, Public, Protected, Private, Final, Volatile, Annotation, TypeName, Int, Boolean, BooleanArray, Class, Markable, Declarator, Declaration, Action, Block, Empty, If, IfElse, While, Break, Continue, Return, Try, Assign, Evaluate, Items, NoItem, Do, Declare, Parameter, Member, Fields, Method, Constructor, ClassTree, Dotted, Import, File}
 use Rattle.ls_spelling.specs.Spelling.{spell_term, spell_modifier, spell_type, spell_initial, spell_declarator, spell_declaration, spell_label, spell_label_before, spell_value, spell_action, spell_items, in_parens, in_braces, spell_parameter, spell_parameters, spell_result, spell_member, spell_class, spell_dotted, spell_all, spell_import, spell_package, spell}
 use Rattle.ls_terms.proofs.Onto.{onto, onto_spells}

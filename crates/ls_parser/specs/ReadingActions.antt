@@ -1,5 +1,5 @@
 -- Reading of declarations and statements.
-use Rattle.std.specs.Prelude.{◌≡◌, ℕ, zero, suc, Bool, true, false, not, ◌&&◌, ◌||◌, List, [], ◌∷◌, length, Option, Some, None, is_some, if◌then◌else◌}
+use Rattle.std.specs.Prelude.{ℕ, zero, suc, Bool, false, ◌&&◌, ◌||◌, List, [], ◌∷◌, Option, Some, None, is_some, if◌then◌else◌}
 use Rattle.ls_lexer.specs.declared.word.Word.{Word}
 use Rattle.ls_lexer.specs.declared.word.Word.TheVariants as words
 use Rattle.ls_lexer.specs.declared.sign.Sign.{Sign}

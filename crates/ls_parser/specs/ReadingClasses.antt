@@ -1,8 +1,8 @@
 -- Reading of members, classes and files.
-use Rattle.std.specs.Prelude.{◌≡◌, ℕ, Bool, true, false, not, ◌||◌, List, [], ◌∷◌, length, Option, Some, None, is_some, if◌then◌else◌}
+use Rattle.std.specs.Prelude.{Bool, true, false, not, ◌||◌, List, [], ◌∷◌, Option, Some, None, is_some, if◌then◌else◌}
 use Rattle.ls_lexer.specs.declared.word.Word.TheVariants as words
 use Rattle.ls_lexer.specs.declared.sign.Sign.TheVariants as signs
-use Rattle.ls_lexer.specs.Lexemes.{Lexeme, Named, Numeral, Reserved, Marked}
+use Rattle.ls_lexer.specs.Lexemes.{Lexeme}
 use Rattle.ls_tree.specs.Trees.{Text, Modifier, TypeName, Items, Parameter, Member, Fields, Method, Constructor, ClassTree, Dotted, Import, File}
 use Rattle.ls_tree.specs.WellFormed.{most_nodes}
 use Rattle.ls_terms.specs.Reading.{◌>>=◌, Reader, given, after_sign, after_word, name_at, starts, many_at, not_yet, group_at}

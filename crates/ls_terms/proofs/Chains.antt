@@ -8,8 +8,8 @@ use Rattle.ls_tree.specs.declared.tree.BinaryOp.{BinaryOp}
 use Rattle.ls_tree.specs.Trees.{Term, Binary}
 use Rattle.ls_tree.specs.WellFormed.{term_height, is_minus}
 use Rattle.ls_terms.specs.Answers.{Fails}
-use Rattle.ls_terms.specs.Reading.{◌>>=◌, Reader, given, repeat}
-use Rattle.ls_terms.specs.ReadingTerms.{operator_at, has_operator, joined_at, binary_at, unary_of, signed_at, unary_at, post_of, post_at}
+use Rattle.ls_terms.specs.Reading.{Reader, given, repeat}
+use Rattle.ls_terms.specs.ReadingTerms.{operator_at, has_operator, joined_at, binary_at, unary_of, signed_at, unary_at, post_at}
 use Rattle.ls_terms.proofs.Repeats.{InRepeat, repeat_goes_on, fails_first}
 
 pub chain_begins : (wanted limit : ℕ) (operand : Reader Term) (ks : List Lexeme) (left : Term) (rest : List Lexeme) → 0 < wanted → binary_at (wanted - 1) limit operand ks ≡ Some (left, rest)

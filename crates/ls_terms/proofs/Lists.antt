@@ -1,10 +1,10 @@
 -- Lists of things: what is read is spelled so, and what is spelled is read again.
-use Rattle.std.proofs.Common.{◌≡◌, ℕ, zero, suc, ◌+◌, ◌<◌, ◌≤◌, Bool, true, false, List, [], ◌∷◌, ◌++◌, length, Option, Some, None, refl, sym, ap, subst, ◌∙◌, arith, append_assoc}
+use Rattle.std.proofs.Common.{◌≡◌, ℕ, zero, suc, ◌+◌, ◌<◌, ◌≤◌, Bool, true, false, List, [], ◌∷◌, ◌++◌, length, Some, refl, sym, ap, subst, ◌∙◌, arith, append_assoc}
 use Rattle.std.specs.List.{AllByRecursion, flat_map}
 use Rattle.std.proofs.lemmas.List.{append-nil}
 use Rattle.std.proofs.lemmas.List.Concat.{flat_map-cons}
 use Rattle.ls_lexer.specs.Lexemes.{Lexeme}
-use Rattle.ls_terms.specs.Reading.{◌>>=◌, Reader, repeat, one_more, many_from, many_at}
+use Rattle.ls_terms.specs.Reading.{Reader, repeat, one_more, many_from, many_at}
 use Rattle.ls_terms.proofs.Repeats.{bind_some, some_is, repeat_sound, repeat_stops, turn}
 
 abbrev pub Onto : Type 0 → Type 0

@@ -1,10 +1,10 @@
 -- The tokens of an expression, and then the rest.
-use Rattle.std.proofs.Common.{◌≡◌, ℕ, ◌+◌, ◌<◌, ◌≤◌, length, List, [], ◌∷◌, ◌++◌, refl, sym, ap, ◌∙◌, append_assoc, arith}
+use Rattle.std.proofs.Common.{◌≡◌, ℕ, ◌+◌, ◌<◌, length, List, [], ◌∷◌, ◌++◌, refl, sym, ap, ◌∙◌, append_assoc, arith}
 use Rattle.ls_lexer.specs.Lexemes.{Lexeme, Named, Numeral, Reserved, Marked}
 use Rattle.ls_lexer.specs.declared.sign.Sign.TheVariants as signs
 use Rattle.ls_lexer.specs.declared.word.Word.TheVariants as words
 use Rattle.ls_tree.specs.Trees.{Text, Term, Number, True, False, Null, This, Name, Paren, Unary, Binary, Field, Call, CallOn, Item, New, NewMarkable, NewArray, Terms, NoTerm, MoreTerms}
-use Rattle.ls_spelling.specs.Spelling.{sign_of, sign_of_unary, markable, in_parens, spell_term, spell_terms, spell_others}
+use Rattle.ls_spelling.specs.Spelling.{sign_of, sign_of_unary, in_parens, spell_term, spell_terms, spell_others}
 use Rattle.ls_terms.specs.Reading.{markable_name}
 
 -- `<name>`

@@ -1,5 +1,5 @@
 -- The loop over what stands behind a primary.
-use Rattle.std.proofs.Common.{◌≡◌, ℕ, zero, suc, ◌+◌, ◌-◌, ◌<◌, ◌≤◌, Bool, true, false, leb, length, List, [], ◌∷◌, Option, Some, None, refl, sym, ap, subst, ◌∙◌, arith, le-leb}
+use Rattle.std.proofs.Common.{◌≡◌, ℕ, zero, suc, ◌+◌, ◌-◌, ◌<◌, ◌≤◌, Bool, true, false, leb, List, Some, None, refl, sym, ap, subst, ◌∙◌, arith, le-leb}
 use Rattle.std.proofs.lemmas.Bool.{lt-leb}
 use Rattle.ls_lexer.specs.declared.fault.TextFault.{TextFault}
 use Rattle.ls_lexer.specs.declared.sign.Sign.TheVariants as signs
@@ -7,7 +7,7 @@ use Rattle.ls_lexer.specs.Lexemes.{Lexeme}
 use Rattle.ls_tree.specs.Trees.{Term}
 use Rattle.ls_tree.specs.WellFormed.{term_height}
 use Rattle.ls_terms.specs.Answers.{Fails}
-use Rattle.ls_terms.specs.Reading.{◌>>=◌, Reader, given, after_sign, repeat}
+use Rattle.ls_terms.specs.Reading.{Reader, given, after_sign, repeat}
 use Rattle.ls_terms.specs.ReadingTerms.{has_suffix, suffix_at, member_at, item_at, primary_at, term_at, post_at}
 use Rattle.ls_terms.proofs.Repeats.{InRepeat, fails_first}
 

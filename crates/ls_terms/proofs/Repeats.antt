@@ -1,12 +1,12 @@
 -- Repetition, and the loops that do it.
-use Rattle.std.proofs.Common.{◌≡◌, ℕ, zero, suc, ◌+◌, ◌<◌, ◌≤◌, Bool, true, false, length, List, [], ◌∷◌, ◌++◌, Option, Some, None, is_some, ◌⊎◌, refl, sym, ap, subst, ◌∙◌, inl, inr, arith}
+use Rattle.std.proofs.Common.{◌≡◌, ℕ, zero, suc, ◌<◌, ◌≤◌, Bool, true, false, length, List, [], ◌∷◌, Option, Some, None, refl, sym, ap, subst, ◌∙◌, inl, inr, arith}
 use Rattle.std.proofs.lemmas.Bool.{cases_Bool}
 use Rattle.ls_lexer.specs.declared.fault.TextFault.{TextFault}
 use Rattle.ls_lexer.specs.declared.fault.TextFault.TheVariants as faults
 use Rattle.ls_lexer.specs.Lexemes.{Lexeme}
 use Rattle.ls_terms.specs.Answers.{RefusesTokens, Fails}
 use Rattle.ls_lexer.specs.declared.sign.Sign.TheVariants as signs
-use Rattle.ls_terms.specs.Reading.{◌>>=◌, Reader, repeat, one_more, given, after_sign, starts, not_yet, behind_comma, group_at}
+use Rattle.ls_terms.specs.Reading.{◌>>=◌, Reader, repeat, one_more, after_sign, starts, not_yet, behind_comma, group_at}
 
 pub means_map : {P Q : Type 0} (e : TextFault) → (P → Q) → RefusesTokens e P → RefusesTokens e Q
 means_map faults.Memory f h = tt

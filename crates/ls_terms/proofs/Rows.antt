@@ -1,15 +1,10 @@
 -- Lists in trees.
-use Rattle.std.proofs.Common.{◌≡◌, ℕ, ◌+◌, ◌≤◌, max, List, [], ◌∷◌, ◌++◌, Option, Some, None, refl, sym, ap, ◌∙◌, arith, map}
-use Rattle.std.specs.Global.{Vec, Box}
-use Rattle.ls_lexer.specs.declared.token.Span.{Span}
-use Rattle.ls_tree.specs.declared.tree.Name.{Name}
-use Rattle.ls_tree.specs.declared.tree.Expr.{Expr, Row_of-Expr, end_of-Expr, more_of-Expr, items-the_row-Expr, items_hidden-the_row-Expr-0}
-use Rattle.ls_tree.specs.declared.tree.Expr.TheVariants as exprs
-use Rattle.ls_tree.specs.declared.tree.Expr.TheBlock.{hidden-the_row-Expr-0, back-Expr-Call-0}
+use Rattle.std.proofs.Common.{◌≡◌, max, List, [], ◌∷◌, ◌++◌, refl, ap, arith, map}
+use Rattle.ls_tree.specs.declared.tree.Expr.{Expr}
 use Rattle.ls_tree.specs.Trees as trees
 use Rattle.ls_tree.specs.Trees.{Text, Term, Terms, MoreTerms, listed}
 use Rattle.ls_tree.specs.WellFormed.{term_height, terms_height, value_height, declarators_height}
-use Rattle.ls_tree.specs.Views.{bare, bare_row, bare_held, bare_target, call_of, terms_of, name_text}
+use Rattle.ls_tree.specs.Views.{bare, terms_of}
 
 pub map_push : {A B : Type 0} (f : A → B) (xs : List A) (x : A) → map f (xs ++ x ∷ []) ≡ map f xs ++ f x ∷ []
 map_push f [] x = refl

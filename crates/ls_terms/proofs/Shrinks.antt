@@ -1,9 +1,9 @@
 -- Readers take a token at least.
-use Rattle.std.proofs.Common.{◌≡◌, ℕ, ◌+◌, ◌<◌, suc, length, List, [], ◌∷◌, ◌++◌, Option, Some, None, refl, sym, ap, subst, ◌∙◌, arith}
-use Rattle.ls_lexer.specs.Lexemes.{Lexeme, Named, Numeral, Reserved, Marked, lexemes}
+use Rattle.std.proofs.Common.{◌≡◌, ◌<◌, suc, length, List, [], ◌∷◌, ◌++◌, Some, refl, ap, arith}
+use Rattle.ls_lexer.specs.Lexemes.{Lexeme, lexemes}
 use Rattle.ls_lexer.specs.declared.token.Token.{Token}
 use Rattle.ls_lexer.specs.declared.sign.Sign.TheVariants as signs
-use Rattle.ls_terms.specs.Reading.{◌>>=◌, Reader, one_more, behind_comma, after_sign}
+use Rattle.ls_terms.specs.Reading.{Reader, one_more, behind_comma, after_sign}
 use Rattle.ls_terms.proofs.Repeats.{bind_some, some_is}
 use Rattle.ls_terms.proofs.Signs.{sign_reads}
 

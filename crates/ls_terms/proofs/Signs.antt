@@ -1,5 +1,5 @@
 -- One token: what is read is spelled so.
-use Rattle.std.proofs.Common.{◌≡◌, Bool, true, false, cond, List, [], ◌∷◌, Option, Some, None, ◌⊎◌, inl, inr, refl, sym, ap, ◌∙◌}
+use Rattle.std.proofs.Common.{◌≡◌, Bool, true, false, cond, List, [], ◌∷◌, Option, Some, None, ◌⊎◌, inl, inr, refl, ap}
 use Rattle.std.specs.Prelude.{◌&&◌}
 use denote.Enum.Bare.{sameb, same_true}
 use Rattle.ls_lexer.specs.contracts.sign.Sign.{the_type as sign_type}

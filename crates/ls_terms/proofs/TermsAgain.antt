@@ -1,7 +1,7 @@
 -- Expressions: what is well-formed is read again.
-use Rattle.std.proofs.Common.{◌≡◌, ◌≢◌, ℕ, zero, suc, ◌+◌, ◌<◌, ◌≤◌, max, Bool, true, false, leb, eqb, List, [], ◌∷◌, ◌++◌, length, Option, Some, None, ◌⊎◌, refl, sym, ap, subst, ◌∙◌, inl, inr, arith, le-leb}
+use Rattle.std.proofs.Common.{◌≡◌, ◌≢◌, ℕ, zero, suc, ◌+◌, ◌<◌, ◌≤◌, Bool, true, false, leb, eqb, List, [], ◌∷◌, length, Some, None, refl, sym, ap, ◌∙◌, inl, inr, arith, le-leb}
 use Rattle.std.proofs.lemmas.Bool.{cases_lt, eq-eqb, ne_eqb, cases_Bool}
-use Rattle.std.specs.Prelude.{◌&&◌, ◌||◌}
+use Rattle.std.specs.Prelude.{◌&&◌}
 use Rattle.std.specs.List.{AllByRecursion}
 use Rattle.std.specs.Cmp.Lexicographic.{same_text}
 use Rattle.ls_lexer.specs.declared.sign.Sign.TheVariants as signs
@@ -14,8 +14,8 @@ use Rattle.ls_tree.specs.declared.tree.BinaryOp.TheVariants as binary
 use Rattle.ls_tree.specs.Trees.{Text, Term, Number, True, False, Null, This, Name, Paren, Unary, Binary, Field, Call, CallOn, Item, New, NewMarkable, NewArray, Terms, NoTerm, MoreTerms, listed}
 use Rattle.ls_spelling.specs.Spelling.{sign_of, sign_of_unary}
 use Rattle.ls_tree.specs.WellFormed.{rank_of, rank, is_post, is_new_array, is_minus, WellFormed, AreWellFormed, term_height, terms_height}
-use Rattle.ls_terms.specs.Reading.{◌>>=◌, Reader, given, after_sign, starts, not_yet, repeat, many_from, behind_comma, group_at, markable_name, is_markable}
-use Rattle.ls_terms.specs.ReadingTerms.{operator_of_sign, operator_at, has_operator, below, joined_at, binary_at, arguments_at, has_suffix, suffix_at, index_at, largest, is_largest, primary_at, post_of, unary_of, signed_at, unary_at, term_at, post_at}
+use Rattle.ls_terms.specs.Reading.{Reader, after_sign, not_yet, repeat, many_from, behind_comma, is_markable}
+use Rattle.ls_terms.specs.ReadingTerms.{operator_of_sign, operator_at, has_operator, below, joined_at, binary_at, arguments_at, has_suffix, suffix_at, index_at, largest, is_largest, primary_at, post_of, unary_of, unary_at, term_at, post_at}
 use Rattle.ls_terms.proofs.Repeats.{repeat_stops, turn}
 use Rattle.ls_terms.proofs.Onto.{onto, onto_terms, onto_others, onto_longer}
 use Rattle.ls_terms.proofs.Lists.{onto_all, many_from_complete}

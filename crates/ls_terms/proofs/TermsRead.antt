@@ -1,7 +1,7 @@
 -- Expressions: what is read is spelled so and well-formed.
-use Rattle.std.proofs.Common.{◌≡◌, ◌≢◌, ℕ, zero, suc, ◌+◌, ◌<◌, ◌≤◌, max, Bool, true, false, not, List, [], ◌∷◌, ◌++◌, length, Option, Some, None, ◌⊎◌, refl, sym, ap, subst, ◌∙◌, inl, inr, arith}
-use Rattle.std.proofs.lemmas.Bool.{eqb-true, leb-true, or_cases, not-true, true≢false, cases_Bool}
-use Rattle.std.specs.Prelude.{◌==◌, ◌||◌, ◌&&◌, is_some}
+use Rattle.std.proofs.Common.{◌≡◌, ◌≢◌, ℕ, zero, suc, ◌+◌, ◌<◌, ◌≤◌, Bool, true, false, not, List, [], ◌∷◌, ◌++◌, length, Option, Some, None, refl, sym, ap, subst, ◌∙◌, inl, inr, arith}
+use Rattle.std.proofs.lemmas.Bool.{eqb-true, leb-true, or_cases, not-true, true≢false}
+use Rattle.std.specs.Prelude.{◌==◌, ◌||◌, ◌&&◌}
 use Rattle.std.specs.Cmp.Lexicographic.{same_text}
 use Rattle.ls_lexer.specs.declared.sign.Sign.{Sign}
 use Rattle.ls_lexer.specs.declared.sign.Sign.TheVariants as signs
@@ -12,11 +12,11 @@ use Rattle.ls_tree.specs.declared.tree.UnaryOp.{UnaryOp}
 use Rattle.ls_tree.specs.declared.tree.UnaryOp.TheVariants as unary
 use Rattle.ls_tree.specs.declared.tree.BinaryOp.{BinaryOp}
 use Rattle.ls_tree.specs.declared.tree.BinaryOp.TheVariants as binary
-use Rattle.ls_tree.specs.Trees.{Text, Term, Number, True, False, Null, This, Name, Paren, Unary, Binary, Field, Call, CallOn, Item, New, NewMarkable, NewArray, Terms, NoTerm, MoreTerms, listed}
+use Rattle.ls_tree.specs.Trees.{Text, Term, Number, True, False, Null, This, Name, Paren, Unary, Binary, Field, Call, CallOn, Item, New, NewMarkable, NewArray, Terms, listed}
 use Rattle.ls_spelling.specs.Spelling.{sign_of, sign_of_unary}
 use Rattle.ls_tree.specs.WellFormed.{rank_of, rank, is_post, is_new_array, is_minus, WellFormed, AreWellFormed, term_height, terms_height}
-use Rattle.ls_terms.specs.Reading.{◌>>=◌, Reader, given, after_sign, after_word, name_at, starts, not_yet, repeat, one_more, many_from, behind_comma, others_at, group_at, markable_name, is_markable}
-use Rattle.ls_terms.specs.ReadingTerms.{operator_of_sign, of_rank, operator_at, has_operator, below, joined_at, binary_at, arguments_at, has_suffix, member_at, index_at, item_at, suffix_at, Start, StartsName, StartsNumber, StartsConstant, StartsNew, StartsParen, StartsNothing, start_of, start_of_sign, start_of_word, largest, is_largest, number_here, named_at, made_at, class_at, object_at, new_at, paren_at, primary_from, primary_at, post_of, unary_of_sign, unary_of, signed_at, unary_at, term_at, post_at}
+use Rattle.ls_terms.specs.Reading.{◌>>=◌, Reader, after_sign, after_word, name_at, starts, not_yet, one_more, many_from, behind_comma, others_at, group_at, markable_name, is_markable}
+use Rattle.ls_terms.specs.ReadingTerms.{operator_of_sign, of_rank, operator_at, has_operator, below, joined_at, binary_at, arguments_at, has_suffix, member_at, index_at, item_at, suffix_at, start_of_sign, start_of_word, largest, is_largest, number_here, named_at, made_at, class_at, object_at, new_at, paren_at, primary_from, primary_at, post_of, unary_of, signed_at, unary_at, term_at, post_at}
 use Rattle.ls_terms.proofs.Repeats.{bind_some, some_is, repeat_sound}
 use Rattle.ls_terms.proofs.Signs.{guard_some, guarded, both_true, either, given_cases, sign_reads, word_reads, name_reads}
 use Rattle.ls_terms.proofs.Shrinks.{Shrinks}

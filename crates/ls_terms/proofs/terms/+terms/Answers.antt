@@ -1,10 +1,7 @@
-use Rattle.std.proofs.Common.{◌≡◌, false, map, refl}
+use Rattle.std.proofs.Common.{refl}
 use Rattle.std.proofs.lemmas.Result.{err_from_is_err_and}
 use Rattle.ls_lexer.specs.Lexemes.{lexemes}
-use Rattle.ls_lexer.specs.declared.sign.Sign.TheVariants as signs
-use Rattle.ls_tree.specs.Trees.{listed}
-use Rattle.ls_tree.specs.Views.{bare}
-use Rattle.ls_terms.specs.Reading.{starts, group_at}
+use Rattle.ls_terms.specs.Reading.{group_at}
 use Rattle.ls_terms.specs.ReadingTerms.{term_at}
 use Rattle.ls_terms.proofs.Repeats.{repeat_ends, repeat_fails, group_ends, group_fails, group_goes_on, fails_first}
 use Rattle.ls_terms.proofs.Shrinks.{one_more_shrinks, tokens_shrink, comma_shrinks}

@@ -1,9 +1,8 @@
 use Rattle.std.proofs.Common.{◌≡◌, ◌+◌, ◌-◌, ◌*◌, ◌≤◌, false, length, map}
 use Rattle.ls_lexer.specs.Lexemes.{lexemes}
-use Rattle.ls_lexer.specs.declared.sign.Sign.TheVariants as signs
 use Rattle.ls_tree.specs.WellFormed.{term_height, terms_height}
 use Rattle.ls_tree.specs.Views.{bare, terms_of}
-use Rattle.ls_terms.specs.Reading.{one_more, behind_comma, not_yet, group_at}
+use Rattle.ls_terms.specs.Reading.{group_at}
 use Rattle.ls_terms.specs.ReadingTerms.{has_operator, joined_at, binary_at, unary_at, term_at, post_at, has_suffix, suffix_at}
 use Rattle.ls_terms.proofs.Repeats.{InRepeat, InGroup}
 use Rattle.ls_terms.proofs.terms.+terms.Given as goal
