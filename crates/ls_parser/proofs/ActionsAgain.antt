@@ -1,22 +1,20 @@
 -- Declarations and statements: what is well-formed is read again.
-use Rattle.std.proofs.Common.{◌≡◌, ℕ, zero, suc, ◌+◌, ◌<◌, ◌≤◌, max, Bool, true, false, List, [], ◌∷◌, ◌++◌, length, Option, Some, None, ◌⊎◌, refl, sym, ap, subst, ◌∙◌, inl, inr, arith}
-use Rattle.std.proofs.lemmas.Bool.{cases_Bool}
+use Rattle.std.proofs.Common.{◌≡◌, ℕ, zero, suc, ◌+◌, ◌≤◌, Bool, true, false, List, [], ◌∷◌, Option, Some, None, refl, sym, ap, ◌∙◌, arith}
 use Rattle.std.specs.List.{AllByRecursion}
 use Rattle.std.specs.Prelude.{◌&&◌, ◌||◌}
 use Rattle.ls_lexer.specs.declared.sign.Sign.TheVariants as signs
-use Rattle.ls_lexer.specs.declared.word.Word.{Word}
 use Rattle.ls_lexer.specs.declared.word.Word.TheVariants as words
-use Rattle.ls_lexer.specs.Lexemes.{Lexeme, Named, Numeral, Reserved, Marked}
+use Rattle.ls_lexer.specs.Lexemes.{Lexeme, Named, Reserved, Marked}
 use Rattle.ls_tree.specs.Trees.{Text, Term, Number, True, False, Null, This, Name, Paren, Unary, Binary, Field, Call, CallOn, Item, New, NewMarkable, NewArray, Modifier, Public, Protected, Private, Final, Volatile, Annotation, TypeName, Int, Boolean, BooleanArray, Class, Markable, Declarator, Declaration, Action, Block, Empty, If, IfElse, While, Break, Continue, Return, Try, Assign, Evaluate, Items, NoItem, Do, Declare, Piece, Doing, Declaring, collected}
 use Rattle.ls_tree.specs.WellFormed.{WellFormed, is_post, is_call, term_height, value_height, declarators_height, declaration_height, action_height, items_height, ends_open, WellFormedValue, WellFormedDeclaration, WellFormedAction, WellFormedItems}
-use Rattle.ls_parser.specs.Reading.{◌>>=◌, Reader, given, after_sign, after_word, name_at, starts, not_yet, many_at, behind_comma, is_markable}
-use Rattle.ls_parser.specs.ReadingTerms.{term_at, post_at}
-use Rattle.ls_parser.specs.ReadingActions.{modifier_word_at, starts_modifier, modifier_at, modifiers_at, type_at, declarator_at, declarators_at, declaration_at, starts_type, named_declaration, starts_declaration, piece_at, braces_at, condition_at, jump_at, value_at, label_at, used_at, other_at, First, FirstOther, first_of, begun_at, local_at, action_of, nested_at, action_at, block_at}
-use Rattle.ls_parser.proofs.Onto.{onto, onto_terms, onto_longer}
-use Rattle.ls_parser.proofs.Lists.{onto_all, many_from_complete}
+use Rattle.ls_terms.specs.Reading.{Reader, after_sign, after_word, name_at, not_yet, many_at, behind_comma, is_markable}
+use Rattle.ls_terms.specs.ReadingTerms.{term_at, post_at}
+use Rattle.ls_parser.specs.ReadingActions.{starts_modifier, modifier_at, modifiers_at, type_at, declarator_at, declarators_at, declaration_at, starts_type, named_declaration, starts_declaration, piece_at, braces_at, condition_at, jump_at, value_at, label_at, other_at, FirstOther, first_of, local_at, action_of, nested_at, action_at, block_at}
+use Rattle.ls_terms.proofs.Onto.{onto, onto_terms}
+use Rattle.ls_terms.proofs.Lists.{onto_all, many_from_complete}
 use Rattle.ls_parser.proofs.OntoActions.{onto_modifier, modifier_longer, onto_type, onto_initial, onto_declarator, onto_next_declarator, next_declarator_longer, onto_declaration, onto_label, onto_label_before, onto_value, onto_condition, onto_action, onto_items, onto_block, onto_piece, onto_collected, piece_longer}
 use Rattle.ls_parser.proofs.ActionsRead.{Anything, FormedDeclarator, FormedPiece}
-use Rattle.ls_parser.proofs.TermsAgain.{Follow, follow_close, follow_comma, follow_semicolon, follow_assign, Begins, Head, post_head, no_semicolon, term_complete, post_complete}
+use Rattle.ls_terms.proofs.TermsAgain.{Follow, follow_close, follow_comma, follow_semicolon, follow_assign, post_head, no_semicolon, term_complete, post_complete}
 
 -- ---- modifiers and types
 

@@ -1,5 +1,5 @@
 -- Declarations and statements: what is read is spelled so and well-formed.
-use Rattle.std.proofs.Common.{◌≡◌, ℕ, zero, suc, ◌+◌, ◌<◌, ◌≤◌, max, Bool, true, false, List, [], ◌∷◌, ◌++◌, length, Option, Some, None, ◌⊎◌, refl, sym, ap, subst, ◌∙◌, inl, inr, arith}
+use Rattle.std.proofs.Common.{◌≡◌, ℕ, zero, suc, ◌+◌, ◌≤◌, true, false, List, [], ◌∷◌, length, Option, Some, None, refl, sym, ap, subst, ◌∙◌, inl, inr, arith}
 use Rattle.std.proofs.lemmas.Bool.{cases_Bool}
 use Rattle.std.specs.List.{AllByRecursion}
 use Rattle.std.specs.Prelude.{◌&&◌}
@@ -9,18 +9,18 @@ use Rattle.ls_lexer.specs.declared.sign.Sign.TheVariants as signs
 use Rattle.ls_lexer.specs.declared.word.Word.{Word}
 use Rattle.ls_lexer.specs.declared.word.Word.TheVariants as words
 use Rattle.ls_lexer.specs.Lexemes.{Lexeme, Named, Numeral, Reserved, Marked}
-use Rattle.ls_tree.specs.Trees.{Text, Term, Modifier, Public, Protected, Private, Final, Volatile, Annotation, TypeName, Int, Boolean, BooleanArray, Class, Markable, Declarator, Declaration, Action, Block, Empty, If, IfElse, While, Break, Continue, Return, Try, Assign, Evaluate, Items, NoItem, Do, Declare, Piece, Doing, Declaring, collected}
-use Rattle.ls_tree.specs.WellFormed.{WellFormed, is_post, is_call, term_height, value_height, declarators_height, declaration_height, action_height, items_height, piece_height, ends_open, WellFormedValue, WellFormedDeclaration, WellFormedAction, WellFormedItems}
-use Rattle.ls_parser.specs.Reading.{◌>>=◌, Reader, given, after_sign, after_word, name_at, starts, not_yet, many_at, behind_comma, markable_name, is_markable}
-use Rattle.ls_parser.specs.ReadingTerms.{class_at, term_at, post_at}
+use Rattle.ls_tree.specs.Trees.{Text, Term, Modifier, Public, Protected, Private, Final, Volatile, Annotation, TypeName, Int, Boolean, BooleanArray, Class, Markable, Declarator, Declaration, Action, Block, Empty, If, IfElse, While, Break, Continue, Return, Try, Assign, Evaluate, Items, Piece, Doing, Declaring, collected}
+use Rattle.ls_tree.specs.WellFormed.{WellFormed, is_post, is_call, term_height, value_height, declarators_height, declaration_height, action_height, items_height, ends_open, WellFormedValue, WellFormedDeclaration, WellFormedAction, WellFormedItems}
+use Rattle.ls_terms.specs.Reading.{◌>>=◌, Reader, given, after_sign, after_word, name_at, starts, not_yet, many_at, behind_comma, markable_name, is_markable}
+use Rattle.ls_terms.specs.ReadingTerms.{class_at, term_at, post_at}
 use Rattle.ls_parser.specs.ReadingActions.{modifier_of_word, modifier_word_at, starts_modifier, annotation_at, modifier_at, modifiers_at, boolean_at, named_type_at, type_at, declarator_of, declarator_at, declaration_of, declarators_at, declaration_at, starts_declaration, declared_at, piece_at, braces_at, block_in, condition_at, if_at, while_at, jump_at, value_at, break_at, continue_at, return_at, try_at, label_at, used_at, other_at, first_of_sign, first_of_word, action_from, local_at, action_of, nested_at, action_at, block_at}
-use Rattle.ls_parser.proofs.Repeats.{bind_some, some_is}
-use Rattle.ls_parser.proofs.Signs.{guarded, both_true, either, given_cases, sign_reads, word_reads, name_reads}
-use Rattle.ls_parser.proofs.Shrinks.{Shrinks}
-use Rattle.ls_parser.proofs.Onto.{onto, onto_class}
-use Rattle.ls_parser.proofs.Lists.{onto_all, Took, SoundItem, many_sound}
-use Rattle.ls_parser.proofs.OntoActions.{onto_modifier, modifier_longer, onto_type, onto_initial, onto_declarator, declarator_longer, onto_next_declarator, onto_declaration, onto_label, onto_label_before, onto_value, onto_condition, onto_action, onto_items, onto_block, onto_piece, onto_collected, piece_longer}
-use Rattle.ls_parser.proofs.TermsRead.{term_sound, post_sound, class_reads}
+use Rattle.ls_terms.proofs.Repeats.{bind_some, some_is}
+use Rattle.ls_terms.proofs.Signs.{guarded, both_true, either, given_cases, sign_reads, word_reads, name_reads}
+use Rattle.ls_terms.proofs.Shrinks.{Shrinks}
+use Rattle.ls_terms.proofs.Onto.{onto}
+use Rattle.ls_terms.proofs.Lists.{onto_all, SoundItem, many_sound}
+use Rattle.ls_parser.proofs.OntoActions.{onto_modifier, modifier_longer, onto_type, onto_declarator, declarator_longer, onto_next_declarator, onto_declaration, onto_label, onto_label_before, onto_condition, onto_action, onto_block, onto_piece, onto_collected, piece_longer}
+use Rattle.ls_terms.proofs.TermsRead.{term_sound, post_sound, class_reads}
 
 abbrev cons : Lexeme → List Lexeme → List Lexeme
 cons k ks = k ∷ ks

@@ -1,19 +1,18 @@
 -- What reading a file says of spelling.
-use Rattle.std.proofs.Common.{◌≡◌, ℕ, ◌≤◌, ◌<◌, ◌+◌, ◌⊎◌, inl, inr, arith, length, List, [], Option, Some, None, IsSome, refl, sym, ap, subst, ◌∙◌}
+use Rattle.std.proofs.Common.{◌≡◌, ℕ, ◌<◌, inl, inr, arith, length, List, Option, Some, None, IsSome, refl, sym, ap, subst, ◌∙◌}
 use Rattle.ls_lexer.specs.declared.fault.TextFault.{TextFault}
 use Rattle.ls_lexer.specs.Lexemes.{Lexeme}
 use Rattle.ls_lexer.specs.Tokens.{tokens_of}
 use Rattle.ls_tree.specs.Trees.{File}
-use Rattle.ls_parser.specs.Spelling.{spell}
+use Rattle.ls_spelling.specs.Spelling.{spell}
 use Rattle.ls_tree.specs.WellFormed.{WellFormedFile}
-use Rattle.ls_parser.specs.Spells.{Spells, TextSpells}
-use Rattle.ls_parser.specs.Answers.{Refuses, RefusesTokens, MayCome, Fails}
+use Rattle.ls_spelling.specs.Spells.{Spells, TextSpells}
+use Rattle.ls_terms.specs.Answers.{Refuses, RefusesTokens, MayCome, Fails}
 use Rattle.ls_lexer.specs.Places.{Refused, text_limit}
 use Rattle.ls_lexer.specs.declared.fault.TextFault.TheVariants as faults
 use Rattle.ls_parser.specs.ReadingClasses.{file_at}
 use Rattle.std.proofs.lemmas.Bool.{cases_lt}
-use Rattle.ls_parser.proofs.Repeats.{some_is, means_map}
-use Rattle.ls_parser.proofs.OntoClasses.{onto_file}
+use Rattle.ls_terms.proofs.Repeats.{some_is, means_map}
 use Rattle.ls_parser.proofs.Spelled.{file_spells}
 use Rattle.ls_parser.proofs.ClassesRead.{file_sound}
 use Rattle.ls_parser.proofs.ClassesAgain.{file_complete}

@@ -1,12 +1,12 @@
 -- The tokens of declarations and statements, and then the rest.
-use Rattle.std.proofs.Common.{◌≡◌, ℕ, ◌+◌, ◌<◌, ◌≤◌, length, List, [], ◌∷◌, ◌++◌, Option, Some, None, refl, sym, ap, ◌∙◌, append_assoc, arith}
-use Rattle.ls_lexer.specs.Lexemes.{Lexeme, Named, Numeral, Reserved, Marked}
+use Rattle.std.proofs.Common.{◌≡◌, ◌<◌, ◌≤◌, length, List, [], ◌∷◌, Option, Some, None, refl, ap, arith}
+use Rattle.ls_lexer.specs.Lexemes.{Lexeme, Named, Reserved, Marked}
 use Rattle.ls_lexer.specs.declared.sign.Sign.TheVariants as signs
 use Rattle.ls_lexer.specs.declared.word.Word.TheVariants as words
 use Rattle.ls_tree.specs.Trees.{Text, Term, Modifier, Public, Protected, Private, Final, Volatile, Annotation, TypeName, Int, Boolean, BooleanArray, Class, Markable, Declarator, Declaration, Action, Block, Empty, If, IfElse, While, Break, Continue, Return, Try, Assign, Evaluate, Items, NoItem, Do, Declare, Piece, Doing, Declaring, collected}
-use Rattle.ls_parser.specs.Reading.{markable_name}
-use Rattle.ls_parser.proofs.Onto.{onto, onto_class, onto_longer}
-use Rattle.ls_parser.proofs.Lists.{Onto, onto_all, onto_all_longer}
+use Rattle.ls_terms.specs.Reading.{markable_name}
+use Rattle.ls_terms.proofs.Onto.{onto, onto_class, onto_longer}
+use Rattle.ls_terms.proofs.Lists.{onto_all, onto_all_longer}
 
 abbrev pub onto_modifier : Modifier → List Lexeme → List Lexeme
 onto_modifier Public rest = Reserved words.Public ∷ rest

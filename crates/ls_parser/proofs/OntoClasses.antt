@@ -1,11 +1,11 @@
 -- The tokens of members, classes and files, and then the rest.
-use Rattle.std.proofs.Common.{◌≡◌, ℕ, ◌+◌, ◌<◌, ◌≤◌, Bool, true, false, length, List, [], ◌∷◌, ◌++◌, Option, Some, None, refl, sym, ap, ◌∙◌, arith}
-use Rattle.ls_lexer.specs.Lexemes.{Lexeme, Named, Numeral, Reserved, Marked}
+use Rattle.std.proofs.Common.{◌<◌, ◌≤◌, Bool, true, false, length, List, [], ◌∷◌, Option, Some, None, arith}
+use Rattle.ls_lexer.specs.Lexemes.{Lexeme, Named, Reserved, Marked}
 use Rattle.ls_lexer.specs.declared.sign.Sign.TheVariants as signs
 use Rattle.ls_lexer.specs.declared.word.Word.TheVariants as words
 use Rattle.ls_tree.specs.Trees
 use Rattle.ls_tree.specs.Trees.{Text, Modifier, TypeName, Parameter, Member, Fields, Method, Constructor, ClassTree, Dotted, Import, File}
-use Rattle.ls_parser.proofs.Lists.{onto_all, onto_all_longer}
+use Rattle.ls_terms.proofs.Lists.{onto_all, onto_all_longer}
 use Rattle.ls_parser.proofs.OntoActions.{onto_modifier, modifier_longer, onto_type, onto_declaration, declaration_longer, onto_block, items_longer}
 
 abbrev pub onto_parameter : Parameter → List Lexeme → List Lexeme

@@ -1,8 +1,8 @@
 -- The first token of a statement and of a block.
-use Rattle.std.proofs.Common.{◌≡◌, ℕ, zero, suc, ◌+◌, ◌-◌, ◌<◌, length, List, [], ◌∷◌, Option, Some, None, refl, sym, ap, subst, ◌∙◌, arith}
+use Rattle.std.proofs.Common.{◌≡◌, ℕ, zero, suc, ◌+◌, ◌-◌, ◌<◌, length, List, [], ◌∷◌, None, refl, ap, ◌∙◌, arith}
 use Rattle.ls_lexer.specs.declared.token.Token.{Token}
 use Rattle.ls_lexer.specs.Lexemes.{Lexeme, lexemes}
-use Rattle.ls_parser.specs.ReadingTerms.{term_at}
+use Rattle.ls_terms.specs.ReadingTerms.{term_at}
 use Rattle.ls_parser.specs.ReadingActions.{action_at, block_at, nested_at, begun_at, first_of, braces_at, piece_at, local_at, declaration_at}
 
 pub action_step : (limit : ℕ) (k : Lexeme) (ks : List Lexeme) → 0 < limit → action_at limit (k ∷ ks) ≡ begun_at (limit - 1) (first_of k) (k ∷ ks) ks

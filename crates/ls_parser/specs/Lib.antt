@@ -1,9 +1,9 @@
-pub mod Spelling
-pub mod Answers
-pub mod Reading
-pub mod ReadingTerms
 pub mod ReadingActions
 pub mod ReadingClasses
-pub mod Spells
 pub mod Laws
-pub mod Kinds
+pub use Rattle.ls_spelling.specs.Spelling
+pub use Rattle.ls_spelling.specs.Spells
+pub use Rattle.ls_spelling.specs.Kinds
+pub use Rattle.ls_terms.specs.Answers
+pub use Rattle.ls_terms.specs.Reading
+pub use Rattle.ls_terms.specs.ReadingTerms

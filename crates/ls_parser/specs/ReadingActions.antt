@@ -1,5 +1,5 @@
 -- Reading of declarations and statements.
-use Rattle.std.specs.Prelude.{◌≡◌, ℕ, zero, suc, Bool, true, false, not, ◌&&◌, ◌||◌, List, [], ◌∷◌, length, Option, Some, None, is_some, if◌then◌else◌}
+use Rattle.std.specs.Prelude.{ℕ, zero, suc, Bool, false, ◌&&◌, ◌||◌, List, [], ◌∷◌, Option, Some, None, is_some, if◌then◌else◌}
 use Rattle.ls_lexer.specs.declared.word.Word.{Word}
 use Rattle.ls_lexer.specs.declared.word.Word.TheVariants as words
 use Rattle.ls_lexer.specs.declared.sign.Sign.{Sign}
@@ -7,8 +7,8 @@ use Rattle.ls_lexer.specs.declared.sign.Sign.TheVariants as signs
 use Rattle.ls_lexer.specs.Lexemes.{Lexeme, Named, Numeral, Reserved, Marked}
 use Rattle.ls_tree.specs.Trees.{Text, Term, Modifier, Public, Protected, Private, Final, Volatile, Annotation, TypeName, Int, Boolean, BooleanArray, Class, Markable, Declarator, Declaration, Action, Block, Empty, If, IfElse, While, Break, Continue, Return, Try, Assign, Evaluate, Items, Piece, Doing, Declaring, collected}
 use Rattle.ls_tree.specs.WellFormed.{is_call}
-use Rattle.ls_parser.specs.Reading.{◌>>=◌, Reader, given, after_sign, after_word, name_at, starts, many_at, behind_comma, not_yet, is_markable}
-use Rattle.ls_parser.specs.ReadingTerms.{class_at, term_at, post_at}
+use Rattle.ls_terms.specs.Reading.{◌>>=◌, Reader, given, after_sign, after_word, name_at, starts, many_at, behind_comma, not_yet, is_markable}
+use Rattle.ls_terms.specs.ReadingTerms.{class_at, term_at, post_at}
 
 -- ---- modifiers and types
 
@@ -72,6 +72,19 @@ declarator_at value ks =
 
 abbrev pub declaration_of : List Modifier → TypeName → Declarator → List Declarator → Declaration
 declaration_of modifiers type_name first more = record { modifiers = modifiers; type_name = type_name; first = first; more = more }
+
+-- declarators behind commas, and a semicolon
+abbrev pub more_declarators_at : Reader Term → Reader (List Declarator)
+more_declarators_at value ks =
+    many_at (not_yet signs.Semicolon) (behind_comma (declarator_at value)) ks >>= λ more.
+    after_sign signs.Semicolon more.1 >>= λ rest. Some (more.0, rest)
+
+-- declarators and a semicolon
+abbrev pub declarator_list_at : Reader Term → Reader (Declarator × List Declarator)
+declarator_list_at value ks =
+    declarator_at value ks >>= λ first.
+    many_at (not_yet signs.Semicolon) (behind_comma (declarator_at value)) first.1 >>= λ more.
+    after_sign signs.Semicolon more.1 >>= λ rest. Some ((first.0, more.0), rest)
 
 -- behind modifiers and a type
 abbrev pub declarators_at : Reader Term → List Modifier → TypeName → Reader Declaration
@@ -139,6 +152,10 @@ jump_at ks =
     given (name_at ks)
     (λ name. after_sign signs.Semicolon name.1 >>= λ rest. Some (Some name.0, rest))
     (after_sign signs.Semicolon ks >>= λ rest. Some (None, rest))
+
+-- an expression and a semicolon
+abbrev pub ended_at : Reader Term → Reader Term
+ended_at term ks = term ks >>= λ value. after_sign signs.Semicolon value.1 >>= λ rest. Some (value.0, rest)
 
 -- a value or none, and a semicolon
 abbrev pub value_at : Reader Term → Reader (Option Term)

@@ -1,12 +1,12 @@
 -- Reading of members, classes and files.
-use Rattle.std.specs.Prelude.{◌≡◌, ℕ, Bool, true, false, not, ◌||◌, List, [], ◌∷◌, length, Option, Some, None, is_some, if◌then◌else◌}
+use Rattle.std.specs.Prelude.{Bool, true, false, not, ◌||◌, List, [], ◌∷◌, Option, Some, None, is_some, if◌then◌else◌}
 use Rattle.ls_lexer.specs.declared.word.Word.TheVariants as words
 use Rattle.ls_lexer.specs.declared.sign.Sign.TheVariants as signs
-use Rattle.ls_lexer.specs.Lexemes.{Lexeme, Named, Numeral, Reserved, Marked}
-use Rattle.ls_tree.specs.Trees.{Text, Modifier, TypeName, Parameter, Member, Fields, Method, Constructor, ClassTree, Dotted, Import, File}
+use Rattle.ls_lexer.specs.Lexemes.{Lexeme}
+use Rattle.ls_tree.specs.Trees.{Text, Modifier, TypeName, Items, Parameter, Member, Fields, Method, Constructor, ClassTree, Dotted, Import, File}
 use Rattle.ls_tree.specs.WellFormed.{most_nodes}
-use Rattle.ls_parser.specs.Reading.{◌>>=◌, Reader, given, after_sign, after_word, name_at, starts, many_at, not_yet, group_at}
-use Rattle.ls_parser.specs.ReadingTerms.{term_at}
+use Rattle.ls_terms.specs.Reading.{◌>>=◌, Reader, given, after_sign, after_word, name_at, starts, many_at, not_yet, group_at}
+use Rattle.ls_terms.specs.ReadingTerms.{term_at}
 use Rattle.ls_parser.specs.ReadingActions.{modifiers_at, type_at, declarators_at, block_at}
 
 abbrev pub parameter_of : List Modifier → TypeName → Text → Parameter
@@ -23,6 +23,12 @@ parameters_at ks = after_sign signs.OpenParen ks >>= λ rest. group_at parameter
 -- a name and an opening parenthesis
 abbrev pub starts_call : List Lexeme → Bool
 starts_call ks = given (name_at ks) (λ name. starts signs.OpenParen name.1) false
+
+-- a name, parameters and a body
+abbrev pub callable_at : Reader (Text × List Parameter × Items)
+callable_at ks =
+    name_at ks >>= λ name. parameters_at name.1 >>= λ parameters.
+    block_at most_nodes parameters.1 >>= λ body. Some ((name.0, parameters.0, body.0), body.1)
 
 abbrev pub constructor_at : List Modifier → Reader Member
 constructor_at modifiers ks =
@@ -54,6 +60,12 @@ member_at ks = modifiers_at ks >>= λ modifiers. unmodified_at modifiers.0 modif
 
 abbrev pub class_of : List Modifier → Text → List Member → ClassTree
 class_of modifiers name members = record { modifiers = modifiers; name = name; members = members }
+
+-- members in braces
+abbrev pub class_body_at : Reader (List Member)
+class_body_at ks =
+    after_sign signs.OpenBrace ks >>= λ inside. many_at (not_yet signs.CloseBrace) member_at inside >>= λ members.
+    after_sign signs.CloseBrace members.1 >>= λ end. Some (members.0, end)
 
 abbrev pub class_at : Reader ClassTree
 class_at ks =

@@ -1,25 +1,24 @@
-// Members, classes and files.
+// Members and classes.
 
 ghost use Rattle.std.specs.Prelude.{◌≡◌, ◌+◌, ◌-◌, ◌<◌, ◌≤◌, ◌^◌, ◌++◌, ◌∷◌, [], IfOk, Some, None, length, map, option_map, is_some};
 ghost use Rattle.ls_lexer.specs.Lexemes.{lexemes};
 ghost use Rattle.ls_lexer.specs.declared.sign.Sign.TheVariants as signs;
-ghost use Rattle.ls_tree.specs.Views.{name_text, bare_modifier, bare_type, bare_parameter, bare_member, bare_class, bare_dotted, bare_import};
-ghost use Rattle.ls_parser.specs.Answers.{Gives, Finds};
-ghost use Rattle.ls_parser.specs.Reading.{one_more, behind_comma, many_at, not_yet, group_at};
-ghost use Rattle.ls_parser.specs.ReadingClasses.{parameter_at, parameters_at, starts_call, constructor_at, method_at, typed_at, unmodified_at, member_at, class_at, part_at, dotted_at, after_star, more_path, import_at, package_at, header_at, starts_import, is_left};
+ghost use Rattle.ls_tree.specs.Views.{name_text, bare_modifier, bare_type, bare_parameter, bare_block, bare_member, bare_class};
+ghost use Rattle.ls_terms.specs.Answers.{Gives, Finds};
+ghost use Rattle.ls_terms.specs.Reading.{one_more, behind_comma, many_at, not_yet, group_at};
+ghost use Rattle.ls_parser.specs.ReadingClasses.{parameter_at, parameters_at, starts_call, callable_at, constructor_at, method_at, typed_at, unmodified_at, member_at, class_body_at, class_at, is_left};
 
 use crate::declarations::{declarators, modifiers, type_name};
 use crate::statements::block;
-use crate::tokens::{
-    Context, Read, expect, expect_word, name, name_part, push, sign_part, starts_with, word_part,
-};
 use ls_lexer::fault::TextFault;
 use ls_lexer::sign::Sign;
 use ls_lexer::token::Token;
 use ls_lexer::word::Word;
-use ls_tree::tree::{
-    Class, Constructor, Dotted, Import, Member, Method, Modifier, Name, Parameter, Type,
+use ls_terms::tokens::{
+    Context, Read, closed, expect, expect_word, name, name_part, push, sign_part, starts_with,
+    word_part,
 };
+use ls_tree::tree::{Block, Class, Constructor, Member, Method, Modifier, Name, Parameter, Type};
 
 /// The greatest height of a body or of a field's initialiser.
 pub const MOST_NODES: usize = 128;
@@ -46,7 +45,7 @@ fn parameter<'t, 'a>(
 }
 
 // What stands behind an opening parenthesis.
-#[tactic(auto, using(crate::proofs::Repeats::group_none, crate::proofs::Repeats::group_begins, crate::proofs::Repeats::group_ends, crate::proofs::Repeats::group_goes_on))]
+#[tactic(auto, using(ls_terms::proofs::Repeats::group_none, ls_terms::proofs::Repeats::group_begins, ls_terms::proofs::Repeats::group_ends, ls_terms::proofs::Repeats::group_goes_on))]
 fn parameter_group<'t, 'a>(
     context: Context,
     tokens: &'t [Token<'a>],
@@ -74,7 +73,7 @@ fn parameter_group<'t, 'a>(
     })
 }
 
-#[tactic(auto, using(crate::proofs::Rows::map_push))]
+#[tactic(auto, using(ls_terms::proofs::Rows::map_push))]
 fn one_parameter<'t, 'a>(
     context: Context,
     before: Read<'t, 'a, Vec<Parameter>>,
@@ -111,6 +110,23 @@ fn starts_call(tokens: &[Token]) -> bool
     }
 }
 
+// A name, parameters and a body.
+fn callable<'t, 'a>(
+    context: Context,
+    tokens: &'t [Token<'a>],
+) -> Result<Read<'t, 'a, (Name, Vec<Parameter>, Block)>, TextFault>
+    ensures { Gives (λ c. ((name_text c.tree.0, map bare_parameter c.tree.1.items, bare_block c.tree.2), lexemes c.rest.now)) result (callable_at (lexemes tokens.now)) }
+{
+    let name = name(context, tokens)?;
+    let parameters = parameters(context, name.rest)?;
+    let body = block(context, parameters.rest, MOST_NODES)?;
+    Ok(Read {
+        tree: (name.tree, parameters.tree, body.tree),
+        rest: body.rest,
+    })
+}
+
+#[tactic(auto, using(crate::proofs::Steps::constructor_found, crate::proofs::Steps::constructor_fails))]
 fn constructor<'t, 'a>(
     context: Context,
     modifiers: Vec<Modifier>,
@@ -118,21 +134,20 @@ fn constructor<'t, 'a>(
 ) -> Result<Read<'t, 'a, Member>, TextFault>
     ensures { Gives (λ m. (bare_member m.tree, lexemes m.rest.now)) result (constructor_at (map bare_modifier modifiers.items) (lexemes tokens.now)) }
 {
-    let name = name(context, tokens)?;
-    let parameters = parameters(context, name.rest)?;
-    let body = block(context, parameters.rest, MOST_NODES)?;
+    let found = callable(context, tokens)?;
     Ok(Read {
         tree: Member::Constructor(Constructor {
             modifiers,
-            name: name.tree,
-            parameters: parameters.tree,
-            body: body.tree,
+            name: found.tree.0,
+            parameters: found.tree.1,
+            body: found.tree.2,
         }),
-        rest: body.rest,
+        rest: found.rest,
     })
 }
 
 // What stands behind the modifiers and the result of a method; no result is `void`.
+#[tactic(auto, using(crate::proofs::Steps::method_found, crate::proofs::Steps::method_fails))]
 fn method<'t, 'a>(
     context: Context,
     modifiers: Vec<Modifier>,
@@ -141,18 +156,16 @@ fn method<'t, 'a>(
 ) -> Result<Read<'t, 'a, Member>, TextFault>
     ensures { Gives (λ m. (bare_member m.tree, lexemes m.rest.now)) result (method_at (map bare_modifier modifiers.items) (option_map bare_type answer) (lexemes tokens.now)) }
 {
-    let name = name(context, tokens)?;
-    let parameters = parameters(context, name.rest)?;
-    let body = block(context, parameters.rest, MOST_NODES)?;
+    let found = callable(context, tokens)?;
     Ok(Read {
         tree: Member::Method(Method {
             modifiers,
             result: answer,
-            name: name.tree,
-            parameters: parameters.tree,
-            body: body.tree,
+            name: found.tree.0,
+            parameters: found.tree.1,
+            body: found.tree.2,
         }),
-        rest: body.rest,
+        rest: found.rest,
     })
 }
 
@@ -221,7 +234,7 @@ fn members<'t, 'a>(
     Ok(all)
 }
 
-#[tactic(auto, using(crate::proofs::Rows::map_push))]
+#[tactic(auto, using(ls_terms::proofs::Rows::map_push))]
 fn one_member<'t, 'a>(
     context: Context,
     before: Read<'t, 'a, Vec<Member>>,
@@ -237,6 +250,18 @@ fn one_member<'t, 'a>(
 
 // ---- classes
 
+// Members in braces.
+fn class_body<'t, 'a>(
+    context: Context,
+    tokens: &'t [Token<'a>],
+) -> Result<Read<'t, 'a, Vec<Member>>, TextFault>
+    ensures { Gives (λ m. (map bare_member m.tree.items, lexemes m.rest.now)) result (class_body_at (lexemes tokens.now)) }
+{
+    let open = expect(context, tokens, Sign::OpenBrace)?;
+    let members = members(context, open)?;
+    closed(context, members, Sign::CloseBrace)
+}
+
 fn class<'t, 'a>(
     context: Context,
     tokens: &'t [Token<'a>],
@@ -246,16 +271,14 @@ fn class<'t, 'a>(
     let modifiers = modifiers(context, tokens)?;
     let named = expect_word(context, modifiers.rest, Word::Class)?;
     let name = name(context, named)?;
-    let open = expect(context, name.rest, Sign::OpenBrace)?;
-    let members = members(context, open)?;
-    let rest = expect(context, members.rest, Sign::CloseBrace)?;
+    let members = class_body(context, name.rest)?;
     Ok(Read {
         tree: Class {
             modifiers: modifiers.tree,
             name: name.tree,
             members: members.tree,
         },
-        rest,
+        rest: members.rest,
     })
 }
 
@@ -282,7 +305,7 @@ pub fn classes<'t, 'a>(
     Ok(all)
 }
 
-#[tactic(auto, using(crate::proofs::Rows::map_push))]
+#[tactic(auto, using(ls_terms::proofs::Rows::map_push))]
 fn one_class<'t, 'a>(
     context: Context,
     before: Read<'t, 'a, Vec<Class>>,
@@ -294,190 +317,4 @@ fn one_class<'t, 'a>(
         tree: push(before.tree, found.tree)?,
         rest: found.rest,
     })
-}
-
-// ---- packages and imports
-
-// Names behind dots, up to a semicolon.
-fn package_parts<'t, 'a>(
-    context: Context,
-    tokens: &'t [Token<'a>],
-) -> Result<Read<'t, 'a, Vec<Name>>, TextFault>
-    ensures { Gives (λ d. (map name_text d.tree.items, lexemes d.rest.now)) result (many_at (not_yet signs.Semicolon) part_at (lexemes tokens.now)) }
-{
-    let mut all = Read {
-        tree: Vec::new(context.alloc),
-        rest: tokens,
-    };
-    while !starts_with(all.rest, Sign::Semicolon) {
-        all = one_part(context, all)?;
-    }
-    Ok(all)
-}
-
-// Names behind dots, up to a semicolon or `.*`.
-fn import_parts<'t, 'a>(
-    context: Context,
-    tokens: &'t [Token<'a>],
-) -> Result<Read<'t, 'a, Vec<Name>>, TextFault>
-    ensures { Gives (λ d. (map name_text d.tree.items, lexemes d.rest.now)) result (many_at more_path part_at (lexemes tokens.now)) }
-{
-    let mut all = Read {
-        tree: Vec::new(context.alloc),
-        rest: tokens,
-    };
-    while more_path(all.rest) {
-        all = one_part(context, all)?;
-    }
-    Ok(all)
-}
-
-#[tactic(auto, using(crate::proofs::Rows::map_push))]
-fn one_part<'t, 'a>(
-    context: Context,
-    before: Read<'t, 'a, Vec<Name>>,
-) -> Result<Read<'t, 'a, Vec<Name>>, TextFault>
-    ensures { Gives (λ d. (map name_text d.tree.items, lexemes d.rest.now)) result (one_more part_at (map name_text before.entry.tree.items) (lexemes before.entry.rest.now)) }
-{
-    let tokens = expect(context, before.rest, Sign::Dot)?;
-    let found = name(context, tokens)?;
-    Ok(Read {
-        tree: push(before.tree, found.tree)?,
-        rest: found.rest,
-    })
-}
-
-// What is left behind `.*`.
-fn star_part<'t, 'a>(tokens: &'t [Token<'a>]) -> Option<&'t [Token<'a>]>
-    ensures { Finds (λ rest. lexemes rest.now) result (after_star (lexemes tokens.now)) }
-{
-    let rest = sign_part(tokens, Sign::Dot)?;
-    sign_part(rest, Sign::Star)
-}
-
-fn more_path(tokens: &[Token]) -> bool
-    ensures { result ≡ more_path (lexemes tokens.now) }
-{
-    !(starts_with(tokens, Sign::Semicolon) || star_part(tokens).is_some())
-}
-
-// What stands behind `import`.
-fn path<'t, 'a>(
-    context: Context,
-    tokens: &'t [Token<'a>],
-) -> Result<Read<'t, 'a, Dotted>, TextFault>
-    ensures { Gives (λ d. (bare_dotted d.tree, lexemes d.rest.now)) result (dotted_at more_path (lexemes tokens.now)) }
-{
-    let first = name(context, tokens)?;
-    let more = import_parts(context, first.rest)?;
-    Ok(Read {
-        tree: Dotted {
-            first: first.tree,
-            more: more.tree,
-        },
-        rest: more.rest,
-    })
-}
-
-fn import<'t, 'a>(
-    context: Context,
-    tokens: &'t [Token<'a>],
-) -> Result<Read<'t, 'a, Import>, TextFault>
-    ensures { Gives (λ i. (bare_import i.tree, lexemes i.rest.now)) result (import_at (lexemes tokens.now)) }
-{
-    let named = expect_word(context, tokens, Word::Import)?;
-    let path = path(context, named)?;
-    match star_part(path.rest) {
-        Some(rest) => Ok(Read {
-            tree: Import {
-                path: path.tree,
-                all: true,
-            },
-            rest: expect(context, rest, Sign::Semicolon)?,
-        }),
-        None => Ok(Read {
-            tree: Import {
-                path: path.tree,
-                all: false,
-            },
-            rest: expect(context, path.rest, Sign::Semicolon)?,
-        }),
-    }
-}
-
-fn starts_import(tokens: &[Token]) -> bool
-    ensures { result ≡ starts_import (lexemes tokens.now) }
-{
-    word_part(tokens, Word::Import).is_some()
-}
-
-pub fn imports<'t, 'a>(
-    context: Context,
-    tokens: &'t [Token<'a>],
-) -> Result<Read<'t, 'a, Vec<Import>>, TextFault>
-    ensures { Gives (λ i. (map bare_import i.tree.items, lexemes i.rest.now)) result (many_at starts_import import_at (lexemes tokens.now)) }
-{
-    let mut all = Read {
-        tree: Vec::new(context.alloc),
-        rest: tokens,
-    };
-    while starts_import(all.rest) {
-        all = one_import(context, all)?;
-    }
-    Ok(all)
-}
-
-#[tactic(auto, using(crate::proofs::Rows::map_push))]
-fn one_import<'t, 'a>(
-    context: Context,
-    before: Read<'t, 'a, Vec<Import>>,
-) -> Result<Read<'t, 'a, Vec<Import>>, TextFault>
-    ensures { Gives (λ i. (map bare_import i.tree.items, lexemes i.rest.now)) result (one_more import_at (map bare_import before.entry.tree.items) (lexemes before.entry.rest.now)) }
-{
-    let found = import(context, before.rest)?;
-    Ok(Read {
-        tree: push(before.tree, found.tree)?,
-        rest: found.rest,
-    })
-}
-
-// What stands behind `package`.
-fn package_name<'t, 'a>(
-    context: Context,
-    tokens: &'t [Token<'a>],
-) -> Result<Read<'t, 'a, Dotted>, TextFault>
-    ensures { Gives (λ d. (bare_dotted d.tree, lexemes d.rest.now)) result (package_at (lexemes tokens.now)) }
-{
-    let first = name(context, tokens)?;
-    let more = package_parts(context, first.rest)?;
-    let rest = expect(context, more.rest, Sign::Semicolon)?;
-    Ok(Read {
-        tree: Dotted {
-            first: first.tree,
-            more: more.tree,
-        },
-        rest,
-    })
-}
-
-/// The package, if one is named.
-pub fn header<'t, 'a>(
-    context: Context,
-    tokens: &'t [Token<'a>],
-) -> Result<Read<'t, 'a, Option<Dotted>>, TextFault>
-    ensures { Gives (λ h. (option_map bare_dotted h.tree, lexemes h.rest.now)) result (header_at (lexemes tokens.now)) }
-{
-    match word_part(tokens, Word::Package) {
-        Some(rest) => {
-            let name = package_name(context, rest)?;
-            Ok(Read {
-                tree: Some(name.tree),
-                rest: name.rest,
-            })
-        }
-        None => Ok(Read {
-            tree: None,
-            rest: tokens,
-        }),
-    }
 }

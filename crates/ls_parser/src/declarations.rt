@@ -5,21 +5,21 @@ ghost use Rattle.ls_lexer.specs.Lexemes.{lexemes};
 ghost use Rattle.ls_lexer.specs.declared.sign.Sign.TheVariants as signs;
 ghost use Rattle.ls_tree.specs.WellFormed.{value_height, declarators_height};
 ghost use Rattle.ls_tree.specs.Views.{name_text, bare, bare_modifier, bare_type, bare_declarator, bare_declaration};
-ghost use Rattle.ls_parser.specs.Answers.{Gives, Finds};
-ghost use Rattle.ls_parser.specs.Reading.{one_more, behind_comma, many_at, not_yet};
-ghost use Rattle.ls_parser.specs.ReadingTerms.{term_at};
-ghost use Rattle.ls_parser.specs.ReadingActions.{modifier_of_word, modifier_word_at, starts_modifier, modifier_at, modifiers_at, boolean_at, named_type_at, type_at, declarator_at, declarators_at, declaration_at, starts_type, named_declaration, starts_declaration};
+ghost use Rattle.ls_terms.specs.Answers.{Gives, Finds};
+ghost use Rattle.ls_terms.specs.Reading.{one_more, behind_comma, many_at, not_yet};
+ghost use Rattle.ls_terms.specs.ReadingTerms.{term_at};
+ghost use Rattle.ls_parser.specs.ReadingActions.{modifier_of_word, modifier_word_at, starts_modifier, modifier_at, modifiers_at, boolean_at, named_type_at, type_at, declarator_at, more_declarators_at, declarator_list_at, declarators_at, declaration_at, starts_type, named_declaration, starts_declaration};
 
-use crate::primaries::{class_name, is_markable};
-use crate::terms::binary;
-use crate::tokens::{
-    Context, Part, Read, expect, expect_word, make_name, name, name_part, push, sign_part, span_to,
-    starts_with, word_part,
-};
 use ls_lexer::fault::TextFault;
 use ls_lexer::sign::Sign;
 use ls_lexer::token::{Token, TokenKind};
 use ls_lexer::word::Word;
+use ls_terms::primaries::{class_name, is_markable};
+use ls_terms::terms::binary;
+use ls_terms::tokens::{
+    Context, Part, Read, closed_part, expect, expect_word, make_name, name, name_part, push,
+    sign_part, span_to, starts_with, word_part,
+};
 use ls_tree::tree::{Declaration, Declarator, Expr, Modifier, Name, Type};
 
 fn modifier_word(word: Word) -> Option<Modifier>
@@ -38,12 +38,16 @@ fn modifier_word(word: Word) -> Option<Modifier>
 fn modifier_part<'t, 'a>(tokens: &'t [Token<'a>]) -> Option<Read<'t, 'a, Modifier>>
     ensures { Finds (λ m. (bare_modifier m.tree, lexemes m.rest.now)) result (modifier_word_at (lexemes tokens.now)) }
 {
-    let (token, rest) = tokens.split_first()?;
-    let TokenKind::Word(word) = token.kind else {
-        return None;
-    };
-    let tree = modifier_word(word)?;
-    Some(Read { tree, rest })
+    match tokens {
+        [token, rest @ ..] => match token.kind {
+            TokenKind::Word(word) => {
+                let tree = modifier_word(word)?;
+                Some(Read { tree, rest })
+            }
+            _ => None,
+        },
+        [] => None,
+    }
 }
 
 pub fn starts_modifier(tokens: &[Token]) -> bool
@@ -85,7 +89,7 @@ pub fn modifiers<'t, 'a>(
     Ok(all)
 }
 
-#[tactic(auto, using(crate::proofs::Rows::map_push))]
+#[tactic(auto, using(ls_terms::proofs::Rows::map_push))]
 fn one_modifier<'t, 'a>(
     context: Context,
     before: Read<'t, 'a, Vec<Modifier>>,
@@ -212,7 +216,7 @@ fn more_declarators<'t, 'a>(
     Ok(all)
 }
 
-#[tactic(auto, using(crate::proofs::Rows::map_push, crate::proofs::Rows::declarators_height_push))]
+#[tactic(auto, using(ls_terms::proofs::Rows::map_push, ls_terms::proofs::Rows::declarators_height_push))]
 fn one_declarator<'t, 'a>(
     context: Context,
     before: Part<'t, 'a, Vec<Declarator>>,
@@ -231,8 +235,43 @@ fn one_declarator<'t, 'a>(
     })
 }
 
+// More declarators behind what is held already, and a semicolon. Generic over what is held: so its drop is that of a
+// parameter's type, where a step fails.
+fn with_declarators<'t, 'a, T: Drop>(
+    context: Context,
+    held: Part<'t, 'a, T>,
+    limit: usize,
+) -> Result<Part<'t, 'a, (T, Vec<Declarator>)>, TextFault>
+    requires { held.height ≤ limit }
+    ensures read { Gives (λ d. (map bare_declarator d.tree.1.items, lexemes d.rest.now)) result (more_declarators_at (term_at limit) (lexemes held.entry.rest.now)) }
+    ensures held { IfOk result (λ d. d.tree.0 ≡ held.entry.tree) }
+    ensures height { IfOk result (λ d. (d.height ≡ max held.entry.height (declarators_height (map bare_declarator d.tree.1.items))) × (d.height ≤ limit)) }
+{
+    let more = more_declarators(context, held.rest, limit)?;
+    let more = closed_part(context, more, Sign::Semicolon)?;
+    Ok(Part {
+        tree: (held.tree, more.tree),
+        height: held.height.max(more.height),
+        rest: more.rest,
+    })
+}
+
+// Declarators and a semicolon.
+fn declarator_list<'t, 'a>(
+    context: Context,
+    tokens: &'t [Token<'a>],
+    limit: usize,
+) -> Result<Part<'t, 'a, (Declarator, Vec<Declarator>)>, TextFault>
+    ensures read { Gives (λ d. ((bare_declarator d.tree.0, map bare_declarator d.tree.1.items), lexemes d.rest.now)) result (declarator_list_at (term_at limit) (lexemes tokens.now)) }
+    ensures height { IfOk result (λ d. (d.height ≡ max (value_height ((bare_declarator d.tree.0).value)) (declarators_height (map bare_declarator d.tree.1.items))) × (d.height ≤ limit)) }
+{
+    let first = declarator(context, tokens, limit)?;
+    with_declarators(context, first, limit)
+}
+
 // What stands behind the modifiers and the type, up to and with the semicolon. All the tokens begin with the
 // modifiers. The height is that of the highest initialiser, and each is at most as high as the limit.
+#[tactic(auto, using(crate::proofs::Steps::list_found, crate::proofs::Steps::list_fails))]
 pub fn declarators<'t, 'a>(
     context: Context,
     all: &'t [Token<'a>],
@@ -244,19 +283,17 @@ pub fn declarators<'t, 'a>(
     ensures read { Gives (λ d. (bare_declaration d.tree, lexemes d.rest.now)) result (declarators_at (term_at limit) (map bare_modifier modifiers.items) (bare_type type_name) (lexemes tokens.now)) }
     ensures height { IfOk result (λ d. (d.height ≡ max (value_height ((bare_declaration d.tree).first.value)) (declarators_height ((bare_declaration d.tree).more))) × (d.height ≤ limit)) }
 {
-    let first = declarator(context, tokens, limit)?;
-    let more = more_declarators(context, first.rest, limit)?;
-    let rest = expect(context, more.rest, Sign::Semicolon)?;
+    let list = declarator_list(context, tokens, limit)?;
     Ok(Part {
         tree: Declaration {
             modifiers,
             type_name,
-            first: first.tree,
-            more: more.tree,
-            span: span_to(all, rest),
+            first: list.tree.0,
+            more: list.tree.1,
+            span: span_to(all, list.rest),
         },
-        height: first.height.max(more.height),
-        rest,
+        height: list.height,
+        rest: list.rest,
     })
 }
 

@@ -3,14 +3,11 @@
 
 mod classes;
 mod declarations;
-mod operators;
+mod imports;
 pub mod parse;
-mod primaries;
 mod simple_statements;
 pub mod spelling;
 mod statements;
-mod terms;
-mod tokens;
 
 pub use crate::spelling::spell;
 pub use ls_lexer::lexing::lex;

@@ -7,16 +7,17 @@ ghost use Rattle.ls_lexer.specs.declared.fault.TextFault.TheVariants.{TooLong};
 ghost use Rattle.ls_tree.specs.Trees.{File};
 ghost use Rattle.ls_tree.specs.Views.{file_of};
 ghost use Rattle.ls_tree.specs.FileView.{bare_file};
-ghost use Rattle.ls_parser.specs.Answers.{Refuses, RefusesTokens, MayCome, Gives};
+ghost use Rattle.ls_terms.specs.Answers.{Refuses, RefusesTokens, MayCome, Gives};
 ghost use Rattle.ls_parser.specs.ReadingClasses.{file_at};
-ghost use Rattle.ls_parser.specs.Spells.{Spells, TextSpells};
+ghost use Rattle.ls_spelling.specs.Spells.{Spells, TextSpells};
 ghost use Rattle.ls_parser.specs.Laws.{OneTree, OneFile};
 
-use crate::classes::{classes, header, imports};
-use crate::tokens::Context;
+use crate::classes::classes;
+use crate::imports::{header, imports};
 use ls_lexer::fault::TextFault;
 use ls_lexer::lexing::lex;
 use ls_lexer::token::Token;
+use ls_terms::tokens::Context;
 use ls_tree::tree::{Class, ClassFile, Dotted, Import};
 use std::alloc::Global;
 

@@ -6,20 +6,20 @@ ghost use Rattle.ls_lexer.specs.declared.sign.Sign.TheVariants as signs;
 ghost use Rattle.ls_tree.specs.Trees as trees;
 ghost use Rattle.ls_tree.specs.WellFormed.{term_height, action_height, piece_height, is_call};
 ghost use Rattle.ls_tree.specs.Views.{name_text, bare, bare_statement, bare_piece, bare_block};
-ghost use Rattle.ls_parser.specs.Answers.{Gives, Finds};
-ghost use Rattle.ls_parser.specs.ReadingTerms.{term_at};
-ghost use Rattle.ls_parser.specs.ReadingActions.{local_at, condition_at, jump_at, label_at, used_at, declared_at, break_at, continue_at, return_at};
+ghost use Rattle.ls_terms.specs.Answers.{Gives, Finds};
+ghost use Rattle.ls_terms.specs.ReadingTerms.{term_at};
+ghost use Rattle.ls_parser.specs.ReadingActions.{local_at, condition_at, jump_at, ended_at, label_at, used_at, declared_at, break_at, continue_at, return_at};
 
 use crate::declarations::declaration;
-use crate::terms::binary;
-use crate::tokens::{
-    Context, Part, Read, expect, make_name, name_part, sign_part, span_from, span_to, syntax,
-    too_deep,
-};
 use ls_lexer::fault::TextFault;
 use ls_lexer::sign::Sign;
 use ls_lexer::token::{Span, Token};
 use ls_lexer::word::Word;
+use ls_terms::terms::binary;
+use ls_terms::tokens::{
+    Context, Part, Read, closed_part, expect, make_name, name_part, sign_part, span_from, span_to,
+    syntax, too_deep,
+};
 use ls_tree::tree::{Block, BlockItem, Expr, Name, Statement};
 use std::alloc::AllocError;
 
@@ -54,12 +54,7 @@ pub fn condition<'t, 'a>(
 {
     let open = expect(context, tokens, Sign::OpenParen)?;
     let condition = binary(context, open, 6, limit)?;
-    let rest = expect(context, condition.rest, Sign::CloseParen)?;
-    Ok(Part {
-        tree: condition.tree,
-        height: condition.height,
-        rest,
-    })
+    closed_part(context, condition, Sign::CloseParen)
 }
 
 // A label or none, and a semicolon.
@@ -71,10 +66,11 @@ pub fn jump<'t, 'a>(
 {
     match name_part(tokens) {
         Some((text, rest)) => {
+            let end = expect(context, rest, Sign::Semicolon)?;
             let label = make_name(context, text, span_to(tokens, rest))?;
             Ok(Read {
                 tree: Some(label),
-                rest: expect(context, rest, Sign::Semicolon)?,
+                rest: end,
             })
         }
         None => Ok(Read {
@@ -122,6 +118,19 @@ pub fn continue_statement<'t, 'a>(
     })
 }
 
+// An expression and a semicolon.
+fn ended<'t, 'a>(
+    context: Context,
+    tokens: &'t [Token<'a>],
+    limit: usize,
+) -> Result<Part<'t, 'a, Expr>, TextFault>
+    ensures read { Gives (λ p. (bare p.tree, lexemes p.rest.now)) result (ended_at (term_at limit) (lexemes tokens.now)) }
+    ensures height { IfOk result (λ p. (p.height ≡ term_height (bare p.tree)) × (p.height ≤ limit)) }
+{
+    let value = binary(context, tokens, 6, limit)?;
+    closed_part(context, value, Sign::Semicolon)
+}
+
 pub fn return_statement<'t, 'a>(
     context: Context,
     all: &'t [Token<'a>],
@@ -142,15 +151,14 @@ pub fn return_statement<'t, 'a>(
             rest,
         });
     }
-    let value = binary(context, tokens, 6, limit)?;
-    let rest = expect(context, value.rest, Sign::Semicolon)?;
+    let value = ended(context, tokens, limit)?;
     Ok(Part {
         tree: Statement::Return {
             value: Some(value.tree),
-            span: span_to(all, rest),
+            span: span_to(all, value.rest),
         },
         height: value.height + 1,
-        rest,
+        rest: value.rest,
     })
 }
 
@@ -208,28 +216,28 @@ pub fn used<'t, 'a>(
 {
     let start = target.tree.span().start;
     if let Some(tokens) = sign_part(target.rest, Sign::Assign) {
-        let value = binary(context, tokens, 6, limit)?;
-        let rest = expect(context, value.rest, Sign::Semicolon)?;
+        let value = ended(context, tokens, limit)?;
         return Ok(Part {
             tree: Statement::Assign {
                 target: target.tree,
                 value: value.tree,
-                span: span_from(start, tokens, rest),
+                span: span_from(start, tokens, value.rest),
             },
             height: target.height.max(value.height) + 1,
-            rest,
+            rest: value.rest,
         });
     }
     if !is_call(&target.tree) {
         return Err(syntax(context, target.rest));
     }
-    let rest = expect(context, target.rest, Sign::Semicolon)?;
+    let tokens = target.rest;
+    let value = closed_part(context, target, Sign::Semicolon)?;
     Ok(Part {
         tree: Statement::Expression {
-            value: target.tree,
-            span: span_from(start, target.rest, rest),
+            value: value.tree,
+            span: span_from(start, tokens, value.rest),
         },
-        height: target.height + 1,
-        rest,
+        height: value.height + 1,
+        rest: value.rest,
     })
 }

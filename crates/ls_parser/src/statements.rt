@@ -6,9 +6,9 @@ ghost use Rattle.ls_lexer.specs.declared.sign.Sign.TheVariants as signs;
 ghost use Rattle.ls_tree.specs.Trees as trees;
 ghost use Rattle.ls_tree.specs.WellFormed.{action_height, items_height, piece_height};
 ghost use Rattle.ls_tree.specs.Views.{name_text, bare_statement, bare_piece, items_of, bare_block};
-ghost use Rattle.ls_parser.specs.Answers.{Gives};
-ghost use Rattle.ls_parser.specs.Reading.{one_more, many_at, not_yet};
-ghost use Rattle.ls_parser.specs.ReadingTerms.{term_at, post_at};
+ghost use Rattle.ls_terms.specs.Answers.{Gives};
+ghost use Rattle.ls_terms.specs.Reading.{one_more, many_at, not_yet};
+ghost use Rattle.ls_terms.specs.ReadingTerms.{term_at, post_at};
 ghost use Rattle.ls_parser.specs.ReadingActions.{piece_at, local_at, if_at, while_at, try_at, other_at, first_of, begun_at, action_at, block_at, block_in};
 
 use crate::declarations::starts_declaration;
@@ -16,15 +16,15 @@ use crate::simple_statements::{
     block_tree, break_statement, condition, continue_statement, label_part, label_span, local,
     return_statement, try_tree, used,
 };
-use crate::terms::post;
-use crate::tokens::{
-    Context, Part, boxed, expect, expect_word, make_name, push, span_to, starts_with, syntax,
-    too_deep, word_part,
-};
 use ls_lexer::fault::TextFault;
 use ls_lexer::sign::Sign;
 use ls_lexer::token::{Token, TokenKind};
 use ls_lexer::word::Word;
+use ls_terms::terms::post;
+use ls_terms::tokens::{
+    Context, Part, boxed_part, closed_part, expect, expect_word, make_name, push, span_to,
+    starts_with, syntax, too_deep, word_part,
+};
 use ls_tree::tree::{Block, BlockItem, Name, Statement};
 use std::alloc::AllocError;
 
@@ -112,14 +112,14 @@ pub fn block<'t, 'a>(
     }
     let open = expect(context, tokens, Sign::OpenBrace)?;
     let items = block_items(context, open, limit - 1)?;
-    let rest = expect(context, items.rest, Sign::CloseBrace)?;
+    let items = closed_part(context, items, Sign::CloseBrace)?;
     Ok(Part {
         tree: Block {
             items: items.tree,
-            span: span_to(tokens, rest),
+            span: span_to(tokens, items.rest),
         },
         height: items.height + 1,
-        rest,
+        rest: items.rest,
     })
 }
 
@@ -144,7 +144,7 @@ fn block_items<'t, 'a>(
 }
 
 #[cycle(statements)]
-#[tactic(auto, using(crate::proofs::Rows::map_push, crate::proofs::StatementRows::collected_height_push))]
+#[tactic(auto, using(ls_terms::proofs::Rows::map_push, crate::proofs::StatementRows::collected_height_push))]
 fn one_item<'t, 'a>(
     context: Context,
     before: Part<'t, 'a, Vec<BlockItem>>,
@@ -183,6 +183,19 @@ fn block_item<'t, 'a>(
 }
 
 #[cycle(statements)]
+fn boxed_statement<'t, 'a>(
+    context: Context,
+    tokens: &'t [Token<'a>],
+    limit: usize,
+) -> Result<Part<'t, 'a, Box<Statement>>, TextFault>
+    ensures read { Gives (λ p. (bare_statement p.tree.value, lexemes p.rest.now)) result (action_at limit (lexemes tokens.now)) }
+    ensures height { IfOk result (λ p. (p.height ≡ action_height (bare_statement p.tree.value)) × (p.height ≤ limit)) }
+{
+    let found = statement(context, tokens, limit)?;
+    Ok(boxed_part(context.alloc, found)?)
+}
+
+#[cycle(statements)]
 fn if_statement<'t, 'a>(
     context: Context,
     all: &'t [Token<'a>],
@@ -194,15 +207,15 @@ fn if_statement<'t, 'a>(
     ensures height { IfOk result (λ p. (p.height ≡ action_height (bare_statement p.tree)) × (p.height ≤ limit + 1)) }
 {
     let condition = condition(context, tokens, limit)?;
-    let first = statement(context, condition.rest, limit)?;
+    let first = boxed_statement(context, condition.rest, limit)?;
     match word_part(first.rest, Word::Else) {
         Some(rest) => {
-            let second = statement(context, rest, limit)?;
+            let second = boxed_statement(context, rest, limit)?;
             Ok(Part {
                 tree: Statement::If {
                     condition: condition.tree,
-                    then: boxed(context.alloc, first.tree)?,
-                    otherwise: Some(boxed(context.alloc, second.tree)?),
+                    then: first.tree,
+                    otherwise: Some(second.tree),
                     span: span_to(all, second.rest),
                 },
                 height: condition.height.max(first.height).max(second.height) + 1,
@@ -212,7 +225,7 @@ fn if_statement<'t, 'a>(
         None => Ok(Part {
             tree: Statement::If {
                 condition: condition.tree,
-                then: boxed(context.alloc, first.tree)?,
+                then: first.tree,
                 otherwise: None,
                 span: span_to(all, first.rest),
             },
@@ -235,12 +248,12 @@ fn while_statement<'t, 'a>(
     ensures height { IfOk result (λ p. (p.height ≡ action_height (bare_statement p.tree)) × (p.height ≤ limit + 1)) }
 {
     let condition = condition(context, tokens, limit)?;
-    let body = statement(context, condition.rest, limit)?;
+    let body = boxed_statement(context, condition.rest, limit)?;
     Ok(Part {
         tree: Statement::While {
             label,
             condition: condition.tree,
-            body: boxed(context.alloc, body.tree)?,
+            body: body.tree,
             span: span_to(all, body.rest),
         },
         height: condition.height.max(body.height) + 1,
@@ -283,8 +296,8 @@ fn other_statement<'t, 'a>(
 {
     match label_part(tokens) {
         Some((text, rest)) => {
-            let label = make_name(context, text, label_span(tokens))?;
             let rest = expect_word(context, rest, Word::While)?;
+            let label = make_name(context, text, label_span(tokens))?;
             while_statement(context, tokens, Some(label), rest, limit)
         }
         None => {

@@ -1,10 +1,10 @@
-use Rattle.std.proofs.Common.{◌≡◌, ◌≤◌, length, map}
+use Rattle.std.proofs.Common.{length, map}
 use Rattle.ls_lexer.specs.Lexemes.{lexemes}
 use Rattle.ls_lexer.specs.declared.sign.Sign.TheVariants as signs
-use Rattle.ls_parser.specs.Reading.{one_more, many_at, not_yet, behind_comma}
+use Rattle.ls_terms.specs.Reading.{one_more, many_at, not_yet}
 use Rattle.ls_tree.specs.Views.{bare_member}
 use Rattle.ls_parser.specs.ReadingClasses.{member_at}
-use Rattle.ls_parser.proofs.Repeats.{InRepeat}
+use Rattle.ls_terms.proofs.Repeats.{InRepeat}
 use Rattle.ls_parser.proofs.classes.members.Given as goal
 
 abbrev pub invariant-loop-context : goal.invariant-loop-context

@@ -1,7 +1,6 @@
-use Rattle.std.proofs.Common.{◌≡◌, refl}
 use Rattle.std.proofs.lemmas.Result.{err_from_is_err_and}
-use Rattle.ls_parser.proofs.Repeats.{repeat_ends, repeat_fails, list_goes_on}
-use Rattle.ls_parser.proofs.Shrinks.{one_more_shrinks, tokens_shrink, comma_shrinks}
+use Rattle.ls_terms.proofs.Repeats.{repeat_ends, repeat_fails, list_goes_on}
+use Rattle.ls_terms.proofs.Shrinks.{one_more_shrinks, tokens_shrink, comma_shrinks}
 use Rattle.ls_parser.proofs.ActionsRead.{declarator_shrinks}
 use Rattle.ls_parser.proofs.declarations.more_declarators.Goals as goal
 

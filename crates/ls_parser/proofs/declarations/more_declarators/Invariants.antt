@@ -1,12 +1,12 @@
 use Rattle.std.proofs.Common.{◌≡◌, ◌≤◌, length, map}
 use Rattle.ls_lexer.specs.Lexemes.{lexemes}
 use Rattle.ls_lexer.specs.declared.sign.Sign.TheVariants as signs
-use Rattle.ls_parser.specs.Reading.{one_more, many_at, not_yet, behind_comma}
+use Rattle.ls_terms.specs.Reading.{one_more, many_at, not_yet, behind_comma}
 use Rattle.ls_tree.specs.Views.{bare_declarator}
 use Rattle.ls_parser.specs.ReadingActions.{declarator_at}
-use Rattle.ls_parser.specs.ReadingTerms.{term_at}
+use Rattle.ls_terms.specs.ReadingTerms.{term_at}
 use Rattle.ls_tree.specs.WellFormed.{declarators_height}
-use Rattle.ls_parser.proofs.Repeats.{InRepeat}
+use Rattle.ls_terms.proofs.Repeats.{InRepeat}
 use Rattle.ls_parser.proofs.declarations.more_declarators.Given as goal
 
 abbrev pub invariant-loop-context : goal.invariant-loop-context

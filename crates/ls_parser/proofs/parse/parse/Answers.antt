@@ -3,7 +3,7 @@ use Rattle.ls_lexer.specs.Lexemes.{lexemes}
 use Rattle.ls_tree.specs.Trees.{File}
 use Rattle.ls_tree.specs.Views.{file_of}
 use Rattle.ls_tree.specs.FileView.{bare_file}
-use Rattle.ls_parser.specs.Spells.{Spells}
+use Rattle.ls_spelling.specs.Spells.{Spells}
 use Rattle.ls_parser.proofs.Files.{found_is}
 use Rattle.ls_parser.proofs.parse.parse.Goals as goal
 

@@ -1,4 +1,4 @@
-use Rattle.ls_parser.proofs.StatementRows.{try_bare}
+use Rattle.ls_spelling.proofs.StatementRows.{try_bare}
 use Rattle.ls_parser.proofs.simple_statements.try_tree.Goals as goal
 
 pub returns : goal.returns

@@ -1,5 +1,0 @@
-use Rattle.ls_parser.proofs.Rows.{call_bare}
-use Rattle.ls_parser.proofs.primaries.called.Goals as goal
-
-pub returns : goal.returns
-returns c = call_bare c.args.target c.args.name c.args.arguments c.args.span

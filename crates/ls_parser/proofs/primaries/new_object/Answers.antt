@@ -1,5 +1,0 @@
-use Rattle.ls_parser.proofs.Rows.{new_bare}
-use Rattle.ls_parser.proofs.primaries.new_object.Goals as goal
-
-pub returns : goal.returns
-returns c = new_bare c.args.class c.args.arguments c.args.span

@@ -1,0 +1,207 @@
+// Packages and imports.
+
+ghost use Rattle.std.specs.Prelude.{◌≡◌, ◌++◌, ◌∷◌, [], IfOk, Some, None, map, option_map};
+ghost use Rattle.ls_lexer.specs.Lexemes.{lexemes};
+ghost use Rattle.ls_lexer.specs.declared.sign.Sign.TheVariants as signs;
+ghost use Rattle.ls_tree.specs.Views.{name_text, bare_dotted, bare_import};
+ghost use Rattle.ls_terms.specs.Answers.{Gives, Finds};
+ghost use Rattle.ls_terms.specs.Reading.{after_sign, one_more, many_at, not_yet};
+ghost use Rattle.ls_parser.specs.ReadingClasses.{part_at, dotted_at, after_star, more_path, import_of, import_at, package_at, header_at, starts_import};
+
+use ls_lexer::fault::TextFault;
+use ls_lexer::sign::Sign;
+use ls_lexer::token::Token;
+use ls_lexer::word::Word;
+use ls_terms::tokens::{
+    Context, Read, closed, expect, expect_word, name, push, sign_part, starts_with, word_part,
+};
+use ls_tree::tree::{Dotted, Import, Name};
+
+// Names behind dots, up to a semicolon.
+fn package_parts<'t, 'a>(
+    context: Context,
+    tokens: &'t [Token<'a>],
+) -> Result<Read<'t, 'a, Vec<Name>>, TextFault>
+    ensures { Gives (λ d. (map name_text d.tree.items, lexemes d.rest.now)) result (many_at (not_yet signs.Semicolon) part_at (lexemes tokens.now)) }
+{
+    let mut all = Read {
+        tree: Vec::new(context.alloc),
+        rest: tokens,
+    };
+    while !starts_with(all.rest, Sign::Semicolon) {
+        all = one_part(context, all)?;
+    }
+    Ok(all)
+}
+
+// Names behind dots, up to a semicolon or `.*`.
+fn import_parts<'t, 'a>(
+    context: Context,
+    tokens: &'t [Token<'a>],
+) -> Result<Read<'t, 'a, Vec<Name>>, TextFault>
+    ensures { Gives (λ d. (map name_text d.tree.items, lexemes d.rest.now)) result (many_at more_path part_at (lexemes tokens.now)) }
+{
+    let mut all = Read {
+        tree: Vec::new(context.alloc),
+        rest: tokens,
+    };
+    while more_path(all.rest) {
+        all = one_part(context, all)?;
+    }
+    Ok(all)
+}
+
+#[tactic(auto, using(ls_terms::proofs::Rows::map_push))]
+fn one_part<'t, 'a>(
+    context: Context,
+    before: Read<'t, 'a, Vec<Name>>,
+) -> Result<Read<'t, 'a, Vec<Name>>, TextFault>
+    ensures { Gives (λ d. (map name_text d.tree.items, lexemes d.rest.now)) result (one_more part_at (map name_text before.entry.tree.items) (lexemes before.entry.rest.now)) }
+{
+    let tokens = expect(context, before.rest, Sign::Dot)?;
+    let found = name(context, tokens)?;
+    Ok(Read {
+        tree: push(before.tree, found.tree)?,
+        rest: found.rest,
+    })
+}
+
+// What is left behind `.*`.
+fn star_part<'t, 'a>(tokens: &'t [Token<'a>]) -> Option<&'t [Token<'a>]>
+    ensures { Finds (λ rest. lexemes rest.now) result (after_star (lexemes tokens.now)) }
+{
+    let rest = sign_part(tokens, Sign::Dot)?;
+    sign_part(rest, Sign::Star)
+}
+
+fn more_path(tokens: &[Token]) -> bool
+    ensures { result ≡ more_path (lexemes tokens.now) }
+{
+    !(starts_with(tokens, Sign::Semicolon) || star_part(tokens).is_some())
+}
+
+// What stands behind `import`.
+fn path<'t, 'a>(
+    context: Context,
+    tokens: &'t [Token<'a>],
+) -> Result<Read<'t, 'a, Dotted>, TextFault>
+    ensures { Gives (λ d. (bare_dotted d.tree, lexemes d.rest.now)) result (dotted_at more_path (lexemes tokens.now)) }
+{
+    let first = name(context, tokens)?;
+    let more = import_parts(context, first.rest)?;
+    Ok(Read {
+        tree: Dotted {
+            first: first.tree,
+            more: more.tree,
+        },
+        rest: more.rest,
+    })
+}
+
+// An import, where a semicolon is left.
+fn imported<'t, 'a>(
+    context: Context,
+    path: Dotted,
+    all: bool,
+    tokens: &'t [Token<'a>],
+) -> Result<Read<'t, 'a, Import>, TextFault>
+    ensures read { Gives (λ i. lexemes i.rest.now) result (after_sign signs.Semicolon (lexemes tokens.now)) }
+    ensures same { IfOk result (λ i. bare_import i.tree ≡ import_of (bare_dotted path) all) }
+{
+    let rest = expect(context, tokens, Sign::Semicolon)?;
+    Ok(Read {
+        tree: Import { path, all },
+        rest,
+    })
+}
+
+fn import<'t, 'a>(
+    context: Context,
+    tokens: &'t [Token<'a>],
+) -> Result<Read<'t, 'a, Import>, TextFault>
+    ensures { Gives (λ i. (bare_import i.tree, lexemes i.rest.now)) result (import_at (lexemes tokens.now)) }
+{
+    let named = expect_word(context, tokens, Word::Import)?;
+    let path = path(context, named)?;
+    match star_part(path.rest) {
+        Some(rest) => imported(context, path.tree, true, rest),
+        None => imported(context, path.tree, false, path.rest),
+    }
+}
+
+fn starts_import(tokens: &[Token]) -> bool
+    ensures { result ≡ starts_import (lexemes tokens.now) }
+{
+    word_part(tokens, Word::Import).is_some()
+}
+
+pub fn imports<'t, 'a>(
+    context: Context,
+    tokens: &'t [Token<'a>],
+) -> Result<Read<'t, 'a, Vec<Import>>, TextFault>
+    ensures { Gives (λ i. (map bare_import i.tree.items, lexemes i.rest.now)) result (many_at starts_import import_at (lexemes tokens.now)) }
+{
+    let mut all = Read {
+        tree: Vec::new(context.alloc),
+        rest: tokens,
+    };
+    while starts_import(all.rest) {
+        all = one_import(context, all)?;
+    }
+    Ok(all)
+}
+
+#[tactic(auto, using(ls_terms::proofs::Rows::map_push))]
+fn one_import<'t, 'a>(
+    context: Context,
+    before: Read<'t, 'a, Vec<Import>>,
+) -> Result<Read<'t, 'a, Vec<Import>>, TextFault>
+    ensures { Gives (λ i. (map bare_import i.tree.items, lexemes i.rest.now)) result (one_more import_at (map bare_import before.entry.tree.items) (lexemes before.entry.rest.now)) }
+{
+    let found = import(context, before.rest)?;
+    Ok(Read {
+        tree: push(before.tree, found.tree)?,
+        rest: found.rest,
+    })
+}
+
+// What stands behind `package`.
+fn package_name<'t, 'a>(
+    context: Context,
+    tokens: &'t [Token<'a>],
+) -> Result<Read<'t, 'a, Dotted>, TextFault>
+    ensures { Gives (λ d. (bare_dotted d.tree, lexemes d.rest.now)) result (package_at (lexemes tokens.now)) }
+{
+    let first = name(context, tokens)?;
+    let more = package_parts(context, first.rest)?;
+    let more = closed(context, more, Sign::Semicolon)?;
+    Ok(Read {
+        tree: Dotted {
+            first: first.tree,
+            more: more.tree,
+        },
+        rest: more.rest,
+    })
+}
+
+/// The package, if one is named.
+pub fn header<'t, 'a>(
+    context: Context,
+    tokens: &'t [Token<'a>],
+) -> Result<Read<'t, 'a, Option<Dotted>>, TextFault>
+    ensures { Gives (λ h. (option_map bare_dotted h.tree, lexemes h.rest.now)) result (header_at (lexemes tokens.now)) }
+{
+    match word_part(tokens, Word::Package) {
+        Some(rest) => {
+            let name = package_name(context, rest)?;
+            Ok(Read {
+                tree: Some(name.tree),
+                rest: name.rest,
+            })
+        }
+        None => Ok(Read {
+            tree: None,
+            rest: tokens,
+        }),
+    }
+}

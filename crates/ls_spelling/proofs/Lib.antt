@@ -1,0 +1,4 @@
+pub mod MoreKinds
+pub mod Nodes
+pub mod Rows
+pub mod StatementRows

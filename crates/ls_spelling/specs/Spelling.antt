@@ -1,0 +1,171 @@
+-- The tokens of each tree.
+use Rattle.std.specs.Prelude.{Bool, true, false, List, [], ◌∷◌, ◌++◌, Option, Some, None, codes}
+use Rattle.std.specs.List.{flat_map}
+use Rattle.ls_lexer.specs.Lexemes.{Lexeme, Named, Numeral, Reserved, Marked}
+use Rattle.ls_lexer.specs.declared.word.Word.TheVariants as words
+use Rattle.ls_lexer.specs.declared.sign.Sign.{Sign}
+use Rattle.ls_lexer.specs.declared.sign.Sign.TheVariants as signs
+use Rattle.ls_tree.specs.declared.tree.UnaryOp.{UnaryOp}
+use Rattle.ls_tree.specs.declared.tree.UnaryOp.TheVariants as unary
+use Rattle.ls_tree.specs.declared.tree.BinaryOp.{BinaryOp}
+use Rattle.ls_tree.specs.declared.tree.BinaryOp.TheVariants as binary
+use Rattle.ls_tree.specs.Trees.{Text, Term, Number, True, False, Null, This, Name, Paren, Unary, Binary, Field, Call, CallOn, Item, New, NewMarkable, NewArray, Terms, NoTerm, MoreTerms, Modifier, Public, Protected, Private, Final, Volatile, Annotation, TypeName, Int, Boolean, BooleanArray, Class, Markable, Declarator, Declaration, Action, Block, Empty, If, IfElse, While, Break, Continue, Return, Try, Assign, Evaluate, Items, NoItem, Do, Declare, Piece, Doing, Declaring, Parameter, Member, Fields, Method, Constructor, ClassTree, Dotted, Import, File}
+
+abbrev pub sign_of_unary : UnaryOp → Sign
+sign_of_unary unary.Minus = signs.Minus
+sign_of_unary unary.Not = signs.Not
+
+abbrev pub sign_of : BinaryOp → Sign
+sign_of binary.Or = signs.Or
+sign_of binary.And = signs.And
+sign_of binary.Equal = signs.Equal
+sign_of binary.NotEqual = signs.NotEqual
+sign_of binary.Less = signs.Less
+sign_of binary.Greater = signs.Greater
+sign_of binary.LessEqual = signs.LessEqual
+sign_of binary.GreaterEqual = signs.GreaterEqual
+sign_of binary.Add = signs.Plus
+sign_of binary.Subtract = signs.Minus
+sign_of binary.Multiply = signs.Star
+sign_of binary.Divide = signs.Slash
+sign_of binary.Remainder = signs.Percent
+
+-- between parentheses
+abbrev pub in_parens : List Lexeme → List Lexeme
+in_parens ks = Marked signs.OpenParen ∷ (ks ++ Marked signs.CloseParen ∷ [])
+
+abbrev pub in_braces : List Lexeme → List Lexeme
+in_braces ks = Marked signs.OpenBrace ∷ (ks ++ Marked signs.CloseBrace ∷ [])
+
+-- `AtomicMarkableReference<name>`
+abbrev pub markable : Text → List Lexeme
+markable name = Named (codes "AtomicMarkableReference") ∷ Marked signs.Less ∷ Named name ∷ Marked signs.Greater ∷ []
+
+abbrev mutual
+  pub spell_term : Term → List Lexeme
+  spell_term (Number text) = Numeral text ∷ []
+  spell_term True = Reserved words.True ∷ []
+  spell_term False = Reserved words.False ∷ []
+  spell_term Null = Reserved words.Null ∷ []
+  spell_term This = Reserved words.This ∷ []
+  spell_term (Name text) = Named text ∷ []
+  spell_term (Paren inner) = in_parens (spell_term inner)
+  spell_term (Unary op operand) = Marked (sign_of_unary op) ∷ spell_term operand
+  spell_term (Binary op left right) = spell_term left ++ Marked (sign_of op) ∷ spell_term right
+  spell_term (Field target name) = spell_term target ++ Marked signs.Dot ∷ Named name ∷ []
+  spell_term (Call name arguments) = Named name ∷ in_parens (spell_terms arguments)
+  spell_term (CallOn target name arguments) = spell_term target ++ Marked signs.Dot ∷ Named name ∷ in_parens (spell_terms arguments)
+  spell_term (Item array index) = spell_term array ++ Marked signs.OpenBracket ∷ (spell_term index ++ Marked signs.CloseBracket ∷ [])
+  spell_term (New class arguments) = Reserved words.New ∷ Named class ∷ in_parens (spell_terms arguments)
+  spell_term (NewMarkable class arguments) = Reserved words.New ∷ (markable class ++ in_parens (spell_terms arguments))
+  spell_term (NewArray length) = Reserved words.New ∷ Reserved words.Boolean ∷ Marked signs.OpenBracket ∷ (spell_term length ++ Marked signs.CloseBracket ∷ [])
+
+  pub spell_terms : Terms → List Lexeme
+  spell_terms NoTerm = []
+  spell_terms (MoreTerms first others) = spell_term first ++ spell_others others
+
+  -- those behind the first, each behind a comma
+  pub spell_others : Terms → List Lexeme
+  spell_others NoTerm = []
+  spell_others (MoreTerms first others) = Marked signs.Comma ∷ (spell_term first ++ spell_others others)
+
+abbrev pub spell_modifier : Modifier → List Lexeme
+spell_modifier Public = Reserved words.Public ∷ []
+spell_modifier Protected = Reserved words.Protected ∷ []
+spell_modifier Private = Reserved words.Private ∷ []
+spell_modifier Final = Reserved words.Final ∷ []
+spell_modifier Volatile = Reserved words.Volatile ∷ []
+spell_modifier (Annotation name) = Marked signs.At ∷ Named name ∷ []
+
+abbrev pub spell_type : TypeName → List Lexeme
+spell_type Int = Reserved words.Int ∷ []
+spell_type Boolean = Reserved words.Boolean ∷ []
+spell_type BooleanArray = Reserved words.Boolean ∷ Marked signs.OpenBracket ∷ Marked signs.CloseBracket ∷ []
+spell_type (Class name) = Named name ∷ []
+spell_type (Markable name) = markable name
+
+abbrev pub spell_initial : Option Term → List Lexeme
+spell_initial None = []
+spell_initial (Some value) = Marked signs.Assign ∷ spell_term value
+
+abbrev pub spell_declarator : Declarator → List Lexeme
+spell_declarator d = Named d.name ∷ spell_initial d.value
+
+abbrev pub spell_declaration : Declaration → List Lexeme
+spell_declaration d =
+    flat_map spell_modifier d.modifiers ++ spell_type d.type_name ++ spell_declarator d.first
+    ++ flat_map (λ m. Marked signs.Comma ∷ spell_declarator m) d.more ++ Marked signs.Semicolon ∷ []
+
+abbrev pub spell_label : Option Text → List Lexeme
+spell_label None = []
+spell_label (Some name) = Named name ∷ []
+
+abbrev pub spell_label_before : Option Text → List Lexeme
+spell_label_before None = []
+spell_label_before (Some name) = Named name ∷ Marked signs.Colon ∷ []
+
+abbrev pub spell_value : Option Term → List Lexeme
+spell_value None = []
+spell_value (Some value) = spell_term value
+
+abbrev mutual
+  pub spell_action : Action → List Lexeme
+  spell_action (Block items) = in_braces (spell_items items)
+  spell_action Empty = Marked signs.Semicolon ∷ []
+  spell_action (If condition first) = Reserved words.If ∷ (in_parens (spell_term condition) ++ spell_action first)
+  spell_action (IfElse condition first second) = Reserved words.If ∷ (in_parens (spell_term condition) ++ spell_action first ++ Reserved words.Else ∷ spell_action second)
+  spell_action (While label condition body) = spell_label_before label ++ Reserved words.While ∷ (in_parens (spell_term condition) ++ spell_action body)
+  spell_action (Break label) = Reserved words.Break ∷ (spell_label label ++ Marked signs.Semicolon ∷ [])
+  spell_action (Continue label) = Reserved words.Continue ∷ (spell_label label ++ Marked signs.Semicolon ∷ [])
+  spell_action (Return value) = Reserved words.Return ∷ (spell_value value ++ Marked signs.Semicolon ∷ [])
+  spell_action (Try body finally) = Reserved words.Try ∷ (in_braces (spell_items body) ++ Reserved words.Finally ∷ in_braces (spell_items finally))
+  spell_action (Assign target value) = spell_term target ++ Marked signs.Assign ∷ (spell_term value ++ Marked signs.Semicolon ∷ [])
+  spell_action (Evaluate value) = spell_term value ++ Marked signs.Semicolon ∷ []
+
+  pub spell_items : Items → List Lexeme
+  spell_items NoItem = []
+  spell_items (Do first others) = spell_action first ++ spell_items others
+  spell_items (Declare first others) = spell_declaration first ++ spell_items others
+
+abbrev pub spell_piece : Piece → List Lexeme
+spell_piece (Doing action) = spell_action action
+spell_piece (Declaring declaration) = spell_declaration declaration
+
+abbrev pub spell_parameter : Parameter → List Lexeme
+spell_parameter p = flat_map spell_modifier p.modifiers ++ spell_type p.type_name ++ Named p.name ∷ []
+
+abbrev pub spell_parameters : List Parameter → List Lexeme
+spell_parameters [] = []
+spell_parameters (p ∷ ps) = spell_parameter p ++ flat_map (λ q. Marked signs.Comma ∷ spell_parameter q) ps
+
+abbrev pub spell_result : Option TypeName → List Lexeme
+spell_result None = Reserved words.Void ∷ []
+spell_result (Some type_name) = spell_type type_name
+
+abbrev pub spell_member : Member → List Lexeme
+spell_member (Fields declaration) = spell_declaration declaration
+spell_member (Method modifiers result name parameters body) =
+    flat_map spell_modifier modifiers ++ spell_result result ++ Named name ∷ (in_parens (spell_parameters parameters) ++ in_braces (spell_items body))
+spell_member (Constructor modifiers name parameters body) =
+    flat_map spell_modifier modifiers ++ Named name ∷ (in_parens (spell_parameters parameters) ++ in_braces (spell_items body))
+
+abbrev pub spell_class : ClassTree → List Lexeme
+spell_class c = flat_map spell_modifier c.modifiers ++ Reserved words.Class ∷ Named c.name ∷ in_braces (flat_map spell_member c.members)
+
+abbrev pub spell_dotted : Dotted → List Lexeme
+spell_dotted d = Named d.first ∷ flat_map (λ name. Marked signs.Dot ∷ Named name ∷ []) d.more
+
+abbrev pub spell_all : Bool → List Lexeme
+spell_all true = Marked signs.Dot ∷ Marked signs.Star ∷ []
+spell_all false = []
+
+abbrev pub spell_import : Import → List Lexeme
+spell_import i = Reserved words.Import ∷ (spell_dotted i.path ++ spell_all i.all ++ Marked signs.Semicolon ∷ [])
+
+abbrev pub spell_package : Option Dotted → List Lexeme
+spell_package None = []
+spell_package (Some name) = Reserved words.Package ∷ (spell_dotted name ++ Marked signs.Semicolon ∷ [])
+
+-- the tokens of a file
+abbrev pub spell : File → List Lexeme
+spell f = spell_package f.package_name ++ flat_map spell_import f.imports ++ flat_map spell_class f.classes

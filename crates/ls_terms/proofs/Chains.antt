@@ -1,0 +1,83 @@
+-- The loop over a chain of operators, and the first token of an operand.
+use Rattle.std.proofs.Common.{◌≡◌, ℕ, zero, suc, ◌+◌, ◌-◌, ◌<◌, ◌≤◌, Bool, true, false, leb, length, List, [], ◌∷◌, Option, Some, None, refl, sym, ap, subst, ◌∙◌, arith, le-leb}
+use Rattle.std.proofs.lemmas.Bool.{lt-leb}
+use Rattle.ls_lexer.specs.declared.fault.TextFault.{TextFault}
+use Rattle.ls_lexer.specs.declared.token.Token.{Token}
+use Rattle.ls_lexer.specs.Lexemes.{Lexeme, lexemes}
+use Rattle.ls_tree.specs.declared.tree.BinaryOp.{BinaryOp}
+use Rattle.ls_tree.specs.Trees.{Term, Binary}
+use Rattle.ls_tree.specs.WellFormed.{term_height, is_minus}
+use Rattle.ls_terms.specs.Answers.{Fails}
+use Rattle.ls_terms.specs.Reading.{Reader, given, repeat}
+use Rattle.ls_terms.specs.ReadingTerms.{operator_at, has_operator, joined_at, binary_at, unary_of, signed_at, unary_at, post_at}
+use Rattle.ls_terms.proofs.Repeats.{InRepeat, repeat_goes_on, fails_first}
+
+pub chain_begins : (wanted limit : ℕ) (operand : Reader Term) (ks : List Lexeme) (left : Term) (rest : List Lexeme) → 0 < wanted → binary_at (wanted - 1) limit operand ks ≡ Some (left, rest)
+    → InRepeat (has_operator wanted) (joined_at wanted limit (binary_at (wanted - 1) limit operand)) (limit - term_height left) left rest (binary_at wanted limit operand ks)
+unfolding binary_at
+chain_begins zero limit operand ks left rest lt e = absurd (omega arith)
+chain_begins (suc low) limit operand ks left rest lt e =
+    let is : suc low - 1 ≡ low = omega arith in
+    let e' : binary_at low limit operand ks ≡ Some (left, rest) = ap (λ (n : ℕ). binary_at n limit operand ks) (sym is) ∙ e in
+    subst (λ (n : ℕ). InRepeat (has_operator (suc low)) (joined_at (suc low) limit (binary_at n limit operand)) (limit - term_height left) left rest (binary_at (suc low) limit operand ks)) (sym is)
+    (record { turns = limit; bound = omega arith; same = rw e' refl })
+
+pub fails_begins : (e : TextFault) (wanted limit : ℕ) (operand : Reader Term) (ks : List Lexeme) → 0 < wanted → Fails e (binary_at (wanted - 1) limit operand ks) → Fails e (binary_at wanted limit operand ks)
+unfolding binary_at
+fails_begins e zero limit operand ks lt h = absurd (omega arith)
+fails_begins e (suc low) limit operand ks lt h =
+    let is : suc low - 1 ≡ low = omega arith in
+    let h' : Fails e (binary_at low limit operand ks) = subst (λ (n : ℕ). Fails e (binary_at n limit operand ks)) is h in
+    fails_first e (binary_at low limit operand ks) (λ left. repeat limit (has_operator (suc low)) (joined_at (suc low) limit (binary_at low limit operand)) left.0 left.1) h'
+
+pub binary_zero : (wanted limit : ℕ) (operand : Reader Term) (ks : List Lexeme) → wanted ≡ 0 → binary_at wanted limit operand ks ≡ operand ks
+unfolding binary_at
+binary_zero zero limit operand ks e = refl
+binary_zero (suc low) limit operand ks e = absurd (omega arith)
+
+pub chain_goes_on : {goes : List Lexeme → Bool} {step : Term → Reader Term} {limit : ℕ} {left : Term} {ks : List Lexeme} {whole : Option (Term × List Lexeme)} {t : Term} {rest : List Lexeme}
+    → InRepeat goes step (limit - term_height left) left ks whole → goes ks ≡ true → step left ks ≡ Some (t, rest) → term_height left < term_height t → term_height t ≤ limit
+    → InRepeat goes step (limit - term_height t) t rest whole
+chain_goes_on {goes} {step} {limit} {left} {ks} {whole} {t} {rest} r h e grows fits = repeat_goes_on (limit - term_height t) r h e (omega arith)
+
+-- ---- one operator more
+
+pub joined_is : (wanted limit : ℕ) (operand : Reader Term) (left : Term) (op : BinaryOp) (right : Term) (ks more rest : List Lexeme) → operator_at wanted ks ≡ Some (op, more) → operand more ≡ Some (right, rest)
+    → term_height left < limit → term_height right < limit → joined_at wanted limit operand left ks ≡ Some (Binary op left right, rest)
+joined_is wanted limit operand left op right ks more rest o e low low' =
+    let yes : leb (term_height left + 1) limit ≡ true = le-leb _ _ (omega arith) in
+    let yes' : leb (term_height right + 1) limit ≡ true = le-leb _ _ (omega arith) in
+    rw (o, yes, e, yes') refl
+
+pub left_too_high : (wanted limit : ℕ) (operand : Reader Term) (left : Term) (op : BinaryOp) (ks more : List Lexeme) → operator_at wanted ks ≡ Some (op, more)
+    → limit ≤ term_height left → joined_at wanted limit operand left ks ≡ None
+left_too_high wanted limit operand left op ks more o high =
+    let no : leb (term_height left + 1) limit ≡ false = lt-leb _ _ (omega arith) in
+    rw (o, no) refl
+
+pub right_too_high : (wanted limit : ℕ) (operand : Reader Term) (left : Term) (op : BinaryOp) (right : Term) (ks more rest : List Lexeme) → operator_at wanted ks ≡ Some (op, more) → operand more ≡ Some (right, rest)
+    → term_height left < limit → limit ≤ term_height right → joined_at wanted limit operand left ks ≡ None
+right_too_high wanted limit operand left op right ks more rest o e low high =
+    let yes : leb (term_height left + 1) limit ≡ true = le-leb _ _ (omega arith) in
+    let no : leb (term_height right + 1) limit ≡ false = lt-leb _ _ (omega arith) in
+    rw (o, yes, e, no) refl
+
+-- ---- the first token of an operand
+
+pub unary_step : (limit : ℕ) (after_minus : Bool) (k : Lexeme) (ks : List Lexeme) → 0 < limit → unary_at limit after_minus (k ∷ ks) ≡ given (unary_of k) (λ op. signed_at op (unary_at (limit - 1) (is_minus op)) ks) (post_at limit after_minus (k ∷ ks))
+unfolding unary_at post_at
+unary_step zero after_minus k ks lt = absurd (omega arith)
+unary_step (suc limit) after_minus k ks lt =
+    let is : suc limit - 1 ≡ limit = omega arith in
+    rw is refl
+
+pub unary_nothing : (limit : ℕ) (after_minus : Bool) (tokens : List Token) → length tokens ≡ 0 → unary_at limit after_minus (lexemes tokens) ≡ None
+unfolding unary_at
+unary_nothing zero after_minus tokens h = refl
+unary_nothing (suc limit) after_minus [] h = refl
+unary_nothing (suc limit) after_minus (t ∷ ts) h = absurd (omega arith)
+
+pub unary_zero : (limit : ℕ) (after_minus : Bool) (ks : List Lexeme) → limit ≡ 0 → unary_at limit after_minus ks ≡ None
+unfolding unary_at
+unary_zero zero after_minus ks e = refl
+unary_zero (suc limit) after_minus ks e = absurd (omega arith)

@@ -1,0 +1,10 @@
+pub mod Signs
+pub mod Repeats
+pub mod Shrinks
+pub mod Onto
+pub mod Lists
+pub mod Chains
+pub mod Posts
+pub mod Rows
+pub mod TermsRead
+pub mod TermsAgain

@@ -1,0 +1,19 @@
+-- Lists in trees.
+use Rattle.std.proofs.Common.{◌≡◌, max, List, [], ◌∷◌, ◌++◌, refl, ap, arith, map}
+use Rattle.ls_tree.specs.declared.tree.Expr.{Expr}
+use Rattle.ls_tree.specs.Trees as trees
+use Rattle.ls_tree.specs.Trees.{Text, Term, Terms, MoreTerms, listed}
+use Rattle.ls_tree.specs.WellFormed.{term_height, terms_height, value_height, declarators_height}
+use Rattle.ls_tree.specs.Views.{bare, terms_of}
+
+pub map_push : {A B : Type 0} (f : A → B) (xs : List A) (x : A) → map f (xs ++ x ∷ []) ≡ map f xs ++ f x ∷ []
+map_push f [] x = refl
+map_push {B = B} f (y ∷ ys) x = ap (λ (l : List B). f y ∷ l) (map_push f ys x)
+
+pub terms_height_push : (es : List Expr) (e : Expr) → terms_height (terms_of (es ++ e ∷ [])) ≡ max (terms_height (terms_of es)) (term_height (bare e))
+terms_height_push [] e = omega arith
+terms_height_push (x ∷ es) e = omega (arith, terms_height_push es e)
+
+pub declarators_height_push : (ds : List trees.Declarator) (d : trees.Declarator) → declarators_height (ds ++ d ∷ []) ≡ max (declarators_height ds) (value_height d.value)
+declarators_height_push [] d = omega arith
+declarators_height_push (x ∷ ds) d = omega (arith, declarators_height_push ds d)

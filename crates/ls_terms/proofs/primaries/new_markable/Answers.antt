@@ -1,0 +1,5 @@
+use Rattle.ls_spelling.proofs.Rows.{new_markable_bare}
+use Rattle.ls_terms.proofs.primaries.new_markable.Goals as goal
+
+pub returns : goal.returns
+returns c = new_markable_bare c.args.class c.args.arguments c.args.span

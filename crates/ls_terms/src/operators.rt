@@ -1,0 +1,108 @@
+// Operators.
+
+ghost use Rattle.std.specs.Prelude.{◌≡◌, ◌-◌, ◌<◌, IfOk, Some};
+ghost use Rattle.ls_lexer.specs.Lexemes.{lexeme_of, lexemes};
+ghost use Rattle.ls_tree.specs.Trees.{Binary};
+ghost use Rattle.ls_tree.specs.WellFormed.{rank_of};
+ghost use Rattle.ls_tree.specs.Views.{bare};
+ghost use Rattle.ls_terms.specs.Answers.{Finds};
+ghost use Rattle.ls_terms.specs.ReadingTerms.{operator_of_sign, operator_at, has_operator, unary_of};
+
+use crate::tokens::{Context, two_boxed};
+use ls_lexer::fault::TextFault;
+use ls_lexer::sign::Sign;
+use ls_lexer::token::{Span, Token, TokenKind};
+use ls_lexer::word::Word;
+use ls_tree::tree::{BinaryOp, Expr, UnaryOp};
+use std::alloc::AllocError;
+
+// ---- operators
+
+pub fn operator_of(sign: Sign) -> Option<BinaryOp>
+    ensures { result ≡ operator_of_sign sign }
+{
+    match sign {
+        Sign::Or => Some(BinaryOp::Or),
+        Sign::And => Some(BinaryOp::And),
+        Sign::Equal => Some(BinaryOp::Equal),
+        Sign::NotEqual => Some(BinaryOp::NotEqual),
+        Sign::Less => Some(BinaryOp::Less),
+        Sign::Greater => Some(BinaryOp::Greater),
+        Sign::LessEqual => Some(BinaryOp::LessEqual),
+        Sign::GreaterEqual => Some(BinaryOp::GreaterEqual),
+        Sign::Plus => Some(BinaryOp::Add),
+        Sign::Minus => Some(BinaryOp::Subtract),
+        Sign::Star => Some(BinaryOp::Multiply),
+        Sign::Slash => Some(BinaryOp::Divide),
+        Sign::Percent => Some(BinaryOp::Remainder),
+        _ => None,
+    }
+}
+
+// How loosely it binds: 6 most loosely.
+pub fn rank(op: BinaryOp) -> usize
+    ensures { result ≡ rank_of op }
+{
+    match op {
+        BinaryOp::Or => 6,
+        BinaryOp::And => 5,
+        BinaryOp::Equal | BinaryOp::NotEqual => 4,
+        BinaryOp::Less | BinaryOp::Greater | BinaryOp::LessEqual | BinaryOp::GreaterEqual => 3,
+        BinaryOp::Add | BinaryOp::Subtract => 2,
+        BinaryOp::Multiply | BinaryOp::Divide | BinaryOp::Remainder => 1,
+    }
+}
+
+pub fn operator_part<'t, 'a>(
+    tokens: &'t [Token<'a>],
+    wanted: usize,
+) -> Option<(BinaryOp, &'t [Token<'a>])>
+    ensures { Finds (λ x. (x.0, lexemes x.1.now)) result (operator_at wanted (lexemes tokens.now)) }
+{
+    match tokens {
+        [token, rest @ ..] => match token.kind {
+            TokenKind::Sign(sign) => {
+                let op = operator_of(sign)?;
+                if rank(op) == wanted {
+                    Some((op, rest))
+                } else {
+                    None
+                }
+            }
+            _ => None,
+        },
+        [] => None,
+    }
+}
+
+pub fn has_operator(tokens: &[Token], wanted: usize) -> bool
+    ensures { result ≡ has_operator wanted (lexemes tokens.now) }
+{
+    operator_part(tokens, wanted).is_some()
+}
+
+pub fn unary_op(kind: TokenKind) -> Option<UnaryOp>
+    ensures { result ≡ unary_of (lexeme_of kind.entry) }
+{
+    match kind {
+        TokenKind::Sign(Sign::Minus) => Some(UnaryOp::Minus),
+        TokenKind::Sign(Sign::Not) => Some(UnaryOp::Not),
+        _ => None,
+    }
+}
+
+pub fn join(context: Context, op: BinaryOp, left: Expr, right: Expr) -> Result<Expr, AllocError>
+    ensures { IfOk result (λ t. bare t ≡ Binary op (bare left) (bare right)) }
+{
+    let span = Span {
+        start: left.span().start,
+        end: right.span().end,
+    };
+    let (left, right) = two_boxed(context.alloc, left, right)?;
+    Ok(Expr::Binary {
+        op,
+        left,
+        right,
+        span,
+    })
+}

@@ -1,0 +1,110 @@
+// What an expression begins by, and its suffixes, as far as no expression stands in it.
+
+ghost use Rattle.std.specs.Prelude.{◌≡◌, ◌-◌, ◌<◌, IfOk};
+ghost use Rattle.ls_lexer.specs.Lexemes.{lexemes};
+ghost use Rattle.ls_tree.specs.Trees.{NewArray, New, NewMarkable};
+ghost use Rattle.ls_tree.specs.WellFormed.{term_height, is_new_array};
+ghost use Rattle.ls_tree.specs.Views.{name_text, bare, bare_target, call_of, terms_of};
+ghost use Rattle.ls_terms.specs.Answers.{Gives};
+ghost use Rattle.ls_terms.specs.Reading.{is_markable};
+ghost use Rattle.ls_terms.specs.ReadingTerms.{has_suffix, is_largest, number_here, class_at};
+
+use crate::tokens::{Context, Part, Read, closed, expect, name, starts_with};
+use ls_lexer::fault::TextFault;
+use ls_lexer::sign::Sign;
+use ls_lexer::token::{Span, Token};
+use ls_lexer::word::Word;
+use ls_tree::tree::{Expr, Name};
+use std::alloc::AllocError;
+
+// ---- what stands behind a primary
+
+pub fn has_suffix(tokens: &[Token]) -> bool
+    ensures { result ≡ has_suffix (lexemes tokens.now) }
+{
+    starts_with(tokens, Sign::Dot) || starts_with(tokens, Sign::OpenBracket)
+}
+
+pub fn is_new_array(tree: &Expr) -> bool
+    ensures { result ≡ is_new_array (bare tree.now) }
+{
+    matches!(tree, Expr::NewArray { .. })
+}
+
+pub fn called(target: Option<Box<Expr>>, name: Name, arguments: Vec<Expr>, span: Span) -> Expr
+    ensures { bare result ≡ call_of (bare_target target) (name_text name) (terms_of arguments.items) }
+{
+    Expr::Call {
+        target,
+        name,
+        arguments,
+        span,
+    }
+}
+
+// ---- primaries
+
+pub fn is_largest(text: &str) -> bool
+    ensures { result ≡ is_largest text.now }
+{
+    text == "2147483648"
+}
+
+pub fn is_markable(text: &str) -> bool
+    ensures { result ≡ is_markable text.now }
+{
+    text == "AtomicMarkableReference"
+}
+
+pub fn number<'t, 'a>(
+    context: Context,
+    text: &'a str,
+    span: Span,
+    rest: &'t [Token<'a>],
+    after_minus: bool,
+) -> Result<Part<'t, 'a, Expr>, TextFault>
+    ensures read { Gives (λ p. (bare p.tree, lexemes p.rest.now)) result (number_here after_minus text.now (lexemes rest.now)) }
+    ensures height { IfOk result (λ p. (p.height ≡ term_height (bare p.tree)) × (p.height ≡ 1)) }
+{
+    if !after_minus && is_largest(text) {
+        return Err(TextFault::BadNumber { at: span.start });
+    }
+    let text = String::from_str(context.alloc, text)?;
+    Ok(Part {
+        tree: Expr::Number { text, span },
+        height: 1,
+        rest,
+    })
+}
+
+/// A name between `<` and `>`.
+pub fn class_name<'t, 'a>(
+    context: Context,
+    tokens: &'t [Token<'a>],
+) -> Result<Read<'t, 'a, Name>, TextFault>
+    ensures { Gives (λ n. (name_text n.tree, lexemes n.rest.now)) result (class_at (lexemes tokens.now)) }
+{
+    let open = expect(context, tokens, Sign::Less)?;
+    let name = name(context, open)?;
+    closed(context, name, Sign::Greater)
+}
+
+pub fn new_object(class: Name, arguments: Vec<Expr>, span: Span) -> Expr
+    ensures { bare result ≡ New (name_text class) (terms_of arguments.items) }
+{
+    Expr::New {
+        class,
+        arguments,
+        span,
+    }
+}
+
+pub fn new_markable(class: Name, arguments: Vec<Expr>, span: Span) -> Expr
+    ensures { bare result ≡ NewMarkable (name_text class) (terms_of arguments.items) }
+{
+    Expr::NewMarkable {
+        class,
+        arguments,
+        span,
+    }
+}
