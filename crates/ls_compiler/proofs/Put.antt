@@ -1,8 +1,11 @@
 -- What an image of these parts is.
-use Rattle.std.proofs.Common.{◌≡◌, sym, subst, Some, Ok}
+use Rattle.std.proofs.Common.{◌≡◌, sym, subst, Some, Ok, Err}
+use Rattle.std.specs.Prelude.{IsErrOf}
 use Rattle.ls_tree.specs.FileView.{bare_file}
-use Rattle.ls_parser.specs.Spells.{TextSpells}
+use Rattle.ls_spelling.specs.Spells.{TextSpells}
 use Rattle.ls_tree.specs.declared.tree.ClassFile.{ClassFile}
+use Rattle.ls_lexer.specs.declared.fault.TextFault.{TextFault}
+use Rattle.ls_lexer.specs.declared.fault.TextFault.TheVariants as text
 use Rattle.ls_checked.specs.PlainProgram.{plain_program}
 use Rattle.ls_checked.specs.declared.program.Program.{Program}
 use Rattle.ls_code.specs.Code.{Code}
@@ -16,6 +19,9 @@ use Rattle.ls_linker.specs.Limits.{KeepsLimits}
 use Rattle.ls_linker.specs.Runs.{Runs}
 use Rattle.ls_compiler.specs.Images.{Compiles, IsWithinLimits, checked_of, program_of_image, code_of_image}
 use Rattle.ls_compiler.specs.declared.image.Image.{Image}
+
+pub err_of : (f : TextFault) → IsErrOf (Err f) text.TooLong → f ≡ text.TooLong
+err_of f e = cc
 
 pub compiled : (classes text : Text) (parsed : ClassFile) (checked : Checked) (program : Program) (code : Code) (image : Image) →
     checked_of image ≡ checked → program_of_image image ≡ program → code_of_image image ≡ code →

@@ -1,10 +1,11 @@
 -- What an image shows, what a compiled image owes its two texts, and what a refusal says of them.
 use Rattle.std.specs.Prelude.{◌≡◌, Some, Result, Ok, Err}
 use Rattle.ls_lexer.specs.declared.fault.TextFault.{TextFault}
-use Rattle.ls_parser.specs.Answers.{Refuses}
+use Rattle.ls_terms.specs.Answers.{Refuses}
 use Rattle.ls_tree.specs.FileView.{bare_file}
 use Rattle.ls_tree.specs.Trees.{File as ParsedFile}
-use Rattle.ls_parser.specs.Spells.{TextSpells}
+use Rattle.ls_spelling.specs.Spells.{TextSpells}
+use Rattle.ls_parser.specs.Comes.{Comes}
 use Rattle.ls_tree.specs.declared.tree.ClassFile.{ClassFile}
 use Rattle.ls_checked.specs.CheckedProgram.{Program as PlainProgram}
 use Rattle.ls_checked.specs.PlainProgram.{plain_program}
@@ -51,12 +52,13 @@ pub record Compiles (classes program : Text) (image : Image) : Type 0 where
 abbrev pub IsWithinLimits : Image → Type 0
 IsWithinLimits image = KeepsLimits (outcome_of (checked_of image)).file (plain_program (program_of_image image))
 
--- The texts are compiled, or the fault says of them what their layer's fault says: that the class text spells no file, that
+-- The texts are compiled, or the fault says of them what their layer's fault says: that the class text spells no file, and then each
+-- fault of its only where it may come, that
 -- the file it spells breaks the rule that is named, that the program text is no program of that file, or that the two go
 -- past the limit of the code that is named. Want of memory says nothing.
 pub data CompilesTo (classes program : Text) : Result Image CompileFault → Type 0 where
   Compiled : (image : Image) → Compiles classes program image → CompilesTo classes program (Ok image)
-  NoFile : (f : TextFault) → Refuses f ((file : ParsedFile) → TextSpells file classes → ⊥) → CompilesTo classes program (Err (faults.Text f))
+  NoFile : (f : TextFault) → Refuses f ((file : ParsedFile) → TextSpells file classes → ⊥) → Comes classes f → CompilesTo classes program (Err (faults.Text f))
   Breaks : (parsed : ClassFile) (f : CheckFault) →
       TextSpells (bare_file parsed) classes → Names f (elaborated (placed_file parsed)) →
       CompilesTo classes program (Err (faults.Check f))

@@ -1,6 +1,7 @@
 pub mod ReadingActions
 pub mod ReadingClasses
 pub mod Laws
+pub mod Comes
 pub use Rattle.ls_spelling.specs.Spelling
 pub use Rattle.ls_spelling.specs.Spells
 pub use Rattle.ls_spelling.specs.Kinds

@@ -2,7 +2,7 @@
 use Rattle.std.specs.Prelude.{◌≡◌, ℕ, List, Ok, Err}
 use Rattle.ls_tree.specs.declared.tree.ClassFile.{ClassFile}
 use Rattle.ls_tree.specs.FileView.{bare_file}
-use Rattle.ls_parser.specs.Spells.{TextSpells}
+use Rattle.ls_spelling.specs.Spells.{TextSpells}
 use Rattle.ls_elaboration.specs.Trees.{File}
 use Rattle.ls_elaboration.specs.Elaborated.{Elaborated}
 use Rattle.ls_elaboration.specs.Elaboration.{elaborated}

@@ -1,13 +1,14 @@
 -- What `source` may answer.
 use Rattle.std.proofs.Common.{◌≡◌, ◌∙◌, ap, sym, subst, refl, ℕ, List, [], ◌∷◌, map, Some, Result, Ok, Err}
-use Rattle.std.specs.Prelude.{string_bytes, String}
+use Rattle.std.specs.Prelude.{string_bytes, String, IsErrOf}
 use Rattle.std.specs.Global.{Global}
 use Rattle.ls_lexer.specs.declared.fault.TextFault.{TextFault}
 use Rattle.ls_lexer.specs.declared.fault.TextFault.TheVariants as text
 use Rattle.ls_tree.specs.Trees.{File as ParsedFile}
 use Rattle.ls_tree.specs.FileView.{bare_file}
-use Rattle.ls_parser.specs.Spells.{TextSpells}
-use Rattle.ls_parser.specs.Answers.{Refuses}
+use Rattle.ls_spelling.specs.Spells.{TextSpells}
+use Rattle.ls_terms.specs.Answers.{Refuses}
+use Rattle.ls_parser.specs.Comes.{Comes}
 use Rattle.ls_tree.specs.declared.tree.ClassFile.{ClassFile}
 use Rattle.ls_checked.specs.CheckedTree.{File}
 use Rattle.ls_checked.specs.CheckedProgram.{Program}
@@ -56,14 +57,17 @@ wider May May' (Err fault.NotText) h g = h (Err fault.NotText) g
 wider May May' (Err fault.ReadFailed) h g = h (Err fault.ReadFailed) g
 wider May May' (Err fault.WriteFailed) h g = h (Err fault.WriteFailed) g
 
-pub text_fails : (c p s : Text) (f : TextFault) → Refuses f ((file : ParsedFile) → TextSpells file c → ⊥) → Gives (SourcesTo c p s) (Failed (lifted_text f))
-text_fails c p s text.Memory r = tt
-text_fails c p s text.TooLong r = NoFile text.TooLong r
-text_fails c p s (text.BadByte at) r = NoFile (text.BadByte at) r
-text_fails c p s (text.OpenComment at) r = NoFile (text.OpenComment at) r
-text_fails c p s (text.BadNumber at) r = NoFile (text.BadNumber at) r
-text_fails c p s (text.Syntax at) r = NoFile (text.Syntax at) r
-text_fails c p s (text.TooDeep at) r = NoFile (text.TooDeep at) r
+pub err_of : (f : TextFault) → IsErrOf (Err f) text.TooLong → f ≡ text.TooLong
+err_of f e = cc
+
+pub text_fails : (c p s : Text) (f : TextFault) → Refuses f ((file : ParsedFile) → TextSpells file c → ⊥) → Comes c f → Gives (SourcesTo c p s) (Failed (lifted_text f))
+text_fails c p s text.Memory r m = tt
+text_fails c p s text.TooLong r m = NoFile text.TooLong r m
+text_fails c p s (text.BadByte at) r m = NoFile (text.BadByte at) r m
+text_fails c p s (text.OpenComment at) r m = NoFile (text.OpenComment at) r m
+text_fails c p s (text.BadNumber at) r m = NoFile (text.BadNumber at) r m
+text_fails c p s (text.Syntax at) r m = NoFile (text.Syntax at) r m
+text_fails c p s (text.TooDeep at) r m = NoFile (text.TooDeep at) r m
 
 pub check_fails : (c p s : Text) (parsed : ClassFile) (f : CheckFault) → TextSpells (bare_file parsed) c → Names f (elaborated (placed_file parsed)) → Gives (SourcesTo c p s) (Failed (lifted_check f))
 check_fails c p s parsed rule.Memory t n = tt

@@ -3,8 +3,9 @@ use Rattle.std.specs.Prelude.{◌≡◌, ℕ, List, map, Some, None, Result, Ok,
 use Rattle.ls_lexer.specs.declared.fault.TextFault.{TextFault}
 use Rattle.ls_tree.specs.Trees.{File as ParsedFile}
 use Rattle.ls_tree.specs.FileView.{bare_file}
-use Rattle.ls_parser.specs.Spells.{TextSpells}
-use Rattle.ls_parser.specs.Answers.{Refuses}
+use Rattle.ls_spelling.specs.Spells.{TextSpells}
+use Rattle.ls_parser.specs.Comes.{Comes}
+use Rattle.ls_terms.specs.Answers.{Refuses}
 use Rattle.ls_tree.specs.declared.tree.ClassFile.{ClassFile}
 use Rattle.ls_checked.specs.CheckedTree.{File}
 use Rattle.ls_checked.specs.CheckedProgram.{Program}
@@ -39,7 +40,7 @@ pub data RunsTo (o : Outcome) (program schedule : Text) : Result Text ToolFault 
   NoProgram : (f : ProgramFault) → program_of o program ≡ None → RunsTo o program schedule (Err (lifted_program f))
 
 -- The class part spells a file that keeps every rule, and the answer is that of its program and schedule; or it spells
--- one that breaks the rule that is named; or it spells none.
+-- one that breaks the rule that is named; or it spells none, and the fault is one that may come of it.
 pub data SourcesTo (classes program schedule : Text) : Result Text ToolFault → Type 0 where
   Checks : (parsed : ClassFile) (o : Outcome) (answer : Result Text ToolFault) →
       TextSpells (bare_file parsed) classes → elaborated (placed_file parsed) ≡ Ok o → RunsTo o program schedule answer →
@@ -48,5 +49,5 @@ pub data SourcesTo (classes program schedule : Text) : Result Text ToolFault →
       TextSpells (bare_file parsed) classes → Names f (elaborated (placed_file parsed)) →
       SourcesTo classes program schedule (Err (lifted_check f))
   NoFile : (f : TextFault) →
-      Refuses f ((file : ParsedFile) → TextSpells file classes → ⊥) →
+      Refuses f ((file : ParsedFile) → TextSpells file classes → ⊥) → Comes classes f →
       SourcesTo classes program schedule (Err (lifted_text f))

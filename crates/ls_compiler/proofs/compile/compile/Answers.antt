@@ -13,7 +13,7 @@ use Rattle.ls_linker.specs.Runs.{Runs}
 use Rattle.std.proofs.lemmas.Result.{err_from_is_err_and}
 use Rattle.ls_linker.specs.Limits.{KeepsLimits, GoesPast}
 use Rattle.ls_compiler.specs.Images.{Compiled, NoFile, Breaks, NoProgram, PastLimit}
-use Rattle.ls_compiler.proofs.Put.{compiled, limited}
+use Rattle.ls_compiler.proofs.Put.{compiled, limited, err_of}
 use Rattle.ls_compiler.proofs.compile.compile.Goals as goal
 
 pub build-requires-clause-typed : goal.build-requires-clause-typed
@@ -77,7 +77,7 @@ returns-clause-refused c = Compiled c.new.result (returns-clause-compiled c)
 pub returns-in_err-parsed-clause-refused : goal.returns-in_err-parsed-clause-refused
 returns-in_err-parsed-clause-refused c =
     let p = err_from_is_err_and c.from_residual.result c.from_residual.ensures.1 in
-    rw (p.1, p.2) (NoFile c.in_err-parsed.field-0.0 c.in_err-parsed.ensures.refused)
+    rw (p.1, p.2) (NoFile c.in_err-parsed.field-0.0 c.in_err-parsed.ensures.refused (record { may = c.in_err-parsed.ensures.comes; long = λ l. err_of c.in_err-parsed.field-0.0 (c.in_err-parsed.ensures.long l) }))
 
 pub returns-in_err-checked-clause-refused : goal.returns-in_err-checked-clause-refused
 returns-in_err-checked-clause-refused c =

@@ -1,12 +1,13 @@
 use Rattle.std.proofs.lemmas.Result.{err_from_is_err_and}
 use Rattle.ls_types.specs.CheckedFile.{outcome_of}
-use Rattle.ls_tool.proofs.SourceLemmas.{check_fails, checked_runs, text_fails}
+use Rattle.ls_tool.proofs.SourceLemmas.{check_fails, checked_runs, text_fails, err_of}
 use Rattle.ls_tool.proofs.source.source.Goals as goal
 
 pub returns-in_err-parsed : goal.returns-in_err-parsed
 returns-in_err-parsed c =
     let p = err_from_is_err_and c.from_residual.result c.from_residual.ensures.1 in
-    rw (p.1, p.2) (text_fails c.args.classes.now c.args.program.now c.args.schedule.now c.in_err-parsed.field-0.0 c.in_err-parsed.ensures.refused)
+    rw (p.1, p.2) (text_fails c.args.classes.now c.args.program.now c.args.schedule.now c.in_err-parsed.field-0.0 c.in_err-parsed.ensures.refused
+    (record { may = c.in_err-parsed.ensures.comes; long = λ l. err_of c.in_err-parsed.field-0.0 (c.in_err-parsed.ensures.long l) }))
 
 pub returns-in_err-checked : goal.returns-in_err-checked
 returns-in_err-checked c =
