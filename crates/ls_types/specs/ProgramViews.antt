@@ -12,8 +12,8 @@ use Rattle.ls_types.specs.declared.reading.Stage.{Stage}
 use Rattle.ls_types.specs.declared.reading.Stage.TheVariants as stages
 use Rattle.ls_types.specs.declared.reading.Parts.{Parts}
 use Rattle.ls_types.specs.declared.reading.Reading.{Reading}
-use Rattle.ls_types.specs.ProgramCalls as calls
-use Rattle.ls_types.specs.ThreadPrograms as programs
+use Rattle.ls_programs.specs.ProgramCalls as calls
+use Rattle.ls_programs.specs.ThreadPrograms as programs
 
 abbrev pub callee_of : Callee → calls.Callee
 callee_of (callees.Maker name class class_name) = calls.Maker name.now class class_name.now

@@ -5,7 +5,7 @@ ghost use Rattle.ls_checked.specs.PlainProgram.{plain_name, plain_call};
 ghost use Rattle.ls_elaboration.specs.Known.{number_of};
 ghost use Rattle.ls_elaboration.specs.Tables.{method_sign_of};
 ghost use Rattle.ls_types.specs.CheckedFile.{outcome_of, names_of};
-ghost use Rattle.ls_types.specs.ProgramCalls.{setup_named as the_setup_named, maker as the_maker, is_plain as the_plain, method_on as the_method_on, called_on as the_called_on, fits as the_fits, with_argument as the_with_argument, is_full as the_full, plain_number as the_plain_number, minus_number as the_minus_number, call_of as the_call_of, names_after as the_names_after};
+ghost use Rattle.ls_programs.specs.ProgramCalls.{setup_named as the_setup_named, maker as the_maker, is_plain as the_plain, method_on as the_method_on, called_on as the_called_on, fits as the_fits, with_argument as the_with_argument, is_full as the_full, plain_number as the_plain_number, minus_number as the_minus_number, call_of as the_call_of, names_after as the_names_after};
 ghost use Rattle.ls_types.specs.ProgramViews.{callee_of, pending_of, reads_pending};
 
 use crate::check::Checked;

@@ -7,7 +7,7 @@ ghost use Rattle.ls_elaboration.specs.Trees.{Text};
 ghost use Rattle.ls_elaboration.specs.Elaboration.{Outcome};
 ghost use Rattle.ls_checked.specs.PlainProgram.{plain_program};
 ghost use Rattle.ls_types.specs.CheckedFile.{outcome_of};
-ghost use Rattle.ls_types.specs.ThreadPrograms.{after, beginning as the_beginning, whole as the_whole, program_of, program_of_tokens};
+ghost use Rattle.ls_programs.specs.ThreadPrograms.{after, beginning as the_beginning, whole as the_whole, program_of, program_of_tokens};
 ghost use Rattle.ls_types.specs.ProgramViews.{reading_of, reads_on, reads_program, Refuses};
 
 use crate::check::Checked;

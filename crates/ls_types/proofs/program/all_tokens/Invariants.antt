@@ -1,7 +1,7 @@
 use Rattle.std.proofs.Common.{◌≡◌, drop, Some}
 use Rattle.ls_lexer.specs.Lexemes.{lexemes}
 use Rattle.ls_types.specs.CheckedFile.{outcome_of}
-use Rattle.ls_types.specs.ThreadPrograms.{after, beginning}
+use Rattle.ls_programs.specs.ThreadPrograms.{after, beginning}
 use Rattle.ls_types.specs.ProgramViews.{reading_of}
 use Rattle.ls_types.proofs.program.all_tokens.Given as goal
 

@@ -6,7 +6,7 @@ use Rattle.ls_events.specs.declared.value.ValueType.{ValueType}
 use Rattle.ls_events.specs.declared.value.ValueType.TheVariants as types
 use Rattle.ls_checked.specs.CheckedProgram.{SetupName, ProgramCall, Making, Calling}
 use Rattle.ls_elaboration.specs.Trees.{Text}
-use Rattle.ls_elaboration.specs.Known.{ClassSign, MethodSign, number_of, method_named, methods_in, parameters_in}
+use Rattle.ls_elaboration.specs.Known.{MethodSign, method_named, methods_in, parameters_in}
 use Rattle.ls_elaboration.specs.TypedExpressions.{digits_value}
 use Rattle.ls_elaboration.specs.Elaboration.{Outcome}
 
