@@ -47,7 +47,7 @@ later_block before h = by (nat_lt (length before) 1) refl
 same_cons : {A : Type 0} (x y : A) (xs ys : List A) → x ∷ xs ≡ y ∷ ys → (x ≡ y) × (xs ≡ ys)
 same_cons x y xs ys e = (cc, cc)
 
-type_fits : (t : ValueType) (v : Value) → type_of v ≡ Some t → fits (Some t) v ≡ true
+pub type_fits : (t : ValueType) (v : Value) → type_of v ≡ Some t → fits (Some t) v ≡ true
 type_fits t (values.Int z) e = subst (λ u. fits (Some u) (values.Int z) ≡ true) (same_some types.Int t e) refl
 type_fits t (values.Boolean b) e = subst (λ u. fits (Some u) (values.Boolean b) ≡ true) (same_some types.Boolean t e) refl
 type_fits t (values.Reference n) e = absurd (some_none t e)
@@ -205,7 +205,7 @@ module _ (o : Outcome) where
       by (inl h) = subst (λ (u : SetupName). setup_named (names ++ s ∷ []) u.name ≡ Some n) h.1 (named_end names s new ∙ ap (λ i. Some i) (sym h.0))
       by (inr h) = named_front names (s ∷ []) t.name n (found n t h)
 
-  result_plain : (r : Option ValueType) → IsPlain r → is_plain r ≡ true
+  pub result_plain : (r : Option ValueType) → IsPlain r → is_plain r ≡ true
   result_plain None h = refl
   result_plain (Some types.Int) h = refl
   result_plain (Some types.Boolean) h = refl

@@ -375,7 +375,7 @@ module _ (o : Outcome) (f : Parts) where
       record { rest = ks; tokens = ap (λ x. x ∷ ks) (sign_is signs.OpenBrace k g.0); after = g.1 }
 
   -- a word that is no reserved one
-  word_named : (text : Text) (k : Lexeme) → is_text text (name_in k) ≡ true → k ≡ Named text
+  pub word_named : (text : Text) (k : Lexeme) → is_text text (name_in k) ≡ true → k ≡ Named text
   word_named text (Named t) e = ap (λ y. Named y) (same_bytes t text e)
   word_named text (Numeral t) e = absurd (no_truth e)
   word_named text (Reserved w) e = absurd (no_truth e)

@@ -1,8 +1,10 @@
 -- Whole texts.
-use Rattle.std.proofs.Common.{◌≡◌, suc, ◌≤◌, refl, sym, ◌∙◌, subst, ap, Bool, true, false, List, [], ◌∷◌, length, Option, Some, None, nat_le, leb-true, lit≤, arith, if◌then◌else◌, codes}
+use Rattle.std.specs.Prelude.{slice_get}
+use Rattle.std.proofs.Common.{◌≡◌, ℕ, suc, ◌≤◌, refl, sym, ◌∙◌, subst, ap, Bool, true, false, List, [], ◌∷◌, length, Option, Some, None, nat_le, leb-true, lit≤, arith, if◌then◌else◌, codes}
 use Rattle.std.proofs.lemmas.Bool.{le-leb}
 use Rattle.ls_lexer.specs.declared.sign.Sign.TheVariants as signs
 use Rattle.ls_lexer.specs.Lexemes.{Lexeme, Named, Marked}
+use Rattle.ls_lexer.specs.Formed.{IsFormed}
 use Rattle.ls_lexer.specs.Tokens.{tokens_of}
 use Rattle.ls_lexer.proofs.FormedLaws.{tokens_are_formed}
 use Rattle.ls_checked.specs.CheckedProgram.{SetupName, ProgramCall, ThreadProgram, Program}
@@ -13,6 +15,7 @@ use Rattle.ls_programs.specs.ThreadPrograms.{Stage, Parts, Reading, at, after, e
 use Rattle.ls_programs.specs.Spelled as spelled
 use Rattle.ls_programs.specs.Spelled.{Spells, Threads}
 use Rattle.ls_programs.specs.Programs.{AreCallsOf, AreThreadsOf, IsProgramOf, IsTextOf}
+use Rattle.ls_programs.specs.Faults.{AreWhole}
 use Rattle.ls_programs.specs.Laws.{ReadsWhatIsSpelled, OneProgram}
 use Rattle.ls_programs.proofs.Pieces.{no_truth, some_none, same_some}
 use Rattle.ls_programs.proofs.Rest.{RestAfter, RestCalls, rest_is}
@@ -24,18 +27,15 @@ ended_is _ e = absurd (no_truth e)
 
 -- ---- what is read is spelled
 
-read_spells : (o : Outcome) (text : Text) (f : Parts) (ks : List Lexeme) → length text ≤ 262144 → tokens_of text ≡ Some ks
-    → after o (Some beginning) ks ≡ Some (at f ThreadPrograms.AtThread) → IsTextOf o (record { names = f.names; threads = f.threads }) text
-read_spells o text f ks short lexed e =
-    let a : RestAfter (Named (codes "setup")) (RestAfter (Marked signs.OpenBrace) (RestCalls o f beginning.parts)) ks = rest_is o f beginning.parts ThreadPrograms.AtSetup ks (tokens_are_formed text ks lexed) e in
+pub tokens_spell : (o : Outcome) (f : Parts) (ks : List Lexeme) → ((i : ℕ) (k : Lexeme) → slice_get ks i ≡ Some k → IsFormed k)
+    → after o (Some beginning) ks ≡ Some (at f ThreadPrograms.AtThread) → AreWhole o (record { names = f.names; threads = f.threads }) ks
+tokens_spell o f ks formed e =
+    let a : RestAfter (Named (codes "setup")) (RestAfter (Marked signs.OpenBrace) (RestCalls o f beginning.parts)) ks = rest_is o f beginning.parts ThreadPrograms.AtSetup ks formed e in
     let h : RestCalls o f beginning.parts a.after.rest = a.after.after in
     let tokens : ks ≡ Named (codes "setup") ∷ Marked signs.OpenBrace ∷ a.after.rest = a.tokens ∙ ap (λ ls. Named (codes "setup") ∷ ls) a.after.tokens in
     let t : ThreadProgram = record { name = codes "setup"; calls = h.all } in
     let calls : spelled.Calls true f.names h.all a.after.rest h.rest = subst (λ cs. spelled.Calls true f.names cs a.after.rest h.rest) (sym h.joined) h.spelled in
     record {
-      short = short;
-      tokens = ks;
-      lexed = lexed;
       spelled = subst (λ ls. Spells (record { names = f.names; threads = f.threads }) ls) (sym tokens)
           (subst (λ ts. Spells (record { names = f.names; threads = ts }) (Named (codes "setup") ∷ Marked signs.OpenBrace ∷ a.after.rest)) (sym h.after.parts) (spelled.Whole calls h.after.spelled));
       program = record {
@@ -51,6 +51,12 @@ read_spells o text f ks short lexed e =
   where
     at_most : (all ts : List ThreadProgram) → length all ≡ suc (length ts) → length all ≤ 17 → length ts ≤ 16
     at_most all ts e h = omega (arith, e, h)
+
+read_spells : (o : Outcome) (text : Text) (f : Parts) (ks : List Lexeme) → length text ≤ 262144 → tokens_of text ≡ Some ks
+    → after o (Some beginning) ks ≡ Some (at f ThreadPrograms.AtThread) → IsTextOf o (record { names = f.names; threads = f.threads }) text
+read_spells o text f ks short lexed e =
+    let h = tokens_spell o f ks (tokens_are_formed text ks lexed) e in
+    record { short = short; tokens = ks; lexed = lexed; spelled = h.spelled; program = h.program }
 
 reads : (o : Outcome) (text : Text) (p : Program) → program_of o text ≡ Some p → IsTextOf o p text
 reads o text p e = by_length (nat_le (length text) 262144) refl e

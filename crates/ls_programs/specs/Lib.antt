@@ -4,3 +4,5 @@ pub mod ProgramCalls
 pub mod ThreadPrograms
 pub mod Laws
 pub mod Faults
+pub mod Refusals
+pub mod Stops
