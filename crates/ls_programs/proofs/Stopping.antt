@@ -1,6 +1,6 @@
 -- Where the reading stops, the fault that is answered stands.
-use Rattle.std.proofs.Common.{◌≡◌, ℕ, zero, suc, ◌<◌, ◌≤◌, refl, sym, ◌∙◌, subst, ap, map, Bool, true, false, not, ◌&&◌, ◌||◌, List, [], ◌∷◌, ◌++◌, append_assoc, length, length-append, Option, Some, None, nat_lt, nat_le, ltb-true, arith, if◌then◌else◌, bytes_eq, codes, pos, ◌==◌}
-use Rattle.std.proofs.lemmas.Bool.{lt-ltb, le-leb, eq-eqb}
+use Rattle.std.proofs.Common.{◌≡◌, ℕ, zero, suc, ◌<◌, ◌≤◌, refl, sym, ◌∙◌, subst, ap, Bool, true, false, not, ◌&&◌, List, [], ◌∷◌, ◌++◌, append_assoc, length, length-append, Option, Some, None, nat_lt, nat_le, ltb-true, arith, if◌then◌else◌, bytes_eq, codes, pos}
+use Rattle.std.proofs.lemmas.Bool.{lt-ltb, le-leb}
 use Rattle.std.specs.Prelude.{slice_get, is_some}
 use Rattle.ls_lexer.specs.declared.sign.Sign.TheVariants as signs
 use Rattle.ls_lexer.specs.declared.word.Word.TheVariants as words
@@ -24,11 +24,12 @@ use Rattle.ls_programs.specs.ThreadPrograms.{Stage, Parts, Reading, at, when, wi
 use Rattle.ls_programs.specs.Stops.{Marks, unmarked, marked, Form, NameTaken, NoName as WhyName, TooFew as WhyFew, ManyCalls, ManyThreads, Fault, Bad, Unknown, References, Past, fault_for, fault_at_end, goes_on, stops, why, why_name, why_new, why_dot, why_method, why_value, why_argument, why_number, why_first, why_minus, why_after, why_semicolon, why_thread, why_thread_name, argument_at, unfit_at}
 use Rattle.ls_programs.specs.Spelled as spelled
 use Rattle.ls_programs.specs.Spelled.{Argument, Others, Arguments, Threads, Spells}
-use Rattle.ls_programs.specs.Programs.{AreFor, type_of, IsNewName}
+use Rattle.ls_programs.specs.Programs.{IsNewName}
 use Rattle.ls_programs.specs.Faults as faults
 use Rattle.ls_programs.specs.Faults.{IsBefore, AreWhole, GoesOn, IsBad, IsUnknown, IsReference, IsPast, IsCallee}
 use Rattle.ls_programs.specs.Refusals.{ShowsAt, IsBadAt, Ends, Within, PassesLimit, Tokens}
-use Rattle.ls_programs.proofs.Pieces.{no_truth, some_none, same_some, both, not_false, sign_is, word_is, name_is, number_is, same_bytes, append_nil, at_front, Front, is_full_so, named_there, is_new}
+use Rattle.ls_programs.proofs.Pieces.{no_truth, some_none, same_some, both, not_false, sign_is, word_is, name_is, number_is, same_bytes, append_nil, is_full_so, named_there, is_new}
+use Rattle.ls_programs.proofs.Fronts.{Formed, formed_front, formed_end, front_short, front_over, wanted, thread_there, when_none}
 use Rattle.ls_programs.proofs.Rest.{gives, with_values, word_named}
 use Rattle.ls_programs.proofs.Read.{type_fits, result_plain}
 use Rattle.ls_programs.proofs.Whole.{tokens_spell}
@@ -41,70 +42,6 @@ Shown o text (Bad at) = IsBadAt o text at
 Shown o text (Unknown at) = ShowsAt (IsUnknown o) text at
 Shown o text (References at) = ShowsAt (IsReference o) text at
 Shown o text Past = PassesLimit o text
-
-abbrev Formed : List Lexeme → Type 0
-Formed ks = (i : ℕ) (k : Lexeme) → slice_get ks i ≡ Some k → IsFormed k
-
--- ---- lists
-
-formed_front : (ks js : List Lexeme) → Formed (ks ++ js) → Formed ks
-formed_front ks js h i k e = h i k (at_front ks js i k e)
-
-formed_end : (ks : List Lexeme) (k : Lexeme) → IsFormed k → Formed ks → Formed (ks ++ k ∷ [])
-formed_end [] k f h zero j e = subst IsFormed (same_some k j e) f
-formed_end [] k f h (suc i) j e = absurd (some_none j e)
-formed_end (x ∷ ks) k f h zero j e = h 0 j e
-formed_end (x ∷ ks) k f h (suc i) j e = formed_end ks k f (λ i. h (suc i)) i j e
-
-front_fewer : (ts : List ValueType) (vs : List Value) → Front ts vs → (length vs ≡ length ts → ⊥) → length vs < length ts
-front_fewer [] [] h e = absurd (e refl)
-front_fewer (t ∷ ts) [] h e = omega arith
-front_fewer [] (v ∷ vs) h e = absurd h
-front_fewer (t ∷ ts) (v ∷ vs) h e = more (length vs) (length ts) (front_fewer ts vs h.1 (λ is. e (ap suc is)))
-  where
-    more : (a b : ℕ) → a < b → suc a < suc b
-    more a b h = omega (arith, h)
-
-front_short : (ts : List ValueType) (vs : List Value) → Front ts vs → (length vs == length ts) ≡ false → length vs < length ts
-front_short ts vs h e = front_fewer ts vs h (λ is. no_truth (sym e ∙ eq-eqb (length vs) (length ts) is))
-
-front_over : (ts : List ValueType) (vs : List Value) (v : Value) → slice_get ts (length vs) ≡ None → length ts < length (vs ++ v ∷ [])
-front_over [] vs v e = more vs
-  where
-    more : (vs : List Value) → 0 < length (vs ++ v ∷ [])
-    more vs = omega (arith, length-append vs (v ∷ []))
-front_over (t ∷ ts) [] v e = absurd (some_none t (sym e))
-front_over (t ∷ ts) (u ∷ vs) v e = more (length ts) (length (vs ++ v ∷ [])) (front_over ts vs v e)
-  where
-    more : (a b : ℕ) → a < b → suc a < suc b
-    more a b h = omega (arith, h)
-
--- the type that is wanted next, and those before it
-record Wanted (ts : List ValueType) (vs : List Value) (t : ValueType) : Type 0 where
-  before : List ValueType
-  rest : List ValueType
-  is : ts ≡ before ++ t ∷ rest
-  for : AreFor before vs
-
-wanted : (ts : List ValueType) (vs : List Value) (t : ValueType) → Front ts vs → slice_get ts (length vs) ≡ Some t → Wanted ts vs t
-wanted [] vs t h e = absurd (some_none t e)
-wanted (u ∷ ts) [] t h e = record { before = []; rest = ts; is = ap (λ x. x ∷ ts) (same_some u t e); for = refl }
-wanted (u ∷ ts) (v ∷ vs) t h e =
-    let w = wanted ts vs t h.1 e in
-    record { before = u ∷ w.before; rest = w.rest; is = ap (λ l. u ∷ l) w.is; for = ap (λ x. x ∷ map type_of vs) h.0 ∙ ap (λ l. Some u ∷ l) w.for }
-
-thread_there : (ts : List ThreadProgram) (name : Text) → thread_named ts name ≡ true → (n : ℕ) × (t : ThreadProgram) × (slice_get ts n ≡ Some t) × (t.name ≡ name)
-thread_there [] name e = absurd (no_truth e)
-thread_there (t ∷ ts) name e = by (thread_there ts name) (bytes_eq t.name name) refl e
-  where
-    by : (thread_named ts name ≡ true → (n : ℕ) × (t : ThreadProgram) × (slice_get ts n ≡ Some t) × (t.name ≡ name)) → (b : Bool) → bytes_eq t.name name ≡ b → (b || thread_named ts name) ≡ true
-        → (n : ℕ) × (u : ThreadProgram) × (slice_get (t ∷ ts) n ≡ Some u) × (u.name ≡ name)
-    by rec true same e = (0, t, refl, same_bytes t.name name same)
-    by rec false same e = let h = rec e in (suc h.0, h.1, h.2, h.3)
-
-when_none : (b : Bool) (q : Reading) → when b q ≡ None → b ≡ false
-when_none false q e = refl
-when_none true q e = absurd (some_none q (sym e))
 
 module _ (o : Outcome) where
   -- the program before a statement, and the whole one before a thread
@@ -483,21 +420,21 @@ module _ (o : Outcome) where
 
     step_fails : (r : Parts) (stage : Stage) (m : Marks) → Reads o r stage front → IsFormed (lexeme_of t.kind) → Since o r stage m front → stepped o r stage (lexeme_of t.kind) ≡ None
         → Shown o text (fault_for m t.span.start (why o r stage (lexeme_of t.kind)))
-    step_fails r ThreadPrograms.AtSetup m read formed h none = form (at r ThreadPrograms.AtSetup) read none refl
-    step_fails r ThreadPrograms.AtBlock m read formed h none = form (at r ThreadPrograms.AtBlock) read none refl
-    step_fails r ThreadPrograms.AtCall m read formed h none = form (at r ThreadPrograms.AtCall) read none refl
-    step_fails r (ThreadPrograms.AfterName name) m read formed h none = name_fails r name m read h none
-    step_fails r (ThreadPrograms.AfterAssign name) m read formed h none = form (at r (ThreadPrograms.AfterAssign name)) read none refl
-    step_fails r (ThreadPrograms.AfterNew name) m read formed h none = new_fails r name m read h none
-    step_fails r (ThreadPrograms.AfterDot n) m read formed h none = dot_fails r n m read h none
-    step_fails r (ThreadPrograms.AtArguments p) m read formed h none = form (at r (ThreadPrograms.AtArguments p)) read none refl
-    step_fails r (ThreadPrograms.AtFirst p) m read formed h none = first_fails r p m read h none
-    step_fails r (ThreadPrograms.AtArgument p) m read formed h none = argument_fails r p m h.0 h.1 (λ is. form (at r (ThreadPrograms.AtArgument p)) read none is) none
-    step_fails r (ThreadPrograms.AfterMinus p) m read formed h none = minus_fails r p m read formed h none
-    step_fails r (ThreadPrograms.AfterArgument p) m read formed h none = others_fails r p m read h none
-    step_fails r (ThreadPrograms.AtSemicolon p) m read formed h none = semicolon_fails r p m read h none
-    step_fails r ThreadPrograms.AtThread m read formed h none = thread_fails r m read none
-    step_fails r ThreadPrograms.AtThreadName m read formed h none = thread_name_fails r m read h none
+    step_fails r ThreadPrograms.AtSetup m read shape h none = form (at r ThreadPrograms.AtSetup) read none refl
+    step_fails r ThreadPrograms.AtBlock m read shape h none = form (at r ThreadPrograms.AtBlock) read none refl
+    step_fails r ThreadPrograms.AtCall m read shape h none = form (at r ThreadPrograms.AtCall) read none refl
+    step_fails r (ThreadPrograms.AfterName name) m read shape h none = name_fails r name m read h none
+    step_fails r (ThreadPrograms.AfterAssign name) m read shape h none = form (at r (ThreadPrograms.AfterAssign name)) read none refl
+    step_fails r (ThreadPrograms.AfterNew name) m read shape h none = new_fails r name m read h none
+    step_fails r (ThreadPrograms.AfterDot n) m read shape h none = dot_fails r n m read h none
+    step_fails r (ThreadPrograms.AtArguments p) m read shape h none = form (at r (ThreadPrograms.AtArguments p)) read none refl
+    step_fails r (ThreadPrograms.AtFirst p) m read shape h none = first_fails r p m read h none
+    step_fails r (ThreadPrograms.AtArgument p) m read shape h none = argument_fails r p m h.0 h.1 (λ is. form (at r (ThreadPrograms.AtArgument p)) read none is) none
+    step_fails r (ThreadPrograms.AfterMinus p) m read shape h none = minus_fails r p m read shape h none
+    step_fails r (ThreadPrograms.AfterArgument p) m read shape h none = others_fails r p m read h none
+    step_fails r (ThreadPrograms.AtSemicolon p) m read shape h none = semicolon_fails r p m read h none
+    step_fails r ThreadPrograms.AtThread m read shape h none = thread_fails r m read none
+    step_fails r ThreadPrograms.AtThreadName m read shape h none = thread_name_fails r m read h none
 
   -- ---- from the first token on
 
