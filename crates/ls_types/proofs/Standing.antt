@@ -8,7 +8,10 @@ use Rattle.ls_lexer.specs.declared.token.Token.{Token}
 use Rattle.ls_lexer.specs.declared.fault.TextFault.TheVariants as texts
 use Rattle.ls_elaboration.specs.Trees.{Text}
 use Rattle.ls_elaboration.specs.Elaboration.{Outcome}
-use Rattle.ls_programs.specs.ThreadPrograms.{beginning}
+use Rattle.ls_checked.specs.CheckedProgram.{Program}
+use Rattle.ls_programs.specs.Programs.{IsTextOf}
+use Rattle.ls_programs.specs.ThreadPrograms.{beginning, program_of}
+use Rattle.ls_programs.proofs.Whole.{reads_what_is_spelled}
 use Rattle.ls_programs.specs.Stops.{Fault, Bad, Unknown, References, Past, stops, unmarked}
 use Rattle.ls_programs.specs.Refusals.{IsBadAt, NoToken, PassesLimit, Bytes}
 use Rattle.ls_programs.proofs.Pieces.{some_none, same_some}
@@ -33,6 +36,9 @@ seen_stands o text (Bad at) h = h
 seen_stands o text (Unknown at) h = h
 seen_stands o text (References at) h = h
 seen_stands o text Past h = h
+
+pub program_spelled : (o : Outcome) (text : Text) (p : Program) → program_of o text ≡ Some p → IsTextOf o p text
+program_spelled o text p e = (reads_what_is_spelled o text p).0 e
 
 pub program_stands : (o : Outcome) (text : Text) (ts : List Token) (e : ProgramFault) → tokens_of text ≡ Some (lexemes ts) → InOrder text 0 ts (length text)
     → option_map fault_seen (stops o (length text) unmarked beginning ts) ≡ Some e → Stands o text e

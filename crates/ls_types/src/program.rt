@@ -8,6 +8,7 @@ ghost use Rattle.ls_elaboration.specs.Elaboration.{Outcome};
 ghost use Rattle.ls_checked.specs.PlainProgram.{plain_program};
 ghost use Rattle.ls_types.specs.CheckedFile.{outcome_of};
 ghost use Rattle.ls_programs.specs.ThreadPrograms.{ended, after, beginning as the_beginning, whole as the_whole, program_of, program_of_tokens};
+ghost use Rattle.ls_programs.specs.Programs.{IsTextOf};
 ghost use Rattle.ls_programs.specs.Stops.{stops, unmarked, fault_at_end};
 ghost use Rattle.ls_types.specs.ProgramViews.{stage_of, reading_of, reads_on, reads_program, fault_seen, StopsAt, Refuses, Stands};
 
@@ -108,9 +109,10 @@ fn fault_of(fault: TextFault) -> ProgramFault
 /// another; `UnknownThing` at a class, setup name or method that isn't there, a class or method with too few or too many
 /// arguments, and the first argument of another type; `ReferenceResult` at a method that answers a reference;
 /// `ProgramLimit` for more than 262,144 bytes, a seventeenth thread beside the setup, or a call of a thread behind 256.
-#[tactic(auto, using(crate::proofs::Standing::program_stands))]
+#[tactic(auto, using(crate::proofs::Standing::program_stands, crate::proofs::Standing::program_spelled))]
 pub fn read_program(alloc: Global, text: &str, checked: &Checked) -> Result<Program, ProgramFault>
     ensures read { IfOk result (λ p. program_of (outcome_of checked.now) text.now ≡ Some (plain_program p)) }
+    ensures spelled { IfOk result (λ p. IsTextOf (outcome_of checked.now) (plain_program p) text.now) }
     ensures refused { IfErr result (λ e. Refuses e (program_of (outcome_of checked.now) text.now)) }
     ensures stands { IfErr result (λ e. Stands (outcome_of checked.now) text.now e) }
 {
