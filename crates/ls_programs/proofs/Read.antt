@@ -44,7 +44,7 @@ later_block before h = by (nat_lt (length before) 1) refl
 
 -- ---- arguments
 
-same_cons : {A : Type 0} (x y : A) (xs ys : List A) → x ∷ xs ≡ y ∷ ys → (x ≡ y) × (xs ≡ ys)
+pub same_cons : {A : Type 0} (x y : A) (xs ys : List A) → x ∷ xs ≡ y ∷ ys → (x ≡ y) × (xs ≡ ys)
 same_cons x y xs ys e = (cc, cc)
 
 pub type_fits : (t : ValueType) (v : Value) → type_of v ≡ Some t → fits (Some t) v ≡ true
@@ -59,7 +59,7 @@ next_fits (t ∷ ts) [] v vs h = type_fits t v (same_cons (type_of v) (Some t) (
 next_fits [] (u ∷ us) v vs h = absurd cc
 next_fits (t ∷ ts) (u ∷ us) v vs h = next_fits ts us v vs (same_cons (type_of u) (Some t) (map type_of (us ++ v ∷ vs)) (map Some ts) h).1
 
-for_length : (ts : List ValueType) (vs : List Value) → AreFor ts vs → length vs ≡ length ts
+pub for_length : (ts : List ValueType) (vs : List Value) → AreFor ts vs → length vs ≡ length ts
 for_length [] [] h = refl
 for_length [] (v ∷ vs) h = absurd cc
 for_length (t ∷ ts) [] h = absurd cc
@@ -116,7 +116,7 @@ module _ (o : Outcome) where
       ∙ others_read more r (with_values p (p.values ++ v ∷ [])) (subst (AreFor p.types) (sym (append_assoc p.values (v ∷ []) vs)) h)
       ∙ ap (λ us. From r (ThreadPrograms.AtSemicolon (with_values p us)) rest) (append_assoc p.values (v ∷ []) vs)
 
-  arguments_read : {vs : List Value} {ks rest : List Lexeme} → Arguments vs ks rest → (r : Parts) (callee : Callee) (ts : List ValueType) → AreFor ts vs
+  pub arguments_read : {vs : List Value} {ks rest : List Lexeme} → Arguments vs ks rest → (r : Parts) (callee : Callee) (ts : List ValueType) → AreFor ts vs
       → From r (ThreadPrograms.AtFirst (record { callee = callee; types = ts; values = [] })) ks ≡ From r (ThreadPrograms.AtSemicolon (record { callee = callee; types = ts; values = vs })) rest
   arguments_read (spelled.NoArgument {rest = rest}) r callee ts h = ended r (record { callee = callee; types = ts; values = [] }) rest h
   arguments_read (spelled.First {v = v} {vs = vs} a more) r callee ts h =
