@@ -13,7 +13,7 @@ use Rattle.ls_elaboration.specs.Trees.{Text}
 use Rattle.ls_elaboration.specs.Elaboration.{elaborated}
 use Rattle.ls_elaboration.specs.PlacedStatements.{placed_file}
 use Rattle.ls_types.specs.CheckedFile.{outcome_of}
-use Rattle.ls_types.specs.ThreadPrograms.{program_of}
+use Rattle.ls_programs.specs.ThreadPrograms.{program_of}
 use Rattle.ls_types.specs.declared.check.Checked.{Checked}
 use Rattle.ls_linker.specs.Limits.{KeepsLimits}
 use Rattle.ls_linker.specs.Runs.{Runs}

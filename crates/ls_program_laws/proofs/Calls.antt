@@ -10,7 +10,7 @@ use Rattle.ls_soundness.specs.Programs.{AreArguments, IsPlainResult, IsTypedCall
 use Rattle.ls_elaboration.specs.Trees.{Text}
 use Rattle.ls_elaboration.specs.Known.{MethodSign, number_of, method_named, methods_in}
 use Rattle.ls_elaboration.specs.Elaboration.{Outcome}
-use Rattle.ls_types.specs.ProgramCalls.{Callee, Maker, Method, Pending, maker, is_plain, callable, called_on, fits, with_argument, is_full, call_of, names_after}
+use Rattle.ls_programs.specs.ProgramCalls.{Callee, Maker, Method, Pending, maker, is_plain, callable, called_on, fits, with_argument, is_full, call_of, names_after}
 use Rattle.ls_typing_laws.proofs.Lists.{Grows, grows_same, grows_by, at_grown, at_end}
 use Rattle.ls_typing_laws.proofs.Agreement.{IsThere}
 use Rattle.ls_typing_laws.proofs.Found.{number_below}

@@ -9,7 +9,7 @@ use Rattle.ls_events.specs.declared.value.ValueType.TheVariants as types
 use Rattle.ls_soundness.specs.Programs.{IsArgument, AreArguments, IsPlainResult}
 use Rattle.ls_elaboration.specs.Trees.{Text}
 use Rattle.ls_elaboration.specs.TypedExpressions.{digits_value}
-use Rattle.ls_types.specs.ProgramCalls.{is_plain, fits, plain_number, minus_number}
+use Rattle.ls_programs.specs.ProgramCalls.{is_plain, fits, plain_number, minus_number}
 
 abbrev pub Reads : {A : Type 0} → (A → Type 0) → Option A → Type 0
 Reads P (Some a) = P a

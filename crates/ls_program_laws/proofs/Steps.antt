@@ -13,9 +13,9 @@ use Rattle.ls_soundness.specs.Programs.{IsTypedProgram}
 use Rattle.ls_elaboration.specs.Trees.{Text}
 use Rattle.ls_elaboration.specs.Elaboration.{Outcome}
 use Rattle.ls_elaboration.specs.Known.{number_of}
-use Rattle.ls_types.specs.ProgramCalls.{Pending, setup_named, maker, called_on, with_argument, is_full, plain_number, minus_number, call_of, names_after}
-use Rattle.ls_types.specs.ThreadPrograms
-use Rattle.ls_types.specs.ThreadPrograms.{Stage, Parts, Reading, at, is_sign, is_word, name_in, number_in, when, with_call, closed, at_call, is_new_name, used, after_name, after_new, after_dot, numbered, argument, after_minus, arguments_end, at_first, after_argument, with_finished, at_semicolon, at_thread, at_thread_name, named, stepped, after, ended, whole, beginning, program_of_tokens, program_of}
+use Rattle.ls_programs.specs.ProgramCalls.{Pending, setup_named, maker, called_on, with_argument, is_full, plain_number, minus_number, call_of, names_after}
+use Rattle.ls_programs.specs.ThreadPrograms
+use Rattle.ls_programs.specs.ThreadPrograms.{Stage, Parts, Reading, at, is_sign, is_word, name_in, number_in, when, with_call, closed, at_call, is_new_name, used, after_name, after_new, after_dot, numbered, argument, after_minus, arguments_end, at_first, after_argument, with_finished, at_semicolon, at_thread, at_thread_name, named, stepped, after, ended, whole, beginning, program_of_tokens, program_of}
 use Rattle.ls_typing_laws.proofs.Lists.{Each, each_push, each_weaker, each_at, Grows, grows_same}
 use Rattle.ls_typing_laws.proofs.Whole.{IsTypedOutcome}
 use Rattle.ls_program_laws.proofs.Pieces.{Reads, IsRanged, plain_number_ranged, minus_number_ranged}

@@ -6,7 +6,7 @@ ghost use Rattle.ls_checked.specs.CheckedProgram.{Program};
 ghost use Rattle.ls_elaboration.specs.Trees.{File, Text};
 ghost use Rattle.ls_elaboration.specs.Elaboration.{Outcome, elaborated};
 ghost use Rattle.ls_soundness.specs.Programs.{IsTypedProgram};
-ghost use Rattle.ls_types.specs.ThreadPrograms.{program_of};
+ghost use Rattle.ls_programs.specs.ThreadPrograms.{program_of};
 
 /// A thread program that is read for a checked file is typed for it.
 pub fn reads_typed()

@@ -12,9 +12,9 @@ use Rattle.ls_checked.specs.CheckedProgram.{SetupName, ProgramCall, ThreadProgra
 use Rattle.ls_elaboration.specs.Trees.{Text}
 use Rattle.ls_elaboration.specs.Elaboration.{Outcome}
 use Rattle.ls_elaboration.specs.Known.{number_of}
-use Rattle.ls_types.specs.ProgramCalls.{Callee, Maker, Method, Pending, setup_named, maker, called_on, with_argument, is_full, plain_number, minus_number, call_of, names_after}
-use Rattle.ls_types.specs.ThreadPrograms
-use Rattle.ls_types.specs.ThreadPrograms.{Stage, Parts, Reading, at, is_sign, is_word, is_text, name_in, number_in, when, with_call, closed, at_call, is_new_name, used, after_name, after_new, after_dot, numbered, argument, after_minus, arguments_end, at_first, after_argument, with_finished, at_semicolon, at_thread, at_thread_name, named, stepped, after, ended, whole, beginning, most_calls, most_threads, program_of_tokens, program_of}
+use Rattle.ls_programs.specs.ProgramCalls.{Callee, Maker, Method, Pending, setup_named, maker, called_on, with_argument, is_full, plain_number, minus_number, call_of, names_after}
+use Rattle.ls_programs.specs.ThreadPrograms
+use Rattle.ls_programs.specs.ThreadPrograms.{Stage, Parts, Reading, at, is_sign, is_word, is_text, name_in, number_in, when, with_call, closed, at_call, is_new_name, used, after_name, after_new, after_dot, numbered, argument, after_minus, arguments_end, at_first, after_argument, with_finished, at_semicolon, at_thread, at_thread_name, named, stepped, after, ended, whole, beginning, most_calls, most_threads, program_of_tokens, program_of}
 use Rattle.ls_ranges.specs.Ranged.{IsRangedProgram}
 use Rattle.ls_range_laws.proofs.Results.{Each, each_push, each_at, length_push}
 

@@ -5,7 +5,7 @@ ghost use Rattle.std.specs.Prelude.{◌≡◌, Ok, Some};
 ghost use Rattle.ls_checked.specs.CheckedProgram.{Program};
 ghost use Rattle.ls_elaboration.specs.Trees.{File, Text};
 ghost use Rattle.ls_elaboration.specs.Elaboration.{Outcome, elaborated};
-ghost use Rattle.ls_types.specs.ThreadPrograms.{program_of};
+ghost use Rattle.ls_programs.specs.ThreadPrograms.{program_of};
 ghost use Rattle.ls_ranges.specs.Ranged.{IsRanged, IsRangedProgram};
 
 /// The elaboration of a class text's tree has no more classes, fields and methods than the language allows, and each of its

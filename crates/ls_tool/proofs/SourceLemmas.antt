@@ -19,7 +19,7 @@ use Rattle.ls_elaboration.specs.Elaboration.{Outcome, elaborated}
 use Rattle.ls_elaboration.specs.PlacedStatements.{placed_file}
 use Rattle.ls_types.specs.CheckedFile.{Names}
 use Rattle.ls_types.specs.ProgramViews.{Refuses as RefusesProgram}
-use Rattle.ls_types.specs.ThreadPrograms.{program_of}
+use Rattle.ls_programs.specs.ThreadPrograms.{program_of}
 use Rattle.ls_types.specs.declared.check.CheckFault.{CheckFault}
 use Rattle.ls_types.specs.declared.check.CheckFault.TheVariants as rule
 use Rattle.ls_types.specs.declared.fault.ProgramFault.{ProgramFault}

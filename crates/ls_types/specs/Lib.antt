@@ -1,4 +1,2 @@
 pub mod CheckedFile
-pub mod ProgramCalls
-pub mod ThreadPrograms
 pub mod ProgramViews

@@ -1,5 +1,5 @@
 -- What contracts see of a program that is being read.
-use Rattle.std.specs.Prelude.{◌≡◌, map, string_bytes, Option, Some, None, Result, Ok, Err}
+use Rattle.std.specs.Prelude.{◌≡◌, ℕ, List, map, string_bytes, Option, Some, None, Result, Ok, Err, option_map}
 use Rattle.ls_checked.specs.CheckedProgram.{Program}
 use Rattle.ls_checked.specs.PlainProgram.{plain_name, plain_call, plain_thread, plain_program}
 use Rattle.ls_checked.specs.declared.program.Program.{Program as code_program}
@@ -12,8 +12,13 @@ use Rattle.ls_types.specs.declared.reading.Stage.{Stage}
 use Rattle.ls_types.specs.declared.reading.Stage.TheVariants as stages
 use Rattle.ls_types.specs.declared.reading.Parts.{Parts}
 use Rattle.ls_types.specs.declared.reading.Reading.{Reading}
-use Rattle.ls_types.specs.ProgramCalls as calls
-use Rattle.ls_types.specs.ThreadPrograms as programs
+use Rattle.ls_programs.specs.ProgramCalls as calls
+use Rattle.ls_programs.specs.ThreadPrograms as programs
+use Rattle.ls_programs.specs.Stops.{Marks, unmarked, name_mark, callee_mark, minus_mark, marked, Why, Fault, Bad, Unknown, References, Past, fault_for, fault_at_end}
+use Rattle.ls_programs.specs.Faults.{IsUnknown, IsReference}
+use Rattle.ls_programs.specs.Refusals.{ShowsAt, IsBadAt, PassesLimit}
+use Rattle.ls_elaboration.specs.Trees.{Text}
+use Rattle.ls_elaboration.specs.Elaboration.{Outcome}
 
 abbrev pub callee_of : Callee → calls.Callee
 callee_of (callees.Maker name class class_name) = calls.Maker name.now class class_name.now
@@ -71,3 +76,43 @@ Refuses (faults.BadProgram at) p = p ≡ None
 Refuses (faults.UnknownThing at) p = p ≡ None
 Refuses (faults.ReferenceResult at) p = p ≡ None
 Refuses faults.ProgramLimit p = p ≡ None
+
+-- each refusal but want of memory comes only where its fault stands
+abbrev pub Stands : Outcome → Text → ProgramFault → Type 0
+Stands o text faults.Memory = Unit {0}
+Stands o text (faults.BadProgram at) = IsBadAt o text at
+Stands o text (faults.UnknownThing at) = ShowsAt (IsUnknown o) text at
+Stands o text (faults.ReferenceResult at) = ShowsAt (IsReference o) text at
+Stands o text faults.ProgramLimit = PassesLimit o text
+
+-- the places that a stage keeps
+abbrev pub marks_of : Stage → Marks
+marks_of (stages.AfterName name at) = name_mark at
+marks_of (stages.AtArguments p) = callee_mark p.at
+marks_of (stages.AtFirst p) = callee_mark p.at
+marks_of (stages.AtArgument p) = callee_mark p.at
+marks_of (stages.AfterMinus p minus) = minus_mark p.at minus
+marks_of (stages.AfterArgument p) = callee_mark p.at
+marks_of (stages.AtSemicolon p) = callee_mark p.at
+marks_of _ = unmarked
+
+abbrev pub fault_seen : Fault → ProgramFault
+fault_seen (Bad at) = faults.BadProgram at
+fault_seen (Unknown at) = faults.UnknownThing at
+fault_seen (References at) = faults.ReferenceResult at
+fault_seen Past = faults.ProgramLimit
+
+-- behind a token at the place the next stage keeps its marks; or else this is the fault
+abbrev pub Goes : Marks → ℕ → Why → Result Reading ProgramFault → Type 0
+Goes m at why (Ok q) = marks_of q.stage ≡ marked m at (stage_of q.stage)
+Goes m at why (Err e) = e ≡ fault_seen (fault_for m at why)
+
+-- a call at its place, or this fault
+abbrev pub Called : ℕ → ProgramFault → Result Pending ProgramFault → Type 0
+Called at fault (Ok p) = p.at ≡ at
+Called at fault (Err e) = e ≡ fault
+
+-- read to the end, or stopped by this fault
+abbrev pub StopsAt : ℕ → Option Fault → Result Reading ProgramFault → Type 0
+StopsAt end stop (Ok q) = stop ≡ fault_at_end end (programs.ended (stage_of q.stage))
+StopsAt end stop (Err e) = option_map fault_seen stop ≡ Some e

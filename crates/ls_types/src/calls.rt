@@ -5,8 +5,9 @@ ghost use Rattle.ls_checked.specs.PlainProgram.{plain_name, plain_call};
 ghost use Rattle.ls_elaboration.specs.Known.{number_of};
 ghost use Rattle.ls_elaboration.specs.Tables.{method_sign_of};
 ghost use Rattle.ls_types.specs.CheckedFile.{outcome_of, names_of};
-ghost use Rattle.ls_types.specs.ProgramCalls.{setup_named as the_setup_named, maker as the_maker, is_plain as the_plain, method_on as the_method_on, called_on as the_called_on, fits as the_fits, with_argument as the_with_argument, is_full as the_full, plain_number as the_plain_number, minus_number as the_minus_number, call_of as the_call_of, names_after as the_names_after};
-ghost use Rattle.ls_types.specs.ProgramViews.{callee_of, pending_of, reads_pending};
+ghost use Rattle.ls_programs.specs.ProgramCalls.{setup_named as the_setup_named, maker as the_maker, is_plain as the_plain, method_on as the_method_on, called_on as the_called_on, fits as the_fits, with_argument as the_with_argument, is_full as the_full, plain_number as the_plain_number, minus_number as the_minus_number, call_of as the_call_of, names_after as the_names_after};
+ghost use Rattle.ls_programs.specs.Stops.{unmarked, callee_mark, fault_for, why_method, why_value};
+ghost use Rattle.ls_types.specs.ProgramViews.{callee_of, pending_of, reads_pending, Called, fault_seen};
 
 use crate::check::Checked;
 use crate::fault::ProgramFault;
@@ -66,7 +67,8 @@ fn begun<'a>(
     at: usize,
     types: &[ValueType],
 ) -> Result<Pending<'a>, AllocError>
-    ensures { IfOk result (λ p. pending_of p ≡ record { callee = callee_of callee.entry; types = types.now; values = [] }) }
+    ensures read { IfOk result (λ p. pending_of p ≡ record { callee = callee_of callee.entry; types = types.now; values = [] }) }
+    ensures place { IfOk result (λ p. p.at ≡ at) }
 {
     Ok(Pending {
         callee,
@@ -84,7 +86,8 @@ pub fn maker<'a>(
     class_name: &'a str,
     at: usize,
 ) -> Result<Option<Pending<'a>>, AllocError>
-    ensures { IfOk result (λ o. option_map pending_of o ≡ the_maker (outcome_of checked.now) name.entry.now class_name.entry.now (number_of (names_of checked.now) class_name.entry.now)) }
+    ensures read { IfOk result (λ o. option_map pending_of o ≡ the_maker (outcome_of checked.now) name.entry.now class_name.entry.now (number_of (names_of checked.now) class_name.entry.now)) }
+    ensures place { IfOk result (λ o. IfSome o (λ p. p.at ≡ at)) }
 {
     match class_number(checked.class_names(), class_name) {
         None => Ok(None),
@@ -138,7 +141,8 @@ pub fn called_on<'a>(
     name: &'a str,
     at: usize,
 ) -> Result<Result<Pending<'a>, ProgramFault>, AllocError>
-    ensures { IfOk result (λ r. reads_pending r ≡ the_called_on (outcome_of checked.now) n (slice_get (map plain_name names.now) n) name.entry.now) }
+    ensures read { IfOk result (λ r. reads_pending r ≡ the_called_on (outcome_of checked.now) n (slice_get (map plain_name names.now) n) name.entry.now) }
+    ensures place { IfOk result (λ r. Called at (fault_seen (fault_for unmarked at (why_method (the_method_on (outcome_of checked.now) (slice_get (map plain_name names.now) n) name.entry.now)))) r) }
 {
     match method_on(checked, names.get(n), name) {
         None => Ok(Err(ProgramFault::UnknownThing { at })),
@@ -174,7 +178,8 @@ pub fn with_argument<'a>(
     v: Value,
     at: usize,
 ) -> Result<Result<Pending<'a>, ProgramFault>, AllocError>
-    ensures { IfOk result (λ r. reads_pending r ≡ the_with_argument (pending_of p.entry) v) }
+    ensures read { IfOk result (λ r. reads_pending r ≡ the_with_argument (pending_of p.entry) v) }
+    ensures place { IfOk result (λ r. Called p.entry.at (fault_seen (fault_for (callee_mark p.entry.at) at (why_value (pending_of p.entry)))) r) }
 {
     match p.types.get(p.values.len()) {
         None => Ok(Err(ProgramFault::UnknownThing { at: p.at })),

@@ -1,14 +1,16 @@
 // What each token of a thread program does.
 
-ghost use Rattle.std.specs.Prelude.{◌≡◌, IfOk, map};
+ghost use Rattle.std.specs.Prelude.{◌≡◌, IfOk, IfErr, map};
+ghost use Rattle.ls_types.specs.declared.reading.Stage.TheVariants.{AtSemicolon as at_semicolon_stage};
 ghost use Rattle.ls_lexer.specs.Lexemes.{lexeme_of};
 ghost use Rattle.ls_checked.specs.PlainProgram.{plain_thread};
 ghost use Rattle.ls_types.specs.CheckedFile.{outcome_of};
-ghost use Rattle.ls_types.specs.ThreadPrograms.{is_sign as the_sign, is_word as the_word, name_in as the_name_in, number_in as the_number_in, stepped as the_stepped, at_call as the_at_call, after_name as the_after_name, after_new as the_after_new, after_dot as the_after_dot, argument as the_argument, after_minus as the_after_minus, at_first as the_at_first, after_argument as the_after_argument, at_semicolon as the_at_semicolon, at_thread_name as the_at_thread_name, arguments_end as the_arguments_end, thread_named as the_thread_named, closed as the_closed, with_finished as the_with_finished, with_call as the_with_call, when as the_when, at as the_at, is_text as the_is_text, at_thread as the_at_thread};
-ghost use Rattle.ls_types.specs.ThreadPrograms.{AfterArgument as after_argument_stage};
-ghost use Rattle.ls_types.specs.ProgramCalls.{with_argument as the_with_argument};
+ghost use Rattle.ls_programs.specs.ThreadPrograms.{is_sign as the_sign, is_word as the_word, name_in as the_name_in, number_in as the_number_in, stepped as the_stepped, at_call as the_at_call, after_name as the_after_name, after_new as the_after_new, after_dot as the_after_dot, argument as the_argument, after_minus as the_after_minus, at_first as the_at_first, after_argument as the_after_argument, at_semicolon as the_at_semicolon, at_thread_name as the_at_thread_name, arguments_end as the_arguments_end, thread_named as the_thread_named, closed as the_closed, with_finished as the_with_finished, with_call as the_with_call, when as the_when, at as the_at, is_text as the_is_text, at_thread as the_at_thread};
+ghost use Rattle.ls_programs.specs.ThreadPrograms.{AfterArgument as after_argument_stage};
+ghost use Rattle.ls_programs.specs.ProgramCalls.{with_argument as the_with_argument};
 ghost use Rattle.std.specs.Prelude.{option_copied};
-ghost use Rattle.ls_types.specs.ProgramViews.{pending_of, parts_of, stage_of, reads_on};
+ghost use Rattle.ls_programs.specs.Stops.{Form, unmarked, name_mark, callee_mark, minus_mark, why, why_name, why_new, why_dot, why_value, why_argument, why_minus, why_first, why_after, why_semicolon, why_thread, why_thread_name, TooFew, fault_for};
+ghost use Rattle.ls_types.specs.ProgramViews.{pending_of, parts_of, stage_of, reads_on, marks_of, Goes, fault_seen};
 
 use crate::calls::{
     Pending, call_of, called_on, is_full, maker, minus_number, names_after, plain_number,
@@ -109,7 +111,8 @@ fn at_call<'a>(
     r: Parts,
     token: Token<'a>,
 ) -> Result<Result<Reading<'a>, ProgramFault>, AllocError>
-    ensures { IfOk result (λ o. reads_on o ≡ the_at_call (parts_of r) (lexeme_of token.entry.kind) (the_name_in (lexeme_of token.entry.kind))) }
+    ensures read { IfOk result (λ o. reads_on o ≡ the_at_call (parts_of r) (lexeme_of token.entry.kind) (the_name_in (lexeme_of token.entry.kind))) }
+    ensures place { IfOk result (λ o. Goes unmarked token.entry.span.start Form o) }
 {
     match name_in(token.kind) {
         Some(name) => Ok(Ok(Reading {
@@ -138,7 +141,8 @@ fn after_name<'a>(
     at: usize,
     token: Token<'a>,
 ) -> Result<Reading<'a>, ProgramFault>
-    ensures { reads_on result ≡ the_after_name (parts_of r) name.entry.now (lexeme_of token.entry.kind) }
+    ensures read { reads_on result ≡ the_after_name (parts_of r) name.entry.now (lexeme_of token.entry.kind) }
+    ensures place { Goes (name_mark at) token.entry.span.start (why_name (lexeme_of token.entry.kind)) result }
 {
     if is_sign(Sign::Assign, token.kind) {
         if r.threads.len() < 1 && setup_named(&r.names, name).is_none() {
@@ -170,7 +174,8 @@ fn after_new<'a>(
     name: &'a str,
     token: Token<'a>,
 ) -> Result<Result<Reading<'a>, ProgramFault>, AllocError>
-    ensures { IfOk result (λ o. reads_on o ≡ the_after_new (outcome_of checked.now) (parts_of r) name.entry.now (the_name_in (lexeme_of token.entry.kind))) }
+    ensures read { IfOk result (λ o. reads_on o ≡ the_after_new (outcome_of checked.now) (parts_of r) name.entry.now (the_name_in (lexeme_of token.entry.kind))) }
+    ensures place { IfOk result (λ o. Goes unmarked token.entry.span.start (why_new (the_name_in (lexeme_of token.entry.kind))) o) }
 {
     let at = token.span.start;
     match name_in(token.kind) {
@@ -192,7 +197,8 @@ fn after_dot<'a>(
     n: usize,
     token: Token<'a>,
 ) -> Result<Result<Reading<'a>, ProgramFault>, AllocError>
-    ensures { IfOk result (λ o. reads_on o ≡ the_after_dot (outcome_of checked.now) (parts_of r) n (the_name_in (lexeme_of token.entry.kind))) }
+    ensures read { IfOk result (λ o. reads_on o ≡ the_after_dot (outcome_of checked.now) (parts_of r) n (the_name_in (lexeme_of token.entry.kind))) }
+    ensures place { IfOk result (λ o. Goes unmarked token.entry.span.start (why_dot (outcome_of checked.now) (parts_of r) n (the_name_in (lexeme_of token.entry.kind))) o) }
 {
     let at = token.span.start;
     match name_in(token.kind) {
@@ -214,7 +220,8 @@ fn valued<'a>(
     v: Value,
     at: usize,
 ) -> Result<Result<Reading<'a>, ProgramFault>, AllocError>
-    ensures { IfOk result (λ o. reads_on o ≡ the_with_call (parts_of r) after_argument_stage (the_with_argument (pending_of p.entry) v)) }
+    ensures read { IfOk result (λ o. reads_on o ≡ the_with_call (parts_of r) after_argument_stage (the_with_argument (pending_of p.entry) v)) }
+    ensures place { IfOk result (λ o. Goes (callee_mark p.entry.at) at (why_value (pending_of p.entry)) o) }
 {
     let p = read!(with_argument(p, v, at)?);
     Ok(Ok(Reading {
@@ -228,7 +235,8 @@ fn argument<'a>(
     p: Pending<'a>,
     token: Token<'a>,
 ) -> Result<Result<Reading<'a>, ProgramFault>, AllocError>
-    ensures { IfOk result (λ o. reads_on o ≡ the_argument (parts_of r) (pending_of p.entry) (lexeme_of token.entry.kind) (the_number_in (lexeme_of token.entry.kind))) }
+    ensures read { IfOk result (λ o. reads_on o ≡ the_argument (parts_of r) (pending_of p.entry) (lexeme_of token.entry.kind) (the_number_in (lexeme_of token.entry.kind))) }
+    ensures place { IfOk result (λ o. Goes (callee_mark p.entry.at) token.entry.span.start (why_argument (pending_of p.entry) (lexeme_of token.entry.kind) (the_number_in (lexeme_of token.entry.kind))) o) }
 {
     let at = token.span.start;
     match number_in(token.kind) {
@@ -260,7 +268,8 @@ fn after_minus<'a>(
     minus: usize,
     token: Token<'a>,
 ) -> Result<Result<Reading<'a>, ProgramFault>, AllocError>
-    ensures { IfOk result (λ o. reads_on o ≡ the_after_minus (parts_of r) (pending_of p.entry) (the_number_in (lexeme_of token.entry.kind))) }
+    ensures read { IfOk result (λ o. reads_on o ≡ the_after_minus (parts_of r) (pending_of p.entry) (the_number_in (lexeme_of token.entry.kind))) }
+    ensures place { IfOk result (λ o. Goes (minus_mark p.entry.at minus) token.entry.span.start (why_minus (pending_of p.entry) (the_number_in (lexeme_of token.entry.kind))) o) }
 {
     match number_in(token.kind) {
         None => Ok(Err(ProgramFault::BadProgram {
@@ -271,7 +280,9 @@ fn after_minus<'a>(
 }
 
 fn arguments_end<'a>(r: Parts, p: Pending<'a>) -> Result<Reading<'a>, ProgramFault>
-    ensures { reads_on result ≡ the_arguments_end (parts_of r) (pending_of p.entry) }
+    ensures read { reads_on result ≡ the_arguments_end (parts_of r) (pending_of p.entry) }
+    ensures stage { IfOk result (λ q. q.stage ≡ at_semicolon_stage p.entry) }
+    ensures place { IfErr result (λ e. e ≡ fault_seen (fault_for (callee_mark p.entry.at) 0 TooFew)) }
 {
     let full = is_full(&p);
     let fault = ProgramFault::UnknownThing { at: p.at };
@@ -287,7 +298,8 @@ fn at_first<'a>(
     p: Pending<'a>,
     token: Token<'a>,
 ) -> Result<Result<Reading<'a>, ProgramFault>, AllocError>
-    ensures { IfOk result (λ o. reads_on o ≡ the_at_first (parts_of r) (pending_of p.entry) (lexeme_of token.entry.kind)) }
+    ensures read { IfOk result (λ o. reads_on o ≡ the_at_first (parts_of r) (pending_of p.entry) (lexeme_of token.entry.kind)) }
+    ensures place { IfOk result (λ o. Goes (callee_mark p.entry.at) token.entry.span.start (why_first (pending_of p.entry) (lexeme_of token.entry.kind)) o) }
 {
     if is_sign(Sign::CloseParen, token.kind) {
         return Ok(arguments_end(r, p));
@@ -300,7 +312,8 @@ fn after_argument<'a>(
     p: Pending<'a>,
     token: Token<'a>,
 ) -> Result<Reading<'a>, ProgramFault>
-    ensures { reads_on result ≡ the_after_argument (parts_of r) (pending_of p.entry) (lexeme_of token.entry.kind) }
+    ensures read { reads_on result ≡ the_after_argument (parts_of r) (pending_of p.entry) (lexeme_of token.entry.kind) }
+    ensures place { Goes (callee_mark p.entry.at) token.entry.span.start (why_after (lexeme_of token.entry.kind)) result }
 {
     if is_sign(Sign::CloseParen, token.kind) {
         return arguments_end(r, p);
@@ -341,7 +354,8 @@ fn at_semicolon<'a>(
     p: Pending<'a>,
     token: Token<'a>,
 ) -> Result<Result<Reading<'a>, ProgramFault>, AllocError>
-    ensures { IfOk result (λ o. reads_on o ≡ the_at_semicolon (parts_of r) (pending_of p.entry) (lexeme_of token.entry.kind)) }
+    ensures read { IfOk result (λ o. reads_on o ≡ the_at_semicolon (parts_of r) (pending_of p.entry) (lexeme_of token.entry.kind)) }
+    ensures place { IfOk result (λ o. Goes (callee_mark p.entry.at) token.entry.span.start (why_semicolon (lexeme_of token.entry.kind)) o) }
 {
     if !is_sign(Sign::Semicolon, token.kind) {
         return Ok(Err(ProgramFault::BadProgram {
@@ -371,7 +385,8 @@ fn at_thread_name<'a>(
     r: Parts,
     token: Token<'a>,
 ) -> Result<Result<Reading<'a>, ProgramFault>, AllocError>
-    ensures { IfOk result (λ o. reads_on o ≡ the_at_thread_name (parts_of r) (the_name_in (lexeme_of token.entry.kind))) }
+    ensures read { IfOk result (λ o. reads_on o ≡ the_at_thread_name (parts_of r) (the_name_in (lexeme_of token.entry.kind))) }
+    ensures place { IfOk result (λ o. Goes unmarked token.entry.span.start (why_thread_name (the_name_in (lexeme_of token.entry.kind))) o) }
 {
     let at = token.span.start;
     match name_in(token.kind) {
@@ -402,7 +417,9 @@ fn only<'a>(
     r: Parts,
     at: usize,
 ) -> Result<Reading<'a>, ProgramFault>
-    ensures { reads_on result ≡ the_when stands (the_at (parts_of r) (stage_of stage.entry)) }
+    ensures read { reads_on result ≡ the_when stands (the_at (parts_of r) (stage_of stage.entry)) }
+    ensures stage { IfOk result (λ q. q.stage ≡ stage.entry) }
+    ensures place { IfErr result (λ e. e ≡ fault_seen (fault_for unmarked at Form)) }
 {
     passing(
         Reading { stage, parts: r },
@@ -427,7 +444,8 @@ pub fn stepped<'a>(
     reading: Reading<'a>,
     token: Token<'a>,
 ) -> Result<Result<Reading<'a>, ProgramFault>, AllocError>
-    ensures { IfOk result (λ o. reads_on o ≡ the_stepped (outcome_of checked.now) (parts_of reading.entry.parts) (stage_of reading.entry.stage) (lexeme_of token.entry.kind)) }
+    ensures read { IfOk result (λ o. reads_on o ≡ the_stepped (outcome_of checked.now) (parts_of reading.entry.parts) (stage_of reading.entry.stage) (lexeme_of token.entry.kind)) }
+    ensures place { IfOk result (λ o. Goes (marks_of reading.entry.stage) token.entry.span.start (why (outcome_of checked.now) (parts_of reading.entry.parts) (stage_of reading.entry.stage) (lexeme_of token.entry.kind)) o) }
 {
     let at = token.span.start;
     let kind = token.kind;
@@ -458,7 +476,8 @@ pub fn stepped<'a>(
 
 // Another thread, where there is room.
 fn at_thread<'a>(r: Parts, token: Token<'a>) -> Result<Reading<'a>, ProgramFault>
-    ensures { reads_on result ≡ the_at_thread (parts_of r) (lexeme_of token.entry.kind) }
+    ensures read { reads_on result ≡ the_at_thread (parts_of r) (lexeme_of token.entry.kind) }
+    ensures place { Goes unmarked token.entry.span.start (why_thread (lexeme_of token.entry.kind)) result }
 {
     if !is_text("thread", name_in(token.kind)) {
         return Err(ProgramFault::BadProgram {

@@ -62,7 +62,7 @@ fn not_refused(alloc: Global, kind: Kind, rows: &[&str]) -> Result<String, Fail>
     Ok(wrong)
 }
 
-const BAD_PROGRAMS: [&str; 44] = [
+const BAD_PROGRAMS: [&str; 47] = [
     "^",
     "  /* gap */^",
     "^thread A { }",
@@ -107,6 +107,9 @@ const BAD_PROGRAMS: [&str; 44] = [
     "setup { ^# }",
     "setup { } ^/* x",
     "setup { } ^\u{e9}",
+    "setup { } /* x */ ^x",
+    "setup { d = new D(); /* d */ ^d = new D(); }",
+    "setup { c = new C(-/* 1 */ ^true, true); }",
 ];
 
 #[test]
@@ -116,7 +119,7 @@ fn refuses_bad_programs(rt: HostRuntime) -> Result<(), Fail> {
     Ok(())
 }
 
-const UNKNOWN_THINGS: [&str; 26] = [
+const UNKNOWN_THINGS: [&str; 29] = [
     "setup { s = new ^Q(); }",
     "setup { l = new ^ReentrantLock(); }",
     "setup { l = new ^Lock(); }",
@@ -143,6 +146,9 @@ const UNKNOWN_THINGS: [&str; 26] = [
     "setup { c = new C(1, true); c.is(^-1); }",
     "setup { c = new C(1, true); c.to(^true, true, true); }",
     "setup { c = new C(1, true); } thread A { c.get(); } thread B { c.^get(1); }",
+    "setup { /* s */ ^s /* s */ .f(); }",
+    "setup { c = new /* C */ ^C(/* C */ 1); }",
+    "setup { c = new C(1, true); c.is(/* 1 */ ^- /* 1 */ 1); }",
 ];
 
 #[test]

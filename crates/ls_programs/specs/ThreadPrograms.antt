@@ -15,7 +15,7 @@ use Rattle.ls_checked.specs.CheckedProgram.{SetupName, ProgramCall, ThreadProgra
 use Rattle.ls_elaboration.specs.Trees.{Text}
 use Rattle.ls_elaboration.specs.Known.{number_of}
 use Rattle.ls_elaboration.specs.Elaboration.{Outcome}
-use Rattle.ls_types.specs.ProgramCalls.{Pending, setup_named, maker, called_on, with_argument, is_full, plain_number, minus_number, call_of, names_after}
+use Rattle.ls_programs.specs.ProgramCalls.{Pending, setup_named, maker, called_on, with_argument, is_full, plain_number, minus_number, call_of, names_after}
 
 -- threads beside the setup; calls of a thread, the setup too; bytes of the text
 abbrev pub most_threads : ℕ

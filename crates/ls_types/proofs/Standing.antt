@@ -1,0 +1,49 @@
+-- The faults that are answered stand in the text.
+use Rattle.std.proofs.Common.{◌≡◌, ℕ, ◌<◌, length, refl, subst, List, Option, Some, None}
+use Rattle.std.specs.Prelude.{option_map}
+use Rattle.ls_lexer.specs.Lexemes.{lexemes}
+use Rattle.ls_lexer.specs.Places.{InOrder, Refused}
+use Rattle.ls_lexer.specs.Tokens.{tokens_of}
+use Rattle.ls_lexer.specs.declared.token.Token.{Token}
+use Rattle.ls_lexer.specs.declared.fault.TextFault.TheVariants as texts
+use Rattle.ls_elaboration.specs.Trees.{Text}
+use Rattle.ls_elaboration.specs.Elaboration.{Outcome}
+use Rattle.ls_checked.specs.CheckedProgram.{Program}
+use Rattle.ls_programs.specs.Programs.{IsTextOf}
+use Rattle.ls_programs.specs.ThreadPrograms.{beginning, program_of}
+use Rattle.ls_programs.proofs.Whole.{reads_what_is_spelled}
+use Rattle.ls_programs.specs.Stops.{Fault, Bad, Unknown, References, Past, stops, unmarked}
+use Rattle.ls_programs.specs.Refusals.{IsBadAt, NoToken, PassesLimit, Bytes}
+use Rattle.ls_programs.proofs.Pieces.{some_none, same_some}
+use Rattle.ls_programs.proofs.Stopping.{Shown, stops_show}
+use Rattle.ls_types.specs.declared.fault.ProgramFault.{ProgramFault}
+use Rattle.ls_types.specs.ProgramViews.{fault_seen, Stands}
+
+pub bad_byte : (o : Outcome) (text : Text) (at : ℕ) → Refused text (texts.BadByte at) → IsBadAt o text at
+bad_byte o text at h = NoToken (texts.BadByte at) h.0 h.1
+
+pub open_comment : (o : Outcome) (text : Text) (at : ℕ) → Refused text (texts.OpenComment at) → IsBadAt o text at
+open_comment o text at h = NoToken (texts.OpenComment at) h.0 h.1
+
+pub bad_number : (o : Outcome) (text : Text) (at : ℕ) → Refused text (texts.BadNumber at) → IsBadAt o text at
+bad_number o text at h = NoToken (texts.BadNumber at) h.0 h.1
+
+pub too_long : (o : Outcome) (text : Text) → 262144 < length text → PassesLimit o text
+too_long o text h = Bytes h
+
+seen_stands : (o : Outcome) (text : Text) (f : Fault) → Shown o text f → Stands o text (fault_seen f)
+seen_stands o text (Bad at) h = h
+seen_stands o text (Unknown at) h = h
+seen_stands o text (References at) h = h
+seen_stands o text Past h = h
+
+pub program_spelled : (o : Outcome) (text : Text) (p : Program) → program_of o text ≡ Some p → IsTextOf o p text
+program_spelled o text p e = (reads_what_is_spelled o text p).0 e
+
+pub program_stands : (o : Outcome) (text : Text) (ts : List Token) (e : ProgramFault) → tokens_of text ≡ Some (lexemes ts) → InOrder text 0 ts (length text)
+    → option_map fault_seen (stops o (length text) unmarked beginning ts) ≡ Some e → Stands o text e
+program_stands o text ts e lexed spans is = by (stops o (length text) unmarked beginning ts) (stops_show o text ts) is
+  where
+    by : (x : Option Fault) → ((f : Fault) → tokens_of text ≡ Some (lexemes ts) → InOrder text 0 ts (length text) → x ≡ Some f → Shown o text f) → option_map fault_seen x ≡ Some e → Stands o text e
+    by None h is = absurd (some_none e is)
+    by (Some f) h is = subst (Stands o text) (same_some (fault_seen f) e is) (seen_stands o text f (h f lexed spans refl))
