@@ -13,7 +13,7 @@ use Rattle.ls_elaboration.specs.Trees.{Text}
 use Rattle.ls_elaboration.specs.Elaboration.{elaborated}
 use Rattle.ls_elaboration.specs.PlacedStatements.{placed_file}
 use Rattle.ls_types.specs.CheckedFile.{outcome_of}
-use Rattle.ls_programs.specs.ThreadPrograms.{program_of}
+use Rattle.ls_programs.specs.Programs.{IsTextOf}
 use Rattle.ls_types.specs.declared.check.Checked.{Checked}
 use Rattle.ls_linker.specs.Limits.{KeepsLimits}
 use Rattle.ls_linker.specs.Runs.{Runs}
@@ -26,14 +26,14 @@ err_of f e = cc
 pub compiled : (classes text : Text) (parsed : ClassFile) (checked : Checked) (program : Program) (code : Code) (image : Image) →
     checked_of image ≡ checked → program_of_image image ≡ program → code_of_image image ≡ code →
     TextSpells (bare_file parsed) classes → elaborated (placed_file parsed) ≡ Ok (outcome_of checked) →
-    program_of (outcome_of checked) text ≡ Some (plain_program program) → Runs (outcome_of checked).file (plain_program program) code →
+    IsTextOf (outcome_of checked) (plain_program program) text → Runs (outcome_of checked).file (plain_program program) code →
     Compiles classes text image
 compiled classes text parsed checked program code image c p d spelled elaborates reads runs = record {
   parsed = parsed;
   spelled = spelled;
   elaborates = subst (λ x. elaborated (placed_file parsed) ≡ Ok (outcome_of x)) (sym c) elaborates;
-  reads = subst (λ x. program_of (outcome_of x) text ≡ Some (plain_program (program_of_image image))) (sym c)
-      (subst (λ y. program_of (outcome_of checked) text ≡ Some (plain_program y)) (sym p) reads);
+  reads = subst (λ x. IsTextOf (outcome_of x) (plain_program (program_of_image image)) text) (sym c)
+      (subst (λ y. IsTextOf (outcome_of checked) (plain_program y) text) (sym p) reads);
   runs = subst (λ x. Runs (outcome_of x).file (plain_program (program_of_image image)) (code_of_image image)) (sym c)
       (subst (λ y. Runs (outcome_of checked).file (plain_program y) (code_of_image image)) (sym p)
       (subst (λ z. Runs (outcome_of checked).file (plain_program program) z) (sym d) runs));

@@ -1,5 +1,5 @@
 -- What an image shows, what a compiled image owes its two texts, and what a refusal says of them.
-use Rattle.std.specs.Prelude.{◌≡◌, Some, Result, Ok, Err}
+use Rattle.std.specs.Prelude.{◌≡◌, Result, Ok, Err}
 use Rattle.ls_lexer.specs.declared.fault.TextFault.{TextFault}
 use Rattle.ls_terms.specs.Answers.{Refuses}
 use Rattle.ls_tree.specs.FileView.{bare_file}
@@ -15,8 +15,8 @@ use Rattle.ls_elaboration.specs.Trees.{Text}
 use Rattle.ls_elaboration.specs.Elaboration.{Outcome, elaborated}
 use Rattle.ls_elaboration.specs.PlacedStatements.{placed_file}
 use Rattle.ls_types.specs.CheckedFile.{outcome_of, Names}
-use Rattle.ls_types.specs.ProgramViews.{Refuses as RefusesProgram}
-use Rattle.ls_programs.specs.ThreadPrograms.{program_of}
+use Rattle.ls_types.specs.ProgramRefusals.{IsNoProgram}
+use Rattle.ls_programs.specs.Programs.{IsTextOf}
 use Rattle.ls_types.specs.declared.check.Checked.{Checked}
 use Rattle.ls_types.specs.declared.check.CheckFault.{CheckFault}
 use Rattle.ls_types.specs.declared.fault.ProgramFault.{ProgramFault}
@@ -45,7 +45,7 @@ pub record Compiles (classes program : Text) (image : Image) : Type 0 where
   pub parsed : ClassFile
   pub spelled : TextSpells (bare_file parsed) classes
   pub elaborates : elaborated (placed_file parsed) ≡ Ok (outcome_of (checked_of image))
-  pub reads : program_of (outcome_of (checked_of image)) program ≡ Some (plain_program (program_of_image image))
+  pub reads : IsTextOf (outcome_of (checked_of image)) (plain_program (program_of_image image)) program
   pub runs : RunsAsItsTexts image
 
 -- an image keeps each limit of the code
@@ -63,8 +63,8 @@ pub data CompilesTo (classes program : Text) : Result Image CompileFault → Typ
       TextSpells (bare_file parsed) classes → Names f (elaborated (placed_file parsed)) →
       CompilesTo classes program (Err (faults.Check f))
   NoProgram : (parsed : ClassFile) (o : Outcome) (f : ProgramFault) →
-      TextSpells (bare_file parsed) classes → elaborated (placed_file parsed) ≡ Ok o → RefusesProgram f (program_of o program) →
+      TextSpells (bare_file parsed) classes → elaborated (placed_file parsed) ≡ Ok o → IsNoProgram o program f →
       CompilesTo classes program (Err (faults.Program f))
   PastLimit : (parsed : ClassFile) (o : Outcome) (p : PlainProgram) (f : BuildFault) →
-      TextSpells (bare_file parsed) classes → elaborated (placed_file parsed) ≡ Ok o → program_of o program ≡ Some p → GoesPast o.file p f →
+      TextSpells (bare_file parsed) classes → elaborated (placed_file parsed) ≡ Ok o → IsTextOf o p program → GoesPast o.file p f →
       CompilesTo classes program (Err (faults.Build f))

@@ -18,8 +18,8 @@ use Rattle.ls_checked.specs.declared.program.Program as code
 use Rattle.ls_elaboration.specs.Elaboration.{Outcome, elaborated}
 use Rattle.ls_elaboration.specs.PlacedStatements.{placed_file}
 use Rattle.ls_types.specs.CheckedFile.{Names}
-use Rattle.ls_types.specs.ProgramViews.{Refuses as RefusesProgram}
-use Rattle.ls_programs.specs.ThreadPrograms.{program_of}
+use Rattle.ls_types.specs.ProgramRefusals.{IsNoProgram}
+use Rattle.ls_programs.specs.Programs.{IsTextOf}
 use Rattle.ls_types.specs.declared.check.CheckFault.{CheckFault}
 use Rattle.ls_types.specs.declared.check.CheckFault.TheVariants as rule
 use Rattle.ls_types.specs.declared.fault.ProgramFault.{ProgramFault}
@@ -86,14 +86,14 @@ check_fails c p s parsed (rule.Limit span) t n = Breaks parsed (rule.Limit span)
 pub checked_runs : (c p s : Text) (parsed : ClassFile) (o : Outcome) (r : Result (String Global) ToolFault) → TextSpells (bare_file parsed) c → elaborated (placed_file parsed) ≡ Ok o → Gives (RunsTo o p s) r → Gives (SourcesTo c p s) r
 checked_runs c p s parsed o r t e g = wider (RunsTo o p s) (SourcesTo c p s) r (λ a h. Checks parsed o a t e h) g
 
-pub program_fails : (o : Outcome) (p s : Text) (f : ProgramFault) → RefusesProgram f (program_of o p) → Gives (RunsTo o p s) (Failed (lifted_program f))
+pub program_fails : (o : Outcome) (p s : Text) (f : ProgramFault) → IsNoProgram o p f → Gives (RunsTo o p s) (Failed (lifted_program f))
 program_fails o p s program.Memory r = tt
 program_fails o p s (program.BadProgram at) r = NoProgram (program.BadProgram at) r
 program_fails o p s (program.UnknownThing at) r = NoProgram (program.UnknownThing at) r
 program_fails o p s (program.ReferenceResult at) r = NoProgram (program.ReferenceResult at) r
 program_fails o p s program.ProgramLimit r = NoProgram program.ProgramLimit r
 
-pub program_runs : (o : Outcome) (p s : Text) (q : Program) (r : Result (String Global) ToolFault) → program_of o p ≡ Some q → Gives (λ a. a ≡ played o.file q s) r → Gives (RunsTo o p s) r
+pub program_runs : (o : Outcome) (p s : Text) (q : Program) (r : Result (String Global) ToolFault) → IsTextOf o q p → Gives (λ a. a ≡ played o.file q s) r → Gives (RunsTo o p s) r
 program_runs o p s q r e g = wider (λ a. a ≡ played o.file q s) (RunsTo o p s) r (λ a h. subst (RunsTo o p s) (sym h) (Ran q e)) g
 
 -- the names of the threads

@@ -12,7 +12,8 @@ use Rattle.ls_checked.specs.CheckedProgram.{Program}
 use Rattle.ls_elaboration.specs.Elaboration.{Outcome, elaborated}
 use Rattle.ls_elaboration.specs.PlacedStatements.{placed_file}
 use Rattle.ls_types.specs.CheckedFile.{Names}
-use Rattle.ls_programs.specs.ThreadPrograms.{program_of}
+use Rattle.ls_programs.specs.Programs.{IsTextOf}
+use Rattle.ls_types.specs.ProgramRefusals.{IsNoProgram}
 use Rattle.ls_types.specs.declared.check.CheckFault.{CheckFault}
 use Rattle.ls_types.specs.declared.fault.ProgramFault.{ProgramFault}
 use Rattle.ls_meaning.specs.Runs.{source_history}
@@ -36,8 +37,8 @@ played file p schedule = played_by file p (schedule_of (names_of p) schedule)
 
 -- the program part is a program of the file, and the answer that of its run; or it is none
 pub data RunsTo (o : Outcome) (program schedule : Text) : Result Text ToolFault → Type 0 where
-  Ran : (p : Program) → program_of o program ≡ Some p → RunsTo o program schedule (played o.file p schedule)
-  NoProgram : (f : ProgramFault) → program_of o program ≡ None → RunsTo o program schedule (Err (lifted_program f))
+  Ran : (p : Program) → IsTextOf o p program → RunsTo o program schedule (played o.file p schedule)
+  NoProgram : (f : ProgramFault) → IsNoProgram o program f → RunsTo o program schedule (Err (lifted_program f))
 
 -- The class part spells a file that keeps every rule, and the answer is that of its program and schedule; or it spells
 -- one that breaks the rule that is named; or it spells none, and the fault is one that may come of it.

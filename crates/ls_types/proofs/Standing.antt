@@ -1,5 +1,5 @@
 -- The faults that are answered stand in the text.
-use Rattle.std.proofs.Common.{◌≡◌, ℕ, ◌<◌, length, refl, subst, List, Option, Some, None}
+use Rattle.std.proofs.Common.{◌≡◌, ℕ, ◌<◌, length, refl, sym, ◌∙◌, subst, List, Option, Some, None}
 use Rattle.std.specs.Prelude.{option_map}
 use Rattle.ls_lexer.specs.Lexemes.{lexemes}
 use Rattle.ls_lexer.specs.Places.{InOrder, Refused}
@@ -17,7 +17,9 @@ use Rattle.ls_programs.specs.Refusals.{IsBadAt, NoToken, PassesLimit, Bytes}
 use Rattle.ls_programs.proofs.Pieces.{some_none, same_some}
 use Rattle.ls_programs.proofs.Stopping.{Shown, stops_show}
 use Rattle.ls_types.specs.declared.fault.ProgramFault.{ProgramFault}
-use Rattle.ls_types.specs.ProgramViews.{fault_seen, Stands}
+use Rattle.ls_types.specs.declared.fault.ProgramFault.TheVariants as faults
+use Rattle.ls_types.specs.ProgramViews.{fault_seen, Refuses}
+use Rattle.ls_types.specs.ProgramRefusals.{Stands, IsNoProgram}
 
 pub bad_byte : (o : Outcome) (text : Text) (at : ℕ) → Refused text (texts.BadByte at) → IsBadAt o text at
 bad_byte o text at h = NoToken (texts.BadByte at) h.0 h.1
@@ -47,3 +49,14 @@ program_stands o text ts e lexed spans is = by (stops o (length text) unmarked b
     by : (x : Option Fault) → ((f : Fault) → tokens_of text ≡ Some (lexemes ts) → InOrder text 0 ts (length text) → x ≡ Some f → Shown o text f) → option_map fault_seen x ≡ Some e → Stands o text e
     by None h is = absurd (some_none e is)
     by (Some f) h is = subst (Stands o text) (same_some (fault_seen f) e is) (seen_stands o text f (h f lexed spans refl))
+
+-- what isn't read is spelled by no program of the file
+none_spelled : (o : Outcome) (text : Text) → program_of o text ≡ None → (p : Program) → IsTextOf o p text → ⊥
+none_spelled o text none p is = (let some : program_of o text ≡ Some p = (reads_what_is_spelled o text p).1 is in let no : None ≡ Some p = sym none ∙ some in cc)
+
+pub no_program : (o : Outcome) (text : Text) (f : ProgramFault) → Refuses f (program_of o text) → Stands o text f → IsNoProgram o text f
+no_program o text faults.Memory r s = record { none = tt; stands = s }
+no_program o text (faults.BadProgram at) r s = record { none = none_spelled o text r; stands = s }
+no_program o text (faults.UnknownThing at) r s = record { none = none_spelled o text r; stands = s }
+no_program o text (faults.ReferenceResult at) r s = record { none = none_spelled o text r; stands = s }
+no_program o text faults.ProgramLimit r s = record { none = none_spelled o text r; stands = s }

@@ -1,2 +1,3 @@
 pub mod CheckedFile
 pub mod ProgramViews
+pub mod ProgramRefusals

@@ -15,10 +15,6 @@ use Rattle.ls_types.specs.declared.reading.Reading.{Reading}
 use Rattle.ls_programs.specs.ProgramCalls as calls
 use Rattle.ls_programs.specs.ThreadPrograms as programs
 use Rattle.ls_programs.specs.Stops.{Marks, unmarked, name_mark, callee_mark, minus_mark, marked, Why, Fault, Bad, Unknown, References, Past, fault_for, fault_at_end}
-use Rattle.ls_programs.specs.Faults.{IsUnknown, IsReference}
-use Rattle.ls_programs.specs.Refusals.{ShowsAt, IsBadAt, PassesLimit}
-use Rattle.ls_elaboration.specs.Trees.{Text}
-use Rattle.ls_elaboration.specs.Elaboration.{Outcome}
 
 abbrev pub callee_of : Callee → calls.Callee
 callee_of (callees.Maker name class class_name) = calls.Maker name.now class class_name.now
@@ -76,14 +72,6 @@ Refuses (faults.BadProgram at) p = p ≡ None
 Refuses (faults.UnknownThing at) p = p ≡ None
 Refuses (faults.ReferenceResult at) p = p ≡ None
 Refuses faults.ProgramLimit p = p ≡ None
-
--- each refusal but want of memory comes only where its fault stands
-abbrev pub Stands : Outcome → Text → ProgramFault → Type 0
-Stands o text faults.Memory = Unit {0}
-Stands o text (faults.BadProgram at) = IsBadAt o text at
-Stands o text (faults.UnknownThing at) = ShowsAt (IsUnknown o) text at
-Stands o text (faults.ReferenceResult at) = ShowsAt (IsReference o) text at
-Stands o text faults.ProgramLimit = PassesLimit o text
 
 -- the places that a stage keeps
 abbrev pub marks_of : Stage → Marks

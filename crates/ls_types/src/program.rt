@@ -10,7 +10,8 @@ ghost use Rattle.ls_types.specs.CheckedFile.{outcome_of};
 ghost use Rattle.ls_programs.specs.ThreadPrograms.{ended, after, beginning as the_beginning, whole as the_whole, program_of, program_of_tokens};
 ghost use Rattle.ls_programs.specs.Programs.{IsTextOf};
 ghost use Rattle.ls_programs.specs.Stops.{stops, unmarked, fault_at_end};
-ghost use Rattle.ls_types.specs.ProgramViews.{stage_of, reading_of, reads_on, reads_program, fault_seen, StopsAt, Refuses, Stands};
+ghost use Rattle.ls_types.specs.ProgramViews.{stage_of, reading_of, reads_on, reads_program, fault_seen, StopsAt, Refuses};
+ghost use Rattle.ls_types.specs.ProgramRefusals.{Stands};
 
 use crate::check::Checked;
 use crate::fault::ProgramFault;

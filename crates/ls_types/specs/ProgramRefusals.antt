@@ -1,0 +1,27 @@
+-- What a fault says of a text that is no program of a file, and where it stands.
+use Rattle.ls_checked.specs.CheckedProgram.{Program}
+use Rattle.ls_elaboration.specs.Trees.{Text}
+use Rattle.ls_elaboration.specs.Elaboration.{Outcome}
+use Rattle.ls_programs.specs.Faults.{IsUnknown, IsReference}
+use Rattle.ls_programs.specs.Programs.{IsTextOf}
+use Rattle.ls_programs.specs.Refusals.{ShowsAt, IsBadAt, PassesLimit}
+use Rattle.ls_types.specs.declared.fault.ProgramFault.{ProgramFault}
+use Rattle.ls_types.specs.declared.fault.ProgramFault.TheVariants as faults
+
+-- each refusal but want of memory comes only where its fault stands
+abbrev pub Stands : Outcome → Text → ProgramFault → Type 0
+Stands o text faults.Memory = Unit {0}
+Stands o text (faults.BadProgram at) = IsBadAt o text at
+Stands o text (faults.UnknownThing at) = ShowsAt (IsUnknown o) text at
+Stands o text (faults.ReferenceResult at) = ShowsAt (IsReference o) text at
+Stands o text faults.ProgramLimit = PassesLimit o text
+
+-- what a fault other than want of memory says
+abbrev pub Says : ProgramFault → Type 0 → Type 0
+Says faults.Memory claim = Unit {0}
+Says _ claim = claim
+
+-- the text is no program of the file, and the fault stands there
+pub record IsNoProgram (o : Outcome) (text : Text) (f : ProgramFault) : Type 0 where
+  pub none : Says f ((p : Program) → IsTextOf o p text → ⊥)
+  pub stands : Stands o text f
