@@ -20,7 +20,7 @@ use Rattle.ls_linker.specs.Runs.{Runs}
 use Rattle.ls_compiler.specs.Images.{Compiles, IsWithinLimits, checked_of, program_of_image, code_of_image}
 use Rattle.ls_compiler.specs.declared.image.Image.{Image}
 
-pub err_of : (f : TextFault) → IsErrOf (Err f) text.TooLong → f ≡ text.TooLong
+pub err_of : {T : Type 0} (f : TextFault) → IsErrOf {T = T} (Err f) text.TooLong → f ≡ text.TooLong
 err_of f e = cc
 
 pub compiled : (classes text : Text) (parsed : ClassFile) (checked : Checked) (program : Program) (code : Code) (image : Image) →

@@ -57,7 +57,7 @@ wider May May' (Err fault.NotText) h g = h (Err fault.NotText) g
 wider May May' (Err fault.ReadFailed) h g = h (Err fault.ReadFailed) g
 wider May May' (Err fault.WriteFailed) h g = h (Err fault.WriteFailed) g
 
-pub err_of : (f : TextFault) → IsErrOf (Err f) text.TooLong → f ≡ text.TooLong
+pub err_of : {T : Type 0} (f : TextFault) → IsErrOf {T = T} (Err f) text.TooLong → f ≡ text.TooLong
 err_of f e = cc
 
 pub text_fails : (c p s : Text) (f : TextFault) → Refuses f ((file : ParsedFile) → TextSpells file c → ⊥) → Comes c f → Gives (SourcesTo c p s) (Failed (lifted_text f))
