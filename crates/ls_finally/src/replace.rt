@@ -12,6 +12,7 @@ ghost use Rattle.ls_finally.specs.Code.{how_many, plain_exit, plain_exits};
 
 use crate::copy::{block_of, copy_expression, copy_statement};
 use crate::exits::{Exit, Loops, beyond, collect_exits};
+use ls_lowered::together::{also, pair};
 use ls_lowered::tree::{Expression, Statement};
 use std::alloc::{AllocError, Global};
 
@@ -33,10 +34,7 @@ struct ReplacedPart {
 fn in_turn(alloc: Global, first: Statement, second: Statement) -> Result<Statement, AllocError>
     ensures { IfOk result (λ t. plain_statement t ≡ both (plain_statement first) (plain_statement second)) }
 {
-    let mut statements = Vec::new(alloc);
-    statements.push(first)?;
-    statements.push(second)?;
-    Ok(block_of(statements))
+    Ok(block_of(pair(alloc, first, second)?))
 }
 
 // A leave in place of an exit.
@@ -201,7 +199,8 @@ fn replace_exits(
         }
         Statement::If(e, first, second) => {
             let first = replace_in_part(alloc, first, &*loops, kept, next)?;
-            let second = replace_in_part(alloc, second, &*loops, kept, first.next)?;
+            let second = replace_in_part(alloc, second, &*loops, kept, first.next);
+            let (first, second) = also(first, second)?;
             branch(alloc, e, first, second)
         }
         Statement::While(e, body) => {
@@ -221,12 +220,14 @@ fn replace_exits(
         Statement::Try(_, _) => keeping(alloc, s, loops, next),
         Statement::Guarded(body, number, handler) => {
             let body = replace_in_part(alloc, body, &*loops, kept, next)?;
-            let handler = replace_in_part(alloc, handler, &*loops, kept, body.next)?;
+            let handler = replace_in_part(alloc, handler, &*loops, kept, body.next);
+            let (body, handler) = also(body, handler)?;
             guarded(body, *number, handler)
         }
         Statement::Leavable(body, exit) => {
             let body = replace_in_part(alloc, body, &*loops, kept, next + 1)?;
-            let exit = replace_in_part(alloc, exit, &*loops, kept, body.next - 1)?;
+            let exit = replace_in_part(alloc, exit, &*loops, kept, body.next - 1);
+            let (body, exit) = also(body, exit)?;
             leavable(body, exit)
         }
         Statement::SetLocal(_, _)
