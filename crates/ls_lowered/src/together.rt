@@ -41,6 +41,22 @@ pub fn also<T: Drop, U: Drop>(first: T, next: Result<U, AllocError>) -> Result<(
     Ok((first, next))
 }
 
+/// All three in boxes.
+pub fn three<T: Drop, U: Drop, V: Drop>(
+    alloc: Global,
+    a: T,
+    b: U,
+    c: V,
+) -> Result<(Box<T>, (Box<U>, Box<V>)), AllocError>
+    ensures first { IfOk result (λ p. p.0.value ≡ a) }
+    ensures second { IfOk result (λ p. p.1.0.value ≡ b) }
+    ensures third { IfOk result (λ p. p.1.1.value ≡ c) }
+{
+    let a = Box::new(alloc, a)?;
+    let others = two(alloc, b, c);
+    also(a, others)
+}
+
 /// What is there, with what comes next if anything does.
 pub fn beside<T: Drop, U: Drop>(
     first: T,
