@@ -18,68 +18,54 @@ pub fn copy_expression(alloc: Global, e: &Expression) -> Result<Expression, Allo
         Expression::Local(number) => Ok(Expression::Local(*number)),
         Expression::Unary(op, e) => Ok(Expression::Unary(*op, boxed(alloc, e)?)),
         Expression::Binary(op, a, b) => {
-            let a = boxed(alloc, a)?;
-            let (a, b) = also(a, boxed(alloc, b))?;
+            let (a, b) = boxed_two(alloc, a, b)?;
             Ok(Expression::Binary(*op, a, b))
         }
         Expression::And(a, b) => {
-            let a = boxed(alloc, a)?;
-            let (a, b) = also(a, boxed(alloc, b))?;
+            let (a, b) = boxed_two(alloc, a, b)?;
             Ok(Expression::And(a, b))
         }
         Expression::Or(a, b) => {
-            let a = boxed(alloc, a)?;
-            let (a, b) = also(a, boxed(alloc, b))?;
+            let (a, b) = boxed_two(alloc, a, b)?;
             Ok(Expression::Or(a, b))
         }
         Expression::Hold(a, number, b) => {
-            let a = boxed(alloc, a)?;
-            let (a, b) = also(a, boxed(alloc, b))?;
+            let (a, b) = boxed_two(alloc, a, b)?;
             Ok(Expression::Hold(a, *number, b))
         }
         Expression::Keep(number, a, b) => {
-            let a = boxed(alloc, a)?;
-            let (a, b) = also(a, boxed(alloc, b))?;
+            let (a, b) = boxed_two(alloc, a, b)?;
             Ok(Expression::Keep(*number, a, b))
         }
         Expression::After(a, b) => {
-            let a = boxed(alloc, a)?;
-            let (a, b) = also(a, boxed(alloc, b))?;
+            let (a, b) = boxed_two(alloc, a, b)?;
             Ok(Expression::After(a, b))
         }
         Expression::Field(e, number) => Ok(Expression::Field(boxed(alloc, e)?, *number)),
         Expression::Item(a, b) => {
-            let a = boxed(alloc, a)?;
-            let (a, b) = also(a, boxed(alloc, b))?;
+            let (a, b) = boxed_two(alloc, a, b)?;
             Ok(Expression::Item(a, b))
         }
         Expression::SetFirst(a, b) => {
-            let a = boxed(alloc, a)?;
-            let (a, b) = also(a, boxed(alloc, b))?;
+            let (a, b) = boxed_two(alloc, a, b)?;
             Ok(Expression::SetFirst(a, b))
         }
         Expression::ReadPair(e) => Ok(Expression::ReadPair(boxed(alloc, e)?)),
         Expression::SetPair(a, b) => {
-            let a = boxed(alloc, a)?;
-            let (a, b) = also(a, boxed(alloc, b))?;
+            let (a, b) = boxed_two(alloc, a, b)?;
             Ok(Expression::SetPair(a, b))
         }
         Expression::SwapPair(e, a, b) => {
-            let e = boxed(alloc, e)?;
-            let (e, a) = also(e, boxed(alloc, a))?;
-            let ((e, a), b) = also((e, a), boxed(alloc, b))?;
+            let (e, (a, b)) = boxed_three(alloc, e, a, b)?;
             Ok(Expression::SwapPair(e, a, b))
         }
         Expression::AttemptMark(e, a, b) => {
-            let e = boxed(alloc, e)?;
-            let (e, a) = also(e, boxed(alloc, a))?;
-            let ((e, a), b) = also((e, a), boxed(alloc, b))?;
+            let (e, (a, b)) = boxed_three(alloc, e, a, b)?;
             Ok(Expression::AttemptMark(e, a, b))
         }
         Expression::OnLock(op, e) => Ok(Expression::OnLock(*op, boxed(alloc, e)?)),
         Expression::Call(method, e, arguments) => {
-            let e = boxed(alloc, e)?;
-            let (e, arguments) = also(e, boxed_all(alloc, arguments))?;
+            let (e, arguments) = boxed_call(alloc, e, arguments)?;
             Ok(Expression::Call(*method, e, arguments))
         }
         Expression::MakeObject(class, constructor, arguments) => {
@@ -99,14 +85,54 @@ fn boxed(alloc: Global, e: &Expression) -> Result<Box<Expression>, AllocError>
 }
 
 #[cycle(expressions)]
+fn boxed_two(
+    alloc: Global,
+    a: &Expression,
+    b: &Expression,
+) -> Result<(Box<Expression>, Box<Expression>), AllocError>
+    ensures first { IfOk result (λ t. plain t.0.value ≡ plain a.now) }
+    ensures second { IfOk result (λ t. plain t.1.value ≡ plain b.now) }
+{
+    let first = boxed(alloc, a)?;
+    also(first, boxed(alloc, b))
+}
+
+#[cycle(expressions)]
+fn boxed_three(
+    alloc: Global,
+    e: &Expression,
+    a: &Expression,
+    b: &Expression,
+) -> Result<(Box<Expression>, (Box<Expression>, Box<Expression>)), AllocError>
+    ensures first { IfOk result (λ t. plain t.0.value ≡ plain e.now) }
+    ensures second { IfOk result (λ t. plain t.1.0.value ≡ plain a.now) }
+    ensures third { IfOk result (λ t. plain t.1.1.value ≡ plain b.now) }
+{
+    let first = boxed(alloc, e)?;
+    also(first, boxed_two(alloc, a, b))
+}
+
+#[cycle(expressions)]
+fn boxed_call(
+    alloc: Global,
+    e: &Expression,
+    es: &Expressions,
+) -> Result<(Box<Expression>, Box<Expressions>), AllocError>
+    ensures first { IfOk result (λ t. plain t.0.value ≡ plain e.now) }
+    ensures others { IfOk result (λ t. all_plain t.1.value ≡ all_plain es.now) }
+{
+    let first = boxed(alloc, e)?;
+    also(first, boxed_all(alloc, es))
+}
+
+#[cycle(expressions)]
 fn boxed_all(alloc: Global, es: &Expressions) -> Result<Box<Expressions>, AllocError>
     ensures { IfOk result (λ t. all_plain t.value ≡ all_plain es.now) }
 {
     match es {
         Expressions::End => Ok(Box::new(alloc, Expressions::End)?),
         Expressions::More(first, others) => {
-            let first = boxed(alloc, first)?;
-            let (first, others) = also(first, boxed_all(alloc, others))?;
+            let (first, others) = boxed_call(alloc, first, others)?;
             Ok(Box::new(alloc, Expressions::More(first, others))?)
         }
     }
