@@ -12,7 +12,7 @@ ghost use Rattle.ls_finally.specs.Code.{how_many, plain_exit, plain_exits};
 
 use crate::copy::{block_of, copy_expression, copy_statement};
 use crate::exits::{Exit, Loops, beyond, collect_exits};
-use ls_lowered::together::{also, pair};
+use ls_lowered::together::{also, pair, two};
 use ls_lowered::tree::{Expression, Statement};
 use std::alloc::{AllocError, Global};
 
@@ -250,6 +250,18 @@ fn exit_statement(kept: usize, exit: Exit) -> Statement
     }
 }
 
+// A copy of the finally block, and then the last.
+fn copied_before(
+    alloc: Global,
+    finally: &Statement,
+    last: Statement,
+) -> Result<Statement, AllocError>
+    ensures { IfOk result (λ t. plain_statement t ≡ both (plain_statement finally.now) (plain_statement last)) }
+{
+    let (last, copy) = also(last, copy_statement(alloc, finally))?;
+    in_turn(alloc, copy, last)
+}
+
 // Each exit with its own copy of the finally block.
 fn wrap(
     alloc: Global,
@@ -262,12 +274,10 @@ fn wrap(
 {
     let mut whole = tree;
     for way in ways {
-        let last = in_turn(
-            alloc,
-            copy_statement(alloc, finally)?,
-            exit_statement(kept, *way),
-        )?;
-        whole = Statement::Leavable(Box::new(alloc, whole)?, Box::new(alloc, last)?);
+        let last = copied_before(alloc, finally, exit_statement(kept, *way));
+        let (before, last) = also(whole, last)?;
+        let (before, last) = two(alloc, before, last)?;
+        whole = Statement::Leavable(before, last);
     }
     Ok(whole)
 }
@@ -286,16 +296,11 @@ pub fn by_copies(
     ensures { IfOk result (λ t. plain_statement t ≡ finally_of free (plain_statement body.now) (plain_statement finally.now)) }
 {
     let inside = replace_exits(alloc, body, &Loops::Outermost, free + 1, 0)?;
-    let on_throw = in_turn(
-        alloc,
-        copy_statement(alloc, finally)?,
-        Statement::Throw(free),
-    )?;
-    let guarded = Statement::Guarded(
-        Box::new(alloc, inside.tree)?,
-        free,
-        Box::new(alloc, on_throw)?,
-    );
-    let normally = in_turn(alloc, guarded, copy_statement(alloc, finally)?)?;
+    let on_throw = copied_before(alloc, finally, Statement::Throw(free));
+    let (inside, on_throw) = also(inside.tree, on_throw)?;
+    let (inside, on_throw) = two(alloc, inside, on_throw)?;
+    let guarded = Statement::Guarded(inside, free, on_throw);
+    let (guarded, last) = also(guarded, copy_statement(alloc, finally))?;
+    let normally = in_turn(alloc, guarded, last)?;
     wrap(alloc, normally, finally, ways, free + 1)
 }
