@@ -1,11 +1,7 @@
-//! Tests of the public calls that lower trees, emit code and make steps. They stand apart from the crates that they test, so
+//! Tests of the public calls that lower trees and make steps. They stand apart from the crates that they test, so
 //! that they are proved without proving those again.
 #![tactic(auto)]
 
-#[cfg(test)]
-mod emitting;
-#[cfg(test)]
-mod finally;
 #[cfg(test)]
 mod locks;
 #[cfg(test)]

@@ -1,5 +1,4 @@
 pub mod Small
 pub mod Short
 pub mod Alone
-pub mod Depths
 pub mod Places

@@ -50,6 +50,18 @@ pub fn put(out: &mut Vec<Instruction>, instruction: Instruction) -> Result<(), A
     Ok(())
 }
 
+// Two instructions.
+fn put_two(
+    out: &mut Vec<Instruction>,
+    first: Instruction,
+    second: Instruction,
+) -> Result<(), AllocError>
+    ensures { OnOk result (out.new.items ≡ out.old.items ++ first ∷ second ∷ []) }
+{
+    put(out, first)?;
+    put(out, second)
+}
+
 /// The code of an expression that stands at a place, behind the code that is there; the place behind it.
 #[cycle(expressions)]
 pub fn emit_expression(
@@ -92,8 +104,7 @@ pub fn emit_expression(
         Expression::After(a, b) => emit_around(out, place, a, Instruction::Pop, b),
         Expression::SetFirst(a, b) => {
             let next = emit_around(out, place, a, Instruction::Push(0), b)?;
-            put(out, Instruction::PutItem)?;
-            put(out, Instruction::Push(0))?;
+            put_two(out, Instruction::PutItem, Instruction::Push(0))?;
             Ok(next + 2)
         }
         Expression::And(a, b) => emit_and(out, place, a, b),
@@ -109,11 +120,9 @@ pub fn emit_expression(
             Ok(next + 1)
         }
         Expression::MakeObject(class, method, es) => {
-            put(out, Instruction::NewObject(*class as u32))?;
-            put(out, Instruction::Dup)?;
+            put_two(out, Instruction::NewObject(*class as u32), Instruction::Dup)?;
             let next = emit_all(out, place + 2, es)?;
-            put(out, Instruction::Enter(*method as u32))?;
-            put(out, Instruction::Pop)?;
+            put_two(out, Instruction::Enter(*method as u32), Instruction::Pop)?;
             Ok(next + 2)
         }
     }
@@ -131,8 +140,7 @@ fn emit_all(out: &mut Vec<Instruction>, place: usize, es: &Expressions) -> Resul
         Expressions::End => Ok(place),
         Expressions::More(first, others) => {
             let next = emit_expression(out, place, first)?;
-            let next = emit_all(out, next, others)?;
-            Ok(next)
+            emit_all(out, next, others)
         }
     }
 }
@@ -227,8 +235,7 @@ fn emit_around(
 {
     let middle = emit_expression(out, place, a)?;
     put(out, instruction)?;
-    let next = emit_expression(out, middle + 1, b)?;
-    Ok(next)
+    emit_expression(out, middle + 1, b)
 }
 
 #[cycle(expressions)]
@@ -247,8 +254,11 @@ fn emit_and(
     let otherwise = middle + size_of(b) + 2;
     put(out, Instruction::JumpIfFalse(otherwise as u32))?;
     emit_expression(out, middle + 1, b)?;
-    put(out, Instruction::Jump((otherwise + 1) as u32))?;
-    put(out, Instruction::Push(0))?;
+    put_two(
+        out,
+        Instruction::Jump((otherwise + 1) as u32),
+        Instruction::Push(0),
+    )?;
     Ok(otherwise + 1)
 }
 
@@ -267,8 +277,7 @@ fn emit_or(
     let middle = emit_expression(out, place, a)?;
     let end = middle + size_of(b) + 3;
     put(out, Instruction::JumpIfFalse((middle + 3) as u32))?;
-    put(out, Instruction::Push(1))?;
-    put(out, Instruction::Jump(end as u32))?;
+    put_two(out, Instruction::Push(1), Instruction::Jump(end as u32))?;
     emit_expression(out, middle + 3, b)?;
     Ok(end)
 }

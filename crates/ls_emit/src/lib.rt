@@ -3,7 +3,6 @@
 
 pub mod code_unit;
 pub mod emit;
-pub mod emittable;
 pub mod expressions;
 pub mod fault;
 pub mod needs;

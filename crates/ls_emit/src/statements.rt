@@ -136,8 +136,7 @@ fn emit_throw(out: &mut Vec<Instruction>, number: u32) -> Result<(), AllocError>
     ensures { OnOk result (out.new.items ≡ out.old.items ++ op.Load number ∷ op.Throw ∷ []) }
 {
     put(out, Instruction::Load(number))?;
-    put(out, Instruction::Throw)?;
-    Ok(())
+    put(out, Instruction::Throw)
 }
 
 #[cycle(statements)]
@@ -184,8 +183,7 @@ fn emit_if(
     put(out, Instruction::JumpIfFalse(other as u32))?;
     emit_statement(out, rows, &*around, next + 1, other - 1, first)?;
     put(out, Instruction::Jump(end as u32))?;
-    emit_statement(out, rows, &*around, other, end, second)?;
-    Ok(())
+    emit_statement(out, rows, &*around, other, end, second)
 }
 
 #[cycle(statements)]
@@ -208,8 +206,7 @@ fn emit_while(
     put(out, Instruction::JumpIfFalse(end as u32))?;
     let inner = Around::Loop((end - 1) as u32, end as u32, &*around);
     emit_statement(out, rows, &inner, next + 1, end - 1, body)?;
-    put(out, Instruction::Turn(place as u32))?;
-    Ok(())
+    put(out, Instruction::Turn(place as u32))
 }
 
 // A throw from the body goes on behind the jump over the handler.
@@ -240,8 +237,7 @@ fn emit_guarded(
         depth: 0,
     })?;
     put(out, Instruction::Store(number))?;
-    emit_statement(out, rows, &*around, after, end, handler)?;
-    Ok(())
+    emit_statement(out, rows, &*around, after, end, handler)
 }
 
 #[cycle(statements)]
@@ -264,6 +260,5 @@ fn emit_leavable(
     let inner = Around::Region(after as u32, &*around);
     emit_statement(out, rows, &inner, place, after - 1, body)?;
     put(out, Instruction::Jump(end as u32))?;
-    emit_statement(out, rows, &*around, after, end, exit)?;
-    Ok(())
+    emit_statement(out, rows, &*around, after, end, exit)
 }

@@ -11,3 +11,4 @@ pub mod Fitting
 pub mod Flats
 pub mod Calls
 pub mod Methods
+pub mod Weights

@@ -4,6 +4,7 @@ ghost use Rattle.std.specs.Prelude.{◌≡◌, IfOk};
 ghost use Rattle.ls_lowered.specs.LoweredTree.{Block};
 ghost use Rattle.ls_lowered.specs.Plain.{plain, all_plain, plain_statement, statements_of};
 
+use ls_lowered::together::also;
 use ls_lowered::tree::{Expression, Expressions, Statement};
 use std::alloc::{AllocError, Global};
 
@@ -16,50 +17,59 @@ pub fn copy_expression(alloc: Global, e: &Expression) -> Result<Expression, Allo
         Expression::Word(word) => Ok(Expression::Word(*word)),
         Expression::Local(number) => Ok(Expression::Local(*number)),
         Expression::Unary(op, e) => Ok(Expression::Unary(*op, boxed(alloc, e)?)),
-        Expression::Binary(op, a, b) => Ok(Expression::Binary(
-            *op,
-            boxed(alloc, a)?,
-            boxed(alloc, b)?,
-        )),
-        Expression::And(a, b) => Ok(Expression::And(boxed(alloc, a)?, boxed(alloc, b)?)),
-        Expression::Or(a, b) => Ok(Expression::Or(boxed(alloc, a)?, boxed(alloc, b)?)),
-        Expression::Hold(a, number, b) => Ok(Expression::Hold(
-            boxed(alloc, a)?,
-            *number,
-            boxed(alloc, b)?,
-        )),
-        Expression::Keep(number, a, b) => Ok(Expression::Keep(
-            *number,
-            boxed(alloc, a)?,
-            boxed(alloc, b)?,
-        )),
-        Expression::After(a, b) => Ok(Expression::After(boxed(alloc, a)?, boxed(alloc, b)?)),
+        Expression::Binary(op, a, b) => {
+            let (a, b) = boxed_two(alloc, a, b)?;
+            Ok(Expression::Binary(*op, a, b))
+        }
+        Expression::And(a, b) => {
+            let (a, b) = boxed_two(alloc, a, b)?;
+            Ok(Expression::And(a, b))
+        }
+        Expression::Or(a, b) => {
+            let (a, b) = boxed_two(alloc, a, b)?;
+            Ok(Expression::Or(a, b))
+        }
+        Expression::Hold(a, number, b) => {
+            let (a, b) = boxed_two(alloc, a, b)?;
+            Ok(Expression::Hold(a, *number, b))
+        }
+        Expression::Keep(number, a, b) => {
+            let (a, b) = boxed_two(alloc, a, b)?;
+            Ok(Expression::Keep(*number, a, b))
+        }
+        Expression::After(a, b) => {
+            let (a, b) = boxed_two(alloc, a, b)?;
+            Ok(Expression::After(a, b))
+        }
         Expression::Field(e, number) => Ok(Expression::Field(boxed(alloc, e)?, *number)),
-        Expression::Item(a, b) => Ok(Expression::Item(boxed(alloc, a)?, boxed(alloc, b)?)),
-        Expression::SetFirst(a, b) => Ok(Expression::SetFirst(boxed(alloc, a)?, boxed(alloc, b)?)),
+        Expression::Item(a, b) => {
+            let (a, b) = boxed_two(alloc, a, b)?;
+            Ok(Expression::Item(a, b))
+        }
+        Expression::SetFirst(a, b) => {
+            let (a, b) = boxed_two(alloc, a, b)?;
+            Ok(Expression::SetFirst(a, b))
+        }
         Expression::ReadPair(e) => Ok(Expression::ReadPair(boxed(alloc, e)?)),
-        Expression::SetPair(a, b) => Ok(Expression::SetPair(boxed(alloc, a)?, boxed(alloc, b)?)),
-        Expression::SwapPair(e, a, b) => Ok(Expression::SwapPair(
-            boxed(alloc, e)?,
-            boxed(alloc, a)?,
-            boxed(alloc, b)?,
-        )),
-        Expression::AttemptMark(e, a, b) => Ok(Expression::AttemptMark(
-            boxed(alloc, e)?,
-            boxed(alloc, a)?,
-            boxed(alloc, b)?,
-        )),
+        Expression::SetPair(a, b) => {
+            let (a, b) = boxed_two(alloc, a, b)?;
+            Ok(Expression::SetPair(a, b))
+        }
+        Expression::SwapPair(e, a, b) => {
+            let (e, (a, b)) = boxed_three(alloc, e, a, b)?;
+            Ok(Expression::SwapPair(e, a, b))
+        }
+        Expression::AttemptMark(e, a, b) => {
+            let (e, (a, b)) = boxed_three(alloc, e, a, b)?;
+            Ok(Expression::AttemptMark(e, a, b))
+        }
         Expression::OnLock(op, e) => Ok(Expression::OnLock(*op, boxed(alloc, e)?)),
         Expression::Call(method, e, arguments) => {
-            let e = boxed(alloc, e)?;
-            Ok(Expression::Call(*method, e, Box::new(alloc, copy_all(alloc, arguments)?)?))
+            let (e, arguments) = boxed_call(alloc, e, arguments)?;
+            Ok(Expression::Call(*method, e, arguments))
         }
         Expression::MakeObject(class, constructor, arguments) => {
-            Ok(Expression::MakeObject(
-                *class,
-                *constructor,
-                Box::new(alloc, copy_all(alloc, arguments)?)?,
-            ))
+            Ok(Expression::MakeObject(*class, *constructor, boxed_all(alloc, arguments)?))
         }
         Expression::MakeLock => Ok(Expression::MakeLock),
         Expression::MakeMarkable(e) => Ok(Expression::MakeMarkable(boxed(alloc, e)?)),
@@ -75,16 +85,87 @@ fn boxed(alloc: Global, e: &Expression) -> Result<Box<Expression>, AllocError>
 }
 
 #[cycle(expressions)]
-fn copy_all(alloc: Global, es: &Expressions) -> Result<Expressions, AllocError>
-    ensures { IfOk result (λ t. all_plain t ≡ all_plain es.now) }
+fn boxed_two(
+    alloc: Global,
+    a: &Expression,
+    b: &Expression,
+) -> Result<(Box<Expression>, Box<Expression>), AllocError>
+    ensures first { IfOk result (λ t. plain t.0.value ≡ plain a.now) }
+    ensures second { IfOk result (λ t. plain t.1.value ≡ plain b.now) }
+{
+    let first = boxed(alloc, a)?;
+    also(first, boxed(alloc, b))
+}
+
+#[cycle(expressions)]
+fn boxed_three(
+    alloc: Global,
+    e: &Expression,
+    a: &Expression,
+    b: &Expression,
+) -> Result<(Box<Expression>, (Box<Expression>, Box<Expression>)), AllocError>
+    ensures first { IfOk result (λ t. plain t.0.value ≡ plain e.now) }
+    ensures second { IfOk result (λ t. plain t.1.0.value ≡ plain a.now) }
+    ensures third { IfOk result (λ t. plain t.1.1.value ≡ plain b.now) }
+{
+    let first = boxed(alloc, e)?;
+    also(first, boxed_two(alloc, a, b))
+}
+
+#[cycle(expressions)]
+fn boxed_call(
+    alloc: Global,
+    e: &Expression,
+    es: &Expressions,
+) -> Result<(Box<Expression>, Box<Expressions>), AllocError>
+    ensures first { IfOk result (λ t. plain t.0.value ≡ plain e.now) }
+    ensures others { IfOk result (λ t. all_plain t.1.value ≡ all_plain es.now) }
+{
+    let first = boxed(alloc, e)?;
+    also(first, boxed_all(alloc, es))
+}
+
+#[cycle(expressions)]
+fn boxed_all(alloc: Global, es: &Expressions) -> Result<Box<Expressions>, AllocError>
+    ensures { IfOk result (λ t. all_plain t.value ≡ all_plain es.now) }
 {
     match es {
-        Expressions::End => Ok(Expressions::End),
+        Expressions::End => Ok(Box::new(alloc, Expressions::End)?),
         Expressions::More(first, others) => {
-            let first = boxed(alloc, first)?;
-            Ok(Expressions::More(first, Box::new(alloc, copy_all(alloc, others)?)?))
+            let (first, others) = boxed_call(alloc, first, others)?;
+            Ok(Box::new(alloc, Expressions::More(first, others))?)
         }
     }
+}
+
+#[inline(never)]
+fn copy_two(
+    alloc: Global,
+    a: &Expression,
+    b: &Expression,
+) -> Result<(Expression, Expression), AllocError>
+    ensures first { IfOk result (λ t. plain t.0 ≡ plain a.now) }
+    ensures second { IfOk result (λ t. plain t.1 ≡ plain b.now) }
+{
+    let a = copy_expression(alloc, a)?;
+    let b = copy_expression(alloc, b);
+    also(a, b)
+}
+
+#[inline(never)]
+fn copy_three(
+    alloc: Global,
+    e: &Expression,
+    a: &Expression,
+    b: &Expression,
+) -> Result<(Expression, (Expression, Expression)), AllocError>
+    ensures first { IfOk result (λ t. plain t.0 ≡ plain e.now) }
+    ensures second { IfOk result (λ t. plain t.1.0 ≡ plain a.now) }
+    ensures third { IfOk result (λ t. plain t.1.1 ≡ plain b.now) }
+{
+    let e = copy_expression(alloc, e)?;
+    let others = copy_two(alloc, a, b);
+    also(e, others)
 }
 
 /// A block of the statements.
@@ -108,40 +189,44 @@ pub fn copy_statement(alloc: Global, s: &Statement) -> Result<Statement, AllocEr
             copy_expression(alloc, e)?,
         )),
         Statement::SetField(object, field, value) => {
-            Ok(Statement::SetField(
-                copy_expression(alloc, object)?,
-                *field,
-                copy_expression(alloc, value)?,
-            ))
+            let (object, value) = copy_two(alloc, object, value)?;
+            Ok(Statement::SetField(object, *field, value))
         }
-        Statement::SetItem(array, index, value) => Ok(Statement::SetItem(
-            copy_expression(alloc, array)?,
-            copy_expression(alloc, index)?,
-            copy_expression(alloc, value)?,
-        )),
+        Statement::SetItem(array, index, value) => {
+            let (array, (index, value)) = copy_three(alloc, array, index, value)?;
+            Ok(Statement::SetItem(array, index, value))
+        }
         Statement::Evaluate(e) => Ok(Statement::Evaluate(copy_expression(alloc, e)?)),
-        Statement::If(e, first, second) => Ok(Statement::If(
-            copy_expression(alloc, e)?,
-            part(alloc, first)?,
-            part(alloc, second)?,
-        )),
+        Statement::If(e, first, second) => {
+            let first = part(alloc, first)?;
+            let (first, second) = also(first, part(alloc, second))?;
+            let ((first, second), e) = also((first, second), copy_expression(alloc, e))?;
+            Ok(Statement::If(e, first, second))
+        }
         Statement::While(e, body) => {
-            Ok(Statement::While(copy_expression(alloc, e)?, part(alloc, body)?))
+            let body = part(alloc, body)?;
+            let (body, e) = also(body, copy_expression(alloc, e))?;
+            Ok(Statement::While(e, body))
         }
         Statement::Break(loops) => Ok(Statement::Break(*loops)),
         Statement::Continue(loops) => Ok(Statement::Continue(*loops)),
         Statement::Return(e) => Ok(Statement::Return(copy_expression(alloc, e)?)),
-        Statement::Try(body, last) => Ok(Statement::Try(part(alloc, body)?, part(alloc, last)?)),
-        Statement::Guarded(body, number, handler) => Ok(Statement::Guarded(
-            part(alloc, body)?,
-            *number,
-            part(alloc, handler)?,
-        )),
+        Statement::Try(body, last) => {
+            let body = part(alloc, body)?;
+            let (body, last) = also(body, part(alloc, last))?;
+            Ok(Statement::Try(body, last))
+        }
+        Statement::Guarded(body, number, handler) => {
+            let body = part(alloc, body)?;
+            let (body, handler) = also(body, part(alloc, handler))?;
+            Ok(Statement::Guarded(body, *number, handler))
+        }
         Statement::Throw(number) => Ok(Statement::Throw(*number)),
-        Statement::Leavable(body, exit) => Ok(Statement::Leavable(
-            part(alloc, body)?,
-            part(alloc, exit)?,
-        )),
+        Statement::Leavable(body, exit) => {
+            let body = part(alloc, body)?;
+            let (body, exit) = also(body, part(alloc, exit))?;
+            Ok(Statement::Leavable(body, exit))
+        }
         Statement::Leave(regions) => Ok(Statement::Leave(*regions)),
     }
 }

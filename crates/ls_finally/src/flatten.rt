@@ -2,7 +2,8 @@
 
 ghost use Rattle.std.specs.Prelude.{◌≡◌, ℕ, ◌+◌, ◌*◌, ◌<◌, ◌≤◌, length, IfOk, IfSome, MatchOption};
 ghost use Rattle.std.specs.Option.{SomeIff};
-ghost use Rattle.ls_lowered.specs.Plain.{plain_statement};
+ghost use Rattle.ls_lowered.specs.LoweredTree.{If, While, Guarded, Leavable};
+ghost use Rattle.ls_lowered.specs.Plain.{plain, plain_statement};
 ghost use Rattle.ls_finally.specs.Exits.{exits, finally_of};
 ghost use Rattle.ls_finally.specs.Flat.{tries, flat};
 ghost use Rattle.ls_finally.specs.Counts.{copies, regions};
@@ -10,7 +11,8 @@ ghost use Rattle.ls_finally.specs.Counts.{copies, regions};
 use crate::copy::{block_of, copy_expression, copy_statement};
 use crate::exits::{Loops, collect_exits};
 use crate::replace::by_copies;
-use ls_lowered::tree::Statement;
+use ls_lowered::together::{also, beside, two};
+use ls_lowered::tree::{Expression, Statement};
 use std::alloc::{AllocError, Global};
 
 /// The most copies of finally blocks of a method.
@@ -56,6 +58,84 @@ fn unchanged(
         free,
         count: so_far,
     }))
+}
+
+// The constructs whose parts are done; the last part says which local is free next, and how many copies there are.
+
+#[inline(never)]
+fn branch(
+    alloc: Global,
+    e: &Expression,
+    first: Flat,
+    second: Flat,
+) -> Result<Option<Flat>, AllocError>
+    ensures tree { IfOk result (λ o. IfSome o (λ r. plain_statement r.tree ≡ If (plain e.now) (plain_statement first.tree) (plain_statement second.tree))) }
+    ensures free { IfOk result (λ o. IfSome o (λ r. r.free ≡ second.free)) }
+    ensures count { IfOk result (λ o. MatchOption o ⊥ (λ r. r.count ≡ second.count)) }
+{
+    let Flat {
+        tree: second,
+        free,
+        count,
+    } = second;
+    let (first, second) = two(alloc, first.tree, second)?;
+    let ((first, second), e) = also((first, second), copy_expression(alloc, e))?;
+    let tree = Statement::If(e, first, second);
+    Ok(Some(Flat { tree, free, count }))
+}
+
+#[inline(never)]
+fn turn(alloc: Global, e: &Expression, body: Flat) -> Result<Option<Flat>, AllocError>
+    ensures tree { IfOk result (λ o. IfSome o (λ r. plain_statement r.tree ≡ While (plain e.now) (plain_statement body.tree))) }
+    ensures free { IfOk result (λ o. IfSome o (λ r. r.free ≡ body.free)) }
+    ensures count { IfOk result (λ o. MatchOption o ⊥ (λ r. r.count ≡ body.count)) }
+{
+    let Flat {
+        tree: body,
+        free,
+        count,
+    } = body;
+    let body = Box::new(alloc, body)?;
+    let (body, e) = also(body, copy_expression(alloc, e))?;
+    let tree = Statement::While(e, body);
+    Ok(Some(Flat { tree, free, count }))
+}
+
+#[inline(never)]
+fn guarded(
+    alloc: Global,
+    body: Flat,
+    number: usize,
+    handler: Flat,
+) -> Result<Option<Flat>, AllocError>
+    ensures tree { IfOk result (λ o. IfSome o (λ r. plain_statement r.tree ≡ Guarded (plain_statement body.tree) number (plain_statement handler.tree))) }
+    ensures free { IfOk result (λ o. IfSome o (λ r. r.free ≡ handler.free)) }
+    ensures count { IfOk result (λ o. MatchOption o ⊥ (λ r. r.count ≡ handler.count)) }
+{
+    let Flat {
+        tree: handler,
+        free,
+        count,
+    } = handler;
+    let (body, handler) = two(alloc, body.tree, handler)?;
+    let tree = Statement::Guarded(body, number, handler);
+    Ok(Some(Flat { tree, free, count }))
+}
+
+#[inline(never)]
+fn leavable(alloc: Global, body: Flat, exit: Flat) -> Result<Option<Flat>, AllocError>
+    ensures tree { IfOk result (λ o. IfSome o (λ r. plain_statement r.tree ≡ Leavable (plain_statement body.tree) (plain_statement exit.tree))) }
+    ensures free { IfOk result (λ o. IfSome o (λ r. r.free ≡ exit.free)) }
+    ensures count { IfOk result (λ o. MatchOption o ⊥ (λ r. r.count ≡ exit.count)) }
+{
+    let Flat {
+        tree: exit,
+        free,
+        count,
+    } = exit;
+    let (body, exit) = two(alloc, body.tree, exit)?;
+    let tree = Statement::Leavable(body, exit);
+    Ok(Some(Flat { tree, free, count }))
 }
 
 // A `try` whose parts have none: `body` with the copies up to its end, `finally` with its own.
@@ -120,37 +200,24 @@ pub fn flatten(
             let Some(first) = flatten(alloc, first, free, so_far)? else {
                 return Ok(None);
             };
-            let Some(second) = flatten(alloc, second, first.free, first.count)? else {
+            let second = flatten(alloc, second, first.free, first.count);
+            let Some((first, second)) = beside(first, second)? else {
                 return Ok(None);
             };
-            let e = copy_expression(alloc, e)?;
-            let tree = Statement::If(
-                e,
-                Box::new(alloc, first.tree)?,
-                Box::new(alloc, second.tree)?,
-            );
-            Ok(Some(Flat {
-                tree,
-                free: second.free,
-                count: second.count,
-            }))
+            branch(alloc, e, first, second)
         }
         Statement::While(e, body) => {
             let Some(body) = flatten(alloc, body, free, so_far)? else {
                 return Ok(None);
             };
-            let tree = Statement::While(copy_expression(alloc, e)?, Box::new(alloc, body.tree)?);
-            Ok(Some(Flat {
-                tree,
-                free: body.free,
-                count: body.count,
-            }))
+            turn(alloc, e, body)
         }
         Statement::Try(body, finally) => {
             let Some(body) = flatten(alloc, body, free, so_far)? else {
                 return Ok(None);
             };
-            let Some(finally) = flatten(alloc, finally, body.free, 0)? else {
+            let finally = flatten(alloc, finally, body.free, 0);
+            let Some((body, finally)) = beside(body, finally)? else {
                 return Ok(None);
             };
             flat_try(alloc, body, finally)
@@ -159,15 +226,11 @@ pub fn flatten(
             let Some(body) = flatten(alloc, body, free, so_far)? else {
                 return Ok(None);
             };
-            let Some(handler) = flatten(alloc, handler, body.free, body.count)? else {
+            let handler = flatten(alloc, handler, body.free, body.count);
+            let Some((body, handler)) = beside(body, handler)? else {
                 return Ok(None);
             };
-            let first = Box::new(alloc, body.tree)?;
-            Ok(Some(Flat {
-                tree: Statement::Guarded(first, *number, Box::new(alloc, handler.tree)?),
-                free: handler.free,
-                count: handler.count,
-            }))
+            guarded(alloc, body, *number, handler)
         }
         Statement::Leavable(body, exit) => {
             if so_far == MOST_COPIES {
@@ -176,15 +239,11 @@ pub fn flatten(
             let Some(body) = flatten(alloc, body, free, so_far + 1)? else {
                 return Ok(None);
             };
-            let Some(exit) = flatten(alloc, exit, body.free, body.count)? else {
+            let exit = flatten(alloc, exit, body.free, body.count);
+            let Some((body, exit)) = beside(body, exit)? else {
                 return Ok(None);
             };
-            let first = Box::new(alloc, body.tree)?;
-            Ok(Some(Flat {
-                tree: Statement::Leavable(first, Box::new(alloc, exit.tree)?),
-                free: exit.free,
-                count: exit.count,
-            }))
+            leavable(alloc, body, exit)
         }
         Statement::SetLocal(_, _)
         | Statement::SetField(_, _, _)

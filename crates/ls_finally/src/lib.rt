@@ -8,5 +8,4 @@ mod exits;
 pub mod files;
 mod flatten;
 pub mod laws;
-pub mod placed;
 mod replace;

@@ -12,6 +12,7 @@ ghost use Rattle.ls_finally.specs.Code.{how_many, plain_exit, plain_exits};
 
 use crate::copy::{block_of, copy_expression, copy_statement};
 use crate::exits::{Exit, Loops, beyond, collect_exits};
+use ls_lowered::together::{also, pair, two};
 use ls_lowered::tree::{Expression, Statement};
 use std::alloc::{AllocError, Global};
 
@@ -33,10 +34,7 @@ struct ReplacedPart {
 fn in_turn(alloc: Global, first: Statement, second: Statement) -> Result<Statement, AllocError>
     ensures { IfOk result (λ t. plain_statement t ≡ both (plain_statement first) (plain_statement second)) }
 {
-    let mut statements = Vec::new(alloc);
-    statements.push(first)?;
-    statements.push(second)?;
-    Ok(block_of(statements))
+    Ok(block_of(pair(alloc, first, second)?))
 }
 
 // A leave in place of an exit.
@@ -201,7 +199,8 @@ fn replace_exits(
         }
         Statement::If(e, first, second) => {
             let first = replace_in_part(alloc, first, &*loops, kept, next)?;
-            let second = replace_in_part(alloc, second, &*loops, kept, first.next)?;
+            let second = replace_in_part(alloc, second, &*loops, kept, first.next);
+            let (first, second) = also(first, second)?;
             branch(alloc, e, first, second)
         }
         Statement::While(e, body) => {
@@ -221,12 +220,14 @@ fn replace_exits(
         Statement::Try(_, _) => keeping(alloc, s, loops, next),
         Statement::Guarded(body, number, handler) => {
             let body = replace_in_part(alloc, body, &*loops, kept, next)?;
-            let handler = replace_in_part(alloc, handler, &*loops, kept, body.next)?;
+            let handler = replace_in_part(alloc, handler, &*loops, kept, body.next);
+            let (body, handler) = also(body, handler)?;
             guarded(body, *number, handler)
         }
         Statement::Leavable(body, exit) => {
             let body = replace_in_part(alloc, body, &*loops, kept, next + 1)?;
-            let exit = replace_in_part(alloc, exit, &*loops, kept, body.next - 1)?;
+            let exit = replace_in_part(alloc, exit, &*loops, kept, body.next - 1);
+            let (body, exit) = also(body, exit)?;
             leavable(body, exit)
         }
         Statement::SetLocal(_, _)
@@ -249,6 +250,18 @@ fn exit_statement(kept: usize, exit: Exit) -> Statement
     }
 }
 
+// A copy of the finally block, and then the last.
+fn copied_before(
+    alloc: Global,
+    finally: &Statement,
+    last: Statement,
+) -> Result<Statement, AllocError>
+    ensures { IfOk result (λ t. plain_statement t ≡ both (plain_statement finally.now) (plain_statement last)) }
+{
+    let (last, copy) = also(last, copy_statement(alloc, finally))?;
+    in_turn(alloc, copy, last)
+}
+
 // Each exit with its own copy of the finally block.
 fn wrap(
     alloc: Global,
@@ -261,12 +274,10 @@ fn wrap(
 {
     let mut whole = tree;
     for way in ways {
-        let last = in_turn(
-            alloc,
-            copy_statement(alloc, finally)?,
-            exit_statement(kept, *way),
-        )?;
-        whole = Statement::Leavable(Box::new(alloc, whole)?, Box::new(alloc, last)?);
+        let last = copied_before(alloc, finally, exit_statement(kept, *way));
+        let (before, last) = also(whole, last)?;
+        let (before, last) = two(alloc, before, last)?;
+        whole = Statement::Leavable(before, last);
     }
     Ok(whole)
 }
@@ -285,16 +296,11 @@ pub fn by_copies(
     ensures { IfOk result (λ t. plain_statement t ≡ finally_of free (plain_statement body.now) (plain_statement finally.now)) }
 {
     let inside = replace_exits(alloc, body, &Loops::Outermost, free + 1, 0)?;
-    let on_throw = in_turn(
-        alloc,
-        copy_statement(alloc, finally)?,
-        Statement::Throw(free),
-    )?;
-    let guarded = Statement::Guarded(
-        Box::new(alloc, inside.tree)?,
-        free,
-        Box::new(alloc, on_throw)?,
-    );
-    let normally = in_turn(alloc, guarded, copy_statement(alloc, finally)?)?;
+    let on_throw = copied_before(alloc, finally, Statement::Throw(free));
+    let (inside, on_throw) = also(inside.tree, on_throw)?;
+    let (inside, on_throw) = two(alloc, inside, on_throw)?;
+    let guarded = Statement::Guarded(inside, free, on_throw);
+    let (guarded, last) = also(guarded, copy_statement(alloc, finally))?;
+    let normally = in_turn(alloc, guarded, last)?;
     wrap(alloc, normally, finally, ways, free + 1)
 }

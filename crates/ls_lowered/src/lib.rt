@@ -3,4 +3,5 @@
 #![tactic(auto)]
 
 pub mod fault;
+pub mod together;
 pub mod tree;

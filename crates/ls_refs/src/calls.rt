@@ -3,14 +3,16 @@
 ghost use Rattle.std.specs.Prelude.{◌≡◌, ℕ, ◌+◌, ◌≤◌, IfOk, map};
 ghost use Rattle.ls_checked.specs.Plain.{plain_class};
 ghost use Rattle.ls_lowered.specs.Plain.{plain, all_plain};
-ghost use Rattle.ls_lowered.specs.LoweredTree.{Local, Unary, Hold, ReadPair, OnLock, AttemptMark};
+ghost use Rattle.ls_lowered.specs.LoweredTree.{Local, Unary, Hold, After, SetFirst, ReadPair, OnLock, AttemptMark};
+ghost use Rattle.ls_lowered.specs.declared.tree.UnaryOperator.TheVariants as unary;
 ghost use Rattle.ls_meaning.specs.Expressions.{constructor_of as the_constructor};
 ghost use Rattle.ls_refs.specs.ValueWords.{value_word as the_word};
 ghost use Rattle.ls_refs.specs.Temporaries.{own_temporaries as those_of};
-ghost use Rattle.ls_refs.specs.Lowered.{lowered_operator as the_operator, first_of, rest_of, pack as packed, compare_and_set as swapping, get_both as getting, lowered_call};
+ghost use Rattle.ls_refs.specs.Lowered.{lowered_operator as the_operator, first_of, rest_of, second_of, pack as packed, compare_and_set as swapping, get_both as getting, lowered_call};
 
 use ls_checked::tree::{Called, Class, Operator};
 use ls_events::value::Value;
+use ls_lowered::together::{also, three, two};
 use ls_lowered::tree::{BinaryOperator, Expression, Expressions, LockOperation, UnaryOperator};
 use std::alloc::{AllocError, Global};
 
@@ -93,11 +95,8 @@ pub fn pack(
 ) -> Result<Expression, AllocError>
     ensures { IfOk result (λ t. plain t ≡ packed (plain reference) (plain mark)) }
 {
-    Ok(Expression::Binary(
-        BinaryOperator::Pack,
-        Box::new(alloc, reference)?,
-        Box::new(alloc, mark)?,
-    ))
+    let (reference, mark) = two(alloc, reference, mark)?;
+    Ok(Expression::Binary(BinaryOperator::Pack, reference, mark))
 }
 
 /// The first two arguments as a pair.
@@ -131,7 +130,31 @@ fn hold(
 ) -> Result<Expression, AllocError>
     ensures { IfOk result (λ t. plain t ≡ Hold (plain value) number (plain second)) }
 {
-    Ok(Expression::Hold(Box::new(alloc, value)?, number, Box::new(alloc, second)?))
+    let (value, second) = two(alloc, value, second)?;
+    Ok(Expression::Hold(value, number, second))
+}
+
+// The target's word is held while the four arguments go into temporaries.
+fn hold_four(
+    alloc: Global,
+    free: usize,
+    target: Expression,
+    arguments: Expressions,
+) -> Result<Expression, AllocError>
+    requires { free + 4 ≤ 128 }
+    ensures { IfOk result (λ t. let es = all_plain arguments in plain t ≡ Hold (Hold (Hold (Hold (plain target) free (first_of es)) (free + 1) (second_of es)) (free + 2) (second_of (rest_of es))) (free + 3) (second_of (rest_of (rest_of es)))) }
+{
+    let (expected, rest) = split(arguments);
+    let (new, rest) = split(rest);
+    let (expected_mark, rest) = split(rest);
+    let (new_mark, _) = split(rest);
+    let held = hold(alloc, target, free, expected);
+    let (marks, held) = also((new, (expected_mark, new_mark)), held)?;
+    let held = hold(alloc, held, free + 1, marks.0);
+    let ((expected_mark, new_mark), held) = also(marks.1, held)?;
+    let held = hold(alloc, held, free + 2, expected_mark);
+    let (new_mark, held) = also(new_mark, held)?;
+    hold(alloc, held, free + 3, new_mark)
 }
 
 fn compare_and_set(
@@ -143,25 +166,31 @@ fn compare_and_set(
     requires { free + 4 ≤ 128 }
     ensures { IfOk result (λ t. plain t ≡ swapping free (plain target) (all_plain arguments)) }
 {
-    let (expected, rest) = split(arguments);
-    let (new, rest) = split(rest);
-    let (expected_mark, rest) = split(rest);
-    let (new_mark, _) = split(rest);
-    let held = hold(alloc, target, free, expected)?;
-    let held = hold(alloc, held, free + 1, new)?;
-    let held = hold(alloc, held, free + 2, expected_mark)?;
-    let held = hold(alloc, held, free + 3, new_mark)?;
-    Ok(Expression::SwapPair(
-        Box::new(alloc, held)?,
-        pack_locals(alloc, free, free + 2)?,
-        pack_locals(alloc, free + 1, free + 3)?,
-    ))
+    let held = hold_four(alloc, free, target, arguments)?;
+    let held = Box::new(alloc, held)?;
+    let (held, expected) = also(held, pack_locals(alloc, free, free + 2))?;
+    let new = pack_locals(alloc, free + 1, free + 3);
+    let ((held, expected), new) = also((held, expected), new)?;
+    Ok(Expression::SwapPair(held, expected, new))
 }
 
 fn half(alloc: Global, op: UnaryOperator, pair: usize) -> Result<Box<Expression>, AllocError>
     ensures { IfOk result (λ b. plain b.value ≡ Unary op (Local pair)) }
 {
     Ok(Box::new(alloc, Expression::Unary(op, boxed_local(alloc, pair)?))?)
+}
+
+// Of the pair in the second local the mark goes into the array in the first; the reference stays.
+fn spread(alloc: Global, free: usize) -> Result<Box<Expression>, AllocError>
+    requires { free + 2 ≤ 128 }
+    ensures { IfOk result (λ b. plain b.value ≡ After (SetFirst (Local free) (Unary unary.MarkOf (Local (free + 1)))) (Unary unary.ReferenceOf (Local (free + 1)))) }
+{
+    let array = boxed_local(alloc, free)?;
+    let (array, mark) = also(array, half(alloc, UnaryOperator::MarkOf, free + 1))?;
+    let written = Box::new(alloc, Expression::SetFirst(array, mark))?;
+    let reference = half(alloc, UnaryOperator::ReferenceOf, free + 1);
+    let (written, reference) = also(written, reference)?;
+    Ok(Box::new(alloc, Expression::After(written, reference))?)
 }
 
 fn get_both(
@@ -175,11 +204,9 @@ fn get_both(
 {
     let held = hold(alloc, target, free, array)?;
     let read = Expression::ReadPair(Box::new(alloc, held)?);
-    let mark = half(alloc, UnaryOperator::MarkOf, free + 1)?;
-    let written = Expression::SetFirst(boxed_local(alloc, free)?, mark);
-    let reference = half(alloc, UnaryOperator::ReferenceOf, free + 1)?;
-    let after = Expression::After(Box::new(alloc, written)?, reference);
-    Ok(Expression::Keep(free + 1, Box::new(alloc, read)?, Box::new(alloc, after)?))
+    let read = Box::new(alloc, read)?;
+    let (read, after) = also(read, spread(alloc, free))?;
+    Ok(Expression::Keep(free + 1, read, after))
 }
 
 fn half_of(alloc: Global, op: UnaryOperator, target: Expression) -> Result<Expression, AllocError>
@@ -204,11 +231,8 @@ fn attempt(
 {
     let (reference, rest) = split(arguments);
     let (mark, _) = split(rest);
-    Ok(Expression::AttemptMark(
-        Box::new(alloc, target)?,
-        Box::new(alloc, reference)?,
-        Box::new(alloc, mark)?,
-    ))
+    let (target, (reference, mark)) = three(alloc, target, reference, mark)?;
+    Ok(Expression::AttemptMark(target, reference, mark))
 }
 
 /// What is called, on the target, with the arguments. Its temporaries are from `free` on.
@@ -223,11 +247,10 @@ pub fn call(
     ensures { IfOk result (λ t. plain t ≡ lowered_call free called (plain target) (all_plain arguments)) }
 {
     match called {
-        Called::Method(method) => Ok(Expression::Call(
-            method,
-            Box::new(alloc, target)?,
-            Box::new(alloc, arguments)?,
-        )),
+        Called::Method(method) => {
+            let (target, arguments) = two(alloc, target, arguments)?;
+            Ok(Expression::Call(method, target, arguments))
+        }
         Called::LockIt => on_lock(alloc, LockOperation::Lock, target),
         Called::UnlockIt => on_lock(alloc, LockOperation::Unlock, target),
         Called::TryIt => on_lock(alloc, LockOperation::TryLock, target),
@@ -239,8 +262,9 @@ pub fn call(
             get_both(alloc, free, target, array)
         }
         Called::SetBoth => {
-            let pair = pack_arguments(alloc, arguments)?;
-            Ok(Expression::SetPair(Box::new(alloc, target)?, Box::new(alloc, pair)?))
+            let (target, pair) = also(target, pack_arguments(alloc, arguments))?;
+            let (target, pair) = two(alloc, target, pair)?;
+            Ok(Expression::SetPair(target, pair))
         }
         Called::CompareAndSet => compare_and_set(alloc, free, target, arguments),
         Called::Attempt => attempt(alloc, target, arguments),

@@ -8,6 +8,7 @@ ghost use Rattle.ls_refs.specs.Lowered.{lowered, all_lowered};
 
 use crate::calls::{call, constructor_of, operator, own_temporaries, pack_arguments, value_word};
 use ls_checked::tree::{Class, Expression, Expressions};
+use ls_lowered::together::also;
 use ls_lowered::tree::{Expression as Tree, Expressions as Trees, UnaryOperator};
 use std::alloc::{AllocError, Global};
 
@@ -99,7 +100,8 @@ pub fn lower_expression(
         Expression::Call(target, called, arguments) => {
             let behind = free + own_temporaries(*called);
             let target = lower_expression(alloc, classes, behind, target)?;
-            let arguments = lower_expressions(alloc, classes, target.free, arguments)?;
+            let arguments = lower_expressions(alloc, classes, target.free, arguments);
+            let (target, arguments) = also(target, arguments)?;
             let tree = call(alloc, free, *called, target.tree, arguments.tree)?;
             Ok(Placed {
                 tree,

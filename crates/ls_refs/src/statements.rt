@@ -9,6 +9,7 @@ ghost use Rattle.ls_refs.specs.Lowered.{lowered_statement, lowered_block};
 
 use crate::expressions::{Placed, lower_expression};
 use ls_checked::tree::{Class, Statement};
+use ls_lowered::together::also;
 use ls_lowered::tree::{Expression as Value, Statement as Tree};
 use std::alloc::{AllocError, Global};
 
@@ -59,7 +60,8 @@ pub fn lower_statement(
             value,
         } => {
             let target = lower_expression(alloc, classes, free, target)?;
-            let value = lower_expression(alloc, classes, target.free, value)?;
+            let value = lower_expression(alloc, classes, target.free, value);
+            let (target, value) = also(target, value)?;
             Ok(Placed {
                 tree: Tree::SetField(target.tree, *field, value.tree),
                 free: value.free,
@@ -71,8 +73,10 @@ pub fn lower_statement(
             value,
         } => {
             let array = lower_expression(alloc, classes, free, array)?;
-            let index = lower_expression(alloc, classes, array.free, index)?;
-            let value = lower_expression(alloc, classes, index.free, value)?;
+            let index = lower_expression(alloc, classes, array.free, index);
+            let (array, index) = also(array, index)?;
+            let value = lower_expression(alloc, classes, index.free, value);
+            let ((array, index), value) = also((array, index), value)?;
             Ok(Placed {
                 tree: Tree::SetItem(array.tree, index.tree, value.tree),
                 free: value.free,
@@ -87,8 +91,10 @@ pub fn lower_statement(
         }
         Statement::If(condition, first, second) => {
             let condition = lower_expression(alloc, classes, free, condition)?;
-            let first = lower_part(alloc, classes, condition.free, first)?;
-            let second = lower_part(alloc, classes, first.free, second)?;
+            let first = lower_part(alloc, classes, condition.free, first);
+            let (condition, first) = also(condition, first)?;
+            let second = lower_part(alloc, classes, first.free, second);
+            let ((condition, first), second) = also((condition, first), second)?;
             Ok(Placed {
                 tree: Tree::If(condition.tree, first.tree, second.tree),
                 free: second.free,
@@ -96,7 +102,8 @@ pub fn lower_statement(
         }
         Statement::While(condition, body) => {
             let condition = lower_expression(alloc, classes, free, condition)?;
-            let body = lower_part(alloc, classes, condition.free, body)?;
+            let body = lower_part(alloc, classes, condition.free, body);
+            let (condition, body) = also(condition, body)?;
             Ok(Placed {
                 tree: Tree::While(condition.tree, body.tree),
                 free: body.free,
@@ -123,7 +130,8 @@ pub fn lower_statement(
         }
         Statement::Try(body, finally) => {
             let body = lower_part(alloc, classes, free, body)?;
-            let finally = lower_part(alloc, classes, body.free, finally)?;
+            let finally = lower_part(alloc, classes, body.free, finally);
+            let (body, finally) = also(body, finally)?;
             Ok(Placed {
                 tree: Tree::Try(body.tree, finally.tree),
                 free: finally.free,

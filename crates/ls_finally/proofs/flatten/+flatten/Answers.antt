@@ -19,4 +19,4 @@ loop-s-preserved t c =
 
 pub flat_try-requires-clause-few : goal.flat_try-requires-clause-few
 flat_try-requires-clause-few t c =
-    few_in_body c.args.so_far c.args.free c.in-Some-5.body.count (plain_statement c.deref-in-Try.result.now) (plain_statement c.in-Some-5.body.tree) (search rules) (search rules) (search rules)
+    few_in_body c.args.so_far c.args.free c.in-Some-6.body.count (plain_statement c.deref-in-Try.result.now) (plain_statement c.in-Some-6.body.tree) (search rules) (search rules) (search rules)

@@ -1,0 +1,72 @@
+// Steps on values of any type. What is owned while something else may fail is dropped here, at a parameter's type.
+
+ghost use Rattle.std.specs.Prelude.{◌≡◌, ◌∷◌, ◌++◌, [], IfOk, IfSome, Ok, option_map};
+
+use std::alloc::{AllocError, Global};
+
+/// Both in boxes.
+pub fn two<T: Drop, U: Drop>(alloc: Global, a: T, b: U) -> Result<(Box<T>, Box<U>), AllocError>
+    ensures first { IfOk result (λ p. p.0.value ≡ a) }
+    ensures second { IfOk result (λ p. p.1.value ≡ b) }
+{
+    let a = Box::new(alloc, a)?;
+    let b = Box::new(alloc, b)?;
+    Ok((a, b))
+}
+
+/// Both in a vector.
+pub fn pair<T: Drop>(alloc: Global, a: T, b: T) -> Result<Vec<T>, AllocError>
+    ensures { IfOk result (λ v. v.items ≡ a ∷ b ∷ []) }
+{
+    let mut both = Vec::new(alloc);
+    both.push(a)?;
+    both.push(b)?;
+    Ok(both)
+}
+
+/// One more at the end.
+pub fn push<T: Drop>(mut items: Vec<T>, item: T) -> Result<Vec<T>, AllocError>
+    ensures { IfOk result (λ v. v.items ≡ items.items ++ item ∷ []) }
+{
+    items.push(item)?;
+    Ok(items)
+}
+
+/// What is there, with what comes next.
+pub fn also<T: Drop, U: Drop>(first: T, next: Result<U, AllocError>) -> Result<(T, U), AllocError>
+    ensures next { IfOk result (λ p. next ≡ Ok p.1) }
+    ensures first { IfOk result (λ p. p.0 ≡ first) }
+{
+    let next = next?;
+    Ok((first, next))
+}
+
+/// All three in boxes.
+pub fn three<T: Drop, U: Drop, V: Drop>(
+    alloc: Global,
+    a: T,
+    b: U,
+    c: V,
+) -> Result<(Box<T>, (Box<U>, Box<V>)), AllocError>
+    ensures first { IfOk result (λ p. p.0.value ≡ a) }
+    ensures second { IfOk result (λ p. p.1.0.value ≡ b) }
+    ensures third { IfOk result (λ p. p.1.1.value ≡ c) }
+{
+    let a = Box::new(alloc, a)?;
+    let others = two(alloc, b, c);
+    also(a, others)
+}
+
+/// What is there, with what comes next if anything does.
+pub fn beside<T: Drop, U: Drop>(
+    first: T,
+    next: Result<Option<U>, AllocError>,
+) -> Result<Option<(T, U)>, AllocError>
+    ensures next { IfOk result (λ r. next ≡ Ok (option_map (λ p. p.1) r)) }
+    ensures first { IfOk result (λ r. IfSome r (λ p. p.0 ≡ first)) }
+{
+    match next? {
+        None => Ok(None),
+        Some(next) => Ok(Some((first, next))),
+    }
+}
