@@ -2,7 +2,8 @@
 
 use ls_compiler::compile::compile;
 use ls_compiler::fault::CompileFault;
-use ls_linker::fault::BuildFault;
+use ls_emit::fault::EmitFault;
+use ls_linker::fault::{BuildFault, LinkFault};
 use ls_lowered::fault::LowerFault;
 use std::alloc::{AllocError, Global};
 use std::test::Fail;
@@ -32,25 +33,62 @@ fn refuses_a_number_without_its_minus(rt: HostRuntime) {
     assert!(rt; matches!(found, Err(CompileFault::Text(_))));
 }
 
-// A method of 41 forms, one in the other.
-fn nest(alloc: Global, head: &str, tail: &str) -> Result<String, AllocError> {
-    let mut text = String::from_str(alloc, "class A { int f() { ")?;
-    for _ in 0..41 {
-        text.push_str(head)?;
+fn repeated(alloc: Global, part: &str, count: usize) -> Result<String, AllocError> {
+    let mut text = String::new(alloc);
+    for _ in 0..count {
+        text.push_str(part)?;
     }
-    text.push_str("return 1; ")?;
-    for _ in 0..41 {
-        text.push_str(tail)?;
-    }
-    text.push_str("} }")?;
     Ok(text)
+}
+
+const PROGRAM: &str = "setup { a = new A(); } thread T { a.f(); }";
+
+// Instructions of a method and of the whole code, at their limits.
+#[test]
+fn refuses_too_long_a_code(rt: HostRuntime) -> Result<(), Fail> {
+    let alloc = rt.alloc();
+    for (count, wanted) in [
+        (16_370, None),
+        (16_383, Some(BuildFault::Link(LinkFault::CodeTooLong))),
+        (16_384, Some(BuildFault::Emit(EmitFault::CodeTooLong))),
+    ] {
+        let sums = repeated(alloc, "x = x + 1; ", count)?;
+        let text = format!(in alloc; "class A {{ int f() {{ int x = 0; {sums}return x; }} }}")?;
+        let found = counts(alloc, &text, PROGRAM).err();
+        assert!(rt; found == wanted.map(CompileFault::Build), "{count}");
+    }
+    Ok(())
+}
+
+// Copies of a finally block at their limit: the method that is accepted has 4,094 regions, one in the other.
+#[test]
+fn counts_copies(rt: HostRuntime) -> Result<(), Fail> {
+    let alloc = rt.alloc();
+    for (count, wanted) in [
+        (4093, None),
+        (4094, Some(BuildFault::Lower(LowerFault::TooManyCopies))),
+    ] {
+        let exits = repeated(alloc, "if (x == 1) return 1; ", count)?;
+        let text = format!(in alloc;
+            "class A {{ int f() {{ int x = 0; try {{ {exits}return 2; }} finally {{ }} }} }}"
+        )?;
+        let found = counts(alloc, &text, PROGRAM).err();
+        assert!(rt; found == wanted.map(CompileFault::Build), "{count}");
+    }
+    Ok(())
+}
+
+// A method of 41 forms, one in the other.
+fn nest(alloc: Global, head: &str, tail: &str) -> Result<String, Fail> {
+    let heads = repeated(alloc, head, 41)?;
+    let tails = repeated(alloc, tail, 41)?;
+    Ok(format!(in alloc; "class A {{ int f() {{ {heads}return 1; {tails}}} }}")?)
 }
 
 // Each form is walked once, though what it is made of is looked at for several reasons: walked twice, 41 levels never end.
 #[test]
 fn walks_each_form_once(rt: HostRuntime) -> Result<(), Fail> {
     let alloc = rt.alloc();
-    let program = "setup { a = new A(); } thread T { a.f(); }";
     for (head, tail) in [
         ("try { ", "} finally { } "),
         ("if (1 < 2) { ", "} else { return 2; } "),
@@ -58,7 +96,7 @@ fn walks_each_form_once(rt: HostRuntime) -> Result<(), Fail> {
         ("{ while (true) { if (1 < 2) break; ", "} } "),
     ] {
         let text = nest(alloc, head, tail)?;
-        let found = counts(alloc, &text, program);
+        let found = counts(alloc, &text, PROGRAM);
         let is_past = matches!(
             found,
             Err(CompileFault::Build(BuildFault::Lower(LowerFault::TooManyCopies)))
@@ -67,7 +105,7 @@ fn walks_each_form_once(rt: HostRuntime) -> Result<(), Fail> {
     }
     for head in ["while (true) try { } finally { ", "try { } finally { "] {
         let text = nest(alloc, head, "} ")?;
-        let found = counts(alloc, &text, program);
+        let found = counts(alloc, &text, PROGRAM);
         assert!(rt;
             matches!(
                 found,
