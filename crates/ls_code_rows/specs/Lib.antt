@@ -1,2 +1,6 @@
 pub mod Words
 pub mod Locks
+pub mod Stages
+pub mod Silent
+pub mod Acting
+pub mod Frames

@@ -1,10 +1,13 @@
 //! Small cases of the machine whose outcomes, worked out by hand from its table, are what the definitions of ls_code compute:
-//! the word of each instruction, and the three instructions that are about a lock's word. They stand above ls_code, so that a
-//! new one is no change of that crate.
+//! the word of each instruction, a step of each, and each case of the three that are about a lock's word. They stand above
+//! ls_code, so that a new one is no change of that crate.
 #![tactic(auto)]
 
 ghost use Rattle.ls_code_rows.specs.Words.{WithoutOperand, LeastOperands, GreatestOperands, OtherOperands, NoInstruction};
 ghost use Rattle.ls_code_rows.specs.Locks.{SeeForLock, SeeForTry, SeeForUnlock, SeeOfNull, SeeSticks, TakeWins, TakeLoses, TakeOfAnother, TakePastTheMost, TakeSticks, Drops, DropSticks, TwoHoldsDropped};
+ghost use Rattle.ls_code_rows.specs.Silent.{Words, Arithmetic, Divisions, Comparisons, Equality, Jumps, Pairs, Nulls};
+ghost use Rattle.ls_code_rows.specs.Acting.{Fields, Items, Names, Makings, LocksInOneStep, Markables};
+ghost use Rattle.ls_code_rows.specs.Frames.{Enters, EntersNoDeeper, Leaves, Throws, Begins, Returns, Stops};
 
 /// The code words of all instructions.
 pub fn words()
@@ -30,4 +33,37 @@ pub fn locks()
     ensures drops { Drops }
     ensures drop_sticks { DropSticks }
     ensures two_holds_dropped { TwoHoldsDropped }
+{}
+
+/// Instructions that the other threads never notice.
+pub fn silent()
+    ensures words { Words }
+    ensures arithmetic { Arithmetic }
+    ensures divisions { Divisions }
+    ensures comparisons { Comparisons }
+    ensures equality { Equality }
+    ensures jumps { Jumps }
+    ensures pairs { Pairs }
+    ensures nulls { Nulls }
+{}
+
+/// Instructions that act.
+pub fn acting()
+    ensures fields { Fields }
+    ensures items { Items }
+    ensures names { Names }
+    ensures makings { Makings }
+    ensures locks_in_one_step { LocksInOneStep }
+    ensures markables { Markables }
+{}
+
+/// Frames, throws, and the calls of a thread.
+pub fn frames()
+    ensures enters { Enters }
+    ensures enters_no_deeper { EntersNoDeeper }
+    ensures leaves { Leaves }
+    ensures throws { Throws }
+    ensures begins { Begins }
+    ensures returns { Returns }
+    ensures stops { Stops }
 {}
