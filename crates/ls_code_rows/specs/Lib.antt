@@ -4,3 +4,4 @@ pub mod Stages
 pub mod Silent
 pub mod Acting
 pub mod Frames
+pub mod Whole

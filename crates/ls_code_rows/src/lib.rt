@@ -8,6 +8,7 @@ ghost use Rattle.ls_code_rows.specs.Locks.{SeeForLock, SeeForTry, SeeForUnlock, 
 ghost use Rattle.ls_code_rows.specs.Silent.{Words, Arithmetic, Divisions, Comparisons, Equality, Jumps, Pairs, Nulls};
 ghost use Rattle.ls_code_rows.specs.Acting.{Fields, Items, Names, Makings, LocksInOneStep, Markables};
 ghost use Rattle.ls_code_rows.specs.Frames.{Enters, EntersNoDeeper, Leaves, Throws, Begins, Returns, Stops};
+ghost use Rattle.ls_code_rows.specs.Whole.{Due, WaitsForALock, StopsAll, States};
 
 /// The code words of all instructions.
 pub fn words()
@@ -66,4 +67,12 @@ pub fn frames()
     ensures begins { Begins }
     ensures returns { Returns }
     ensures stops { Stops }
+{}
+
+/// Which threads are due, which wait, and how the machine stops.
+pub fn whole()
+    ensures due { Due }
+    ensures waits_for_a_lock { WaitsForALock }
+    ensures stops_all { StopsAll }
+    ensures states { States }
 {}
