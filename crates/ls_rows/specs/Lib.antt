@@ -7,3 +7,7 @@ pub mod Operators
 pub mod Completions
 pub mod Threads
 pub mod Limits
+pub mod Loops
+pub mod Marks
+pub mod Starts
+pub mod Steps

@@ -10,6 +10,10 @@ ghost use Rattle.ls_rows.specs.Operators.{Quotients, Remainders, Sums, Differenc
 ghost use Rattle.ls_rows.specs.Completions.{LocalsSetInFinally, LocalResetAtEachDeclaration, ReturnOverReturn, ReturnOverBreak, BreakOverReturn, ThrowOverReturn, ThrowOverThrow, ContinueOutOfATry, OuterLoops, NestedFinallyBlocksInOrder, ReturnEndsABlock, ReturnWithoutAValue, ElseBranch};
 ghost use Rattle.ls_rows.specs.Threads.{NoStartBeforeTheSetupHasEnded, NoStartAfterATrapOfTheSetup, NoStepAfterATrap, ExceptionOfAnInitialiser, ExceptionOfAConstructor, AHeldLockIsWaitedFor, UnlockOfALockThatAnotherHolds, UnlockOfAFreeLock, HeldByAnother, TwoHoldsByTry};
 ghost use Rattle.ls_rows.specs.Limits.{LastHold, HoldPastTheLast, TryPastTheLast, LockOfAnother, LastHoldLeft, OneHoldLeft, NegativeSize, NullName, EntryIsDone, TrappedIsNoEnd, NoThread, NotYet, EmptySetup};
+ghost use Rattle.ls_rows.specs.Loops.{ExceptionOutOfALoop, ContinueSkipsTheRest, ContinueOutOfAnInnerBlock, BreakOutOfAnInnerBlock};
+ghost use Rattle.ls_rows.specs.Marks.{ExpectedMarkIsSet, SetIsRead, RefusedAttempt, AttemptClears};
+ghost use Rattle.ls_rows.specs.Starts.{ProductsOfZero, FieldsStart};
+ghost use Rattle.ls_rows.specs.Steps.{WholeHistory, StateOfARun, WaitsOrIdle, IdleAtFirst, AskedLater, AskedOnTheWay};
 
 /// Whole runs.
 pub fn runs()
@@ -125,4 +129,36 @@ pub fn limits()
     ensures no_thread { NoThread }
     ensures not_yet { NotYet }
     ensures empty_setup { EmptySetup }
+{}
+
+/// What leaves a loop's body (JLS 14.2, 14.12.1, 14.15, 14.16).
+pub fn loops()
+    ensures exception_out_of_a_loop { ExceptionOutOfALoop }
+    ensures continue_skips_the_rest { ContinueSkipsTheRest }
+    ensures continue_out_of_an_inner_block { ContinueOutOfAnInnerBlock }
+    ensures break_out_of_an_inner_block { BreakOutOfAnInnerBlock }
+{}
+
+/// What a markable reference holds after an operation (java.util.concurrent.atomic.AtomicMarkableReference).
+pub fn marks()
+    ensures expected_mark_is_set { ExpectedMarkIsSet }
+    ensures set_is_read { SetIsRead }
+    ensures refused_attempt { RefusedAttempt }
+    ensures attempt_clears { AttemptClears }
+{}
+
+/// Zero as a factor, and what fields start with (JLS 15.17.1, 4.12.5).
+pub fn starts()
+    ensures products_of_zero { ProductsOfZero }
+    ensures fields_start { FieldsStart }
+{}
+
+/// Whole histories, and what a step and the question for the next one say of a thread.
+pub fn steps()
+    ensures whole_history { WholeHistory }
+    ensures state_of_a_run { StateOfARun }
+    ensures waits_or_idle { WaitsOrIdle }
+    ensures idle_at_first { IdleAtFirst }
+    ensures asked_later { AskedLater }
+    ensures asked_on_the_way { AskedOnTheWay }
 {}
