@@ -84,12 +84,16 @@ thread_meaning file program t q = phase_meaning file program t.number t.left t.p
 -- The moves.
 
 -- the next call begins
-abbrev pub begun_with : ℕ → List ProgramCall → Phase → Thread
-begun_with n (c ∷ cs) Starts = record { number = n + 1; left = cs; phase = Announces c }
-begun_with n cs p = record { number = n; left = cs; phase = p }
+abbrev pub begun_with : ℕ → List ProgramCall → Thread
+begun_with n [] = record { number = n; left = []; phase = Starts }
+begun_with n (c ∷ cs) = record { number = n + 1; left = cs; phase = Announces c }
+
+abbrev pub begun_in : Phase → ℕ → List ProgramCall → Thread
+begun_in Starts n cs = begun_with n cs
+begun_in p n cs = record { number = n; left = cs; phase = p }
 
 abbrev pub begun : Thread → Thread
-begun t = begun_with t.number t.left t.phase
+begun t = begun_in t.phase t.number t.left
 
 -- after a body that has come to its end
 abbrev pub worked : File → Bottom → State → Control → Phase
