@@ -10,7 +10,7 @@ use Rattle.ls_events.specs.declared.action.Answer.{Answer}
 use Rattle.ls_checked.specs.CheckedTree.{File}
 use Rattle.ls_checked.specs.CheckedProgram.{Program, ThreadProgram}
 use Rattle.ls_meaning.specs.Course.{Answers}
-use Rattle.ls_meaning.specs.Threads.{Next, Ended, next, all_calls, calls_in}
+use Rattle.ls_meaning.specs.Threads.{Next, next, all_calls, calls_in}
 use Rattle.ls_checked.specs.declared.program.ThreadProgram.{ThreadProgram as ProgramOfThread}
 use Rattle.ls_checked.specs.PlainProgram.{plain_call, plain_thread}
 use Rattle.ls_meaning.specs.declared.step.Did.{Did}

@@ -1,14 +1,12 @@
 use Rattle.std.proofs.Common.{◌≡◌, length, map, [], refl, sym, ap, subst, ◌∙◌}
 use Rattle.std.proofs.lemmas.List.{length-map}
 use Rattle.ls_checked.specs.Plain.{plain_file}
-use Rattle.ls_checked.specs.PlainProgram.{plain_program, plain_thread, plain_call}
+use Rattle.ls_checked.specs.PlainProgram.{plain_program, plain_thread}
 use Rattle.ls_meaning.specs.Course.{Answers}
-use Rattle.ls_source.specs.Calls.{Starts, Thread, begun}
 use Rattle.ls_source.specs.Kept.{IsKept}
 use Rattle.ls_source.specs.SeenThread.{thread_of}
 use Rattle.ls_source.specs.SeenRun.{lists_of}
 use Rattle.std.specs.Prelude.{List}
-use Rattle.ls_source.proofs.Starts.{none}
 use Rattle.ls_source.proofs.Kept.{starts, fresh_threads}
 use Rattle.ls_source.proofs.run.SourceRun.new.Goals as goal
 

@@ -1,4 +1,4 @@
-use Rattle.std.proofs.Common.{◌≡◌, ap, ◌∙◌}
+use Rattle.std.proofs.Common.{ap, ◌∙◌}
 use Rattle.ls_checked.specs.Plain.{plain_file}
 use Rattle.ls_source.specs.Calls.{thread_meaning}
 use Rattle.ls_source.specs.SeenThread.{thread_of}
