@@ -1,3 +1,4 @@
 pub mod Seen
 pub mod SeenCourse
 pub mod Forms
+pub mod SeenThread

@@ -5,4 +5,5 @@ pub mod course;
 mod forms;
 pub mod operations;
 pub mod outcome;
+pub mod threads;
 pub mod value;

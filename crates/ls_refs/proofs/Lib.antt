@@ -8,7 +8,6 @@ pub mod Good
 pub mod CallForms
 pub mod MarkForms
 pub mod Exprs
-pub mod Shorter
 pub mod Stmts
 pub mod Frames
 pub mod Methods

@@ -28,7 +28,7 @@ use Rattle.ls_refs.specs.Laws.{AsksAsFile, answer_words, in_words, Suited}
 use Rattle.ls_refs.proofs.Sim.{ends, word_ends, Sim, sim_eq, Agrees, throws_agrees, Kept, kept_refl}
 use Rattle.ls_refs.proofs.Good.{Holds, CallsAgree}
 use Rattle.ls_refs.proofs.Frames.{start_word, start_has, Starts, starts_of, as_long, frame_holds, frame_room}
-use Rattle.ls_refs.proofs.Shorter.{CallsWithin, invoke_within}
+use Rattle.ls_meaning.proofs.Shorter.{CallsWithin, invoke_within}
 use Rattle.ls_refs.proofs.Stmts.{Go, GoWord, finish_by, completion_word, CompletionHas, agrees_by}
 
 abbrev on_leave : Option ValueType → (Value → Answers → Evaluated Value) → (Kind → Answers → Evaluated Value) → Go

@@ -34,7 +34,7 @@ use Rattle.ls_refs.proofs.Values.{reference_word, truth_word, int_word, int_fits
 use Rattle.ls_refs.proofs.Sim.{suited_eq, ends, word_ends, Sim, sim_eq, Agrees, then_agrees, perform_agrees, null_agrees}
 use Rattle.ls_refs.proofs.Good.{Holds, holds_kept, get_within, CallsAgree}
 use Rattle.ls_refs.proofs.Exprs.{agrees}
-use Rattle.ls_refs.proofs.Shorter.{CallsWithin, evaluate_within, execute_within, turns_eq}
+use Rattle.ls_meaning.proofs.Shorter.{CallsWithin, evaluate_within, execute_within, turns_eq}
 
 abbrev pub Go : Type 0
 Go = Completion Value → List Value → Answers → Evaluated Value

@@ -18,7 +18,7 @@ use Rattle.ls_meaning.specs.Statements.{Executed, AsksFor, Completes, execute}
 use Rattle.ls_meaning.specs.Methods.{frame, answer_without, leave, run_body, invoke}
 use Rattle.ls_refs.specs.Sorts.{HasType, HasSort, HaveTypes}
 use Rattle.ls_refs.specs.Typing.{IsTypedMethod, IsTypedFile, answer_sort, parameters_of}
-use Rattle.ls_refs.proofs.Shorter.{CallsWithin, invoke_within}
+use Rattle.ls_meaning.proofs.Shorter.{CallsWithin, invoke_within}
 use Rattle.ls_soundness.proofs.Values.{start_has}
 use Rattle.ls_soundness.proofs.Ways.{Way, ends, Sure, sure_same, Good, throws_good, then_good, tell_fits}
 use Rattle.ls_soundness.proofs.Locals.{Locals, Starts, starts_of, frame_locals}

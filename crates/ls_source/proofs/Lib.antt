@@ -2,3 +2,6 @@ pub mod Stores
 pub mod Stages
 pub mod Starts
 pub mod Histories
+pub mod Lefts
+pub mod Calls
+pub mod Kept

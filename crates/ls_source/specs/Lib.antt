@@ -1,6 +1,9 @@
 pub mod SeenThing
 pub mod SeenStore
+pub mod Calls
 pub mod SeenThread
+pub mod Kept
 pub mod Progress
+pub mod GoneBy
 pub mod SeenRun
 pub mod Shown

@@ -1,6 +1,7 @@
 //! The steps of a source run: which thread does what next, and what that does to the store.
 #![tactic(auto)]
 
+mod next;
 pub mod run;
 mod stage;
 mod store;

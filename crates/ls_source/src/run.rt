@@ -1,34 +1,61 @@
 // A run from the source, one step after another.
 
-ghost use Rattle.std.specs.Prelude.{◌≡◌, IfOk, length};
+ghost use Rattle.std.specs.Prelude.{◌≡◌, IfOk, length, map};
 ghost use Rattle.ls_checked.specs.Plain.{plain_file};
-ghost use Rattle.ls_checked.specs.PlainProgram.{plain_program};
+ghost use Rattle.ls_checked.specs.PlainProgram.{plain_program, plain_call};
 ghost use Rattle.ls_meaning.specs.Runs.{source_history};
+ghost use Rattle.ls_source.specs.Calls.{Starts, begun as with_first};
+ghost use Rattle.ls_source.specs.SeenThread.{thread_of};
+ghost use Rattle.ls_source.specs.SeenRun.{lists_of};
+ghost use Rattle.ls_source.specs.Kept.{IsKept};
 
-use crate::stage::{Stage, answers_at};
-use crate::thread::{Next, next_of};
-use ls_checked::program::Program;
+use crate::next::Next;
+use crate::stage::Stage;
+use crate::thread::Thread;
+use ls_checked::program::{Program, ThreadProgram};
 use ls_checked::tree::File;
+use ls_events::action::Action;
 use ls_events::event::Event;
+use ls_events::value::Value;
 use ls_meaning::step::{Asked, Did};
 use std::alloc::{AllocError, Global};
 
-/// A run of a program of a file. Each thread's answers are kept, and each question what it does next goes through its
-/// calls from the start.
+/// A run of a program of a file: each thread with its pending work, up to its next question. The answers that it has had are
+/// kept, and no step reads them.
 #[derive(Drop)]
 pub struct SourceRun<'a> {
     file: &'a File,
     program: &'a Program,
     stage: Stage,
-    ghost threads: { length stage.answers.items ≡ length program.now.threads.items },
+    threads: Vec<Thread<'a>>,
+    ghost answers: { length stage.answers.items ≡ length program.now.threads.items },
+    ghost works: { length threads.items ≡ length program.now.threads.items },
+    ghost kept: { IsKept (plain_file file.now) (plain_program program.now) (map thread_of threads.items) (lists_of stage.answers.items) },
+}
+
+// The threads of a program, each up to its first question.
+fn fresh_threads<'a>(
+    alloc: Global,
+    programs: &'a [ThreadProgram],
+) -> Result<Vec<Thread<'a>>, AllocError>
+    ensures { IfOk result (λ v. map thread_of v.items ≡ map (λ t. with_first (record { number = 0; left = map plain_call t.calls.items; phase = Starts })) programs.now) }
+{
+    let mut threads = Vec::new(alloc);
+    for program in programs {
+        threads.push(Thread::new(alloc, &program.calls))?;
+    }
+    Ok(threads)
 }
 
 impl<'a> SourceRun<'a> {
-    ghost use Rattle.std.specs.Prelude.{OnOk, OnErr};
+    ghost use Rattle.std.specs.Prelude.{◌<◌, OnOk, OnErr, Some, slice_get};
     ghost use Rattle.ls_meaning.specs.Threads.{next};
-    ghost use Rattle.ls_meaning.specs.Runs.{asked, has_started, step, answers_of};
+    ghost use Rattle.ls_meaning.specs.Runs.{asked, has_started, step, answers_of, performed};
+    ghost use Rattle.ls_meaning.specs.Effect.{effect};
     ghost use Rattle.ls_source.specs.SeenThread.{seen_next};
     ghost use Rattle.ls_source.specs.Progress.{begun, gone_on};
+    ghost use Rattle.ls_source.specs.GoneBy.{gone_by};
+    ghost use Rattle.ls_source.specs.Kept.{asked_at, action_in};
     ghost use Rattle.ls_source.specs.Shown.{progress_of};
 
     /// A run that hasn't made a step.
@@ -40,51 +67,92 @@ impl<'a> SourceRun<'a> {
         ensures { IfOk result (λ r. progress_of r ≡ begun (plain_file file.now) (plain_program program.now)) }
     {
         let stage = Stage::new(alloc, program)?;
+        let threads = fresh_threads(alloc, &program.threads)?;
         Ok(SourceRun {
             file,
             program,
             stage,
+            threads,
         })
     }
 
-    // What a thread does after the answers that it has had.
-    fn next_of_thread(&self, alloc: Global, thread: usize) -> Result<Next, AllocError>
-        ensures { IfOk result (λ r. seen_next r ≡ next (progress_of self.now).file (progress_of self.now).program thread (answers_of (progress_of self.now).state thread)) }
+    // What a thread does after the answers that it has had. Work that memory was short for isn't gone on with here.
+    fn next_of_thread(&self, thread: usize) -> Result<Next, AllocError>
+        ensures asked { IfOk result (λ r. asked_at (progress_of self.now).program (slice_get (map thread_of self.now.threads.items) thread) ≡ Some (seen_next r)) }
+        ensures next { IfOk result (λ r. seen_next r ≡ next (progress_of self.now).file (progress_of self.now).program thread (answers_of (progress_of self.now).state thread)) }
     {
-        let answers = answers_at(&self.stage.answers, thread);
-        next_of(alloc, self.file, self.program, thread, answers)
+        match self.threads.get(thread) {
+            None => Ok(Next::Ended),
+            Some(t) => match t.asked(self.program) {
+                None => Err(AllocError),
+                Some(next) => Ok(next),
+            },
+        }
     }
 
     // The setup starts at once, the others when it has ended without a trap.
-    fn has_started(&self, alloc: Global, thread: usize) -> Result<bool, AllocError>
+    fn has_started(&self, thread: usize) -> Result<bool, AllocError>
         ensures { IfOk result (λ b. b ≡ has_started (progress_of self.now).file (progress_of self.now).program (progress_of self.now).state thread) }
     {
         if thread == 0 {
             return Ok(true);
         }
-        match self.next_of_thread(alloc, 0)? {
+        match self.next_of_thread(0)? {
             Next::Ended => Ok(true),
             Next::Goes(_, _) | Next::Trapped => Ok(false),
         }
     }
 
     /// What a thread asks for next. The number of no thread has ended.
-    pub fn next(&self, alloc: Global, thread: usize) -> Result<Asked, AllocError>
+    pub fn next(&self, _alloc: Global, thread: usize) -> Result<Asked, AllocError>
         ensures { IfOk result (λ a. a ≡ asked (progress_of self.now).file (progress_of self.now).program (progress_of self.now).state thread) }
     {
         if thread >= self.program.threads.len() {
             return Ok(Asked::Ended);
         }
-        if !self.has_started(alloc, thread)? {
+        if !self.has_started(thread)? {
             return Ok(Asked::NotStarted);
         }
-        match self.next_of_thread(alloc, thread)? {
+        match self.next_of_thread(thread)? {
             Next::Goes(action, _) => Ok(Asked::Asks(action)),
             Next::Ended | Next::Trapped => Ok(Asked::Ended),
         }
     }
 
-    /// One step of a thread. It changes the run where it acts, and not where it is refused.
+    // A thread goes on to its next question.
+    fn settle(&mut self, alloc: Global, thread: usize) -> Result<(), AllocError>
+        ensures { progress_of self.new ≡ progress_of self.old }
+    {
+        if thread < self.threads.len() {
+            self.threads[thread].settle(alloc, self.file)?;
+        }
+        Ok(())
+    }
+
+    // The action that a thread asks for is performed, and the thread takes the answer.
+    fn act(
+        &mut self,
+        alloc: Global,
+        thread: usize,
+        action: Action<Value>,
+    ) -> Result<Did, AllocError>
+        requires within { thread < length self.old.threads.items }
+        requires asks { action_in (asked_at (progress_of self.old).program (slice_get (map thread_of self.old.threads.items) thread)) ≡ Some action }
+        ensures did { IfOk result (λ d. d ≡ (performed (progress_of self.old).state thread action (effect (progress_of self.old).file.classes (progress_of self.old).state.store thread action)).did) }
+        ensures run { OnOk result (progress_of self.new ≡ gone_by (progress_of self.old) thread (performed (progress_of self.old).state thread action (effect (progress_of self.old).file.classes (progress_of self.old).state.store thread action))) }
+        ensures refused { OnErr result (progress_of self.new ≡ progress_of self.old) }
+    {
+        let did = self
+            .stage
+            .perform(alloc, &self.file.classes, thread, action)?;
+        if let Did::Acted(_, answer) = did {
+            self.threads[thread].take(self.file, answer);
+        }
+        Ok(did)
+    }
+
+    /// One step of a thread. It changes the run where it acts, and not where it is refused. What the thread does up to its
+    /// next question is done before and after, and where memory is short after it, the next step goes on with that.
     pub fn step(&mut self, alloc: Global, thread: usize) -> Result<Did, AllocError>
         ensures did { IfOk result (λ d. d ≡ (step (progress_of self.old).file (progress_of self.old).program (progress_of self.old).state thread).did) }
         ensures run { OnOk result (progress_of self.new ≡ gone_on (progress_of self.old) thread) }
@@ -93,14 +161,15 @@ impl<'a> SourceRun<'a> {
         if thread >= self.program.threads.len() {
             return Ok(Did::Idle);
         }
-        if !self.has_started(alloc, thread)? {
+        self.settle(alloc, 0)?;
+        self.settle(alloc, thread)?;
+        if !self.has_started(thread)? {
             return Ok(Did::Idle);
         }
-        match self.next_of_thread(alloc, thread)? {
+        match self.next_of_thread(thread)? {
             Next::Goes(action, _) => {
-                let did = self
-                    .stage
-                    .perform(alloc, &self.file.classes, thread, action)?;
+                let did = self.act(alloc, thread, action)?;
+                let _settled = self.settle(alloc, thread);
                 Ok(did)
             }
             Next::Ended | Next::Trapped => Ok(Did::Idle),
@@ -122,6 +191,7 @@ impl<'a> SourceRun<'a> {
             file: _,
             program: _,
             stage,
+            threads: _,
         } = self;
         let Stage {
             store: _,

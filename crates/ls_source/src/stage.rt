@@ -1,6 +1,6 @@
 // The state of a run: the store, the answers that each thread has had, and the events.
 
-ghost use Rattle.std.specs.Prelude.{◌≡◌, ◌<◌, IfOk, OnOk, OnErr, ◌++◌, [], length, map, slice_index_or};
+ghost use Rattle.std.specs.Prelude.{◌≡◌, ◌<◌, IfOk, OnOk, OnErr, ◌++◌, [], length, map};
 ghost use Rattle.ls_checked.specs.Plain.{plain_class};
 ghost use Rattle.ls_checked.specs.PlainProgram.{plain_program};
 ghost use Rattle.ls_meaning.specs.Effect.{effect};
@@ -41,16 +41,6 @@ fn event_of(thread: usize, action: Action<Value>) -> Option<Event>
         call,
         happening,
     })
-}
-
-/// The answers that a thread has had.
-pub fn answers_at<'b>(answers: &'b [Vec<Answer<Value>>], thread: usize) -> &'b [Answer<Value>]
-    ensures { result.now ≡ slice_index_or (lists_of answers.now) thread [] }
-{
-    match answers.get(thread) {
-        None => &[],
-        Some(v) => v.as_slice(),
-    }
 }
 
 // No answers, for each thread.

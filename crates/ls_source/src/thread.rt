@@ -1,92 +1,69 @@
-// What a thread of a program does next.
+// A thread of a program with its pending work: its calls, one after another.
 
-ghost use Rattle.std.specs.Prelude.{◌≡◌, IfOk, map};
+ghost use Rattle.std.specs.Prelude.{◌≡◌, option_map};
 ghost use Rattle.ls_checked.specs.Plain.{plain_file};
-ghost use Rattle.ls_checked.specs.PlainProgram.{plain_program, plain_call};
+ghost use Rattle.ls_checked.specs.PlainProgram.{plain_program};
 ghost use Rattle.ls_meaning.specs.Methods.{depth_limit};
-ghost use Rattle.ls_meaning.specs.Threads.{next, all_calls, one_call, result_of, named};
-ghost use Rattle.ls_courses.specs.Seen.{seen};
+ghost use Rattle.ls_meaning.specs.Threads.{result_of, named};
+ghost use Rattle.ls_pending.specs.Seen.{control_of};
+ghost use Rattle.ls_source.specs.Calls.{asked_by};
 ghost use Rattle.ls_source.specs.SeenThread.{seen_next};
 
+use crate::next::Next;
 use ls_checked::program::{Program, ProgramCall};
 use ls_checked::tree::File;
-use ls_courses::course::invoke;
 use ls_courses::operations::{constructor_of, method_at};
-use ls_courses::outcome::{Evaluated, ask, tell};
 use ls_courses::value::reference_of;
 use ls_events::action::{Action, Answer};
 use ls_events::kind::Kind;
 use ls_events::value::{Value, ValueType};
+use ls_meaning::completion::Completion;
 use ls_meaning::sort::Sort;
+use ls_pending::pending::Pending;
+use ls_pending::work::Control;
 use std::alloc::{AllocError, Global};
 
-/// What a thread asks for, or that it has ended, by its last return or by a trap.
+/// What a body was entered for: a setup name and its new object, or a method.
 #[derive(Copy)]
-pub enum Next {
-    Goes(Action<Value>, Sort),
-    Ended,
-    Trapped,
+pub enum Bottom {
+    Making(usize, Value),
+    Calling(usize),
 }
 
-impl Clone for Next {
-    fn clone(&self) -> Result<Next, AllocError> {
+impl Clone for Bottom {
+    fn clone(&self) -> Result<Bottom, AllocError> {
         Ok(*self)
     }
 }
 
-macro_rules! results {
-    ($e:expr) => {
-        match $e {
-            Evaluated::Results(v, rest) => (v, rest),
-            Evaluated::Asks(action, sort) => return Ok(Evaluated::Asks(action, sort)),
-            Evaluated::Throws(kind, rest) => return Ok(Evaluated::Throws(kind, rest)),
-        }
-    };
+/// Where a thread is in its calls. A body begins, and then its work is kept.
+#[derive(Copy)]
+pub enum Phase<'a> {
+    Starts,
+    Announces(&'a ProgramCall),
+    Makes(usize, usize, &'a [Value]),
+    Fetches(usize, usize, &'a [Value]),
+    Begins(Bottom, usize, Value, &'a [Value]),
+    Works(Bottom),
+    Names(usize, Value),
+    ReturnsWith(Option<Value>),
+    TrapsWith(Kind),
+    Trapped,
 }
 
-/// What a thread does after these answers; the number of no thread has ended.
-pub fn next_of(
-    alloc: Global,
-    file: &File,
-    program: &Program,
-    thread: usize,
-    answers: &[Answer<Value>],
-) -> Result<Next, AllocError>
-    ensures { IfOk result (λ r. seen_next r ≡ next (plain_file file.now) (plain_program program.now) thread answers.now) }
-{
-    match program.threads.get(thread) {
-        None => Ok(Next::Ended),
-        Some(t) => all_calls(alloc, file, program, &t.calls, answers),
+impl<'a> Clone for Phase<'a> {
+    fn clone(&self) -> Result<Phase<'a>, AllocError> {
+        Ok(*self)
     }
 }
 
-// The calls of a thread, one after another.
-fn all_calls(
-    alloc: Global,
-    file: &File,
-    program: &Program,
-    calls: &[ProgramCall],
-    answers: &[Answer<Value>],
-) -> Result<Next, AllocError>
-    ensures { IfOk result (λ r. seen_next r ≡ all_calls (plain_file file.now) (plain_program program.now) 1 (map plain_call calls.now) answers.now) }
-{
-    let mut answers = answers;
-    let mut n = 1;
-    for call in calls {
-        match one_call(alloc, file, program, n, call, answers)? {
-            Evaluated::Asks(action, sort) => return Ok(Next::Goes(action, sort)),
-            Evaluated::Results(v, rest) => match rest {
-                [] => return Ok(Next::Goes(Action::Return(n, v), Sort::NoValue)),
-                [_, rest @ ..] => answers = rest,
-            },
-            Evaluated::Throws(kind, rest) => match rest {
-                [] => return Ok(Next::Goes(Action::Trap(n, kind), Sort::NoValue)),
-                [_, ..] => return Ok(Next::Trapped),
-            },
-        }
-        n += 1;
-    }
-    Ok(Next::Ended)
+/// A thread: its calls, how many of them have begun, and the work of a body.
+#[derive(Drop)]
+pub struct Thread<'a> {
+    pub calls: &'a [ProgramCall],
+    pub begun: usize,
+    pub phase: Phase<'a>,
+    pub work: Pending<'a>,
 }
 
 // How many calls may be entered, one in the other.
@@ -120,46 +97,232 @@ fn named(program: &Program, n: usize) -> Sort
     }
 }
 
-// One call, up to its return or trap event.
-fn one_call<'a>(
-    alloc: Global,
-    file: &File,
-    program: &Program,
-    n: usize,
-    call: &ProgramCall,
-    answers: &'a [Answer<Value>],
-) -> Result<Evaluated<'a, Option<Value>>, AllocError>
-    ensures { IfOk result (λ r. seen r ≡ one_call (plain_file file.now) (plain_program program.now) n (plain_call call.now) answers.now) }
+// What work asks for.
+fn asked_by<'a>(control: &Control<'a>) -> Option<Next>
+    ensures { option_map seen_next result ≡ asked_by (control_of control.now) }
 {
-    let (_, rest) = results!(tell(Action::Call(n), answers));
-    match call {
-        ProgramCall::Making {
-            name,
-            class,
-            values,
-            ..
-        } => {
-            let sort = Sort::NewOf(ValueType::Class(*class));
-            let (o, rest) = results!(ask(Action::New(*class), sort, rest));
-            let constructor = constructor_of(&file.classes, *class);
-            let depth = depth_limit();
-            let (_, rest) = results!(invoke(alloc, file, depth, constructor, o, values, rest)?);
-            let (_, rest) = results!(tell(Action::WriteName(*name, o), rest));
-            Ok(Evaluated::Results(None, rest))
-        }
-        ProgramCall::Calling {
-            name,
-            method,
-            values,
-            ..
-        } => {
-            let (o, rest) = results!(ask(Action::ReadName(*name), named(program, *name), rest));
-            if reference_of(o) == 0 {
-                return Ok(Evaluated::Throws(Kind::NullPointer, rest));
+    match control {
+        Control::Asks(action, sort) => Some(Next::Goes(*action, *sort)),
+        Control::Enters(m, _, _) => Some(Next::Goes(Action::Enter(*m), Sort::NoValue)),
+        Control::Turns(_, _) => Some(Next::Goes(Action::Turn, Sort::NoValue)),
+        _ => None,
+    }
+}
+
+impl<'a> Thread<'a> {
+    ghost use Rattle.std.specs.Prelude.{◌∷◌, [], ℕ, drop, length, map};
+    ghost use Rattle.ls_checked.specs.CheckedProgram.{Program as PlainProgram};
+    ghost use Rattle.ls_checked.specs.PlainProgram.{plain_call};
+    ghost use Rattle.ls_meaning.specs.Course.{Answers};
+    ghost use Rattle.ls_pending.specs.SeenPending.{state_of};
+    ghost use Rattle.ls_source.specs.Calls.{Starts, begun, finished, answered, object_made, object_fetched, announced, asked_now, thread_meaning};
+    ghost use Rattle.ls_source.specs.SeenThread.{bottom_of, phase_of, thread_of};
+
+    /// A thread that has done nothing, up to its first question.
+    #[tactic(auto, using(crate::proofs::Lefts::all_left))]
+    pub fn new(alloc: Global, calls: &'a [ProgramCall]) -> Thread<'a>
+        ensures { thread_of result ≡ begun (record { number = 0; left = map plain_call calls.now; phase = Starts }) }
+    {
+        let mut thread = Thread {
+            calls,
+            begun: 0,
+            phase: Phase::Starts,
+            work: Pending {
+                control: Control::Gives(Value::Reference(0)),
+                frames: Vec::new(alloc),
+                locals: Vec::new(alloc),
+                depth: 0,
+            },
+        };
+        thread.begin_call();
+        thread
+    }
+
+    // The next call begins.
+    #[tactic(auto, using(crate::proofs::Lefts::one_left, crate::proofs::Lefts::none_left))]
+    fn begin_call(&mut self)
+        ensures { thread_of self.new ≡ begun (thread_of self.old) }
+    {
+        match self.phase {
+            Phase::Starts => {
+                if self.begun < self.calls.len() {
+                    let calls = self.calls;
+                    self.phase = Phase::Announces(&calls[self.begun]);
+                    self.begun += 1;
+                }
             }
-            let depth = depth_limit();
-            let (v, rest) = results!(invoke(alloc, file, depth, *method, o, values, rest)?);
-            Ok(Evaluated::Results(result_of(file, *method, v), rest))
+            _ => {}
         }
+    }
+
+    // A body's work is made, where it is still to begin. A refusal changes nothing.
+    #[tactic(auto, using(ls_pending::proofs::Stacks::none_left))]
+    fn begin_body(&mut self, alloc: Global) -> Result<(), AllocError>
+        ensures { thread_of self.new ≡ thread_of self.old }
+    {
+        if let Phase::Begins(bottom, method, o, values) = self.phase {
+            let mut copied = Vec::new(alloc);
+            copied.extend_from_slice(values)?;
+            self.work = Pending {
+                control: Control::Invokes(method, o, copied),
+                frames: Vec::new(alloc),
+                locals: Vec::new(alloc),
+                depth: depth_limit(),
+            };
+            self.phase = Phase::Works(bottom);
+        }
+        Ok(())
+    }
+
+    // The work of a body, up to its next question or its end.
+    fn work_on(&mut self, alloc: Global, file: &'a File) -> Result<(), AllocError>
+        ensures { (program : PlainProgram) (q : Answers) → thread_meaning (plain_file file.now) program (thread_of self.new) q ≡ thread_meaning (plain_file file.now) program (thread_of self.old) q }
+    {
+        self.work.settle(alloc, file)
+    }
+
+    // A body that has come to its end.
+    fn finish(&mut self, file: &File)
+        ensures { thread_of self.new ≡ finished (plain_file file.now) (thread_of self.old) }
+    {
+        if let Phase::Works(bottom) = self.phase {
+            if self.work.is_left() {
+                return;
+            }
+            match &self.work.control {
+                Control::Gives(v) => {
+                    self.phase = match bottom {
+                        Bottom::Making(name, o) => Phase::Names(name, o),
+                        Bottom::Calling(m) => Phase::ReturnsWith(result_of(file, m, *v)),
+                    };
+                }
+                Control::Ends(completion) => {
+                    self.phase = match completion {
+                        Completion::Threw(kind) => Phase::TrapsWith(*kind),
+                        _ => Phase::Trapped,
+                    };
+                }
+                _ => {}
+            }
+        }
+    }
+
+    /// Goes on to the next question, or to the end. The thread does what it did, also where it is refused.
+    pub fn settle(&mut self, alloc: Global, file: &'a File) -> Result<(), AllocError>
+        ensures { (program : PlainProgram) (q : Answers) → thread_meaning (plain_file file.now) program (thread_of self.new) q ≡ thread_meaning (plain_file file.now) program (thread_of self.old) q }
+    {
+        self.begin_call();
+        self.begin_body(alloc)?;
+        self.work_on(alloc, file)?;
+        self.finish(file);
+        Ok(())
+    }
+
+    // A call is announced.
+    fn announce(&mut self, call: &'a ProgramCall)
+        ensures { thread_of self.new ≡ record { number = self.old.begun; left = drop self.old.begun (map plain_call self.old.calls.now); phase = announced (plain_call call.now) } }
+    {
+        self.phase = match call {
+            ProgramCall::Making {
+                name,
+                class,
+                values,
+                ..
+            } => Phase::Makes(*name, *class, values),
+            ProgramCall::Calling {
+                name,
+                method,
+                values,
+                ..
+            } => Phase::Fetches(*name, *method, values),
+        };
+    }
+
+    // The object of a setup name is made.
+    fn make(
+        &mut self,
+        file: &File,
+        name: usize,
+        class: usize,
+        values: &'a [Value],
+        answer: Answer<Value>,
+    )
+        ensures { thread_of self.new ≡ record { number = self.old.begun; left = drop self.old.begun (map plain_call self.old.calls.now); phase = object_made (plain_file file.now) name class values.now answer } }
+    {
+        let m = constructor_of(&file.classes, class);
+        self.phase = match answer {
+            Answer::Done => {
+                let o = Value::Reference(0);
+                Phase::Begins(Bottom::Making(name, o), m, o, values)
+            }
+            Answer::Gives(o) => Phase::Begins(Bottom::Making(name, o), m, o, values),
+            Answer::Fails(kind) => Phase::TrapsWith(kind),
+        };
+    }
+
+    // The object of a call is read.
+    fn fetch(&mut self, file: &File, method: usize, values: &'a [Value], answer: Answer<Value>)
+        ensures { thread_of self.new ≡ record { number = self.old.begun; left = drop self.old.begun (map plain_call self.old.calls.now); phase = object_fetched (plain_file file.now) method values.now answer } }
+    {
+        let o = match answer {
+            Answer::Done => Value::Reference(0),
+            Answer::Gives(o) => o,
+            Answer::Fails(kind) => {
+                self.phase = Phase::TrapsWith(kind);
+                return;
+            }
+        };
+        self.phase = if reference_of(o) == 0 {
+            Phase::TrapsWith(Kind::NullPointer)
+        } else {
+            Phase::Begins(Bottom::Calling(method), method, o, values)
+        };
+    }
+
+    /// The answer to what was asked for.
+    pub fn take(&mut self, file: &File, answer: Answer<Value>)
+        ensures { thread_of self.new ≡ answered (plain_file file.now) answer (thread_of self.old) }
+    {
+        match self.phase {
+            Phase::Starts => {}
+            Phase::Announces(call) => self.announce(call),
+            Phase::Makes(name, class, values) => self.make(file, name, class, values, answer),
+            Phase::Fetches(_, method, values) => self.fetch(file, method, values, answer),
+            Phase::Begins(_, _, _, _) => {}
+            Phase::Works(_) => self.work.take(answer),
+            Phase::Names(_, _) => self.phase = Phase::ReturnsWith(None),
+            Phase::ReturnsWith(_) => self.phase = Phase::Starts,
+            Phase::TrapsWith(_) => self.phase = Phase::Trapped,
+            Phase::Trapped => {}
+        }
+    }
+
+    /// What is asked for, where no move is left.
+    #[tactic(auto, using(crate::proofs::Lefts::one_left, crate::proofs::Lefts::none_left))]
+    pub fn asked(&self, program: &Program) -> Option<Next>
+        ensures { option_map seen_next result ≡ asked_now (plain_program program.now) (thread_of self.now) }
+    {
+        let n = self.begun;
+        let asked = match self.phase {
+            Phase::Starts => {
+                if n < self.calls.len() {
+                    return None;
+                }
+                return Some(Next::Ended);
+            }
+            Phase::Announces(_) => Next::Goes(Action::Call(n), Sort::NoValue),
+            Phase::Makes(_, class, _) => {
+                let sort = Sort::NewOf(ValueType::Class(class));
+                Next::Goes(Action::New(class), sort)
+            }
+            Phase::Fetches(name, _, _) => Next::Goes(Action::ReadName(name), named(program, name)),
+            Phase::Begins(_, _, _, _) => return None,
+            Phase::Works(_) => return asked_by(&self.work.control),
+            Phase::Names(name, o) => Next::Goes(Action::WriteName(name, o), Sort::NoValue),
+            Phase::ReturnsWith(v) => Next::Goes(Action::Return(n, v), Sort::NoValue),
+            Phase::TrapsWith(kind) => Next::Goes(Action::Trap(n, kind), Sort::NoValue),
+            Phase::Trapped => Next::Trapped,
+        };
+        Some(asked)
     }
 }

@@ -3,7 +3,7 @@ use Rattle.std.specs.Prelude.{map}
 use Rattle.ls_checked.specs.Plain.{plain_file}
 use Rattle.ls_checked.specs.PlainProgram.{plain_program, plain_call}
 use Rattle.ls_meaning.specs.Threads.{all_calls}
-use Rattle.ls_source.proofs.thread.all_calls.Given as goal
+use Rattle.ls_courses.proofs.threads.all_calls.Given as goal
 
 abbrev pub invariant-loop-call : goal.invariant-loop-call
 invariant-loop-call l =

@@ -1,0 +1,4 @@
+pub mod Fusion
+pub mod Measure
+pub mod Stacks
+pub mod Blocks

@@ -1,0 +1,5 @@
+pub mod Pending
+pub mod Machine
+pub mod Seen
+pub mod SeenPending
+pub mod Filled

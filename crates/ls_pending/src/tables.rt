@@ -1,0 +1,37 @@
+// The locals of a body as it is entered, and what it answers without a value.
+
+ghost use Rattle.std.specs.Prelude.{◌≡◌, ◌∷◌, IfOk};
+ghost use Rattle.ls_meaning.specs.Methods.{frame, answer_without};
+
+use ls_courses::value::{start_of, starts_of};
+use ls_events::value::{Value, ValueType};
+use std::alloc::{AllocError, Global};
+
+/// The slots of a method as it is entered.
+pub fn frame(
+    alloc: Global,
+    types: &[ValueType],
+    this: Value,
+    values: &[Value],
+) -> Result<Vec<Value>, AllocError>
+    ensures { IfOk result (λ v. v.items ≡ frame types.now (this ∷ values.now)) }
+{
+    let mut all = Vec::new(alloc);
+    all.push(this)?;
+    all.extend_from_slice(values)?;
+    if all.len() < types.len() {
+        let locals = starts_of(alloc, &types[all.len()..])?;
+        all.extend_from_slice(&locals)?;
+    }
+    Ok(all)
+}
+
+/// What a call answers where its body completes without a value.
+pub fn answer_without(answered: Option<ValueType>) -> Value
+    ensures { result ≡ answer_without answered }
+{
+    match answered {
+        None => Value::Reference(0),
+        Some(t) => start_of(t),
+    }
+}

@@ -1,0 +1,96 @@
+// What is left to do of expressions and statements.
+
+use ls_checked::tree::{Called, Expression, Expressions, Operator, Statement};
+use ls_events::action::Action;
+use ls_events::value::{Value, ValueType};
+use ls_meaning::completion::Completion;
+use ls_meaning::sort::Sort;
+use std::alloc::AllocError;
+
+/// What arguments are for: a call on an object, a constructor of a new one, or a new markable.
+#[derive(Copy)]
+pub enum Purpose {
+    Call(Called, Value),
+    Make(usize, Value),
+    Mark(usize),
+}
+
+impl Clone for Purpose {
+    fn clone(&self) -> Result<Purpose, AllocError> {
+        Ok(*self)
+    }
+}
+
+/// The rest of an expression, which waits for a value.
+#[derive(Drop)]
+pub enum Operand<'a> {
+    Field(usize, usize),
+    Item(&'a Expression),
+    Index(Value),
+    Negate,
+    Not,
+    Length,
+    Left(Operator, &'a Expression),
+    Right(Operator, Value),
+    And(&'a Expression),
+    Or(&'a Expression),
+    Target(Called, &'a Expressions),
+    Argument(Purpose, Vec<Value>, &'a Expressions),
+    Made(usize, &'a Expressions),
+    Constructor(Value),
+    Reference,
+    Mark,
+    Both(u64),
+    Written(Value),
+}
+
+/// The rest of a statement, which waits for a value.
+#[derive(Drop)]
+pub enum Waiting<'a> {
+    Slot(usize),
+    Target(usize, &'a Expression),
+    Field(Value, usize),
+    Array(&'a Expression, &'a Expression),
+    Index(Value, &'a Expression),
+    Item(Value, Value),
+    Nothing,
+    If(&'a Statement, &'a Statement),
+    Test(&'a Expression, &'a Statement),
+    Return,
+}
+
+/// The rest of a statement, which waits for the end of a part.
+#[derive(Drop)]
+pub enum Ending<'a> {
+    Sequence(&'a [Statement]),
+    Body(&'a Expression, &'a Statement),
+    Try(&'a Statement),
+    Finally(Completion<Value>),
+}
+
+/// One frame. A body that is left gives its caller the locals that it had.
+#[derive(Drop)]
+pub enum Frame<'a> {
+    Operand(Operand<'a>),
+    Waiting(Waiting<'a>),
+    Ending(Ending<'a>),
+    Body(Option<ValueType>, Vec<Value>, u64),
+}
+
+/// What is done now. The last three ask for something.
+#[derive(Drop)]
+pub enum Control<'a> {
+    Evaluates(&'a Expression),
+    Argues(Purpose, Vec<Value>, &'a Expressions),
+    Applies(Purpose, Vec<Value>),
+    Invokes(usize, Value, Vec<Value>),
+    Opens(usize, Value, Vec<Value>),
+    Executes(&'a Statement),
+    Runs(&'a [Statement]),
+    Loops(&'a Expression, &'a Statement),
+    Gives(Value),
+    Ends(Completion<Value>),
+    Asks(Action<Value>, Sort),
+    Enters(usize, Value, Vec<Value>),
+    Turns(&'a Expression, &'a Statement),
+}
