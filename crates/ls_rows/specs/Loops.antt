@@ -117,3 +117,32 @@ BreakOutOfAnInnerBlock =
     ∷ line 1 (WriteField 1 0 (int 5)) done
     ∷ line 1 (Return 1 None) done
     ∷ [])
+
+-- void f() { int i = 0; o: while (i < 2) { i = i + 1; while (i < 3) { v = i; continue o; } v = 7; } }
+abbrev pub ContinueOfTheOuterLoop : Type 0
+ContinueOfTheOuterLoop =
+    source_trace
+    (record {
+      classes = (one_class (types.Int ∷ []) 1 ∷ []);
+      methods =
+          (method 0 0 ((types.Class 0) ∷ types.Int ∷ []) None (block ((block ((SetSlot 1 (Literal (int 0))) ∷ (SetSlot 1 (Literal (int 0))) ∷ [])) ∷ (While (Binary operators.Less (Slot 1) (Literal (int 2))) (block ((SetSlot 1 (Binary operators.Add (Slot 1) (Literal (int 1)))) ∷ (While (Binary operators.Less (Slot 1) (Literal (int 3))) (block ((SetField (Slot 0) 0 (Slot 1)) ∷ (Continue 1) ∷ []))) ∷ (SetField (Slot 0) 0 (Literal (int 7))) ∷ []))) ∷ []))
+          ∷ method 0 0 ((types.Class 0) ∷ []) None (block [])
+          ∷ []);
+    })
+    (program (0 ∷ []) ((making 0 0 [] ∷ []) ∷ (calling 0 0 [] ∷ []) ∷ []))
+    (replicate 9 0 ++ replicate 99 1)
+    ≡
+    (line 0 (actions.Call 1) done
+    ∷ line 0 (New 0) (gives (at 1))
+    ∷ line 0 (Enter 1) done
+    ∷ line 0 (WriteName 0 (at 1)) done
+    ∷ line 0 (Return 1 None) done
+    ∷ line 1 (actions.Call 1) done
+    ∷ line 1 (ReadName 0) (gives (at 1))
+    ∷ line 1 (Enter 0) done
+    ∷ line 1 (WriteField 1 0 (int 1)) done
+    ∷ line 1 Turn done
+    ∷ line 1 (WriteField 1 0 (int 2)) done
+    ∷ line 1 Turn done
+    ∷ line 1 (Return 1 None) done
+    ∷ [])

@@ -10,7 +10,7 @@ ghost use Rattle.ls_rows.specs.Operators.{Quotients, Remainders, Sums, Differenc
 ghost use Rattle.ls_rows.specs.Completions.{LocalsSetInFinally, LocalResetAtEachDeclaration, ReturnOverReturn, ReturnOverBreak, BreakOverReturn, ThrowOverReturn, ThrowOverThrow, ContinueOutOfATry, OuterLoops, NestedFinallyBlocksInOrder, ReturnEndsABlock, ReturnWithoutAValue, ElseBranch};
 ghost use Rattle.ls_rows.specs.Threads.{NoStartBeforeTheSetupHasEnded, NoStartAfterATrapOfTheSetup, NoStepAfterATrap, ExceptionOfAnInitialiser, ExceptionOfAConstructor, AHeldLockIsWaitedFor, UnlockOfALockThatAnotherHolds, UnlockOfAFreeLock, HeldByAnother, TwoHoldsByTry};
 ghost use Rattle.ls_rows.specs.Limits.{LastHold, HoldPastTheLast, TryPastTheLast, LockOfAnother, LastHoldLeft, OneHoldLeft, NegativeSize, NullName, EntryIsDone, TrappedIsNoEnd, NoThread, NotYet, EmptySetup};
-ghost use Rattle.ls_rows.specs.Loops.{ExceptionOutOfALoop, ContinueSkipsTheRest, ContinueOutOfAnInnerBlock, BreakOutOfAnInnerBlock};
+ghost use Rattle.ls_rows.specs.Loops.{ExceptionOutOfALoop, ContinueSkipsTheRest, ContinueOutOfAnInnerBlock, BreakOutOfAnInnerBlock, ContinueOfTheOuterLoop};
 ghost use Rattle.ls_rows.specs.Marks.{ExpectedMarkIsSet, SetIsRead, RefusedAttempt, AttemptClears};
 ghost use Rattle.ls_rows.specs.Starts.{ProductsOfZero, FieldsStart};
 ghost use Rattle.ls_rows.specs.Steps.{WholeHistory, StateOfARun, WaitsOrIdle, IdleAtFirst, AskedLater, AskedOnTheWay};
@@ -137,6 +137,7 @@ pub fn loops()
     ensures continue_skips_the_rest { ContinueSkipsTheRest }
     ensures continue_out_of_an_inner_block { ContinueOutOfAnInnerBlock }
     ensures break_out_of_an_inner_block { BreakOutOfAnInnerBlock }
+    ensures continue_of_the_outer_loop { ContinueOfTheOuterLoop }
 {}
 
 /// What a markable reference holds after an operation (java.util.concurrent.atomic.AtomicMarkableReference).

@@ -18,3 +18,7 @@ returns-clause-continue_out_of_an_inner_block c = refl
 pub returns-clause-break_out_of_an_inner_block : goal.returns-clause-break_out_of_an_inner_block
 unfolding int_wrap invoke depth_limit
 returns-clause-break_out_of_an_inner_block c = refl
+
+pub returns-clause-continue_of_the_outer_loop : goal.returns-clause-continue_of_the_outer_loop
+unfolding int_wrap invoke depth_limit
+returns-clause-continue_of_the_outer_loop c = refl
