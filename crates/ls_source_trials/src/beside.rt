@@ -1,6 +1,6 @@
 // Runs beside their plain form, which goes through each thread's answers from the start.
 
-use crate::told::told;
+use crate::told::summary;
 use crate::trees::{file, program};
 use ls_checked::program::Program;
 use ls_checked::tree::File;
@@ -38,7 +38,7 @@ fn plainly(
 fn same(a: Asked, b: Asked) -> bool {
     match a {
         Asked::Asks(x) => match b {
-            Asked::Asks(y) => told(x) == told(y),
+            Asked::Asks(y) => summary(x) == summary(y),
             _ => false,
         },
         Asked::Ended => matches!(b, Asked::Ended),
