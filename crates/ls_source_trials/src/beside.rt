@@ -86,7 +86,7 @@ fn both_forms(rt: HostRuntime) -> Result<(), Fail> {
             acted = acted.wrapping_add(1);
         }
     }
-    assert!(rt; acted > 150);
+    assert!(rt; acted > 80);
     assert!(rt; run.history().len() == 12);
     for thread in 0..3 {
         assert!(rt; matches!(run.next(alloc, thread)?, Asked::Ended));
