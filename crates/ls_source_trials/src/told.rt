@@ -4,7 +4,7 @@ use ls_events::action::Action;
 use ls_events::kind::Kind;
 use ls_events::value::Value;
 
-#[derive(PartialEq, Eq)]
+#[derive(Drop, PartialEq, Eq)]
 pub struct Told {
     pub form: u64,
     pub first: u64,
@@ -40,7 +40,7 @@ fn kind_of(kind: Kind) -> u64 {
 }
 
 /// What an action is.
-pub fn told(action: Action<Value>) -> Told {
+pub fn summary(action: Action<Value>) -> Told {
     match action {
         Action::ReadField { object, field } => numbers(0, object, field as u64),
         Action::WriteField {

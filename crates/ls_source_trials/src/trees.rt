@@ -24,7 +24,12 @@ fn int(n: i32) -> Expression {
     Expression::Literal(Value::Int(n))
 }
 
-fn two(alloc: Global, op: Operator, a: Expression, b: Expression) -> Result<Expression, AllocError> {
+fn two(
+    alloc: Global,
+    op: Operator,
+    a: Expression,
+    b: Expression,
+) -> Result<Expression, AllocError> {
     Ok(Expression::Binary(op, Box::new(alloc, a)?, Box::new(alloc, b)?))
 }
 
@@ -63,7 +68,12 @@ fn guarded(alloc: Global, body: Statement, last: Statement) -> Result<Statement,
 
 // s = s + i; f = f + s; if (s < 3 && i < 1) { continue; }
 fn turn(alloc: Global) -> Result<Statement, AllocError> {
-    let sum = two(alloc, Operator::Add, Expression::Slot(3), Expression::Slot(2))?;
+    let sum = two(
+        alloc,
+        Operator::Add,
+        Expression::Slot(3),
+        Expression::Slot(2),
+    )?;
     let more = two(alloc, Operator::Add, field(alloc, 0)?, Expression::Slot(3))?;
     let small = two(alloc, Operator::Less, Expression::Slot(3), int(3))?;
     let first = two(alloc, Operator::Less, Expression::Slot(2), int(1))?;
@@ -78,7 +88,12 @@ fn turn(alloc: Global) -> Result<Statement, AllocError> {
 fn repeated(alloc: Global) -> Result<Statement, AllocError> {
     let next = two(alloc, Operator::Add, Expression::Slot(2), int(1))?;
     let body = guarded(alloc, turn(alloc)?, Statement::SetSlot(2, next))?;
-    let test = two(alloc, Operator::Less, Expression::Slot(2), Expression::Slot(1))?;
+    let test = two(
+        alloc,
+        Operator::Less,
+        Expression::Slot(2),
+        Expression::Slot(1),
+    )?;
     Ok(Statement::While(test, Box::new(alloc, body)?))
 }
 
@@ -88,7 +103,10 @@ fn answer(alloc: Global) -> Result<Statement, AllocError> {
         Box::new(alloc, Expression::Slot(1))?,
         Box::new(alloc, Expressions::End)?,
     );
-    let all = Expressions::More(Box::new(alloc, Expression::Slot(3))?, Box::new(alloc, last)?);
+    let all = Expressions::More(
+        Box::new(alloc, Expression::Slot(3))?,
+        Box::new(alloc, last)?,
+    );
     let this = Box::new(alloc, Expression::Slot(0))?;
     let call = Expression::Call(this, Called::Method(1), Box::new(alloc, all)?);
     let below = two(alloc, Operator::Subtract, Expression::Slot(1), int(3))?;
@@ -111,7 +129,7 @@ fn method(
     alloc: Global,
     parameters: usize,
     count: usize,
-    result: Option<ValueType>,
+    answered: Option<ValueType>,
     body: Statement,
 ) -> Result<Method, AllocError> {
     let mut slots = Vec::new(alloc);
@@ -123,7 +141,7 @@ fn method(
         class: 0,
         parameters,
         slots,
-        result,
+        result: answered,
         body,
     })
 }
@@ -138,7 +156,12 @@ pub fn file(alloc: Global) -> Result<File, AllocError> {
         fields,
         constructor: 2,
     })?;
-    let less = two(alloc, Operator::Subtract, Expression::Slot(1), Expression::Slot(2))?;
+    let less = two(
+        alloc,
+        Operator::Subtract,
+        Expression::Slot(1),
+        Expression::Slot(2),
+    )?;
     let makes = set_field(1, Expression::MakeLock);
     let int = Some(ValueType::Int);
     let mut methods = Vec::new(alloc);
