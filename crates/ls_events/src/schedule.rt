@@ -34,6 +34,14 @@ impl Schedule {
         }
     }
 
+    /// The schedule of these steps.
+    pub fn of(steps: Vec<usize>) -> Schedule
+        requires { length steps.items ≤ 1000000 }
+        ensures { result ≡ steps.items }
+    {
+        Schedule { steps }
+    }
+
     /// The threads of the steps, in order.
     pub fn steps(&self) -> &[usize]
         ensures { result.now ≡ self.now }

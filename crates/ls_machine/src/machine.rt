@@ -87,6 +87,13 @@ impl Machine {
         }
     }
 
+    /// Whether the setup has ended without a trap. It stays so, where the machine has stopped too.
+    pub fn is_set_up(&self) -> bool
+        ensures { result ≡ setup_ended (slice_get self.now.threads 0) }
+    {
+        has_setup_ended(&self.threads)
+    }
+
     /// One step of a thread. It takes no memory, and always succeeds.
     #[inline]
     pub fn step(&mut self, number: usize) -> Did

@@ -9,7 +9,7 @@ abbrev pub scheduled : Record → List ℕ
 scheduled r = r.schedule
 
 abbrev pub happened : Record → List Event
-happened r = r.history.items
+happened r = r.machine.history
 
 -- the record of a schedule of instructions on so many cells: the schedule, and the machine's history of it
 pub record IsRecordOf (code : Code) (cells : ℕ) (steps : List ℕ) (r : Record) : Type 0 where

@@ -13,18 +13,26 @@ use ls_events::schedule::Schedule;
 use ls_machine::{LoadFault, Machine};
 use std::alloc::{AllocError, Global};
 
-/// A schedule of instructions, and the history that a machine has after it.
+/// A schedule of instructions, and the machine after it.
 #[derive(Drop)]
 pub struct Record {
     schedule: Schedule,
-    history: Vec<Event>,
+    machine: Machine,
 }
 
 impl Record {
     ghost use Rattle.std.specs.Prelude.{◌≡◌};
     ghost use Rattle.ls_schedule.specs.Records.{scheduled, happened};
 
-    /// The schedule that was replayed.
+    /// The record of a machine that has taken the steps of a schedule.
+    pub fn new(schedule: Schedule, machine: Machine) -> Record
+        ensures schedule { scheduled result ≡ schedule }
+        ensures history { happened result ≡ machine.history }
+    {
+        Record { schedule, machine }
+    }
+
+    /// The steps, in order.
     pub fn schedule(&self) -> &Schedule
         ensures { result.now ≡ scheduled self.now }
     {
@@ -35,7 +43,7 @@ impl Record {
     pub fn history(&self) -> &[Event]
         ensures { result.now ≡ happened self.now }
     {
-        self.history.as_slice()
+        self.machine.history()
     }
 }
 
@@ -53,17 +61,6 @@ fn copied(alloc: Global, schedule: &Schedule) -> Result<Schedule, AllocError>
     Ok(copy)
 }
 
-/// What is left of a machine that took the steps of a schedule.
-fn recorded(alloc: Global, machine: Machine, schedule: Schedule) -> Result<Record, AllocError>
-    ensures schedule { IfOk result (λ r. r.schedule ≡ schedule) }
-    ensures history { IfOk result (λ r. r.history.items ≡ (machine_run machine schedule).history) }
-{
-    let mut machine = machine;
-    machine.run(&schedule);
-    let history = machine.history().iter().copied().collect(alloc)?;
-    Ok(Record { schedule, history })
-}
-
 /// The record of a schedule of instructions on a machine with so many cells: the schedule, and the machine's history of it. The
 /// image runs as its texts, whoever compiled it, so the history is one of the Java text.
 /// Refused with 35 where there are no cells, more than 1,048,576, or fewer than setup names.
@@ -78,7 +75,8 @@ pub fn replay(
     ensures image { ∥ RunsAsItsTexts image.now ∥₁ }
 {
     runs(image);
-    let machine = Machine::load(alloc, image.code(), cells)?;
+    let mut machine = Machine::load(alloc, image.code(), cells)?;
     let schedule = copied(alloc, schedule)?;
-    Ok(recorded(alloc, machine, schedule)?)
+    machine.run(&schedule);
+    Ok(Record::new(schedule, machine))
 }

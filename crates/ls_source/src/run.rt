@@ -50,7 +50,7 @@ fn fresh_threads<'a>(
 impl<'a> SourceRun<'a> {
     ghost use Rattle.std.specs.Prelude.{◌<◌, OnOk, OnErr, Some, slice_get};
     ghost use Rattle.ls_meaning.specs.Threads.{next};
-    ghost use Rattle.ls_meaning.specs.Runs.{asked, has_started, step, answers_of, performed};
+    ghost use Rattle.ls_meaning.specs.Runs.{asked, has_ended, has_started, step, answers_of, performed};
     ghost use Rattle.ls_meaning.specs.Effect.{effect};
     ghost use Rattle.ls_source.specs.SeenThread.{seen_next};
     ghost use Rattle.ls_source.specs.Progress.{begun, gone_on};
@@ -97,6 +97,13 @@ impl<'a> SourceRun<'a> {
         if thread == 0 {
             return Ok(true);
         }
+        self.has_setup_ended()
+    }
+
+    /// Whether the setup has ended without a trap.
+    pub fn has_setup_ended(&self) -> Result<bool, AllocError>
+        ensures { IfOk result (λ b. b ≡ has_ended (next (progress_of self.now).file (progress_of self.now).program 0 (answers_of (progress_of self.now).state 0))) }
+    {
         match self.next_of_thread(0)? {
             Next::Ended => Ok(true),
             Next::Goes(_, _) | Next::Trapped => Ok(false),
