@@ -36,19 +36,21 @@ use Rattle.ls_ends.specs.InTime.{StandsAs, IsOpen, EndsInTime}
 use Rattle.ls_ends.proofs.Reached.{follows_all}
 
 module _ (code : Code) (t : ℕ) where
-  abbrev Ready : Machine → Type 0
+  abbrev pub Ready : Machine → Type 0
   Ready m = (nat_eq t 0 || setup_ended (slice_get m.threads 0)) ≡ true
 
-  -- a silent step of the thread
-  silent_step : (m : Machine) (x x' : Thread) → m.code ≡ code → m.stopped ≡ false → x.mode ≡ mode.Running → Ready m → slice_get m.threads t ≡ Some x → performed m.cells t x (thread_move code x) ≡ outcome_of x' m.cells did.Silent →
-      machine_step m t ≡ machine.stepped_by (machine.after m t (outcome_of x' m.cells did.Silent)) did.Silent
-  silent_step m x x' image goes runs ready there em =
+  -- a step of the thread
+  pub step_is : (m : Machine) (x : Thread) → m.code ≡ code → m.stopped ≡ false → x.mode ≡ mode.Running → Ready m → slice_get m.threads t ≡ Some x → machine_step m t ≡ machine.stepped_by (machine.after m t (performed m.cells t x (thread_move code x))) (performed m.cells t x (thread_move code x)).did
+  step_is m x image goes runs ready there =
       let due : is_due m.threads t x ≡ true = ap (λ z. is_running z && (nat_eq t 0 || setup_ended (slice_get m.threads 0))) runs ∙ ready in
       ap (machine.step_of m t) there ∙ ap (open_step m t x) goes ∙ ap (due_step m t x) due
       ∙ ap (λ p. machine.stepped_by (machine.after m t (performed m.cells t x (thread_move p x))) (performed m.cells t x (thread_move p x)).did) image
-      ∙ ap (λ (o : machine_steps.Outcome). machine.stepped_by (machine.after m t o) o.did) em
 
-  still_ready : (m : Machine) (x : Thread) (b : Bool) → nat_eq t 0 ≡ b → (b || setup_ended (slice_get m.threads 0)) ≡ true → (b || setup_ended (slice_get (slice_set m.threads t x) 0)) ≡ true
+  -- a silent step of the thread
+  pub silent_step : (m : Machine) (x x' : Thread) → m.code ≡ code → m.stopped ≡ false → x.mode ≡ mode.Running → Ready m → slice_get m.threads t ≡ Some x → performed m.cells t x (thread_move code x) ≡ outcome_of x' m.cells did.Silent → machine_step m t ≡ machine.stepped_by (machine.after m t (outcome_of x' m.cells did.Silent)) did.Silent
+  silent_step m x x' image goes runs ready there em = step_is m x image goes runs ready there ∙ ap (λ (o : machine_steps.Outcome). machine.stepped_by (machine.after m t o) o.did) em
+
+  pub still_ready : (m : Machine) (x : Thread) (b : Bool) → nat_eq t 0 ≡ b → (b || setup_ended (slice_get m.threads 0)) ≡ true → (b || setup_ended (slice_get (slice_set m.threads t x) 0)) ≡ true
   still_ready m x true e h = refl
   still_ready m x false e h =
       let other : 0 ≢ t = grind (arith, nat_tests) in

@@ -1,0 +1,50 @@
+-- A thread of the machine acts in time, where its source acts next.
+use Rattle.std.specs.Prelude.{◌≡◌, ℕ, zero, suc, ◌+◌, ◌<◌, Bool, true, false, List, length}
+use Rattle.ls_checked.specs.CheckedTree.{File}
+use Rattle.ls_checked.specs.CheckedProgram.{Program}
+use Rattle.ls_meaning.specs.Runs.{step, source_run}
+use Rattle.ls_meaning.specs.declared.step.Did.{Did as SourceDid}
+use Rattle.ls_meaning.specs.declared.step.Did.TheVariants as source_did
+use Rattle.ls_code.specs.Code.{Code}
+use Rattle.ls_code.specs.Machine.{Machine, loaded, machine_step, machine_run}
+use Rattle.ls_code.specs.declared.step.Did.{Did}
+use Rattle.ls_code.specs.declared.step.Did.TheVariants as did
+use Rattle.ls_headline.specs.Same.{IsCells}
+use Rattle.ls_headline.specs.Translations.{most_silent, to_source}
+use Rattle.ls_ends.specs.InTime.{IsOpen}
+
+-- a step that acts, or that stops the machine since its cells have run out
+abbrev pub acts_or_stops : Did → Bool
+acts_or_stops (did.Acted action answer) = true
+acts_or_stops did.Stopped = true
+acts_or_stops did.Silent = false
+acts_or_stops did.Waits = false
+acts_or_stops did.Idle = false
+
+-- what a step did, or what comes after it where it was silent
+abbrev pub or_later : Did → Did → Did
+or_later did.Silent later = later
+or_later (did.Acted action answer) later = did.Acted action answer
+or_later did.Stopped later = did.Stopped
+or_later did.Waits later = did.Waits
+or_later did.Idle later = did.Idle
+
+-- what a thread does first that isn't silent, in so many steps of its own
+abbrev pub first_did : ℕ → Machine → ℕ → Did
+first_did zero m t = did.Silent
+first_did (suc n) m t = or_later (machine_step m t).did (first_did n (machine_step m t).machine t)
+
+-- what is asked of that, by what the source's next step of the thread does
+abbrev pub ActsAs : SourceDid → Did → Type 0
+ActsAs (source_did.Acted action answer) first = acts_or_stops first ≡ true
+ActsAs source_did.Waits first = Unit {0}
+ActsAs source_did.Idle first = Unit {0}
+
+-- After any schedule, in a machine with any number of cells: where the source's next step of a thread acts, the machine's thread makes at most so many
+-- silent steps as may be silent in a row, and then acts, or stops the machine. Nothing is asked where the source waits for a lock: until another thread
+-- leaves it, the machine's thread loads the lock's word and goes back, in silence.
+abbrev pub ActsInTime : File → Program → Code → Type 0
+ActsInTime file program code =
+    (cells : ℕ) → IsCells code cells → (schedule : List ℕ) (t : ℕ) → t < length program.threads → IsOpen (machine_run (loaded code cells) schedule) t →
+    ActsAs (step file program (source_run file program (to_source code cells schedule)) t).did
+    (first_did (most_silent code + 1) (machine_run (loaded code cells) schedule) t)

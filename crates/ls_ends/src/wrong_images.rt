@@ -1,0 +1,34 @@
+// What is refused, on wrong images of small programs; each as the contract of a function that computes nothing.
+
+ghost use Rattle.ls_headline.specs.Example;
+ghost use Rattle.ls_headline.specs.Same.{Same};
+ghost use Rattle.ls_headline.specs.Threads.{Asks};
+ghost use Rattle.ls_ends.specs.InTime.{EndsInTime};
+ghost use Rattle.ls_ends.specs.Acting.{ActsInTime};
+ghost use Rattle.ls_ends.specs.WrongImages as wrong;
+
+/// An image isn't the same as its text that stands still, whose objects have a cell too many, that leaves out a return, that has
+/// two threads in each other's place, or one too few.
+pub fn not_the_same()
+    ensures still { Same Example.file Example.program wrong.still → ⊥ }
+    ensures fat { Same Example.file Example.program wrong.fat → ⊥ }
+    ensures mute { Same Example.file Example.program wrong.mute → ⊥ }
+    ensures swapped { Same Example.file wrong.two wrong.swapped → ⊥ }
+    ensures fewer { Same Example.file wrong.two wrong.fewer → ⊥ }
+{}
+
+/// That alone lets images through whose thread goes round in one place for ever after its last event, or is stuck there: runs
+/// and events are right. Such a thread doesn't ask what its source asks, nor end in time.
+pub fn the_same_alone()
+    ensures round_same { Same wrong.no_file wrong.no_calls wrong.goes_round }
+    ensures round_asks { Asks wrong.no_file wrong.no_calls wrong.goes_round → ⊥ }
+    ensures round_ends { EndsInTime wrong.no_file wrong.no_calls wrong.goes_round → ⊥ }
+    ensures stuck_same { Same wrong.no_file wrong.no_calls wrong.stuck }
+    ensures stuck_asks { Asks wrong.no_file wrong.no_calls wrong.stuck → ⊥ }
+    ensures stuck_ends { EndsInTime wrong.no_file wrong.no_calls wrong.stuck → ⊥ }
+{}
+
+/// A thread doesn't act in time that gives up once it has lost an exchange: the lock is free again, and its source takes it.
+pub fn not_in_time()
+    ensures gives_up { ActsInTime wrong.locking_file wrong.locking wrong.gives_up → ⊥ }
+{}
