@@ -1,5 +1,7 @@
 -- Where the source's next step of a thread acts, the machine's thread acts in time.
-use Rattle.std.proofs.Common.{◌≡◌, ◌<◌, ℕ, zero, suc, ◌+◌, Bool, true, false, [], length, Option, Some, None, refl, sym, ap, ◌∙◌, subst, arith, slice_get, if◌then◌else◌}
+use Rattle.std.proofs.lemmas.Bool.Decides.{nat_tests}
+use Rattle.std.proofs.lemmas.List.{length-map}
+use Rattle.std.proofs.Common.{◌≡◌, ◌<◌, ℕ, zero, suc, ◌+◌, Bool, true, false, [], length, Option, Some, None, refl, sym, ap, ◌∙◌, subst, arith, slice_get, nat_le, if◌then◌else◌}
 use Rattle.ls_events.specs.declared.value.Value.{Value}
 use Rattle.ls_events.specs.declared.value.ValueType.TheVariants as type
 use Rattle.ls_events.specs.declared.action.Action.{Action}
@@ -20,7 +22,7 @@ use Rattle.ls_code.specs.Machine.{Machine, loaded, machine_run}
 use Rattle.ls_headline.specs.InWords.{written}
 use Rattle.ls_headline.specs.Sorts.{Names, ActionHas}
 use Rattle.ls_headline.specs.Threads.{Asks}
-use Rattle.ls_headline.specs.Same.{IsCells}
+use Rattle.ls_headline.specs.Same.{IsCells, total}
 use Rattle.ls_headline.specs.Translations.{most_silent, to_source}
 use Rattle.ls_headline.proofs.Lists.{get_there, index_there}
 use Rattle.ls_headline.proofs.Meaning.{Means}
@@ -30,7 +32,7 @@ use Rattle.ls_headline.proofs.Middle.{Here}
 use Rattle.ls_headline.proofs.Effects.{renaming, thing_there, Agrees}
 use Rattle.ls_headline.proofs.StepBack as back
 use Rattle.ls_ends.specs.InTime.{IsOpen}
-use Rattle.ls_ends.specs.Acting.{first_did, ActsAs, ActsInTime}
+use Rattle.ls_ends.specs.Acting.{first_did, StepsAs, ActsInTime}
 use Rattle.ls_ends.proofs.Reached.{follows_all}
 use Rattle.ls_ends.proofs.Alone.{Acting, Replies, Goes as Answered, Ends as Stopped, acts_first}
 use Rattle.ls_ends.proofs.LocksAct.{Word}
@@ -49,6 +51,10 @@ module _ (file : File) (program : Program) (code : Code) (asks : Asks file progr
   abbrev Each : (s : State) (m : Machine) → Follows s m → ℕ → Option Answers → Option Thread → Type 0
   Each s m h t o p = back.Each file program code asks sound room within.most m.cells h.sorts (renaming names s.store) t o p
 
+  -- whether there is room for a store
+  abbrev roomy : Store → Bool
+  roomy st = nat_le (length program.names + total st.things) room
+
   abbrev acts_as : State → Action Value → Action ℕ
   acts_as = back.acts_as file program code asks sound room within.most
 
@@ -63,16 +69,19 @@ module _ (file : File) (program : Program) (code : Code) (asks : Asks file progr
     has = sound.sound h.sorts t had a q each.2 goes
 
     -- the machine's action does what the source's does
-    replies : (go : Answer ℕ → Option Thread) → stands t each.3 ≡ Paused (acts_as s a) go → (st : Store) (y : Answer Value) → effect file.classes s.store t a ≡ Does st y → Replies m.cells t (acts_as s a) go
+    replies : (go : Answer ℕ → Option Thread) → stands t each.3 ≡ Paused (acts_as s a) go → (st : Store) (y : Answer Value) → effect file.classes s.store t a ≡ Does st y → Replies (roomy st) m.cells t (acts_as s a) go
     replies go stood st y does =
         by_effect (cells.effect m.cells t (acts_as s a)) refl
         (subst (λ d. Agrees file.classes (back.named file program code asks sound room within.most) code.sizes room h.sorts s.store a q d (cells.effect m.cells t (acts_as s a))) does
         (back.agree_here file program code asks sound room within.most s m h t a q has))
       where
-        by_effect : (e : cells.Effect) → cells.effect m.cells t (acts_as s a) ≡ e → Agrees file.classes (back.named file program code asks sound room within.most) code.sizes room h.sorts s.store a q (Does st y) e → Replies m.cells t (acts_as s a) go
+        no_room : room < names + total st.things → roomy st ≡ false
+        no_room h = (let same : names ≡ length program.names = length-map program.names _ in grind (arith, nat_tests))
+
+        by_effect : (e : cells.Effect) → cells.effect m.cells t (acts_as s a) ≡ e → Agrees file.classes (back.named file program code asks sound room within.most) code.sizes room h.sorts s.store a q (Does st y) e → Replies (roomy st) m.cells t (acts_as s a) go
         by_effect cells.Waits ee agree = absurd agree
         by_effect cells.Unfit ee agree = absurd agree
-        by_effect cells.Stops ee agree = Stopped ee
+        by_effect cells.Stops ee agree = Stopped (no_room agree) ee
         by_effect (cells.Answers c w) ee agree =
             let both = back.both_act file program code asks sound room within.most s m h t had x at there each a q goes has go stood st y c w does (λ z. z) (λ y' e l. (y', refl, Here refl)) agree in
             Answered c w both.0 ee both.1
@@ -96,22 +105,22 @@ module _ (file : File) (program : Program) (code : Code) (asks : Asks file progr
         let l = some_lock (lock_on a) lock (lock_named file program h.sorts t a q has) (sym (lock_renamed (renaming names s.store) (written (renaming names s.store)) a) ∙ on) in
         named_word l.0 lock l.1 l.2
 
-    acts_by : IsOpen m t → (d : Pause) → stands t each.3 ≡ d → InWords (renaming names s.store) (Goes a q) d → (st : Store) (y : Answer Value) → effect file.classes s.store t a ≡ Does st y → Acting (first_did (suc bound) m t)
+    acts_by : IsOpen m t → (d : Pause) → stands t each.3 ≡ d → InWords (renaming names s.store) (Goes a q) d → (st : Store) (y : Answer Value) → effect file.classes s.store t a ≡ Does st y → Acting (roomy st) (first_did (suc bound) m t)
     acts_by is_open (Paused b go) stood w st y does =
         let stood' : stands t each.3 ≡ Paused (acts_as s a) go = stood ∙ ap (λ z. Paused z go) w in
-        acts_first code t (suc bound) m x h.image is_open.0 is_open.1 there (in_middle code t m.cells (acts_as s a) go (replies go stood' st y does) word each.3 x each.5 stood')
+        acts_first (roomy st) code t (suc bound) m x h.image is_open.0 is_open.1 there (in_middle (roomy st) code t m.cells (acts_as s a) go (replies go stood' st y does) word each.3 x each.5 stood')
     acts_by is_open (Passes u) stood w st y does = absurd w
     acts_by is_open (IsOver z) stood w st y does = absurd w
     acts_by is_open IsStuck stood w st y does = absurd w
     acts_by is_open TooLong stood w st y does = absurd w
 
-    pub acts : IsOpen m t → (st : Store) (y : Answer Value) → effect file.classes s.store t a ≡ Does st y → Acting (first_did (suc bound) m t)
+    pub acts : IsOpen m t → (st : Store) (y : Answer Value) → effect file.classes s.store t a ≡ Does st y → Acting (roomy st) (first_did (suc bound) m t)
     acts is_open st y does =
         acts_by is_open (stands t each.3) refl
         (subst (λ d. InWords (renaming names s.store) d (stands t each.3)) goes (back.stands_so file program code asks sound room within.most h.sorts s.store m.cells h.holds t had x each)) st y does
 
   abbrev So : Machine → ℕ → Step → Type 0
-  So m t p = ActsAs p.did (first_did (suc bound) m t)
+  So m t p = StepsAs program room p (first_did (suc bound) m t)
 
   acts_next : (s : State) (m : Machine) (h : Follows s m) (t : ℕ) → IsOpen m t → (had : Answers) → slice_get s.answers t ≡ Some had → (x : Thread) → slice_get m.threads t ≡ Some x → Each s m h t (Some had) (Some x) → (d : Next) → next file program t had ≡ d → So m t (step_of file s t d)
   acts_next s m h t is_open had at x there each Ended goes = tt
@@ -143,5 +152,5 @@ acts_right file program code asks sound cells within schedule t is is_open =
     let m = machine_run (loaded code cells) schedule in
     let s = source_run file program (to_source code cells schedule) in
     let one_more : suc (most_silent code) ≡ most_silent code + 1 = omega arith in
-    subst (λ n. ActsAs (step file program s t).did (first_did n m t)) one_more
+    subst (λ n. StepsAs program cells (step file program s t) (first_did n m t)) one_more
     (acts_in_step file program code asks sound cells within s m (follows_all file program code asks sound cells within schedule) t is is_open)

@@ -1,5 +1,5 @@
 -- The next steps of a thread alone, with cells that none of them changes until it acts.
-use Rattle.std.proofs.Common.{◌≡◌, ◌≤◌, ◌⊎◌, inl, inr, ℕ, zero, suc, true, false, Option, Some, refl, ap, ◌∙◌, arith, nat_eq, slice_get}
+use Rattle.std.proofs.Common.{◌≡◌, ◌≤◌, ◌⊎◌, inl, inr, ℕ, zero, suc, Bool, true, false, not, Option, Some, refl, ap, ◌∙◌, arith, nat_eq, slice_get}
 use Rattle.ls_events.specs.declared.action.Action.{Action}
 use Rattle.ls_events.specs.declared.action.Answer.{Answer}
 use Rattle.ls_code.specs.Code.{Code}
@@ -16,39 +16,39 @@ use Rattle.ls_headline.proofs.Lists.{set_same}
 use Rattle.ls_ends.specs.Acting.{acts_or_stops, or_later, first_did}
 use Rattle.ls_ends.proofs.Quieted.{Ready, step_is, silent_step, still_ready}
 
-abbrev pub Acting : Did → Type 0
-Acting d = acts_or_stops d ≡ true
+abbrev pub Acting : Bool → Did → Type 0
+Acting r d = acts_or_stops r d ≡ true
 
-acting_now : (d later : Did) → Acting d → Acting (or_later d later)
-acting_now (did.Acted a y) later e = refl
-acting_now did.Stopped later e = refl
-acting_now did.Silent later e = cc
-acting_now did.Waits later e = cc
-acting_now did.Idle later e = cc
+acting_now : (r : Bool) (d later : Did) → Acting r d → Acting r (or_later d later)
+acting_now r (did.Acted a y) later e = refl
+acting_now r did.Stopped later e = e
+acting_now r did.Silent later e = cc
+acting_now r did.Waits later e = cc
+acting_now r did.Idle later e = cc
 
--- what an action comes to: it is answered and the thread goes on, or the cells have run out
-pub data Replies (c : Cells) (t : ℕ) (b : Action ℕ) (go : Answer ℕ → Option Thread) : Type 0 where
-  Goes : (d : Cells) (w : Answer ℕ) (x : Thread) → effect c t b ≡ Answers d w → go w ≡ Some x → Replies c t b go
-  Ends : effect c t b ≡ Stops → Replies c t b go
+-- what an action comes to: it is answered and the thread goes on, or the cells have no room
+pub data Replies (r : Bool) (c : Cells) (t : ℕ) (b : Action ℕ) (go : Answer ℕ → Option Thread) : Type 0 where
+  Goes : (d : Cells) (w : Answer ℕ) (x : Thread) → effect c t b ≡ Answers d w → go w ≡ Some x → Replies r c t b go
+  Ends : r ≡ false → effect c t b ≡ Stops → Replies r c t b go
 
 same_answer : (d e : Cells) (v w : Answer ℕ) → Answers d v ≡ Answers e w → v ≡ w
 same_answer d e v w h = cc
 
-module _ (c : Cells) (t : ℕ) (b : Action ℕ) (go : Answer ℕ → Option Thread) where
+module _ (r : Bool) (c : Cells) (t : ℕ) (b : Action ℕ) (go : Answer ℕ → Option Thread) where
   -- where the answer is known, the thread goes on with it
-  pub goes_on : (d : Cells) (w : Answer ℕ) → effect c t b ≡ Answers d w → Replies c t b go → (x : Thread) × (go w ≡ Some x)
+  pub goes_on : (d : Cells) (w : Answer ℕ) → effect c t b ≡ Answers d w → Replies r c t b go → (x : Thread) × (go w ≡ Some x)
   goes_on d w e (Goes d' w' x ee eg) = let h : Answers d w ≡ Answers d' w' = (let q : effect c t b ≡ Answers d' w' = ee in cc) in (x, ap go (same_answer d d' w w' h) ∙ eg)
-  goes_on d w e (Ends ee) = cc
+  goes_on d w e (Ends er ee) = cc
 
-  pub waits_not : effect c t b ≡ Waits → Replies c t b go → ⊥
+  pub waits_not : effect c t b ≡ Waits → Replies r c t b go → ⊥
   waits_not e (Goes d w x ee eg) = cc
-  waits_not e (Ends ee) = cc
+  waits_not e (Ends er ee) = cc
 
-module _ (code : Code) (t : ℕ) where
+module _ (r : Bool) (code : Code) (t : ℕ) where
   -- within so many steps, all but the last of them silent, the thread acts or stops the machine
   abbrev pub Comes : Cells → ℕ → Thread → Type 0
   Comes c zero x = ⊥
-  Comes c (suc n) x = (x.mode ≡ mode.Running) × (Acting (one code t c x).did ⊎ ((x' : Thread) × (one code t c x ≡ outcome_of x' c did.Silent) × Comes c n x'))
+  Comes c (suc n) x = (x.mode ≡ mode.Running) × (Acting r (one code t c x).did ⊎ ((x' : Thread) × (one code t c x ≡ outcome_of x' c did.Silent) × Comes c n x'))
 
   pub longer : (c : Cells) (n k : ℕ) (x : Thread) → n ≤ k → Comes c n x → Comes c k x
   longer c zero k x le h = absurd h
@@ -57,18 +57,18 @@ module _ (code : Code) (t : ℕ) where
   longer c (suc n) (suc k) x le (runs, inr (x', e, h)) = (runs, inr (x', e, longer c n k x' (omega arith) h))
 
   -- an action by one instruction
-  pub plain : (c : Cells) (x : Thread) (b : Action ℕ) (go : Answer ℕ → Option Thread) → thread_move code x ≡ MoveAsks b go → Replies c t b go → Acting (one code t c x).did
+  pub plain : (c : Cells) (x : Thread) (b : Action ℕ) (go : Answer ℕ → Option Thread) → thread_move code x ≡ MoveAsks b go → Replies r c t b go → Acting r (one code t c x).did
   plain c x b go em (Goes d w x' ee eg) =
-      ap (λ z. acts_or_stops (performed c t x z).did) em ∙ ap (λ z. acts_or_stops (settled c x b go z).did) ee ∙ ap (λ z. acts_or_stops (replied d x b w z).did) eg
-  plain c x b go em (Ends ee) =
-      ap (λ z. acts_or_stops (performed c t x z).did) em ∙ ap (λ z. acts_or_stops (settled c x b go z).did) ee
+      ap (λ z. acts_or_stops r (performed c t x z).did) em ∙ ap (λ z. acts_or_stops r (settled c x b go z).did) ee ∙ ap (λ z. acts_or_stops r (replied d x b w z).did) eg
+  plain c x b go em (Ends er ee) =
+      ap (λ z. acts_or_stops r (performed c t x z).did) em ∙ ap (λ z. acts_or_stops r (settled c x b go z).did) ee ∙ ap not er
 
   -- so it is in a machine with these cells
-  pub acts_first : (n : ℕ) (m : Machine) (x : Thread) → m.code ≡ code → m.stopped ≡ false → Ready code t m → slice_get m.threads t ≡ Some x → Comes m.cells n x → Acting (first_did n m t)
+  pub acts_first : (n : ℕ) (m : Machine) (x : Thread) → m.code ≡ code → m.stopped ≡ false → Ready code t m → slice_get m.threads t ≡ Some x → Comes m.cells n x → Acting r (first_did n m t)
   acts_first zero m x image goes ready there h = absurd h
   acts_first (suc n) m x image goes ready there (runs, inl acts) =
-      ap (λ (r : machine.Stepped). acts_or_stops (or_later r.did (first_did n r.machine t))) (step_is code t m x image goes runs ready there)
-      ∙ acting_now (one code t m.cells x).did _ acts
+      ap (λ (z : machine.Stepped). acts_or_stops r (or_later z.did (first_did n z.machine t))) (step_is code t m x image goes runs ready there)
+      ∙ acting_now r (one code t m.cells x).did _ acts
   acts_first (suc n) m x image goes ready there (runs, inr (x', e, h)) =
-      ap (λ (r : machine.Stepped). acts_or_stops (or_later r.did (first_did n r.machine t))) (silent_step code t m x x' image goes runs ready there e)
+      ap (λ (z : machine.Stepped). acts_or_stops r (or_later z.did (first_did n z.machine t))) (silent_step code t m x x' image goes runs ready there e)
       ∙ acts_first n (machine.after m t (outcome_of x' m.cells did.Silent)) x' image refl (still_ready code t m x' (nat_eq t 0) refl ready) (set_same m.threads t x x' there) h

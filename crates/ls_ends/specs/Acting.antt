@@ -1,25 +1,29 @@
 -- A thread of the machine acts in time, where its source acts next.
-use Rattle.std.specs.Prelude.{◌≡◌, ℕ, zero, suc, ◌+◌, ◌<◌, Bool, true, false, List, length}
+use Rattle.std.specs.Prelude.{◌≡◌, ℕ, zero, suc, ◌+◌, ◌<◌, Bool, true, false, not, nat_le, List, length}
 use Rattle.ls_checked.specs.CheckedTree.{File}
 use Rattle.ls_checked.specs.CheckedProgram.{Program}
-use Rattle.ls_meaning.specs.Runs.{step, source_run}
+use Rattle.ls_meaning.specs.Runs.{State, Step, step, source_run}
 use Rattle.ls_meaning.specs.declared.step.Did.{Did as SourceDid}
 use Rattle.ls_meaning.specs.declared.step.Did.TheVariants as source_did
 use Rattle.ls_code.specs.Code.{Code}
 use Rattle.ls_code.specs.Machine.{Machine, loaded, machine_step, machine_run}
 use Rattle.ls_code.specs.declared.step.Did.{Did}
 use Rattle.ls_code.specs.declared.step.Did.TheVariants as did
-use Rattle.ls_headline.specs.Same.{IsCells}
+use Rattle.ls_headline.specs.Same.{IsCells, total}
 use Rattle.ls_headline.specs.Translations.{most_silent, to_source}
 use Rattle.ls_ends.specs.InTime.{IsOpen}
 
--- a step that acts, or that stops the machine since its cells have run out
-abbrev pub acts_or_stops : Did → Bool
-acts_or_stops (did.Acted action answer) = true
-acts_or_stops did.Stopped = true
-acts_or_stops did.Silent = false
-acts_or_stops did.Waits = false
-acts_or_stops did.Idle = false
+-- the names, and all that the source has made, have room in so many cells
+abbrev pub has_room : Program → ℕ → State → Bool
+has_room program cells s = nat_le (length program.names + total s.store.things) cells
+
+-- a step that acts, or that stops the machine where there is no room
+abbrev pub acts_or_stops : Bool → Did → Bool
+acts_or_stops room (did.Acted action answer) = true
+acts_or_stops room did.Stopped = not room
+acts_or_stops room did.Silent = false
+acts_or_stops room did.Waits = false
+acts_or_stops room did.Idle = false
 
 -- what a step did, or what comes after it where it was silent
 abbrev pub or_later : Did → Did → Did
@@ -34,17 +38,20 @@ abbrev pub first_did : ℕ → Machine → ℕ → Did
 first_did zero m t = did.Silent
 first_did (suc n) m t = or_later (machine_step m t).did (first_did n (machine_step m t).machine t)
 
--- what is asked of that, by what the source's next step of the thread does
-abbrev pub ActsAs : SourceDid → Did → Type 0
-ActsAs (source_did.Acted action answer) first = acts_or_stops first ≡ true
-ActsAs source_did.Waits first = Unit {0}
-ActsAs source_did.Idle first = Unit {0}
+-- what is asked of that, by what the source's next step of the thread does, and whether there is room after it
+abbrev pub ActsAs : Bool → SourceDid → Did → Type 0
+ActsAs room (source_did.Acted action answer) first = acts_or_stops room first ≡ true
+ActsAs room source_did.Waits first = Unit {0}
+ActsAs room source_did.Idle first = Unit {0}
+
+abbrev pub StepsAs : Program → ℕ → Step → Did → Type 0
+StepsAs program cells next first = ActsAs (has_room program cells next.after) next.did first
 
 -- After any schedule, in a machine with any number of cells: where the source's next step of a thread acts, the machine's thread makes at most so many
--- silent steps as may be silent in a row, and then acts, or stops the machine. Nothing is asked where the source waits for a lock: until another thread
--- leaves it, the machine's thread loads the lock's word and goes back, in silence.
+-- silent steps as may be silent in a row, and then acts; it stops the machine only where what the source's step makes has no room. Nothing is asked where
+-- the source waits for a lock: until another thread leaves it, the machine's thread loads the lock's word and goes back, in silence.
 abbrev pub ActsInTime : File → Program → Code → Type 0
 ActsInTime file program code =
     (cells : ℕ) → IsCells code cells → (schedule : List ℕ) (t : ℕ) → t < length program.threads → IsOpen (machine_run (loaded code cells) schedule) t →
-    ActsAs (step file program (source_run file program (to_source code cells schedule)) t).did
+    StepsAs program cells (step file program (source_run file program (to_source code cells schedule)) t)
     (first_did (most_silent code + 1) (machine_run (loaded code cells) schedule) t)
