@@ -6,7 +6,7 @@ use Rattle.ls_headline.specs.Same.{Same}
 use Rattle.ls_headline.specs.Threads.{Asks}
 use Rattle.ls_ends.specs.InTime.{EndsInTime}
 use Rattle.ls_ends.specs.Acting.{ActsInTime}
-use Rattle.ls_ends.specs.WrongImages.{no_file, no_calls, goes_round, stuck, still, fat, mute, two, swapped, fewer, locking_file, locking, gives_up}
+use Rattle.ls_ends.specs.WrongImages.{no_file, no_calls, goes_round, stuck, still, fat, mute, two, swapped, fewer, locking_file, locking, gives_up, lost_race}
 
 -- the setup's five actions, and T's six
 abbrev actions : List ℕ
@@ -49,12 +49,9 @@ round_ends_not h = let e = h 1 (record { some = omega arith; most = omega arith;
 pub stuck_ends_not : EndsInTime no_file no_calls stuck → ⊥
 stuck_ends_not h = let e = h 1 (record { some = omega arith; most = omega arith; names = omega arith }) (0 ∷ []) 1 (omega arith) (refl, refl) in cc
 
--- T sees that the lock is free; U takes it; T loses its exchange; U leaves the lock
-abbrev lost : List ℕ
-lost = replicate 11 0 ++ replicate 6 1 ++ replicate 7 2 ++ replicate 1 1 ++ replicate 6 2
-
+-- 29 instructions, and no action in 1,857 steps
 pub gives_up_not : ActsInTime locking_file locking gives_up → ⊥
 unfolding invoke depth_limit
 gives_up_not h =
-    let e : false ≡ true = h 9 (record { some = omega arith; most = omega arith; names = omega arith }) lost 1 (omega arith) (refl, refl) in
+    let e : false ≡ true = h 9 (record { some = omega arith; most = omega arith; names = omega arith }) lost_race 1 (omega arith) (refl, refl) in
     cc

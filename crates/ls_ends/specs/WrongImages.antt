@@ -1,5 +1,5 @@
 -- Wrong images of small programs, which show what is refused.
-use Rattle.std.specs.Prelude.{ℕ, [], ◌∷◌, None}
+use Rattle.std.specs.Prelude.{ℕ, List, [], ◌∷◌, ◌++◌, None, replicate}
 use Rattle.ls_events.specs.declared.value.ValueType.TheVariants as type
 use Rattle.ls_checked.specs.declared.tree.Called.TheVariants.{LockIt, UnlockIt}
 use Rattle.ls_checked.specs.CheckedTree.{File, Expression, Slot, Field, Call, MakeLock, End, Block, SetField, Evaluate, Done, Then}
@@ -103,7 +103,7 @@ locking = record {
       ∷ [];
 }
 
--- after a lost exchange of `lock()` a thread goes on at this place: 15 is its load of the lock's word
+-- after a lost exchange of `lock()` a thread goes on at this place
 abbrev pub after_lost : ℕ → Code
 after_lost place = record {
   instructions =
@@ -124,6 +124,13 @@ after_lost place = record {
   names = 1;
 }
 
--- it goes round there for ever, and doesn't look at the lock again
+-- it loads the lock's word again; it goes round in one place for ever
+abbrev pub looks_again : Code
+looks_again = after_lost 15
+
 abbrev pub gives_up : Code
 gives_up = after_lost 28
+
+-- T sees that the lock is free; U takes it; T loses its exchange; U leaves the lock
+abbrev pub lost_race : List ℕ
+lost_race = replicate 11 0 ++ replicate 6 1 ++ replicate 7 2 ++ 1 ∷ replicate 6 2

@@ -1,10 +1,12 @@
 // What is refused, on wrong images of small programs; each as the contract of a function that computes nothing.
 
+ghost use Rattle.std.specs.Prelude.{◌≡◌, true};
+ghost use Rattle.ls_code.specs.Machine.{loaded, machine_run};
 ghost use Rattle.ls_headline.specs.Example;
 ghost use Rattle.ls_headline.specs.Same.{Same};
 ghost use Rattle.ls_headline.specs.Threads.{Asks};
 ghost use Rattle.ls_ends.specs.InTime.{EndsInTime};
-ghost use Rattle.ls_ends.specs.Acting.{ActsInTime};
+ghost use Rattle.ls_ends.specs.Acting.{ActsInTime, acts_or_stops, first_did};
 ghost use Rattle.ls_ends.specs.WrongImages as wrong;
 
 /// An image isn't the same as its text that stands still, whose objects have a cell too many, that leaves out a return, that has
@@ -28,7 +30,9 @@ pub fn the_same_alone()
     ensures stuck_ends { EndsInTime wrong.no_file wrong.no_calls wrong.stuck → ⊥ }
 {}
 
-/// A thread doesn't act in time that gives up once it has lost an exchange: the lock is free again, and its source takes it.
+/// A thread doesn't act in time that gives up once it has lost an exchange: the lock is free again, and its source takes it. One
+/// that looks again acts in three steps.
 pub fn not_in_time()
     ensures gives_up { ActsInTime wrong.locking_file wrong.locking wrong.gives_up → ⊥ }
+    ensures looks_again { acts_or_stops true (first_did 3 (machine_run (loaded wrong.looks_again 9) wrong.lost_race) 1) ≡ true }
 {}

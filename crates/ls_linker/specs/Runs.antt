@@ -7,6 +7,7 @@ use Rattle.ls_headline.specs.Same.{Same}
 use Rattle.ls_headline.specs.Threads.{Asks}
 use Rattle.ls_headline.specs.ByWords.{AsksByWords}
 use Rattle.ls_ends.specs.InTime.{EndsInTime}
+use Rattle.ls_ends.specs.Acting.{ActsInTime}
 use Rattle.ls_emission.specs.Units.{units_of}
 use Rattle.ls_quick.specs.Quick.{KeepsFrames}
 use Rattle.ls_quick.specs.Own.{ThreadsAreQuick}
@@ -21,7 +22,8 @@ pub record Runs (file : File) (program : Program) (code : Code) : Type 0 where
   pub asks : Asks file program code
   -- So it does by its own instructions, fed with the words of locks and the outcomes of exchanges that these answers come from.
   pub words : AsksByWords file program code
-  -- In the machine, a thread whose source has ended is so itself in time.
+  -- In the machine, a thread whose source acts next acts in time, and one whose source has ended is so itself in time.
+  pub acts : ActsInTime file program code
   pub ends : EndsInTime file program code
   -- In one frame of a method a thread makes fewer silent steps in a row than the method has instructions.
   pub frames : KeepsFrames (units_of (flat_of file)) code

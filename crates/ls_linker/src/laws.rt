@@ -14,7 +14,7 @@ ghost use Rattle.ls_linker.specs.Compiled.{flat_of, code_of};
 ghost use Rattle.ls_linker.specs.Runs.{Runs};
 
 use ls_emission::laws::units_ask;
-use ls_ends::laws::ends_in_time;
+use ls_ends::laws::{acts_in_time, ends_in_time};
 use ls_finally::laws::keeps_courses;
 use ls_headline::laws::{asks_by_words, same_traces};
 use ls_linking::laws::{linked_asks, linked_exchanges};
@@ -34,6 +34,7 @@ pub fn compiled_runs()
     same_traces();
     linked_exchanges();
     asks_by_words();
+    acts_in_time();
     ends_in_time();
     frames_are_quick();
     threads_are_quick();

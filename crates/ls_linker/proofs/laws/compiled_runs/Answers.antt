@@ -18,6 +18,7 @@ returns c = λ file program typed classes constants typed_program program_consta
       same = c.same_traces.ensures file program (code_of file program) asks constants program_constants sound;
       asks = asks;
       words = c.asks_by_words.ensures file program (code_of file program) asks (c.linked_exchanges.ensures file program flat);
+      acts = c.acts_in_time.ensures file program (code_of file program) asks constants program_constants sound;
       ends = c.ends_in_time.ensures file program (code_of file program) asks constants program_constants sound;
       frames = c.frames_are_quick.ensures flat emittable (code_of file program) words lies;
       threads = c.threads_are_quick.ensures file program flat;
