@@ -38,7 +38,7 @@ abbrev pub first_did : ℕ → Machine → ℕ → Did
 first_did zero m t = did.Silent
 first_did (suc n) m t = or_later (machine_step m t).did (first_did n (machine_step m t).machine t)
 
--- what is asked of that, by what the source's next step of the thread does, and whether there is room after it
+-- what is asked of that, by what the source's next step of the thread does, and by whether there is room after it
 abbrev pub ActsAs : Bool → SourceDid → Did → Type 0
 ActsAs room (source_did.Acted action answer) first = acts_or_stops room first ≡ true
 ActsAs room source_did.Waits first = Unit {0}
@@ -49,7 +49,7 @@ StepsAs program cells next first = ActsAs (has_room program cells next.after) ne
 
 -- After any schedule, in a machine with any number of cells: where the source's next step of a thread acts, the machine's thread makes at most so many
 -- silent steps as may be silent in a row, and then acts; it stops the machine only where what the source's step makes has no room. Nothing is asked where
--- the source waits for a lock: until another thread leaves it, the machine's thread loads the lock's word and goes back, in silence.
+-- the source waits for a lock: how long it waits hangs on the other threads.
 abbrev pub ActsInTime : File → Program → Code → Type 0
 ActsInTime file program code =
     (cells : ℕ) → IsCells code cells → (schedule : List ℕ) (t : ℕ) → t < length program.threads → IsOpen (machine_run (loaded code cells) schedule) t →
