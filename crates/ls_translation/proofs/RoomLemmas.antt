@@ -1,5 +1,5 @@
 -- The cells that a schedule of the source takes, step by step.
-use Rattle.std.proofs.Common.{◌≡◌, ℕ, zero, suc, ◌+◌, ◌-◌, ◌<◌, ◌≤◌, Bool, true, false, List, [], ◌∷◌, ◌++◌, length, take, get_or, Option, Some, None, slice_get, refl, sym, ap, ◌∙◌, subst, arith}
+use Rattle.std.proofs.Common.{◌≡◌, ℕ, ◌+◌, ◌<◌, ◌≤◌, Bool, true, false, List, [], ◌∷◌, ◌++◌, length, take, get_or, Option, Some, None, slice_get, refl, sym, ap, ◌∙◌, subst, arith}
 use Rattle.std.specs.Prelude.{if◌then◌else◌, IfNone, IfSome}
 use Rattle.std.proofs.lemmas.List.{length-map, take_all}
 use Rattle.ls_events.specs.declared.value.Value.{Value}
@@ -14,7 +14,7 @@ use Rattle.ls_meaning.specs.Threads.{Next, Goes, Ended, Trapped, next}
 use Rattle.ls_meaning.specs.Runs.{State, Step, source_run, step, step_of, performed, idle, has_started, answers_of}
 use Rattle.ls_source.specs.Progress.{Progress, begun, gone_on}
 use Rattle.ls_headline.specs.Threads.{at_least_one}
-use Rattle.ls_headline.specs.Sorts.{fields_by, fields_of}
+use Rattle.ls_headline.specs.Sorts.{fields_by}
 use Rattle.ls_headline.specs.Same.{size_of, total, Fits}
 use Rattle.ls_headline.proofs.Cells.{sizes_of}
 use Rattle.ls_headline.proofs.Total.{Keeps, keeps}

@@ -3,13 +3,11 @@ use Rattle.std.proofs.Common.{◌≡◌, ℕ, List, [], ◌∷◌, map, refl, sy
 use Rattle.std.proofs.Math.Logic.{∥∥₁_elim}
 use Rattle.std.proofs.Props.{props}
 use Rattle.ls_events.specs.declared.value.Value.{Value}
-use Rattle.ls_events.specs.declared.event.Event.{Event}
 use Rattle.ls_checked.specs.CheckedTree.{File}
 use Rattle.ls_checked.specs.CheckedProgram.{Program}
 use Rattle.ls_meaning.specs.Steps as source
-use Rattle.ls_meaning.specs.Runs.{source_history}
 use Rattle.ls_code.specs.Code.{Code}
-use Rattle.ls_code.specs.Machine.{Entry, machine_history}
+use Rattle.ls_code.specs.Machine.{Entry}
 use Rattle.ls_headline.specs.InWords.{Agree, births, in_words, numbered}
 use Rattle.ls_headline.specs.Same.{Fits, IsCells, Same}
 use Rattle.ls_headline.specs.Translations.{to_source, to_machine}
