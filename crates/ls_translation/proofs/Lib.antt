@@ -1,0 +1,7 @@
+pub mod Acting
+pub mod MachineRuns
+pub mod Following
+pub mod Promises
+pub mod RoomLemmas
+pub mod RoundTripLemmas
+pub mod SourceSteps

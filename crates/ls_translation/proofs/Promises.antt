@@ -1,0 +1,78 @@
+-- What the promise of an image gives its translations.
+use Rattle.std.proofs.Common.{◌≡◌, ◌↔◌, ℕ, ◌<◌, ◌≤◌, ◌^◌, List, length, Result, Ok, Err, IfOk, Option, None, sym, ap, ◌∙◌, subst, arith, inl, inr}
+use Rattle.std.specs.Prelude.{IfNone}
+use Rattle.std.proofs.Math.Logic.{∥∥₁_elim}
+use Rattle.std.proofs.Props.{props}
+use Rattle.std.proofs.lemmas.Result.{IfOk-weaker}
+use Rattle.ls_events.specs.declared.event.Event.{Event}
+use Rattle.ls_checked.specs.CheckedTree.{File}
+use Rattle.ls_checked.specs.CheckedProgram.{Program}
+use Rattle.ls_meaning.specs.Runs.{source_history, start}
+use Rattle.ls_code.specs.Code.{Code}
+use Rattle.ls_code.specs.Machine.{Machine, loaded, machine_history}
+use Rattle.ls_headline.specs.Same.{Alike, Fits, IsCells}
+use Rattle.ls_headline.specs.Translations.{most_silent, steps_all, to_source, to_machine}
+use Rattle.ls_machine.specs.Room.{AreBadCells}
+use Rattle.ls_linker.specs.Runs.{Runs}
+
+pub events_prop : (xs ys : List Event) → IsProp (xs ≡ ys)
+events_prop xs ys = hlevel props
+
+are_cells : (code : Code) (cells : ℕ) → (AreBadCells code.names cells → ⊥) → IsCells code cells
+are_cells code cells good = record {
+  some = let h : cells ≡ 0 → ⊥ = λ e. good (inl e) in omega arith;
+  most = let h : 2 ^ 20 < cells → ⊥ = λ e. good (inr (inl e)) in omega arith;
+  names = let h : cells < code.names → ⊥ = λ e. good (inr (inr e)) in omega arith;
+}
+
+pub names_fit : (file : File) (program : Program) (code : Code) (cells : ℕ) → ∥ Runs file program code ∥₁ → IsCells code cells → length program.names ≤ cells
+names_fit file program code cells runs good = ∥∥₁_elim runs (hlevel props) (λ r. omega (arith, r.same.names, good.names))
+
+pub is_short : (file : File) (program : Program) (code : Code) → ∥ Runs file program code ∥₁ → length code.instructions ≤ 65536
+is_short file program code runs = ∥∥₁_elim runs (hlevel props) (λ r. r.short)
+
+no_err : {T E : Type 0} {x : T} {e : E} → Ok x ≡ Err e → ⊥
+no_err h = cc
+
+-- what is loaded has a good number of cells
+pub is_loaded : {M E : Type 0} (code loaded : Code) (cells : ℕ) (m : M) (e : E) → loaded ≡ code → ((Ok m ≡ Err e) ↔ AreBadCells loaded.names cells) → IsCells code cells
+is_loaded code loaded cells m e is bad = subst (λ p. IsCells p cells) is (are_cells loaded cells (λ b. no_err (bad.1 b)))
+
+module _ (file : File) (program : Program) (code : Code) (cells : ℕ) (runs : ∥ Runs file program code ∥₁) (good : IsCells code cells) (schedule steps : List ℕ) where
+  pub back_alike : steps ≡ to_source code cells schedule → ∥ Alike file program code cells schedule steps ∥₁
+  back_alike is = ∥∥₁_elim runs squash₁ (λ r. ∣ subst (Alike file program code cells schedule) (sym is) (r.same.back cells good schedule) ∣₁)
+
+  pub back_history : steps ≡ to_source code cells schedule → source_history file program steps ≡ machine_history code cells schedule
+  back_history is = ∥∥₁_elim runs (events_prop _ _) (λ r. ap (source_history file program) is ∙ sym (r.same.back cells good schedule).histories)
+
+  pub forth_alike : Fits file program cells schedule → steps ≡ to_machine file program code cells schedule → ∥ Alike file program code cells steps schedule ∥₁
+  forth_alike fits is = ∥∥₁_elim runs squash₁ (λ r. ∣ subst (λ ts. Alike file program code cells ts schedule) (sym is) (r.same.forth cells good schedule fits) ∣₁)
+
+  pub forth_history : Fits file program cells schedule → steps ≡ to_machine file program code cells schedule → machine_history code cells steps ≡ source_history file program schedule
+  forth_history fits is = ∥∥₁_elim runs (events_prop _ _) (λ r. ap (machine_history code cells) is ∙ (r.same.forth cells good schedule fits).histories)
+
+-- what a function answers, where it answers the steps of a translation that fits
+pub if_alike : (file : File) (program : Program) (code : Code) (cells : ℕ) (schedule : List ℕ) {E : Type 0} (r : Result (List ℕ) E) → ∥ Runs file program code ∥₁ → IsCells code cells → Fits file program cells schedule → IfOk r (λ steps. steps ≡ to_machine file program code cells schedule) → IfOk r (λ steps. ∥ Alike file program code cells steps schedule ∥₁)
+if_alike file program code cells schedule r runs good fits h =
+    IfOk-weaker r (λ steps. steps ≡ to_machine file program code cells schedule) (λ steps. ∥ Alike file program code cells steps schedule ∥₁) (λ steps is. forth_alike file program code cells runs good schedule steps fits is) h
+
+pub if_history : (file : File) (program : Program) (code : Code) (cells : ℕ) (schedule : List ℕ) {E : Type 0} (r : Result (List ℕ) E) → ∥ Runs file program code ∥₁ → IsCells code cells → Fits file program cells schedule → IfOk r (λ steps. steps ≡ to_machine file program code cells schedule) → IfOk r (λ steps. machine_history code cells steps ≡ source_history file program schedule)
+if_history file program code cells schedule r runs good fits h =
+    IfOk-weaker r (λ steps. steps ≡ to_machine file program code cells schedule) (λ steps. machine_history code cells steps ≡ source_history file program schedule) (λ steps is. forth_history file program code cells runs good schedule steps fits is) h
+
+-- the same of the code's own values
+module _ (file file' : File) (program program' : Program) (cells : ℕ) (schedule : List ℕ) (of_file : file' ≡ file) (of_program : program' ≡ program) where
+  pub fits_all : (found : Option ℕ) → found ≡ None → IfNone found (Fits file' program' cells schedule) → Fits file program cells schedule
+  fits_all found is none =
+      subst (λ f. Fits f program cells schedule) of_file
+      (subst (λ p. Fits file' p cells schedule) of_program (subst (λ o. IfNone o (Fits file' program' cells schedule)) is none))
+
+  pub steps_are : (code : Code) (most : ℕ) (m : Machine) {E : Type 0} (r : Result (List ℕ) E) → most ≡ most_silent code → m ≡ loaded code cells → IfOk r (λ steps. steps ≡ steps_all file' program' most (start program') m schedule) → IfOk r (λ steps. steps ≡ to_machine file program code cells schedule)
+  steps_are code most m r of_most of_machine h =
+      IfOk-weaker r (λ steps. steps ≡ steps_all file' program' most (start program') m schedule) (λ steps. steps ≡ to_machine file program code cells schedule)
+      (λ steps is. is
+      ∙ ap (λ f. steps_all f program' most (start program') m schedule) of_file
+      ∙ ap (λ p. steps_all file p most (start p) m schedule) of_program
+      ∙ ap (λ n. steps_all file program n (start program) m schedule) of_most
+      ∙ ap (λ x. steps_all file program (most_silent code) (start program) x schedule) of_machine)
+      h

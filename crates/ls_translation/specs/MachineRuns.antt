@@ -1,0 +1,43 @@
+-- Runs of the machine that follow the source.
+use Rattle.std.specs.Prelude.{ℕ, Bool, true, false, List, [], ◌∷◌, ◌++◌}
+use Rattle.ls_meaning.specs.Runs.{source_step}
+use Rattle.ls_meaning.specs.declared.step.Did.{Did as SourceDid}
+use Rattle.ls_meaning.specs.declared.step.Did.TheVariants as source
+use Rattle.ls_source.specs.Progress.{Progress}
+use Rattle.ls_code.specs.Machine.{Machine, machine_step, machine_run}
+use Rattle.ls_code.specs.declared.step.Did.{Did}
+use Rattle.ls_code.specs.declared.step.Did.TheVariants as did
+use Rattle.ls_headline.specs.Translations.{steps_for, steps_from}
+use Rattle.ls_translation.specs.declared.machine_run.MachineRun.{MachineRun}
+
+-- a machine that hasn't taken a step
+abbrev pub begun : Machine → MachineRun
+begun m = record { machine = m; steps = [] }
+
+-- the run after one more step, and after these
+abbrev pub one_more : MachineRun → ℕ → MachineRun
+one_more r thread = record { machine = (machine_step r.machine thread).machine; steps = r.steps ++ thread ∷ [] }
+
+abbrev pub gone : MachineRun → List ℕ → MachineRun
+gone r steps = record { machine = machine_run r.machine steps; steps = r.steps ++ steps }
+
+-- whether a step of the machine is not silent
+abbrev pub is_loud : Did → Bool
+is_loud did.Silent = false
+is_loud (did.Acted action answer) = true
+is_loud did.Waits = true
+is_loud did.Idle = true
+is_loud did.Stopped = true
+
+-- whether a step of the source changes the state
+abbrev pub has_acted : SourceDid → Bool
+has_acted (source.Acted action answer) = true
+has_acted source.Waits = false
+has_acted source.Idle = false
+
+-- the machine's steps for the next step of a source run, and for the rest of its schedule
+abbrev pub steps_of_one : Progress → ℕ → Machine → ℕ → List ℕ
+steps_of_one r n m thread = steps_for r.file r.program n m thread (source_step r.file r.program r.state thread)
+
+abbrev pub steps_of_rest : Progress → ℕ → Machine → List ℕ → List ℕ
+steps_of_rest r n m schedule = steps_from r.file r.program n r.state m schedule
