@@ -20,10 +20,10 @@ const LIMIT: usize = 100;
 
 // Steps the seat until it is told Over or Full, and answers how many steps were done.
 fn step_to_its_end<L: Session, R: Wait>(rt: &R, live: &Live<L>, seat: &mut Seat<L>) -> u64 {
-    let mut done = 0;
+    let mut done = 0_u64;
     for _ in 0..LIMIT + 1 {
         match live.step(rt, seat) {
-            More::Did(_) => done += 1,
+            More::Did(_) => done = done.wrapping_add(1),
             More::Later => {}
             More::Over | More::Full => return done,
         }
