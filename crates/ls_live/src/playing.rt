@@ -1,0 +1,78 @@
+// A whole live run.
+
+ghost use Rattle.ls_code.specs.Machine.{loaded};
+ghost use Rattle.ls_compiler.specs.Images.{code_of_image};
+ghost use Rattle.ls_live.specs.Records.{AreThere, IsDone};
+ghost use Rattle.ls_live.specs.declared.fault.LiveFault.TheVariants.{BadCells, BadLimit};
+ghost use Rattle.ls_machine.specs.Room.{AreBadCells};
+ghost use Rattle.ls_schedule.specs.Records.{IsRecordOf, scheduled};
+ghost use Rattle.std.specs.Prelude.{◌≡◌, ◌↔◌, ◌<◌, ◌≤◌, length, IfOk, IsErrOf};
+
+use crate::fault::PlayFault;
+use crate::laws::Session;
+use crate::live::{CloseFault, Live};
+use crate::running::{Gate, run_live};
+use ls_compiler::image::Image;
+use ls_schedule::Record;
+use std::alloc::Global;
+use std::marker::Brand;
+use std::sync::Wait;
+use std::sync::ledger::Blank;
+use std::thread::Threads;
+
+fn played<L: Session + Send + Sync, G: Gate + Sync, R: Threads + Wait + Sync>(
+    rt: &R,
+    alloc: Global,
+    blank: Blank,
+    image: &Image,
+    cells: usize,
+    limit: usize,
+    gate: &G,
+) -> Result<Record, PlayFault>
+    requires name { blank.name ≡ L.name }
+    requires parts { blank.parts ≡ L.parts }
+    requires seats { (L.seats ≡ L.parts) × (L.seats ≡ length (code_of_image image.now).starts) }
+    requires start { L.start ≡ loaded (code_of_image image.now) cells }
+    requires limit { L.limit ≡ limit }
+    ensures limit { IsErrOf result (PlayFault.Open BadLimit) ↔ (1000000 < limit) }
+    ensures cells { IsErrOf result (PlayFault.Open BadCells) ↔ ((limit ≤ 1000000) × AreBadCells (code_of_image image.now).names cells) }
+    ensures record { IfOk result (λ r. IsRecordOf (code_of_image image.now) cells (scheduled r) r) }
+    ensures there { IfOk result (AreThere (code_of_image image.now)) }
+    ensures within { IfOk result (λ r. length (scheduled r) ≤ limit) }
+    ensures done { IfOk result (IsDone (code_of_image image.now) cells limit) }
+{
+    let (live, seats) = match Live::<L>::open(alloc, blank, image, cells, limit) {
+        Ok(opened) => opened,
+        Err(fault) => return Err(PlayFault::Open(fault)),
+    };
+    let Ok((live, worked)) = run_live(rt, live, seats, gate) else {
+        return Err(PlayFault::NoThread);
+    };
+    match live.close(worked) {
+        Ok(record) => Ok(record),
+        Err(CloseFault::Missing { live: _, seats: _ }) => unreachable!(),
+        Err(CloseFault::Disagree { kept: _, seats: _ }) => Err(PlayFault::Disagree),
+    }
+}
+
+/// The record of an image's machine with so many cells, stepped in threads, one for each of its own, until each is over or so
+/// many steps are recorded. Refused with 51 where the limit is over 1,000,000, else with 35 where there are no cells, more than
+/// 1,048,576, or fewer than setup names; with 52 where a thread could not be started. That 54 never comes is shown by tests.
+pub fn play_live<G: Gate + Sync, R: Threads + Wait + Sync>(
+    rt: &R,
+    alloc: Global,
+    image: &Image,
+    cells: usize,
+    limit: usize,
+    gate: &G,
+) -> Result<Record, PlayFault>
+    ensures limit { IsErrOf result (PlayFault.Open BadLimit) ↔ (1000000 < limit) }
+    ensures cells { IsErrOf result (PlayFault.Open BadCells) ↔ ((limit ≤ 1000000) × AreBadCells (code_of_image image.now).names cells) }
+    ensures record { IfOk result (λ r. IsRecordOf (code_of_image image.now) cells (scheduled r) r) }
+    ensures there { IfOk result (AreThere (code_of_image image.now)) }
+    ensures within { IfOk result (λ r. length (scheduled r) ≤ limit) }
+    ensures done { IfOk result (IsDone (code_of_image image.now) cells limit) }
+{
+    let blank = Blank::new(image.code().starts().len() as u64);
+    played::<Brand, G, R>(rt, alloc, blank, image, cells, limit, gate)
+}
