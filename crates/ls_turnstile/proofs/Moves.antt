@@ -1,16 +1,16 @@
 -- Each kind of step keeps the rule.
-use Rattle.std.proofs.Common.{◌≡◌, ℕ, ◌+◌, ◌*◌, ◌/◌, ◌<◌, ◌≤◌, ◌≢◌, ◌⊎◌, inl, inr, ⊎_elim, zero, suc, List, [], ◌∷◌, ◌++◌, length, set, take, get_or, refl, sym, ap, ◌∙◌, subst, arith, Bool, true, false, nat_lt, rules, eqb, eq-eqb, length-set, length-append, ◌-◌}
+use Rattle.std.proofs.Common.{◌≡◌, ℕ, ◌+◌, ◌*◌, ◌/◌, ◌<◌, ◌≤◌, ◌≢◌, ⊎_elim, zero, suc, List, [], ◌∷◌, ◌++◌, length, set, take, get_or, refl, sym, ap, ◌∙◌, subst, arith, Bool, true, false, nat_lt, eqb, eq-eqb, length-set, length-append, ◌-◌}
 use mathlib.Core.Option.{some, none, some-injective, some-ne-none}
 use lib.ListN.{get_elem?}
 use Rattle.std.specs.Prelude.{◌&&◌}
 use Rattle.std.proofs.lemmas.Bool.{eqb-true}
 use borrow.Author.Tests.{ltb-true}
 use prog.Atomic.{either}
-use Rattle.atomic_table.specs.Table.{State, Me, Step, Allows, Splits, Joins, Final, Seen, opening, keeps, takes, gives, rest}
-use Rattle.atomic_table.proofs.Lists.{at_set, set_here, set_else}
+use Rattle.atomic_table.specs.Table.{Step, Allows, Splits, Joins, Final, Seen, opening, keeps, takes, gives, rest}
+use Rattle.atomic_table.proofs.Lists.{at_set, set_else}
 use Rattle.ls_code.specs.Machine.{Machine, machine_run}
 use Rattle.ls_turnstile.specs.declared.view.View.{View}
-use Rattle.ls_turnstile.specs.Views.{total, dealer, seated, joined, spent, dealt_left, dealt_right, both, is_turn, looked, holding, given, home, Fits, Keeps, Mine, Looks, Takes, Gives}
+use Rattle.ls_turnstile.specs.Views.{total, dealer, seated, spent, dealt_left, dealt_right, both, is_turn, looked, holding, given, home, Fits, Keeps, Mine, Looks, Takes, Gives}
 use Rattle.ls_turnstile.proofs.Totals.{total_set, total_snoc, total_le, total_two, some_counts, at_end, total_one}
 
 -- whoever holds the machine is the only live seat of the thread whose turn it is

@@ -1,5 +1,5 @@
 -- Where all seats have seen the tape's end, the record is that of the whole tape.
-use Rattle.std.proofs.Common.{◌≡◌, ℕ, ◌<◌, ◌≤◌, List, [], ◌∷◌, length, take, refl, sym, ap, subst, ◌∙◌, arith}
+use Rattle.std.proofs.Common.{◌≡◌, ℕ, ◌<◌, ◌≤◌, List, [], ◌∷◌, length, take, subst, ◌∙◌, arith}
 use Rattle.std.proofs.lemmas.List.{take_all}
 use Rattle.ls_code.specs.Code.{Code}
 use Rattle.ls_schedule.specs.Records.{IsRecordOf}

@@ -269,7 +269,10 @@ fn with_rest(joined: Back, rest: Vec<TurnSeat>) -> Back
     if rest.is_empty() {
         return joined;
     }
-    let Back { mut seats, fault: _ } = joined;
+    let Back {
+        mut seats,
+        fault: _,
+    } = joined;
     for seat in rest {
         seats.push_reserved(seat);
     }

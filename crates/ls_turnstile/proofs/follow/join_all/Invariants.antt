@@ -1,4 +1,4 @@
-use Rattle.std.proofs.Common.{◌≡◌, ◌≤◌, length, map, vec_capacity}
+use Rattle.std.proofs.Common.{◌≡◌, length, map, vec_capacity}
 use Rattle.std.specs.Prelude.{All, IfNone, IfSome}
 use Rattle.ls_turnstile.specs.Ends.{IsFaultOf}
 use Rattle.ls_turnstile.specs.Turns.{AreOver, IsSeatOf}

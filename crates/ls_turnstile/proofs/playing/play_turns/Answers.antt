@@ -1,4 +1,4 @@
-use Rattle.std.proofs.Common.{◌≡◌, ◌<◌, ap, ◌∙◌, subst, sym}
+use Rattle.std.proofs.Common.{◌<◌, ap, ◌∙◌, subst, sym}
 use Rattle.ls_turnstile.specs.Turns.{AreOver, TurnstileState}
 use Rattle.ls_turnstile.proofs.Wholes.{whole_record}
 use Rattle.ls_turnstile.proofs.playing.play_turns.Goals as goal

@@ -1,4 +1,4 @@
-use Rattle.std.proofs.Common.{◌≡◌, ◌≤◌, ◌*◌, ℕ, List, length, take, subst, ap, ◌∙◌, sym, arith, rules}
+use Rattle.std.proofs.Common.{◌≡◌, ◌≤◌, ◌*◌, ℕ, List, length, take, subst, ap, ◌∙◌, sym, arith}
 use mathlib.Core.Option.{some-injective}
 use Rattle.ls_code.specs.Machine.{Machine, loaded, machine_run}
 use Rattle.ls_turnstile.proofs.Moves.{closes}

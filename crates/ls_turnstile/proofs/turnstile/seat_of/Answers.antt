@@ -1,4 +1,4 @@
-use Rattle.std.proofs.Common.{◌≡◌, ap, ◌∙◌, sym, arith, rules}
+use Rattle.std.proofs.Common.{ap, arith}
 use Rattle.ls_turnstile.proofs.Moves.{deal_at}
 use Rattle.ls_turnstile.proofs.turnstile.seat_of.Goals as goal
 

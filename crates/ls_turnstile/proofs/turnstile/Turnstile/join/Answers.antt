@@ -1,4 +1,4 @@
-use Rattle.std.proofs.Common.{◌≡◌, ap, ◌∙◌, sym, arith, rules}
+use Rattle.std.proofs.Common.{ap, ◌∙◌, sym, arith}
 use Rattle.ls_turnstile.proofs.Moves.{join_moves}
 use Rattle.ls_turnstile.proofs.turnstile.Turnstile.join.Goals as goal
 

@@ -1,4 +1,4 @@
-use Rattle.std.proofs.Common.{◌≡◌, ◌+◌, ◌≤◌, ℕ, [], length}
+use Rattle.std.proofs.Common.{◌≡◌, ◌+◌, ◌≤◌, [], length}
 use Rattle.std.specs.Prelude.{sum_by, All}
 use Rattle.ls_turnstile.proofs.turnstile.Turnstile.join_all.Given as goal
 

@@ -1,4 +1,4 @@
-use Rattle.std.proofs.Common.{◌≡◌, ap, ◌∙◌, sym, length, arith, rules}
+use Rattle.std.proofs.Common.{ap, ◌∙◌, sym, length, arith, rules}
 use Rattle.ls_turnstile.proofs.turnstile.Turnstile.open.Goals as goal
 
 pub invariant_of-turnstile : goal.invariant_of-turnstile

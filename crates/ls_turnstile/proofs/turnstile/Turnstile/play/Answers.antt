@@ -1,5 +1,5 @@
-use Rattle.std.proofs.Common.{◌≡◌, ap, ◌∙◌, sym, take}
-use Rattle.ls_code.specs.Machine.{loaded, machine_run}
+use Rattle.std.proofs.Common.{ap, ◌∙◌, sym, take}
+use Rattle.ls_code.specs.Machine.{machine_run}
 use Rattle.ls_turnstile.proofs.Moves.{held_first}
 use Rattle.ls_turnstile.proofs.turnstile.Turnstile.play.Goals as goal
 

@@ -1,4 +1,4 @@
-use Rattle.std.proofs.Common.{◌≡◌, ap, ◌∙◌, sym, refl, arith, rules}
+use Rattle.std.proofs.Common.{ap, ◌∙◌, sym, refl, arith}
 use mathlib.Core.Option.{none}
 use Rattle.atomic_table.specs.Table.{step}
 use Rattle.ls_turnstile.proofs.Moves.{take_moves}
