@@ -88,7 +88,7 @@ impl<'a> Promise<Left> for LeftOf<'a> {
 const MOST_TRIES: u32 = 10_000_000;
 
 // After so many of them a thread lets others run: where there are more threads than processors, one of them has the turn.
-const TRIES_OF_A_SLICE: u32 = 64;
+const TRIES_OF_A_SLICE: u32 = 1000;
 
 // Steps the seat until the tape is over, or too many answers at one place were that the entry is another's.
 fn work<G: Gate>(followed: &Followed, mut seat: TurnSeat, gate: &G) -> Left

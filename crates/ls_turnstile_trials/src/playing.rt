@@ -1,44 +1,80 @@
 // Whole runs of live threads.
 
-use crate::texts::{
-    COARSE_LIST, COUNTER, COUNTER_PROGRAM, LAZY_LIST, LOCKS, LOCKS_PROGRAM,
-};
+use crate::texts::{COARSE_LIST, COUNTER, COUNTER_PROGRAM, LAZY_LIST, LOCKS, LOCKS_PROGRAM};
 use ls_compiler::compile::compile;
+use ls_compiler::image::Image;
+use ls_events::schedule::Schedule;
 use ls_machine::LoadFault;
 use ls_schedule::{read_schedule, replay};
 use ls_turnstile::{FollowFault, Gate, OpenGate, PlayFault, play_turns};
+use std::alloc::Global;
+use std::sync::Wait;
 use std::sync::atomic::Ordering::SeqCst;
 use std::sync::atomic::{AtomicBool, AtomicU64};
 use std::test::Fail;
+use std::thread::Threads;
 
-// Live threads make the record that one thread makes of the same schedule.
+// Whether live threads make the record that one thread makes of the same schedule.
+fn same_record<R: Threads + Wait + Sync>(
+    rt: &R,
+    alloc: Global,
+    image: &Image,
+    schedule: &Schedule,
+) -> Result<bool, Fail> {
+    let wanted = replay(alloc, image, 1000, schedule)?;
+    let played = play_turns(rt, alloc, image, 1000, schedule, &OpenGate)?;
+    Ok(
+        !wanted.history().is_empty()
+            && played.history() == wanted.history()
+            && played.schedule().steps() == schedule.steps(),
+    )
+}
+
+fn plays_as_replayed<R: Threads + Wait + Sync>(
+    rt: &R,
+    alloc: Global,
+    classes: &str,
+    program: &str,
+    text: &str,
+) -> Result<bool, Fail> {
+    let image = compile(alloc, classes, program)?;
+    let schedule = read_schedule(alloc, text, image.program())?;
+    same_record(rt, alloc, &image, &schedule)
+}
+
 #[test]
-fn plays_what_replays(rt: HostRuntime) -> Result<(), Fail> {
-    let alloc = rt.alloc();
-    let rows = [
-        (COUNTER, COUNTER_PROGRAM, "setup*40 all*300"),
-        (COUNTER, COUNTER_PROGRAM, "A setup*40 A*9 B*60 A*60 B*60"),
-        (LOCKS, LOCKS_PROGRAM, "setup*80 all*300"),
-        (
-            COARSE_LIST,
-            "setup { s = new CoarseList(); s.add(1); } thread A { s.add(2); s.remove(1); } thread B { s.contains(1); s.add(2); }",
-            "setup*2000 all*2000",
-        ),
-        (
-            LAZY_LIST,
-            "setup { s = new LazyList(); s.add(3); } thread A { s.contains(3); } thread B { s.remove(3); } thread C { s.add(4); }",
-            "setup*3000 all*10 A*7 B*900 all*2000",
-        ),
-    ];
-    for (classes, program, text) in rows {
-        let image = compile(alloc, classes, program)?;
-        let schedule = read_schedule(alloc, text, image.program())?;
-        let wanted = replay(alloc, &image, 1000, &schedule)?;
-        let played = play_turns(&rt, alloc, &image, 1000, &schedule, &OpenGate)?;
-        assert!(rt; !wanted.history().is_empty());
-        assert!(rt; played.history() == wanted.history());
-        assert!(rt; played.schedule().steps() == schedule.steps());
+fn plays_a_counter(rt: HostRuntime) -> Result<(), Fail> {
+    for text in ["setup*40 all*300", "A setup*40 A*9 B*60 A*60 B*60"] {
+        let same = plays_as_replayed(&rt, rt.alloc(), COUNTER, COUNTER_PROGRAM, text)?;
+        assert!(rt; same, "{text}");
     }
+    Ok(())
+}
+
+#[test]
+fn plays_a_lock(rt: HostRuntime) -> Result<(), Fail> {
+    let text = "setup*80 all*300";
+    let same = plays_as_replayed(&rt, rt.alloc(), LOCKS, LOCKS_PROGRAM, text)?;
+    assert!(rt; same);
+    Ok(())
+}
+
+#[test]
+fn plays_a_list_with_one_lock(rt: HostRuntime) -> Result<(), Fail> {
+    let program =
+        "setup { s = new CoarseList(); s.add(1); } thread A { s.add(2); s.remove(1); } thread B { s.contains(1); s.add(2); }";
+    let same = plays_as_replayed(&rt, rt.alloc(), COARSE_LIST, program, "setup*2000 all*2000")?;
+    assert!(rt; same);
+    Ok(())
+}
+
+#[test]
+fn plays_a_list_with_a_lock_each(rt: HostRuntime) -> Result<(), Fail> {
+    let program =
+        "setup { s = new LazyList(); s.add(3); } thread A { s.contains(3); } thread B { s.remove(3); } thread C { s.add(4); }";
+    let text = "setup*3000 all*10 A*7 B*900 all*2000";
+    let same = plays_as_replayed(&rt, rt.alloc(), LAZY_LIST, program, text)?;
+    assert!(rt; same);
     Ok(())
 }
 
@@ -117,7 +153,8 @@ impl Gate for Meeting {
 #[test]
 fn two_threads_meet(rt: HostRuntime) -> Result<(), Fail> {
     let alloc = rt.alloc();
-    let program = "setup { s = new LazyList(); } thread A { s.add(1); } thread B { s.add(2); s.contains(2); }";
+    let program =
+        "setup { s = new LazyList(); } thread A { s.add(1); } thread B { s.add(2); s.contains(2); }";
     let image = compile(alloc, LAZY_LIST, program)?;
     let schedule = read_schedule(alloc, "setup*999 all*999", image.program())?;
     let gate = Meeting {

@@ -39,15 +39,35 @@ fn answers_of_three_seats(rt: HostRuntime) -> Result<(), Fail> {
     let image = compile(alloc, COUNTER, COUNTER_PROGRAM)?;
     let tape = read_schedule(alloc, "setup A B", image.program())?;
     let (turnstile, mut seats) = Turnstile::open(alloc, &image, 100, &tape)?;
-    let (Some(mut b), Some(mut a), Some(mut setup)) = (seats.pop(), seats.pop(), seats.pop())
-    else {
+    let (Some(mut b), Some(mut a), Some(mut setup)) = (seats.pop(), seats.pop(), seats.pop()) else {
         panic!(rt; "a seat is missing");
     };
     assert!(rt; matches!(turnstile.step(&mut b), Turn::NotYet { place: 0 }));
-    assert!(rt; matches!(turnstile.step(&mut setup), Turn::Stepped { place: 0, did: _ }));
+    assert!(rt;
+        matches!(
+            turnstile.step(&mut setup),
+            Turn::Stepped { place: 0, did: _ }
+        )
+    );
     assert!(rt; matches!(turnstile.step(&mut b), Turn::NotYet { place: 1 }));
-    assert!(rt; matches!(turnstile.step(&mut a), Turn::Stepped { place: 1, did: Did::Idle }));
-    assert!(rt; matches!(turnstile.step(&mut b), Turn::Stepped { place: 2, did: Did::Idle }));
+    assert!(rt;
+        matches!(
+            turnstile.step(&mut a),
+            Turn::Stepped {
+                place: 1,
+                did: Did::Idle
+            }
+        )
+    );
+    assert!(rt;
+        matches!(
+            turnstile.step(&mut b),
+            Turn::Stepped {
+                place: 2,
+                did: Did::Idle
+            }
+        )
+    );
     assert!(rt; matches!(turnstile.step(&mut b), Turn::Over));
     assert!(rt; matches!(turnstile.step(&mut a), Turn::Over));
     assert!(rt; matches!(turnstile.step(&mut setup), Turn::Over));
@@ -60,8 +80,7 @@ fn steps_in_the_order_of_the_tape(rt: HostRuntime) -> Result<(), Fail> {
     let image = compile(alloc, COUNTER, COUNTER_PROGRAM)?;
     let tape = read_schedule(alloc, "setup*50 all*100", image.program())?;
     let (turnstile, mut seats) = Turnstile::open(alloc, &image, 100, &tape)?;
-    let (Some(mut b), Some(mut a), Some(mut setup)) = (seats.pop(), seats.pop(), seats.pop())
-    else {
+    let (Some(mut b), Some(mut a), Some(mut setup)) = (seats.pop(), seats.pop(), seats.pop()) else {
         panic!(rt; "a seat is missing");
     };
     let mut next = 0;
