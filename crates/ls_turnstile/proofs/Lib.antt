@@ -1,0 +1,4 @@
+pub mod Moves
+pub mod Runs
+pub mod Totals
+pub mod Wholes

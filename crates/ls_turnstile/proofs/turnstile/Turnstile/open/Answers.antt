@@ -1,0 +1,20 @@
+use Rattle.std.proofs.Common.{ap, ◌∙◌, sym, length, arith, rules}
+use Rattle.ls_turnstile.proofs.turnstile.Turnstile.open.Goals as goal
+
+pub invariant_of-turnstile : goal.invariant_of-turnstile
+invariant_of-turnstile c =
+    let key = c.in_ok-table.ensures.key in
+    let counts = c.in_ok-table.ensures.counts in (
+      sym (ap (λ k. k.tape.value.items) key ∙ ap (λ t. t.items) c.of-2.ensures),
+      sym (ap (λ k. k.seats) key),
+      omega arith,
+      search rules,
+      counts.0,
+      counts.1,
+    )
+
+pub returns-clause-threads : goal.returns-clause-threads
+returns-clause-threads c = ap (λ k. k.seats) c.in_ok-table.ensures.key ∙ ap length (c.starts-seats.ensures.starts ∙ ap (λ p. p.starts) c.code-2.ensures)
+
+pub returns-clause-some : goal.returns-clause-some
+returns-clause-some c = let same = ap (λ k. k.seats) c.in_ok-table.ensures.key in omega arith
