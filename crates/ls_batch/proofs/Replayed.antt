@@ -1,0 +1,40 @@
+-- The setup's steps as a schedule.
+use Rattle.std.proofs.Common.{◌≡◌, ℕ, ◌≤◌, zero, suc, List, [], ◌∷◌, ◌++◌, refl, ap, sym, ◌∙◌, arith, Bool, true, false}
+use Rattle.std.specs.Prelude.{replicate}
+use Rattle.ls_code.specs.Code.{Code}
+use Rattle.ls_code.specs.Machine.{Machine, loaded, machine_state, machine_step, machine_run}
+use Rattle.ls_batch.specs.Samples.{goes_on, played, sample_of, settled, threads_of}
+use Rattle.ls_batch.specs.Replays.{Replays}
+use Rattle.ls_batch.proofs.Settled.{settled_none, settled_on, settled_stop}
+
+run_append : (m : Machine) (xs ys : List ℕ) → machine_run m (xs ++ ys) ≡ machine_run (machine_run m xs) ys
+run_append m [] ys = refl
+run_append m (x ∷ xs) ys = run_append (machine_step m x).machine xs ys
+
+record Settles (n : ℕ) (m : Machine) : Type 0 where
+  steps : ℕ
+  few : steps ≤ n
+  same : settled n m ≡ machine_run m (replicate steps 0)
+
+settles_more : (n : ℕ) (m : Machine) → Settles n (machine_step m 0).machine → (b : Bool) → goes_on (machine_state m 0) ≡ b → Settles (suc n) m
+settles_more n m rest true e = let few = rest.few in record { steps = suc rest.steps; few = omega arith; same = settled_on n m e ∙ rest.same }
+settles_more n m rest false e = record { steps = 0; few = omega arith; same = settled_stop (suc n) m e }
+
+settles : (n : ℕ) (m : Machine) → Settles n m
+settles zero m = record { steps = 0; few = omega arith; same = settled_none m }
+settles (suc n) m = settles_more n m (settles n (machine_step m 0).machine) (goes_on (machine_state m 0)) refl
+
+played_is : (m : Machine) (threads seed steps : ℕ) → played m threads seed steps ≡ machine_run (settled 100000 m) (sample_of seed threads steps)
+unfolding played
+played_is m threads seed steps = refl
+
+pub seeds_replay : (code : Code) (cells seed steps : ℕ) → Replays code cells seed steps
+seeds_replay code cells seed steps =
+    let m = loaded code cells in
+    let sample = sample_of seed (threads_of code) steps in
+    let s = settles 100000 m in
+    record {
+      setup = s.steps;
+      few = s.few;
+      history = ap (λ (z : Machine). z.history) (played_is m (threads_of code) seed steps ∙ (ap (λ (z : Machine). machine_run z sample) s.same ∙ sym (run_append m (replicate s.steps 0) sample)));
+    }

@@ -1,0 +1,20 @@
+-- The setup's steps, one by one.
+use Rattle.std.proofs.Common.{◌≡◌, ℕ, ◌+◌, zero, suc, refl, ap, ◌∙◌, sym, arith, true, false}
+use Rattle.ls_code.specs.Machine.{Machine, machine_state, machine_step}
+use Rattle.ls_batch.specs.Samples.{settled, goes_on}
+
+pub settled_none : (m : Machine) → settled 0 m ≡ m
+unfolding settled
+settled_none m = refl
+
+pub settled_stop : (n : ℕ) (m : Machine) → goes_on (machine_state m 0) ≡ false → settled n m ≡ m
+unfolding settled
+settled_stop zero m h = refl
+settled_stop (suc n) m h = rw h refl
+
+pub settled_on : (n : ℕ) (m : Machine) → goes_on (machine_state m 0) ≡ true → settled (suc n) m ≡ settled n (machine_step m 0).machine
+unfolding settled
+settled_on n m h = rw h refl
+
+pub settled_more : (n k : ℕ) (m next : Machine) → n ≡ k + 1 → goes_on (machine_state m 0) ≡ true → next ≡ (machine_step m 0).machine → settled n m ≡ settled k next
+settled_more n k m next e h is = ap (λ (i : ℕ). settled i m) (e ∙ omega arith) ∙ (settled_on k m h ∙ ap (settled k) (sym is))

@@ -1,0 +1,6 @@
+use Rattle.std.proofs.Common.{◌≡◌, map, take}
+use Rattle.ls_batch.specs.Samples.{history_of}
+use Rattle.ls_batch.proofs.gathering.run_part.Given as goal
+
+abbrev pub invariant-loop-seed : goal.invariant-loop-seed
+invariant-loop-seed l = map (λ h. h.items) l.histories.items ≡ map (λ seed. history_of l.code l.cells seed l.steps) (take l.seed-index l.seeds)

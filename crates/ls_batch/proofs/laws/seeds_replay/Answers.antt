@@ -1,0 +1,5 @@
+use Rattle.ls_batch.proofs.Replayed.{seeds_replay}
+use Rattle.ls_batch.proofs.laws.seeds_replay.Goals as goal
+
+pub returns : goal.returns
+returns c = seeds_replay

@@ -1,0 +1,7 @@
+use Rattle.std.proofs.Common.{◌≡◌, ◌-◌}
+use Rattle.ls_code.specs.Machine.{machine_run}
+use Rattle.ls_batch.specs.Samples.{draws}
+use Rattle.ls_batch.proofs.samples.run_sample.Given as goal
+
+abbrev pub invariant-loop : goal.invariant-loop
+invariant-loop l = machine_run l.machine (draws l.threads (l.steps - l.counter) l.rng) ≡ machine_run l.initial.machine (draws l.threads l.steps l.seed)

@@ -1,0 +1,13 @@
+use Rattle.std.proofs.Common.{◌+◌, ◌-◌, ℕ, List, ◌++◌, ap, ◌∙◌, arith, rules}
+use Rattle.ls_batch.specs.Samples.{draws}
+use Rattle.ls_batch.proofs.Drawn.{drawn_step}
+use Rattle.ls_batch.proofs.samples.sample.Goals as goal
+
+pub loop-preserved : goal.loop-preserved
+loop-preserved c = record {
+  drawn = ap (λ (xs : List ℕ). xs ++ draws c.args.threads (c.args.steps - (c.loop.counter + 1)) c.draw.new.rng) c.push_reserved.ensures.items
+      ∙ drawn_step c.args.threads (c.args.steps - c.loop.counter) (c.args.steps - (c.loop.counter + 1)) c.loop.rng c.draw.result c.draw.new.rng c.loop.entries.items _ (omega arith) c.draw.ensures.entry c.draw.ensures.state
+      c.loop.invariant.drawn;
+  count = search rules;
+  room = search rules;
+}

@@ -1,0 +1,10 @@
+use Rattle.std.proofs.Common.{◌≡◌, ◌-◌, ◌≤◌, ◌++◌, vec_len, vec_capacity}
+use Rattle.ls_batch.specs.Samples.{draws}
+use Rattle.ls_batch.proofs.samples.sample.Given as goal
+
+abbrev pub invariant-loop : goal.invariant-loop
+invariant-loop l = record {
+  drawn : l.entries.items ++ draws l.threads (l.steps - l.counter) l.rng ≡ draws l.threads l.steps l.seed;
+  count : vec_len l.entries ≡ l.counter;
+  room : l.steps ≤ vec_capacity l.entries;
+}

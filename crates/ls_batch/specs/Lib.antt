@@ -1,0 +1,4 @@
+pub mod Samples
+pub mod Tallies
+pub mod Printing
+pub mod Replays

@@ -1,0 +1,85 @@
+// The runs of consecutive seeds, and their tally.
+
+ghost use Rattle.std.specs.Prelude.{◌≡◌, ◌↔◌, ℕ, ◌+◌, ◌≤◌, ◌^◌, map, IfOk, IsErrOf, IsTrue};
+ghost use Rattle.std.specs.List.{range_with_len};
+ghost use Rattle.ls_compiler.specs.Images.{RunsAsItsTexts, code_of_image};
+ghost use Rattle.ls_machine.specs.Room.{AreBadCells};
+ghost use Rattle.ls_batch.specs.Samples.{IsBadCount, histories_of};
+ghost use Rattle.ls_batch.specs.Tallies.{IsTally};
+
+use crate::fault::BatchFault;
+use crate::gathering::histories;
+use crate::tallying::{Tally, tally_of};
+use ls_code::code::Code;
+use ls_compiler::image::Image;
+use ls_compiler::laws::runs;
+use ls_machine::MOST_CELLS;
+use std::alloc::{AllocError, Global};
+use std::thread::Threads;
+
+const MOST_SEEDS: usize = 100_000;
+
+const MOST_STEPS: usize = 900_000;
+
+/// Whether no machine of the code has so many cells.
+fn are_bad_cells(code: &Code, cells: usize) -> bool
+    ensures { IsTrue result ↔ AreBadCells code.now.names cells }
+{
+    cells == 0 || cells > MOST_CELLS || cells < code.names()
+}
+
+/// Whether there are no seeds, too many or one past the greatest, or too many steps.
+fn is_bad_count(first_seed: u64, count: usize, steps: usize) -> bool
+    ensures { IsTrue result ↔ IsBadCount first_seed count steps }
+{
+    count == 0
+        || count > MOST_SEEDS
+        || steps > MOST_STEPS
+        || first_seed > u64::MAX - (count as u64 - 1)
+}
+
+/// So many seeds, one after the other.
+fn seeds_from(alloc: Global, first: u64, count: usize) -> Result<Vec<u64>, AllocError>
+    requires { first + count ≤ 2 ^ 64 }
+    ensures { IfOk result (λ seeds. seeds.items ≡ map (λ i. first + i) (range_with_len 0 count)) }
+{
+    let mut seeds = Vec::new(alloc);
+    for i in 0..count {
+        seeds.push(first + i as u64)?;
+    }
+    Ok(seeds)
+}
+
+/// The tally of the runs of so many seeds, from the first on, each on a machine with so many cells: steps of the setup until
+/// it has ended, trapped or stopped, at most 100,000, then the seed's sample of so many steps of the other threads. It is the
+/// same for every number of processors, each of which runs a part of the seeds. The image runs as its texts, so each
+/// history is one of the Java text.
+/// `BadCells` comes where there are no cells, more than 1,048,576, or fewer than setup names. Otherwise `BadCount` comes where
+/// there are no seeds, more than 100,000, a seed past the greatest `u64`, or more than 900,000 steps.
+pub fn batch(
+    rt: &(impl Threads + Sync),
+    alloc: Global,
+    image: &Image,
+    cells: usize,
+    first_seed: u64,
+    count: usize,
+    steps: usize,
+) -> Result<Tally, BatchFault>
+    ensures bad_cells { IsErrOf result BatchFault.BadCells ↔ AreBadCells (code_of_image image.now).names cells }
+    ensures bad_count { IsErrOf result BatchFault.BadCount ↔ (¬ AreBadCells (code_of_image image.now).names cells × IsBadCount first_seed count steps) }
+    ensures tally { IfOk result (λ tally. IsTally (histories_of (code_of_image image.now) cells first_seed count steps) first_seed tally) }
+    ensures image { ∥ RunsAsItsTexts image.now ∥₁ }
+{
+    runs(image);
+    let code = image.code();
+    if are_bad_cells(code, cells) {
+        return Err(BatchFault::BadCells);
+    }
+    if is_bad_count(first_seed, count, steps) {
+        return Err(BatchFault::BadCount);
+    }
+    let seeds = seeds_from(alloc, first_seed, count)?;
+    let histories = histories(rt, alloc, code, cells, seeds.as_slice(), steps)?;
+    let tally = tally_of(alloc, histories.as_slice(), first_seed)?;
+    Ok(tally)
+}

@@ -1,0 +1,83 @@
+// The run of a seed.
+
+ghost use Rattle.std.specs.Prelude.{◌≡◌, IfOk};
+ghost use Rattle.ls_code.specs.Machine.{loaded, machine_state};
+ghost use Rattle.ls_batch.specs.Samples.{goes_on, history_of, played, settled, threads_of};
+
+use crate::events::copied;
+use crate::samples::run_sample;
+use ls_code::code::Code;
+use ls_code::step::ThreadState;
+use ls_events::event::Event;
+use ls_machine::Machine;
+use std::alloc::{AllocError, Global};
+
+/// The most steps of the setup before a sample.
+const MOST_SETUP_STEPS: usize = 100_000;
+
+/// How many threads there are beside the setup.
+fn threads_of(code: &Code) -> usize
+    ensures { result ≡ threads_of code.now }
+{
+    code.starts().len().saturating_sub(1)
+}
+
+/// Whether the setup hasn't ended, trapped or stopped.
+#[inline]
+fn goes_on(machine: &Machine) -> bool
+    ensures { result ≡ goes_on (machine_state machine.now 0) }
+{
+    match machine.state_of(0) {
+        ThreadState::NotStarted | ThreadState::Running => true,
+        ThreadState::Ended | ThreadState::Trapped | ThreadState::Stopped => false,
+    }
+}
+
+/// Takes steps of the setup until it has ended, trapped or stopped, and at most so many.
+#[tactic(auto, using(crate::proofs::Settled::settled_none, crate::proofs::Settled::settled_stop, crate::proofs::Settled::settled_more))]
+fn settle(machine: &mut Machine, most: usize)
+    ensures { machine.new ≡ settled most machine.old }
+{
+    for _ in 0..most {
+        if !goes_on(machine) {
+            return;
+        }
+        let _ = machine.step(0);
+    }
+}
+
+/// Runs a loaded machine by a seed: its setup, then the seed's sample.
+#[tactic(auto, unfolding(crate::specs::Samples::played))]
+fn run_seed(machine: &mut Machine, threads: usize, seed: u64, steps: usize)
+    ensures { machine.new ≡ played machine.old threads seed steps }
+{
+    settle(machine, MOST_SETUP_STEPS);
+    run_sample(machine, seed, threads, steps);
+}
+
+/// The machine of the code at its start. A number of cells that no machine has is answered as want of memory: who calls this
+/// has looked at the cells.
+fn load(alloc: Global, code: &Code, cells: usize) -> Result<Machine, AllocError>
+    ensures { IfOk result (λ machine. machine ≡ loaded code.now cells) }
+{
+    match Machine::load(alloc, code, cells) {
+        Ok(machine) => Ok(machine),
+        Err(_) => Err(AllocError),
+    }
+}
+
+/// The history of a seed's run.
+pub(crate) fn one_run(
+    alloc: Global,
+    code: &Code,
+    cells: usize,
+    seed: u64,
+    steps: usize,
+) -> Result<Vec<Event>, AllocError>
+    ensures { IfOk result (λ history. history.items ≡ history_of code.now cells seed steps) }
+{
+    let mut machine = load(alloc, code, cells)?;
+    run_seed(&mut machine, threads_of(code), seed, steps);
+    let history = copied(alloc, machine.history())?;
+    Ok(history)
+}
