@@ -34,7 +34,9 @@ fn main(rt: HostRuntime) -> io::Result<()> {
     match stepped(rt.alloc(), part, steps) {
         None => println!(rt; "no run")?,
         Some(Taken { acted, sum }) => {
-            println!(rt; "{acted} of {steps} steps acted, and were answered ints that come to {sum}")?
+            println!(rt;
+                "{acted} of {steps} steps acted, and were answered ints that come to {sum}"
+            )?
         }
     }
     Ok(())
