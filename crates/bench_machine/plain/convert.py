@@ -19,6 +19,7 @@ def plain(text, crate):
     text = re.sub(r"^#\[tactic.*\n", "", text, flags=re.M)
     text = without_blocks(text, r"^impl Model for ")
     text = without_blocks(text, r"^impl From<AllocError> for LoadFault")
+    text = without_blocks(text, r"^impl(<[^\n]*>)? Clone for ")
     text = re.sub(r"^ *ghost .*\n", "", text, flags=re.M)
     text = re.sub(r"^ *(requires|ensures)\b.*\n", "", text, flags=re.M)
     text = re.sub(r"^use (std::alloc|std::marker|thiserror).*\n", "", text, flags=re.M)
@@ -40,7 +41,8 @@ def plain(text, crate):
 
 def derived(match):
     names = [name.strip() for name in match.group(1).split(",")]
-    kept = [name for name in names if name not in ("Drop", "Error")]
+    kept = ["Clone"] if "Copy" in names and "Clone" not in names else []
+    kept += [name for name in names if name not in ("Drop", "Error")]
     return f"#[derive({', '.join(kept)})]" if kept else ""
 
 
@@ -67,7 +69,7 @@ def main():
     write("Cargo.toml", CARGO)
 
 
-HEAD = """#![allow(dead_code, unused_imports)]
+HEAD = """#![allow(dead_code, unused_imports, unused_variables)]
 mod images;
 mod ls_code;
 mod ls_events;

@@ -14,6 +14,10 @@ pub enum Part {
     Fields,
     /// A loop that calls a method.
     Calls,
+    /// A loop that takes a lock and gives it back, by loads and exchanges of its word, as compiled code does.
+    Locks,
+    /// The same loop by the instructions of whole lock operations, which compiled code doesn't have.
+    WholeLocks,
     /// The first loop in two threads.
     Turns,
     /// 256 calls of a method without a loop.
@@ -30,7 +34,7 @@ pub const SHORT_STEPS: u64 = 256 * 12;
 pub fn image(alloc: Global, part: Part) -> Result<Parts, AllocError> {
     match part {
         Part::Methods => short_calls(alloc),
-        Part::Arithmetic | Part::Fields | Part::Calls | Part::Turns => loops(alloc, part),
+        _ => loops(alloc, part),
     }
 }
 
@@ -67,6 +71,8 @@ fn loops(alloc: Global, part: Part) -> Result<Parts, AllocError> {
     match part {
         Part::Arithmetic | Part::Turns => add(&mut instructions, &local_loop())?,
         Part::Fields => add(&mut instructions, &field_loop())?,
+        Part::Locks => add(&mut instructions, &lock_loop())?,
+        Part::WholeLocks => add(&mut instructions, &whole_lock_loop())?,
         Part::Calls | Part::Methods => add(&mut instructions, &call_loop())?,
     }
     let mut methods = Vec::new(alloc);
@@ -190,5 +196,48 @@ fn call_loop() -> [Instruction; 9] {
         Instruction::Leave,
         Instruction::Leave,
         Instruction::Leave,
+    ]
+}
+
+// The first three make the lock.
+fn lock_loop() -> [Instruction; 18] {
+    [
+        Instruction::Load(0),
+        Instruction::NewLock,
+        Instruction::PutField(0),
+        Instruction::Load(0),
+        Instruction::GetField(0),
+        Instruction::See(1),
+        Instruction::Take(1),
+        Instruction::JumpIfFalse(11),
+        Instruction::Pop,
+        Instruction::Push(0),
+        Instruction::Pop,
+        Instruction::Load(0),
+        Instruction::GetField(0),
+        Instruction::See(3),
+        Instruction::DropLock,
+        Instruction::Push(0),
+        Instruction::Pop,
+        Instruction::Turn(9),
+    ]
+}
+
+fn whole_lock_loop() -> [Instruction; 14] {
+    [
+        Instruction::Load(0),
+        Instruction::NewLock,
+        Instruction::PutField(0),
+        Instruction::Load(0),
+        Instruction::GetField(0),
+        Instruction::Lock,
+        Instruction::Push(0),
+        Instruction::Pop,
+        Instruction::Load(0),
+        Instruction::GetField(0),
+        Instruction::Unlock,
+        Instruction::Push(0),
+        Instruction::Pop,
+        Instruction::Turn(9),
     ]
 }

@@ -1,5 +1,5 @@
 //! Steps of the machine, to be timed: `bench_machine PART STEPS`, where the part is arithmetic, fields, calls,
-//! turns or methods.
+//! locks, whole_locks, turns or methods.
 #![tactic(auto)]
 
 mod images;
@@ -30,7 +30,7 @@ fn run(machine: &mut Machine, steps: u64, by_turns: bool) -> u64 {
 fn timed(alloc: Global, code: &Code, part: Part, steps: u64) -> Result<u64, LoadFault> {
     let (machines, cells, each) = match part {
         Part::Methods => (steps / SHORT_STEPS, 1024, SHORT_STEPS),
-        Part::Arithmetic | Part::Fields | Part::Calls | Part::Turns => (1, 65536, steps),
+        _ => (1, 65536, steps),
     };
     let mut acted = 0_u64;
     for _ in 0..machines {
@@ -46,6 +46,8 @@ fn part_of(name: &str) -> Option<Part> {
         "arithmetic" => Some(Part::Arithmetic),
         "fields" => Some(Part::Fields),
         "calls" => Some(Part::Calls),
+        "locks" => Some(Part::Locks),
+        "whole_locks" => Some(Part::WholeLocks),
         "turns" => Some(Part::Turns),
         "methods" => Some(Part::Methods),
         _ => None,

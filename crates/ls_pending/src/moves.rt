@@ -1,9 +1,9 @@
 // One move of pending work.
 
-ghost use Rattle.std.specs.Prelude.{◌≡◌, ◌<◌, ◌∷◌, OnOk, OnErr, vec_len, vec_capacity, map};
-ghost use Rattle.ls_checked.specs.Plain.{plain_file, plain_class};
-ghost use Rattle.ls_pending.specs.Pending.{Gives as PlainGives, Opens as PlainOpens};
-ghost use Rattle.ls_pending.specs.Machine.{at, giving, leaving, ending, move, moved};
+ghost use Rattle.std.specs.Prelude.{◌≡◌, ◌<◌, ◌∷◌, OnOk, OnErr, vec_len, vec_capacity, map, nat_eq, if◌then◌else◌};
+ghost use Rattle.ls_checked.specs.Plain.{plain, plain_statement, plain_file, plain_class};
+ghost use Rattle.ls_pending.specs.Pending.{On, ToTest, Gives as PlainGives, Ends as PlainEnds, Asks as PlainAsks, Enters as PlainEnters, Evaluates as PlainEvaluates, Opens as PlainOpens};
+ghost use Rattle.ls_pending.specs.Machine.{at, thrown_on_null, giving, leaving, ending, move, moved};
 ghost use Rattle.ls_pending.specs.Seen.{frame_of, frames_of, control_of};
 ghost use Rattle.ls_pending.specs.SeenPending.{state_of};
 
@@ -11,11 +11,13 @@ use crate::pending::Pending;
 use crate::stack::{pop, push};
 use crate::tables::{answer_without, frame};
 use crate::work::{Control, Frame, Waiting};
-use ls_checked::tree::{Class, File};
+use ls_checked::tree::{Class, Expression, File, Statement};
 use ls_courses::operations::method_at;
+use ls_events::action::Action;
 use ls_events::kind::Kind;
 use ls_events::value::{Value, ValueType};
 use ls_meaning::completion::Completion;
+use ls_meaning::sort::Sort;
 use std::alloc::{AllocError, Global};
 use std::mem;
 
@@ -47,6 +49,38 @@ impl<'a> Pending<'a> {
         self.control = control;
     }
 
+    /// On to a value.
+    pub fn gives(&mut self, v: Value)
+        ensures { state_of self.new ≡ at (PlainGives v) (frames_of self.old.frames.items) self.old.locals.items self.old.depth }
+    {
+        self.go(Control::Gives(v))
+    }
+
+    /// On to the end of a statement.
+    pub fn completes(&mut self, completion: Completion<Value>)
+        ensures { state_of self.new ≡ at (PlainEnds completion) (frames_of self.old.frames.items) self.old.locals.items self.old.depth }
+    {
+        self.go(Control::Ends(completion))
+    }
+
+    /// On to an action.
+    pub fn asks(&mut self, action: Action<Value>, sort: Sort)
+        ensures { state_of self.new ≡ at (PlainAsks action sort) (frames_of self.old.frames.items) self.old.locals.items self.old.depth }
+    {
+        self.go(Control::Asks(action, sort))
+    }
+
+    /// On to an action on an object, unless that is null.
+    pub fn asks_of(&mut self, object: u64, action: Action<Value>, sort: Sort)
+        ensures { state_of self.new ≡ at (thrown_on_null object (PlainAsks action sort)) (frames_of self.old.frames.items) self.old.locals.items self.old.depth }
+    {
+        if object == 0 {
+            self.completes(Completion::Threw(Kind::NullPointer))
+        } else {
+            self.asks(action, sort)
+        }
+    }
+
     // A value goes to the innermost frame.
     fn give(&mut self, alloc: Global, classes: &[Class], v: Value) -> Result<(), AllocError>
         requires { vec_len self.old.frames < vec_capacity self.old.frames }
@@ -56,9 +90,9 @@ impl<'a> Pending<'a> {
         match pop(&mut self.frames) {
             Some(Frame::Operand(f)) => self.fill(alloc, classes, f, v)?,
             Some(Frame::Waiting(f)) => self.go_on(f, v),
-            Some(Frame::Ending(_f)) => self.go(Control::Gives(v)),
-            Some(Frame::Body(_answered, _saved, _depth)) => self.go(Control::Gives(v)),
-            None => self.go(Control::Gives(v)),
+            Some(Frame::Ending(_f)) => self.gives(v),
+            Some(Frame::Body(_answered, _saved, _depth)) => self.gives(v),
+            None => self.gives(v),
         }
         Ok(())
     }
@@ -69,15 +103,15 @@ impl<'a> Pending<'a> {
         ensures { state_of self.new ≡ ending completion (frames_of self.old.frames.items) self.old.locals.items self.old.depth }
     {
         match pop(&mut self.frames) {
-            Some(Frame::Operand(_f)) => self.go(Control::Ends(completion)),
-            Some(Frame::Waiting(_f)) => self.go(Control::Ends(completion)),
+            Some(Frame::Operand(_f)) => self.completes(completion),
+            Some(Frame::Waiting(_f)) => self.completes(completion),
             Some(Frame::Ending(f)) => self.close(f, completion),
             Some(Frame::Body(answered, saved, depth)) => {
                 self.locals = saved;
                 self.depth = depth;
                 self.go(left_by(answered, completion));
             }
-            None => self.go(Control::Ends(completion)),
+            None => self.completes(completion),
         }
     }
 
@@ -95,11 +129,11 @@ impl<'a> Pending<'a> {
         ensures err { OnErr result (state_of self.new ≡ at (PlainOpens method (o ∷ values.items)) (frames_of self.old.frames.items) self.old.locals.items self.old.depth) }
     {
         if self.depth == 0 {
-            self.go(Control::Gives(Value::Reference(0)));
+            self.gives(Value::Reference(0));
             return Ok(());
         }
         match method_at(file, method) {
-            None => self.go(Control::Gives(Value::Reference(0))),
+            None => self.gives(Value::Reference(0)),
             Some(m) => match frame(alloc, &m.slots, o, &values) {
                 Ok(slots) => {
                     let saved = mem::replace(&mut self.locals, slots);
@@ -116,6 +150,25 @@ impl<'a> Pending<'a> {
         Ok(())
     }
 
+    // A method is to be entered, where the depth allows it.
+    fn invoke(&mut self, method: usize, o: Value, values: Vec<Value>)
+        ensures { state_of self.new ≡ at (if nat_eq self.old.depth 0 then PlainEnds (Completion.Threw Kind.StackOverflow) else PlainEnters method (o ∷ values.items)) (frames_of self.old.frames.items) self.old.locals.items self.old.depth }
+    {
+        if self.depth == 0 {
+            self.completes(Completion::Threw(Kind::StackOverflow))
+        } else {
+            self.go(Control::Enters(method, o, values))
+        }
+    }
+
+    // A loop, from its condition on.
+    fn loops(&mut self, e: &'a Expression, s: &'a Statement)
+        requires { vec_len self.old.frames < vec_capacity self.old.frames }
+        ensures { state_of self.new ≡ at (PlainEvaluates (plain e.now)) (On (ToTest (plain e.now) (plain_statement s.now)) ∷ frames_of self.old.frames.items) self.old.locals.items self.old.depth }
+    {
+        self.inside(Frame::Waiting(Waiting::Test(e, s)), Control::Evaluates(e))
+    }
+
     /// One move. A refusal changes nothing.
     pub fn advance(&mut self, alloc: Global, file: &'a File) -> Result<(), AllocError>
         ensures ok { OnOk result (state_of self.new ≡ moved (plain_file file.now) (state_of self.old)) }
@@ -127,24 +180,14 @@ impl<'a> Pending<'a> {
             Control::Evaluates(e) => self.evaluate(alloc, e),
             Control::Argues(purpose, values, left) => self.argue(purpose, values, left),
             Control::Applies(purpose, values) => self.apply(&file.classes, purpose, values),
-            Control::Invokes(m, o, values) => {
-                if self.depth == 0 {
-                    self.go(Control::Ends(Completion::Threw(Kind::StackOverflow)));
-                } else {
-                    self.go(Control::Enters(m, o, values));
-                }
-            }
+            Control::Invokes(m, o, values) => self.invoke(m, o, values),
             Control::Opens(m, o, values) => self.open(alloc, file, m, o, values)?,
             Control::Executes(s) => self.execute(s),
             Control::Runs(ss) => self.run(ss),
-            Control::Loops(e, s) => {
-                self.inside(Frame::Waiting(Waiting::Test(e, s)), Control::Evaluates(e))
-            }
+            Control::Loops(e, s) => self.loops(e, s),
             Control::Gives(v) => self.give(alloc, &file.classes, v)?,
             Control::Ends(completion) => self.end(completion),
-            Control::Asks(action, sort) => self.go(Control::Asks(action, sort)),
-            Control::Enters(m, o, values) => self.go(Control::Enters(m, o, values)),
-            Control::Turns(e, s) => self.go(Control::Turns(e, s)),
+            control => self.go(control),
         }
         Ok(())
     }

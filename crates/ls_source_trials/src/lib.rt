@@ -1,9 +1,17 @@
-//! Tests of source runs beside their plain form, apart from the crates that they test.
+//! Source runs beside their plain form, over many class texts, apart from the crates that they test.
 #![tactic(auto)]
 
 #[cfg(test)]
 mod beside;
 #[cfg(test)]
+mod classes;
+#[cfg(test)]
+mod lists;
+#[cfg(test)]
+mod long;
+#[cfg(test)]
+mod small;
+#[cfg(test)]
 mod told;
 #[cfg(test)]
-mod trees;
+mod whole;
