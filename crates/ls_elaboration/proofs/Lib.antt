@@ -1,8 +1,3 @@
-pub mod Nodes
-pub mod Rows
-pub mod Blocks
-pub mod BlockRows
-pub mod Files
+pub mod Refusals
 pub mod Keys
 pub mod Declarations
-pub mod Left

@@ -1,10 +1,11 @@
 -- What contracts see of elaboration's answers.
-use Rattle.std.specs.Prelude.{Result, Ok, Err}
+use Rattle.std.specs.Prelude.{◌≡◌, Result, Ok, Err}
 use Rattle.ls_checked.specs.CheckedTree as checked
-use Rattle.ls_checked.specs.Plain.{plain, all_plain}
+use Rattle.ls_checked.specs.Plain.{plain}
 use Rattle.ls_checked.specs.declared.tree.Expression.{Expression}
-use Rattle.ls_checked.specs.declared.tree.Expressions.{Expressions}
 use Rattle.ls_elaboration.specs.declared.rule.Broken.{Broken}
+use Rattle.ls_elaboration.specs.declared.rule.Refusal.{Refusal}
+use Rattle.ls_elaboration.specs.declared.rule.Refusal.TheVariants as refusals
 use Rattle.ls_elaboration.specs.declared.static_types.Typed.{Typed}
 use Rattle.ls_elaboration.specs.declared.members.Member.{Member}
 use Rattle.ls_elaboration.specs.declared.members.Maker.{Maker}
@@ -12,9 +13,24 @@ use Rattle.ls_elaboration.specs.Elaborated.{Elaborated}
 use Rattle.ls_elaboration.specs.StaticTypes as statics
 use Rattle.ls_elaboration.specs.Members as members
 
-abbrev pub seen : {X Y : Type 0} → (X → Y) → Result X Broken → Elaborated Y
+-- a rule that is broken is the one that the definition answers; want of memory says nothing of it
+abbrev pub Fails : {Y : Type 0} → Refusal → Elaborated Y → Type 0
+Fails refusals.Memory said = Unit {0}
+Fails (refusals.Broken b) said = said ≡ Err b
+
+-- the answer, seen by view, is what the definition says, unless memory ran out
+abbrev pub Gives : {X Y : Type 0} → (X → Y) → Result X Refusal → Elaborated Y → Type 0
+Gives view (Ok x) said = said ≡ Ok (view x)
+Gives view (Err e) said = Fails e said
+
+-- from the answer, seen by view, the definition goes on to what is next
+abbrev pub Leads : {X Y Z : Type 0} → (X → Y) → (Y → Elaborated Z) → Result X Refusal → Elaborated Z → Type 0
+Leads view next (Ok x) said = said ≡ next (view x)
+Leads view next (Err e) said = Fails e said
+
+abbrev pub seen : {X Y E : Type 0} → (X → Y) → Result X E → Result Y E
 seen view (Ok x) = Ok (view x)
-seen view (Err b) = Err b
+seen view (Err e) = Err e
 
 abbrev pub typed_of : Typed → statics.Typed
 typed_of x = record { expression = plain x.expression; static = x.of }
@@ -25,17 +41,11 @@ seen_typed r = seen typed_of r
 abbrev pub seen_plain : Result Expression Broken → Elaborated checked.Expression
 seen_plain r = seen plain r
 
-abbrev pub seen_all : Result Expressions Broken → Elaborated checked.Expressions
-seen_all r = seen all_plain r
-
 abbrev pub member_of : Member → members.Member
 member_of m = record { called = m.called; parameters = m.parameters.items; result = m.result }
 
 abbrev pub maker_of : Maker → members.Maker
 maker_of m = record { makes = m.makes; parameters = m.parameters.items; type = m.value_type }
-
-abbrev pub seen_maker : Result Maker Broken → Elaborated members.Maker
-seen_maker r = seen maker_of r
 
 -- a test's answer, and what comes where it is passed
 abbrev pub unless_refused : {A X : Type 0} → Result X Broken → Elaborated A → Elaborated A

@@ -7,7 +7,6 @@ pub mod Operators
 pub mod TypedExpressions
 pub mod Scopes
 pub mod TypedStatements
-pub mod Left
 pub mod TypedMethods
 pub mod Signs
 pub mod Elaboration
@@ -15,6 +14,5 @@ pub mod Placed
 pub mod PlacedStatements
 pub mod Tables
 pub mod Answers
-pub mod ScopeViews
 pub mod SignViews
 pub mod Outcomes

@@ -1,15 +1,15 @@
 // What a call may name: a method of a class, an operation of a lock or of a markable, a constructor.
 
-ghost use Rattle.std.specs.Prelude.{◌≡◌, IfOk, option_map, map, string_bytes, if◌then◌else◌};
+ghost use Rattle.std.specs.Prelude.{◌≡◌, IfOk, Ok, option_map, map, string_bytes, if◌then◌else◌};
 ghost use Rattle.ls_checked.specs.Plain.{plain, all_plain};
-ghost use Rattle.ls_elaboration.specs.Members.{member as the_member, method_member as the_method_member, lock_member as the_lock_member, markable_member as the_markable_member, member_of as the_member_of, maker_of as the_maker_of, markable_maker as the_markable_maker, made as the_made};
+ghost use Rattle.ls_elaboration.specs.Members.{found, member as the_member, method_member as the_method_member, lock_member as the_lock_member, markable_member as the_markable_member, member_of as the_member_of, maker_of as the_maker_of, markable_maker as the_markable_maker, made as the_made};
 ghost use Rattle.ls_elaboration.specs.Known.{number_of as the_number, method_of as the_method_of};
 ghost use Rattle.ls_elaboration.specs.Placed.{placed_name};
 ghost use Rattle.ls_elaboration.specs.Tables.{known_of, texts_of};
-ghost use Rattle.ls_elaboration.specs.Answers.{member_of as seen_member, seen_maker};
+ghost use Rattle.ls_elaboration.specs.Answers.{Gives, member_of as seen_member, maker_of as seen_maker};
 
 use crate::known::{Known, class_at, method_of, number_of};
-use crate::rule::{Broken, Rule, broken_at};
+use crate::rule::{Refusal, Rule, refused_at};
 use crate::static_types::Static;
 use ls_checked::tree::{Called, Expression, Expressions};
 use ls_events::value::ValueType;
@@ -56,8 +56,8 @@ fn member_with(
     }))
 }
 
-/// A method of a class as a member.
-pub fn method_member(
+// A method of a class as a member.
+fn method_member(
     alloc: Global,
     known: Known,
     class: usize,
@@ -119,8 +119,7 @@ fn markable_member(alloc: Global, class: usize, name: &str) -> Result<Option<Mem
     }
 }
 
-/// What a name means on a target of a type.
-pub fn member_of(
+fn member_in(
     alloc: Global,
     known: Known,
     target: Static,
@@ -136,30 +135,50 @@ pub fn member_of(
     }
 }
 
+/// A method of the own class.
+pub fn own_member(alloc: Global, known: Known, n: &Name) -> Result<Member, Refusal>
+    ensures { Gives seen_member result (found (the_method_member (the_method_of (known_of known.entry) known.entry.own (string_bytes n.now.text))) n.now.span) }
+{
+    match method_member(alloc, known, known.own, n.text.as_str())? {
+        None => Err(refused_at(Rule::UnknownName, n.span)),
+        Some(m) => Ok(m),
+    }
+}
+
+/// What a name means on a target of a type.
+pub fn member_of(alloc: Global, known: Known, target: Static, n: &Name) -> Result<Member, Refusal>
+    ensures { Gives seen_member result (found (the_member_of (known_of known.entry) target (string_bytes n.now.text)) n.now.span) }
+{
+    match member_in(alloc, known, target, n.text.as_str())? {
+        None => Err(refused_at(Rule::UnknownName, n.span)),
+        Some(m) => Ok(m),
+    }
+}
+
 fn maker_with(
     alloc: Global,
     makes: Makes,
     parameters: &[ValueType],
     value_type: ValueType,
-) -> Result<Result<Maker, Broken>, AllocError>
-    ensures { IfOk result (λ r. seen_maker r ≡ Ok (record { makes = makes; parameters = parameters.now; type = value_type })) }
+) -> Result<Maker, Refusal>
+    ensures { Gives seen_maker result (Ok (record { makes = makes; parameters = parameters.now; type = value_type })) }
 {
-    Ok(Ok(Maker {
+    Ok(Maker {
         makes,
         parameters: Vec::from_slice(alloc, parameters)?,
         value_type,
-    }))
+    })
 }
 
 /// What `new` makes of a class's name.
-pub fn maker_of(alloc: Global, known: Known, n: &Name) -> Result<Result<Maker, Broken>, AllocError>
-    ensures { IfOk result (λ r. seen_maker r ≡ the_maker_of (known_of known.entry) (placed_name n.now)) }
+pub fn maker_of(alloc: Global, known: Known, n: &Name) -> Result<Maker, Refusal>
+    ensures { Gives seen_maker result (the_maker_of (known_of known.entry) (placed_name n.now)) }
 {
     if n.text.as_str() == "ReentrantLock" {
         return maker_with(alloc, Makes::ALock, &[], ValueType::Lock);
     }
     match number_of(known.names, n.text.as_str()) {
-        None => Ok(Err(broken_at(Rule::UnknownType, n.span))),
+        None => Err(refused_at(Rule::UnknownType, n.span)),
         Some(class) => match class_at(known, class) {
             None => maker_with(alloc, Makes::AnObject(class), &[], ValueType::Class(class)),
             Some(c) => maker_with(
@@ -173,15 +192,11 @@ pub fn maker_of(alloc: Global, known: Known, n: &Name) -> Result<Result<Maker, B
 }
 
 /// What `new AtomicMarkableReference` makes.
-pub fn markable_maker(
-    alloc: Global,
-    known: Known,
-    n: &Name,
-) -> Result<Result<Maker, Broken>, AllocError>
-    ensures { IfOk result (λ r. seen_maker r ≡ the_markable_maker (the_number (texts_of known.entry.names.now) (string_bytes n.now.text)) n.now.span) }
+pub fn markable_maker(alloc: Global, known: Known, n: &Name) -> Result<Maker, Refusal>
+    ensures { Gives seen_maker result (the_markable_maker (the_number (texts_of known.entry.names.now) (string_bytes n.now.text)) n.now.span) }
 {
     match number_of(known.names, n.text.as_str()) {
-        None => Ok(Err(broken_at(Rule::UnknownType, n.span))),
+        None => Err(refused_at(Rule::UnknownType, n.span)),
         Some(class) => {
             let parameters = [ValueType::Class(class), ValueType::Boolean];
             maker_with(

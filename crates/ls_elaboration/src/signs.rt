@@ -1,20 +1,20 @@
 // What the classes of a text declare.
 
-ghost use Rattle.std.specs.Prelude.{◌≡◌, IfOk, map, string_bytes};
+ghost use Rattle.std.specs.Prelude.{◌≡◌, map, string_bytes};
 ghost use Rattle.ls_elaboration.specs.Signs.{is_reserved as the_reserved, one_name as the_one_name, class_names as the_class_names, parameter_types as the_parameter_types, field_met as the_field_met, fields_met as the_fields_met, method_met as the_method_met, constructor_met as the_constructor_met, member_met as the_member_met, nothing_met as the_nothing_met, class_met as the_class_met, one_class as the_one_class, class_signs as the_class_signs};
 ghost use Rattle.ls_elaboration.specs.Placed.{placed_name};
 ghost use Rattle.ls_elaboration.specs.PlacedStatements.{placed_parameter, placed_declarator, placed_member, placed_class, placed_declaration};
 ghost use Rattle.ls_elaboration.specs.Tables.{texts_of};
-ghost use Rattle.ls_elaboration.specs.SignViews.{met_of, classes_of, seen_classes, seen_names, seen_types};
-ghost use Rattle.ls_elaboration.specs.Answers.{seen};
+ghost use Rattle.ls_elaboration.specs.SignViews.{met_of, classes_of};
+ghost use Rattle.ls_elaboration.specs.Answers.{Gives, seen};
 
 use crate::known::{ClassSign, MethodSign};
-use crate::rule::{Broken, Rule, broken_at};
-use crate::scope::{MOST_SLOTS, result_of, type_of};
+use crate::rule::{Broken, Refusal, Rule, broken_at, refused_at};
+use crate::type_names::{result_of, type_of};
 use indexmap::{IndexMap, IndexSet};
 use ls_events::value::ValueType;
 use ls_tree::tree::{Class, Declaration, Declarator, Member, Name, Parameter};
-use std::alloc::{AllocError, Global};
+use std::alloc::Global;
 
 pub const MOST_CLASSES: usize = 64;
 
@@ -23,6 +23,9 @@ pub const MOST_FIELDS: usize = 64;
 
 /// The most methods and constructors of a file, default ones too.
 pub const MOST_METHODS: usize = 512;
+
+/// The most slots of a method: `this`, parameters and locals.
+pub const MOST_SLOTS: usize = 128;
 
 /// What has been met of a class, and the number of the next method or constructor.
 #[derive(Drop)]
@@ -51,39 +54,32 @@ fn is_reserved(name: &str) -> bool
 }
 
 // One more class's name.
-fn one_name(
-    alloc: Global,
-    names: &mut IndexSet<String>,
-    c: &Class,
-) -> Result<Result<(), Broken>, AllocError>
-    ensures { IfOk result (λ r. seen (λ u. texts_of names.new) r ≡ the_one_name (texts_of names.old) (placed_class c.now)) }
+fn one_name(alloc: Global, names: &mut IndexSet<String>, c: &Class) -> Result<(), Refusal>
+    ensures { Gives (λ u. texts_of names.new) result (the_one_name (texts_of names.old) (placed_class c.now)) }
 {
     let name = c.name.text.as_str();
     if is_reserved(name) {
-        return Ok(Err(broken_at(Rule::ReservedClass, c.name.span)));
+        return Err(refused_at(Rule::ReservedClass, c.name.span));
     }
     if names.contains(name) {
-        return Ok(Err(broken_at(Rule::TwiceDeclared, c.name.span)));
+        return Err(refused_at(Rule::TwiceDeclared, c.name.span));
     }
     if names.len() >= MOST_CLASSES {
-        return Ok(Err(broken_at(Rule::Limit, c.name.span)));
+        return Err(refused_at(Rule::Limit, c.name.span));
     }
     names.insert(String::from_str(alloc, name)?)?;
-    Ok(Ok(()))
+    Ok(())
 }
 
 /// The names of the classes.
-pub fn class_names(
-    alloc: Global,
-    classes: &[Class],
-) -> Result<Result<IndexSet<String>, Broken>, AllocError>
-    ensures { IfOk result (λ r. seen_names r ≡ the_class_names (map placed_class classes.now)) }
+pub fn class_names(alloc: Global, classes: &[Class]) -> Result<IndexSet<String>, Refusal>
+    ensures { Gives texts_of result (the_class_names (map placed_class classes.now)) }
 {
     let mut names = IndexSet::new(alloc);
     for c in classes {
-        kept!(one_name(alloc, &mut names, c)?);
+        one_name(alloc, &mut names, c)?;
     }
-    Ok(Ok(names))
+    Ok(names)
 }
 
 // The types of parameters, which have room beside `this`.
@@ -92,36 +88,31 @@ fn parameter_types(
     names: &IndexSet<String>,
     n: &Name,
     ps: &[Parameter],
-) -> Result<Result<Vec<ValueType>, Broken>, AllocError>
-    ensures { IfOk result (λ r. seen_types r ≡ the_parameter_types (texts_of names.now) (placed_name n.now) (map placed_parameter ps.now)) }
+) -> Result<Vec<ValueType>, Refusal>
+    ensures { Gives (λ v. v.items) result (the_parameter_types (texts_of names.now) (placed_name n.now) (map placed_parameter ps.now)) }
 {
     if ps.len() >= MOST_SLOTS {
-        return Ok(Err(broken_at(Rule::Limit, n.span)));
+        return Err(refused_at(Rule::Limit, n.span));
     }
     let mut types = Vec::new(alloc);
     for p in ps {
-        types.push(kept!(type_of(names, &p.type_name)))?;
+        types.push(type_of(names, &p.type_name)?)?;
     }
-    Ok(Ok(types))
+    Ok(types)
 }
 
-fn field_met(
-    alloc: Global,
-    t: ValueType,
-    met: &mut Met,
-    d: &Declarator,
-) -> Result<Result<(), Broken>, AllocError>
-    ensures { IfOk result (λ r. seen (λ u. met_of met.new) r ≡ the_field_met t (met_of met.old) (placed_declarator d.now)) }
+fn field_met(alloc: Global, t: ValueType, met: &mut Met, d: &Declarator) -> Result<(), Refusal>
+    ensures { Gives (λ u. met_of met.new) result (the_field_met t (met_of met.old) (placed_declarator d.now)) }
 {
     let name = d.name.text.as_str();
     if met.fields.contains_key(name) {
-        return Ok(Err(broken_at(Rule::TwiceDeclared, d.name.span)));
+        return Err(refused_at(Rule::TwiceDeclared, d.name.span));
     }
     if met.fields.len() >= MOST_FIELDS {
-        return Ok(Err(broken_at(Rule::Limit, d.name.span)));
+        return Err(refused_at(Rule::Limit, d.name.span));
     }
     met.fields.insert(String::from_str(alloc, name)?, t)?;
-    Ok(Ok(()))
+    Ok(())
 }
 
 fn method_met(
@@ -130,15 +121,15 @@ fn method_met(
     n: &Name,
     types: Vec<ValueType>,
     answers: Option<ValueType>,
-) -> Result<Result<(), Broken>, AllocError>
-    ensures { IfOk result (λ r. seen (λ u. met_of met.new) r ≡ the_method_met (met_of met.old) (placed_name n.now) types.items answers) }
+) -> Result<(), Refusal>
+    ensures { Gives (λ u. met_of met.new) result (the_method_met (met_of met.old) (placed_name n.now) types.items answers) }
 {
     let name = n.text.as_str();
     if met.methods.contains_key(name) {
-        return Ok(Err(broken_at(Rule::TwiceDeclared, n.span)));
+        return Err(refused_at(Rule::TwiceDeclared, n.span));
     }
     if met.next >= MOST_METHODS {
-        return Ok(Err(broken_at(Rule::Limit, n.span)));
+        return Err(refused_at(Rule::Limit, n.span));
     }
     let sign = MethodSign {
         number: met.next,
@@ -147,7 +138,7 @@ fn method_met(
     };
     met.methods.insert(String::from_str(alloc, name)?, sign)?;
     met.next += 1;
-    Ok(Ok(()))
+    Ok(())
 }
 
 // A constructor, which has the name of its class.
@@ -179,15 +170,15 @@ fn fields_met(
     names: &IndexSet<String>,
     met: &mut Met,
     d: &Declaration,
-) -> Result<Result<(), Broken>, AllocError>
-    ensures { IfOk result (λ r. seen (λ u. met_of met.new) r ≡ the_fields_met (texts_of names.now) (met_of met.old) (placed_declaration d.now)) }
+) -> Result<(), Refusal>
+    ensures { Gives (λ u. met_of met.new) result (the_fields_met (texts_of names.now) (met_of met.old) (placed_declaration d.now)) }
 {
-    let t = kept!(type_of(names, &d.type_name));
-    kept!(field_met(alloc, t, met, &d.first)?);
+    let t = type_of(names, &d.type_name)?;
+    field_met(alloc, t, met, &d.first)?;
     for d in &d.more {
-        kept!(field_met(alloc, t, met, d)?);
+        field_met(alloc, t, met, d)?;
     }
-    Ok(Ok(()))
+    Ok(())
 }
 
 fn member_met(
@@ -196,31 +187,27 @@ fn member_met(
     class: &Name,
     met: &mut Met,
     m: &Member,
-) -> Result<Result<(), Broken>, AllocError>
-    ensures { IfOk result (λ r. seen (λ u. met_of met.new) r ≡ the_member_met (texts_of names.now) (string_bytes class.now.text) (met_of met.old) (placed_member m.now)) }
+) -> Result<(), Refusal>
+    ensures { Gives (λ u. met_of met.new) result (the_member_met (texts_of names.now) (string_bytes class.now.text) (met_of met.old) (placed_member m.now)) }
 {
     match m {
         Member::Field(d) => fields_met(alloc, names, met, d),
         Member::Method(m) => {
-            let answers = kept!(result_of(names, &m.result));
-            let types = kept!(parameter_types(alloc, names, &m.name, &m.parameters)?);
+            let answers = result_of(names, &m.result)?;
+            let types = parameter_types(alloc, names, &m.name, &m.parameters)?;
             method_met(alloc, met, &m.name, types, answers)
         }
         Member::Constructor(c) => {
-            let types = kept!(parameter_types(alloc, names, &c.name, &c.parameters)?);
-            Ok(constructor_met(class, met, &c.name, types))
+            let types = parameter_types(alloc, names, &c.name, &c.parameters)?;
+            constructor_met(class, met, &c.name, types)?;
+            Ok(())
         }
     }
 }
 
 // A class that is met whole, behind those before it.
-fn class_met(
-    alloc: Global,
-    classes: &mut Classes,
-    n: &Name,
-    met: Met,
-) -> Result<Result<(), Broken>, AllocError>
-    ensures { IfOk result (λ r. seen (λ u. classes_of classes.new) r ≡ the_class_met (classes_of classes.old) (placed_name n.now) (met_of met) met.constructor) }
+fn class_met(alloc: Global, classes: &mut Classes, n: &Name, met: Met) -> Result<(), Refusal>
+    ensures { Gives (λ u. classes_of classes.new) result (the_class_met (classes_of classes.old) (placed_name n.now) (met_of met) met.constructor) }
 {
     let Met {
         fields,
@@ -238,11 +225,11 @@ fn class_met(
                 parameters,
             })?;
             classes.next = next;
-            Ok(Ok(()))
+            Ok(())
         }
         None => {
             if next >= MOST_METHODS {
-                return Ok(Err(broken_at(Rule::Limit, n.span)));
+                return Err(refused_at(Rule::Limit, n.span));
             }
             classes.signs.push(ClassSign {
                 fields,
@@ -251,7 +238,7 @@ fn class_met(
                 parameters: Vec::new(alloc),
             })?;
             classes.next = next + 1;
-            Ok(Ok(()))
+            Ok(())
         }
     }
 }
@@ -273,12 +260,12 @@ fn one_class(
     names: &IndexSet<String>,
     classes: &mut Classes,
     c: &Class,
-) -> Result<Result<(), Broken>, AllocError>
-    ensures { IfOk result (λ r. seen (λ u. classes_of classes.new) r ≡ the_one_class (texts_of names.now) (classes_of classes.old) (placed_class c.now)) }
+) -> Result<(), Refusal>
+    ensures { Gives (λ u. classes_of classes.new) result (the_one_class (texts_of names.now) (classes_of classes.old) (placed_class c.now)) }
 {
     let mut met = nothing_met(alloc, classes.next);
     for m in &c.members {
-        kept!(member_met(alloc, names, &c.name, &mut met, m)?);
+        member_met(alloc, names, &c.name, &mut met, m)?;
     }
     class_met(alloc, classes, &c.name, met)
 }
@@ -288,15 +275,15 @@ pub fn class_signs(
     alloc: Global,
     names: &IndexSet<String>,
     all: &[Class],
-) -> Result<Result<Classes, Broken>, AllocError>
-    ensures { IfOk result (λ r. seen_classes r ≡ the_class_signs (texts_of names.now) (map placed_class all.now)) }
+) -> Result<Classes, Refusal>
+    ensures { Gives classes_of result (the_class_signs (texts_of names.now) (map placed_class all.now)) }
 {
     let mut classes = Classes {
         signs: Vec::new(alloc),
         next: 0,
     };
     for c in all {
-        kept!(one_class(alloc, names, &mut classes, c)?);
+        one_class(alloc, names, &mut classes, c)?;
     }
-    Ok(Ok(classes))
+    Ok(classes)
 }

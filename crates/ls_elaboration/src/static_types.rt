@@ -1,6 +1,6 @@
 // Types of expressions, and what fits where.
 
-ghost use Rattle.std.specs.Prelude.{◌≡◌};
+ghost use Rattle.std.specs.Prelude.{◌≡◌, Ok};
 ghost use Rattle.ls_checked.specs.Plain.{plain};
 ghost use Rattle.ls_elaboration.specs.StaticTypes.{fits as the_fits, same_type as the_same_type, is_reference as the_reference, comparable as the_comparable, typed_as as typing, as_type as the_as_type, as_value as the_as_value, is_void as the_void, is_array as the_array, as_array as the_as_array, result_type as the_result_type};
 ghost use Rattle.ls_elaboration.specs.Answers.{typed_of, seen_typed, seen_plain};
@@ -121,13 +121,13 @@ pub fn as_array(span: Span, x: Typed) -> Result<Expression, Broken>
 }
 
 /// An expression of a type.
-pub fn typed_as(t: ValueType, expression: Expression) -> Result<Typed, Broken>
-    ensures { seen_typed result ≡ typing t (plain expression) }
+pub fn typed_as(t: ValueType, expression: Expression) -> Typed
+    ensures { typing t (plain expression) ≡ Ok (typed_of result) }
 {
-    Ok(Typed {
+    Typed {
         expression,
         of: Static::Of(t),
-    })
+    }
 }
 
 /// The type of a call.

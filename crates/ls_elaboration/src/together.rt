@@ -1,7 +1,6 @@
 // Steps on values of any type. What is owned while something else may fail is dropped here, at a parameter's type.
 
-ghost use Rattle.std.specs.Prelude.{◌≡◌, ◌∷◌, ◌++◌, [], Err, IfErr, IfOk, Ok, if◌then◌else◌};
-ghost use Rattle.std.specs.Result.{result_ok};
+ghost use Rattle.std.specs.Prelude.{◌≡◌, ◌∷◌, ◌++◌, [], Err, IfOk, Ok, if◌then◌else◌};
 ghost use Rattle.ls_elaboration.specs.Answers.{seen};
 
 use crate::rule::Broken;
@@ -38,49 +37,14 @@ pub fn with_box<T: Drop, U: Drop>(
     Ok((first, value))
 }
 
-/// What is there, with what comes next.
-pub fn also<T: Drop, U: Drop>(first: T, next: Result<U, AllocError>) -> Result<(T, U), AllocError>
-    ensures next { IfOk result (λ p. next ≡ Ok p.1) }
-    ensures first { IfOk result (λ p. p.0 ≡ first) }
-{
-    let next = next?;
-    Ok((first, next))
-}
-
-/// What is there, with what a test answers.
-pub fn with<T: Drop, U: Drop>(first: T, next: Result<U, Broken>) -> Result<(T, U), Broken>
+/// What is there, with what comes next, unless that is refused.
+pub fn also<T: Drop, U: Drop, E: Drop>(first: T, next: Result<U, E>) -> Result<(T, U), E>
     ensures next { next ≡ seen (λ p. p.1) result }
     ensures first { IfOk result (λ p. p.0 ≡ first) }
 {
     match next {
         Ok(next) => Ok((first, next)),
-        Err(broken) => Err(broken),
-    }
-}
-
-/// What is there, with what comes next, unless a rule is broken there.
-pub fn beside<T: Drop, U: Drop>(
-    first: T,
-    next: Result<Result<U, Broken>, AllocError>,
-) -> Result<Result<(T, U), Broken>, AllocError>
-    ensures next { IfOk result (λ r. next ≡ Ok (seen (λ p. p.1) r)) }
-    ensures first { IfOk result (λ r. IfOk r (λ p. p.0 ≡ first)) }
-{
-    let next = kept!(next?);
-    Ok(Ok((first, next)))
-}
-
-/// What is found, or the rule that is broken where nothing is.
-pub fn found<T: Drop>(
-    sought: Result<Option<T>, AllocError>,
-    missing: Broken,
-) -> Result<Result<T, Broken>, AllocError>
-    ensures found { IfOk result (λ r. sought ≡ Ok (result_ok r)) }
-    ensures missing { IfOk result (λ r. IfErr r (λ b. b ≡ missing)) }
-{
-    match sought? {
-        None => Ok(Err(missing)),
-        Some(x) => Ok(Ok(x)),
+        Err(refused) => Err(refused),
     }
 }
 

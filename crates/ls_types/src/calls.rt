@@ -12,8 +12,8 @@ ghost use Rattle.ls_types.specs.ProgramViews.{callee_of, pending_of, reads_pendi
 use crate::check::Checked;
 use crate::fault::ProgramFault;
 use ls_checked::program::{ProgramCall, SetupName};
-use ls_elaboration::expressions::digits_of;
 use ls_elaboration::known::{MethodSign, method_named, number_of as class_number};
+use ls_elaboration::numbers::digits_of;
 use ls_events::value::{Value, ValueType};
 use std::alloc::{AllocError, Global};
 

@@ -8,8 +8,8 @@ ghost use Rattle.ls_elaboration.specs.Tables.{texts_of, class_sign_of};
 
 use indexmap::IndexSet;
 use ls_checked::tree::File;
-use ls_elaboration::elaboration::Outcome;
 use ls_elaboration::known::ClassSign;
+use ls_elaboration::outcome::Outcome;
 use ls_lexer::token::Span;
 use ls_tree::tree::ClassFile;
 use std::alloc::AllocError;

@@ -6,8 +6,8 @@ ghost use Rattle.ls_elaboration.specs.PlacedStatements.{placed_file};
 ghost use Rattle.ls_types.specs.CheckedFile.{parsed_of, outcome_of, Names};
 
 use crate::check::{CheckFault, Checked};
-use ls_elaboration::elaboration::elaborate;
-use ls_elaboration::rule::{Broken, Rule};
+use ls_elaborate::elaboration::elaborate;
+use ls_elaboration::rule::{Broken, Refusal, Rule};
 use ls_tree::tree::ClassFile;
 use std::alloc::Global;
 
@@ -35,8 +35,9 @@ pub fn check(alloc: Global, parsed: ClassFile) -> Result<Checked, CheckFault>
     ensures checked { IfOk result (λ c. elaborated (placed_file parsed) ≡ Ok (outcome_of c)) }
     ensures refused { IfErr result (λ e. Names e (elaborated (placed_file parsed))) }
 {
-    match elaborate(alloc, &parsed)? {
+    match elaborate(alloc, &parsed) {
         Ok(outcome) => Ok(Checked::new(parsed, outcome)),
-        Err(b) => Err(fault_of(b)),
+        Err(Refusal::Memory) => Err(CheckFault::Memory),
+        Err(Refusal::Broken(b)) => Err(fault_of(b)),
     }
 }

@@ -5,11 +5,11 @@ use Rattle.ls_elaboration.proofs.signs.field_met.Goals as goal
 
 pub returns-then-contains_key : goal.returns-then-contains_key
 returns-then-contains_key c =
-    let e = field_twice c.args.t c.args.met.now (placed_declarator c.args.d.now) (search rules) in cc
+    let e = field_twice c.args.t c.args.met.now (placed_declarator c.args.d.now) (search rules) in search rules
 
 pub returns-then-len-ge-MOST_FIELDS : goal.returns-then-len-ge-MOST_FIELDS
 returns-then-len-ge-MOST_FIELDS c =
-    let e = field_over c.args.t c.args.met.now (placed_declarator c.args.d.now) (search rules) (search rules) in cc
+    let e = field_over c.args.t c.args.met.now (placed_declarator c.args.d.now) (search rules) (search rules) in search rules
 
 pub returns : goal.returns
 returns c =

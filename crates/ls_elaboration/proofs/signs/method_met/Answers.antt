@@ -5,11 +5,11 @@ use Rattle.ls_elaboration.proofs.signs.method_met.Goals as goal
 
 pub returns-then-contains_key : goal.returns-then-contains_key
 returns-then-contains_key c =
-    let e = method_twice c.args.met.now (placed_name c.args.n.now) c.args.types c.args.answers (search rules) in cc
+    let e = method_twice c.args.met.now (placed_name c.args.n.now) c.args.types c.args.answers (search rules) in search rules
 
 pub returns-then-met-ge-MOST_METHODS : goal.returns-then-met-ge-MOST_METHODS
 returns-then-met-ge-MOST_METHODS c =
-    let e = method_over c.args.met.now (placed_name c.args.n.now) c.args.types c.args.answers (search rules) c.if-met-ge-MOST_METHODS.true in cc
+    let e = method_over c.args.met.now (placed_name c.args.n.now) c.args.types c.args.answers (search rules) c.if-met-ge-MOST_METHODS.true in search rules
 
 pub returns : goal.returns
 returns c =

@@ -5,11 +5,11 @@ use Rattle.ls_elaboration.proofs.signs.one_name.Goals as goal
 
 pub returns-then-contains : goal.returns-then-contains
 returns-then-contains c =
-    let e = name_twice c.args.names.now.keys (placed_class c.args.c.now) (search rules) (search rules) in cc
+    let e = name_twice c.args.names.now.keys (placed_class c.args.c.now) (search rules) (search rules) in search rules
 
 pub returns-then-len-ge-MOST_CLASSES : goal.returns-then-len-ge-MOST_CLASSES
 returns-then-len-ge-MOST_CLASSES c =
-    let e = name_over c.args.names.now.keys (placed_class c.args.c.now) (search rules) (search rules) (search rules) in cc
+    let e = name_over c.args.names.now.keys (placed_class c.args.c.now) (search rules) (search rules) (search rules) in search rules
 
 pub returns : goal.returns
 returns c =

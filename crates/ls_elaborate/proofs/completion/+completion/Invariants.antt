@@ -1,0 +1,11 @@
+use Rattle.std.proofs.Common.{◌≡◌, ◌&&◌, ◌++◌, drop, map}
+use Rattle.ls_checked.specs.Plain.{plain_statement}
+use Rattle.ls_elaboration.specs.TypedStatements.{sequence}
+use Rattle.ls_elaborate.specs.Left.{all_left}
+use Rattle.ls_completion.specs.Completion.{all_complete}
+use Rattle.ls_elaborate.proofs.completion.+completion.Given as goal
+
+abbrev pub invariant-all_ways-loop-s : goal.invariant-all_ways-loop-s
+invariant-all_ways-loop-s l =
+    ((l.completes && all_complete (sequence (map plain_statement (drop l.s-index l.ss)))) ≡ all_complete (sequence (map plain_statement l.ss)))
+    × (l.left.items ++ all_left (sequence (map plain_statement (drop l.s-index l.ss))) ≡ all_left (sequence (map plain_statement l.ss)))

@@ -1,0 +1,15 @@
+use Rattle.std.proofs.Common.{◌≡◌, ◌≤◌, drop, map, vec_len}
+use Rattle.ls_elaboration.specs.Elaborated.{each}
+use Rattle.ls_elaboration.specs.TypedMethods.{parameter}
+use Rattle.ls_elaboration.specs.PlacedStatements.{placed_parameter}
+use Rattle.ls_elaborate.specs.ScopeViews.{body_of, scope_of}
+use Rattle.ls_elaborate.proofs.methods.parameters.Given as goal
+
+abbrev pub invariant-loop-p : goal.invariant-loop-p
+invariant-loop-p l =
+    record {
+      room : vec_len l.scope.slots ≤ 128;
+      same :
+          each (parameter (body_of l.context)) (scope_of l.scope) (map placed_parameter (drop l.p-index l.ps))
+          ≡ each (parameter (body_of l.context)) (scope_of l.initial.scope) (map placed_parameter l.ps);
+    }

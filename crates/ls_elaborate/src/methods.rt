@@ -1,0 +1,303 @@
+// Methods, constructors and field initialisers.
+
+ghost use Rattle.std.specs.Prelude.{◌≡◌, ◌≤◌, ◌&&◌, ◌∷◌, [], IfOk, is_some, map, option_map, vec_len};
+ghost use Rattle.ls_events.specs.declared.value.ValueType.TheVariants.{Class as class_type};
+ghost use Rattle.ls_checked.specs.CheckedTree.{Method as checked_method};
+ghost use Rattle.ls_completion.specs.Completion.{all_complete as the_all_complete};
+ghost use Rattle.ls_elaboration.specs.declared.rule.Rule.TheVariants.{MissingReturn};
+ghost use Rattle.ls_elaboration.specs.Answers.{Gives, Leads};
+ghost use Rattle.ls_elaboration.specs.TypedStatements.{sequence};
+ghost use Rattle.ls_checked.specs.Plain.{plain_statement, plain_method};
+ghost use Rattle.ls_elaboration.specs.Elaborated.{Elaborated, each, unless_broken};
+ghost use Rattle.ls_elaboration.specs.TypedMethods.{parameter as the_parameter, declarator_set as the_declarator_set, member_set as the_member_set, initialisers as the_initialisers, method as the_method, written_method as the_written_method, written_constructor as the_written_constructor, one_method as the_one_method, has_constructor as the_has_constructor, default_constructor as the_default_constructor, class_methods as the_class_methods};
+ghost use Rattle.ls_elaboration.specs.Placed.{placed_name};
+ghost use Rattle.ls_elaboration.specs.PlacedStatements.{placed_parameter, placed_declarator, placed_member, placed_items, placed_type};
+ghost use Rattle.ls_elaboration.specs.Tables.{known_of};
+ghost use Rattle.ls_elaborate.specs.ScopeViews.{body_of, scope_of};
+
+use crate::completion::all_complete;
+use crate::expressions::fitting;
+use crate::scope::{Context, Scope, may_declare, with_variable};
+use crate::site::Site;
+use crate::statements::{Round, all_items, block_of};
+use ls_checked::tree::{Expression, Method, Statement};
+use ls_elaboration::known::{Known, field_of};
+use ls_elaboration::rule::{Refusal, Rule, refused_at};
+use ls_elaboration::together::{also, push};
+use ls_elaboration::type_names::{result_of, type_of};
+use ls_events::value::ValueType;
+use ls_lexer::token::Span;
+use ls_tree::tree::{
+    BlockItem, Constructor, Declarator, Member, Method as MethodText, Name, Parameter,
+};
+use std::alloc::{AllocError, Global};
+
+// One more parameter in scope.
+fn parameter<'t>(context: Context, scope: Scope<'t>, p: &'t Parameter) -> Result<Scope<'t>, Refusal>
+    requires { vec_len scope.slots ≤ 128 }
+    ensures found { Gives scope_of result (the_parameter (body_of context.entry) (scope_of scope.entry) (placed_parameter p.entry.now)) }
+    ensures low { IfOk result (λ s. vec_len s.slots ≤ 128) }
+{
+    let may = may_declare(context.span, &scope, &p.name);
+    let (scope, _) = also(scope, may)?;
+    let (scope, t) = also(scope, type_of(context.known.names, &p.type_name))?;
+    Ok(with_variable(scope, p.name.text.as_str(), t)?)
+}
+
+fn parameters<'t>(
+    context: Context,
+    before: Scope<'t>,
+    ps: &'t [Parameter],
+) -> Result<Scope<'t>, Refusal>
+    requires { vec_len before.slots ≤ 128 }
+    ensures found { Gives scope_of result (each (the_parameter (body_of context.entry)) (scope_of before.entry) (map placed_parameter ps.entry.now)) }
+    ensures low { IfOk result (λ s. vec_len s.slots ≤ 128) }
+{
+    let mut scope = before;
+    for p in ps {
+        scope = parameter(context, scope, p)?;
+    }
+    Ok(scope)
+}
+
+// The initialiser of a field, where it has one, behind those before it.
+fn declarator_set(
+    alloc: Global,
+    known: Known,
+    front: Vec<Statement>,
+    d: &Declarator,
+) -> Result<Vec<Statement>, Refusal>
+    ensures { Gives (λ v. map plain_statement v.items) result (the_declarator_set (known_of known.entry) (map plain_statement front.items) (placed_declarator d.now)) }
+{
+    match (field_of(known, known.own, d.name.text.as_str()), &d.value) {
+        (Some(f), Some(e)) => {
+            let site = Site {
+                alloc,
+                known,
+                locals: &[],
+            };
+            let value = fitting(site, f.value_type, e);
+            let (front, value) = also(front, value)?;
+            let s = Statement::SetField {
+                target: Expression::Slot(0),
+                field: f.number,
+                value,
+            };
+            Ok(push(front, s)?)
+        }
+        (None, _) => Ok(front),
+        (Some(_), None) => Ok(front),
+    }
+}
+
+fn member_set(
+    alloc: Global,
+    known: Known,
+    before: Vec<Statement>,
+    m: &Member,
+) -> Result<Vec<Statement>, Refusal>
+    ensures { Gives (λ v. map plain_statement v.items) result (the_member_set (known_of known.entry) (map plain_statement before.items) (placed_member m.now)) }
+{
+    match m {
+        Member::Field(d) => {
+            let mut front = declarator_set(alloc, known, before, &d.first)?;
+            for d in &d.more {
+                front = declarator_set(alloc, known, front, d)?;
+            }
+            Ok(front)
+        }
+        Member::Method(_) => Ok(before),
+        Member::Constructor(_) => Ok(before),
+    }
+}
+
+// The initialisers of a class's fields, as assignments in text order.
+fn initialisers(alloc: Global, known: Known, members: &[Member]) -> Result<Vec<Statement>, Refusal>
+    ensures { Gives (λ v. map plain_statement v.items) result (the_initialisers (known_of known.entry) (map placed_member members.now)) }
+{
+    let mut front = Vec::new(alloc);
+    for m in members {
+        front = member_set(alloc, known, front, m)?;
+    }
+    Ok(front)
+}
+
+// The slot of `this`.
+fn first_slot(alloc: Global, known: Known) -> Result<Vec<ValueType>, AllocError>
+    ensures { IfOk result (λ v. v.items ≡ class_type known.entry.own ∷ []) }
+{
+    let mut slots = Vec::new(alloc);
+    slots.push(ValueType::Class(known.own))?;
+    Ok(slots)
+}
+
+// Whether a method that answers a value can't complete without one.
+fn answered(
+    alloc: Global,
+    answers: Option<ValueType>,
+    body: &[Statement],
+    span: Span,
+) -> Result<(), Refusal>
+    ensures { (go : Elaborated checked_method) → Leads (λ u. u) (λ u. go) result (unless_broken (is_some answers && the_all_complete (sequence (map plain_statement body.now))) MissingReturn span go) }
+{
+    if answers.is_some() && all_complete(alloc, body)? {
+        return Err(refused_at(Rule::MissingReturn, span));
+    }
+    Ok(())
+}
+
+// A method or constructor, whose body begins with the statements of `front`.
+fn method<'t>(
+    alloc: Global,
+    known: Known,
+    answers: Option<ValueType>,
+    name: &Name,
+    ps: &'t [Parameter],
+    front: Vec<Statement>,
+    items: &'t [BlockItem],
+) -> Result<Method, Refusal>
+    ensures { Gives plain_method result (the_method (known_of known.entry) answers (placed_name name.now) (map placed_parameter ps.entry.now) (map plain_statement front.items) (placed_items items.entry.now)) }
+{
+    let context = Context {
+        alloc,
+        known,
+        result: answers,
+        span: name.span,
+    };
+    let (front, slots) = also(front, first_slot(alloc, known))?;
+    let scope = Scope {
+        statements: front,
+        locals: Vec::new(alloc),
+        slots,
+    };
+    let scope = parameters(context, scope, ps)?;
+    let scope = all_items(
+        Round {
+            context,
+            loops: &[],
+        },
+        scope,
+        items,
+    )?;
+    let answered = answered(alloc, answers, &scope.statements, name.span);
+    let (scope, _) = also(scope, answered)?;
+    Ok(Method {
+        class: known.own,
+        parameters: ps.len(),
+        slots: scope.slots,
+        result: answers,
+        body: block_of(scope.statements),
+    })
+}
+
+fn written_method(alloc: Global, known: Known, m: &MethodText) -> Result<Method, Refusal>
+    ensures { Gives plain_method result (the_written_method (known_of known.entry) (option_map placed_type m.now.result) (placed_name m.now.name) (map placed_parameter m.now.parameters.items) (placed_items m.now.body.items.items)) }
+{
+    let answers = result_of(known.names, &m.result)?;
+    method(
+        alloc,
+        known,
+        answers,
+        &m.name,
+        &m.parameters,
+        Vec::new(alloc),
+        &m.body.items,
+    )
+}
+
+fn written_constructor(
+    alloc: Global,
+    known: Known,
+    members: &[Member],
+    c: &Constructor,
+) -> Result<Method, Refusal>
+    ensures { Gives plain_method result (the_written_constructor (known_of known.entry) (map placed_member members.now) (placed_name c.now.name) (map placed_parameter c.now.parameters.items) (placed_items c.now.body.items.items)) }
+{
+    let front = initialisers(alloc, known, members)?;
+    method(
+        alloc,
+        known,
+        None,
+        &c.name,
+        &c.parameters,
+        front,
+        &c.body.items,
+    )
+}
+
+// A method or constructor behind those before it.
+fn one_method(
+    alloc: Global,
+    known: Known,
+    members: &[Member],
+    before: Vec<Method>,
+    m: &Member,
+) -> Result<Vec<Method>, Refusal>
+    ensures { Gives (λ v. map plain_method v.items) result (the_one_method (known_of known.entry) (map placed_member members.now) (map plain_method before.items) (placed_member m.now)) }
+{
+    match m {
+        Member::Field(_) => Ok(before),
+        Member::Method(m) => {
+            let m = written_method(alloc, known, m);
+            let (methods, m) = also(before, m)?;
+            Ok(push(methods, m)?)
+        }
+        Member::Constructor(c) => {
+            let m = written_constructor(alloc, known, members, c);
+            let (methods, m) = also(before, m)?;
+            Ok(push(methods, m)?)
+        }
+    }
+}
+
+fn has_constructor(members: &[Member]) -> bool
+    ensures { result ≡ the_has_constructor (map placed_member members.now) }
+{
+    for m in members {
+        if let Member::Constructor(_) = m {
+            return true;
+        }
+    }
+    false
+}
+
+// The constructor of a class that is written with none.
+fn default_constructor(
+    alloc: Global,
+    known: Known,
+    members: &[Member],
+    before: Vec<Method>,
+) -> Result<Vec<Method>, Refusal>
+    ensures { Gives (λ v. map plain_method v.items) result (the_default_constructor (known_of known.entry) (map placed_member members.now) (map plain_method before.items)) }
+{
+    if has_constructor(members) {
+        return Ok(before);
+    }
+    let front = initialisers(alloc, known, members);
+    let (methods, front) = also(before, front)?;
+    let ((methods, front), slots) = also((methods, front), first_slot(alloc, known))?;
+    let made = Method {
+        class: known.own,
+        parameters: 0,
+        slots,
+        result: None,
+        body: block_of(front),
+    };
+    Ok(push(methods, made)?)
+}
+
+/// The methods and constructors of a class, in text order, behind those of the classes before it.
+pub fn class_methods(
+    alloc: Global,
+    known: Known,
+    before: Vec<Method>,
+    members: &[Member],
+) -> Result<Vec<Method>, Refusal>
+    ensures { Gives (λ v. map plain_method v.items) result (the_class_methods (known_of known.entry) (map plain_method before.items) (map placed_member members.now)) }
+{
+    let mut methods = before;
+    for m in members {
+        methods = one_method(alloc, known, members, methods, m)?;
+    }
+    default_constructor(alloc, known, members, methods)
+}
