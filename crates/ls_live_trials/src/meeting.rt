@@ -1,0 +1,87 @@
+// Two threads that really run at one time.
+
+ghost use Rattle.ls_code.specs.Machine.{loaded};
+ghost use Rattle.ls_compiler.specs.Images.{code_of_image};
+ghost use Rattle.std.specs.Prelude.{◌≡◌, length};
+
+use crate::gates::Meeting;
+use crate::texts::{LAZY_LIST, TWO_ADD};
+use ls_compiler::compile::compile;
+use ls_compiler::image::Image;
+use ls_events::event::{Event, Happening};
+use ls_events::value::Value;
+use ls_live::{Gate, Live, Session, run_live};
+use ls_schedule::{Record, replay};
+use std::alloc::Global;
+use std::marker::Brand;
+use std::sync::Wait;
+use std::sync::ledger::Blank;
+use std::test::Fail;
+use std::thread::Threads;
+
+const CELLS: usize = 1000;
+
+const LIMIT: usize = 1_000_000;
+
+// The record of a live run, where no seat disagrees, and how many steps each seat made.
+fn run_counted<L: Session + Send + Sync, G: Gate + Sync, R: Threads + Wait + Sync>(
+    rt: &R,
+    alloc: Global,
+    blank: Blank,
+    image: &Image,
+    gate: &G,
+) -> Result<Option<(Record, Vec<u64>)>, Fail>
+    requires name { blank.name ≡ L.name }
+    requires parts { blank.parts ≡ L.parts }
+    requires seats { (L.seats ≡ L.parts) × (L.seats ≡ length (code_of_image image.now).starts) }
+    requires start { L.start ≡ loaded (code_of_image image.now) CELLS }
+    requires limit { L.limit ≡ LIMIT }
+{
+    let (live, seats) = match Live::<L>::open(alloc, blank, image, CELLS, LIMIT) {
+        Ok(opened) => opened,
+        Err(fault) => return Err(Fail::from(fault)),
+    };
+    let Ok((live, worked)) = run_live(rt, live, seats, gate) else {
+        return Ok(None);
+    };
+    let mut counts = Vec::new(alloc);
+    for seat in &worked {
+        counts.push(seat.steps())?;
+    }
+    match live.close(worked) {
+        Ok(record) => Ok(Some((record, counts))),
+        Err(_) => Ok(None),
+    }
+}
+
+// Whether the call of the thread returned true.
+fn has_returned_true(history: &[Event], thread: usize, call: usize) -> bool {
+    let wanted = Event {
+        thread,
+        call,
+        happening: Happening::Returned(Some(Value::Boolean(true))),
+    };
+    history.iter().any(|event| *event == wanted)
+}
+
+#[test]
+fn two_threads_meet(rt: HostRuntime) -> Result<(), Fail> {
+    let alloc = rt.alloc();
+    let gate = Meeting::new();
+    let image = compile(alloc, LAZY_LIST, TWO_ADD)?;
+    let blank = Blank::new(image.code().starts().len() as u64);
+    let run = run_counted::<Brand, Meeting, HostRuntime>(&rt, alloc, blank, &image, &gate)?;
+    let (record, counts) = run.ok_or("a seat disagrees")?;
+    assert_eq!(rt; gate.left_by_turns(), 0);
+    for (thread, count) in counts.iter().enumerate() {
+        let steps = record.schedule().steps();
+        let entries = steps.iter().filter(|step| **step == thread).count();
+        assert_eq!(rt; entries as u64, *count);
+    }
+    let again = replay(alloc, &image, CELLS, record.schedule())?;
+    assert!(rt; again.history() == record.history());
+    for (thread, call) in [(1, 1), (2, 1), (2, 2)] {
+        assert!(rt; has_returned_true(record.history(), thread, call));
+    }
+    Ok(())
+}
