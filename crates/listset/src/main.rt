@@ -26,6 +26,7 @@ fn main(rt: HostRuntime) -> ExitCode {
     let mut output = rt.stdout();
     let mut errors = rt.stderr();
     ExitCode::from(ls_tool::run(
+        &rt,
         rt.alloc(),
         words.as_slice(),
         &mut input,

@@ -9,4 +9,6 @@ mod compiling;
 #[cfg(test)]
 mod schedules;
 #[cfg(test)]
+mod sharing;
+#[cfg(test)]
 mod tool;

@@ -47,7 +47,7 @@ fn checks(rt: HostRuntime) -> Result<(), Fail> {
         let mut reader = input;
         let mut shown = Vec::new(alloc);
         let mut told = Vec::new(alloc);
-        let ended = run(alloc, words.as_slice(), &mut reader, &mut shown, &mut told);
+        let ended = run(&rt, alloc, words.as_slice(), &mut reader, &mut shown, &mut told);
         assert_eq!(rt; shown.as_slice(), out.as_bytes());
         assert_eq!(rt; told.as_slice(), err.as_bytes());
         assert_eq!(rt; ended, status);
@@ -99,7 +99,7 @@ fn runs_sources(rt: HostRuntime) -> Result<(), Fail> {
         let mut reader = input;
         let mut shown = Vec::new(alloc);
         let mut told = Vec::new(alloc);
-        let ended = run(alloc, words.as_slice(), &mut reader, &mut shown, &mut told);
+        let ended = run(&rt, alloc, words.as_slice(), &mut reader, &mut shown, &mut told);
         assert_eq!(rt; shown.as_slice(), out.as_bytes());
         assert_eq!(rt; told.as_slice(), err.as_bytes());
         assert_eq!(rt; ended, status);
@@ -166,7 +166,7 @@ fn compiles_and_replays(rt: HostRuntime) -> Result<(), Fail> {
         let mut reader = input;
         let mut shown = Vec::new(alloc);
         let mut told = Vec::new(alloc);
-        let ended = run(alloc, words.as_slice(), &mut reader, &mut shown, &mut told);
+        let ended = run(&rt, alloc, words.as_slice(), &mut reader, &mut shown, &mut told);
         assert_eq!(rt; shown.as_slice(), out.as_bytes());
         assert_eq!(rt; told.as_slice(), err.as_bytes());
         assert_eq!(rt; ended, status);
@@ -189,7 +189,7 @@ fn refuses_lines(rt: HostRuntime) -> Result<(), Fail> {
         let words = texts(alloc, row)?;
         let mut shown = Vec::new(alloc);
         let mut told = Vec::new(alloc);
-        let ended = run(alloc, words.as_slice(), &mut Failing, &mut shown, &mut told);
+        let ended = run(&rt, alloc, words.as_slice(), &mut Failing, &mut shown, &mut told);
         assert_eq!(rt; ended, 2);
         assert_eq!(rt; shown.len(), 0);
         assert!(rt; !told.is_empty());
@@ -247,13 +247,14 @@ fn tells_of_streams(rt: HostRuntime) -> Result<(), Fail> {
     let words = texts(alloc, ["listset", "check"].as_slice())?;
     let mut shown = Vec::new(alloc);
     let mut told = Vec::new(alloc);
-    let ended = run(alloc, words.as_slice(), &mut Failing, &mut shown, &mut told);
+    let ended = run(&rt, alloc, words.as_slice(), &mut Failing, &mut shown, &mut told);
     assert_eq!(rt; (ended, shown.len()), (1, 0));
     assert_eq!(rt; told.as_slice(), b"fault 82 ReadFailed\n".as_slice());
     told.clear();
     let input: &[u8] = b"%%";
     let mut reader = input;
     let ended = run(
+        &rt,
         alloc,
         words.as_slice(),
         &mut reader,
@@ -265,6 +266,7 @@ fn tells_of_streams(rt: HostRuntime) -> Result<(), Fail> {
     told.clear();
     let mut reader = input;
     let ended = run(
+        &rt,
         alloc,
         words.as_slice(),
         &mut reader,
@@ -275,6 +277,7 @@ fn tells_of_streams(rt: HostRuntime) -> Result<(), Fail> {
     assert_eq!(rt; told.as_slice(), b"fault 83 WriteFailed\n".as_slice());
     let mut reader = input;
     let ended = run(
+        &rt,
         alloc,
         words.as_slice(),
         &mut reader,

@@ -5,12 +5,13 @@ use Rattle.std.specs.Global.{Global}
 use Rattle.std.specs.Io.KnownBytes.{Appends, Keeps}
 use Rattle.clap.specs.declared.error.Error.{Error}
 use Rattle.ls_report.specs.Events.{Text}
-use Rattle.ls_tool.specs.Words.{request_of}
-use Rattle.ls_tool.specs.declared.words.Request.{Request}
-use Rattle.ls_tool.specs.declared.fault.ToolFault.{ToolFault}
-use Rattle.ls_tool.specs.declared.fault.ToolFault.TheVariants as fault
-use Rattle.ls_tool.specs.declared.fault.Refusal.TheVariants as refusal
-use Rattle.ls_tool.specs.Output.{Answered, AnswersText, AsAsked, BadLine, Begins, Decides, Ends, Gives, IsEnding, OutOfMemory, ReaderFailed, Told, WriterFailed}
+use Rattle.ls_command_line.specs.Words.{AsksFor}
+use Rattle.ls_command_line.specs.declared.words.Request.{Request}
+use Rattle.ls_commands.specs.declared.fault.ToolFault.{ToolFault}
+use Rattle.ls_commands.specs.declared.fault.ToolFault.TheVariants as fault
+use Rattle.ls_tool.specs.declared.refusal.Refusal.TheVariants as refusal
+use Rattle.ls_commands.specs.Given.{Gives}
+use Rattle.ls_tool.specs.Output.{Answered, AnswersText, AsAsked, BadLine, Begins, Decides, Ends, IsEnding, OutOfMemory, ReaderFailed, Told, WriterFailed}
 
 pub if_known : (o : Option Text) (P Q : Text → Type 0) → ((x : Text) → P x → Q x) → IfSome o P → IfSome o Q
 if_known None P Q f h = h
@@ -24,15 +25,15 @@ keeps : (o : Option Text) → Keeps o o
 keeps None = tt
 keeps (Some x) = refl
 
-pub decide_ok : (words : List Text) (input bytes : Text) (r : Request) (text : String Global) → request_of words ≡ Some r → bytes ≡ input
+pub decide_ok : (words : List Text) (input bytes : Text) (r : Request) (text : String Global) → AsksFor words (Some r) → bytes ≡ input
     → Gives (AnswersText r bytes) (Ok text) → Decides words input (Ok text)
 decide_ok words input bytes r text e b h = Answered r (Ok (string_bytes text)) e (subst (λ i. AnswersText r i (Ok (string_bytes text))) b h)
 
-asked : (words : List Text) (input bytes : Text) (r : Request) (f : ToolFault) → request_of words ≡ Some r → bytes ≡ input → AnswersText r bytes (Err f) → IsEnding words input (Err (Some f))
+asked : (words : List Text) (input bytes : Text) (r : Request) (f : ToolFault) → AsksFor words (Some r) → bytes ≡ input → AnswersText r bytes (Err f) → IsEnding words input (Err (Some f))
 asked words input bytes r f e b h = Answered r (Err f) e (subst (λ i. AnswersText r i (Err f)) b h)
 
 -- the fault of an answer is that of the words and the input
-pub decide_err : (words : List Text) (input bytes : Text) (r : Request) (f : ToolFault) → request_of words ≡ Some r → bytes ≡ input
+pub decide_err : (words : List Text) (input bytes : Text) (r : Request) (f : ToolFault) → AsksFor words (Some r) → bytes ≡ input
     → Gives (AnswersText r bytes) (Err f) → Decides words input (Err (refusal.Fault f))
 decide_err words input bytes r fault.Memory e b h = tt
 decide_err words input bytes r fault.ReadFailed e b h = (r, e)
@@ -42,13 +43,17 @@ decide_err words input bytes r (fault.Program f) e b h = asked words input bytes
 decide_err words input bytes r (fault.Build f) e b h = asked words input bytes r (fault.Build f) e b h
 decide_err words input bytes r fault.BadCells e b h = asked words input bytes r fault.BadCells e b h
 decide_err words input bytes r (fault.Schedule f) e b h = asked words input bytes r (fault.Schedule f) e b h
+decide_err words input bytes r (fault.Translation f) e b h = asked words input bytes r (fault.Translation f) e b h
+decide_err words input bytes r (fault.Live f) e b h = asked words input bytes r (fault.Live f) e b h
+decide_err words input bytes r (fault.Turns f) e b h = asked words input bytes r (fault.Turns f) e b h
+decide_err words input bytes r (fault.Batch f) e b h = asked words input bytes r (fault.Batch f) e b h
 decide_err words input bytes r (fault.History f) e b h = asked words input bytes r (fault.History f) e b h
 decide_err words input bytes r (fault.Order f) e b h = asked words input bytes r (fault.Order f) e b h
 decide_err words input bytes r fault.WrongParts e b h = asked words input bytes r fault.WrongParts e b h
 decide_err words input bytes r fault.NotText e b h = asked words input bytes r fault.NotText e b h
 decide_err words input bytes r fault.WriteFailed e b h = asked words input bytes r fault.WriteFailed e b h
 
-pub decide_bad : (words : List Text) (input : Text) (e : Error) → request_of words ≡ None → Decides words input (Err (refusal.BadLine e))
+pub decide_bad : (words : List Text) (input : Text) (e : Error) → AsksFor words None → Decides words input (Err (refusal.BadLine e))
 decide_bad words input e h = BadLine h
 
 -- a run that tells a fault
@@ -62,6 +67,10 @@ tells words input (fault.Program f) status out err err' s t d = AsAsked (Err (So
 tells words input (fault.Build f) status out err err' s t d = AsAsked (Err (Some (fault.Build f))) d (s, keeps out, t)
 tells words input fault.BadCells status out err err' s t d = AsAsked (Err (Some fault.BadCells)) d (s, keeps out, t)
 tells words input (fault.Schedule f) status out err err' s t d = AsAsked (Err (Some (fault.Schedule f))) d (s, keeps out, t)
+tells words input (fault.Translation f) status out err err' s t d = AsAsked (Err (Some (fault.Translation f))) d (s, keeps out, t)
+tells words input (fault.Live f) status out err err' s t d = AsAsked (Err (Some (fault.Live f))) d (s, keeps out, t)
+tells words input (fault.Turns f) status out err err' s t d = AsAsked (Err (Some (fault.Turns f))) d (s, keeps out, t)
+tells words input (fault.Batch f) status out err err' s t d = AsAsked (Err (Some (fault.Batch f))) d (s, keeps out, t)
 tells words input (fault.History f) status out err err' s t d = AsAsked (Err (Some (fault.History f))) d (s, keeps out, t)
 tells words input (fault.Order f) status out err err' s t d = AsAsked (Err (Some (fault.Order f))) d (s, keeps out, t)
 tells words input fault.WrongParts status out err err' s t d = AsAsked (Err (Some fault.WrongParts)) d (s, keeps out, t)

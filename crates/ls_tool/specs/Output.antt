@@ -1,31 +1,45 @@
 -- What the program writes, for its words and its input.
-use Rattle.std.specs.Prelude.{◌≡◌, ◌≤◌, ℕ, List, [], ◌∷◌, length, take, MatchBool, Option, Some, None, Result, Ok, Err, String, string_bytes}
+use Rattle.std.specs.Prelude.{◌≡◌, ◌≤◌, ℕ, List, [], ◌∷◌, length, take, MatchBool, true, false, Option, Some, None, Result, Ok, Err, String, string_bytes}
 use Rattle.std.specs.Global.{Global}
 use Rattle.std.specs.Io.KnownBytes.{Appends, Keeps}
 use Rattle.ls_report.specs.Events.{Text}
-use Rattle.ls_tool.specs.Check.{ChecksTo}
-use Rattle.ls_tool.specs.Compiled.{CountsTo, ReplaysTo}
-use Rattle.ls_tool.specs.Source.{SourcesTo}
-use Rattle.ls_tool.specs.Faults.{fault_line}
+use Rattle.ls_commands.specs.Check.{ChecksTo}
+use Rattle.ls_commands.specs.Compiled.{CountsTo, ReplaysTo}
+use Rattle.ls_commands.specs.Lived.{LivesTo, ReplaysLiveTo}
+use Rattle.ls_commands.specs.Source.{SourcesTo}
+use Rattle.ls_commands.specs.Tallied.{sampling, TalliesTo}
+use Rattle.ls_commands.specs.Translated.{TranslatesTo}
+use Rattle.ls_commands.specs.Faults.{fault_line}
 use Rattle.ls_tool.specs.Parts.{is_text, parts_of}
-use Rattle.ls_tool.specs.Words.{request_of}
-use Rattle.ls_tool.specs.declared.words.Request.{Request}
-use Rattle.ls_tool.specs.declared.words.Request.TheVariants as requests
-use Rattle.ls_tool.specs.declared.fault.ToolFault.{ToolFault}
-use Rattle.ls_tool.specs.declared.fault.ToolFault.TheVariants as faults
-use Rattle.ls_tool.specs.declared.fault.Refusal.{Refusal}
-use Rattle.ls_tool.specs.declared.fault.Refusal.TheVariants as refusals
+use Rattle.ls_command_line.specs.Words.{AsksFor}
+use Rattle.ls_command_line.specs.declared.words.Request.{Request}
+use Rattle.ls_command_line.specs.declared.words.Request.TheVariants as requests
+use Rattle.ls_commands.specs.declared.fault.ToolFault.{ToolFault}
+use Rattle.ls_commands.specs.declared.fault.ToolFault.TheVariants as faults
+use Rattle.ls_tool.specs.declared.refusal.Refusal.{Refusal}
+use Rattle.ls_tool.specs.declared.refusal.Refusal.TheVariants as refusals
 
--- what a command may answer, on its parts: a text or a fault
+-- what a command may answer on two texts: a text or a fault
+abbrev pub OnTwo : Request → Text → Text → Result Text ToolFault → Type 0
+OnTwo requests.Check history order answer = ChecksTo history order answer
+OnTwo requests.Compile classes program answer = CountsTo classes program answer
+OnTwo (requests.Live cells limit) classes program answer = LivesTo cells limit classes program answer
+OnTwo (requests.Batch seed count steps cells) classes program answer = TalliesTo cells (sampling seed count steps) classes program answer
+OnTwo other first second answer = answer ≡ Err faults.WrongParts
+
+-- and on three
+abbrev pub OnThree : Request → Text → Text → Text → Result Text ToolFault → Type 0
+OnThree (requests.Replay cells false) classes program schedule answer = ReplaysTo cells classes program schedule answer
+OnThree (requests.Replay cells true) classes program schedule answer = ReplaysLiveTo cells classes program schedule answer
+OnThree requests.Source classes program schedule answer = SourcesTo classes program schedule answer
+OnThree (requests.Translate to cells) classes program schedule answer = TranslatesTo to cells classes program schedule answer
+OnThree other classes program schedule answer = answer ≡ Err faults.WrongParts
+
+-- and on the parts of an input
 abbrev pub Answers : Request → List Text → Result Text ToolFault → Type 0
-Answers requests.Check (history ∷ order ∷ []) answer = ChecksTo history order answer
-Answers requests.Check other answer = answer ≡ Err faults.WrongParts
-Answers requests.Compile (classes ∷ program ∷ []) answer = CountsTo classes program answer
-Answers requests.Compile other answer = answer ≡ Err faults.WrongParts
-Answers (requests.Replay cells) (classes ∷ program ∷ schedule ∷ []) answer = ReplaysTo cells classes program schedule answer
-Answers (requests.Replay cells) other answer = answer ≡ Err faults.WrongParts
-Answers requests.Source (classes ∷ program ∷ schedule ∷ []) answer = SourcesTo classes program schedule answer
-Answers requests.Source other answer = answer ≡ Err faults.WrongParts
+Answers r (first ∷ second ∷ []) answer = OnTwo r first second answer
+Answers r (classes ∷ program ∷ schedule ∷ []) answer = OnThree r classes program schedule answer
+Answers r other answer = answer ≡ Err faults.WrongParts
 
 abbrev pub AnswersText : Request → Text → Result Text ToolFault → Type 0
 AnswersText r input answer = MatchBool (is_text input) (Answers r (parts_of input) answer) (answer ≡ Err faults.NotText)
@@ -37,23 +51,17 @@ with_fault (Err f) = Err (Some f)
 
 -- what the words and the input ask for: a text, a fault, or no more than the command line's own text
 pub data IsEnding (words : List Text) (input : Text) : Result Text (Option ToolFault) → Type 0 where
-  BadLine : request_of words ≡ None → IsEnding words input (Err None)
-  Answered : (r : Request) (answer : Result Text ToolFault) → request_of words ≡ Some r → AnswersText r input answer → IsEnding words input (with_fault answer)
+  BadLine : AsksFor words None → IsEnding words input (Err None)
+  Answered : (r : Request) (answer : Result Text ToolFault) → AsksFor words (Some r) → AnswersText r input answer → IsEnding words input (with_fault answer)
 
 -- ---- what the code answers
-
--- the answer is one that may be given, or memory ran out
-abbrev pub Gives : (Result Text ToolFault → Type 0) → Result (String Global) ToolFault → Type 0
-Gives May (Ok text) = May (Ok (string_bytes text))
-Gives May (Err faults.Memory) = Unit {0}
-Gives May (Err f) = May (Err f)
 
 -- memory ran out, or the reader failed after the command line was taken, or it is an ending of the words and the input
 abbrev pub Decides : List Text → Text → Result (String Global) Refusal → Type 0
 Decides words input (Ok text) = IsEnding words input (Ok (string_bytes text))
 Decides words input (Err (refusals.BadLine e)) = IsEnding words input (Err None)
 Decides words input (Err (refusals.Fault faults.Memory)) = Unit {0}
-Decides words input (Err (refusals.Fault faults.ReadFailed)) = (r : Request) × (request_of words ≡ Some r)
+Decides words input (Err (refusals.Fault faults.ReadFailed)) = (r : Request) × AsksFor words (Some r)
 Decides words input (Err (refusals.Fault f)) = IsEnding words input (Err (Some f))
 
 -- ---- what a run leaves behind
@@ -80,5 +88,5 @@ CutShort text status out out' err err' = (status ≡ 1) × Begins out out' text 
 pub data Ends (words : List Text) (input : Text) (status : ℕ) (out out' err err' : Option Text) : Type 0 where
   AsAsked : (ending : Result Text (Option ToolFault)) → IsEnding words input ending → Shows ending status out out' err err' → Ends words input status out out' err err'
   OutOfMemory : Shows (Err (Some faults.Memory)) status out out' err err' → Ends words input status out out' err err'
-  ReaderFailed : (r : Request) → request_of words ≡ Some r → Shows (Err (Some faults.ReadFailed)) status out out' err err' → Ends words input status out out' err err'
+  ReaderFailed : (r : Request) → AsksFor words (Some r) → Shows (Err (Some faults.ReadFailed)) status out out' err err' → Ends words input status out out' err err'
   WriterFailed : (text : Text) → IsEnding words input (Ok text) → CutShort text status out out' err err' → Ends words input status out out' err err'

@@ -1,54 +1,129 @@
 // What the words and the input ask for.
 
 ghost use Rattle.std.specs.Prelude.{IfSome, map, string_bytes};
-ghost use Rattle.ls_tool.specs.Output.{Answers, AnswersText, Decides, Gives};
+ghost use Rattle.ls_commands.specs.Given.{Gives};
+ghost use Rattle.ls_tool.specs.Output.{Answers, AnswersText, Decides, OnThree, OnTwo};
 
-use crate::commands::check;
-use crate::compiled::{count, replay};
-use crate::fault::{Refusal, ToolFault};
 use crate::parts::{parts_of, text_of};
-use crate::source::source;
+use crate::refusal::Refusal;
 use crate::streams::read_whole;
-use crate::words::{Request, WordsFault, read_words};
+use ls_command_line::{Request, WordsFault, read_words};
+use ls_commands::checking::check;
+use ls_commands::compiled::{count, replay};
+use ls_commands::living::{live, replay_live};
+use ls_commands::source::source;
+use ls_commands::tallying::{Sampling, batch};
+use ls_commands::translating::translate;
+use ls_commands::fault::ToolFault;
 use std::alloc::Global;
 use std::io::Read;
+use std::sync::Wait;
+use std::thread::Threads;
+
+/// What the command answers on two texts.
+fn on_two<R: Threads + Wait + Sync>(
+    rt: &R,
+    alloc: Global,
+    request: Request,
+    first: &str,
+    second: &str,
+) -> Result<String, ToolFault>
+    ensures { Gives (OnTwo request first.now second.now) result }
+{
+    match request {
+        Request::Check => check(alloc, first, second),
+        Request::Compile => count(alloc, first, second),
+        Request::Live { cells, limit } => {
+            live(rt, alloc, cells as usize, limit as usize, first, second)
+        }
+        Request::Batch {
+            seed,
+            count,
+            steps,
+            cells,
+        } => {
+            let sampling = Sampling {
+                first: seed,
+                count: count as usize,
+                steps: steps as usize,
+            };
+            batch(rt, alloc, sampling, cells as usize, first, second)
+        }
+        Request::Replay { .. } | Request::Source | Request::Translate { .. } => {
+            Err(ToolFault::WrongParts)
+        }
+    }
+}
+
+/// What the command answers on three texts.
+fn on_three<R: Threads + Wait + Sync>(
+    rt: &R,
+    alloc: Global,
+    request: Request,
+    classes: &str,
+    program: &str,
+    schedule: &str,
+) -> Result<String, ToolFault>
+    ensures { Gives (OnThree request classes.now program.now schedule.now) result }
+{
+    match request {
+        Request::Replay { cells, live: false } => {
+            replay(alloc, cells as usize, classes, program, schedule)
+        }
+        Request::Replay { cells, live: true } => {
+            replay_live(rt, alloc, cells as usize, classes, program, schedule)
+        }
+        Request::Source => source(alloc, classes, program, schedule),
+        Request::Translate { to, cells } => {
+            translate(alloc, to, cells as usize, classes, program, schedule)
+        }
+        Request::Check | Request::Compile | Request::Live { .. } | Request::Batch { .. } => {
+            Err(ToolFault::WrongParts)
+        }
+    }
+}
 
 /// What the command answers on its parts.
-fn decide(alloc: Global, request: Request, parts: &[String]) -> Result<String, ToolFault>
+fn decide<R: Threads + Wait + Sync>(
+    rt: &R,
+    alloc: Global,
+    request: Request,
+    parts: &[String],
+) -> Result<String, ToolFault>
     ensures { Gives (Answers request (map string_bytes parts.now)) result }
 {
-    match (request, parts) {
-        (Request::Check, [history, order]) => check(alloc, history.as_str(), order.as_str()),
-        (Request::Compile, [classes, program]) => count(alloc, classes.as_str(), program.as_str()),
-        (Request::Replay { cells }, [classes, program, schedule]) => replay(
+    match parts {
+        [first, second] => on_two(rt, alloc, request, first.as_str(), second.as_str()),
+        [classes, program, schedule] => on_three(
+            rt,
             alloc,
-            cells as usize,
+            request,
             classes.as_str(),
             program.as_str(),
             schedule.as_str(),
         ),
-        (Request::Source, [classes, program, schedule]) => {
-            source(alloc, classes.as_str(), program.as_str(), schedule.as_str())
-        }
-        (Request::Check, _) => Err(ToolFault::WrongParts),
-        (Request::Compile, _) => Err(ToolFault::WrongParts),
-        (Request::Replay { .. }, _) => Err(ToolFault::WrongParts),
-        (Request::Source, _) => Err(ToolFault::WrongParts),
+        _ => Err(ToolFault::WrongParts),
     }
 }
 
-fn answer_of(alloc: Global, request: Request, input: &[u8]) -> Result<String, ToolFault>
+fn answer_of<R: Threads + Wait + Sync>(
+    rt: &R,
+    alloc: Global,
+    request: Request,
+    input: &[u8],
+) -> Result<String, ToolFault>
     ensures { Gives (AnswersText request input.now) result }
 {
     let Some(text) = text_of(input) else {
         return Err(ToolFault::NotText);
     };
     let parts = parts_of(alloc, text)?;
-    decide(alloc, request, parts.as_slice())
+    decide(rt, alloc, request, parts.as_slice())
 }
 
 /// The whole output for the words and what the reader has left, or why there is none.
-pub fn respond<'a, R: Read>(
+pub fn respond<'a, H: Threads + Wait + Sync, R: Read>(
+    rt: &H,
     alloc: Global,
     words: &'a [String],
     reader: &mut R,
@@ -64,7 +139,7 @@ pub fn respond<'a, R: Read>(
         Ok(input) => input,
         Err(fault) => return Err(Refusal::Fault(fault)),
     };
-    match answer_of(alloc, request, input.as_slice()) {
+    match answer_of(rt, alloc, request, input.as_slice()) {
         Ok(text) => Ok(text),
         Err(fault) => Err(Refusal::Fault(fault)),
     }

@@ -2,17 +2,13 @@
 #![tactic(auto)]
 
 mod answer;
-mod commands;
-mod compiled;
-mod fault;
-mod line;
 mod parts;
+mod refusal;
 mod running;
-mod source;
 mod streams;
-mod words;
 
 pub use answer::respond;
-pub use fault::{Refusal, ToolFault};
+pub use ls_command_line::Request;
+pub use ls_commands::fault::ToolFault;
+pub use refusal::Refusal;
 pub use running::run;
-pub use words::Request;

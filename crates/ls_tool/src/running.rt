@@ -4,11 +4,14 @@ ghost use Rattle.std.specs.Prelude.{◌≡◌, IfSome, map, string_bytes};
 ghost use Rattle.ls_tool.specs.Output.{Ends, Told};
 
 use crate::answer::respond;
-use crate::fault::{Refusal, ToolFault};
-use crate::line::fault_line;
+use crate::refusal::Refusal;
 use crate::streams::write_out;
+use ls_commands::fault::ToolFault;
+use ls_commands::line::fault_line;
 use std::alloc::Global;
 use std::io::{Read, Write};
+use std::sync::Wait;
+use std::thread::Threads;
 
 /// Writes the fault's line. Where that fails too, the status alone tells of the fault.
 fn tell<E: Write>(err: &mut E, fault: ToolFault) -> u8
@@ -20,8 +23,9 @@ fn tell<E: Write>(err: &mut E, fault: ToolFault) -> u8
     1
 }
 
-/// Does what the words ask for, and answers the exit status.
-pub fn run<'a, R: Read, W: Write, E: Write>(
+/// Does what the words ask for, and answers the exit status. Threads are started by `live`, `batch` and `replay --live` alone.
+pub fn run<'a, H: Threads + Wait + Sync, R: Read, W: Write, E: Write>(
+    rt: &H,
     alloc: Global,
     words: &'a [String],
     reader: &mut R,
@@ -31,7 +35,7 @@ pub fn run<'a, R: Read, W: Write, E: Write>(
     ensures { IfSome (R.remaining reader.old) (λ input. Ends (map string_bytes words.entry.now) input result
         (W.contents out.old) (W.contents out.new) (E.contents err.old) (E.contents err.new)) }
 {
-    match respond(alloc, words, reader) {
+    match respond(rt, alloc, words, reader) {
         Ok(text) => match write_out(out, text.as_bytes()) {
             Ok(()) => 0,
             Err(_) => tell(err, ToolFault::WriteFailed),

@@ -1,0 +1,46 @@
+-- The request of words that are written out, whatever the parser of sides.
+use Rattle.std.proofs.Common.{◌≡◌, refl, true, false, [], ◌∷◌, codes, Some, None}
+use Rattle.clap.specs.declared.builder.value_parser.ValueParser.{ValueParser}
+use Rattle.clap.proofs.OnLiterals.{clap_on_literals}
+use Rattle.ls_command_line.specs.Words.{request_of}
+use Rattle.ls_command_line.specs.declared.words.Request.TheVariants as request
+
+nine_cells : (p : ValueParser) → request_of p (codes "listset" ∷ codes "replay" ∷ codes "--cells" ∷ codes "9" ∷ []) ≡ Some (request.Replay 9 false)
+unfolding clap_on_literals
+nine_cells p = refl
+
+live_turns : (p : ValueParser) → request_of p (codes "listset" ∷ codes "replay" ∷ codes "--live" ∷ []) ≡ Some (request.Replay 65536 true)
+unfolding clap_on_literals
+live_turns p = refl
+
+default_limit : (p : ValueParser) → request_of p (codes "listset" ∷ codes "live" ∷ []) ≡ Some (request.Live 65536 5000)
+unfolding clap_on_literals
+default_limit p = refl
+
+a_batch : (p : ValueParser) → request_of p (codes "listset" ∷ codes "batch" ∷ codes "--seed" ∷ codes "7" ∷ codes "--count=3" ∷ codes "--steps" ∷ codes "5" ∷ []) ≡ Some (request.Batch 7 3 5 65536)
+unfolding clap_on_literals
+a_batch p = refl
+
+no_steps : (p : ValueParser) → request_of p (codes "listset" ∷ codes "batch" ∷ codes "--seed" ∷ codes "7" ∷ codes "--count=3" ∷ []) ≡ None
+unfolding clap_on_literals
+no_steps p = refl
+
+no_side : (p : ValueParser) → request_of p (codes "listset" ∷ codes "translate" ∷ []) ≡ None
+unfolding clap_on_literals
+no_side p = refl
+
+nothing : (p : ValueParser) → request_of p (codes "listset" ∷ []) ≡ None
+unfolding clap_on_literals
+nothing p = refl
+
+twice : (p : ValueParser) → request_of p (codes "listset" ∷ codes "replay" ∷ codes "--cells=9" ∷ codes "--cells=9" ∷ []) ≡ None
+unfolding clap_on_literals
+twice p = refl
+
+too_large : (p : ValueParser) → request_of p (codes "listset" ∷ codes "live" ∷ codes "--limit" ∷ codes "18446744073709551616" ∷ []) ≡ None
+unfolding clap_on_literals
+too_large p = refl
+
+help : (p : ValueParser) → request_of p (codes "listset" ∷ codes "--help" ∷ []) ≡ None
+unfolding clap_on_literals
+help p = refl

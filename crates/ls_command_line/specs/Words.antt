@@ -1,0 +1,144 @@
+-- What the command line may be, and what it asks for.
+use Rattle.std.specs.Prelude.{◌≡◌, ℕ, Bool, true, false, List, [], ◌∷◌, map, codes, Option, Some, None, Result, Ok, Err, bytes_eq, if◌then◌else◌}
+use Rattle.std.specs.Option.{option_map_or}
+use Rattle.std.specs.Str.Parse.{digits_value, without_leading_plus}
+use Rattle.clap.specs.Words.{App, Row, Rule, Text, fault_of, first_of, new_app, new_rule, one_of, subcommand_of, with_rule, with_subcommand}
+use Rattle.clap.specs.Simple.{on_top}
+use Rattle.clap.specs.ValueTests.{accepts}
+use Rattle.clap.specs.declared.builder.action.ArgAction.TheVariants.{SetTrue}
+use Rattle.clap.specs.declared.builder.value_parser.ValueParser.{ValueParser}
+use Rattle.clap.specs.declared.builder.value_parser.ValueParser.TheVariants.{Names, Unsigned}
+use Rattle.ls_command_line.specs.declared.words.Request.{Request}
+use Rattle.ls_command_line.specs.declared.words.Request.TheVariants as requests
+use Rattle.ls_command_line.specs.declared.words.Side.{Side}
+use Rattle.ls_command_line.specs.declared.words.Side.TheVariants as sides
+use Rattle.ls_command_line.specs.declared.words.WordsFault.{WordsFault}
+use Rattle.ls_command_line.specs.declared.words.WordsFault.TheVariants as faults
+
+-- a number of 64 bits
+abbrev pub u64_parser : ValueParser
+u64_parser = Unsigned 0 18446744073709551615
+
+-- an option with a number
+abbrev pub number_rule : Bool → Text → Rule
+number_rule required name = record (new_rule name) {
+  long = Some name;
+  parser = Some u64_parser;
+  required = required;
+  value_names = 1;
+}
+
+-- an option without a value
+abbrev pub flag_rule : Text → Rule
+flag_rule name = record (new_rule name) { long = Some name; action = Some SetTrue }
+
+-- the option whose value is one of the parser's
+abbrev pub side_rule : ValueParser → Rule
+side_rule p = record (new_rule (codes "to")) {
+  long = Some (codes "to");
+  parser = Some p;
+  required = true;
+  value_names = 1;
+}
+
+-- the parser takes the words `source` and `machine`
+abbrev pub NamesSides : ValueParser → Type 0
+NamesSides (Names names) = map (λ n. n.now) names.now ≡ codes "source" ∷ codes "machine" ∷ []
+NamesSides other = ⊥
+
+abbrev pub cells_rule : Rule
+cells_rule = number_rule false (codes "cells")
+
+abbrev pub replay_line : App
+replay_line = with_rule (with_rule (new_app (codes "replay")) cells_rule) (flag_rule (codes "live"))
+
+abbrev pub translate_line : ValueParser → App
+translate_line p = with_rule (with_rule (new_app (codes "translate")) (side_rule p)) cells_rule
+
+abbrev pub live_line : App
+live_line = with_rule (with_rule (new_app (codes "live")) cells_rule) (number_rule false (codes "limit"))
+
+abbrev pub batch_line : App
+batch_line =
+    with_rule
+    (with_rule
+    (with_rule
+    (with_rule (new_app (codes "batch")) (number_rule true (codes "seed")))
+    (number_rule true (codes "count")))
+    (number_rule true (codes "steps")))
+    cells_rule
+
+-- the program with its commands, one of which is wanted
+abbrev pub line : ValueParser → App
+line p =
+    with_subcommand
+    (with_subcommand
+    (with_subcommand
+    (with_subcommand
+    (with_subcommand
+    (with_subcommand
+    (with_subcommand (on_top (λ s. record s { subcommand_required = true }) (new_app (codes "listset")))
+    (new_app (codes "check")).top)
+    (new_app (codes "compile")).top)
+    replay_line.top)
+    (new_app (codes "source")).top)
+    (translate_line p).top)
+    live_line.top)
+    batch_line.top
+
+-- the number that a text writes, and else the default
+abbrev pub number_or : ℕ → Option Text → ℕ
+number_or default None = default
+number_or default (Some text) = if accepts false u64_parser text then digits_value 10 (without_leading_plus text) else default
+
+-- the number of the option of this name
+abbrev pub number_of : Text → ℕ → List Row → ℕ
+number_of name default rows = number_or default (one_of name rows)
+
+abbrev pub cells_of : List Row → ℕ
+cells_of rows = number_of (codes "cells") 65536 rows
+
+-- whether the option of this name is given
+abbrev pub flag_of : Text → List Row → Bool
+flag_of name rows = option_map_or (λ text. bytes_eq text (codes "true")) (first_of name rows) false
+
+abbrev pub named_side : Text → Side
+named_side name = if bytes_eq name (codes "source") then sides.Source else sides.Machine
+
+abbrev pub side_of : List Row → Side
+side_of rows = option_map_or named_side (first_of (codes "to") rows) sides.Machine
+
+-- what a command of this name with these options asks for
+abbrev pub asked : Text → List Row → Request
+asked name rows =
+    if bytes_eq name (codes "compile") then requests.Compile
+    else (if bytes_eq name (codes "replay") then requests.Replay (cells_of rows) (flag_of (codes "live") rows)
+    else (if bytes_eq name (codes "source") then requests.Source
+    else (if bytes_eq name (codes "translate") then requests.Translate (side_of rows) (cells_of rows)
+    else (if bytes_eq name (codes "live") then requests.Live (cells_of rows) (number_of (codes "limit") 5000 rows)
+    else (if bytes_eq name (codes "batch")
+    then requests.Batch (number_of (codes "seed") 0 rows) (number_of (codes "count") 0 rows) (number_of (codes "steps") 0 rows) (cells_of rows)
+    else requests.Check)))))
+
+abbrev pub asked_by : Option (Text × List Row) → Request
+asked_by None = requests.Check
+asked_by (Some p) = asked p.0 p.1
+
+-- the second where the first is empty
+abbrev pub if_empty : {X Y : Type 0} → List X → Y → Option Y
+if_empty [] y = Some y
+if_empty (x ∷ xs) y = None
+
+-- The request of words that clap takes, and none of words that it doesn't.
+abbrev pub request_of : ValueParser → List Text → Option Request
+request_of p words = if_empty (fault_of (line p) words) (asked_by (subcommand_of (line p) words))
+
+-- the words ask for this, or for nothing, where the option of `translate` takes the words of the two sides
+abbrev pub AsksFor : List Text → Option Request → Type 0
+AsksFor words request = (p : ValueParser) × NamesSides p × (request_of p words ≡ request)
+
+-- Memory ran out, or the answer is that of the words.
+abbrev pub IsWordsAnswer : List Text → Result Request WordsFault → Type 0
+IsWordsAnswer words (Ok r) = AsksFor words (Some r)
+IsWordsAnswer words (Err faults.Memory) = Unit {0}
+IsWordsAnswer words (Err (faults.BadLine e)) = AsksFor words None

@@ -1,0 +1,7 @@
+//! The command line: which command the words ask for.
+#![tactic(auto)]
+
+mod line;
+mod words;
+
+pub use words::{Request, Side, WordsFault, read_words};

@@ -1,0 +1,228 @@
+// The command line as clap has it: the commands with their options.
+
+ghost use Rattle.std.specs.Prelude.{◌≡◌, IfOk, codes, false};
+ghost use Rattle.clap.specs.Words.{app_of, new_app, rule_of};
+ghost use Rattle.clap.specs.declared.builder.command.Command.TheViews.{out-Command};
+ghost use Rattle.ls_command_line.specs.Words.{NamesSides, batch_line, flag_rule, line, live_line, number_rule, replay_line, side_rule, translate_line, u64_parser};
+
+use clap::{Arg, ArgAction, Command};
+use std::alloc::{AllocError, Global};
+
+/// What a schedule can be translated to.
+static SIDES: [&str; 2] = ["source", "machine"];
+
+/// A command without options.
+fn plain_command<'a>(
+    alloc: Global,
+    name: &'a str,
+    about: &'a str,
+    after_help: &'a str,
+) -> Command<'a>
+    ensures shape { app_of result ≡ new_app name.entry.now }
+    ensures local { (out-Command result).has_globals ≡ false }
+{
+    Command::new(alloc, name)
+        .about(about)
+        .after_help(after_help)
+}
+
+/// The argument, with its values read as numbers of 64 bits.
+fn read_as_number<'a>(arg: Arg<'a>) -> Arg<'a>
+    ensures { result ≡ record arg.entry { value_parser = Some u64_parser } }
+{
+    arg.value_parser(clap::value_parser!(u64))
+}
+
+/// A number, as `--cells 9`.
+fn number_option<'a>(alloc: Global, name: &'a str, required: bool, help: &'a str) -> Arg<'a>
+    ensures rule { rule_of result ≡ number_rule required name.entry.now }
+    ensures local { result.global ≡ false }
+{
+    read_as_number(Arg::new(alloc, name))
+        .long(name)
+        .required(required)
+        .value_name("N")
+        .help(help)
+}
+
+fn cells_option<'a>(alloc: Global) -> Arg<'a>
+    ensures rule { rule_of result ≡ number_rule false (codes "cells") }
+    ensures local { result.global ≡ false }
+{
+    number_option(
+        alloc,
+        "cells",
+        false,
+        "how many words of memory the machine has, 1 to 1048576 [default: 65536]",
+    )
+}
+
+/// The argument, with its values read as sides.
+fn read_as_side<'a>(arg: Arg<'a>) -> Arg<'a>
+    ensures { (p : _) × NamesSides p × (result ≡ record arg.entry { value_parser = Some p }) }
+{
+    arg.value_parser(SIDES.as_slice())
+}
+
+fn side_option<'a>(alloc: Global) -> Arg<'a>
+    ensures rule { (p : _) × NamesSides p × (rule_of result ≡ side_rule p) }
+    ensures local { result.global ≡ false }
+{
+    read_as_side(Arg::new(alloc, "to"))
+        .long("to")
+        .required(true)
+        .value_name("SIDE")
+        .help("what the schedule is translated to")
+}
+
+fn live_option<'a>(alloc: Global) -> Arg<'a>
+    ensures rule { rule_of result ≡ flag_rule (codes "live") }
+    ensures local { result.global ≡ false }
+{
+    Arg::new(alloc, "live")
+        .long("live")
+        .action(ArgAction::SetTrue)
+        .help(
+            "runs each thread of the program on a thread of its own, in the turns of the schedule",
+        )
+}
+
+fn replay_command<'a>(alloc: Global) -> Result<Command<'a>, AllocError>
+    ensures shape { IfOk result (λ c. app_of c ≡ replay_line) }
+    ensures local { IfOk result (λ c. (out-Command c).has_globals ≡ false) }
+{
+    plain_command(
+        alloc,
+        "replay",
+        "Compiles a program and runs it under a schedule of machine instructions",
+        "Standard input has three parts, class text, thread program and schedule, with a line %% between them:\n  \
+         listset replay < examples/least_int.txt",
+    )
+    .arg(cells_option(alloc))?
+    .arg(live_option(alloc))
+}
+
+fn translate_command<'a>(alloc: Global) -> Result<Command<'a>, AllocError>
+    ensures shape { IfOk result (λ c. (p : _) × NamesSides p × (app_of c ≡ translate_line p)) }
+    ensures local { IfOk result (λ c. (out-Command c).has_globals ≡ false) }
+{
+    plain_command(
+        alloc,
+        "translate",
+        "Prints the schedule of source steps for one of instructions, or the other way round",
+        "Standard input has three parts, class text, thread program and schedule, with a line %% between them:\n  \
+         listset translate --to machine < examples/lost_update.txt",
+    )
+    .arg(side_option(alloc))?
+    .arg(cells_option(alloc))
+}
+
+fn live_command<'a>(alloc: Global) -> Result<Command<'a>, AllocError>
+    ensures shape { IfOk result (λ c. app_of c ≡ live_line) }
+    ensures local { IfOk result (λ c. (out-Command c).has_globals ≡ false) }
+{
+    let limit = number_option(
+        alloc,
+        "limit",
+        false,
+        "how many steps are recorded, at most 1000000 [default: 5000]",
+    );
+    plain_command(
+        alloc,
+        "live",
+        "Runs each thread on a thread of its own, and prints the recorded schedule and its history",
+        "Standard input has two parts, class text and thread program, with a line %% between them:\n  \
+         printf 'class C { }\\n%%%%\\nsetup { c = new C(); }\\n' | listset live",
+    )
+    .arg(cells_option(alloc))?
+    .arg(limit)
+}
+
+fn batch_command<'a>(alloc: Global) -> Result<Command<'a>, AllocError>
+    ensures shape { IfOk result (λ c. app_of c ≡ batch_line) }
+    ensures local { IfOk result (λ c. (out-Command c).has_globals ≡ false) }
+{
+    let seed = number_option(alloc, "seed", true, "the first seed");
+    let count = number_option(alloc, "count", true, "how many seeds, 1 to 100000");
+    let steps = number_option(
+        alloc,
+        "steps",
+        true,
+        "how many steps each sample has behind the setup's, at most 900000",
+    );
+    plain_command(
+        alloc,
+        "batch",
+        "Runs a program under many sampled schedules, and prints each history once with its count",
+        "Standard input has two parts, class text and thread program, with a line %% between them:\n  \
+         printf 'class C { }\\n%%%%\\nsetup { c = new C(); }\\n' | listset batch --seed 1 --count 9 --steps 99",
+    )
+    .arg(seed)?
+    .arg(count)?
+    .arg(steps)?
+    .arg(cells_option(alloc))
+}
+
+fn check_command<'a>(alloc: Global) -> Command<'a>
+    ensures shape { app_of result ≡ new_app (codes "check") }
+    ensures local { (out-Command result).has_globals ≡ false }
+{
+    plain_command(
+        alloc,
+        "check",
+        "Tells whether an order of a history's set calls is legal",
+        "Standard input has two parts, a history and an order, with a line %% between them:\n  \
+         printf 'A.1 call s.add(1)\\nA.1 return true\\n%%%%\\nA.1\\n' | listset check",
+    )
+}
+
+fn compile_command<'a>(alloc: Global) -> Command<'a>
+    ensures shape { app_of result ≡ new_app (codes "compile") }
+    ensures local { (out-Command result).has_globals ≡ false }
+{
+    plain_command(
+        alloc,
+        "compile",
+        "Compiles a program, and counts its classes, methods and threads",
+        "Standard input has two parts, class text and thread program, with a line %% between them:\n  \
+         printf 'class C { }\\n%%%%\\nsetup { c = new C(); }\\n' | listset compile",
+    )
+}
+
+fn source_command<'a>(alloc: Global) -> Command<'a>
+    ensures shape { app_of result ≡ new_app (codes "source") }
+    ensures local { (out-Command result).has_globals ≡ false }
+{
+    plain_command(
+        alloc,
+        "source",
+        "Runs a program from its Java text under a schedule of source steps",
+        "Standard input has three parts, class text, thread program and schedule, with a line %% between them:\n  \
+         listset source < examples/lost_update.txt",
+    )
+}
+
+/// The program with its commands.
+pub(crate) fn program<'a>(alloc: Global) -> Result<Command<'a>, AllocError>
+    ensures { IfOk result (λ c. (p : _) × NamesSides p × (app_of c ≡ line p)) }
+{
+    let replay = replay_command(alloc)?;
+    let translate = translate_command(alloc)?;
+    let live = live_command(alloc)?;
+    let batch = batch_command(alloc)?;
+    let top = plain_command(
+        alloc,
+        "listset",
+        "List-based concurrent sets in Java, run under schedules that you choose",
+        "Input ends with Ctrl-D. 'listset help COMMAND' tells what a command reads.",
+    )
+    .subcommand_required(true);
+    let one = top.subcommand(check_command(alloc))?;
+    let two = one.subcommand(compile_command(alloc))?;
+    let three = two.subcommand(replay)?;
+    let four = three.subcommand(source_command(alloc))?;
+    let five = four.subcommand(translate)?;
+    let six = five.subcommand(live)?;
+    let seven = six.subcommand(batch)?;
+    Ok(seven)
+}

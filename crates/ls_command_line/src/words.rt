@@ -1,0 +1,166 @@
+// What the words of a command line ask for.
+
+ghost use Rattle.std.specs.Prelude.{◌≡◌, codes, map, string_bytes};
+ghost use Rattle.clap.specs.Words.{found_of, rows_of, subcommand_rows_of};
+ghost use Rattle.ls_command_line.specs.Words.{IsWordsAnswer, asked, asked_by, flag_of, named_side, number_of, side_of};
+
+use crate::line::program;
+use clap::error::ErrorKind;
+use clap::{ArgMatches, Error};
+use std::alloc::{AllocError, Global};
+
+/// What a schedule is translated to.
+#[derive(Copy)]
+pub enum Side {
+    Source,
+    Machine,
+}
+
+impl Clone for Side {
+    fn clone(&self) -> Result<Side, AllocError> {
+        Ok(*self)
+    }
+}
+
+/// A command with its options.
+#[derive(Copy)]
+pub enum Request {
+    Check,
+    Compile,
+    Replay {
+        cells: u64,
+        live: bool,
+    },
+    Source,
+    Translate {
+        to: Side,
+        cells: u64,
+    },
+    Live {
+        cells: u64,
+        limit: u64,
+    },
+    Batch {
+        seed: u64,
+        count: u64,
+        steps: u64,
+        cells: u64,
+    },
+}
+
+impl Clone for Request {
+    fn clone(&self) -> Result<Request, AllocError> {
+        Ok(*self)
+    }
+}
+
+/// The cells of a machine where none are asked for.
+const CELLS: u64 = 65_536;
+
+/// The steps that a live run records where no limit is asked for.
+const LIMIT: u64 = 5_000;
+
+/// Why there is no request.
+#[derive(Debug, Drop)]
+pub enum WordsFault {
+    Memory,
+    /// The words are no command line, or ask for help.
+    BadLine(Error),
+}
+
+/// What the words ask for. They begin with the program's own name.
+pub fn read_words<'a>(alloc: Global, words: &'a [String]) -> Result<Request, WordsFault>
+    ensures { IsWordsAnswer (map string_bytes words.entry.now) result }
+{
+    let program = match program(alloc) {
+        Ok(program) => program,
+        Err(_) => return Err(WordsFault::Memory),
+    };
+    let matches = match program.try_get_matches_from(words) {
+        Ok(matches) => matches,
+        Err(error) => {
+            return match error.kind() {
+                ErrorKind::OutOfMemory => Err(WordsFault::Memory),
+                _ => Err(WordsFault::BadLine(error)),
+            };
+        }
+    };
+    Ok(chosen(&matches))
+}
+
+/// The request of the matches, by the name of the subcommand.
+fn chosen(matches: &ArgMatches<'_>) -> Request
+    ensures { result ≡ asked_by (subcommand_rows_of matches.now) }
+{
+    match matches.subcommand() {
+        Some((name, options)) => asked(name, options),
+        None => Request::Check,
+    }
+}
+
+/// The number of an option, or the default where it isn't given.
+fn number(options: &ArgMatches<'_>, name: &str, default: u64) -> u64
+    ensures { result ≡ number_of name.now default (rows_of (found_of options.now)) }
+{
+    match options.get_one::<u64>(name) {
+        Some(number) => number,
+        None => default,
+    }
+}
+
+fn side_named(name: &str) -> Side
+    ensures { result ≡ named_side name.now }
+{
+    if name == "source" {
+        Side::Source
+    } else {
+        Side::Machine
+    }
+}
+
+fn chosen_side(options: &ArgMatches<'_>) -> Side
+    ensures { result ≡ side_of (rows_of (found_of options.now)) }
+{
+    match options.get_str("to") {
+        Some(name) => side_named(name),
+        None => Side::Machine,
+    }
+}
+
+/// Whether a flag is given.
+fn flag(options: &ArgMatches<'_>, name: &str) -> bool
+    ensures { result ≡ flag_of name.now (rows_of (found_of options.now)) }
+{
+    match options.get_str(name) {
+        Some(text) => text == "true",
+        None => false,
+    }
+}
+
+fn asked(name: &str, options: &ArgMatches<'_>) -> Request
+    ensures { result ≡ asked name.now (rows_of (found_of options.now)) }
+{
+    match name {
+        "compile" => Request::Compile,
+        "replay" => Request::Replay {
+            cells: number(options, "cells", CELLS),
+            live: flag(options, "live"),
+        },
+        "source" => Request::Source,
+        "translate" => Request::Translate {
+            to: chosen_side(options),
+            cells: number(options, "cells", CELLS),
+        },
+        "live" => Request::Live {
+            cells: number(options, "cells", CELLS),
+            limit: number(options, "limit", LIMIT),
+        },
+        "batch" => Request::Batch {
+            seed: number(options, "seed", 0),
+            count: number(options, "count", 0),
+            steps: number(options, "steps", 0),
+            cells: number(options, "cells", CELLS),
+        },
+        _ => Request::Check,
+    }
+}

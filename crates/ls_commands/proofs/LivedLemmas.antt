@@ -1,0 +1,74 @@
+-- What the commands that run live threads may answer.
+use Rattle.std.proofs.Common.{◌≡◌, ◌↔◌, ◌⊎◌, ◌<◌, ◌≤◌, ◌∙◌, ◌++◌, ℕ, List, length, Result, Ok, Err, refl, sym, subst, ap, arith}
+use Rattle.std.specs.Prelude.{IsErrOf}
+use Rattle.ls_code.specs.Machine.{machine_history}
+use Rattle.ls_machine.specs.Room.{AreBadCells}
+use Rattle.ls_machine.specs.declared.fault.LoadFault.TheVariants as load
+use Rattle.ls_compiler.specs.Images.{code_of_image}
+use Rattle.ls_compiler.specs.declared.image.Image.{Image}
+use Rattle.ls_schedule.specs.Printing.{schedule_text}
+use Rattle.ls_schedule.specs.Records.{happened, IsRecordOf, scheduled}
+use Rattle.ls_schedule.specs.declared.fault.ScheduleFault.{ScheduleFault}
+use Rattle.ls_schedule.specs.declared.replaying.Record.{Record}
+use Rattle.ls_live.specs.Records.{IsDone}
+use Rattle.ls_live.specs.declared.fault.LiveFault.TheVariants as opening
+use Rattle.ls_live.specs.declared.fault.PlayFault.{PlayFault as LiveFault}
+use Rattle.ls_live.specs.declared.fault.PlayFault.TheVariants as live
+use Rattle.ls_turnstile.specs.declared.fault.FollowFault.TheVariants as follow
+use Rattle.ls_turnstile.specs.declared.fault.PlayFault.{PlayFault as TurnsFault}
+use Rattle.ls_turnstile.specs.declared.fault.PlayFault.TheVariants as turns
+use Rattle.ls_report.specs.Events.{Text}
+use Rattle.ls_report.specs.Printing.{run_text}
+use Rattle.ls_commands.specs.Faults.{lifted_live, lifted_turns}
+use Rattle.ls_commands.specs.Given.{Gives}
+use Rattle.ls_commands.proofs.Answering.{not_refused}
+use Rattle.ls_commands.specs.Compiled.{names_of_image, NoCells as TooFewOrMany, plain_program_of, Replayed, Runs}
+use Rattle.ls_commands.specs.Lived.{AsReplayed, BadLimit, Disagree, Lived, Lives, NoCells, NotFollowed, NoThread, ReplayedLive}
+
+module _ (i : Image) (cells : ℕ) where
+  abbrev Bad : Type 0
+  Bad = AreBadCells (code_of_image i).names cells
+
+  abbrev lines : Record → Text
+  lines r = run_text (plain_program_of i) (happened r)
+
+  module _ (limit : ℕ) where
+    abbrev Unlived : LiveFault → Result Record LiveFault
+    Unlived f = Err f
+
+    pub live_fails : (f : LiveFault) → (IsErrOf (Unlived f) (live.Open opening.BadLimit) ↔ (1000000 < limit)) → (IsErrOf (Unlived f) (live.Open opening.BadCells) ↔ ((limit ≤ 1000000) × Bad)) →
+        Gives (Lived i cells limit) (Err (lifted_live f))
+    live_fails (live.Open opening.Memory) large bad = tt
+    live_fails (live.Open opening.BadCells) large bad = NoCells (bad.0 refl).0 (bad.0 refl).1
+    live_fails (live.Open opening.BadLimit) large bad = BadLimit (large.0 refl)
+    live_fails live.NoThread large bad = NoThread
+    live_fails live.Disagree large bad = Disagree
+
+    within : (r : Record) → (IsErrOf {E = LiveFault} (Ok r) (live.Open opening.BadLimit) ↔ (1000000 < limit)) → limit ≤ 1000000
+    within r large = let no = not_refused r (live.Open opening.BadLimit) (1000000 < limit) large in omega (arith, no)
+
+    pub live_runs : (r : Record) (t : Text) → (IsErrOf {E = LiveFault} (Ok r) (live.Open opening.BadLimit) ↔ (1000000 < limit)) →
+        (IsErrOf {E = LiveFault} (Ok r) (live.Open opening.BadCells) ↔ ((limit ≤ 1000000) × Bad)) → IsRecordOf (code_of_image i) cells (scheduled r) r → length (scheduled r) ≤ limit → IsDone (code_of_image i) cells limit r →
+        t ≡ schedule_text (names_of_image i) (scheduled r) ++ lines r → Lived i cells limit (Ok t)
+    live_runs r t large bad is few done said =
+        let good : ¬ Bad = λ b. not_refused r (live.Open opening.BadCells) ((limit ≤ 1000000) × Bad) bad (within r large, b) in
+        let text : t ≡ schedule_text (names_of_image i) (scheduled r) ++ run_text (plain_program_of i) (machine_history (code_of_image i) cells (scheduled r)) =
+        said ∙ ap (λ es. schedule_text (names_of_image i) (scheduled r) ++ run_text (plain_program_of i) es) is.history in
+        subst (λ x. Lived i cells limit (Ok x)) (sym text) (Lives (scheduled r) (within r large) good few done)
+
+  module _ (read : Result (List ℕ) ScheduleFault) (steps : List ℕ) (reads : read ≡ Ok steps) where
+    abbrev Unfollowed : TurnsFault → Result Record TurnsFault
+    Unfollowed f = Err f
+
+    pub turns_fail : (f : TurnsFault) → (IsErrOf (Unfollowed f) (turns.Load load.BadCells) ↔ Bad) →
+        ((place : ℕ) → IsErrOf (Unfollowed f) (turns.Follow (follow.TurnsSpent place)) → place < length steps) → Gives (ReplayedLive i cells read) (Err (lifted_turns f))
+    turns_fail (turns.Load load.Memory) bad spent = tt
+    turns_fail (turns.Load load.BadCells) bad spent = AsReplayed _ (rw reads (TooFewOrMany steps (bad.0 refl)))
+    turns_fail (turns.Follow follow.Memory) bad spent = tt
+    turns_fail (turns.Follow follow.NoThread) bad spent = NotFollowed steps follow.NoThread reads tt
+    turns_fail (turns.Follow (follow.TurnsSpent place)) bad spent = NotFollowed steps (follow.TurnsSpent place) reads (spent place refl)
+
+    pub turns_run : (r : Record) (t : Text) → (IsErrOf {E = TurnsFault} (Ok r) (turns.Load load.BadCells) ↔ Bad) → IsRecordOf (code_of_image i) cells steps r → t ≡ lines r → ReplayedLive i cells read (Ok t)
+    turns_run r t bad is said =
+        let text : t ≡ run_text (plain_program_of i) (machine_history (code_of_image i) cells steps) = said ∙ ap (run_text (plain_program_of i)) is.history in
+        AsReplayed (Ok t) (rw reads (subst (λ x. Replayed i cells (Ok steps) (Ok x)) (sym text) (Runs steps (not_refused r (turns.Load load.BadCells) Bad bad))))

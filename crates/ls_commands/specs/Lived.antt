@@ -1,0 +1,54 @@
+-- What the commands that run live threads say: `live`, and `replay --live`.
+use Rattle.std.specs.Prelude.{◌≡◌, ℕ, ◌<◌, ◌≤◌, ◌⊎◌, List, ◌++◌, length, true, Result, Ok, Err}
+use Rattle.ls_code.specs.Code.{Code}
+use Rattle.ls_code.specs.Machine.{loaded, machine_history, machine_run}
+use Rattle.ls_machine.specs.Room.{AreBadCells}
+use Rattle.ls_compiler.specs.Images.{code_of_image}
+use Rattle.ls_compiler.specs.declared.image.Image.{Image}
+use Rattle.ls_schedule.specs.Printing.{schedule_text}
+use Rattle.ls_schedule.specs.Reading.{schedule_of}
+use Rattle.ls_schedule.specs.declared.fault.ScheduleFault.{ScheduleFault}
+use Rattle.ls_live.specs.Answers.{is_over}
+use Rattle.ls_live.specs.declared.fault.LiveFault.TheVariants as opening
+use Rattle.ls_live.specs.declared.fault.PlayFault.TheVariants as live
+use Rattle.ls_turnstile.specs.declared.fault.FollowFault.{FollowFault}
+use Rattle.ls_turnstile.specs.declared.fault.FollowFault.TheVariants as follow
+use Rattle.ls_turnstile.specs.declared.fault.PlayFault.TheVariants as turns
+use Rattle.ls_report.specs.Events.{Text}
+use Rattle.ls_report.specs.Printing.{run_text}
+use Rattle.ls_commands.specs.declared.fault.ToolFault.{ToolFault}
+use Rattle.ls_commands.specs.declared.fault.ToolFault.TheVariants as faults
+use Rattle.ls_commands.specs.Compiled.{AnswersOn, names_of_image, plain_program_of, Replayed}
+
+-- each thread is over after the steps, or they are as many as may be recorded
+abbrev pub AreDone : Code → ℕ → ℕ → List ℕ → Type 0
+AreDone code cells limit steps =
+    ((t : ℕ) → t < length code.starts → is_over (machine_run (loaded code cells) steps) t ≡ true) ⊎ (length steps ≡ limit)
+
+-- Some schedule, and its history: so the schedule, replayed, has the history that is printed behind it. Or the limit is too
+-- large, or the cells are too few or too many; or a thread couldn't be started.
+pub data Lived (i : Image) (cells limit : ℕ) : Result Text ToolFault → Type 0 where
+  Lives : (steps : List ℕ) → limit ≤ 1000000 → ¬ AreBadCells (code_of_image i).names cells → length steps ≤ limit → AreDone (code_of_image i) cells limit steps →
+      Lived i cells limit (Ok (schedule_text (names_of_image i) steps ++ run_text (plain_program_of i) (machine_history (code_of_image i) cells steps)))
+  BadLimit : 1000000 < limit → Lived i cells limit (Err (faults.Live (live.Open opening.BadLimit)))
+  NoCells : limit ≤ 1000000 → AreBadCells (code_of_image i).names cells → Lived i cells limit (Err faults.BadCells)
+  NoThread : Lived i cells limit (Err (faults.Live live.NoThread))
+  Disagree : Lived i cells limit (Err (faults.Live live.Disagree))
+
+abbrev pub LivesTo : ℕ → ℕ → Text → Text → Result Text ToolFault → Type 0
+LivesTo cells limit classes program answer = AnswersOn classes program (λ i. Lived i cells limit) answer
+
+-- why live threads don't come to the end of a schedule of so many steps
+abbrev pub BreaksOff : ℕ → FollowFault → Type 0
+BreaksOff steps follow.Memory = ⊥
+BreaksOff steps follow.NoThread = Unit {0}
+BreaksOff steps (follow.TurnsSpent place) = place < steps
+
+-- what a replay says, or live threads don't come to the end of the schedule
+pub data ReplayedLive (i : Image) (cells : ℕ) (read : Result (List ℕ) ScheduleFault) : Result Text ToolFault → Type 0 where
+  AsReplayed : (answer : Result Text ToolFault) → Replayed i cells read answer → ReplayedLive i cells read answer
+  NotFollowed : (steps : List ℕ) (f : FollowFault) → read ≡ Ok steps → BreaksOff (length steps) f → ReplayedLive i cells read (Err (faults.Turns (turns.Follow f)))
+
+abbrev pub ReplaysLiveTo : ℕ → Text → Text → Text → Result Text ToolFault → Type 0
+ReplaysLiveTo cells classes program schedule answer =
+    AnswersOn classes program (λ i. ReplayedLive i cells (schedule_of (names_of_image i) schedule)) answer

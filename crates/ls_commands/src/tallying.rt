@@ -1,0 +1,62 @@
+// The command `batch`.
+
+ghost use Rattle.ls_commands.specs.Tallied.{Tallied, TalliesTo};
+ghost use Rattle.ls_commands.specs.Given.{Gives};
+
+use ls_batch::print_tally;
+use ls_compiler::compile::compile;
+use ls_compiler::image::Image;
+use crate::fault::ToolFault;
+use std::alloc::{AllocError, Global};
+use std::thread::Threads;
+
+/// Which seeds are run, and how many steps each sample has behind the setup's.
+#[derive(Copy)]
+pub struct Sampling {
+    pub first: u64,
+    pub count: usize,
+    pub steps: usize,
+}
+
+impl Clone for Sampling {
+    fn clone(&self) -> Result<Sampling, AllocError> {
+        Ok(*self)
+    }
+}
+
+/// The tally of the image's runs under the samples, on a machine with so many cells.
+fn tallied(
+    rt: &(impl Threads + Sync),
+    alloc: Global,
+    image: &Image,
+    cells: usize,
+    sampling: Sampling,
+) -> Result<String, ToolFault>
+    ensures { Gives (Tallied image.now cells sampling) result }
+{
+    let tally = ls_batch::batch(
+        rt,
+        alloc,
+        image,
+        cells,
+        sampling.first,
+        sampling.count,
+        sampling.steps,
+    )?;
+    Ok(print_tally(alloc, &tally, image.program())?)
+}
+
+/// The tally of the compiled program's runs under the samples.
+pub fn batch(
+    rt: &(impl Threads + Sync),
+    alloc: Global,
+    sampling: Sampling,
+    cells: usize,
+    classes: &str,
+    program: &str,
+) -> Result<String, ToolFault>
+    ensures { Gives (TalliesTo cells sampling classes.now program.now) result }
+{
+    let image = compile(alloc, classes, program)?;
+    tallied(rt, alloc, &image, cells, sampling)
+}
