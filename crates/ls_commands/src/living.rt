@@ -10,10 +10,10 @@ ghost use Rattle.ls_schedule.specs.Printing.{schedule_text};
 ghost use Rattle.ls_schedule.specs.Reading.{schedule_of, thread_names};
 ghost use Rattle.ls_schedule.specs.Records.{happened, scheduled};
 
+use crate::fault::ToolFault;
 use ls_checked::program::Program;
 use ls_compiler::compile::compile;
 use ls_compiler::image::Image;
-use crate::fault::ToolFault;
 use ls_live::{Gate, play_live};
 use ls_report::print_history;
 use ls_schedule::{Record, print_schedule, read_schedule};

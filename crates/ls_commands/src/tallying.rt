@@ -3,10 +3,10 @@
 ghost use Rattle.ls_commands.specs.Tallied.{Tallied, TalliesTo};
 ghost use Rattle.ls_commands.specs.Given.{Gives};
 
+use crate::fault::ToolFault;
 use ls_batch::print_tally;
 use ls_compiler::compile::compile;
 use ls_compiler::image::Image;
-use crate::fault::ToolFault;
 use std::alloc::{AllocError, Global};
 use std::thread::Threads;
 

@@ -97,7 +97,14 @@ fn replays_sixteen_methods(rt: HostRuntime) -> Result<(), Fail> {
     let mut reader = text.as_bytes();
     let mut shown = Vec::new(alloc);
     let mut told = Vec::new(alloc);
-    let ended = run(&rt, alloc, words.as_slice(), &mut reader, &mut shown, &mut told);
+    let ended = run(
+        &rt,
+        alloc,
+        words.as_slice(),
+        &mut reader,
+        &mut shown,
+        &mut told,
+    );
     assert_eq!(rt; shown.as_slice(), HISTORY.as_bytes());
     assert!(rt; told.is_empty());
     assert_eq!(rt; ended, 0);

@@ -46,7 +46,10 @@ fn translates(rt: HostRuntime) -> Result<(), Fail> {
     assert_eq!(rt; left.status, 0);
     let to_machine = ["listset", "translate", "--to=machine", "--cells=1"];
     let left = ran(&rt, rt.alloc(), to_machine.as_slice(), "%%\nsetup*5\n")?;
-    assert_eq!(rt; left.err.as_slice(), b"fault 43 DoesNotFit at 1\n".as_slice());
+    assert_eq!(rt;
+        left.err.as_slice(),
+        b"fault 43 DoesNotFit at 1\n".as_slice()
+    );
     assert_eq!(rt; left.status, 1);
     let to_machine = ["listset", "translate", "--to", "machine", "--cells", "0"];
     let left = ran(&rt, rt.alloc(), to_machine.as_slice(), "%%\nsetup*5\n")?;
@@ -61,7 +64,10 @@ fn runs_live_threads(rt: HostRuntime) -> Result<(), Fail> {
     assert_eq!(rt; left.out.as_slice(), HISTORY.as_bytes());
     assert_eq!(rt; left.status, 0);
     let left = ran(&rt, rt.alloc(), turns.as_slice(), "%%\nA\n")?;
-    assert_eq!(rt; left.err.as_slice(), b"fault 41 UnknownThread at 0\n".as_slice());
+    assert_eq!(rt;
+        left.err.as_slice(),
+        b"fault 41 UnknownThread at 0\n".as_slice()
+    );
     let live = ["listset", "live"];
     let left = ran(&rt, rt.alloc(), live.as_slice(), "")?;
     assert_eq!(rt; left.status, 0);
@@ -74,12 +80,24 @@ fn runs_live_threads(rt: HostRuntime) -> Result<(), Fail> {
 
 #[test]
 fn tallies(rt: HostRuntime) -> Result<(), Fail> {
-    let three = ["listset", "batch", "--seed", "7", "--count", "3", "--steps", "5"];
+    let three = [
+        "listset", "batch", "--seed", "7", "--count", "3", "--steps", "5",
+    ];
     let left = ran(&rt, rt.alloc(), three.as_slice(), "")?;
-    assert!(rt; left.out.as_slice().starts_with(b"seed 7 count 3\n".as_slice()));
-    assert!(rt; left.out.as_slice().ends_with(b"setup.1 return\n\n".as_slice()));
+    assert!(rt;
+        left.out
+            .as_slice()
+            .starts_with(b"seed 7 count 3\n".as_slice())
+    );
+    assert!(rt;
+        left.out
+            .as_slice()
+            .ends_with(b"setup.1 return\n\n".as_slice())
+    );
     assert_eq!(rt; left.status, 0);
-    let none = ["listset", "batch", "--seed", "7", "--count", "0", "--steps", "5"];
+    let none = [
+        "listset", "batch", "--seed", "7", "--count", "0", "--steps", "5",
+    ];
     let left = ran(&rt, rt.alloc(), none.as_slice(), "")?;
     assert_eq!(rt; left.err.as_slice(), b"fault 60 BadCount\n".as_slice());
     Ok(())

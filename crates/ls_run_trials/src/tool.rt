@@ -47,7 +47,14 @@ fn checks(rt: HostRuntime) -> Result<(), Fail> {
         let mut reader = input;
         let mut shown = Vec::new(alloc);
         let mut told = Vec::new(alloc);
-        let ended = run(&rt, alloc, words.as_slice(), &mut reader, &mut shown, &mut told);
+        let ended = run(
+            &rt,
+            alloc,
+            words.as_slice(),
+            &mut reader,
+            &mut shown,
+            &mut told,
+        );
         assert_eq!(rt; shown.as_slice(), out.as_bytes());
         assert_eq!(rt; told.as_slice(), err.as_bytes());
         assert_eq!(rt; ended, status);
@@ -99,7 +106,14 @@ fn runs_sources(rt: HostRuntime) -> Result<(), Fail> {
         let mut reader = input;
         let mut shown = Vec::new(alloc);
         let mut told = Vec::new(alloc);
-        let ended = run(&rt, alloc, words.as_slice(), &mut reader, &mut shown, &mut told);
+        let ended = run(
+            &rt,
+            alloc,
+            words.as_slice(),
+            &mut reader,
+            &mut shown,
+            &mut told,
+        );
         assert_eq!(rt; shown.as_slice(), out.as_bytes());
         assert_eq!(rt; told.as_slice(), err.as_bytes());
         assert_eq!(rt; ended, status);
@@ -166,7 +180,14 @@ fn compiles_and_replays(rt: HostRuntime) -> Result<(), Fail> {
         let mut reader = input;
         let mut shown = Vec::new(alloc);
         let mut told = Vec::new(alloc);
-        let ended = run(&rt, alloc, words.as_slice(), &mut reader, &mut shown, &mut told);
+        let ended = run(
+            &rt,
+            alloc,
+            words.as_slice(),
+            &mut reader,
+            &mut shown,
+            &mut told,
+        );
         assert_eq!(rt; shown.as_slice(), out.as_bytes());
         assert_eq!(rt; told.as_slice(), err.as_bytes());
         assert_eq!(rt; ended, status);
@@ -189,7 +210,14 @@ fn refuses_lines(rt: HostRuntime) -> Result<(), Fail> {
         let words = texts(alloc, row)?;
         let mut shown = Vec::new(alloc);
         let mut told = Vec::new(alloc);
-        let ended = run(&rt, alloc, words.as_slice(), &mut Failing, &mut shown, &mut told);
+        let ended = run(
+            &rt,
+            alloc,
+            words.as_slice(),
+            &mut Failing,
+            &mut shown,
+            &mut told,
+        );
         assert_eq!(rt; ended, 2);
         assert_eq!(rt; shown.len(), 0);
         assert!(rt; !told.is_empty());
@@ -247,7 +275,14 @@ fn tells_of_streams(rt: HostRuntime) -> Result<(), Fail> {
     let words = texts(alloc, ["listset", "check"].as_slice())?;
     let mut shown = Vec::new(alloc);
     let mut told = Vec::new(alloc);
-    let ended = run(&rt, alloc, words.as_slice(), &mut Failing, &mut shown, &mut told);
+    let ended = run(
+        &rt,
+        alloc,
+        words.as_slice(),
+        &mut Failing,
+        &mut shown,
+        &mut told,
+    );
     assert_eq!(rt; (ended, shown.len()), (1, 0));
     assert_eq!(rt; told.as_slice(), b"fault 82 ReadFailed\n".as_slice());
     told.clear();
