@@ -1,0 +1,108 @@
+#!/usr/bin/env python3
+"""hostile [--program P] [--stack KB] [--memory MB] [WORD..]: large, deep and odd inputs, and streams that fail.
+
+Each input must get one of the answers that are listed for it (0 done, or a fault's number), within ten seconds, in a stack of 8 MB,
+and with at most 16 bytes of memory for each byte of the input beside what the same command takes for next to nothing. The streams
+are closed, directories, full or shut by their readers. With words, only what has one of them in its name is tried. Prints what
+took over two seconds or over that memory, and ends with status 1 where an answer is wrong."""
+import argparse
+import os
+import resource
+import signal
+import subprocess
+import sys
+import tempfile
+import time
+
+import large
+import streams
+from tool import PROGRAM, fault_of, Done
+
+SECONDS = 10
+TIMES = 16
+# what a million steps, a machine of 65,536 cells and their texts take, in bytes
+RUN = 48 * 2**20
+
+
+def limits(stack, memory):
+    def set_():
+        resource.setrlimit(resource.RLIMIT_STACK, (stack * 1024, stack * 1024))
+        resource.setrlimit(resource.RLIMIT_AS, (memory * 2**20, memory * 2**20))
+    return set_
+
+
+def measured(program, words, text, set_):
+    """One run, with its seconds and the most memory that it had, in bytes."""
+    with tempfile.TemporaryFile() as given, tempfile.TemporaryFile() as out, tempfile.TemporaryFile() as errors:
+        given.write(text)
+        given.seek(0)
+        start = time.time()
+        child = subprocess.Popen([program, *words], stdin=given, stdout=out, stderr=errors, preexec_fn=set_)
+        signal.signal(signal.SIGALRM, lambda *_: child.kill())
+        signal.alarm(60)
+        _, status, usage = os.wait4(child.pid, 0)
+        signal.alarm(0)
+        child.returncode = os.waitstatus_to_exitcode(status)
+        seconds = time.time() - start
+        out.seek(0)
+        errors.seek(0)
+        return Done(out.read(), errors.read(), child.returncode), seconds, usage.ru_maxrss * 1024
+
+
+def answer(done):
+    """0 for a run that is done, a fault's number, or what came instead."""
+    if done.status == 0 and not done.errors:
+        return 0
+    number = fault_of(done)
+    return number if number and not done.out else f"status {done.status}, {done.errors[:100]!r}"
+
+
+def wrong_with(name, text, wanted, came, seconds, memory):
+    """What is said of one input: its answer, its time, its memory."""
+    wrong = [] if came in wanted else [f"answered {came}, wanted {wanted}"]
+    if seconds > SECONDS:
+        wrong.append(f"took {seconds:.1f} s")
+    if memory > TIMES * len(text) + RUN:
+        wrong.append(f"took {memory / 2**20:.0f} MB for {len(text):,} bytes")
+    return wrong
+
+
+def inputs(program, set_, words):
+    """Tries each large input; answers how many there were and how many were wrong."""
+    count = failed = 0
+    for name, arguments, text, wanted in large.everything():
+        if words and not any(word in name for word in words):
+            continue
+        done, seconds, memory = measured(program, arguments, text, set_)
+        wrong = wrong_with(name, text, wanted, answer(done), seconds, memory)
+        count, failed = count + 1, failed + bool(wrong)
+        if wrong or seconds > 2:
+            print(f"{name}: {'; '.join(wrong) or 'right'}; {len(text):,} bytes, {seconds:.1f} s, {memory / 2**20:.0f} MB", flush=True)
+    return count, failed
+
+
+def arguments():
+    parser = argparse.ArgumentParser(description=__doc__)
+    parser.add_argument("--program", default=PROGRAM)
+    parser.add_argument("--stack", type=int, default=8192)
+    parser.add_argument("--memory", type=int, default=3000)
+    parser.add_argument("words", nargs="*")
+    return parser.parse_args()
+
+
+def main():
+    given = arguments()
+    program, start = os.path.abspath(given.program), time.time()
+    count, failed = inputs(program, limits(given.stack, given.memory), given.words)
+    for name, wrong in streams.checked(program):
+        if given.words and not any(word in name for word in given.words):
+            continue
+        count, failed = count + 1, failed + bool(wrong)
+        if wrong:
+            print(f"{name}: {wrong}", flush=True)
+    print(f"{count} inputs and streams, {failed} wrong, {time.time() - start:.0f} s")
+    return 1 if failed else 0
+
+
+if __name__ == "__main__":
+    sys.exit(main())
