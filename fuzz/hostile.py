@@ -7,8 +7,6 @@ are closed, directories, full or shut by their readers. With words, only what ha
 took over two seconds or over that memory, and ends with status 1 where an answer is wrong."""
 import argparse
 import os
-import resource
-import signal
 import subprocess
 import sys
 import tempfile
@@ -24,29 +22,23 @@ TIMES = 16
 RUN = 48 * 2**20
 
 
-def limits(stack, memory):
-    def set_():
-        resource.setrlimit(resource.RLIMIT_STACK, (stack * 1024, stack * 1024))
-        resource.setrlimit(resource.RLIMIT_AS, (memory * 2**20, memory * 2**20))
-    return set_
+SHELL = 'ulimit -s "$1"; ulimit -v "$2"; shift 2; exec "$@"'
 
 
-def measured(program, words, text, set_):
-    """One run, with its seconds and the most memory that it had, in bytes."""
-    with tempfile.TemporaryFile() as given, tempfile.TemporaryFile() as out, tempfile.TemporaryFile() as errors:
+def measured(program, words, text, stack, memory):
+    """One run under limits, with its seconds and the most memory that it had, in bytes.
+
+    The kernel counts what a process had before it became the program, so `time` stands between it and this script."""
+    with tempfile.TemporaryFile() as given, tempfile.TemporaryFile() as out, tempfile.TemporaryFile() as errors, tempfile.NamedTemporaryFile() as most:
         given.write(text)
         given.seek(0)
+        line = ["/usr/bin/time", "-q", "-f", "%M", "-o", most.name, "sh", "-c", SHELL, "sh", str(stack), str(memory * 1024), "timeout", "-s", "KILL", "60"]
         start = time.time()
-        child = subprocess.Popen([program, *words], stdin=given, stdout=out, stderr=errors, preexec_fn=set_)
-        signal.signal(signal.SIGALRM, lambda *_: child.kill())
-        signal.alarm(60)
-        _, status, usage = os.wait4(child.pid, 0)
-        signal.alarm(0)
-        child.returncode = os.waitstatus_to_exitcode(status)
+        done = subprocess.run([*line, program, *words], stdin=given, stdout=out, stderr=errors, check=False)
         seconds = time.time() - start
         out.seek(0)
         errors.seek(0)
-        return Done(out.read(), errors.read(), child.returncode), seconds, usage.ru_maxrss * 1024
+        return Done(out.read(), errors.read(), done.returncode), seconds, int(most.read().split()[-1]) * 1024
 
 
 def answer(done):
@@ -67,13 +59,13 @@ def wrong_with(name, text, wanted, came, seconds, memory):
     return wrong
 
 
-def inputs(program, set_, words):
+def inputs(program, limits, words):
     """Tries each large input; answers how many there were and how many were wrong."""
     count = failed = 0
     for name, arguments, text, wanted in large.everything():
         if words and not any(word in name for word in words):
             continue
-        done, seconds, memory = measured(program, arguments, text, set_)
+        done, seconds, memory = measured(program, arguments, text, *limits)
         wrong = wrong_with(name, text, wanted, answer(done), seconds, memory)
         count, failed = count + 1, failed + bool(wrong)
         if wrong or seconds > 2:
@@ -93,7 +85,7 @@ def arguments():
 def main():
     given = arguments()
     program, start = os.path.abspath(given.program), time.time()
-    count, failed = inputs(program, limits(given.stack, given.memory), given.words)
+    count, failed = inputs(program, (given.stack, given.memory), given.words)
     for name, wrong in streams.checked(program):
         if given.words and not any(word in name for word in given.words):
             continue

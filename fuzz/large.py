@@ -82,7 +82,7 @@ def towers():
         "labels": (b"while (true) { while (b) { break; } ", b"", b" }")}
     for name, (opening, middle, ending) in kinds.items():
         for depth in (10, 20, 30, 41, 42, 50, 62, 63, 64, 100, 126, 127, 128):
-            yield f"tower_of_{name}_{depth}", ["compile"], method(nest(opening, middle, ending, depth)) + EMPTY, (0, 7, 31, 32, 33)
+            yield f"tower_of_{name}_{depth}", ["compile"], method(nest(opening, middle, ending, depth)) + EMPTY, (0, 7, 30, 31, 32, 33)
 
 
 def nested_calls():
