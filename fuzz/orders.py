@@ -10,6 +10,7 @@ import sys
 import time
 
 import mutations
+from claims import parts_of
 from readers import read_history, read_order, read_schedule, verdict
 from tool import PROGRAM, joined, keep, run
 
@@ -95,14 +96,11 @@ def of_orders(r, program):
     return ["check"], history, order
 
 
-def wanted_of(history, order):
+def wanted_of(parts):
     """What `check` must say, or None where these aren't two parts of text."""
-    try:
-        texts = history.decode(), order.decode()
-    except UnicodeDecodeError:
+    if len(parts) != 2 or not all(is_text(part) for part in parts):
         return None
-    if any(line == b"%%" for line in (history + b"\n" + order).split(b"\n")):
-        return None
+    texts = [part.decode() for part in parts]
     events, entries = read_history(texts[0]), read_order(texts[1])
     for fault in (events, entries):
         if isinstance(fault, tuple):
@@ -118,10 +116,10 @@ def fault_place(fault, text):
 
 def check_orders(program, r):
     words, history, order = of_orders(r, program)
-    wanted = wanted_of(history, order)
+    text = joined(history, order)
+    wanted = wanted_of(parts_of(text))
     if wanted is None:
         return "no two texts", None
-    text = joined(history, order)
     done = run(program, words, text)
     came = (done.out or done.errors).decode()
     return wanted.split(" at ")[0].rsplit(" ", 1)[0].strip(), None if came == wanted else (words, text, came, wanted)
