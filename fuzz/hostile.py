@@ -1,10 +1,10 @@
 #!/usr/bin/env python3
 """hostile [--program P] [--stack KB] [--memory MB] [WORD..]: large, deep and odd inputs, and streams that fail.
 
-Each input must get one of the answers that are listed for it (0 done, or a fault's number), within ten seconds, in a stack of 8 MB,
-and with at most 16 bytes of memory for each byte of the input beside what the same command takes for next to nothing. The streams
-are closed, directories, full or shut by their readers. With words, only what has one of them in its name is tried. Prints what
-took over two seconds or over that memory, and ends with status 1 where an answer is wrong."""
+Each input must get one of the answers that are listed for it (0 done, or a fault's number), within ten seconds, in a stack of 8 MB. One
+that takes over 16 bytes of memory for each byte of its input, beside what its command takes anyway, is printed as heavy. The streams
+are closed, directories, full or shut by their readers. With words, only what has one of them in its name is tried. Prints too what
+took over two seconds; ends with status 1 where an answer is wrong or late."""
 import argparse
 import os
 import subprocess
@@ -18,7 +18,8 @@ from tool import PROGRAM, fault_of, Done
 
 SECONDS = 10
 TIMES = 16
-# what a million steps, a machine of 65,536 cells and their texts take, in bytes
+# what a command takes anyway, in bytes: the program itself, and where it runs something a machine's cells and a million steps
+ANYWAY = {"compile": 8 * 2**20, "check": 4 * 2**20}
 RUN = 48 * 2**20
 
 
@@ -49,28 +50,29 @@ def answer(done):
     return number if number and not done.out else f"status {done.status}, {done.errors[:100]!r}"
 
 
-def wrong_with(name, text, wanted, came, seconds, memory):
-    """What is said of one input: its answer, its time, its memory."""
+def wrong_with(wanted, came, seconds):
+    """What is said of one input's answer and its time."""
     wrong = [] if came in wanted else [f"answered {came}, wanted {wanted}"]
-    if seconds > SECONDS:
-        wrong.append(f"took {seconds:.1f} s")
-    if memory > TIMES * len(text) + RUN:
-        wrong.append(f"took {memory / 2**20:.0f} MB for {len(text):,} bytes")
-    return wrong
+    return wrong + ([f"took {seconds:.1f} s"] if seconds > SECONDS else [])
+
+
+def is_heavy(command, text, memory):
+    return memory > TIMES * len(text) + ANYWAY.get(command, RUN)
 
 
 def inputs(program, limits, words):
-    """Tries each large input; answers how many there were and how many were wrong."""
-    count = failed = 0
+    """Tries each large input; answers how many there were, how many were wrong and how many heavy."""
+    count = failed = heavy = 0
     for name, arguments, text, wanted in large.everything():
         if words and not any(word in name for word in words):
             continue
         done, seconds, memory = measured(program, arguments, text, *limits)
-        wrong = wrong_with(name, text, wanted, answer(done), seconds, memory)
-        count, failed = count + 1, failed + bool(wrong)
-        if wrong or seconds > 2:
-            print(f"{name}: {'; '.join(wrong) or 'right'}; {len(text):,} bytes, {seconds:.1f} s, {memory / 2**20:.0f} MB", flush=True)
-    return count, failed
+        wrong, much = wrong_with(wanted, answer(done), seconds), is_heavy(arguments[0], text, memory)
+        count, failed, heavy = count + 1, failed + bool(wrong), heavy + much
+        if wrong or much or seconds > 2:
+            told = "; ".join(wrong) or ("heavy" if much else "slow")
+            print(f"{name}: {told}; {len(text):,} bytes, {seconds:.1f} s, {memory / 2**20:.0f} MB, {memory / len(text):.0f} a byte", flush=True)
+    return count, failed, heavy
 
 
 def arguments():
@@ -85,14 +87,14 @@ def arguments():
 def main():
     given = arguments()
     program, start = os.path.abspath(given.program), time.time()
-    count, failed = inputs(program, (given.stack, given.memory), given.words)
+    count, failed, heavy = inputs(program, (given.stack, given.memory), given.words)
     for name, wrong in streams.checked(program):
         if given.words and not any(word in name for word in given.words):
             continue
         count, failed = count + 1, failed + bool(wrong)
         if wrong:
             print(f"{name}: {wrong}", flush=True)
-    print(f"{count} inputs and streams, {failed} wrong, {time.time() - start:.0f} s")
+    print(f"{count} inputs and streams, {failed} wrong, {heavy} heavy, {time.time() - start:.0f} s")
     return 1 if failed else 0
 
 

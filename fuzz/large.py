@@ -119,7 +119,7 @@ def histories(size=64 * 2**20):
     yield "history_of_lines", ["check"], b"\n" * size + b"%%\n", 77
     yield "history_of_one_line", ["check"], b"A.1 call s.add(" + b"1" * size + b")\n%%\n", 77
     yield "history_of_one_name", ["check"], b"q" * size + b".1 call s.add(1)\n%%\n", 0
-    yield "history_of_many_threads", ["check"], b"".join(b"A%d.1 call s.add(1)\n" % i for i in range(size // 32)) + b"%%\n", 0
+    yield "history_of_many_threads", ["check"], b"".join(b"A%d.1 call s.add(1)\n" % i for i in range(100_000)) + b"%%\n", 0
     yield "history_of_one_call", ["check"], b"A.1 call s.f(1" + b", 1" * (size // 3) + b")\n%%\n", 0
     yield "order_of_one_call", ["check"], b"A.1 call s.add(1)\n%%\n" + b"A.1 " * (size // 4) + b"\n", 0
     yield "order_of_gaps", ["check"], b"A.1 call s.add(1)\n%%\n" + b" " * size + b"\n", 0

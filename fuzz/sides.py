@@ -1,4 +1,5 @@
 """Comparisons of one program's runs with one another. Each answers None, or what `keep` stores of the run that is wrong."""
+from readers import read_schedule
 from tool import fault_of, joined, run
 
 NO_TRANSLATION = (33, 43, 44)
@@ -100,4 +101,42 @@ def tallied(program, parts, schedule, random, tally):
     return None if batch.status == 0 and batch.out.decode() == wanted else (words, joined(*parts), batch.told(), wanted)
 
 
-CHECKS = (to_machine, to_source, by_turns, live_record, twice, tallied)
+def few_cells(program, parts, schedule, random, tally):
+    """In few cells: 43 names the first step that has no room, and what is translated has the source's history there."""
+    cells = ["--cells", str(random.choice((3, 5, 8, 12, 20, 40, 100)))]
+    translated = run(program, ["translate", "--to", "machine", *cells], joined(*parts, schedule))
+    if fault_of(translated) == 35:
+        return None
+    names = ["setup", *names_of(parts)]
+    steps = [names[step] for step in read_schedule(schedule.decode(), names[1:])]
+    tally.add(f"in few cells, fault {fault_of(translated)}")
+    if fault_of(translated) == 43:
+        return too_few(program, parts, steps, cells, translated)
+    source = run(program, ["source"], joined(*parts, schedule))
+    there = run(program, ["replay", *cells], joined(*parts, translated.out))
+    return None if there.same(source) or translated.status else (cells, joined(*parts, schedule), there.told(), source.told())
+
+
+def too_few(program, parts, steps, cells, translated):
+    """The steps before the one that is named fit; with it they don't."""
+    words, place = ["translate", "--to", "machine", *cells], int(translated.errors.split()[-1])
+    before = run(program, words, joined(*parts, " ".join(steps[:place]).encode() + b"\n"))
+    behind = run(program, words, joined(*parts, " ".join(steps[:place + 1]).encode() + b"\n"))
+    if before.status == 0 and behind.same(translated):
+        return None
+    return words, joined(*parts, " ".join(steps).encode() + b"\n"), f"before {before.told()}, with it {behind.told()}", translated.told()
+
+
+def stopped(program, parts, schedule, random, tally):
+    """A machine that may stop for want of cells, played by the source as far as it came."""
+    cells = ["--cells", str(random.choice((3, 5, 8, 12, 20, 40, 100)))]
+    text = joined(*parts, schedule)
+    history, translated = run(program, ["replay", *cells], text), run(program, ["translate", "--to", "source", *cells], text)
+    if fault_of(history) == fault_of(translated) == 35:
+        return None
+    there = run(program, ["source"], joined(*parts, translated.out))
+    tally.add("stopped or not, to the source")
+    return None if there.same(history) else (["replay", *cells], text, history.told(), there.told())
+
+
+CHECKS = (to_machine, to_source, by_turns, live_record, twice, tallied, few_cells, stopped)
