@@ -29,6 +29,10 @@ def lines(count, form):
     return b"".join(form.replace(b"#", str(i).encode()) for i in range(1, count + 1))
 
 
+def backwards(count):
+    return b" ".join(b"A.%d" % i for i in range(count, 0, -1))
+
+
 def families():
     """Names, words, sizes to begin with, and the input of a size."""
     check, compile_ = ["check"], ["compile"]
@@ -36,7 +40,7 @@ def families():
     yield "history_of_many_threads", check, 8_000, lambda n: lines(n, b"A#.1 call s.add(1)\n") + b"%%\n"
     yield "history_of_one_item", check, 40_000, lambda n: lines(n, b"A.# call s.contains(1)\nA.# return false\n") + b"%%\n" + lines(n, b"A.# ")
     yield "order_of_pending_calls", check, 4_000, lambda n: lines(n, b"A#.1 call s.add(#)\n") + b"%%\n" + lines(n, b"A#.1 ")
-    yield "order_backwards", check, 40_000, lambda n: lines(n, b"A.# call s.add(#)\nA.# return true\n") + b"%%\n" + b" ".join(b"A.%d" % i for i in range(n, 0, -1))
+    yield "order_backwards", check, 40_000, lambda n: lines(n, b"A.# call s.add(#)\nA.# return true\n") + b"%%\n" + backwards(n)
     yield "order_of_one_call", check, 400_000, lambda n: b"A.1 call s.add(1)\n%%\n" + b"A.1 " * n
     yield "order_of_unknown_calls", check, 40_000, lambda n: lines(n, b"A.# call s.add(#)\nA.# return true\n") + b"%%\n" + lines(n, b"B.# ")
     yield "tally_of_many_histories", ["batch", "--seed", "1", "--steps", "200", "--count"], 8_000, tally
@@ -67,7 +71,7 @@ def tally(count):
 
 
 def grown(program, name, words, first, made):
-    """Tries a family at four sizes; answers what is wrong."""
+    """Tries a family at three sizes; answers what is wrong."""
     seconds, told = [], []
     for size in (first, 2 * first, 4 * first):
         text = made(size)
