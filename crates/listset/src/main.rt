@@ -25,12 +25,13 @@ fn main(rt: HostRuntime) -> ExitCode {
     let mut input = rt.stdin();
     let mut output = rt.stdout();
     let mut errors = rt.stderr();
-    ExitCode::from(ls_tool::run(
+    let exit = ls_tool::run(
         &rt,
         rt.alloc(),
         words.as_slice(),
         &mut input,
         &mut output,
         &mut errors,
-    ))
+    );
+    ExitCode::from(exit.status)
 }

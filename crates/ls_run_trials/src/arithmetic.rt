@@ -107,6 +107,6 @@ fn replays_sixteen_methods(rt: HostRuntime) -> Result<(), Fail> {
     );
     assert_eq!(rt; shown.as_slice(), HISTORY.as_bytes());
     assert!(rt; told.is_empty());
-    assert_eq!(rt; ended, 0);
+    assert_eq!(rt; ended.status, 0);
     Ok(())
 }

@@ -34,8 +34,12 @@ fn ran<H: Threads + Wait + Sync>(
     let mut reader = input.as_bytes();
     let mut out = Vec::new(alloc);
     let mut err = Vec::new(alloc);
-    let status = run(rt, alloc, line.as_slice(), &mut reader, &mut out, &mut err);
-    Ok(Left { status, out, err })
+    let ended = run(rt, alloc, line.as_slice(), &mut reader, &mut out, &mut err);
+    Ok(Left {
+        status: ended.status,
+        out,
+        err,
+    })
 }
 
 #[test]

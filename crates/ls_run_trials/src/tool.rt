@@ -57,7 +57,7 @@ fn checks(rt: HostRuntime) -> Result<(), Fail> {
         );
         assert_eq!(rt; shown.as_slice(), out.as_bytes());
         assert_eq!(rt; told.as_slice(), err.as_bytes());
-        assert_eq!(rt; ended, status);
+        assert_eq!(rt; ended.status, status);
     }
     Ok(())
 }
@@ -116,7 +116,7 @@ fn runs_sources(rt: HostRuntime) -> Result<(), Fail> {
         );
         assert_eq!(rt; shown.as_slice(), out.as_bytes());
         assert_eq!(rt; told.as_slice(), err.as_bytes());
-        assert_eq!(rt; ended, status);
+        assert_eq!(rt; ended.status, status);
     }
     Ok(())
 }
@@ -190,7 +190,7 @@ fn compiles_and_replays(rt: HostRuntime) -> Result<(), Fail> {
         );
         assert_eq!(rt; shown.as_slice(), out.as_bytes());
         assert_eq!(rt; told.as_slice(), err.as_bytes());
-        assert_eq!(rt; ended, status);
+        assert_eq!(rt; ended.status, status);
     }
     Ok(())
 }
@@ -218,7 +218,7 @@ fn refuses_lines(rt: HostRuntime) -> Result<(), Fail> {
             &mut shown,
             &mut told,
         );
-        assert_eq!(rt; ended, 2);
+        assert_eq!(rt; ended.status, 2);
         assert_eq!(rt; shown.len(), 0);
         assert!(rt; !told.is_empty());
     }
@@ -283,7 +283,7 @@ fn tells_of_streams(rt: HostRuntime) -> Result<(), Fail> {
         &mut shown,
         &mut told,
     );
-    assert_eq!(rt; (ended, shown.len()), (1, 0));
+    assert_eq!(rt; (ended.status, shown.len()), (1, 0));
     assert_eq!(rt; told.as_slice(), b"fault 82 ReadFailed\n".as_slice());
     told.clear();
     let input: &[u8] = b"%%";
@@ -296,7 +296,7 @@ fn tells_of_streams(rt: HostRuntime) -> Result<(), Fail> {
         &mut Failing,
         &mut told,
     );
-    assert_eq!(rt; ended, 1);
+    assert_eq!(rt; ended.status, 1);
     assert_eq!(rt; told.as_slice(), b"fault 83 WriteFailed\n".as_slice());
     told.clear();
     let mut reader = input;
@@ -308,7 +308,7 @@ fn tells_of_streams(rt: HostRuntime) -> Result<(), Fail> {
         &mut Unflushed,
         &mut told,
     );
-    assert_eq!(rt; ended, 1);
+    assert_eq!(rt; ended.status, 1);
     assert_eq!(rt; told.as_slice(), b"fault 83 WriteFailed\n".as_slice());
     let mut reader = input;
     let ended = run(
@@ -319,6 +319,7 @@ fn tells_of_streams(rt: HostRuntime) -> Result<(), Fail> {
         &mut Failing,
         &mut Failing,
     );
-    assert_eq!(rt; ended, 1);
+    assert_eq!(rt; ended.status, 1);
+    assert!(rt; !ended.is_told);
     Ok(())
 }

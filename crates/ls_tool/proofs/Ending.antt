@@ -1,12 +1,14 @@
 -- From what a layer answers to what a run does.
-use Rattle.std.specs.Prelude.{IfSome, OnErr, OnOk, String, string_bytes}
-use Rattle.std.proofs.Common.{◌≡◌, arith, length, take_all, ℕ, List, refl, sym, subst, Option, Some, None, Result, Ok, Err}
+use Rattle.std.specs.Prelude.{IfSome, OnErr, OnOk, String, is_ok, string_bytes}
+use Rattle.std.proofs.Common.{◌≡◌, List, refl, subst, Option, Some, None, Result, Ok, Err}
 use Rattle.std.specs.Global.{Global}
 use Rattle.std.specs.Io.KnownBytes.{Appends, Keeps}
 use Rattle.clap.specs.declared.error.Error.{Error}
 use Rattle.ls_report.specs.Events.{Text}
 use Rattle.ls_command_line.specs.Words.{AsksFor}
 use Rattle.ls_command_line.specs.declared.words.Request.{Request}
+use Rattle.ls_commands.specs.Faults.{fault_line}
+use Rattle.ls_tool.specs.declared.running.Exit.{Exit}
 use Rattle.ls_commands.specs.declared.fault.ToolFault.{ToolFault}
 use Rattle.ls_commands.specs.declared.fault.ToolFault.TheVariants as fault
 use Rattle.ls_tool.specs.declared.refusal.Refusal.TheVariants as refusal
@@ -57,39 +59,39 @@ pub decide_bad : (words : List Text) (input : Text) (e : Error) → AsksFor word
 decide_bad words input e h = BadLine h
 
 -- a run that tells a fault
-pub tells : (words : List Text) (input : Text) (f : ToolFault) (status : ℕ) (out err err' : Option Text)
-    → status ≡ 1 → Told f err err' → Decides words input (Err (refusal.Fault f)) → Ends words input status out out err err'
-tells words input fault.Memory status out err err' s t d = OutOfMemory (s, keeps out, t)
-tells words input fault.ReadFailed status out err err' s t d = ReaderFailed d.0 d.1 (s, keeps out, t)
-tells words input (fault.Text f) status out err err' s t d = AsAsked (Err (Some (fault.Text f))) d (s, keeps out, t)
-tells words input (fault.Check f) status out err err' s t d = AsAsked (Err (Some (fault.Check f))) d (s, keeps out, t)
-tells words input (fault.Program f) status out err err' s t d = AsAsked (Err (Some (fault.Program f))) d (s, keeps out, t)
-tells words input (fault.Build f) status out err err' s t d = AsAsked (Err (Some (fault.Build f))) d (s, keeps out, t)
-tells words input fault.BadCells status out err err' s t d = AsAsked (Err (Some fault.BadCells)) d (s, keeps out, t)
-tells words input (fault.Schedule f) status out err err' s t d = AsAsked (Err (Some (fault.Schedule f))) d (s, keeps out, t)
-tells words input (fault.Translation f) status out err err' s t d = AsAsked (Err (Some (fault.Translation f))) d (s, keeps out, t)
-tells words input (fault.Live f) status out err err' s t d = AsAsked (Err (Some (fault.Live f))) d (s, keeps out, t)
-tells words input (fault.Turns f) status out err err' s t d = AsAsked (Err (Some (fault.Turns f))) d (s, keeps out, t)
-tells words input (fault.Batch f) status out err err' s t d = AsAsked (Err (Some (fault.Batch f))) d (s, keeps out, t)
-tells words input (fault.History f) status out err err' s t d = AsAsked (Err (Some (fault.History f))) d (s, keeps out, t)
-tells words input (fault.Order f) status out err err' s t d = AsAsked (Err (Some (fault.Order f))) d (s, keeps out, t)
-tells words input fault.WrongParts status out err err' s t d = AsAsked (Err (Some fault.WrongParts)) d (s, keeps out, t)
-tells words input fault.NotText status out err err' s t d = AsAsked (Err (Some fault.NotText)) d (s, keeps out, t)
-tells words input fault.WriteFailed status out err err' s t d = AsAsked (Err (Some fault.WriteFailed)) d (s, keeps out, t)
+pub tells : (words : List Text) (input : Text) (f : ToolFault) (exit : Exit) (out err err' : Option Text)
+    → exit.status ≡ 1 → Told f exit.is_told err err' → Decides words input (Err (refusal.Fault f)) → Ends words input exit out out err err'
+tells words input fault.Memory exit out err err' s t d = OutOfMemory (s, keeps out, t)
+tells words input fault.ReadFailed exit out err err' s t d = ReaderFailed d.0 d.1 (s, keeps out, t)
+tells words input (fault.Text f) exit out err err' s t d = AsAsked (Err (Some (fault.Text f))) d (s, keeps out, t)
+tells words input (fault.Check f) exit out err err' s t d = AsAsked (Err (Some (fault.Check f))) d (s, keeps out, t)
+tells words input (fault.Program f) exit out err err' s t d = AsAsked (Err (Some (fault.Program f))) d (s, keeps out, t)
+tells words input (fault.Build f) exit out err err' s t d = AsAsked (Err (Some (fault.Build f))) d (s, keeps out, t)
+tells words input fault.BadCells exit out err err' s t d = AsAsked (Err (Some fault.BadCells)) d (s, keeps out, t)
+tells words input (fault.Schedule f) exit out err err' s t d = AsAsked (Err (Some (fault.Schedule f))) d (s, keeps out, t)
+tells words input (fault.Translation f) exit out err err' s t d = AsAsked (Err (Some (fault.Translation f))) d (s, keeps out, t)
+tells words input (fault.Live f) exit out err err' s t d = AsAsked (Err (Some (fault.Live f))) d (s, keeps out, t)
+tells words input (fault.Turns f) exit out err err' s t d = AsAsked (Err (Some (fault.Turns f))) d (s, keeps out, t)
+tells words input (fault.Batch f) exit out err err' s t d = AsAsked (Err (Some (fault.Batch f))) d (s, keeps out, t)
+tells words input (fault.History f) exit out err err' s t d = AsAsked (Err (Some (fault.History f))) d (s, keeps out, t)
+tells words input (fault.Order f) exit out err err' s t d = AsAsked (Err (Some (fault.Order f))) d (s, keeps out, t)
+tells words input fault.WrongParts exit out err err' s t d = AsAsked (Err (Some fault.WrongParts)) d (s, keeps out, t)
+tells words input fault.NotText exit out err err' s t d = AsAsked (Err (Some fault.NotText)) d (s, keeps out, t)
+tells words input fault.WriteFailed exit out err err' s t d = AsAsked (Err (Some fault.WriteFailed)) d (s, keeps out, t)
 
-pub done : (words : List Text) (input : Text) (text : String Global) (status : ℕ) (out out' err : Option Text)
-    → status ≡ 0 → Appends out out' (string_bytes text) → Decides words input (Ok text) → Ends words input status out out' err err
-done words input text status out out' err s a d = AsAsked (Ok (string_bytes text)) d (s, a, keeps err)
+pub done : (words : List Text) (input : Text) (text : String Global) (exit : Exit) (out out' err : Option Text)
+    → exit.status ≡ 0 → Appends out out' (string_bytes text) → Decides words input (Ok text) → Ends words input exit out out' err err
+done words input text exit out out' err s a d = AsAsked (Ok (string_bytes text)) d (s, a, keeps err)
 
-pub cut_short : (words : List Text) (input : Text) (text : String Global) (status : ℕ) (out out' err err' : Option Text)
-    → status ≡ 1 → Begins out out' (string_bytes text) → Told fault.WriteFailed err err' → Decides words input (Ok text) → Ends words input status out out' err err'
-cut_short words input text status out out' err err' s b t d = WriterFailed (string_bytes text) d (s, b, t)
+pub cut_short : (words : List Text) (input : Text) (text : String Global) (exit : Exit) (out out' err err' : Option Text)
+    → exit.status ≡ 1 → Begins out out' (string_bytes text) → Told fault.WriteFailed exit.is_told err err' → Decides words input (Ok text) → Ends words input exit out out' err err'
+cut_short words input text exit out out' err err' s b t d = WriterFailed (string_bytes text) d (s, b, t)
 
-pub bad_line : (words : List Text) (input : Text) (e : Error) (status : ℕ) (out err err' : Option Text)
-    → status ≡ 2 → Decides words input (Err (refusal.BadLine e)) → Ends words input status out out err err'
-bad_line words input e status out err err' s d = AsAsked (Err None) d (s, keeps out)
+pub bad_line : (words : List Text) (input : Text) (e : Error) (exit : Exit) (out err err' : Option Text)
+    → exit.status ≡ 2 → Decides words input (Err (refusal.BadLine e)) → Ends words input exit out out err err'
+bad_line words input e exit out err err' s d = AsAsked (Err None) d (s, keeps out)
 
--- what a write leaves, whether it failed or not
-pub begins : (r : Result (Unit {0}) ToolFault) (old new : Option Text) (bytes : Text) → OnOk r (Appends old new bytes) → OnErr r (Begins old new bytes) → Begins old new bytes
-begins (Ok x) old new bytes a b = (length bytes, omega arith, subst (λ z. Appends old new z) (sym (take_all (length bytes) bytes (omega arith))) a)
-begins (Err e) old new bytes a b = b
+-- what a write leaves, where it didn't fail and where it failed
+pub told : (r : Result (Unit {0}) ToolFault) (f : ToolFault) (old new : Option Text) → OnOk r (Appends old new (fault_line f)) → OnErr r (Begins old new (fault_line f)) → Told f (is_ok r) old new
+told (Ok x) f old new a b = a
+told (Err e) f old new a b = b

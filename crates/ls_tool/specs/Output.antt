@@ -1,5 +1,5 @@
 -- What the program writes, for its words and its input.
-use Rattle.std.specs.Prelude.{◌≡◌, ◌≤◌, ℕ, List, [], ◌∷◌, length, take, MatchBool, true, false, Option, Some, None, Result, Ok, Err, String, string_bytes}
+use Rattle.std.specs.Prelude.{◌≡◌, ◌≤◌, ℕ, List, [], ◌∷◌, length, take, Bool, MatchBool, true, false, Option, Some, None, Result, Ok, Err, String, string_bytes}
 use Rattle.std.specs.Global.{Global}
 use Rattle.std.specs.Io.KnownBytes.{Appends, Keeps}
 use Rattle.ls_report.specs.Events.{Text}
@@ -16,6 +16,7 @@ use Rattle.ls_command_line.specs.declared.words.Request.{Request}
 use Rattle.ls_command_line.specs.declared.words.Request.TheVariants as requests
 use Rattle.ls_commands.specs.declared.fault.ToolFault.{ToolFault}
 use Rattle.ls_commands.specs.declared.fault.ToolFault.TheVariants as faults
+use Rattle.ls_tool.specs.declared.running.Exit.{Exit}
 use Rattle.ls_tool.specs.declared.refusal.Refusal.{Refusal}
 use Rattle.ls_tool.specs.declared.refusal.Refusal.TheVariants as refusals
 
@@ -70,23 +71,23 @@ Decides words input (Err (refusals.Fault f)) = IsEnding words input (Err (Some f
 abbrev pub Begins : Option Text → Option Text → Text → Type 0
 Begins old new bytes = (n : ℕ) × (n ≤ length bytes) × Appends old new (take n bytes)
 
--- the fault's line is on the writer, or a beginning of it where the writer failed
-abbrev pub Told : ToolFault → Option Text → Option Text → Type 0
-Told f err err' = Begins err err' (fault_line f)
+-- the fault's line is on the writer, where all was told, or a beginning of it, where the writer failed
+abbrev pub Told : ToolFault → Bool → Option Text → Option Text → Type 0
+Told f is_told err err' = MatchBool is_told (Appends err err' (fault_line f)) (Begins err err' (fault_line f))
 
 -- status 0 with the whole text, 1 with a fault's line, 2 for a bad command line
-abbrev pub Shows : Result Text (Option ToolFault) → ℕ → Option Text → Option Text → Option Text → Option Text → Type 0
-Shows (Ok text) status out out' err err' = (status ≡ 0) × Appends out out' text × Keeps err err'
-Shows (Err (Some f)) status out out' err err' = (status ≡ 1) × Keeps out out' × Told f err err'
-Shows (Err None) status out out' err err' = (status ≡ 2) × Keeps out out'
+abbrev pub Shows : Result Text (Option ToolFault) → Exit → Option Text → Option Text → Option Text → Option Text → Type 0
+Shows (Ok text) exit out out' err err' = (exit.status ≡ 0) × Appends out out' text × Keeps err err'
+Shows (Err (Some f)) exit out out' err err' = (exit.status ≡ 1) × Keeps out out' × Told f exit.is_told err err'
+Shows (Err None) exit out out' err err' = (exit.status ≡ 2) × Keeps out out'
 
 -- the writer failed: a beginning of the text is there, and the fault's line is told
-abbrev pub CutShort : Text → ℕ → Option Text → Option Text → Option Text → Option Text → Type 0
-CutShort text status out out' err err' = (status ≡ 1) × Begins out out' text × Told faults.WriteFailed err err'
+abbrev pub CutShort : Text → Exit → Option Text → Option Text → Option Text → Option Text → Type 0
+CutShort text exit out out' err err' = (exit.status ≡ 1) × Begins out out' text × Told faults.WriteFailed exit.is_told err err'
 
 -- A run ends as the words and the input ask, or it tells that memory ran out or that a stream failed.
-pub data Ends (words : List Text) (input : Text) (status : ℕ) (out out' err err' : Option Text) : Type 0 where
-  AsAsked : (ending : Result Text (Option ToolFault)) → IsEnding words input ending → Shows ending status out out' err err' → Ends words input status out out' err err'
-  OutOfMemory : Shows (Err (Some faults.Memory)) status out out' err err' → Ends words input status out out' err err'
-  ReaderFailed : (r : Request) → AsksFor words (Some r) → Shows (Err (Some faults.ReadFailed)) status out out' err err' → Ends words input status out out' err err'
-  WriterFailed : (text : Text) → IsEnding words input (Ok text) → CutShort text status out out' err err' → Ends words input status out out' err err'
+pub data Ends (words : List Text) (input : Text) (exit : Exit) (out out' err err' : Option Text) : Type 0 where
+  AsAsked : (ending : Result Text (Option ToolFault)) → IsEnding words input ending → Shows ending exit out out' err err' → Ends words input exit out out' err err'
+  OutOfMemory : Shows (Err (Some faults.Memory)) exit out out' err err' → Ends words input exit out out' err err'
+  ReaderFailed : (r : Request) → AsksFor words (Some r) → Shows (Err (Some faults.ReadFailed)) exit out out' err err' → Ends words input exit out out' err err'
+  WriterFailed : (text : Text) → IsEnding words input (Ok text) → CutShort text exit out out' err err' → Ends words input exit out out' err err'

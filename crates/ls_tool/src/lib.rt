@@ -11,4 +11,4 @@ pub use answer::respond;
 pub use ls_command_line::Request;
 pub use ls_commands::fault::ToolFault;
 pub use refusal::Refusal;
-pub use running::run;
+pub use running::{Exit, run};

@@ -8,19 +8,34 @@ use crate::refusal::Refusal;
 use crate::streams::write_out;
 use ls_commands::fault::ToolFault;
 use ls_commands::line::fault_line;
-use std::alloc::Global;
+use std::alloc::{AllocError, Global};
 use std::io::{Read, Write};
 use std::sync::Wait;
 use std::thread::Threads;
 
+/// How a run ended.
+#[derive(Copy)]
+pub struct Exit {
+    /// The exit status.
+    pub status: u8,
+    /// Whether all was told: the line of a fault, or what is wrong with the words, is written, or there was nothing to tell.
+    pub is_told: bool,
+}
+
+impl Clone for Exit {
+    fn clone(&self) -> Result<Exit, AllocError> {
+        Ok(*self)
+    }
+}
+
 /// Writes the fault's line. Where that fails too, the status alone tells of the fault.
-fn tell<E: Write>(err: &mut E, fault: ToolFault) -> u8
-    ensures status { result ≡ 1 }
-    ensures told { Told fault (E.contents err.old) (E.contents err.new) }
+fn tell<E: Write>(err: &mut E, fault: ToolFault) -> Exit
+    ensures status { result.status ≡ 1 }
+    ensures told { Told fault result.is_told (E.contents err.old) (E.contents err.new) }
 {
     let line = fault_line(fault);
-    let _ = write_out(err, line.as_bytes());
-    1
+    let is_told = write_out(err, line.as_bytes()).is_ok();
+    Exit { status: 1, is_told }
 }
 
 /// Does what the words ask for, and answers the exit status. Threads are started by `live`, `batch` and `replay --live` alone.
@@ -31,19 +46,22 @@ pub fn run<'a, H: Threads + Wait + Sync, R: Read, W: Write, E: Write>(
     reader: &mut R,
     out: &mut W,
     err: &mut E,
-) -> u8
+) -> Exit
     ensures { IfSome (R.remaining reader.old) (λ input. Ends (map string_bytes words.entry.now) input result
         (W.contents out.old) (W.contents out.new) (E.contents err.old) (E.contents err.new)) }
 {
     match respond(rt, alloc, words, reader) {
         Ok(text) => match write_out(out, text.as_bytes()) {
-            Ok(()) => 0,
+            Ok(()) => Exit {
+                status: 0,
+                is_told: true,
+            },
             Err(_) => tell(err, ToolFault::WriteFailed),
         },
         Err(Refusal::Fault(fault)) => tell(err, fault),
-        Err(Refusal::BadLine(error)) => {
-            let _ = write!(err, "{error}");
-            2
-        }
+        Err(Refusal::BadLine(error)) => Exit {
+            status: 2,
+            is_told: write!(err, "{error}").is_ok(),
+        },
     }
 }

@@ -1,4 +1,4 @@
-use Rattle.std.proofs.Common.{map, subst, refl}
+use Rattle.std.proofs.Common.{map, subst, refl, true}
 use Rattle.std.specs.Prelude.{string_bytes}
 use Rattle.std.specs.Io.KnownBytes.{Appends}
 use Rattle.ls_tool.specs.Output.{Begins}
@@ -7,7 +7,7 @@ use Rattle.ls_tool.proofs.running.run.Goals as goal
 
 pub returns-in-Ok-write_out : goal.returns-in-Ok-write_out
 returns-in-Ok-write_out g c =
-    if_known (g.R.Read.remaining c.args.reader.now) _ _ (λ input d. done (map string_bytes c.args.words.now) input c.in-Ok.text 0 _ _ _ refl
+    if_known (g.R.Read.remaining c.args.reader.now) _ _ (λ input d. done (map string_bytes c.args.words.now) input c.in-Ok.text (record { status = 0; is_told = true }) _ _ _ refl
     (subst (λ z. Appends (g.W.Write.contents c.args.out.now) (g.W.Write.contents c.write_out.new.writer) z) c.as_bytes.ensures.value c.in-Ok-write_out.ensures.ok) d) c.in-Ok.ensures
 
 pub returns-in-Ok : goal.returns-in-Ok
@@ -22,4 +22,4 @@ returns-in-Err-Fault g c =
 
 pub returns : goal.returns
 returns g c =
-    if_known (g.R.Read.remaining c.args.reader.now) _ _ (λ input d. bad_line (map string_bytes c.args.words.now) input c.in-Err-BadLine.error 2 _ _ _ refl d) (rw c.in-Err-BadLine.field-0-is at c.in-Err-BadLine.ensures)
+    if_known (g.R.Read.remaining c.args.reader.now) _ _ (λ input d. bad_line (map string_bytes c.args.words.now) input c.in-Err-BadLine.error _ _ _ _ refl d) (rw c.in-Err-BadLine.field-0-is at c.in-Err-BadLine.ensures)
