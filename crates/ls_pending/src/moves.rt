@@ -105,6 +105,7 @@ impl<'a> Pending<'a> {
     }
 
     // A completion goes to the innermost frame.
+    #[inline(always)]
     fn end(&mut self, completion: Completion<Value>)
         requires { vec_len self.old.frames < vec_capacity self.old.frames }
         ensures { state_of self.new ≡ ending completion (frames_of self.old.frames.items) self.old.locals.items self.old.depth }
@@ -193,6 +194,24 @@ impl<'a> Pending<'a> {
         }
     }
 
+    // Most completions are normal, and a function of their own needs no room for one.
+    #[inline(never)]
+    fn end_normally(&mut self)
+        requires { vec_len self.old.frames < vec_capacity self.old.frames }
+        ensures { state_of self.new ≡ ending Completion.Normal (frames_of self.old.frames.items) self.old.locals.items self.old.depth }
+    {
+        self.end(Completion::Normal)
+    }
+
+    // Any completion.
+    #[inline(never)]
+    fn end_anyhow(&mut self, completion: Completion<Value>)
+        requires { vec_len self.old.frames < vec_capacity self.old.frames }
+        ensures { state_of self.new ≡ ending completion (frames_of self.old.frames.items) self.old.locals.items self.old.depth }
+    {
+        self.end(completion)
+    }
+
     // A statement has come to its end. A refusal changes nothing.
     #[inline(always)]
     fn end_on(&mut self, alloc: Global, file: &'a File) -> Result<(), AllocError>
@@ -201,9 +220,13 @@ impl<'a> Pending<'a> {
         ensures err { OnErr result (state_of self.new ≡ state_of self.old) }
     {
         match &self.control {
+            Control::Ends(Completion::Normal) => {
+                self.end_normally();
+                Ok(())
+            }
             Control::Ends(completion) => {
                 let completion = *completion;
-                self.end(completion);
+                self.end_anyhow(completion);
                 Ok(())
             }
             _ => self.take_move(alloc, file),
@@ -228,7 +251,7 @@ impl<'a> Pending<'a> {
             Control::Runs(ss) => self.run(ss),
             Control::Loops(e, s) => self.loops(e, s),
             Control::Gives(v) => self.give(alloc, &file.classes, v)?,
-            Control::Ends(completion) => self.end(completion),
+            Control::Ends(completion) => self.end_anyhow(completion),
             control => self.go(control),
         }
         Ok(())

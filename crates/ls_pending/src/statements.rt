@@ -156,7 +156,10 @@ impl<'a> Pending<'a> {
     fn behind(&mut self, ss: &'a [Statement], completion: Completion<Value>)
         ensures { state_of self.new ≡ at (if_normal completion (PlainRuns (statements_of ss.now))) (frames_of self.old.frames.items) self.old.locals.items self.old.depth }
     {
-        self.go(if_normal(completion, Control::Runs(ss)))
+        match completion {
+            Completion::Normal => self.go(Control::Runs(ss)),
+            completion => self.completes(completion),
+        }
     }
 
     // What a loop goes on with, behind its body.
@@ -164,7 +167,10 @@ impl<'a> Pending<'a> {
     fn turn(&mut self, e: &'a Expression, s: &'a Statement, completion: Completion<Value>)
         ensures { state_of self.new ≡ at (after_loop completion (plain e.now) (plain_statement s.now)) (frames_of self.old.frames.items) self.old.locals.items self.old.depth }
     {
-        self.go(after_loop(completion, e, s))
+        match completion {
+            Completion::Normal => self.go(Control::Turns(e, s)),
+            completion => self.go(after_loop(completion, e, s)),
+        }
     }
 
     // The end of a `try`, behind its `finally` block.
