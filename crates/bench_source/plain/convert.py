@@ -14,7 +14,7 @@ FILES = {
     "ls_checked": ("program", "tree"),
     "ls_meaning": ("completion", "sort", "step"),
     "ls_courses": ("operations", "value"),
-    "ls_pending": ("expressions", "moves", "pending", "stack", "statements", "tables", "work"),
+    "ls_pending": ("calls", "expressions", "moves", "operands", "pending", "stack", "statements", "tables", "work"),
     "ls_source": ("next", "run", "stage", "store", "thing", "thread"),
 }
 
@@ -37,6 +37,7 @@ def plain(text):
     text = re.sub(r"match (\w+\.push\(\w+\)) \{", r"match Ok::<(), AllocError>(\1) {", text)
     text = text.replace("return Err(AllocError);", "unreachable!();")
     text = text.replace("=> Err(AllocError),", "=> unreachable!(),")
+    text = re.sub(r"^( *)Err\(AllocError\)$", r"\1unreachable!()", text, flags=re.M)
     return text
 
 

@@ -12,6 +12,7 @@ use Rattle.ls_events.specs.declared.action.Action.{Action}
 use Rattle.ls_events.specs.declared.action.Action.TheVariants.{New, ReadPair, WriteField, WriteItem}
 use Rattle.ls_events.specs.declared.action.Answer.{Answer}
 use Rattle.ls_events.specs.declared.action.Answer.TheVariants as answers
+use Rattle.ls_checked.specs.declared.tree.Operator.{Operator}
 use Rattle.ls_checked.specs.declared.tree.Called.{Called}
 use Rattle.ls_checked.specs.declared.tree.Called.TheVariants.{Method as OfMethod, LockIt, UnlockIt, TryIt, AskIt, GetReference, IsMarked, GetBoth, SetBoth, CompareAndSet, Attempt}
 use Rattle.ls_checked.specs.CheckedTree.{Class, Method, File, Expression, Literal, Slot, Field, Item, Negate, Not, Binary, And, Or, Call, MakeObject, MakeLock, MakeMarkable, MakeArray, Expressions, End, More, Statement, Block, SetSlot, SetField, SetItem, Evaluate, If, While, Break, Continue, ReturnNothing, ReturnValue, Try, Statements, Done, Then}
@@ -25,7 +26,7 @@ use Rattle.ls_meaning.specs.Expressions.{Calls, evaluate, arguments, call, argum
 use Rattle.ls_meaning.specs.Statements.{Executed, AsksFor, Completes, on_value, and_normal, then_do, after_body, one_turn, turns, execute, execute_all}
 use Rattle.ls_meaning.specs.Methods.{invoke, run_body, leave, frame}
 use Rattle.ls_pending.specs.Pending.{Purpose, ToCall, ToMake, ToMark, Operand, InField, InItem, InIndex, InNegate, InNot, InLength, InLeft, InRight, InAnd, InOr, InTarget, InArgument, InMade, InConstructor, InReference, InMark, InBoth, InWritten, Waiting, ToSlot, ToTarget, ToField, ToArray, ToIndex, ToItem, ToNothing, ToIf, ToTest, ToReturn, Ending, OfSequence, OfBody, OfTry, OfFinally, Frame, In, On, Up, Leaves, Control, Evaluates, Argues, Applies, Invokes, Opens, Executes, Runs, Loops, Gives, Ends, Asks, Enters, Turns, State}
-use Rattle.ls_pending.specs.Machine.{at, evaluating, arguing, calling, applying, opening, filling, going_on, giving, executing, running, if_normal, after_loop, leaving, closing, ending, move, moved, answered, taking, taken, OfValue, OfEnd, Rest, evaluated, executed, applied, argued, filled, gone_on, closed, around, rest_of, done_now, meaning}
+use Rattle.ls_pending.specs.Machine.{at, known, on_argument, on_right, on_left, on_target, on_called, on_written, evaluating, arguing, calling, applying, opening, filling, going_on, giving, executing, running, if_normal, after_loop, leaving, closing, ending, move, moved, answered, taking, taken, OfValue, OfEnd, Rest, evaluated, executed, applied, argued, filled, gone_on, closed, around, rest_of, done_now, meaning}
 use Rattle.ls_meaning.proofs.Shorter.{Within, WithinBy, CallsWithin, evaluate_within, execute_within, invoke_within, turn_eq, turns_eq}
 
 -- a loop is one turn, and then the loop; each turn takes an answer, so turns never run out
@@ -115,25 +116,68 @@ module _ (file : File) (base : Rest) (d : ℕ) (q : Answers) where
   abbrev X : Statement → List Value → Executed
   X s ls = execute file.classes (invoke file d) s ls q
 
-  evaluating_keeps : (e : Expression) (fs : List Frame) (ls : List Value) → meaning file base (evaluating e fs ls d) q ≡ evaluated (k fs) d ls (E e ls)
+  -- what is known is what is evaluated
+  known_is : (e : Expression) (ls : List Value) (v : Value) → known e ls ≡ Some v → Results v q ≡ E e ls
+  known_is (Literal w) ls v h = cc
+  known_is (Slot n) ls v h = cc
+  known_is (Field e c f) ls v h = cc
+  known_is (Item a i) ls v h = cc
+  known_is (Negate e) ls v h = cc
+  known_is (Not e) ls v h = cc
+  known_is (Binary op a b) ls v h = cc
+  known_is (And a b) ls v h = cc
+  known_is (Or a b) ls v h = cc
+  known_is (Call e m es) ls v h = cc
+  known_is (MakeObject c es) ls v h = cc
+  known_is MakeLock ls v h = cc
+  known_is (MakeMarkable c es) ls v h = cc
+  known_is (MakeArray e) ls v h = cc
+
+  -- the frame of an operand that is known gets its value at once
+  at_once : (f : Operand) (e : Expression) (v : Value) (fs : List Frame) (ls : List Value) → known e ls ≡ Some v → evaluated (k fs) d ls (filled file d ls f v q) ≡ evaluated (k fs) d ls (with_value (E e ls) (λ w r. filled file d ls f w r))
+  at_once f e v fs ls h = ap (λ x. evaluated (k fs) d ls (with_value x (λ w r. filled file d ls f w r))) (known_is e ls v h)
+
+  right_keeps : (o : Option Value) (op : Operator) (x : Value) (b : Expression) (fs : List Frame) (ls : List Value) → known b ls ≡ o → meaning file base (on_right o op x b fs ls d) q ≡ evaluated (k fs) d ls (filled file d ls (InLeft op b) x q)
+  right_keeps None op x b fs ls h = in_frame file (k fs) d (InRight op x) ls (E b ls)
+  right_keeps (Some y) op x b fs ls h = chosen file (k fs) d (divides_by_zero op y) ls q _ _ _ _ refl refl ∙ at_once (InRight op x) b y fs ls h
+
+  left_keeps : (o : Option Value) (op : Operator) (a b : Expression) (fs : List Frame) (ls : List Value) → known a ls ≡ o → meaning file base (on_left o op a b fs ls d) q ≡ evaluated (k fs) d ls (E (Binary op a b) ls)
+  left_keeps None op a b fs ls h = in_frame file (k fs) d (InLeft op b) ls (E a ls)
+  left_keeps (Some x) op a b fs ls h = right_keeps (known b ls) op x b fs ls refl ∙ at_once (InLeft op b) a x fs ls h
+
+  target_keeps : (o : Option Value) (e : Expression) (c f : ℕ) (fs : List Frame) (ls : List Value) → known e ls ≡ o → meaning file base (on_target file.classes o e c f fs ls d) q ≡ evaluated (k fs) d ls (E (Field e c f) ls)
+  target_keeps None e c f fs ls h = in_frame file (k fs) d (InField c f) ls (E e ls)
+  target_keeps (Some v) e c f fs ls h = chosen file (k fs) d (nat_eq (reference_of v) 0) ls q _ _ _ _ refl refl ∙ at_once (InField c f) e v fs ls h
+
+  called_keeps : (o : Option Value) (e : Expression) (m : Called) (es : Expressions) (fs : List Frame) (ls : List Value) → known e ls ≡ o → meaning file base (on_called o e m es fs ls d) q ≡ evaluated (k fs) d ls (E (Call e m es) ls)
+  called_keeps None e m es fs ls h = in_frame file (k fs) d (InTarget m es) ls (E e ls)
+  called_keeps (Some v) e m es fs ls h = at_once (InTarget m es) e v fs ls h
+
+  evaluating_keeps : (e : Expression) (fs : List Frame) (ls : List Value) → meaning file base (evaluating file.classes e fs ls d) q ≡ evaluated (k fs) d ls (E e ls)
   evaluating_keeps (Literal v) fs ls = refl
   evaluating_keeps (Slot n) fs ls = refl
-  evaluating_keeps (Field e c f) fs ls = in_frame file (k fs) d (InField c f) ls (E e ls)
+  evaluating_keeps (Field e c f) fs ls = target_keeps (known e ls) e c f fs ls refl
   evaluating_keeps (Item a i) fs ls = in_frame file (k fs) d (InItem i) ls (E a ls)
   evaluating_keeps (Negate e) fs ls = in_frame file (k fs) d InNegate ls (E e ls)
   evaluating_keeps (Not e) fs ls = in_frame file (k fs) d InNot ls (E e ls)
-  evaluating_keeps (Binary op a b) fs ls = in_frame file (k fs) d (InLeft op b) ls (E a ls)
+  evaluating_keeps (Binary op a b) fs ls = left_keeps (known a ls) op a b fs ls refl
   evaluating_keeps (And a b) fs ls = in_frame file (k fs) d (InAnd b) ls (E a ls)
   evaluating_keeps (Or a b) fs ls = in_frame file (k fs) d (InOr b) ls (E a ls)
-  evaluating_keeps (Call e m es) fs ls = in_frame file (k fs) d (InTarget m es) ls (E e ls)
+  evaluating_keeps (Call e m es) fs ls = called_keeps (known e ls) e m es fs ls refl
   evaluating_keeps (MakeObject c es) fs ls = in_frame file (k fs) d (InMade c es) ls (ask (New c) (NewOf (types.Class c)) q)
   evaluating_keeps MakeLock fs ls = refl
   evaluating_keeps (MakeMarkable c es) fs ls = refl
   evaluating_keeps (MakeArray e) fs ls = in_frame file (k fs) d InLength ls (E e ls)
 
+  argument_keeps : (o : Option Value) (e : Expression) (es : Expressions) (p : Purpose) (vs : List Value) (fs : List Frame) (ls : List Value) → known e ls ≡ o → meaning file base (on_argument o p vs e es fs ls d) q ≡ evaluated (k fs) d ls (argued file d ls p vs (More e es) q)
+  argument_keeps None e es p vs fs ls h = argument_frame file (k fs) d p ls vs es (E e ls)
+  argument_keeps (Some v) e es p vs fs ls h =
+      one_more file (k fs) d p ls vs v (arguments file.classes (invoke file d) es ls q)
+      ∙ ap (λ x. evaluated (k fs) d ls (with_value (with_value x (λ v q. with_value (arguments file.classes (invoke file d) es ls q) (λ vs q. Results (v ∷ vs) q))) (λ ws q. applied file d p (vs ++ ws) q))) (known_is e ls v h)
+
   arguing_keeps : (es : Expressions) (p : Purpose) (vs : List Value) (fs : List Frame) (ls : List Value) → meaning file base (arguing p vs es fs ls d) q ≡ evaluated (k fs) d ls (argued file d ls p vs es q)
   arguing_keeps End p vs fs ls = ap (λ l. evaluated (k fs) d ls (applied file d p l q)) (sym (append-nil vs))
-  arguing_keeps (More e es) p vs fs ls = argument_frame file (k fs) d p ls vs es (E e ls)
+  arguing_keeps (More e es) p vs fs ls = argument_keeps (known e ls) e es p vs fs ls refl
 
   calling_keeps : (m : Called) (o : Value) (vs : List Value) (fs : List Frame) (ls : List Value) → meaning file base (calling m o vs fs ls d) q ≡ evaluated (k fs) d ls (call (invoke file d) m o vs q)
   calling_keeps (OfMethod m) o vs fs ls = refl
@@ -164,7 +208,7 @@ module _ (file : File) (base : Rest) (d : ℕ) (q : Answers) where
   filling_keeps InNegate v fs ls = refl
   filling_keeps InNot v fs ls = refl
   filling_keeps InLength v fs ls = chosen file (k fs) d (int_lt (int_of v) (pos 0)) ls q _ _ _ _ refl refl
-  filling_keeps (InLeft op b) v fs ls = in_frame file (k fs) d (InRight op v) ls (E b ls)
+  filling_keeps (InLeft op b) v fs ls = right_keeps (known b ls) op v b fs ls refl
   filling_keeps (InRight op x) v fs ls = chosen file (k fs) d (divides_by_zero op v) ls q _ _ _ _ refl refl
   filling_keeps (InAnd b) v fs ls = chosen file (k fs) d (truth_of v) ls q _ _ _ _ refl refl
   filling_keeps (InOr b) v fs ls = chosen file (k fs) d (truth_of v) ls q _ _ _ _ refl refl
@@ -200,10 +244,14 @@ module _ (file : File) (base : Rest) (d : ℕ) (q : Answers) where
   giving_keeps v (Up f ∷ fs) ls = refl
   giving_keeps v (Leaves result saved outer ∷ fs) ls = refl
 
+  written_keeps : (o : Option Value) (e : Expression) (f : ℕ) (v : Expression) (fs : List Frame) (ls : List Value) → known e ls ≡ o → meaning file base (on_written o e f v fs ls d) q ≡ executed (k fs) d (X (SetField e f v) ls)
+  written_keeps None e f v fs ls h = normal_frame file (k fs) d (ToTarget f v) ls (λ o q. with_value (evaluate file.classes (invoke file d) v ls q) (λ w q. on_object o (WriteField (reference_of o) f w) NoValue q)) (λ w q. refl) (E e ls)
+  written_keeps (Some o) e f v fs ls h = going_keeps (ToTarget f v) o fs ls ∙ ap (λ x. executed (k fs) d (and_normal (with_value x (λ o q. with_value (evaluate file.classes (invoke file d) v ls q) (λ w q. on_object o (WriteField (reference_of o) f w) NoValue q))) ls)) (known_is e ls o h)
+
   executing_keeps : (s : Statement) (fs : List Frame) (ls : List Value) → meaning file base (executing s fs ls d) q ≡ executed (k fs) d (X s ls)
   executing_keeps (Block ss) fs ls = refl
   executing_keeps (SetSlot n e) fs ls = on_frame file (k fs) d (ToSlot n) ls (E e ls)
-  executing_keeps (SetField e f v) fs ls = normal_frame file (k fs) d (ToTarget f v) ls (λ o q. with_value (evaluate file.classes (invoke file d) v ls q) (λ w q. on_object o (WriteField (reference_of o) f w) NoValue q)) (λ w q. refl) (E e ls)
+  executing_keeps (SetField e f v) fs ls = written_keeps (known e ls) e f v fs ls refl
   executing_keeps (SetItem a i v) fs ls = normal_frame file (k fs) d (ToArray i v) ls (λ o q. with_value (evaluate file.classes (invoke file d) i ls q) (λ n q. with_value (evaluate file.classes (invoke file d) v ls q) (λ w q. on_object o (WriteItem (reference_of o) (int_of n) w) NoValue q))) (λ w q. refl) (E a ls)
   executing_keeps (Evaluate e) fs ls = on_frame file (k fs) d ToNothing ls (E e ls)
   executing_keeps (If e a b) fs ls = on_frame file (k fs) d (ToIf a b) ls (E e ls)

@@ -3,6 +3,7 @@ use Rattle.std.proofs.Common.{◌≡◌, ℕ, zero, suc, ◌+◌, ◌<◌, ◌�
 use Rattle.std.specs.Prelude.{nat_eq, pos, int_lt, slice_get}
 use Rattle.ls_events.specs.declared.value.Value.{Value}
 use Rattle.ls_events.specs.declared.value.ValueType.{ValueType}
+use Rattle.ls_checked.specs.declared.tree.Operator.{Operator}
 use Rattle.ls_checked.specs.declared.tree.Called.{Called}
 use Rattle.ls_checked.specs.declared.tree.Called.TheVariants.{Method as OfMethod, LockIt, UnlockIt, TryIt, AskIt, GetReference, IsMarked, GetBoth, SetBoth, CompareAndSet, Attempt}
 use Rattle.ls_checked.specs.CheckedTree.{Method, File, Expression, Literal, Slot, Field, Item, Negate, Not, Binary, And, Or, Call, MakeObject, MakeLock, MakeMarkable, MakeArray, Expressions, End, More, Statement, Block, SetSlot, SetField, SetItem, Evaluate, If, While, Break, Continue, ReturnNothing, ReturnValue, Try, Statements, Done, Then}
@@ -10,7 +11,7 @@ use Rattle.ls_meaning.specs.declared.completion.Completion.{Completion}
 use Rattle.ls_meaning.specs.declared.completion.Completion.TheVariants.{Normal, Broke, Continued, Returned, Threw}
 use Rattle.ls_meaning.specs.Values.{int_of, truth_of, reference_of, divides_by_zero}
 use Rattle.ls_pending.specs.Pending.{Purpose, ToCall, ToMake, ToMark, Operand, InField, InItem, InIndex, InNegate, InNot, InLength, InLeft, InRight, InAnd, InOr, InTarget, InArgument, InMade, InConstructor, InReference, InMark, InBoth, InWritten, Waiting, ToSlot, ToTarget, ToField, ToArray, ToIndex, ToItem, ToNothing, ToIf, ToTest, ToReturn, Ending, OfSequence, OfBody, OfTry, OfFinally, Frame, In, On, Up, Leaves, Control, Evaluates, Argues, Applies, Invokes, Opens, Executes, Runs, Loops, Gives, Ends, Asks, Enters, Turns, State}
-use Rattle.ls_pending.specs.Machine.{evaluating, arguing, calling, applying, opening, filling, going_on, giving, executing, running, if_normal, after_loop, leaving, closing, ending, move, moved, is_left}
+use Rattle.ls_pending.specs.Machine.{known, on_argument, on_right, on_left, on_target, on_called, on_written, evaluating, arguing, calling, applying, opening, filling, going_on, giving, executing, running, if_normal, after_loop, leaving, closing, ending, move, moved, is_left}
 
 abbrev mutual
   pub weight : Expression → ℕ
@@ -207,25 +208,49 @@ module _ (file : File) where
   chosen_state true s t n h g = h
   chosen_state false s t n h g = g
 
-  evaluating_less : (e : Expression) (fs : List Frame) (ls : List Value) (d : ℕ) → burden file (evaluating e fs ls d) < weight e + load fs
+  right_less : (o : Option Value) (op : Operator) (x : Value) (b : Expression) (fs : List Frame) (ls : List Value) (d : ℕ) → burden file (on_right o op x b fs ls d) < weight b + 2 + load fs
+  right_less None op x b fs ls d = omega arith
+  right_less (Some y) op x b fs ls d = by_test (divides_by_zero op y) _ _ 1 (load fs) _ (omega arith) (omega arith) (omega (arith, two b))
+
+  left_less : (o : Option Value) (op : Operator) (a b : Expression) (fs : List Frame) (ls : List Value) (d : ℕ) → burden file (on_left o op a b fs ls d) < weight a + weight b + 2 + load fs
+  left_less None op a b fs ls d = omega arith
+  left_less (Some x) op a b fs ls d = let r : burden file (on_right (known b ls) op x b fs ls d) < weight b + 2 + load fs = right_less (known b ls) op x b fs ls d in omega (arith, two a)
+
+  target_less : (o : Option Value) (e : Expression) (c f : ℕ) (fs : List Frame) (ls : List Value) (d : ℕ) → burden file (on_target file.classes o e c f fs ls d) < weight e + 2 + load fs
+  target_less None e c f fs ls d = omega arith
+  target_less (Some v) e c f fs ls d = by_test (nat_eq (reference_of v) 0) _ _ 1 (load fs) _ (omega arith) (omega arith) (omega (arith, two e))
+
+  called_less : (o : Option Value) (e : Expression) (m : Called) (es : Expressions) (fs : List Frame) (ls : List Value) (d : ℕ) → burden file (on_called o e m es fs ls d) < weight e + weight_all es + 2 + load fs
+  called_less None e m es fs ls d = omega arith
+  called_less (Some o) e m es fs ls d = omega arith
+
+  written_less : (o : Option Value) (e : Expression) (f : ℕ) (v : Expression) (fs : List Frame) (ls : List Value) (d : ℕ) → burden file (on_written o e f v fs ls d) < weight e + weight v + 3 + load fs
+  written_less None e f v fs ls d = omega arith
+  written_less (Some o) e f v fs ls d = omega (arith, two e)
+
+  evaluating_less : (e : Expression) (fs : List Frame) (ls : List Value) (d : ℕ) → burden file (evaluating file.classes e fs ls d) < weight e + load fs
   evaluating_less (Literal v) fs ls d = omega arith
   evaluating_less (Slot n) fs ls d = omega arith
-  evaluating_less (Field e c f) fs ls d = omega arith
+  evaluating_less (Field e c f) fs ls d = target_less (known e ls) e c f fs ls d
   evaluating_less (Item a b) fs ls d = omega arith
   evaluating_less (Negate e) fs ls d = omega arith
   evaluating_less (Not e) fs ls d = omega arith
-  evaluating_less (Binary op a b) fs ls d = omega arith
+  evaluating_less (Binary op a b) fs ls d = left_less (known a ls) op a b fs ls d
   evaluating_less (And a b) fs ls d = omega arith
   evaluating_less (Or a b) fs ls d = omega arith
-  evaluating_less (Call e m es) fs ls d = omega arith
+  evaluating_less (Call e m es) fs ls d = called_less (known e ls) e m es fs ls d
   evaluating_less (MakeObject c es) fs ls d = omega arith
   evaluating_less MakeLock fs ls d = omega arith
   evaluating_less (MakeMarkable c es) fs ls d = omega arith
   evaluating_less (MakeArray e) fs ls d = omega arith
 
+  argument_less : (o : Option Value) (e : Expression) (es : Expressions) (p : Purpose) (vs : List Value) (fs : List Frame) (ls : List Value) (d : ℕ) → burden file (on_argument o p vs e es fs ls d) < weight_all (More e es) + 1 + load fs
+  argument_less None e es p vs fs ls d = omega arith
+  argument_less (Some v) e es p vs fs ls d = omega (arith, two e)
+
   arguing_less : (es : Expressions) (p : Purpose) (vs : List Value) (fs : List Frame) (ls : List Value) (d : ℕ) → burden file (arguing p vs es fs ls d) < weight_all es + 1 + load fs
   arguing_less End p vs fs ls d = omega arith
-  arguing_less (More e es) p vs fs ls d = omega arith
+  arguing_less (More e es) p vs fs ls d = argument_less (known e ls) e es p vs fs ls d
 
   calling_less : (m : Called) (o : Value) (vs : List Value) (fs : List Frame) (ls : List Value) (d : ℕ) → burden file (calling m o vs fs ls d) < 5 + load fs
   calling_less (OfMethod m) o vs fs ls d = omega arith
@@ -252,7 +277,7 @@ module _ (file : File) where
   filling_less InNegate v fs ls d = omega arith
   filling_less InNot v fs ls d = omega arith
   filling_less InLength v fs ls d = by_test (int_lt (int_of v) (pos 0)) _ _ 1 (load fs) _ (omega arith) (omega arith) (omega arith)
-  filling_less (InLeft op b) v fs ls d = omega arith
+  filling_less (InLeft op b) v fs ls d = let r : burden file (on_right (known b ls) op v b fs ls d) < weight b + 2 + load fs = right_less (known b ls) op v b fs ls d in omega arith
   filling_less (InRight op x) v fs ls d = by_test (divides_by_zero op v) _ _ 1 (load fs) _ (omega arith) (omega arith) (omega arith)
   filling_less (InAnd b) v fs ls d = by_test (truth_of v) _ _ (weight b) (load fs) _ (omega arith) (omega (arith, two b)) (omega arith)
   filling_less (InOr b) v fs ls d = by_test (truth_of v) _ _ (weight b) (load fs) _ (omega (arith, two b)) (omega arith) (omega arith)
@@ -284,7 +309,7 @@ module _ (file : File) where
   executing_less : (s : Statement) (fs : List Frame) (ls : List Value) (d : ℕ) → burden file (executing s fs ls d) < heaviness s + load fs
   executing_less (Block ss) fs ls d = omega arith
   executing_less (SetSlot n e) fs ls d = omega arith
-  executing_less (SetField e f v) fs ls d = omega arith
+  executing_less (SetField e f v) fs ls d = written_less (known e ls) e f v fs ls d
   executing_less (SetItem a i v) fs ls d = omega arith
   executing_less (Evaluate e) fs ls d = omega arith
   executing_less (If e a b) fs ls d = omega arith

@@ -8,6 +8,7 @@ use Rattle.ls_events.specs.declared.kind.Kind.TheVariants.{Arithmetic, NegativeA
 use Rattle.ls_events.specs.declared.action.Action.TheVariants.{ReadField, WriteField, ReadItem, WriteItem, New, NewLock, NewMarkable, NewArray, Lock, Unlock, TryLock, IsHeld, ReadPair, SetPair, SwapPair, AttemptMark, Enter, Turn}
 use Rattle.ls_events.specs.declared.action.Answer.{Answer}
 use Rattle.ls_events.specs.declared.action.Answer.TheVariants as answers
+use Rattle.ls_checked.specs.declared.tree.Operator.{Operator}
 use Rattle.ls_checked.specs.declared.tree.Called.{Called}
 use Rattle.ls_checked.specs.declared.tree.Called.TheVariants.{Method as OfMethod, LockIt, UnlockIt, TryIt, AskIt, GetReference, IsMarked, GetBoth, SetBoth, CompareAndSet, Attempt}
 use Rattle.ls_checked.specs.CheckedTree.{Class, Method, File, Expression, Literal, Slot, Field, Item, Negate, Not, Binary, And, Or, Call, MakeObject, MakeLock, MakeMarkable, MakeArray, Expressions, End, More, Statement, Block, SetSlot, SetField, SetItem, Evaluate, If, While, Break, Continue, ReturnNothing, ReturnValue, Try, Statements, Done, Then}
@@ -30,25 +31,67 @@ at c fs ls d = record { control = c; frames = fs; locals = ls; depth = d }
 abbrev pub thrown_on_null : ℕ → Control → Control
 thrown_on_null n c = if nat_eq n 0 then Ends (Threw NullPointer) else c
 
-abbrev pub evaluating : Expression → List Frame → List Value → ℕ → State
-evaluating (Literal v) fs ls d = at (Gives v) fs ls d
-evaluating (Slot n) fs ls d = at (Gives (slice_index_or ls n nothing)) fs ls d
-evaluating (Field e c f) fs ls d = at (Evaluates e) (In (InField c f) ∷ fs) ls d
-evaluating (Item a i) fs ls d = at (Evaluates a) (In (InItem i) ∷ fs) ls d
-evaluating (Negate e) fs ls d = at (Evaluates e) (In InNegate ∷ fs) ls d
-evaluating (Not e) fs ls d = at (Evaluates e) (In InNot ∷ fs) ls d
-evaluating (Binary op a b) fs ls d = at (Evaluates a) (In (InLeft op b) ∷ fs) ls d
-evaluating (And a b) fs ls d = at (Evaluates a) (In (InAnd b) ∷ fs) ls d
-evaluating (Or a b) fs ls d = at (Evaluates a) (In (InOr b) ∷ fs) ls d
-evaluating (Call e m es) fs ls d = at (Evaluates e) (In (InTarget m es) ∷ fs) ls d
-evaluating (MakeObject c es) fs ls d = at (Asks (New c) (NewOf (types.Class c))) (In (InMade c es) ∷ fs) ls d
-evaluating MakeLock fs ls d = at (Asks NewLock (NewOf types.Lock)) fs ls d
-evaluating (MakeMarkable c es) fs ls d = at (Argues (ToMark c) [] es) fs ls d
-evaluating (MakeArray e) fs ls d = at (Evaluates e) (In InLength ∷ fs) ls d
+-- the value of an expression that asks for nothing: a literal or a local
+abbrev pub known : Expression → List Value → Option Value
+known (Literal v) ls = Some v
+known (Slot n) ls = Some (slice_index_or ls n nothing)
+known (Field e c f) ls = None
+known (Item a i) ls = None
+known (Negate e) ls = None
+known (Not e) ls = None
+known (Binary op a b) ls = None
+known (And a b) ls = None
+known (Or a b) ls = None
+known (Call e m es) ls = None
+known (MakeObject c es) ls = None
+known MakeLock ls = None
+known (MakeMarkable c es) ls = None
+known (MakeArray e) ls = None
+
+-- an operator whose left operand has its value, with the right one where that is known
+abbrev pub on_right : Option Value → Operator → Value → Expression → List Frame → List Value → ℕ → State
+on_right None op x b fs ls d = at (Evaluates b) (In (InRight op x) ∷ fs) ls d
+on_right (Some y) op x b fs ls d = at (if divides_by_zero op y then Ends (Threw Arithmetic) else Gives (operated op x y)) fs ls d
+
+-- an operator that begins, with its left operand where that is known
+abbrev pub on_left : Option Value → Operator → Expression → Expression → List Frame → List Value → ℕ → State
+on_left None op a b fs ls d = at (Evaluates a) (In (InLeft op b) ∷ fs) ls d
+on_left (Some x) op a b fs ls d = on_right (known b ls) op x b fs ls d
+
+-- the read of a field, with its object where that is known
+abbrev pub on_target : List Class → Option Value → Expression → ℕ → ℕ → List Frame → List Value → ℕ → State
+on_target classes None e c f fs ls d = at (Evaluates e) (In (InField c f) ∷ fs) ls d
+on_target classes (Some v) e c f fs ls d = at (thrown_on_null (reference_of v) (Asks (ReadField (reference_of v) f) (field_of classes c f))) fs ls d
+
+-- a call, with its object where that is known
+abbrev pub on_called : Option Value → Expression → Called → Expressions → List Frame → List Value → ℕ → State
+on_called None e m es fs ls d = at (Evaluates e) (In (InTarget m es) ∷ fs) ls d
+on_called (Some o) e m es fs ls d = at (Argues (ToCall m o) [] es) fs ls d
+
+abbrev pub evaluating : List Class → Expression → List Frame → List Value → ℕ → State
+evaluating classes (Literal v) fs ls d = at (Gives v) fs ls d
+evaluating classes (Slot n) fs ls d = at (Gives (slice_index_or ls n nothing)) fs ls d
+evaluating classes (Field e c f) fs ls d = on_target classes (known e ls) e c f fs ls d
+evaluating classes (Item a i) fs ls d = at (Evaluates a) (In (InItem i) ∷ fs) ls d
+evaluating classes (Negate e) fs ls d = at (Evaluates e) (In InNegate ∷ fs) ls d
+evaluating classes (Not e) fs ls d = at (Evaluates e) (In InNot ∷ fs) ls d
+evaluating classes (Binary op a b) fs ls d = on_left (known a ls) op a b fs ls d
+evaluating classes (And a b) fs ls d = at (Evaluates a) (In (InAnd b) ∷ fs) ls d
+evaluating classes (Or a b) fs ls d = at (Evaluates a) (In (InOr b) ∷ fs) ls d
+evaluating classes (Call e m es) fs ls d = on_called (known e ls) e m es fs ls d
+evaluating classes (MakeObject c es) fs ls d = at (Asks (New c) (NewOf (types.Class c))) (In (InMade c es) ∷ fs) ls d
+evaluating classes MakeLock fs ls d = at (Asks NewLock (NewOf types.Lock)) fs ls d
+evaluating classes (MakeMarkable c es) fs ls d = at (Argues (ToMark c) [] es) fs ls d
+evaluating classes (MakeArray e) fs ls d = at (Evaluates e) (In InLength ∷ fs) ls d
+
+-- an argument, with its value where that is known
+abbrev pub on_argument : Option Value → Purpose → List Value → Expression → Expressions → List Frame → List Value → ℕ → State
+on_argument None p vs e es fs ls d = at (Evaluates e) (In (InArgument p vs es) ∷ fs) ls d
+on_argument (Some v) p vs e es fs ls d = at (Argues p (vs ++ v ∷ []) es) fs ls d
 
 abbrev pub arguing : Purpose → List Value → Expressions → List Frame → List Value → ℕ → State
 arguing p vs End fs ls d = at (Applies p vs) fs ls d
-arguing p vs (More e es) fs ls d = at (Evaluates e) (In (InArgument p vs es) ∷ fs) ls d
+arguing p vs (More e es) fs ls d = on_argument (known e ls) p vs e es fs ls d
 
 abbrev pub calling : Called → Value → List Value → List Frame → List Value → ℕ → State
 calling (OfMethod m) o vs fs ls d = at (Invokes m (o ∷ vs)) fs ls d
@@ -81,7 +124,7 @@ filling classes (InIndex o) v fs ls d = at (thrown_on_null (reference_of o) (Ask
 filling classes InNegate v fs ls d = at (Gives (wrapped (neg_ℤ (int_of v)))) fs ls d
 filling classes InNot v fs ls d = at (Gives (values.Boolean (not (truth_of v)))) fs ls d
 filling classes InLength v fs ls d = at (if int_lt (int_of v) (pos 0) then Ends (Threw NegativeArraySize) else Asks (NewArray (int_of v)) (NewOf types.BooleanArray)) fs ls d
-filling classes (InLeft op b) v fs ls d = at (Evaluates b) (In (InRight op v) ∷ fs) ls d
+filling classes (InLeft op b) v fs ls d = on_right (known b ls) op v b fs ls d
 filling classes (InRight op x) v fs ls d = at (if divides_by_zero op v then Ends (Threw Arithmetic) else Gives (operated op x v)) fs ls d
 filling classes (InAnd b) v fs ls d = at (if truth_of v then Evaluates b else Gives (values.Boolean false)) fs ls d
 filling classes (InOr b) v fs ls d = at (if truth_of v then Gives (values.Boolean true) else Evaluates b) fs ls d
@@ -113,10 +156,15 @@ giving classes v (On f ∷ fs) ls d = going_on f v fs ls d
 giving classes v (Up f ∷ fs) ls d = at (Gives v) fs ls d
 giving classes v (Leaves result saved outer ∷ fs) ls d = at (Gives v) fs ls d
 
+-- the write of a field, with its object where that is known
+abbrev pub on_written : Option Value → Expression → ℕ → Expression → List Frame → List Value → ℕ → State
+on_written None e f v fs ls d = at (Evaluates e) (On (ToTarget f v) ∷ fs) ls d
+on_written (Some o) e f v fs ls d = at (Evaluates v) (On (ToField o f) ∷ fs) ls d
+
 abbrev pub executing : Statement → List Frame → List Value → ℕ → State
 executing (Block ss) fs ls d = at (Runs ss) fs ls d
 executing (SetSlot n e) fs ls d = at (Evaluates e) (On (ToSlot n) ∷ fs) ls d
-executing (SetField e f v) fs ls d = at (Evaluates e) (On (ToTarget f v) ∷ fs) ls d
+executing (SetField e f v) fs ls d = on_written (known e ls) e f v fs ls d
 executing (SetItem a i v) fs ls d = at (Evaluates a) (On (ToArray i v) ∷ fs) ls d
 executing (Evaluate e) fs ls d = at (Evaluates e) (On ToNothing ∷ fs) ls d
 executing (If e a b) fs ls d = at (Evaluates e) (On (ToIf a b) ∷ fs) ls d
@@ -170,7 +218,7 @@ ending c (Up f ∷ fs) ls d = closing f c fs ls d
 ending c (Leaves result saved outer ∷ fs) ls d = at (leaving result c) fs saved outer
 
 abbrev pub move : File → Control → List Frame → List Value → ℕ → State
-move file (Evaluates e) fs ls d = evaluating e fs ls d
+move file (Evaluates e) fs ls d = evaluating file.classes e fs ls d
 move file (Argues p vs es) fs ls d = arguing p vs es fs ls d
 move file (Applies p vs) fs ls d = applying file.classes p vs fs ls d
 move file (Invokes m vs) fs ls d = at (if nat_eq d 0 then Ends (Threw StackOverflow) else Enters m vs) fs ls d

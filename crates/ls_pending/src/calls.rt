@@ -1,15 +1,16 @@
 // One move of the work of a call, or of another expression with arguments.
 
-ghost use Rattle.std.specs.Prelude.{◌≡◌, ◌<◌, ◌∷◌, vec_len, vec_capacity, map};
+ghost use Rattle.std.specs.Prelude.{◌≡◌, ◌<◌, ◌∷◌, ◌++◌, [], OnOk, OnErr, vec_len, vec_capacity, map};
 ghost use Rattle.ls_checked.specs.Plain.{all_plain, plain_class};
 ghost use Rattle.ls_meaning.specs.Values.{truth_of, reference_of, pair_of};
 ghost use Rattle.ls_meaning.specs.Expressions.{argument, constructor_of};
-ghost use Rattle.ls_pending.specs.Pending.{In, InConstructor, Asks as PlainAsks, Invokes as PlainInvokes};
+ghost use Rattle.ls_pending.specs.Pending.{In, InConstructor, Argues as PlainArgues, Asks as PlainAsks, Invokes as PlainInvokes};
 ghost use Rattle.ls_pending.specs.Machine.{at, arguing, calling, applying};
 ghost use Rattle.ls_pending.specs.Seen.{purpose_of, operand_of, frames_of};
 ghost use Rattle.ls_pending.specs.SeenPending.{state_of};
 
 use crate::pending::Pending;
+use crate::tables::known;
 use crate::work::{Control, Frame, Operand, Purpose};
 use ls_checked::tree::{Called, Class, Expressions};
 use ls_courses::operations::constructor_of;
@@ -19,6 +20,7 @@ use ls_events::kind::Kind;
 use ls_events::value::{Value, ValueType};
 use ls_meaning::completion::Completion;
 use ls_meaning::sort::Sort;
+use std::alloc::AllocError;
 
 // compareAndSet(expectedReference, newReference, expectedMark, newMark)
 fn swap(markable: u64, values: &[Value]) -> Action<Value>
@@ -54,15 +56,50 @@ impl<'a> Pending<'a> {
         )
     }
 
-    /// The next argument, or what they are for.
-    pub fn argue(&mut self, purpose: Purpose, values: Vec<Value>, left: &'a Expressions)
+    // An argument that is known. A refusal leaves what was to be done.
+    fn put_known(
+        &mut self,
+        purpose: Purpose,
+        before: Vec<Value>,
+        v: Value,
+        left: &'a Expressions,
+        all: &'a Expressions,
+    ) -> Result<(), AllocError>
+        ensures ok { OnOk result (state_of self.new ≡ at (PlainArgues (purpose_of purpose) (before.items ++ v ∷ []) (all_plain left.now)) (frames_of self.old.frames.items) self.old.locals.items self.old.depth) }
+        ensures err { OnErr result (state_of self.new ≡ at (PlainArgues (purpose_of purpose) before.items (all_plain all.now)) (frames_of self.old.frames.items) self.old.locals.items self.old.depth) }
+    {
+        let mut before = before;
+        match before.push(v) {
+            Ok(()) => {
+                self.go(Control::Argues(purpose, before, left));
+                Ok(())
+            }
+            Err(_) => {
+                self.go(Control::Argues(purpose, before, all));
+                Err(AllocError)
+            }
+        }
+    }
+
+    /// The next argument, with its value where that is known, or what they are for. A refusal leaves what was to be done.
+    pub fn argue(
+        &mut self,
+        purpose: Purpose,
+        values: Vec<Value>,
+        left: &'a Expressions,
+    ) -> Result<(), AllocError>
         requires { vec_len self.old.frames < vec_capacity self.old.frames }
-        ensures { state_of self.new ≡ arguing (purpose_of purpose) values.items (all_plain left.now) (frames_of self.old.frames.items) self.old.locals.items self.old.depth }
+        ensures ok { OnOk result (state_of self.new ≡ arguing (purpose_of purpose) values.items (all_plain left.now) (frames_of self.old.frames.items) self.old.locals.items self.old.depth) }
+        ensures err { OnErr result (state_of self.new ≡ at (PlainArgues (purpose_of purpose) values.items (all_plain left.now)) (frames_of self.old.frames.items) self.old.locals.items self.old.depth) }
     {
         match left {
             Expressions::End => self.go(Control::Applies(purpose, values)),
-            Expressions::More(e, es) => self.operand(Operand::Argument(purpose, values, es), e),
+            Expressions::More(e, es) => match known(&self.locals, e) {
+                None => self.operand(Operand::Argument(purpose, values, es), e),
+                Some(v) => return self.put_known(purpose, values, v, es, left),
+            },
         }
+        Ok(())
     }
 
     // A call on an object that isn't null.

@@ -22,6 +22,7 @@ use std::alloc::{AllocError, Global};
 use std::mem;
 
 // What goes on after the body of a method.
+#[inline(always)]
 fn left_by<'a>(answered: Option<ValueType>, completion: Completion<Value>) -> Control<'a>
     ensures { control_of result ≡ leaving answered completion }
 {
@@ -34,6 +35,7 @@ fn left_by<'a>(answered: Option<ValueType>, completion: Completion<Value>) -> Co
 
 impl<'a> Pending<'a> {
     /// On to something else.
+    #[inline(always)]
     pub fn go(&mut self, control: Control<'a>)
         ensures state { state_of self.new ≡ at (control_of control.entry) (frames_of self.old.frames.items) self.old.locals.items self.old.depth }
     {
@@ -41,6 +43,7 @@ impl<'a> Pending<'a> {
     }
 
     /// On to something else, inside a frame.
+    #[inline(always)]
     pub fn inside(&mut self, frame: Frame<'a>, control: Control<'a>)
         requires { vec_len self.old.frames < vec_capacity self.old.frames }
         ensures { state_of self.new ≡ at (control_of control.entry) (frame_of frame.entry ∷ frames_of self.old.frames.items) self.old.locals.items self.old.depth }
@@ -50,6 +53,7 @@ impl<'a> Pending<'a> {
     }
 
     /// On to a value.
+    #[inline(always)]
     pub fn gives(&mut self, v: Value)
         ensures { state_of self.new ≡ at (PlainGives v) (frames_of self.old.frames.items) self.old.locals.items self.old.depth }
     {
@@ -57,6 +61,7 @@ impl<'a> Pending<'a> {
     }
 
     /// On to the end of a statement.
+    #[inline(always)]
     pub fn completes(&mut self, completion: Completion<Value>)
         ensures { state_of self.new ≡ at (PlainEnds completion) (frames_of self.old.frames.items) self.old.locals.items self.old.depth }
     {
@@ -64,6 +69,7 @@ impl<'a> Pending<'a> {
     }
 
     /// On to an action.
+    #[inline(always)]
     pub fn asks(&mut self, action: Action<Value>, sort: Sort)
         ensures { state_of self.new ≡ at (PlainAsks action sort) (frames_of self.old.frames.items) self.old.locals.items self.old.depth }
     {
@@ -71,6 +77,7 @@ impl<'a> Pending<'a> {
     }
 
     /// On to an action on an object, unless that is null.
+    #[inline(always)]
     pub fn asks_of(&mut self, object: u64, action: Action<Value>, sort: Sort)
         ensures { state_of self.new ≡ at (thrown_on_null object (PlainAsks action sort)) (frames_of self.old.frames.items) self.old.locals.items self.old.depth }
     {
@@ -98,6 +105,7 @@ impl<'a> Pending<'a> {
     }
 
     // A completion goes to the innermost frame.
+    #[inline(always)]
     fn end(&mut self, completion: Completion<Value>)
         requires { vec_len self.old.frames < vec_capacity self.old.frames }
         ensures { state_of self.new ≡ ending completion (frames_of self.old.frames.items) self.old.locals.items self.old.depth }
@@ -162,6 +170,7 @@ impl<'a> Pending<'a> {
     }
 
     // A loop, from its condition on.
+    #[inline(always)]
     fn loops(&mut self, e: &'a Expression, s: &'a Statement)
         requires { vec_len self.old.frames < vec_capacity self.old.frames }
         ensures { state_of self.new ≡ at (PlainEvaluates (plain e.now)) (On (ToTest (plain e.now) (plain_statement s.now)) ∷ frames_of self.old.frames.items) self.old.locals.items self.old.depth }
@@ -169,16 +178,72 @@ impl<'a> Pending<'a> {
         self.inside(Frame::Waiting(Waiting::Test(e, s)), Control::Evaluates(e))
     }
 
-    /// One move. A refusal changes nothing.
-    pub fn advance(&mut self, alloc: Global, file: &'a File) -> Result<(), AllocError>
+    // A value is given. A refusal changes nothing.
+    #[inline(always)]
+    fn give_on(&mut self, alloc: Global, file: &'a File) -> Result<(), AllocError>
+        requires { vec_len self.old.frames < vec_capacity self.old.frames }
         ensures ok { OnOk result (state_of self.new ≡ moved (plain_file file.now) (state_of self.old)) }
         ensures err { OnErr result (state_of self.new ≡ state_of self.old) }
     {
-        self.frames.reserve(1)?;
+        match &self.control {
+            Control::Gives(v) => {
+                let v = *v;
+                self.give(alloc, &file.classes, v)
+            }
+            _ => self.take_move(alloc, file),
+        }
+    }
+
+    // Most completions are normal, and a function of their own needs no room for one.
+    #[inline(never)]
+    fn end_normally(&mut self)
+        requires { vec_len self.old.frames < vec_capacity self.old.frames }
+        ensures { state_of self.new ≡ ending Completion.Normal (frames_of self.old.frames.items) self.old.locals.items self.old.depth }
+    {
+        self.end(Completion::Normal)
+    }
+
+    // Any completion.
+    #[inline(never)]
+    fn end_anyhow(&mut self, completion: Completion<Value>)
+        requires { vec_len self.old.frames < vec_capacity self.old.frames }
+        ensures { state_of self.new ≡ ending completion (frames_of self.old.frames.items) self.old.locals.items self.old.depth }
+    {
+        self.end(completion)
+    }
+
+    // A statement has come to its end. A refusal changes nothing.
+    #[inline(always)]
+    fn end_on(&mut self, alloc: Global, file: &'a File) -> Result<(), AllocError>
+        requires { vec_len self.old.frames < vec_capacity self.old.frames }
+        ensures ok { OnOk result (state_of self.new ≡ moved (plain_file file.now) (state_of self.old)) }
+        ensures err { OnErr result (state_of self.new ≡ state_of self.old) }
+    {
+        match &self.control {
+            Control::Ends(Completion::Normal) => {
+                self.end_normally();
+                Ok(())
+            }
+            Control::Ends(completion) => {
+                let completion = *completion;
+                self.end_anyhow(completion);
+                Ok(())
+            }
+            _ => self.take_move(alloc, file),
+        }
+    }
+
+    // One move of any kind. What is to be done is taken out of its place, and a refusal puts it back.
+    #[inline(never)]
+    fn take_move(&mut self, alloc: Global, file: &'a File) -> Result<(), AllocError>
+        requires { vec_len self.old.frames < vec_capacity self.old.frames }
+        ensures ok { OnOk result (state_of self.new ≡ moved (plain_file file.now) (state_of self.old)) }
+        ensures err { OnErr result (state_of self.new ≡ state_of self.old) }
+    {
         let control = mem::replace(&mut self.control, Control::Gives(Value::Reference(0)));
         match control {
-            Control::Evaluates(e) => self.evaluate(alloc, e),
-            Control::Argues(purpose, values, left) => self.argue(purpose, values, left),
+            Control::Evaluates(e) => self.evaluate(alloc, &file.classes, e),
+            Control::Argues(purpose, values, left) => self.argue(purpose, values, left)?,
             Control::Applies(purpose, values) => self.apply(&file.classes, purpose, values),
             Control::Invokes(m, o, values) => self.invoke(m, o, values),
             Control::Opens(m, o, values) => self.open(alloc, file, m, o, values)?,
@@ -186,9 +251,43 @@ impl<'a> Pending<'a> {
             Control::Runs(ss) => self.run(ss),
             Control::Loops(e, s) => self.loops(e, s),
             Control::Gives(v) => self.give(alloc, &file.classes, v)?,
-            Control::Ends(completion) => self.end(completion),
+            Control::Ends(completion) => self.end_anyhow(completion),
             control => self.go(control),
         }
         Ok(())
+    }
+
+    /// One move. A refusal changes nothing. What has no values of arguments is read where it stands.
+    pub fn advance(&mut self, alloc: Global, file: &'a File) -> Result<(), AllocError>
+        ensures ok { OnOk result (state_of self.new ≡ moved (plain_file file.now) (state_of self.old)) }
+        ensures err { OnErr result (state_of self.new ≡ state_of self.old) }
+    {
+        self.frames.reserve(1)?;
+        match &self.control {
+            Control::Evaluates(e) => {
+                let e = *e;
+                self.evaluate(alloc, &file.classes, e);
+                Ok(())
+            }
+            Control::Executes(s) => {
+                let s = *s;
+                self.execute(s);
+                Ok(())
+            }
+            Control::Runs(ss) => {
+                let ss = *ss;
+                self.run(ss);
+                Ok(())
+            }
+            Control::Loops(e, s) => {
+                let e = *e;
+                let s = *s;
+                self.loops(e, s);
+                Ok(())
+            }
+            Control::Gives(_) => self.give_on(alloc, file),
+            Control::Ends(_) => self.end_on(alloc, file),
+            _ => self.take_move(alloc, file),
+        }
     }
 }

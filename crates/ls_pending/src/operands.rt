@@ -4,13 +4,14 @@ ghost use Rattle.std.specs.Prelude.{◌≡◌, ◌<◌, ◌∷◌, ◌++◌, [],
 ghost use Rattle.ls_checked.specs.Plain.{plain, all_plain, plain_class};
 ghost use Rattle.ls_meaning.specs.Values.{int_of, truth_of, reference_of, mark_of, operated, divides_by_zero};
 ghost use Rattle.ls_meaning.specs.Expressions.{field_of};
-ghost use Rattle.ls_pending.specs.Pending.{In, InIndex, InRight, InWritten, InArgument, ToCall, ToMake, Gives as PlainGives, Evaluates as PlainEvaluates, Argues as PlainArgues, Asks as PlainAsks, Ends as PlainEnds};
-ghost use Rattle.ls_pending.specs.Machine.{at, thrown_on_null, filling};
+ghost use Rattle.ls_pending.specs.Pending.{In, InIndex, InWritten, InArgument, ToCall, ToMake, Gives as PlainGives, Evaluates as PlainEvaluates, Argues as PlainArgues, Asks as PlainAsks, Ends as PlainEnds};
+ghost use Rattle.ls_pending.specs.Machine.{at, known, on_right, thrown_on_null, filling};
 ghost use Rattle.ls_pending.specs.Seen.{purpose_of, operand_of, frames_of};
 ghost use Rattle.ls_pending.specs.SeenPending.{state_of};
 
 use crate::pending::Pending;
 use crate::stack::push;
+use crate::tables::known;
 use crate::work::{Control, Frame, Operand, Purpose};
 use ls_checked::tree::{Called, Class, Expression, Expressions, Operator};
 use ls_courses::operations::field_of;
@@ -25,8 +26,8 @@ use ls_meaning::sort::Sort;
 use std::alloc::{AllocError, Global};
 
 impl<'a> Pending<'a> {
-    // The read of a field.
-    fn read_field(&mut self, classes: &[Class], class: usize, field: usize, v: Value)
+    /// The read of a field.
+    pub fn read_field(&mut self, classes: &[Class], class: usize, field: usize, v: Value)
         ensures { state_of self.new ≡ at (thrown_on_null (reference_of v) (PlainAsks (Action.ReadField (reference_of v) field) (field_of (map plain_class classes.now) class field))) (frames_of self.old.frames.items) self.old.locals.items self.old.depth }
     {
         let object = reference_of(v);
@@ -35,6 +36,7 @@ impl<'a> Pending<'a> {
     }
 
     // The index of an item.
+    #[inline(always)]
     fn index(&mut self, array: Value, e: &'a Expression)
         requires { vec_len self.old.frames < vec_capacity self.old.frames }
         ensures { state_of self.new ≡ at (PlainEvaluates (plain e.now)) (In (InIndex array) ∷ frames_of self.old.frames.items) self.old.locals.items self.old.depth }
@@ -64,15 +66,20 @@ impl<'a> Pending<'a> {
         }
     }
 
-    // The right operand of an operator.
-    fn right(&mut self, op: Operator, left: Value, e: &'a Expression)
+    /// An operator whose left operand has its value, with the right one where that is known.
+    #[inline(always)]
+    pub fn right(&mut self, op: Operator, left: Value, e: &'a Expression)
         requires { vec_len self.old.frames < vec_capacity self.old.frames }
-        ensures { state_of self.new ≡ at (PlainEvaluates (plain e.now)) (In (InRight op left) ∷ frames_of self.old.frames.items) self.old.locals.items self.old.depth }
+        ensures { state_of self.new ≡ on_right (known (plain e.now) self.old.locals.items) op left (plain e.now) (frames_of self.old.frames.items) self.old.locals.items self.old.depth }
     {
-        self.operand(Operand::Right(op, left), e)
+        match known(&self.locals, e) {
+            None => self.operand(Operand::Right(op, left), e),
+            Some(v) => self.compute(op, left, v),
+        }
     }
 
     // What an operator computes, or the exception of a division by 0.
+    #[inline(always)]
     fn compute(&mut self, op: Operator, x: Value, y: Value)
         ensures { state_of self.new ≡ at (if divides_by_zero op y then PlainEnds (Completion.Threw Kind.Arithmetic) else PlainGives (operated op x y)) (frames_of self.old.frames.items) self.old.locals.items self.old.depth }
     {
@@ -84,6 +91,7 @@ impl<'a> Pending<'a> {
     }
 
     // `&&` behind its left operand.
+    #[inline(always)]
     fn right_of_and(&mut self, left: Value, right: &'a Expression)
         ensures { state_of self.new ≡ at (if truth_of left then PlainEvaluates (plain right.now) else PlainGives (Value.Boolean false)) (frames_of self.old.frames.items) self.old.locals.items self.old.depth }
     {
@@ -95,6 +103,7 @@ impl<'a> Pending<'a> {
     }
 
     // `||` behind its left operand.
+    #[inline(always)]
     fn right_of_or(&mut self, left: Value, right: &'a Expression)
         ensures { state_of self.new ≡ at (if truth_of left then PlainGives (Value.Boolean true) else PlainEvaluates (plain right.now)) (frames_of self.old.frames.items) self.old.locals.items self.old.depth }
     {
@@ -105,8 +114,8 @@ impl<'a> Pending<'a> {
         }
     }
 
-    // The arguments of a call.
-    fn begin_call(&mut self, alloc: Global, called: Called, o: Value, all: &'a Expressions)
+    /// The arguments of a call.
+    pub fn begin_call(&mut self, alloc: Global, called: Called, o: Value, all: &'a Expressions)
         ensures { state_of self.new ≡ at (PlainArgues (ToCall called o) [] (all_plain all.now)) (frames_of self.old.frames.items) self.old.locals.items self.old.depth }
     {
         self.go(Control::Argues(Purpose::Call(called, o), Vec::new(alloc), all))

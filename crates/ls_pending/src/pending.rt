@@ -2,6 +2,8 @@
 
 ghost use Rattle.std.specs.Prelude.{◌≡◌};
 ghost use Rattle.ls_pending.specs.Filled.{is_some};
+ghost use Rattle.ls_pending.specs.Machine.{answered};
+ghost use Rattle.ls_pending.specs.Seen.{control_of};
 
 use crate::work::{Control, Frame};
 use ls_checked::tree::File;
@@ -21,12 +23,25 @@ pub struct Pending<'a> {
 }
 
 // Whether there are frames.
+#[inline(always)]
 fn has_some<'a>(frames: &[Frame<'a>]) -> bool
     ensures { result ≡ is_some frames.now }
 {
     match frames {
         [] => false,
         [_, ..] => true,
+    }
+}
+
+// What goes on after an action that is answered.
+#[inline(always)]
+fn answered<'a>(answer: Answer<Value>) -> Control<'a>
+    ensures { control_of result ≡ answered answer }
+{
+    match answer {
+        Answer::Done => Control::Gives(Value::Reference(0)),
+        Answer::Gives(v) => Control::Gives(v),
+        Answer::Fails(kind) => Control::Ends(Completion::Threw(kind)),
     }
 }
 
@@ -39,6 +54,7 @@ impl<'a> Pending<'a> {
 
     /// Whether a move is left.
     #[tactic(auto, using(crate::proofs::Stacks::gives_left, crate::proofs::Stacks::ends_left))]
+    #[inline(always)]
     pub fn is_left(&self) -> bool
         ensures { result ≡ is_left (state_of self.now).control (state_of self.now).frames }
     {
@@ -61,20 +77,30 @@ impl<'a> Pending<'a> {
         Ok(())
     }
 
-    /// The answer to what was asked for.
-    pub fn take(&mut self, answer: Answer<Value>)
+    // A method that was asked for may be entered. Anything else stays.
+    fn enter(&mut self, answer: Answer<Value>)
         ensures { state_of self.new ≡ taken answer (state_of self.old) }
     {
         let control = mem::replace(&mut self.control, Control::Gives(Value::Reference(0)));
         self.control = match control {
-            Control::Asks(_action, _sort) => match answer {
-                Answer::Done => Control::Gives(Value::Reference(0)),
-                Answer::Gives(v) => Control::Gives(v),
-                Answer::Fails(kind) => Control::Ends(Completion::Threw(kind)),
-            },
+            Control::Asks(_action, _sort) => answered(answer),
             Control::Enters(m, o, values) => Control::Opens(m, o, values),
             Control::Turns(e, s) => Control::Loops(e, s),
             control => control,
         };
+    }
+
+    /// The answer to what was asked for.
+    pub fn take(&mut self, answer: Answer<Value>)
+        ensures { state_of self.new ≡ taken answer (state_of self.old) }
+    {
+        match &self.control {
+            Control::Asks(_, _) => self.control = answered(answer),
+            Control::Turns(e, s) => {
+                let turn = Control::Loops(*e, *s);
+                self.control = turn;
+            }
+            _ => self.enter(answer),
+        }
     }
 }

@@ -4,12 +4,13 @@ ghost use Rattle.std.specs.Prelude.{◌≡◌, ◌<◌, ◌∷◌, vec_len, vec_
 ghost use Rattle.ls_checked.specs.Plain.{plain, plain_statement, statements_of};
 ghost use Rattle.ls_meaning.specs.Values.{int_of, reference_of, truth_of};
 ghost use Rattle.ls_pending.specs.Pending.{On, Up, ToNothing, OfBody, OfTry, OfFinally, OfSequence, Asks as PlainAsks, Evaluates as PlainEvaluates, Ends as PlainEnds, Runs as PlainRuns, Executes as PlainExecutes};
-ghost use Rattle.ls_pending.specs.Machine.{at, thrown_on_null, going_on, executing, running, if_normal, after_loop, closing};
+ghost use Rattle.ls_pending.specs.Machine.{at, known, on_written, thrown_on_null, going_on, executing, running, if_normal, after_loop, closing};
 ghost use Rattle.ls_pending.specs.Seen.{waiting_of, ending_of, frames_of, control_of};
 ghost use Rattle.ls_pending.specs.SeenPending.{state_of};
 
 use crate::pending::Pending;
 use crate::stack::push;
+use crate::tables::known;
 use crate::work::{Control, Ending, Frame, Waiting};
 use ls_checked::tree::{Expression, Statement};
 use ls_courses::value::{int_of, reference_of, truth_of};
@@ -19,6 +20,7 @@ use ls_meaning::completion::Completion;
 use ls_meaning::sort::Sort;
 
 // What goes on after a normal completion.
+#[inline(always)]
 fn if_normal<'a>(completion: Completion<Value>, control: Control<'a>) -> Control<'a>
     ensures { control_of result ≡ if_normal completion (control_of control.entry) }
 {
@@ -29,6 +31,7 @@ fn if_normal<'a>(completion: Completion<Value>, control: Control<'a>) -> Control
 }
 
 // What goes on after the body of a loop.
+#[inline(always)]
 fn after_loop<'a>(completion: Completion<Value>, e: &'a Expression, s: &'a Statement) -> Control<'a>
     ensures { control_of result ≡ after_loop completion (plain e.now) (plain_statement s.now) }
 {
@@ -44,6 +47,7 @@ fn after_loop<'a>(completion: Completion<Value>, e: &'a Expression, s: &'a State
 
 impl<'a> Pending<'a> {
     // A value is waited for, before the rest of a statement.
+    #[inline(always)]
     fn wait(&mut self, rest: Waiting<'a>, e: &'a Expression)
         requires { vec_len self.old.frames < vec_capacity self.old.frames }
         ensures { state_of self.new ≡ at (PlainEvaluates (plain e.now)) (On (waiting_of rest.entry) ∷ frames_of self.old.frames.items) self.old.locals.items self.old.depth }
@@ -51,7 +55,20 @@ impl<'a> Pending<'a> {
         self.inside(Frame::Waiting(rest), Control::Evaluates(e))
     }
 
+    // The write of a field begins, with its object where that is known.
+    #[inline(always)]
+    fn target_of_write(&mut self, e: &'a Expression, field: usize, value: &'a Expression)
+        requires { vec_len self.old.frames < vec_capacity self.old.frames }
+        ensures { state_of self.new ≡ on_written (known (plain e.now) self.old.locals.items) (plain e.now) field (plain value.now) (frames_of self.old.frames.items) self.old.locals.items self.old.depth }
+    {
+        match known(&self.locals, e) {
+            None => self.wait(Waiting::Target(field, value), e),
+            Some(o) => self.wait(Waiting::Field(o, field), value),
+        }
+    }
+
     // The write of a field.
+    #[inline(always)]
     fn write_field(&mut self, o: Value, field: usize, value: Value)
         requires { vec_len self.old.frames < vec_capacity self.old.frames }
         ensures { state_of self.new ≡ at (thrown_on_null (reference_of o) (PlainAsks (Action.WriteField (reference_of o) field value) Sort.NoValue)) (On ToNothing ∷ frames_of self.old.frames.items) self.old.locals.items self.old.depth }
@@ -82,6 +99,7 @@ impl<'a> Pending<'a> {
     }
 
     // A local is written.
+    #[inline(always)]
     fn write_local(&mut self, n: usize, v: Value)
         ensures { state_of self.new ≡ at (PlainEnds Completion.Normal) (frames_of self.old.frames.items) (slice_set self.old.locals.items n v) self.old.depth }
     {
@@ -92,6 +110,7 @@ impl<'a> Pending<'a> {
     }
 
     // The statements of a block.
+    #[inline(always)]
     fn runs(&mut self, ss: &'a [Statement])
         ensures { state_of self.new ≡ at (PlainRuns (statements_of ss.now)) (frames_of self.old.frames.items) self.old.locals.items self.old.depth }
     {
@@ -99,6 +118,7 @@ impl<'a> Pending<'a> {
     }
 
     // A statement of `if`, of two.
+    #[inline(always)]
     fn branch(&mut self, v: Value, a: &'a Statement, b: &'a Statement)
         ensures { state_of self.new ≡ at (PlainExecutes (if truth_of v then plain_statement a.now else plain_statement b.now)) (frames_of self.old.frames.items) self.old.locals.items self.old.depth }
     {
@@ -107,6 +127,7 @@ impl<'a> Pending<'a> {
     }
 
     // The body of a loop.
+    #[inline(always)]
     fn body(&mut self, e: &'a Expression, s: &'a Statement)
         requires { vec_len self.old.frames < vec_capacity self.old.frames }
         ensures { state_of self.new ≡ at (PlainExecutes (plain_statement s.now)) (Up (OfBody (plain e.now) (plain_statement s.now)) ∷ frames_of self.old.frames.items) self.old.locals.items self.old.depth }
@@ -131,17 +152,25 @@ impl<'a> Pending<'a> {
     }
 
     // The statements behind one that has ended.
+    #[inline(always)]
     fn behind(&mut self, ss: &'a [Statement], completion: Completion<Value>)
         ensures { state_of self.new ≡ at (if_normal completion (PlainRuns (statements_of ss.now))) (frames_of self.old.frames.items) self.old.locals.items self.old.depth }
     {
-        self.go(if_normal(completion, Control::Runs(ss)))
+        match completion {
+            Completion::Normal => self.go(Control::Runs(ss)),
+            completion => self.completes(completion),
+        }
     }
 
     // What a loop goes on with, behind its body.
+    #[inline(always)]
     fn turn(&mut self, e: &'a Expression, s: &'a Statement, completion: Completion<Value>)
         ensures { state_of self.new ≡ at (after_loop completion (plain e.now) (plain_statement s.now)) (frames_of self.old.frames.items) self.old.locals.items self.old.depth }
     {
-        self.go(after_loop(completion, e, s))
+        match completion {
+            Completion::Normal => self.go(Control::Turns(e, s)),
+            completion => self.go(after_loop(completion, e, s)),
+        }
     }
 
     // The end of a `try`, behind its `finally` block.
@@ -152,6 +181,7 @@ impl<'a> Pending<'a> {
     }
 
     // The first statement of a block that has one.
+    #[inline(always)]
     fn first(&mut self, s: &'a Statement, rest: &'a [Statement])
         requires { vec_len self.old.frames < vec_capacity self.old.frames }
         ensures { state_of self.new ≡ at (PlainExecutes (plain_statement s.now)) (Up (OfSequence (statements_of rest.now)) ∷ frames_of self.old.frames.items) self.old.locals.items self.old.depth }
@@ -172,7 +202,7 @@ impl<'a> Pending<'a> {
                 target,
                 field,
                 value,
-            } => self.wait(Waiting::Target(*field, value), target),
+            } => self.target_of_write(target, *field, value),
             Statement::SetItem {
                 array,
                 index,

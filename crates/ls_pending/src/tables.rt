@@ -1,9 +1,12 @@
-// The locals of a body as it is entered, and what it answers without a value.
+// The locals of a body as it is entered, what it answers without a value, and expressions that are known at once.
 
 ghost use Rattle.std.specs.Prelude.{◌≡◌, ◌∷◌, IfOk};
+ghost use Rattle.ls_checked.specs.Plain.{plain};
 ghost use Rattle.ls_meaning.specs.Methods.{frame, answer_without};
+ghost use Rattle.ls_pending.specs.Machine.{known};
 
-use ls_courses::value::{start_of, starts_of};
+use ls_checked::tree::Expression;
+use ls_courses::value::{start_of, starts_of, value_at};
 use ls_events::value::{Value, ValueType};
 use std::alloc::{AllocError, Global};
 
@@ -33,5 +36,17 @@ pub fn answer_without(answered: Option<ValueType>) -> Value
     match answered {
         None => Value::Reference(0),
         Some(t) => start_of(t),
+    }
+}
+
+/// The value of an expression that asks for nothing: a literal or a local.
+#[inline(always)]
+pub fn known(locals: &[Value], e: &Expression) -> Option<Value>
+    ensures { result ≡ known (plain e.now) locals.now }
+{
+    match e {
+        Expression::Literal(v) => Some(*v),
+        Expression::Slot(n) => Some(value_at(locals, *n)),
+        _ => None,
     }
 }

@@ -3,6 +3,7 @@ use Rattle.std.specs.Prelude.{ℕ, List, [], ◌∷◌, Option, Some, None, map}
 use Rattle.std.specs.declared.vec.Vec.{Vec}
 use Rattle.std.specs.declared.alloc.Global.{Global}
 use Rattle.ls_events.specs.declared.value.Value.{Value}
+use Rattle.ls_events.specs.declared.action.Action.{Action}
 use Rattle.ls_events.specs.declared.action.Answer.{Answer}
 use Rattle.ls_events.specs.declared.event.Event.{Event}
 use Rattle.ls_meaning.specs.declared.step.Did.{Did}
@@ -10,6 +11,8 @@ use Rattle.ls_meaning.specs.declared.step.Did.TheVariants as did
 use Rattle.ls_meaning.specs.Course.{Answers}
 use Rattle.ls_meaning.specs.Runs.{State, event_of}
 use Rattle.ls_source.specs.declared.stage.Stage.{Stage}
+use Rattle.ls_source.specs.declared.thing.Effect.{Effect as Outcome}
+use Rattle.ls_source.specs.declared.thing.Effect.TheVariants.{Waits as HasToWait, Does as HasDone}
 use Rattle.ls_source.specs.SeenStore.{store_of}
 
 -- the answers of each thread
@@ -18,6 +21,11 @@ lists_of answers = map (λ v. v.items) answers
 
 abbrev pub state_of : Stage → State
 state_of s = record { store = store_of s.store; answers = lists_of s.answers.items }
+
+-- what a step did that performed an action, by what the action did
+abbrev pub did_by : Action Value → Outcome → Did
+did_by action HasToWait = did.Waits
+did_by action (HasDone answer) = did.Acted action answer
 
 -- the event of what a step of a thread did
 abbrev pub listed : Option Event → List Event

@@ -6,11 +6,12 @@ ghost use Rattle.ls_checked.specs.PlainProgram.{plain_program, plain_call};
 ghost use Rattle.ls_meaning.specs.Runs.{source_history};
 ghost use Rattle.ls_source.specs.Calls.{Starts, begun as with_first};
 ghost use Rattle.ls_source.specs.SeenThread.{thread_of};
-ghost use Rattle.ls_source.specs.SeenRun.{lists_of};
+ghost use Rattle.ls_source.specs.SeenRun.{lists_of, did_by};
 ghost use Rattle.ls_source.specs.Kept.{IsKept};
 
 use crate::next::Next;
 use crate::stage::Stage;
+use crate::thing::Effect;
 use crate::thread::Thread;
 use ls_checked::program::{Program, ThreadProgram};
 use ls_checked::tree::File;
@@ -31,6 +32,17 @@ pub struct SourceRun<'a> {
     ghost answers: { length stage.answers.items ≡ length program.now.threads.items },
     ghost works: { length threads.items ≡ length program.now.threads.items },
     ghost kept: { IsKept (plain_file file.now) (plain_program program.now) (map thread_of threads.items) (lists_of stage.answers.items) },
+}
+
+// What a step did that performed an action.
+#[inline(always)]
+fn did_by(action: Action<Value>, effect: Effect) -> Did
+    ensures { result ≡ did_by action effect }
+{
+    match effect {
+        Effect::Waits => Did::Waits,
+        Effect::Does(answer) => Did::Acted(action, answer),
+    }
 }
 
 // The threads of a program, each up to its first question.
@@ -77,6 +89,7 @@ impl<'a> SourceRun<'a> {
     }
 
     // What a thread does after the answers that it has had. Work that memory was short for isn't gone on with here.
+    #[inline(always)]
     fn next_of_thread(&self, thread: usize) -> Result<Next, AllocError>
         ensures asked { IfOk result (λ r. asked_at (progress_of self.now).program (slice_get (map thread_of self.now.threads.items) thread) ≡ Some (seen_next r)) }
         ensures next { IfOk result (λ r. seen_next r ≡ next (progress_of self.now).file (progress_of self.now).program thread (answers_of (progress_of self.now).state thread)) }
@@ -142,20 +155,20 @@ impl<'a> SourceRun<'a> {
         alloc: Global,
         thread: usize,
         action: Action<Value>,
-    ) -> Result<Did, AllocError>
+    ) -> Result<Effect, AllocError>
         requires within { thread < length self.old.threads.items }
         requires asks { action_in (asked_at (progress_of self.old).program (slice_get (map thread_of self.old.threads.items) thread)) ≡ Some action }
-        ensures did { IfOk result (λ d. d ≡ (performed (progress_of self.old).state thread action (effect (progress_of self.old).file.classes (progress_of self.old).state.store thread action)).did) }
+        ensures did { IfOk result (λ e. did_by action e ≡ (performed (progress_of self.old).state thread action (effect (progress_of self.old).file.classes (progress_of self.old).state.store thread action)).did) }
         ensures run { OnOk result (progress_of self.new ≡ gone_by (progress_of self.old) thread (performed (progress_of self.old).state thread action (effect (progress_of self.old).file.classes (progress_of self.old).state.store thread action))) }
         ensures refused { OnErr result (progress_of self.new ≡ progress_of self.old) }
     {
-        let did = self
+        let effect = self
             .stage
             .perform(alloc, &self.file.classes, thread, action)?;
-        if let Did::Acted(_, answer) = did {
+        if let Effect::Does(answer) = effect {
             self.threads[thread].take(self.file, answer);
         }
-        Ok(did)
+        Ok(effect)
     }
 
     /// One step of a thread. It changes the run where it acts, and not where it is refused. What the thread does up to its
@@ -175,7 +188,7 @@ impl<'a> SourceRun<'a> {
         }
         match self.next_of_thread(thread)? {
             Next::Goes(action, _) => {
-                let did = self.act(alloc, thread, action)?;
+                let did = did_by(action, self.act(alloc, thread, action)?);
                 let _settled = self.settle(alloc, thread);
                 Ok(did)
             }

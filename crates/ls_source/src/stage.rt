@@ -6,7 +6,7 @@ ghost use Rattle.ls_checked.specs.PlainProgram.{plain_program};
 ghost use Rattle.ls_meaning.specs.Effect.{effect};
 ghost use Rattle.ls_meaning.specs.Runs.{start, performed, event_of};
 ghost use Rattle.ls_source.specs.SeenStore.{store_of};
-ghost use Rattle.ls_source.specs.SeenRun.{lists_of, state_of, events_by};
+ghost use Rattle.ls_source.specs.SeenRun.{lists_of, state_of, did_by, events_by};
 
 use crate::store::Store;
 use crate::thing::Effect;
@@ -15,7 +15,6 @@ use ls_checked::tree::Class;
 use ls_events::action::{Action, Answer};
 use ls_events::event::{Event, Happening};
 use ls_events::value::Value;
-use ls_meaning::step::Did;
 use std::alloc::{AllocError, Global};
 
 /// The state of a run, with its events so far.
@@ -27,6 +26,7 @@ pub struct Stage {
 }
 
 // The event of a history that an action of a thread is.
+#[inline(always)]
 fn event_of(thread: usize, action: Action<Value>) -> Option<Event>
     ensures { result ≡ event_of thread action }
 {
@@ -92,11 +92,11 @@ impl Stage {
         classes: &[Class],
         thread: usize,
         action: Action<Value>,
-    ) -> Result<Did, AllocError>
+    ) -> Result<Effect, AllocError>
         requires { thread < length self.old.answers.items }
-        ensures did { IfOk result (λ d. d ≡ (performed (state_of self.old) thread action (effect (map plain_class classes.now) (store_of self.old.store) thread action)).did) }
+        ensures did { IfOk result (λ e. did_by action e ≡ (performed (state_of self.old) thread action (effect (map plain_class classes.now) (store_of self.old.store) thread action)).did) }
         ensures after { OnOk result (state_of self.new ≡ (performed (state_of self.old) thread action (effect (map plain_class classes.now) (store_of self.old.store) thread action)).after) }
-        ensures events { IfOk result (λ d. self.new.events.items ≡ self.old.events.items ++ events_by thread d) }
+        ensures events { IfOk result (λ e. self.new.events.items ≡ self.old.events.items ++ events_by thread (did_by action e)) }
         ensures threads { length self.new.answers.items ≡ length self.old.answers.items }
         ensures err { OnErr result (state_of self.new ≡ state_of self.old) }
         ensures err_events { OnErr result (self.new.events.items ≡ self.old.events.items) }
@@ -105,13 +105,13 @@ impl Stage {
         had.reserve(1)?;
         self.events.reserve(1)?;
         match self.store.act(alloc, classes, thread, action)? {
-            Effect::Waits => Ok(Did::Waits),
+            Effect::Waits => Ok(Effect::Waits),
             Effect::Does(answer) => {
                 had.push(answer)?;
                 if let Some(event) = event_of(thread, action) {
                     self.events.push(event)?;
                 }
-                Ok(Did::Acted(action, answer))
+                Ok(Effect::Does(answer))
             }
         }
     }

@@ -98,6 +98,7 @@ fn named(program: &Program, n: usize) -> Sort
 }
 
 // What work asks for.
+#[inline(always)]
 fn asked_by<'a>(control: &Control<'a>) -> Option<Next>
     ensures { option_map seen_next result ≡ asked_by (control_of control.now) }
 {
@@ -157,7 +158,8 @@ impl<'a> Thread<'a> {
 
     // A body's work is made, where it is still to begin. A refusal changes nothing.
     #[tactic(auto, using(ls_pending::proofs::Stacks::none_left))]
-    fn begin_body(&mut self, alloc: Global) -> Result<(), AllocError>
+    #[inline(never)]
+    fn make_body(&mut self, alloc: Global) -> Result<(), AllocError>
         ensures { thread_of self.new ≡ thread_of self.old }
     {
         if let Phase::Begins(bottom, method, o, values) = self.phase {
@@ -172,6 +174,17 @@ impl<'a> Thread<'a> {
             self.phase = Phase::Works(bottom);
         }
         Ok(())
+    }
+
+    // A body's work is made, where it is still to begin: seldom, and so apart from the way that each step takes.
+    #[inline(always)]
+    fn begin_body(&mut self, alloc: Global) -> Result<(), AllocError>
+        ensures { thread_of self.new ≡ thread_of self.old }
+    {
+        match self.phase {
+            Phase::Begins(_, _, _, _) => self.make_body(alloc),
+            _ => Ok(()),
+        }
     }
 
     // The work of a body, up to its next question or its end.
@@ -299,6 +312,7 @@ impl<'a> Thread<'a> {
 
     /// What is asked for, where no move is left.
     #[tactic(auto, using(crate::proofs::Lefts::one_left, crate::proofs::Lefts::none_left))]
+    #[inline(always)]
     pub fn asked(&self, program: &Program) -> Option<Next>
         ensures { option_map seen_next result ≡ asked_now (plain_program program.now) (thread_of self.now) }
     {

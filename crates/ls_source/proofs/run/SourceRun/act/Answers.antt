@@ -6,22 +6,22 @@ use Rattle.ls_checked.specs.PlainProgram.{plain_program}
 use Rattle.ls_meaning.specs.Effect.{effect}
 use Rattle.ls_source.specs.Kept.{IsKept}
 use Rattle.ls_source.specs.SeenThread.{thread_of}
-use Rattle.ls_source.specs.SeenRun.{lists_of, state_of}
+use Rattle.ls_source.specs.SeenRun.{lists_of, state_of, did_by}
 use Rattle.ls_source.specs.SeenStore.{store_of}
 use Rattle.ls_source.proofs.Kept.{taken, answers_after}
 use Rattle.ls_source.proofs.run.SourceRun.act.Goals as goal
 
-pub invariant_of-self-in-Acted : goal.invariant_of-self-in-Acted
-invariant_of-self-in-Acted c =
+pub invariant_of-self-in-Does : goal.invariant_of-self-in-Does
+invariant_of-self-in-Does c =
     let r = c.args.self.now in
     let file = plain_file r.file.now in
     let had = lists_of r.stage.answers.items in
     let t = c.args.thread in
-    let a = c.in-Acted.answer in
+    let a = c.in-Does.answer in
     let has : t < length had = subst (λ k. t < k) (r.works ∙ sym r.answers ∙ sym (length-map r.stage.answers.items _)) c.requires.within in
     let is : lists_of c.perform.new.self.answers.items ≡ slice_set had t (slice_index_or had t [] ++ a ∷ []) =
-    ap (λ s. s.answers) c.in_ok-did.ensures.after
-    ∙ answers_after (state_of r.stage) t c.args.action (effect (map plain_class c.deref.result.now) (store_of r.stage.store) t c.args.action) _ c.in-Acted.field-0 a c.in_ok-did.ensures.did c.in-Acted.is in
+    ap (λ s. s.answers) c.in_ok-effect.ensures.after
+    ∙ answers_after (state_of r.stage) t c.args.action (effect (map plain_class c.deref.result.now) (store_of r.stage.store) t c.args.action) _ c.args.action a c.in_ok-effect.ensures.did (ap (did_by c.args.action) c.in-Does.is) in
     record {
       answers = c.perform.ensures.threads ∙ r.answers;
       works = length-set r.threads.items t c.take.new.self ∙ r.works;
