@@ -5,6 +5,7 @@ use Rattle.ls_code.specs.Code.{Code}
 use Rattle.ls_code.specs.Machine.{Machine, loaded, machine_state, machine_step, machine_run}
 use Rattle.ls_batch.specs.Samples.{goes_on, played, sample_of, settled, threads_of}
 use Rattle.ls_batch.specs.Replays.{Replays}
+use Rattle.ls_machine.specs.Back.{RunsKeep}
 use Rattle.ls_batch.proofs.Settled.{settled_none, settled_on, settled_stop}
 
 run_append : (m : Machine) (xs ys : List ℕ) → machine_run m (xs ++ ys) ≡ machine_run (machine_run m xs) ys
@@ -38,3 +39,15 @@ seeds_replay code cells seed steps =
       few = s.few;
       history = ap (λ (z : Machine). z.history) (played_is m (threads_of code) seed steps ∙ (ap (λ (z : Machine). machine_run z sample) s.same ∙ sym (run_append m (replicate s.steps 0) sample)));
     }
+
+-- a seed's run from its start keeps the code and the number of cells
+pub played_keeps : (m : Machine) (threads seed steps : ℕ) → RunsKeep → ((played m threads seed steps).code ≡ m.code) × ((played m threads seed steps).cells.limit ≡ m.cells.limit)
+played_keeps m threads seed steps keep =
+    let s = settles 100000 m in
+    let first = keep m (replicate s.steps 0) in
+    let then = keep (settled 100000 m) (sample_of seed threads steps) in
+    let code : Machine → Code = λ z. z.code in
+    let cells : Machine → ℕ = λ z. z.cells.limit in (
+      ap code (played_is m threads seed steps) ∙ (then.0 ∙ (ap code s.same ∙ first.0)),
+      ap cells (played_is m threads seed steps) ∙ (then.1 ∙ (ap cells s.same ∙ first.1)),
+    )

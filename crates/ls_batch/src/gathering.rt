@@ -5,7 +5,7 @@ ghost use Rattle.std.specs.List.{AllZip, flat_map};
 ghost use Rattle.rayon.specs.Lists.{chunks_of};
 ghost use Rattle.ls_batch.specs.Samples.{history_of};
 
-use crate::runs::one_run;
+use crate::runs::{load, one_run, threads_of};
 use ls_code::code::Code;
 use ls_events::event::Event;
 use rayon::prelude::*;
@@ -20,7 +20,7 @@ fn seeds_at_once(count: usize) -> usize
     (count / 64).min(64).max(1)
 }
 
-/// The histories of a part of the seeds, in order.
+/// The histories of a part of the seeds, in order. They are run on one machine.
 fn run_part(
     alloc: Global,
     code: &Code,
@@ -30,9 +30,11 @@ fn run_part(
 ) -> Result<Vec<Vec<Event>>, AllocError>
     ensures { IfOk result (λ histories. map (λ h. h.items) histories.items ≡ map (λ seed. history_of code.now cells seed steps) seeds.now) }
 {
+    let mut machine = load(alloc, code, cells)?;
+    let threads = threads_of(code);
     let mut histories = Vec::new(alloc);
     for seed in seeds {
-        histories.push(one_run(alloc, code, cells, *seed, steps)?)?;
+        histories.push(one_run(alloc, &mut machine, threads, *seed, steps)?)?;
     }
     Ok(histories)
 }

@@ -10,13 +10,14 @@ use ls_code::code::Code;
 use ls_code::step::ThreadState;
 use ls_events::event::Event;
 use ls_machine::Machine;
+use ls_machine::laws::runs_keep;
 use std::alloc::{AllocError, Global};
 
 /// The most steps of the setup before a sample.
 const MOST_SETUP_STEPS: usize = 100_000;
 
 /// How many threads there are beside the setup.
-fn threads_of(code: &Code) -> usize
+pub(crate) fn threads_of(code: &Code) -> usize
     ensures { result ≡ threads_of code.now }
 {
     code.starts().len().saturating_sub(1)
@@ -55,9 +56,9 @@ fn run_seed(machine: &mut Machine, threads: usize, seed: u64, steps: usize)
     run_sample(machine, seed, threads, steps);
 }
 
-/// The machine of the code at its start. A number of cells that no machine has is answered as want of memory: who calls this
+/// The machine of the code at its start, for the runs of many seeds. A number of cells that no machine has is answered as want of memory: who calls this
 /// has looked at the cells.
-fn load(alloc: Global, code: &Code, cells: usize) -> Result<Machine, AllocError>
+pub(crate) fn load(alloc: Global, code: &Code, cells: usize) -> Result<Machine, AllocError>
     ensures { IfOk result (λ machine. machine ≡ loaded code.now cells) }
 {
     match Machine::load(alloc, code, cells) {
@@ -66,18 +67,21 @@ fn load(alloc: Global, code: &Code, cells: usize) -> Result<Machine, AllocError>
     }
 }
 
-/// The history of a seed's run.
+/// The history of a seed's run, on a machine that is set back to its start first.
 pub(crate) fn one_run(
     alloc: Global,
-    code: &Code,
-    cells: usize,
+    machine: &mut Machine,
+    threads: usize,
     seed: u64,
     steps: usize,
 ) -> Result<Vec<Event>, AllocError>
-    ensures { IfOk result (λ history. history.items ≡ history_of code.now cells seed steps) }
+    requires { threads ≡ threads_of machine.old.code }
+    ensures history { IfOk result (λ history. history.items ≡ history_of machine.old.code machine.old.cells.limit seed steps) }
+    ensures code { machine.new.code ≡ machine.old.code }
+    ensures cells { machine.new.cells.limit ≡ machine.old.cells.limit }
 {
-    let mut machine = load(alloc, code, cells)?;
-    run_seed(&mut machine, threads_of(code), seed, steps);
-    let history = copied(alloc, machine.history())?;
-    Ok(history)
+    runs_keep();
+    machine.set_back();
+    run_seed(machine, threads, seed, steps);
+    copied(alloc, machine.history())
 }

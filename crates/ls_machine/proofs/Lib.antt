@@ -3,3 +3,5 @@ pub mod Frames
 pub mod Stepping
 pub mod Whole
 pub mod Starting
+pub mod Keeping
+pub mod Back

@@ -5,3 +5,4 @@ pub mod Takes
 pub mod Threads
 pub mod Outcomes
 pub mod Room
+pub mod Back

@@ -56,6 +56,17 @@ impl Cells {
         })
     }
 
+    /// Gives back all cells but those of the setup names, which hold 0 again. It takes no memory.
+    pub fn set_back(&mut self)
+        requires { self.old.names ≤ self.old.limit }
+        ensures { self.new ≡ first_cells self.old.names self.old.limit self.old.sizes }
+    {
+        self.words.clear();
+        let Ok(()) = self.words.resize(self.names, 0) else {
+            unreachable!()
+        };
+    }
+
     #[inline]
     pub fn get(&self, address: u64, offset: usize) -> Option<u64>
         ensures { result ≡ cell_at self.now address offset }

@@ -56,6 +56,17 @@ impl Frame {
         })
     }
 
+    /// Makes this an empty frame again, with the memory that it has.
+    pub fn set_back(&mut self, place: usize, need: usize)
+        requires { need ≤ self.old.operands_room }
+        ensures { self.new ≡ empty_kept place need self.old.locals_room self.old.operands_room }
+    {
+        self.counter = place;
+        self.count = 0;
+        self.top = self.operands.len();
+        self.floor = self.top - need;
+    }
+
     #[inline]
     pub fn counter(&self) -> usize
         ensures { result ≡ self.now.frame.counter }

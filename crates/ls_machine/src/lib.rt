@@ -8,6 +8,7 @@ mod exchanges;
 mod fault;
 mod flow;
 mod frame;
+pub mod laws;
 mod lock_words;
 mod machine;
 mod silent;

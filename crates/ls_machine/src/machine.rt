@@ -4,6 +4,7 @@ ghost use Rattle.std.specs.Prelude.{◌≡◌, ℕ, ◌+◌, ◌<◌, ◌≤◌,
 ghost use Rattle.std.specs.List.{All, sum_by};
 ghost use Rattle.ls_code.specs.Events.{events_of, result_of, result_value};
 ghost use Rattle.ls_code.specs.Machine.{loaded, machine_step, machine_run, machine_state, setup_ended, stops, is_due as due};
+ghost use Rattle.ls_machine.specs.Back.{all_back};
 ghost use Rattle.ls_machine.specs.Memory.{no_thread, started_kept};
 ghost use Rattle.ls_machine.specs.Room.{AreBadCells};
 
@@ -37,13 +38,14 @@ pub struct Machine {
 impl Model for Machine {
     ghost use Rattle.std.specs.Prelude.{◌≤◌, map, vec_capacity, vec_len};
     ghost use Rattle.ls_code.specs.Machine.{Machine as MachineValue};
+    ghost use Rattle.ls_machine.specs.Back.{IsOf};
     ghost use Rattle.ls_machine.specs.Room.{HasMemory};
 
     ghost Value = { MachineValue };
 
     ghost view = { λ m. record { code = m.code; threads = map (λ t. t.thread) m.threads.items; cells = m.cells; stopped = m.stopped; history = m.history.items } };
 
-    ghost invariant = { λ m. HasMemory m.code m.threads.items (vec_len m.history) m.limit × (m.limit ≤ vec_capacity m.history) };
+    ghost invariant = { λ m. HasMemory m.code m.threads.items (vec_len m.history) m.limit × (m.limit ≤ vec_capacity m.history) × IsOf m.code m.threads.items m.cells m.limit };
 }
 
 impl Machine {
@@ -114,6 +116,17 @@ impl Machine {
         self.stopped = is_stop(did);
         record(&mut self.history, &self.code, number, did);
         did
+    }
+
+    /// Sets the machine back to its start, as it is loaded anew from its code with as many cells. It takes no memory, and always
+    /// succeeds. It costs something for each setup name and each thread, and nothing for the other cells.
+    pub fn set_back(&mut self)
+        ensures { self.new ≡ loaded self.old.code self.old.cells.limit }
+    {
+        self.cells.set_back();
+        set_all_back(&mut self.threads, self.code.starts());
+        self.stopped = false;
+        self.history.clear();
     }
 
     /// Takes the steps of a schedule. It takes no memory, and always succeeds.
@@ -320,6 +333,18 @@ fn start_all(
         threads.push(Thread::new(alloc, start, locals_room, operands_room)?)?;
     }
     Ok(threads)
+}
+
+/// Each thread back at its start.
+fn set_all_back(threads: &mut [Thread], starts: &[Start])
+    requires count { length threads.old ≡ length starts.now }
+    requires needs { All (λ t. All (λ s. s.need ≤ t.operands_room) starts.now) threads.old }
+    ensures { threads.new ≡ all_back starts.now threads.old }
+{
+    for i in 0..threads.len() {
+        let thread = &mut threads[i];
+        thread.set_back(&starts[i]);
+    }
 }
 
 /// Whether the setup has ended without a trap.

@@ -8,6 +8,7 @@ ghost use Rattle.ls_code.specs.Calls.{left_frame, left_with, halted, call_begun,
 ghost use Rattle.ls_events.specs.declared.kind.Kind.{Kind};
 ghost use Rattle.ls_machine.specs.Memory.{keeping, keeping_thread, no_frame, HaveRooms, started_kept};
 ghost use Rattle.ls_machine.specs.Flows.{IsFlow, IsReady, CanResume, LeavesOthers, is_silent};
+ghost use Rattle.ls_machine.specs.Back.{back_at};
 ghost use Rattle.ls_machine.specs.Threads.{IsQuickThread, thread_after, call_flow};
 
 use crate::flow::{Entered, Flow, Quick};
@@ -78,6 +79,19 @@ impl Thread {
             locals_room,
             operands_room,
         })
+    }
+
+    /// Sets the thread back to a start, with its own calls. It takes no memory.
+    pub fn set_back(&mut self, start: &Start)
+        requires { start.now.need ≤ self.old.operands_room }
+        ensures { self.new ≡ back_at start.now self.old }
+    {
+        let frame = &mut self.frames[MOST_CALLED];
+        frame.set_back(start.place(), start.need());
+        self.inner = MOST_CALLED;
+        self.mode = Mode::Running;
+        self.ended = 0;
+        self.pending = false;
     }
 
     #[inline]

@@ -1,4 +1,5 @@
-use Rattle.std.proofs.Common.{ℕ}
+use Rattle.std.proofs.Common.{◌≡◌, ℕ, ap, ◌∙◌, subst}
+use Rattle.ls_code.specs.Code.{Code}
 use Rattle.ls_batch.specs.Samples.{history_of}
 use Rattle.ls_batch.specs.Tallies.{History}
 use Rattle.ls_batch.proofs.Batched.{mapped_more}
@@ -7,4 +8,9 @@ use Rattle.ls_batch.proofs.gathering.run_part.Goals as goal
 pub loop-seed-preserved : goal.loop-seed-preserved
 loop-seed-preserved c =
     let h : ℕ → History = λ s. history_of c.args.code.now c.args.cells s c.args.steps in
-    rw c.in_ok-push.ensures.items (mapped_more h (λ v. v.items) c.args.seeds.now c.loop-seed.seed-index c.loop-seed.histories.items _ c.loop-seed-test.true c.in_ok-one_run.ensures c.loop-seed.invariant)
+    let ran = rw (c.loop-seed.invariant.code, c.loop-seed.invariant.cells) at c.in_ok-one_run.ensures.history in
+    record {
+      code = c.in_ok-one_run.ensures.code ∙ c.loop-seed.invariant.code;
+      cells = c.in_ok-one_run.ensures.cells ∙ c.loop-seed.invariant.cells;
+      histories = rw c.in_ok-push.ensures.items (mapped_more h (λ v. v.items) c.args.seeds.now c.loop-seed.seed-index c.loop-seed.histories.items _ c.loop-seed-test.true ran c.loop-seed.invariant.histories);
+    }

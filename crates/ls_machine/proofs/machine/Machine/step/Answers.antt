@@ -6,6 +6,7 @@ use Rattle.ls_machine.specs.Outcomes.{Came}
 use Rattle.ls_machine.specs.Takes.{TakesEvents}
 use Rattle.ls_code.specs.Machine.{Machine, is_due, machine_step, Stepped, stepped_by}
 use Rattle.ls_code.specs.Steps.{performed, thread_move}
+use Rattle.ls_machine.proofs.Back.{of_kept}
 use Rattle.ls_machine.proofs.Whole.{memory_kept, step_due}
 use Rattle.ls_machine.specs.contracts.machine.Machine.{the_view}
 use Rattle.ls_machine.proofs.machine.Machine.step.Goals as goal
@@ -24,8 +25,11 @@ takes : (c : After-record) → TakesEvents c.self.inside.code c.args.number c.ru
 takes c = subst (λ (k : KeptThread). TakesEvents c.self.inside.code c.args.number c.run-did.result k.thread c.run-did.new.thread.thread) (thread_is c) c.run-did.ensures.events
 
 pub invariant_of-self : goal.invariant_of-self
-invariant_of-self c =
-    (rw c.record.ensures.len (memory_kept c.self.inside.code c.self.inside.threads.items _ c.self.inside.limit c.args.number c.run-did.new.thread _ c.run-did.new.cells c.run-did.result (inside c) c.self.invariant.0 (came c) (takes c)), omega arith)
+invariant_of-self c = (
+  rw c.record.ensures.len (memory_kept c.self.inside.code c.self.inside.threads.items _ c.self.inside.limit c.args.number c.run-did.new.thread _ c.run-did.new.cells c.run-did.result (inside c) c.self.invariant.0 (came c) (takes c)),
+  omega arith,
+  of_kept c.self.inside.code c.self.inside.threads.items c.self.inside.cells c.self.inside.limit c.args.number c.run-did.new.thread c.run-did.new.cells c.run-did.result (inside c) c.self.invariant.2 (came c),
+)
 
 due : (c : After-record) → is_due (the_view c.self.inside).threads c.args.number (get_or c.self.inside.threads.items c.args.number no_thread).thread ≡ true
 due c = rw c.deref.ensures.value at (sym c.is_due.ensures ∙ c.if-not-is_due.false)
