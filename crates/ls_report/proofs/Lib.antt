@@ -1,4 +1,5 @@
 pub mod Mapped
+pub mod Fronts
 pub mod CutLemmas
 pub mod Values
 pub mod Parts

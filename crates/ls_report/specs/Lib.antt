@@ -3,6 +3,7 @@ pub mod Plain
 pub mod Cut
 pub mod Lines
 pub mod Discipline
+pub mod Front
 pub mod LineReading
 pub mod Reading
 pub mod Printing

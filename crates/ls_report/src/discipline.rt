@@ -1,9 +1,8 @@
 // Which event may come next.
 
-ghost use Rattle.std.specs.Prelude.{◌≡◌, ◌==◌, ◌+◌, map, find, reverse, option_map, string_bytes};
+ghost use Rattle.std.specs.Prelude.{◌≡◌, ◌==◌, ◌+◌, map, option_map};
 ghost use Rattle.std.specs.List.{list_all};
 ghost use Rattle.std.specs.Option.{option_copied};
-ghost use Rattle.std.specs.Str.{bytes_eq};
 ghost use Rattle.ls_report.specs.Discipline.{
   has_names,
   has_value,
@@ -14,11 +13,12 @@ ghost use Rattle.ls_report.specs.Discipline.{
   is_return,
   is_shown,
   is_well_formed,
-  last_of,
   may_follow,
 };
+ghost use Rattle.ls_report.specs.Front.{IsIndexed};
 ghost use Rattle.ls_report.specs.Plain.{plain_event, plain_occurrence};
 
+use crate::front::Front;
 use crate::history::{NamedEvent, Occurrence};
 use ls_events::value::Value;
 use ls_lexer::names::is_name;
@@ -98,17 +98,6 @@ fn is_placed(event: &NamedEvent) -> bool
     !is_making(&event.occurrence) || event.thread.as_str() == "setup"
 }
 
-/// The last event of the thread. The search goes back from the end, so that over a whole history it costs no more than
-/// its events times its threads.
-fn last_of<'a>(events: &'a [NamedEvent], thread: &str) -> Option<&'a NamedEvent>
-    ensures { option_copied result ≡ find (λ e. bytes_eq (string_bytes e.thread) thread.now) (reverse events.now) }
-{
-    events
-        .iter()
-        .rev()
-        .find(|event| event.thread.as_str() == thread)
-}
-
 fn is_one_more(number: usize, before: usize) -> bool
     ensures { result ≡ (number == before + 1) }
 {
@@ -135,8 +124,9 @@ fn may_follow(last: Option<&NamedEvent>, event: &NamedEvent) -> bool
 }
 
 /// Whether the event may come after those in front.
-pub(crate) fn is_next(front: &[NamedEvent], event: &NamedEvent) -> bool
-    ensures { result ≡ is_next (map plain_event front.now) (plain_event event.now) }
+pub(crate) fn is_next(front: &Front, event: &NamedEvent) -> bool
+    requires { IsIndexed front.now }
+    ensures { result ≡ is_next (map plain_event front.now.events.items) (plain_event event.now) }
 {
-    is_well_formed(event) && may_follow(last_of(front, event.thread.as_str()), event)
+    is_well_formed(event) && may_follow(front.last_of(event.thread.as_str()), event)
 }

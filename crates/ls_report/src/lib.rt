@@ -4,6 +4,7 @@
 pub mod cuts;
 mod discipline;
 mod fault;
+mod front;
 pub mod history;
 mod line_reading;
 mod lines;

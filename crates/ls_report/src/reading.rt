@@ -4,6 +4,7 @@ ghost use Rattle.std.specs.Prelude.{◌≡◌, ◌<◌, ◌^◌, List, true, len
 ghost use Rattle.std.specs.Str.{bytes_eq};
 ghost use Rattle.ls_report.specs.Discipline.{is_history, is_next};
 ghost use Rattle.ls_report.specs.Events.{Event};
+ghost use Rattle.ls_report.specs.Front.{IsIndexed};
 ghost use Rattle.ls_report.specs.Lines.{event_text, history_text};
 ghost use Rattle.ls_report.specs.Plain.{plain_event};
 ghost use Rattle.ls_report.specs.Reading.{Explains, IsReadAs, Says};
@@ -11,6 +12,7 @@ ghost use Rattle.ls_report.specs.Reading.{Explains, IsReadAs, Says};
 use crate::cuts::cut;
 use crate::discipline::is_next;
 use crate::fault::HistoryFault;
+use crate::front::Front;
 use crate::history::{History, NamedEvent};
 use crate::line_reading::event_in;
 use crate::lines::push_event;
@@ -26,14 +28,11 @@ fn is_line_of(alloc: Global, event: &NamedEvent, line: &str) -> Result<bool, All
 }
 
 /// The event of the line, if it may come after those in front.
-fn next_in(
-    alloc: Global,
-    front: &[NamedEvent],
-    line: &str,
-) -> Result<Option<NamedEvent>, AllocError>
+fn next_in(alloc: Global, front: &Front, line: &str) -> Result<Option<NamedEvent>, AllocError>
+    requires { IsIndexed front.now }
     ensures some { IfOk result (λ o. IfSome o (λ e.
-        (is_next (map plain_event front.now) (plain_event e) ≡ true) × (line.now ≡ event_text (plain_event e)))) }
-    ensures none { IfOk result (λ o. IfNone o ((e : Event) → is_next (map plain_event front.now) e ≡ true
+        (is_next (map plain_event front.now.events.items) (plain_event e) ≡ true) × (line.now ≡ event_text (plain_event e)))) }
+    ensures none { IfOk result (λ o. IfNone o ((e : Event) → is_next (map plain_event front.now.events.items) e ≡ true
         → e.call < 2 ^ 64 → line.now ≡ event_text e → ⊥)) }
 {
     let Some(event) = event_in(alloc, line)? else {
@@ -54,21 +53,21 @@ fn read_events(alloc: Global, text: &str, length: usize) -> Result<Vec<NamedEven
     ensures found { IfOk result (λ events. Says text.now (map plain_event events.items)) }
     ensures fault { IfErr result (Explains text.now) }
 {
-    let mut events = Vec::new(alloc);
+    let mut front = Front::new(alloc);
     let mut rest = text;
     while let Some((line, after)) = cut(rest, '\n') {
         let at = length - rest.len();
-        let Some(event) = next_in(alloc, events.as_slice(), line)? else {
+        let Some(event) = next_in(alloc, &front, line)? else {
             return Err(HistoryFault::BadHistory { at });
         };
-        events.push(event)?;
+        front.push(event)?;
         rest = after;
     }
     if !rest.is_empty() {
         let at = length - rest.len();
         return Err(HistoryFault::BadHistory { at });
     }
-    Ok(events)
+    Ok(front.events)
 }
 
 /// The history whose lines the text is. Otherwise the fault says where the first line begins that can't stand there.

@@ -10,9 +10,9 @@ use Rattle.ls_report.proofs.discipline.is_next.Goals as goal
 pub returns-then-is_well_formed : goal.returns-then-is_well_formed
 returns-then-is_well_formed c =
     let event = plain_event c.args.event.now in
-    let front = c.args.front.now in
+    let events = c.args.front.now.events.items in
     c.may_follow.ensures
     ∙ ap (λ o. may_follow o event) (ap (option_map plain_event) (c.last_of.ensures
-    ∙ ap (λ t. find (λ e. bytes_eq (string_bytes e.thread) t) (reverse front)) c.as_str.ensures.value)
-    ∙ sym (last-map (λ (e : Event). bytes_eq e.thread event.thread) plain_event front))
-    ∙ ap (λ b. b && may_follow (last_of event.thread (map plain_event front)) event) (sym c.if-is_well_formed.true ∙ c.is_well_formed.ensures)
+    ∙ ap (λ t. find (λ e. bytes_eq (string_bytes e.thread) t) (reverse events)) c.as_str.ensures.value)
+    ∙ sym (last-map (λ (e : Event). bytes_eq e.thread event.thread) plain_event events))
+    ∙ ap (λ b. b && may_follow (last_of event.thread (map plain_event events)) event) (sym c.if-is_well_formed.true ∙ c.is_well_formed.ensures)

@@ -10,7 +10,7 @@ use Rattle.ls_report.proofs.reading.next_in.Goals as goal
 
 pub returns-then-not-is_next-clause-none : goal.returns-then-not-is_next-clause-none
 returns-then-not-is_next-clause-none c = λ e k fits is.
-    let front = map plain_event c.args.front.now in
+    let front = map plain_event c.args.front.now.events.items in
     let some = ap (option_map plain_event) (sym c.in-Some.is) in
     let same = some_is (some ∙ c.in_ok-event.ensures e (next_is_well_formed front e k) fits is) in
     let yes : c.is_next.result ≡ true = c.is_next.ensures ∙ ap (is_next front) same ∙ k in
@@ -18,7 +18,7 @@ returns-then-not-is_next-clause-none c = λ e k fits is.
 
 pub returns-then-not-branch-clause-none : goal.returns-then-not-branch-clause-none
 returns-then-not-branch-clause-none c = λ e k fits is.
-    let front = map plain_event c.args.front.now in
+    let front = map plain_event c.args.front.now.events.items in
     let some = ap (option_map plain_event) (sym c.in-Some.is) in
     let same = some_is (some ∙ c.in_ok-event.ensures e (next_is_well_formed front e k) fits is) in
     let text = ap event_text same ∙ sym is in

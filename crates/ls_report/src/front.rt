@@ -1,0 +1,50 @@
+// The events that are read so far.
+
+ghost use Rattle.std.specs.Prelude.{◌≡◌, ◌++◌, ◌∷◌, [], OnOk, find, reverse, string_bytes};
+ghost use Rattle.std.specs.Option.{option_copied};
+ghost use Rattle.std.specs.Str.{bytes_eq};
+ghost use Rattle.ls_report.specs.Front.{IsIndexed};
+
+use crate::history::NamedEvent;
+use std::alloc::{AllocError, Global};
+use std::collections::HashMap;
+
+/// Events in order, and for each thread's name the place of its last one, so that a search costs the same however many
+/// they are.
+#[derive(Drop)]
+pub(crate) struct Front {
+    pub(crate) events: Vec<NamedEvent>,
+    pub(crate) places: HashMap<String, usize>,
+}
+
+impl Front {
+    pub(crate) fn new(alloc: Global) -> Front
+        ensures events { result.events.items ≡ [] }
+        ensures indexed { IsIndexed result }
+    {
+        Front {
+            events: Vec::new(alloc),
+            places: HashMap::new(alloc),
+        }
+    }
+
+    /// The last event of the thread.
+    pub(crate) fn last_of(&self, thread: &str) -> Option<&NamedEvent>
+        requires { IsIndexed self.now }
+        ensures { option_copied result ≡ find (λ e. bytes_eq (string_bytes e.thread) thread.now) (reverse self.now.events.items) }
+    {
+        let place = *self.places.get(thread)?;
+        self.events.get(place)
+    }
+
+    pub(crate) fn push(&mut self, event: NamedEvent) -> Result<(), AllocError>
+        requires { IsIndexed self.old }
+        ensures events { OnOk result (self.new.events.items ≡ self.old.events.items ++ event ∷ []) }
+        ensures indexed { OnOk result (IsIndexed self.new) }
+    {
+        let thread = event.thread.clone()?;
+        self.places.insert(thread, self.events.len())?;
+        self.events.push(event)?;
+        Ok(())
+    }
+}
