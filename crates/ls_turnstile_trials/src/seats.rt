@@ -74,6 +74,30 @@ fn answers_of_three_seats(rt: HostRuntime) -> Result<(), Fail> {
     Ok(())
 }
 
+// Whether the seats do these steps, each at its place.
+fn go_in_order(
+    turnstile: &Turnstile,
+    setup: &mut TurnSeat,
+    a: &mut TurnSeat,
+    b: &mut TurnSeat,
+    steps: &[usize],
+) -> bool
+    requires setup { IsSeatOf turnstile.now setup.old }
+    requires a { IsSeatOf turnstile.now a.old }
+    requires b { IsSeatOf turnstile.now b.old }
+    ensures setup { IsSeatOf turnstile.now setup.new }
+    ensures a { IsSeatOf turnstile.now a.new }
+    ensures b { IsSeatOf turnstile.now b.new }
+{
+    for (at, thread) in steps.iter().enumerate() {
+        match step(turnstile, setup, a, b, *thread) {
+            Turn::Stepped { place, did: _ } if place == at => {}
+            _ => return false,
+        }
+    }
+    true
+}
+
 #[test]
 fn steps_in_the_order_of_the_tape(rt: HostRuntime) -> Result<(), Fail> {
     let alloc = rt.alloc();
@@ -83,18 +107,11 @@ fn steps_in_the_order_of_the_tape(rt: HostRuntime) -> Result<(), Fail> {
     let (Some(mut b), Some(mut a), Some(mut setup)) = (seats.pop(), seats.pop(), seats.pop()) else {
         panic!(rt; "a seat is missing");
     };
-    let mut next = 0;
-    for thread in tape.steps() {
-        match step(&turnstile, &mut setup, &mut a, &mut b, *thread) {
-            Turn::Stepped { place, did: _ } => assert_eq!(rt; place, next),
-            Turn::NotYet { place: _ } | Turn::Over => panic!(rt; "the turn has not come"),
-        }
-        next += 1;
-    }
-    for thread in 0..3 {
-        let turn = step(&turnstile, &mut setup, &mut a, &mut b, thread);
-        assert!(rt; matches!(turn, Turn::Over));
-    }
+    let went = go_in_order(&turnstile, &mut setup, &mut a, &mut b, tape.steps());
+    assert!(rt; went);
+    assert!(rt; matches!(turnstile.step(&mut setup), Turn::Over));
+    assert!(rt; matches!(turnstile.step(&mut a), Turn::Over));
+    assert!(rt; matches!(turnstile.step(&mut b), Turn::Over));
     Ok(())
 }
 
@@ -104,20 +121,22 @@ fn wants_each_seat(rt: HostRuntime) -> Result<(), Fail> {
     let image = compile(alloc, COUNTER, COUNTER_PROGRAM)?;
     let tape = read_schedule(alloc, "setup A B", image.program())?;
     let (turnstile, mut seats) = Turnstile::open(alloc, &image, 100, &tape)?;
-    let Some(mut b) = seats.pop() else {
+    let Some(_) = seats.pop() else {
         panic!(rt; "a seat is missing");
     };
-    let Some(mut a) = seats.pop() else {
-        panic!(rt; "a seat is missing");
-    };
-    assert!(rt; matches!(turnstile.step(&mut a), Turn::NotYet { place: 0 }));
-    assert!(rt; matches!(turnstile.step(&mut b), Turn::NotYet { place: 0 }));
-    seats.push(b)?;
-    let Err((turnstile, mut seats)) = turnstile.close(seats) else {
-        panic!(rt; "closed without a seat");
-    };
-    assert_eq!(rt; seats.len(), 2);
-    seats.push(a)?;
+    match turnstile.close(seats) {
+        Ok(_) => panic!(rt; "closed without a seat"),
+        Err((_, seats)) => assert_eq!(rt; seats.len(), 2),
+    }
+    Ok(())
+}
+
+#[test]
+fn closes_before_any_entry(rt: HostRuntime) -> Result<(), Fail> {
+    let alloc = rt.alloc();
+    let image = compile(alloc, COUNTER, COUNTER_PROGRAM)?;
+    let tape = read_schedule(alloc, "setup A B", image.program())?;
+    let (turnstile, seats) = Turnstile::open(alloc, &image, 100, &tape)?;
     match turnstile.close(seats) {
         Ok(record) => {
             assert!(rt; record.schedule().is_empty());
