@@ -17,7 +17,7 @@ use std::thread::Threads;
 fn seeds_at_once(count: usize) -> usize
     ensures { 0 < result }
 {
-    (count / 64).min(64).max(1)
+    (count / 16).min(256).max(1)
 }
 
 /// The histories of a part of the seeds, in order. They are run on one machine.
