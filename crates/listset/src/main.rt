@@ -1,6 +1,7 @@
 //! Hands the real streams to the program.
 #![tactic(auto)]
 
+use ls_tool::Exit;
 use std::env;
 use std::io::{self, ErrorKind};
 use std::process::ExitCode;
@@ -25,7 +26,7 @@ fn main(rt: HostRuntime) -> ExitCode {
     let mut input = rt.stdin();
     let mut output = rt.stdout();
     let mut errors = rt.stderr();
-    let exit = ls_tool::run(
+    let Exit { status, is_told: _ } = ls_tool::run(
         &rt,
         rt.alloc(),
         words.as_slice(),
@@ -33,5 +34,5 @@ fn main(rt: HostRuntime) -> ExitCode {
         &mut output,
         &mut errors,
     );
-    ExitCode::from(exit.status)
+    ExitCode::from(status)
 }
