@@ -1,6 +1,6 @@
 // Arithmetic at the edges of int, every operator, and nested `if`s, through the whole program.
 
-use ls_tool::run;
+use ls_tool::{Exit, run};
 use std::alloc::{AllocError, Global};
 use std::test::Fail;
 
@@ -97,7 +97,10 @@ fn replays_sixteen_methods(rt: HostRuntime) -> Result<(), Fail> {
     let mut reader = text.as_bytes();
     let mut shown = Vec::new(alloc);
     let mut told = Vec::new(alloc);
-    let ended = run(
+    let Exit {
+        status: ended,
+        is_told: _,
+    } = run(
         &rt,
         alloc,
         words.as_slice(),
@@ -107,6 +110,6 @@ fn replays_sixteen_methods(rt: HostRuntime) -> Result<(), Fail> {
     );
     assert_eq!(rt; shown.as_slice(), HISTORY.as_bytes());
     assert!(rt; told.is_empty());
-    assert_eq!(rt; ended.status, 0);
+    assert_eq!(rt; ended, 0);
     Ok(())
 }

@@ -1,6 +1,6 @@
 // The commands that translate, and those that run threads, through the whole program.
 
-use ls_tool::run;
+use ls_tool::{Exit, run};
 use std::alloc::{AllocError, Global};
 use std::sync::Wait;
 use std::test::Fail;
@@ -34,12 +34,15 @@ fn ran<H: Threads + Wait + Sync>(
     let mut reader = input.as_bytes();
     let mut out = Vec::new(alloc);
     let mut err = Vec::new(alloc);
-    let ended = run(rt, alloc, line.as_slice(), &mut reader, &mut out, &mut err);
-    Ok(Left {
-        status: ended.status,
-        out,
-        err,
-    })
+    let Exit { status, is_told: _ } = run(
+        rt,
+        alloc,
+        line.as_slice(),
+        &mut reader,
+        &mut out,
+        &mut err,
+    );
+    Ok(Left { status, out, err })
 }
 
 #[test]

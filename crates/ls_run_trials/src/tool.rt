@@ -1,6 +1,6 @@
 // Lines and statuses of runs over memory, and over streams that fail.
 
-use ls_tool::run;
+use ls_tool::{Exit, run};
 use std::alloc::{AllocError, Global};
 use std::io::{self, Error, ErrorKind, Read, Write};
 use std::test::Fail;
@@ -47,7 +47,10 @@ fn checks(rt: HostRuntime) -> Result<(), Fail> {
         let mut reader = input;
         let mut shown = Vec::new(alloc);
         let mut told = Vec::new(alloc);
-        let ended = run(
+        let Exit {
+            status: ended,
+            is_told: _,
+        } = run(
             &rt,
             alloc,
             words.as_slice(),
@@ -57,7 +60,7 @@ fn checks(rt: HostRuntime) -> Result<(), Fail> {
         );
         assert_eq!(rt; shown.as_slice(), out.as_bytes());
         assert_eq!(rt; told.as_slice(), err.as_bytes());
-        assert_eq!(rt; ended.status, status);
+        assert_eq!(rt; ended, status);
     }
     Ok(())
 }
@@ -106,7 +109,10 @@ fn runs_sources(rt: HostRuntime) -> Result<(), Fail> {
         let mut reader = input;
         let mut shown = Vec::new(alloc);
         let mut told = Vec::new(alloc);
-        let ended = run(
+        let Exit {
+            status: ended,
+            is_told: _,
+        } = run(
             &rt,
             alloc,
             words.as_slice(),
@@ -116,7 +122,7 @@ fn runs_sources(rt: HostRuntime) -> Result<(), Fail> {
         );
         assert_eq!(rt; shown.as_slice(), out.as_bytes());
         assert_eq!(rt; told.as_slice(), err.as_bytes());
-        assert_eq!(rt; ended.status, status);
+        assert_eq!(rt; ended, status);
     }
     Ok(())
 }
@@ -180,7 +186,10 @@ fn compiles_and_replays(rt: HostRuntime) -> Result<(), Fail> {
         let mut reader = input;
         let mut shown = Vec::new(alloc);
         let mut told = Vec::new(alloc);
-        let ended = run(
+        let Exit {
+            status: ended,
+            is_told: _,
+        } = run(
             &rt,
             alloc,
             words.as_slice(),
@@ -190,7 +199,7 @@ fn compiles_and_replays(rt: HostRuntime) -> Result<(), Fail> {
         );
         assert_eq!(rt; shown.as_slice(), out.as_bytes());
         assert_eq!(rt; told.as_slice(), err.as_bytes());
-        assert_eq!(rt; ended.status, status);
+        assert_eq!(rt; ended, status);
     }
     Ok(())
 }
@@ -210,7 +219,10 @@ fn refuses_lines(rt: HostRuntime) -> Result<(), Fail> {
         let words = texts(alloc, row)?;
         let mut shown = Vec::new(alloc);
         let mut told = Vec::new(alloc);
-        let ended = run(
+        let Exit {
+            status: ended,
+            is_told: _,
+        } = run(
             &rt,
             alloc,
             words.as_slice(),
@@ -218,7 +230,7 @@ fn refuses_lines(rt: HostRuntime) -> Result<(), Fail> {
             &mut shown,
             &mut told,
         );
-        assert_eq!(rt; ended.status, 2);
+        assert_eq!(rt; ended, 2);
         assert_eq!(rt; shown.len(), 0);
         assert!(rt; !told.is_empty());
     }
@@ -275,7 +287,10 @@ fn tells_of_streams(rt: HostRuntime) -> Result<(), Fail> {
     let words = texts(alloc, ["listset", "check"].as_slice())?;
     let mut shown = Vec::new(alloc);
     let mut told = Vec::new(alloc);
-    let ended = run(
+    let Exit {
+        status: ended,
+        is_told: _,
+    } = run(
         &rt,
         alloc,
         words.as_slice(),
@@ -283,12 +298,15 @@ fn tells_of_streams(rt: HostRuntime) -> Result<(), Fail> {
         &mut shown,
         &mut told,
     );
-    assert_eq!(rt; (ended.status, shown.len()), (1, 0));
+    assert_eq!(rt; (ended, shown.len()), (1, 0));
     assert_eq!(rt; told.as_slice(), b"fault 82 ReadFailed\n".as_slice());
     told.clear();
     let input: &[u8] = b"%%";
     let mut reader = input;
-    let ended = run(
+    let Exit {
+        status: ended,
+        is_told: _,
+    } = run(
         &rt,
         alloc,
         words.as_slice(),
@@ -296,11 +314,14 @@ fn tells_of_streams(rt: HostRuntime) -> Result<(), Fail> {
         &mut Failing,
         &mut told,
     );
-    assert_eq!(rt; ended.status, 1);
+    assert_eq!(rt; ended, 1);
     assert_eq!(rt; told.as_slice(), b"fault 83 WriteFailed\n".as_slice());
     told.clear();
     let mut reader = input;
-    let ended = run(
+    let Exit {
+        status: ended,
+        is_told: _,
+    } = run(
         &rt,
         alloc,
         words.as_slice(),
@@ -308,10 +329,13 @@ fn tells_of_streams(rt: HostRuntime) -> Result<(), Fail> {
         &mut Unflushed,
         &mut told,
     );
-    assert_eq!(rt; ended.status, 1);
+    assert_eq!(rt; ended, 1);
     assert_eq!(rt; told.as_slice(), b"fault 83 WriteFailed\n".as_slice());
     let mut reader = input;
-    let ended = run(
+    let Exit {
+        status: ended,
+        is_told,
+    } = run(
         &rt,
         alloc,
         words.as_slice(),
@@ -319,7 +343,7 @@ fn tells_of_streams(rt: HostRuntime) -> Result<(), Fail> {
         &mut Failing,
         &mut Failing,
     );
-    assert_eq!(rt; ended.status, 1);
-    assert!(rt; !ended.is_told);
+    assert_eq!(rt; ended, 1);
+    assert!(rt; !is_told);
     Ok(())
 }
