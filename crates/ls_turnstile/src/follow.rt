@@ -87,9 +87,12 @@ impl<'a> Promise<Left> for LeftOf<'a> {
 // The most answers `NotYet` in a row at one place.
 const MOST_TRIES: u32 = 10_000_000;
 
-// After so many of them a thread lets others run before each further one: where there are more threads than processors, one of
-// those has the turn.
+// After so many of them a thread lets others run now and then: where there are more threads than processors, one of those has
+// the turn.
 const QUICK_TRIES: u32 = 1000;
+
+// How many tries a thread then makes before it lets others run again.
+const TRIES_OF_A_SLICE: u32 = 16;
 
 // Steps the seat until the tape is over, or too many answers at one place were that the entry is another's.
 fn work<G: Gate>(followed: &Followed, mut seat: TurnSeat, gate: &G) -> Left
@@ -122,7 +125,7 @@ fn work<G: Gate>(followed: &Followed, mut seat: TurnSeat, gate: &G) -> Left
                     let end = End::Spent { place };
                     return Left { seat, end };
                 }
-                if tries >= QUICK_TRIES {
+                if tries >= QUICK_TRIES && tries % TRIES_OF_A_SLICE == 0 {
                     yield_now();
                 }
             }
