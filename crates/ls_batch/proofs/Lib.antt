@@ -5,4 +5,5 @@ pub mod Counts
 pub mod Tallied
 pub mod Batched
 pub mod Replayed
-pub mod Same
+pub mod Exact
+pub mod Placed

@@ -5,6 +5,7 @@ mod batching;
 mod events;
 mod fault;
 mod gathering;
+mod keys;
 pub mod laws;
 mod printing;
 mod runs;

@@ -1,12 +1,15 @@
 // Each distinct history once, with how many seeds gave it and the least of them.
 
-ghost use Rattle.std.specs.Prelude.{◌≡◌, ◌≢◌, ℕ, ◌+◌, ◌<◌, ◌≤◌, ◌^◌, List, length, map, take, slice_get, Some, IfOk, OnOk, IfSome, IfNone};
-ghost use Rattle.std.specs.Bool.{Decides};
-ghost use Rattle.ls_batch.specs.Tallies.{IsTally, Row, row};
+ghost use Rattle.std.specs.Prelude.{◌≡◌, ◌+◌, ◌++◌, ◌∷◌, [], ◌<◌, ◌≤◌, ◌^◌, List, length, map, set, take, slice_get, IfOk, OnOk, IfSome};
+ghost use Rattle.ls_batch.specs.Keys.{event_key};
+ghost use Rattle.ls_batch.specs.Places.{IsIndexed, place_of};
+ghost use Rattle.ls_batch.specs.Tallies.{History, IsTally, Row, row};
 
 use crate::events::copied;
+use crate::keys::{EventKey, keys_of};
 use ls_events::event::Event;
 use std::alloc::{AllocError, Global};
+use std::collections::BTreeMap;
 use std::marker::Model;
 
 /// A history, how many seeds gave it, and the least of them.
@@ -18,6 +21,8 @@ pub struct Entry {
 }
 
 impl Model for Entry {
+    ghost use Rattle.ls_batch.specs.Tallies.{Row, row};
+
     ghost Value = { Row };
 
     ghost view = { λ e. row e.history.items e.count e.seed };
@@ -43,12 +48,6 @@ impl Entry {
         ensures { result ≡ self.now.seed }
     {
         self.seed
-    }
-
-    fn is_of(&self, history: &[Event]) -> bool
-        ensures { Decides result (self.now.history ≡ history.now) }
-    {
-        self.history.as_slice() == history
     }
 
     fn add_one(&mut self)
@@ -80,42 +79,82 @@ impl Tally {
     }
 }
 
-/// Where the entry of a history is.
-fn place_of(entries: &[Entry], history: &[Event]) -> Option<usize>
-    ensures some { IfSome result (λ j. (r : Row) × (slice_get entries.now j ≡ Some r) × (r.history ≡ history.now)) }
-    ensures none { IfNone result ((j : ℕ) (r : Row) → slice_get entries.now j ≡ Some r → r.history ≢ history.now) }
-{
-    for (i, entry) in entries.iter().enumerate() {
-        if entry.is_of(history) {
-            return Some(i);
+/// The entries so far, and for each history the place of its entry, so that a search takes no longer with their number than
+/// its logarithm.
+#[derive(Drop)]
+pub(crate) struct Counted {
+    pub(crate) entries: Vec<Entry>,
+    pub(crate) places: BTreeMap<Vec<EventKey>, usize>,
+}
+
+impl Counted {
+    fn new(alloc: Global) -> Counted
+        ensures entries { result.entries.items ≡ [] }
+        ensures indexed { IsIndexed result }
+    {
+        Counted {
+            entries: Vec::new(alloc),
+            places: BTreeMap::new(alloc),
         }
     }
-    None
+
+    /// Where the entry of the history with these keys is.
+    fn place_of(&self, keys: &[EventKey]) -> Option<usize>
+        ensures { (h : History) → keys.now ≡ map event_key h → result ≡ place_of self.now h }
+    {
+        self.places.get(keys).copied()
+    }
+
+    /// Puts the entry of a new history, with these keys, at the end.
+    fn push(&mut self, keys: Vec<EventKey>, entry: Entry) -> Result<(), AllocError>
+        requires indexed { IsIndexed self.old }
+        requires keys { keys.items ≡ map event_key entry.history }
+        ensures entries { OnOk result (self.new.entries.items ≡ self.old.entries.items ++ entry ∷ []) }
+        ensures indexed { OnOk result (IsIndexed self.new) }
+    {
+        self.places.insert(keys, self.entries.len())?;
+        self.entries.push(entry)?;
+        Ok(())
+    }
+
+    /// Counts a history once more, whose entry is at this place.
+    fn add_one(&mut self, place: usize)
+        requires indexed { IsIndexed self.old }
+        requires there { place < length self.old.entries.items }
+        requires fits { IfSome (slice_get self.old.entries.items place) (λ r. r.count + 1 < 2 ^ 64) }
+        ensures entries { IfSome (slice_get self.old.entries.items place) (λ r. self.new.entries.items ≡ set self.old.entries.items place (row r.history (r.count + 1) r.seed)) }
+        ensures indexed { IsIndexed self.new }
+    {
+        self.entries[place].add_one();
+    }
 }
 
 /// Counts the history at a place.
 fn add(
     alloc: Global,
-    entries: &mut Vec<Entry>,
+    counted: &mut Counted,
     histories: &[Vec<Event>],
     at: usize,
     first: u64,
 ) -> Result<(), AllocError>
     requires at { at < length histories.now }
     requires fits { (length histories.now < 2 ^ 32) × (first + length histories.now ≤ 2 ^ 64) }
-    requires tally { IsTally (map (λ v. v.items) (take at histories.now)) first entries.old.items }
-    ensures { OnOk result (IsTally (map (λ v. v.items) (take (at + 1) histories.now)) first entries.new.items) }
+    requires tally { IsTally (map (λ v. v.items) (take at histories.now)) first counted.old.entries.items }
+    requires indexed { IsIndexed counted.old }
+    ensures tally { OnOk result (IsTally (map (λ v. v.items) (take (at + 1) histories.now)) first counted.new.entries.items) }
+    ensures indexed { OnOk result (IsIndexed counted.new) }
 {
-    let history = &histories[at];
-    match place_of(entries.as_slice(), history.as_slice()) {
-        Some(place) => entries[place].add_one(),
+    let history = histories[at].as_slice();
+    let keys = keys_of(alloc, history)?;
+    match counted.place_of(keys.as_slice()) {
+        Some(place) => counted.add_one(place),
         None => {
             let entry = Entry {
-                history: copied(alloc, history.as_slice())?,
+                history: copied(alloc, history)?,
                 count: 1,
                 seed: first + at as u64,
             };
-            entries.push(entry)?;
+            counted.push(keys, entry)?;
         }
     }
     Ok(())
@@ -130,9 +169,10 @@ pub(crate) fn tally_of(
     requires fits { (length histories.now < 2 ^ 32) × (first + length histories.now ≤ 2 ^ 64) }
     ensures { IfOk result (λ tally. IsTally (map (λ v. v.items) histories.now) first tally) }
 {
-    let mut entries = Vec::new(alloc);
+    let mut counted = Counted::new(alloc);
     for at in 0..histories.len() {
-        add(alloc, &mut entries, histories, at, first)?;
+        add(alloc, &mut counted, histories, at, first)?;
     }
+    let Counted { entries, places: _ } = counted;
     Ok(Tally { entries })
 }

@@ -3,21 +3,26 @@ use Rattle.std.proofs.Common.{◌≡◌, refl, true, false, [], ◌∷◌, codes
 use Rattle.clap.specs.declared.builder.value_parser.ValueParser.{ValueParser}
 use Rattle.clap.proofs.OnLiterals.{clap_on_literals}
 use Rattle.ls_command_line.specs.Words.{request_of}
+use Rattle.ls_command_line.specs.declared.words.CommandLine.{CommandLine}
+use Rattle.ls_command_line.specs.declared.words.Request.{Request}
 use Rattle.ls_command_line.specs.declared.words.Request.TheVariants as request
 
-nine_cells : (p : ValueParser) → request_of p (codes "listset" ∷ codes "replay" ∷ codes "--cells" ∷ codes "9" ∷ []) ≡ Some (request.Replay 9 false)
+abbrev plainly : Request → CommandLine
+plainly r = record { request = r; explain = false }
+
+nine_cells : (p : ValueParser) → request_of p (codes "listset" ∷ codes "replay" ∷ codes "--cells" ∷ codes "9" ∷ []) ≡ Some (plainly (request.Replay 9 false))
 unfolding clap_on_literals
 nine_cells p = refl
 
-live_turns : (p : ValueParser) → request_of p (codes "listset" ∷ codes "replay" ∷ codes "--live" ∷ []) ≡ Some (request.Replay 65536 true)
+live_turns : (p : ValueParser) → request_of p (codes "listset" ∷ codes "replay" ∷ codes "--live" ∷ []) ≡ Some (plainly (request.Replay 65536 true))
 unfolding clap_on_literals
 live_turns p = refl
 
-default_limit : (p : ValueParser) → request_of p (codes "listset" ∷ codes "live" ∷ []) ≡ Some (request.Live 65536 5000)
+default_limit : (p : ValueParser) → request_of p (codes "listset" ∷ codes "live" ∷ []) ≡ Some (plainly (request.Live 65536 5000))
 unfolding clap_on_literals
 default_limit p = refl
 
-a_batch : (p : ValueParser) → request_of p (codes "listset" ∷ codes "batch" ∷ codes "--seed" ∷ codes "7" ∷ codes "--count=3" ∷ codes "--steps" ∷ codes "5" ∷ []) ≡ Some (request.Batch 7 3 5 65536)
+a_batch : (p : ValueParser) → request_of p (codes "listset" ∷ codes "batch" ∷ codes "--seed" ∷ codes "7" ∷ codes "--count=3" ∷ codes "--steps" ∷ codes "5" ∷ []) ≡ Some (plainly (request.Batch 7 3 5 65536))
 unfolding clap_on_literals
 a_batch p = refl
 
@@ -44,3 +49,19 @@ too_large p = refl
 help : (p : ValueParser) → request_of p (codes "listset" ∷ codes "--help" ∷ []) ≡ None
 unfolding clap_on_literals
 help p = refl
+
+explained : (p : ValueParser) → request_of p (codes "listset" ∷ codes "source" ∷ codes "--explain" ∷ []) ≡ Some (record { request = request.Source; explain = true })
+unfolding clap_on_literals
+explained p = refl
+
+some_steps : (p : ValueParser) → request_of p (codes "listset" ∷ codes "trace" ∷ codes "--from" ∷ codes "12" ∷ []) ≡ Some (plainly (request.Trace 12 1000000))
+unfolding clap_on_literals
+some_steps p = refl
+
+a_drawing : (p : ValueParser) → request_of p (codes "listset" ∷ codes "state" ∷ codes "--dot" ∷ []) ≡ Some (plainly (request.State true))
+unfolding clap_on_literals
+a_drawing p = refl
+
+version : (p : ValueParser) → request_of p (codes "listset" ∷ codes "--version" ∷ []) ≡ None
+unfolding clap_on_literals
+version p = refl

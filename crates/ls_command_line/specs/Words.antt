@@ -8,6 +8,7 @@ use Rattle.clap.specs.ValueTests.{accepts}
 use Rattle.clap.specs.declared.builder.action.ArgAction.TheVariants.{SetTrue}
 use Rattle.clap.specs.declared.builder.value_parser.ValueParser.{ValueParser}
 use Rattle.clap.specs.declared.builder.value_parser.ValueParser.TheVariants.{Names, Unsigned}
+use Rattle.ls_command_line.specs.declared.words.CommandLine.{CommandLine}
 use Rattle.ls_command_line.specs.declared.words.Request.{Request}
 use Rattle.ls_command_line.specs.declared.words.Request.TheVariants as requests
 use Rattle.ls_command_line.specs.declared.words.Side.{Side}
@@ -49,26 +50,40 @@ NamesSides other = ⊥
 abbrev pub cells_rule : Rule
 cells_rule = number_rule false (codes "cells")
 
+-- a command of this name, with the option that all have
+abbrev pub with_explain : Text → App
+with_explain name = with_rule (new_app name) (flag_rule (codes "explain"))
+
 abbrev pub replay_line : App
-replay_line = with_rule (with_rule (new_app (codes "replay")) cells_rule) (flag_rule (codes "live"))
+replay_line = with_rule (with_rule (with_explain (codes "replay")) cells_rule) (flag_rule (codes "live"))
+
+abbrev pub trace_line : App
+trace_line = with_rule (with_rule (with_explain (codes "trace")) (number_rule false (codes "from"))) (number_rule false (codes "to"))
+
+abbrev pub state_line : App
+state_line = with_rule (with_explain (codes "state")) (flag_rule (codes "dot"))
 
 abbrev pub translate_line : ValueParser → App
-translate_line p = with_rule (with_rule (new_app (codes "translate")) (side_rule p)) cells_rule
+translate_line p = with_rule (with_rule (with_explain (codes "translate")) (side_rule p)) cells_rule
 
 abbrev pub live_line : App
-live_line = with_rule (with_rule (new_app (codes "live")) cells_rule) (number_rule false (codes "limit"))
+live_line = with_rule (with_rule (with_explain (codes "live")) cells_rule) (number_rule false (codes "limit"))
 
 abbrev pub batch_line : App
 batch_line =
     with_rule
     (with_rule
     (with_rule
-    (with_rule (new_app (codes "batch")) (number_rule true (codes "seed")))
+    (with_rule (with_explain (codes "batch")) (number_rule true (codes "seed")))
     (number_rule true (codes "count")))
     (number_rule true (codes "steps")))
     cells_rule
 
--- the program with its commands, one of which is wanted
+-- the program without its commands, one of which is wanted
+abbrev pub top_line : App
+top_line = on_top (λ s. record s { has_version = true; subcommand_required = true }) (new_app (codes "listset"))
+
+-- the program with its commands
 abbrev pub line : ValueParser → App
 line p =
     with_subcommand
@@ -77,11 +92,14 @@ line p =
     (with_subcommand
     (with_subcommand
     (with_subcommand
-    (with_subcommand (on_top (λ s. record s { subcommand_required = true }) (new_app (codes "listset")))
-    (new_app (codes "check")).top)
-    (new_app (codes "compile")).top)
+    (with_subcommand
+    (with_subcommand
+    (with_subcommand top_line (with_explain (codes "check")).top)
+    (with_explain (codes "compile")).top)
     replay_line.top)
-    (new_app (codes "source")).top)
+    (with_explain (codes "source")).top)
+    trace_line.top)
+    state_line.top)
     (translate_line p).top)
     live_line.top)
     batch_line.top
@@ -114,15 +132,18 @@ asked name rows =
     if bytes_eq name (codes "compile") then requests.Compile
     else (if bytes_eq name (codes "replay") then requests.Replay (cells_of rows) (flag_of (codes "live") rows)
     else (if bytes_eq name (codes "source") then requests.Source
+    else (if bytes_eq name (codes "trace") then requests.Trace (number_of (codes "from") 1 rows) (number_of (codes "to") 1000000 rows)
+    else (if bytes_eq name (codes "state") then requests.State (flag_of (codes "dot") rows)
     else (if bytes_eq name (codes "translate") then requests.Translate (side_of rows) (cells_of rows)
     else (if bytes_eq name (codes "live") then requests.Live (cells_of rows) (number_of (codes "limit") 5000 rows)
     else (if bytes_eq name (codes "batch")
     then requests.Batch (number_of (codes "seed") 0 rows) (number_of (codes "count") 0 rows) (number_of (codes "steps") 0 rows) (cells_of rows)
-    else requests.Check)))))
+    else requests.Check)))))))
 
-abbrev pub asked_by : Option (Text × List Row) → Request
-asked_by None = requests.Check
-asked_by (Some p) = asked p.0 p.1
+-- with what all commands are asked
+abbrev pub asked_by : Option (Text × List Row) → CommandLine
+asked_by None = record { request = requests.Check; explain = false }
+asked_by (Some p) = record { request = asked p.0 p.1; explain = flag_of (codes "explain") p.1 }
 
 -- the second where the first is empty
 abbrev pub if_empty : {X Y : Type 0} → List X → Y → Option Y
@@ -130,15 +151,15 @@ if_empty [] y = Some y
 if_empty (x ∷ xs) y = None
 
 -- The request of words that clap takes, and none of words that it doesn't.
-abbrev pub request_of : ValueParser → List Text → Option Request
+abbrev pub request_of : ValueParser → List Text → Option CommandLine
 request_of p words = if_empty (fault_of (line p) words) (asked_by (subcommand_of (line p) words))
 
 -- the words ask for this, or for nothing, where the option of `translate` takes the words of the two sides
-abbrev pub AsksFor : List Text → Option Request → Type 0
-AsksFor words request = (p : ValueParser) × NamesSides p × (request_of p words ≡ request)
+abbrev pub AsksFor : List Text → Option CommandLine → Type 0
+AsksFor words line = (p : ValueParser) × NamesSides p × (request_of p words ≡ line)
 
 -- Memory ran out, or the answer is that of the words.
-abbrev pub IsWordsAnswer : List Text → Result Request WordsFault → Type 0
-IsWordsAnswer words (Ok r) = AsksFor words (Some r)
+abbrev pub IsWordsAnswer : List Text → Result CommandLine WordsFault → Type 0
+IsWordsAnswer words (Ok line) = AsksFor words (Some line)
 IsWordsAnswer words (Err faults.Memory) = Unit {0}
 IsWordsAnswer words (Err (faults.BadLine e)) = AsksFor words None

@@ -4,4 +4,4 @@
 mod line;
 mod words;
 
-pub use words::{Request, Side, WordsFault, read_words};
+pub use words::{CommandLine, Request, Side, WordsFault, read_words};

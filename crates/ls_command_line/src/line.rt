@@ -1,9 +1,9 @@
 // The command line as clap has it: the commands with their options.
 
 ghost use Rattle.std.specs.Prelude.{◌≡◌, IfOk, codes, false};
-ghost use Rattle.clap.specs.Words.{app_of, new_app, rule_of};
+ghost use Rattle.clap.specs.Words.{app_of, rule_of};
 ghost use Rattle.clap.specs.declared.builder.command.Command.TheViews.{out-Command};
-ghost use Rattle.ls_command_line.specs.Words.{NamesSides, batch_line, flag_rule, line, live_line, number_rule, replay_line, side_rule, translate_line, u64_parser};
+ghost use Rattle.ls_command_line.specs.Words.{NamesSides, batch_line, flag_rule, line, live_line, number_rule, replay_line, side_rule, state_line, top_line, trace_line, translate_line, u64_parser, with_explain};
 
 use clap::{Arg, ArgAction, Command};
 use std::alloc::{AllocError, Global};
@@ -11,19 +11,35 @@ use std::alloc::{AllocError, Global};
 /// What a schedule can be translated to.
 static SIDES: [&str; 2] = ["source", "machine"];
 
-/// A command without options.
+/// An option without a value, as `--live`.
+fn flag_option<'a>(alloc: Global, name: &'a str, help: &'a str) -> Arg<'a>
+    ensures rule { rule_of result ≡ flag_rule name.entry.now }
+    ensures local { result.global ≡ false }
+{
+    Arg::new(alloc, name)
+        .long(name)
+        .action(ArgAction::SetTrue)
+        .help(help)
+}
+
+/// A command with the option that all have.
 fn plain_command<'a>(
     alloc: Global,
     name: &'a str,
     about: &'a str,
     after_help: &'a str,
-) -> Command<'a>
-    ensures shape { app_of result ≡ new_app name.entry.now }
-    ensures local { (out-Command result).has_globals ≡ false }
+) -> Result<Command<'a>, AllocError>
+    ensures shape { IfOk result (λ c. app_of c ≡ with_explain name.entry.now) }
+    ensures local { IfOk result (λ c. (out-Command c).has_globals ≡ false) }
 {
     Command::new(alloc, name)
         .about(about)
         .after_help(after_help)
+        .arg(flag_option(
+            alloc,
+            "explain",
+            "shows the line in which a fault stands, with a mark under its place",
+        ))
 }
 
 /// The argument, with its values read as numbers of 64 bits.
@@ -79,12 +95,11 @@ fn live_option<'a>(alloc: Global) -> Arg<'a>
     ensures rule { rule_of result ≡ flag_rule (codes "live") }
     ensures local { result.global ≡ false }
 {
-    Arg::new(alloc, "live")
-        .long("live")
-        .action(ArgAction::SetTrue)
-        .help(
-            "runs each thread of the program on a thread of its own, in the turns of the schedule",
-        )
+    flag_option(
+        alloc,
+        "live",
+        "runs each thread of the program on a thread of its own, in the turns of the schedule",
+    )
 }
 
 fn replay_command<'a>(alloc: Global) -> Result<Command<'a>, AllocError>
@@ -97,7 +112,7 @@ fn replay_command<'a>(alloc: Global) -> Result<Command<'a>, AllocError>
         "Compiles a program and runs it under a schedule of machine instructions",
         "Standard input has three parts, class text, thread program and schedule, with a line %% between them:\n  \
          listset replay < examples/least_int.txt",
-    )
+    )?
     .arg(cells_option(alloc))?
     .arg(live_option(alloc))
 }
@@ -112,7 +127,7 @@ fn translate_command<'a>(alloc: Global) -> Result<Command<'a>, AllocError>
         "Prints the schedule of source steps for one of instructions, or the other way round",
         "Standard input has three parts, class text, thread program and schedule, with a line %% between them:\n  \
          listset translate --to machine < examples/lost_update.txt",
-    )
+    )?
     .arg(side_option(alloc))?
     .arg(cells_option(alloc))
 }
@@ -133,7 +148,7 @@ fn live_command<'a>(alloc: Global) -> Result<Command<'a>, AllocError>
         "Runs each thread on a thread of its own, and prints the recorded schedule and its history",
         "Standard input has two parts, class text and thread program, with a line %% between them:\n  \
          printf 'class C { }\\n%%%%\\nsetup { c = new C(); }\\n' | listset live",
-    )
+    )?
     .arg(cells_option(alloc))?
     .arg(limit)
 }
@@ -156,16 +171,16 @@ fn batch_command<'a>(alloc: Global) -> Result<Command<'a>, AllocError>
         "Runs a program under many sampled schedules, and prints each history once with its count",
         "Standard input has two parts, class text and thread program, with a line %% between them:\n  \
          printf 'class C { }\\n%%%%\\nsetup { c = new C(); }\\n' | listset batch --seed 1 --count 9 --steps 99",
-    )
+    )?
     .arg(seed)?
     .arg(count)?
     .arg(steps)?
     .arg(cells_option(alloc))
 }
 
-fn check_command<'a>(alloc: Global) -> Command<'a>
-    ensures shape { app_of result ≡ new_app (codes "check") }
-    ensures local { (out-Command result).has_globals ≡ false }
+fn check_command<'a>(alloc: Global) -> Result<Command<'a>, AllocError>
+    ensures shape { IfOk result (λ c. app_of c ≡ with_explain (codes "check")) }
+    ensures local { IfOk result (λ c. (out-Command c).has_globals ≡ false) }
 {
     plain_command(
         alloc,
@@ -176,9 +191,9 @@ fn check_command<'a>(alloc: Global) -> Command<'a>
     )
 }
 
-fn compile_command<'a>(alloc: Global) -> Command<'a>
-    ensures shape { app_of result ≡ new_app (codes "compile") }
-    ensures local { (out-Command result).has_globals ≡ false }
+fn compile_command<'a>(alloc: Global) -> Result<Command<'a>, AllocError>
+    ensures shape { IfOk result (λ c. app_of c ≡ with_explain (codes "compile")) }
+    ensures local { IfOk result (λ c. (out-Command c).has_globals ≡ false) }
 {
     plain_command(
         alloc,
@@ -189,9 +204,9 @@ fn compile_command<'a>(alloc: Global) -> Command<'a>
     )
 }
 
-fn source_command<'a>(alloc: Global) -> Command<'a>
-    ensures shape { app_of result ≡ new_app (codes "source") }
-    ensures local { (out-Command result).has_globals ≡ false }
+fn source_command<'a>(alloc: Global) -> Result<Command<'a>, AllocError>
+    ensures shape { IfOk result (λ c. app_of c ≡ with_explain (codes "source")) }
+    ensures local { IfOk result (λ c. (out-Command c).has_globals ≡ false) }
 {
     plain_command(
         alloc,
@@ -202,27 +217,80 @@ fn source_command<'a>(alloc: Global) -> Command<'a>
     )
 }
 
+fn trace_command<'a>(alloc: Global) -> Result<Command<'a>, AllocError>
+    ensures shape { IfOk result (λ c. app_of c ≡ trace_line) }
+    ensures local { IfOk result (λ c. (out-Command c).has_globals ≡ false) }
+{
+    let from = number_option(
+        alloc,
+        "from",
+        false,
+        "the first step that is shown [default: 1]",
+    );
+    let to = number_option(
+        alloc,
+        "to",
+        false,
+        "the last step that is shown [default: 1000000]",
+    );
+    plain_command(
+        alloc,
+        "trace",
+        "Tells step by step what a run from the Java text does",
+        "Standard input has three parts, class text, thread program and schedule, with a line %% between them:\n  \
+         listset trace < examples/lost_update.txt",
+    )?
+    .arg(from)?
+    .arg(to)
+}
+
+fn state_command<'a>(alloc: Global) -> Result<Command<'a>, AllocError>
+    ensures shape { IfOk result (λ c. app_of c ≡ state_line) }
+    ensures local { IfOk result (λ c. (out-Command c).has_globals ≡ false) }
+{
+    let dot = flag_option(alloc, "dot", "draws it as a graph for Graphviz");
+    plain_command(
+        alloc,
+        "state",
+        "Shows what each object holds and what each thread does next, behind a schedule of source steps",
+        "Standard input has three parts, class text, thread program and schedule, with a line %% between them:\n  \
+         listset state < examples/lost_update.txt",
+    )?
+    .arg(dot)
+}
+
+/// The program without its commands.
+fn top_command<'a>(alloc: Global) -> Command<'a>
+    ensures { app_of result ≡ top_line }
+{
+    Command::new(alloc, "listset")
+        .about("List-based concurrent sets in Java, run under schedules that you choose")
+        .after_help("Input ends with Ctrl-D. 'listset help COMMAND' tells what a command reads.")
+        .version("0.1.0")
+        .subcommand_required(true)
+}
+
 /// The program with its commands.
 pub(crate) fn program<'a>(alloc: Global) -> Result<Command<'a>, AllocError>
     ensures { IfOk result (λ c. (p : _) × NamesSides p × (app_of c ≡ line p)) }
 {
+    let check = check_command(alloc)?;
+    let one = top_command(alloc).subcommand(check)?;
+    let compile = compile_command(alloc)?;
+    let two = one.subcommand(compile)?;
     let replay = replay_command(alloc)?;
-    let translate = translate_command(alloc)?;
-    let live = live_command(alloc)?;
-    let batch = batch_command(alloc)?;
-    let top = plain_command(
-        alloc,
-        "listset",
-        "List-based concurrent sets in Java, run under schedules that you choose",
-        "Input ends with Ctrl-D. 'listset help COMMAND' tells what a command reads.",
-    )
-    .subcommand_required(true);
-    let one = top.subcommand(check_command(alloc))?;
-    let two = one.subcommand(compile_command(alloc))?;
     let three = two.subcommand(replay)?;
-    let four = three.subcommand(source_command(alloc))?;
-    let five = four.subcommand(translate)?;
-    let six = five.subcommand(live)?;
-    let seven = six.subcommand(batch)?;
-    Ok(seven)
+    let source = source_command(alloc)?;
+    let four = three.subcommand(source)?;
+    let trace = trace_command(alloc)?;
+    let five = four.subcommand(trace)?;
+    let state = state_command(alloc)?;
+    let six = five.subcommand(state)?;
+    let translate = translate_command(alloc)?;
+    let seven = six.subcommand(translate)?;
+    let live = live_command(alloc)?;
+    let eight = seven.subcommand(live)?;
+    let batch = batch_command(alloc)?;
+    let nine = eight.subcommand(batch)?;
+    Ok(nine)
 }

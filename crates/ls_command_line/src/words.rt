@@ -32,6 +32,15 @@ pub enum Request {
         live: bool,
     },
     Source,
+    /// The steps that are shown, from and to a number; they are numbered from 1.
+    Trace {
+        from: u64,
+        to: u64,
+    },
+    /// As a graph, or as text.
+    State {
+        dot: bool,
+    },
     Translate {
         to: Side,
         cells: u64,
@@ -54,22 +63,39 @@ impl Clone for Request {
     }
 }
 
+/// What a command line asks for.
+#[derive(Copy)]
+pub struct CommandLine {
+    pub request: Request,
+    /// Whether a fault is to be shown in its line.
+    pub explain: bool,
+}
+
+impl Clone for CommandLine {
+    fn clone(&self) -> Result<CommandLine, AllocError> {
+        Ok(*self)
+    }
+}
+
 /// The cells of a machine where none are asked for.
 const CELLS: u64 = 65_536;
 
 /// The steps that a live run records where no limit is asked for.
 const LIMIT: u64 = 5_000;
 
+/// The last step that is shown where none is asked for: the most that a schedule has.
+const LAST_STEP: u64 = 1_000_000;
+
 /// Why there is no request.
 #[derive(Debug, Drop)]
 pub enum WordsFault {
     Memory,
-    /// The words are no command line, or ask for help.
+    /// The words are no command line, or ask for help or the version.
     BadLine(Error),
 }
 
 /// What the words ask for. They begin with the program's own name.
-pub fn read_words<'a>(alloc: Global, words: &'a [String]) -> Result<Request, WordsFault>
+pub fn read_words<'a>(alloc: Global, words: &'a [String]) -> Result<CommandLine, WordsFault>
     ensures { IsWordsAnswer (map string_bytes words.entry.now) result }
 {
     let program = match program(alloc) {
@@ -89,12 +115,18 @@ pub fn read_words<'a>(alloc: Global, words: &'a [String]) -> Result<Request, Wor
 }
 
 /// The request of the matches, by the name of the subcommand.
-fn chosen(matches: &ArgMatches<'_>) -> Request
+fn chosen(matches: &ArgMatches<'_>) -> CommandLine
     ensures { result ≡ asked_by (subcommand_rows_of matches.now) }
 {
     match matches.subcommand() {
-        Some((name, options)) => asked(name, options),
-        None => Request::Check,
+        Some((name, options)) => CommandLine {
+            request: asked(name, options),
+            explain: flag(options, "explain"),
+        },
+        None => CommandLine {
+            request: Request::Check,
+            explain: false,
+        },
     }
 }
 
@@ -147,6 +179,13 @@ fn asked(name: &str, options: &ArgMatches<'_>) -> Request
             live: flag(options, "live"),
         },
         "source" => Request::Source,
+        "trace" => Request::Trace {
+            from: number(options, "from", 1),
+            to: number(options, "to", LAST_STEP),
+        },
+        "state" => Request::State {
+            dot: flag(options, "dot"),
+        },
         "translate" => Request::Translate {
             to: chosen_side(options),
             cells: number(options, "cells", CELLS),

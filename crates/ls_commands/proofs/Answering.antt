@@ -9,10 +9,10 @@ use Rattle.ls_schedule.specs.Answers.{Fails}
 use Rattle.ls_schedule.specs.declared.fault.ScheduleFault.{ScheduleFault}
 use Rattle.ls_schedule.specs.declared.fault.ScheduleFault.TheVariants as schedule
 use Rattle.ls_report.specs.Events.{Text}
-use Rattle.ls_commands.specs.Faults.{lifted_compile, lifted_schedule}
-use Rattle.ls_commands.specs.Given.{Gives, GivesSeen}
-use Rattle.ls_commands.specs.declared.fault.ToolFault.{ToolFault}
-use Rattle.ls_commands.specs.declared.fault.ToolFault.TheVariants as fault
+use Rattle.ls_faults.specs.Faults.{lifted_compile, lifted_schedule}
+use Rattle.ls_faults.specs.Given.{Gives, GivesSeen}
+use Rattle.ls_faults.specs.declared.fault.ToolFault.{ToolFault}
+use Rattle.ls_faults.specs.declared.fault.ToolFault.TheVariants as fault
 use Rattle.ls_commands.specs.Compiled.{AnswersOn, NotCompiled, OnImage}
 
 abbrev Failed : ToolFault → Result (String Global) ToolFault

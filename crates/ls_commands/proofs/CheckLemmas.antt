@@ -11,9 +11,9 @@ use Rattle.ls_orders.specs.Rules.{judgement_of}
 use Rattle.ls_orders.specs.declared.fault.OrderFault.{OrderFault}
 use Rattle.ls_orders.specs.declared.fault.OrderFault.TheVariants as order_faults
 use Rattle.ls_commands.specs.Check.{ChecksTo, Judged, NoHistory, judged_by, judgement_text, with_feed}
-use Rattle.ls_commands.specs.Faults.{lifted_history, lifted_order}
-use Rattle.ls_commands.specs.Given.{Gives}
-use Rattle.ls_commands.specs.declared.fault.ToolFault.{ToolFault}
+use Rattle.ls_faults.specs.Faults.{lifted_history, lifted_order}
+use Rattle.ls_faults.specs.Given.{Gives}
+use Rattle.ls_faults.specs.declared.fault.ToolFault.{ToolFault}
 
 abbrev Failed : ToolFault → Result (String Global) ToolFault
 Failed f = Err f

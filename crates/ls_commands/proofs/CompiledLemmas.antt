@@ -19,10 +19,10 @@ use Rattle.ls_report.specs.Events.{Text}
 use Rattle.ls_report.specs.Printing.{run_text}
 use Rattle.ls_commands.proofs.Answering.{not_refused}
 use Rattle.ls_commands.specs.Compiled.{Replayed, Runs, NoCells, NoSchedule}
-use Rattle.ls_commands.specs.Faults.{lifted_cells, lifted_schedule}
-use Rattle.ls_commands.specs.Given.{Gives}
-use Rattle.ls_commands.specs.declared.fault.ToolFault.{ToolFault}
-use Rattle.ls_commands.specs.declared.fault.ToolFault.TheVariants as fault
+use Rattle.ls_faults.specs.Faults.{lifted_cells, lifted_schedule}
+use Rattle.ls_faults.specs.Given.{Gives}
+use Rattle.ls_faults.specs.declared.fault.ToolFault.{ToolFault}
+use Rattle.ls_faults.specs.declared.fault.ToolFault.TheVariants as fault
 
 abbrev Refused : LoadFault → Result Record LoadFault
 Refused f = Err f

@@ -1,6 +1,6 @@
 pub mod Answering
 pub mod CheckLemmas
-pub mod SourceLemmas
+pub mod ViewedLemmas
 pub mod CompiledLemmas
 pub mod TranslatedLemmas
 pub mod LivedLemmas

@@ -19,8 +19,8 @@ use Rattle.ls_turnstile.specs.declared.fault.PlayFault.{PlayFault as TurnsFault}
 use Rattle.ls_turnstile.specs.declared.fault.PlayFault.TheVariants as turns
 use Rattle.ls_report.specs.Events.{Text}
 use Rattle.ls_report.specs.Printing.{run_text}
-use Rattle.ls_commands.specs.Faults.{lifted_live, lifted_turns}
-use Rattle.ls_commands.specs.Given.{Gives}
+use Rattle.ls_faults.specs.Faults.{lifted_live, lifted_turns}
+use Rattle.ls_faults.specs.Given.{Gives}
 use Rattle.ls_commands.proofs.Answering.{not_refused}
 use Rattle.ls_commands.specs.Compiled.{names_of_image, NoCells as TooFewOrMany, plain_program_of, Replayed, Runs}
 use Rattle.ls_commands.specs.Lived.{AsReplayed, BadLimit, Disagree, Lived, Lives, NoCells, NotFollowed, NoThread, ReplayedLive}

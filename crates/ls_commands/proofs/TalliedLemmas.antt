@@ -10,8 +10,8 @@ use Rattle.ls_batch.specs.Tallies.{IsTally, Row}
 use Rattle.ls_batch.specs.declared.fault.BatchFault.{BatchFault}
 use Rattle.ls_batch.specs.declared.fault.BatchFault.TheVariants as batch
 use Rattle.ls_report.specs.Events.{Text}
-use Rattle.ls_commands.specs.Faults.{lifted_batch}
-use Rattle.ls_commands.specs.Given.{Gives}
+use Rattle.ls_faults.specs.Faults.{lifted_batch}
+use Rattle.ls_faults.specs.Given.{Gives}
 use Rattle.ls_commands.proofs.Answering.{not_refused}
 use Rattle.ls_commands.specs.Compiled.{plain_program_of}
 use Rattle.ls_commands.specs.Tallied.{BadCount, NoCells, Tallied, Tallies}

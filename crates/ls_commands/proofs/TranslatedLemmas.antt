@@ -14,9 +14,9 @@ use Rattle.ls_translation.specs.declared.fault.TranslationFault.TheVariants as t
 use Rattle.ls_report.specs.Events.{Text}
 use Rattle.ls_command_line.specs.declared.words.Side.{Side}
 use Rattle.ls_command_line.specs.declared.words.Side.TheVariants as sides
-use Rattle.ls_commands.specs.Faults.{lifted_translation}
-use Rattle.ls_commands.specs.Given.{Gives, GivesSeen}
-use Rattle.ls_commands.specs.declared.fault.ToolFault.{ToolFault}
+use Rattle.ls_faults.specs.Faults.{lifted_translation}
+use Rattle.ls_faults.specs.Given.{Gives, GivesSeen}
+use Rattle.ls_faults.specs.declared.fault.ToolFault.{ToolFault}
 use Rattle.ls_commands.proofs.Answering.{not_refused, passed_on}
 use Rattle.ls_commands.specs.Compiled.{file_of_image, names_of_image, plain_program_of}
 use Rattle.ls_commands.specs.Translated.{NoCells, NoRoom, TooLong, ToMachine, ToSource, Translated, Translates, Turned}

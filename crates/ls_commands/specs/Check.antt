@@ -8,9 +8,9 @@ use Rattle.ls_orders.specs.Rules.{Broken, Judgement, Legal, judgement_of}
 use Rattle.ls_orders.specs.declared.fault.OrderFault.{OrderFault}
 use Rattle.ls_orders.specs.declared.verdict.Rule.{Rule}
 use Rattle.ls_orders.specs.declared.verdict.Rule.TheVariants as rules
-use Rattle.ls_commands.specs.Faults.{lifted_order}
-use Rattle.ls_commands.specs.declared.fault.ToolFault.{ToolFault}
-use Rattle.ls_commands.specs.declared.fault.ToolFault.TheVariants as faults
+use Rattle.ls_faults.specs.Faults.{lifted_order}
+use Rattle.ls_faults.specs.declared.fault.ToolFault.{ToolFault}
+use Rattle.ls_faults.specs.declared.fault.ToolFault.TheVariants as faults
 
 abbrev pub rule_text : Rule → Text
 rule_text rules.UnknownCall = codes "71"

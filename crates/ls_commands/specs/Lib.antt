@@ -1,7 +1,5 @@
-pub mod Faults
-pub mod Given
 pub mod Check
-pub mod Source
+pub mod Viewed
 pub mod Compiled
 pub mod Translated
 pub mod Lived

@@ -16,8 +16,8 @@ use Rattle.ls_turnstile.specs.declared.fault.FollowFault.TheVariants as follow
 use Rattle.ls_turnstile.specs.declared.fault.PlayFault.TheVariants as turns
 use Rattle.ls_report.specs.Events.{Text}
 use Rattle.ls_report.specs.Printing.{run_text}
-use Rattle.ls_commands.specs.declared.fault.ToolFault.{ToolFault}
-use Rattle.ls_commands.specs.declared.fault.ToolFault.TheVariants as faults
+use Rattle.ls_faults.specs.declared.fault.ToolFault.{ToolFault}
+use Rattle.ls_faults.specs.declared.fault.ToolFault.TheVariants as faults
 use Rattle.ls_commands.specs.Compiled.{AnswersOn, names_of_image, plain_program_of, Replayed}
 
 -- each thread is over after the steps, or they are as many as may be recorded

@@ -8,8 +8,8 @@ use Rattle.ls_batch.specs.Samples.{histories_of, IsBadCount}
 use Rattle.ls_batch.specs.Tallies.{IsTally, Row}
 use Rattle.ls_batch.specs.declared.fault.BatchFault.TheVariants as batch
 use Rattle.ls_report.specs.Events.{Text}
-use Rattle.ls_commands.specs.declared.fault.ToolFault.{ToolFault}
-use Rattle.ls_commands.specs.declared.fault.ToolFault.TheVariants as faults
+use Rattle.ls_faults.specs.declared.fault.ToolFault.{ToolFault}
+use Rattle.ls_faults.specs.declared.fault.ToolFault.TheVariants as faults
 use Rattle.ls_commands.specs.declared.tallying.Sampling.{Sampling}
 use Rattle.ls_commands.specs.Compiled.{AnswersOn, plain_program_of}
 

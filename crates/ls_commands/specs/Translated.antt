@@ -13,9 +13,9 @@ use Rattle.ls_translation.specs.declared.fault.TranslationFault.TheVariants as t
 use Rattle.ls_report.specs.Events.{Text}
 use Rattle.ls_command_line.specs.declared.words.Side.{Side}
 use Rattle.ls_command_line.specs.declared.words.Side.TheVariants as sides
-use Rattle.ls_commands.specs.Faults.{lifted_schedule}
-use Rattle.ls_commands.specs.declared.fault.ToolFault.{ToolFault}
-use Rattle.ls_commands.specs.declared.fault.ToolFault.TheVariants as faults
+use Rattle.ls_faults.specs.Faults.{lifted_schedule}
+use Rattle.ls_faults.specs.declared.fault.ToolFault.{ToolFault}
+use Rattle.ls_faults.specs.declared.fault.ToolFault.TheVariants as faults
 use Rattle.ls_commands.specs.Compiled.{AnswersOn, file_of_image, names_of_image, plain_program_of}
 
 -- The schedule of the other side, for the steps of one side; or what is made has no room in the cells, from a step on, or the

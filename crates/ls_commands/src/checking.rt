@@ -3,9 +3,9 @@
 ghost use Rattle.std.specs.Prelude.{◌≡◌, ◌-◌, IfOk, length, slice_get, string_bytes};
 ghost use Rattle.ls_orders.specs.Legal.{plain_verdict};
 ghost use Rattle.ls_commands.specs.Check.{ChecksTo, ends_line, judgement_text, rule_text, with_feed};
-ghost use Rattle.ls_commands.specs.Given.{Gives};
+ghost use Rattle.ls_faults.specs.Given.{Gives};
 
-use crate::fault::ToolFault;
+use ls_faults::fault::ToolFault;
 use ls_orders::{Rule, Verdict, check_order, read_order};
 use ls_report::read_history;
 use std::alloc::{AllocError, Global};

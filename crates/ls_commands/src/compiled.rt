@@ -5,11 +5,11 @@ ghost use Rattle.ls_checked.specs.PlainProgram.{plain_program};
 ghost use Rattle.ls_compiler.specs.Images.{program_of_image};
 ghost use Rattle.ls_schedule.specs.Reading.{schedule_of};
 ghost use Rattle.ls_commands.specs.Compiled.{counts_text, CountsTo, file_of_image, names_of_image, Replayed, ReplaysTo};
-ghost use Rattle.ls_commands.specs.Given.{Gives};
+ghost use Rattle.ls_faults.specs.Given.{Gives};
 
-use crate::fault::ToolFault;
 use ls_compiler::compile::compile;
 use ls_compiler::image::Image;
+use ls_faults::fault::ToolFault;
 use ls_report::print_history;
 use ls_schedule::read_schedule;
 use std::alloc::{AllocError, Global};

@@ -4,16 +4,16 @@ ghost use Rattle.std.specs.Prelude.{IfOk, ◌≡◌, ◌++◌, string_bytes};
 ghost use Rattle.ls_checked.specs.PlainProgram.{plain_program};
 ghost use Rattle.ls_commands.specs.Compiled.{names_of_image};
 ghost use Rattle.ls_commands.specs.Lived.{Lived, LivesTo, ReplayedLive, ReplaysLiveTo};
-ghost use Rattle.ls_commands.specs.Given.{Gives};
+ghost use Rattle.ls_faults.specs.Given.{Gives};
 ghost use Rattle.ls_report.specs.Printing.{run_text};
 ghost use Rattle.ls_schedule.specs.Printing.{schedule_text};
 ghost use Rattle.ls_schedule.specs.Reading.{schedule_of, thread_names};
 ghost use Rattle.ls_schedule.specs.Records.{happened, scheduled};
 
-use crate::fault::ToolFault;
 use ls_checked::program::Program;
 use ls_compiler::compile::compile;
 use ls_compiler::image::Image;
+use ls_faults::fault::ToolFault;
 use ls_live::{Gate, play_live};
 use ls_report::print_history;
 use ls_schedule::{Record, print_schedule, read_schedule};

@@ -1,12 +1,12 @@
 // The command `batch`.
 
 ghost use Rattle.ls_commands.specs.Tallied.{Tallied, TalliesTo};
-ghost use Rattle.ls_commands.specs.Given.{Gives};
+ghost use Rattle.ls_faults.specs.Given.{Gives};
 
-use crate::fault::ToolFault;
 use ls_batch::print_tally;
 use ls_compiler::compile::compile;
 use ls_compiler::image::Image;
+use ls_faults::fault::ToolFault;
 use std::alloc::{AllocError, Global};
 use std::thread::Threads;
 

@@ -2,14 +2,14 @@
 
 ghost use Rattle.ls_commands.specs.Compiled.{names_of_image};
 ghost use Rattle.ls_commands.specs.Translated.{Translated, TranslatesTo, Turned};
-ghost use Rattle.ls_commands.specs.Given.{Gives, GivesSeen};
+ghost use Rattle.ls_faults.specs.Given.{Gives, GivesSeen};
 ghost use Rattle.ls_schedule.specs.Reading.{schedule_of};
 
-use crate::fault::ToolFault;
 use ls_command_line::Side;
 use ls_compiler::compile::compile;
 use ls_compiler::image::Image;
 use ls_events::schedule::Schedule;
+use ls_faults::fault::ToolFault;
 use ls_schedule::{print_schedule, read_schedule};
 use ls_translation::{to_machine, to_source};
 use std::alloc::Global;

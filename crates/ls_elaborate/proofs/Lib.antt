@@ -1,5 +1,4 @@
 pub mod Nodes
-pub mod Rows
 pub mod Blocks
 pub mod BlockRows
 pub mod Left

@@ -16,9 +16,7 @@ ghost use Rattle.ls_elaboration.specs.Tables.{known_of};
 ghost use Rattle.ls_elaborate.specs.ScopeViews.{body_of, scope_of};
 
 use crate::completion::all_complete;
-use crate::expressions::fitting;
 use crate::scope::{Context, Scope, may_declare, with_variable};
-use crate::site::Site;
 use crate::statements::{Round, all_items, block_of};
 use ls_checked::tree::{Expression, Method, Statement};
 use ls_elaboration::known::{Known, field_of};
@@ -26,6 +24,8 @@ use ls_elaboration::rule::{Refusal, Rule, refused_at};
 use ls_elaboration::together::{also, push};
 use ls_elaboration::type_names::{result_of, type_of};
 use ls_events::value::ValueType;
+use ls_expressions::expressions::fitting;
+use ls_expressions::site::Site;
 use ls_lexer::token::Span;
 use ls_tree::tree::{
     BlockItem, Constructor, Declarator, Member, Method as MethodText, Name, Parameter,

@@ -11,8 +11,6 @@ ghost use Rattle.ls_elaboration.specs.Placed.{placed, placed_name};
 ghost use Rattle.ls_elaboration.specs.Tables.{known_of};
 ghost use Rattle.ls_elaborate.specs.ScopeViews.{body_of, scope_of};
 
-use crate::expressions::fitting;
-use crate::site::Site;
 use ls_checked::tree::{Expression, Statement};
 use ls_elaboration::known::{Known, Local, local_named};
 use ls_elaboration::rule::{Broken, Refusal, Rule, broken_at};
@@ -20,6 +18,8 @@ use ls_elaboration::signs::MOST_SLOTS;
 use ls_elaboration::together::also;
 use ls_elaboration::type_names::type_of;
 use ls_events::value::{Value, ValueType};
+use ls_expressions::expressions::fitting;
+use ls_expressions::site::Site;
 use ls_lexer::token::Span;
 use ls_tree::tree::{Declaration, Declarator, Expr, Name};
 use std::alloc::{AllocError, Global};

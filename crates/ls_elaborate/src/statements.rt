@@ -10,18 +10,19 @@ ghost use Rattle.ls_elaboration.specs.PlacedStatements.{placed_statement, placed
 ghost use Rattle.ls_elaboration.specs.Tables.{local_of, known_of};
 ghost use Rattle.ls_elaboration.specs.Answers.{Gives, Leads, unless_refused};
 ghost use Rattle.ls_elaboration.specs.Elaborated.{Elaborated};
-ghost use Rattle.ls_elaborate.specs.ScopeViews.{body_of, locals_of, loops_of, scope_of, formed_of};
+ghost use Rattle.ls_expressions.specs.Views.{locals_of};
+ghost use Rattle.ls_elaborate.specs.ScopeViews.{body_of, loops_of, scope_of, formed_of};
 
-use crate::assignments::assignment;
-use crate::expressions::{fitting, typed};
-use crate::places::span_of;
 use crate::scope::{Context, Scope, declaration};
-use crate::site::Site;
 use ls_checked::tree::{Expression, Statement};
 use ls_elaboration::known::Local;
 use ls_elaboration::rule::{Broken, Refusal, Rule, broken_at, refused_at};
 use ls_elaboration::together::{also, push, two, with_box};
 use ls_events::value::ValueType;
+use ls_expressions::assignments::assignment;
+use ls_expressions::expressions::{fitting, typed};
+use ls_expressions::places::span_of;
+use ls_expressions::site::Site;
 use ls_lexer::token::Span;
 use ls_tree::tree;
 use ls_tree::tree::{BlockItem, Expr, Name};

@@ -7,7 +7,7 @@ use Rattle.ls_events.specs.declared.event.Happening.{Happening}
 use Rattle.ls_events.specs.declared.event.Happening.TheVariants as happenings
 use Rattle.ls_checked.specs.CheckedProgram.{Calling, Making, Program, ProgramCall, ThreadProgram}
 use Rattle.ls_report.specs.Events.{Called, Event, Made, Occurrence, Returned, Text, Trapped}
-use Rattle.ls_report.specs.Lines.{line}
+use Rattle.ls_report.specs.Lines.{line, occurrence_text}
 
 -- the name that the setup gives under this number
 abbrev pub object_name : Program → ℕ → Text
@@ -32,6 +32,10 @@ named p e = option_and_then (λ t. option_map (event_of p t e) (slice_get t.call
 -- an event of no call of the program has no line
 abbrev pub run_line : Program → RunEvent → Text
 run_line p e = option_map_or line (named p e) []
+
+-- its words without its thread and call, as `call s.add(3)`
+abbrev pub run_words : Program → RunEvent → Text
+run_words p e = option_map_or (λ e. occurrence_text e.occurrence) (named p e) []
 
 abbrev pub run_text : Program → List RunEvent → Text
 run_text p = flat_map (run_line p)

@@ -13,5 +13,6 @@ mod reading;
 
 pub use fault::HistoryFault;
 pub use history::{History, NamedEvent, Occurrence};
-pub use printing::print_history;
+pub use lines::kind_name;
+pub use printing::{object_name, print_history, push_words};
 pub use reading::read_history;

@@ -4,7 +4,7 @@ ghost use Rattle.std.specs.Prelude.{◌≡◌, ◌++◌, ◌-◌, IfOk, OnOk, ma
 ghost use Rattle.std.specs.Option.{option_copied};
 ghost use Rattle.ls_checked.specs.PlainProgram.{plain_call, plain_program, plain_thread};
 ghost use Rattle.ls_report.specs.Lines.{line, occurrence_text};
-ghost use Rattle.ls_report.specs.Printing.{called, event_of, object_name, occurrence_of, run_line, run_text};
+ghost use Rattle.ls_report.specs.Printing.{called, event_of, object_name, occurrence_of, run_line, run_text, run_words};
 
 use crate::lines::{push_called, push_made, push_returned, push_trapped};
 use ls_checked::program::{Program, ProgramCall, ThreadProgram};
@@ -13,7 +13,7 @@ use std::alloc::{AllocError, Global};
 use std::fmt::Write;
 
 /// The name that the setup gives under this number.
-fn object_name(program: &Program, number: usize) -> &str
+pub fn object_name(program: &Program, number: usize) -> &str
     ensures { result.now ≡ object_name (plain_program program.now) number }
 {
     match program.names.get(number) {
@@ -96,6 +96,19 @@ fn call_at(thread: &ThreadProgram, number: usize) -> Option<&ProgramCall>
     ensures { option_map plain_call (option_copied result) ≡ slice_get (plain_thread thread.now).calls (number - 1) }
 {
     thread.calls.get(number.saturating_sub(1))
+}
+
+/// Adds the words of an event without its thread and call, as `call s.add(3)`. An event of no call of the program has none.
+pub fn push_words(out: &mut String, program: &Program, event: Event) -> Result<(), AllocError>
+    ensures { OnOk result (string_bytes out.new ≡ string_bytes out.old ++ run_words (plain_program program.now) event) }
+{
+    let Some(thread) = thread_at(program, event.thread) else {
+        return Ok(());
+    };
+    match call_at(thread, event.call) {
+        Some(call) => push_happening(out, program, call, event.happening),
+        None => Ok(()),
+    }
 }
 
 fn push_line(out: &mut String, program: &Program, event: Event) -> Result<(), AllocError>

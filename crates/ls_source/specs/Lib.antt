@@ -7,3 +7,4 @@ pub mod Progress
 pub mod GoneBy
 pub mod SeenRun
 pub mod Shown
+pub mod Ends

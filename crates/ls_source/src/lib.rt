@@ -7,3 +7,5 @@ mod stage;
 mod store;
 mod thing;
 mod thread;
+
+pub use thing::{Thing, item_at};

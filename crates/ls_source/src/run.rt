@@ -11,7 +11,7 @@ ghost use Rattle.ls_source.specs.Kept.{IsKept};
 
 use crate::next::Next;
 use crate::stage::Stage;
-use crate::thing::Effect;
+use crate::thing::{Effect, Thing};
 use crate::thread::Thread;
 use ls_checked::program::{Program, ThreadProgram};
 use ls_checked::tree::File;
@@ -60,10 +60,14 @@ fn fresh_threads<'a>(
 }
 
 impl<'a> SourceRun<'a> {
-    ghost use Rattle.std.specs.Prelude.{◌<◌, OnOk, OnErr, Some, slice_get};
+    ghost use Rattle.std.specs.Prelude.{◌<◌, OnOk, OnErr, Some, option_map, slice_get};
+    ghost use Rattle.std.specs.Option.{option_copied};
+    ghost use Rattle.ls_meaning.specs.Store.{name_at, thing_at};
     ghost use Rattle.ls_meaning.specs.Threads.{next};
     ghost use Rattle.ls_meaning.specs.Runs.{asked, has_ended, has_started, step, answers_of, performed};
     ghost use Rattle.ls_meaning.specs.Effect.{effect};
+    ghost use Rattle.ls_source.specs.Ends.{has_trapped};
+    ghost use Rattle.ls_source.specs.SeenThing.{thing_of};
     ghost use Rattle.ls_source.specs.SeenThread.{seen_next};
     ghost use Rattle.ls_source.specs.Progress.{begun, gone_on};
     ghost use Rattle.ls_source.specs.GoneBy.{gone_by};
@@ -136,6 +140,43 @@ impl<'a> SourceRun<'a> {
         match self.next_of_thread(thread)? {
             Next::Goes(action, _) => Ok(Asked::Asks(action)),
             Next::Ended | Next::Trapped => Ok(Asked::Ended),
+        }
+    }
+
+    /// Whether a thread has ended with a trap. The number of no thread has not.
+    pub fn has_trapped(&self, thread: usize) -> Result<bool, AllocError>
+        ensures { IfOk result (λ b. b ≡ has_trapped (next (progress_of self.now).file (progress_of self.now).program thread (answers_of (progress_of self.now).state thread))) }
+    {
+        match self.next_of_thread(thread)? {
+            Next::Trapped => Ok(true),
+            Next::Goes(_, _) | Next::Ended => Ok(false),
+        }
+    }
+
+    /// All that the run has made, in order of making: object n, counted from 1, stands at place n - 1.
+    pub fn things(&self) -> &[Thing]
+        ensures { map thing_of result.now ≡ (progress_of self.now).state.store.things }
+    {
+        self.stage.store.things.as_slice()
+    }
+
+    /// What is behind a reference. Nothing is behind 0, which is null, and behind the number of no object.
+    pub fn thing(&self, number: u64) -> Option<&Thing>
+        ensures { option_map thing_of (option_copied result) ≡ thing_at (progress_of self.now).state.store number }
+    {
+        if number == 0 {
+            return None;
+        }
+        self.stage.store.things.get((number - 1) as usize)
+    }
+
+    /// The value of a setup name, by its number in text order from 0. It is null where there is no such name.
+    pub fn name_value(&self, number: usize) -> Value
+        ensures { result ≡ name_at (progress_of self.now).state.store number }
+    {
+        match self.stage.store.names.get(number) {
+            None => Value::Reference(0),
+            Some(v) => *v,
         }
     }
 

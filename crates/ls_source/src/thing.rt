@@ -2,7 +2,7 @@
 
 ghost use Rattle.std.specs.Prelude.{◌≡◌, IfOk, OnErr};
 ghost use Rattle.ls_meaning.specs.Effect.{same_mark, change, in_range, same_pair, reading_field, writing_field, reading_item, writing_item, locking, trying, unlocking, asking_held, reading_pair, setting_pair, swapping, attempting};
-ghost use Rattle.ls_source.specs.SeenThing.{thing_of, seen_change};
+ghost use Rattle.ls_source.specs.SeenThing.{items_of, thing_of, seen_change};
 
 use ls_courses::value::{mark_of, reference_of};
 use ls_events::action::{Action, Answer};
@@ -14,13 +14,17 @@ use std::collections::BTreeMap;
 /// What is behind a reference. Of an array the items that have been written are kept, whatever its size.
 #[derive(Drop)]
 pub enum Thing {
+    /// An object's fields in text order.
     Object(Vec<Value>),
     FreeLock,
+    /// A lock with the number of the thread that owns it, and how many times that holds it.
     HeldLock {
         owner: usize,
         holds: u32,
     },
+    /// The pair of a markable.
     Markable(Value),
+    /// An array with its size and the items that have been written: `item_at` tells the others.
     Array {
         size: u32,
         items: BTreeMap<u32, Value>,
@@ -92,6 +96,16 @@ fn in_range(i: i32, size: u32) -> bool
     }
 }
 
+/// The item of an array at an index, which is false where it was never written.
+pub fn item_at(items: &BTreeMap<u32, Value>, index: u32) -> Value
+    ensures { result ≡ items_of items.now index }
+{
+    match items.get(&index) {
+        None => Value::Boolean(false),
+        Some(v) => *v,
+    }
+}
+
 fn read_field(thing: &Thing, f: usize) -> Effect
     ensures { seen_change (thing_of thing.now) result ≡ reading_field f (thing_of thing.now) }
 {
@@ -125,10 +139,7 @@ fn read_item(thing: &Thing, i: i32) -> Effect
     match thing {
         Thing::Array { size, items } => {
             if in_range(i, *size) {
-                match items.get(&i.unsigned_abs()) {
-                    None => truth(false),
-                    Some(v) => gives(*v),
-                }
+                gives(item_at(items, i.unsigned_abs()))
             } else {
                 fails(Kind::ArrayIndexOutOfBounds)
             }

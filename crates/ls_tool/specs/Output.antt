@@ -1,21 +1,24 @@
 -- What the program writes, for its words and its input.
-use Rattle.std.specs.Prelude.{◌≡◌, ◌≤◌, ℕ, List, [], ◌∷◌, length, take, Bool, MatchBool, true, false, Option, Some, None, Result, Ok, Err, String, string_bytes}
+use Rattle.std.specs.Prelude.{◌≡◌, ◌≢◌, ◌≤◌, ℕ, List, [], ◌∷◌, ◌++◌, length, take, Bool, MatchBool, true, false, Option, Some, None, Result, Ok, Err, String, string_bytes, if◌then◌else◌}
 use Rattle.std.specs.Global.{Global}
 use Rattle.std.specs.Io.KnownBytes.{Appends, Keeps}
 use Rattle.ls_report.specs.Events.{Text}
 use Rattle.ls_commands.specs.Check.{ChecksTo}
 use Rattle.ls_commands.specs.Compiled.{CountsTo, ReplaysTo}
 use Rattle.ls_commands.specs.Lived.{LivesTo, ReplaysLiveTo}
-use Rattle.ls_commands.specs.Source.{SourcesTo}
 use Rattle.ls_commands.specs.Tallied.{sampling, TalliesTo}
 use Rattle.ls_commands.specs.Translated.{TranslatesTo}
-use Rattle.ls_commands.specs.Faults.{fault_line}
+use Rattle.ls_commands.specs.Viewed.{ViewsTo}
+use Rattle.ls_commands.specs.declared.viewing.View.TheVariants as views
+use Rattle.ls_explanations.specs.Explanations.{note}
+use Rattle.ls_faults.specs.Faults.{fault_line}
 use Rattle.ls_tool.specs.Parts.{is_text, parts_of}
 use Rattle.ls_command_line.specs.Words.{AsksFor}
+use Rattle.ls_command_line.specs.declared.words.CommandLine.{CommandLine}
 use Rattle.ls_command_line.specs.declared.words.Request.{Request}
 use Rattle.ls_command_line.specs.declared.words.Request.TheVariants as requests
-use Rattle.ls_commands.specs.declared.fault.ToolFault.{ToolFault}
-use Rattle.ls_commands.specs.declared.fault.ToolFault.TheVariants as faults
+use Rattle.ls_faults.specs.declared.fault.ToolFault.{ToolFault}
+use Rattle.ls_faults.specs.declared.fault.ToolFault.TheVariants as faults
 use Rattle.ls_tool.specs.declared.running.Exit.{Exit}
 use Rattle.ls_tool.specs.declared.refusal.Refusal.{Refusal}
 use Rattle.ls_tool.specs.declared.refusal.Refusal.TheVariants as refusals
@@ -32,7 +35,10 @@ OnTwo other first second answer = answer ≡ Err faults.WrongParts
 abbrev pub OnThree : Request → Text → Text → Text → Result Text ToolFault → Type 0
 OnThree (requests.Replay cells false) classes program schedule answer = ReplaysTo cells classes program schedule answer
 OnThree (requests.Replay cells true) classes program schedule answer = ReplaysLiveTo cells classes program schedule answer
-OnThree requests.Source classes program schedule answer = SourcesTo classes program schedule answer
+OnThree requests.Source classes program schedule answer = ViewsTo views.History classes program schedule answer
+OnThree (requests.Trace from to) classes program schedule answer = ViewsTo (views.Trace from to) classes program schedule answer
+OnThree (requests.State false) classes program schedule answer = ViewsTo views.State classes program schedule answer
+OnThree (requests.State true) classes program schedule answer = ViewsTo views.Drawing classes program schedule answer
 OnThree (requests.Translate to cells) classes program schedule answer = TranslatesTo to cells classes program schedule answer
 OnThree other classes program schedule answer = answer ≡ Err faults.WrongParts
 
@@ -45,25 +51,48 @@ Answers r other answer = answer ≡ Err faults.WrongParts
 abbrev pub AnswersText : Request → Text → Result Text ToolFault → Type 0
 AnswersText r input answer = MatchBool (is_text input) (Answers r (parts_of input) answer) (answer ≡ Err faults.NotText)
 
--- an answer to the words and the input, where the words are a command line
-abbrev pub with_fault : Result Text ToolFault → Result Text (Option ToolFault)
-with_fault (Ok text) = Ok text
-with_fault (Err f) = Err (Some f)
+-- the parts of an input, where it is text
+abbrev pub texts_of : Text → List Text
+texts_of input = if is_text input then parts_of input else []
 
--- what the words and the input ask for: a text, a fault, or no more than the command line's own text
-pub data IsEnding (words : List Text) (input : Text) : Result Text (Option ToolFault) → Type 0 where
-  BadLine : AsksFor words None → IsEnding words input (Err None)
-  Answered : (r : Request) (answer : Result Text ToolFault) → AsksFor words (Some r) → AnswersText r input answer → IsEnding words input (with_fault answer)
+-- what is told of a fault: its line, and with `--explain` the line in which it stands
+abbrev pub told : Bool → ToolFault → Text → Text
+told true f input = fault_line f ++ note f (texts_of input)
+told false f input = fault_line f
+
+-- what a run ends with: a text, what is told of a fault, or no more than the command line's own text
+pub data Ending : Type 0 where
+  Prints : (text : Text) → Ending
+  Tells : (told : Text) → Ending
+  Helps : Ending
+
+abbrev pub ending_of : Bool → Text → Result Text ToolFault → Ending
+ending_of explain input (Ok text) = Prints text
+ending_of explain input (Err f) = Tells (told explain f input)
+
+-- what the words and the input ask for
+pub data IsEnding (words : List Text) (input : Text) : Ending → Type 0 where
+  BadLine : AsksFor words None → IsEnding words input Helps
+  Answered : (l : CommandLine) (answer : Result Text ToolFault) → AsksFor words (Some l) → AnswersText l.request input answer
+      → IsEnding words input (ending_of l.explain input answer)
 
 -- ---- what the code answers
 
+-- a fault alone, or as it is told with what is said of it; or memory ran out for that
+abbrev pub RefusesAs : Bool → ToolFault → Text → Refusal → Type 0
+RefusesAs explain f input (refusals.BadLine e) = ⊥
+RefusesAs explain f input (refusals.Fault faults.Memory) = Unit {0}
+RefusesAs explain f input (refusals.Fault g) = (g ≡ f) × (explain ≡ false)
+RefusesAs explain f input (refusals.Explained bytes) = (bytes.items ≡ told true f input) × (explain ≡ true) × (f ≢ faults.Memory)
+
 -- memory ran out, or the reader failed after the command line was taken, or it is an ending of the words and the input
 abbrev pub Decides : List Text → Text → Result (String Global) Refusal → Type 0
-Decides words input (Ok text) = IsEnding words input (Ok (string_bytes text))
-Decides words input (Err (refusals.BadLine e)) = IsEnding words input (Err None)
+Decides words input (Ok text) = IsEnding words input (Prints (string_bytes text))
+Decides words input (Err (refusals.BadLine e)) = IsEnding words input Helps
 Decides words input (Err (refusals.Fault faults.Memory)) = Unit {0}
-Decides words input (Err (refusals.Fault faults.ReadFailed)) = (r : Request) × AsksFor words (Some r)
-Decides words input (Err (refusals.Fault f)) = IsEnding words input (Err (Some f))
+Decides words input (Err (refusals.Fault faults.ReadFailed)) = (l : CommandLine) × AsksFor words (Some l)
+Decides words input (Err (refusals.Fault f)) = IsEnding words input (Tells (fault_line f))
+Decides words input (Err (refusals.Explained bytes)) = IsEnding words input (Tells bytes.items)
 
 -- ---- what a run leaves behind
 
@@ -71,23 +100,23 @@ Decides words input (Err (refusals.Fault f)) = IsEnding words input (Err (Some f
 abbrev pub Begins : Option Text → Option Text → Text → Type 0
 Begins old new bytes = (n : ℕ) × (n ≤ length bytes) × Appends old new (take n bytes)
 
--- the fault's line is on the writer, where all was told, or a beginning of it, where the writer failed
-abbrev pub Told : ToolFault → Bool → Option Text → Option Text → Type 0
-Told f is_told err err' = MatchBool is_told (Appends err err' (fault_line f)) (Begins err err' (fault_line f))
+-- what is told is on the writer, where all was told, or a beginning of it, where the writer failed
+abbrev pub Told : Text → Bool → Option Text → Option Text → Type 0
+Told told is_told err err' = MatchBool is_told (Appends err err' told) (Begins err err' told)
 
--- status 0 with the whole text, 1 with a fault's line, 2 for a bad command line
-abbrev pub Shows : Result Text (Option ToolFault) → Exit → Option Text → Option Text → Option Text → Option Text → Type 0
-Shows (Ok text) exit out out' err err' = (exit.status ≡ 0) × Appends out out' text × Keeps err err'
-Shows (Err (Some f)) exit out out' err err' = (exit.status ≡ 1) × Keeps out out' × Told f exit.is_told err err'
-Shows (Err None) exit out out' err err' = (exit.status ≡ 2) × Keeps out out'
+-- status 0 with the whole text, 1 with what is told of a fault, 2 for a bad command line
+abbrev pub Shows : Ending → Exit → Option Text → Option Text → Option Text → Option Text → Type 0
+Shows (Prints text) exit out out' err err' = (exit.status ≡ 0) × Appends out out' text × Keeps err err'
+Shows (Tells told) exit out out' err err' = (exit.status ≡ 1) × Keeps out out' × Told told exit.is_told err err'
+Shows Helps exit out out' err err' = (exit.status ≡ 2) × Keeps out out'
 
 -- the writer failed: a beginning of the text is there, and the fault's line is told
 abbrev pub CutShort : Text → Exit → Option Text → Option Text → Option Text → Option Text → Type 0
-CutShort text exit out out' err err' = (exit.status ≡ 1) × Begins out out' text × Told faults.WriteFailed exit.is_told err err'
+CutShort text exit out out' err err' = (exit.status ≡ 1) × Begins out out' text × Told (fault_line faults.WriteFailed) exit.is_told err err'
 
 -- A run ends as the words and the input ask, or it tells that memory ran out or that a stream failed.
 pub data Ends (words : List Text) (input : Text) (exit : Exit) (out out' err err' : Option Text) : Type 0 where
-  AsAsked : (ending : Result Text (Option ToolFault)) → IsEnding words input ending → Shows ending exit out out' err err' → Ends words input exit out out' err err'
-  OutOfMemory : Shows (Err (Some faults.Memory)) exit out out' err err' → Ends words input exit out out' err err'
-  ReaderFailed : (r : Request) → AsksFor words (Some r) → Shows (Err (Some faults.ReadFailed)) exit out out' err err' → Ends words input exit out out' err err'
-  WriterFailed : (text : Text) → IsEnding words input (Ok text) → CutShort text exit out out' err err' → Ends words input exit out out' err err'
+  AsAsked : (ending : Ending) → IsEnding words input ending → Shows ending exit out out' err err' → Ends words input exit out out' err err'
+  OutOfMemory : Shows (Tells (fault_line faults.Memory)) exit out out' err err' → Ends words input exit out out' err err'
+  ReaderFailed : (l : CommandLine) → AsksFor words (Some l) → Shows (Tells (fault_line faults.ReadFailed)) exit out out' err err' → Ends words input exit out out' err err'
+  WriterFailed : (text : Text) → IsEnding words input (Prints text) → CutShort text exit out out' err err' → Ends words input exit out out' err err'

@@ -1,20 +1,21 @@
 // What the words and the input ask for.
 
 ghost use Rattle.std.specs.Prelude.{IfSome, map, string_bytes};
-ghost use Rattle.ls_commands.specs.Given.{Gives};
+ghost use Rattle.ls_faults.specs.Given.{Gives};
 ghost use Rattle.ls_tool.specs.Output.{Answers, AnswersText, Decides, OnThree, OnTwo};
 
+use crate::explained::refusal_of;
 use crate::parts::{parts_of, text_of};
 use crate::refusal::Refusal;
 use crate::streams::read_whole;
 use ls_command_line::{Request, WordsFault, read_words};
 use ls_commands::checking::check;
 use ls_commands::compiled::{count, replay};
-use ls_commands::fault::ToolFault;
 use ls_commands::living::{live, replay_live};
-use ls_commands::source::source;
 use ls_commands::tallying::{Sampling, batch};
 use ls_commands::translating::translate;
+use ls_commands::viewing::{View, show};
+use ls_faults::fault::ToolFault;
 use std::alloc::Global;
 use std::io::Read;
 use std::sync::Wait;
@@ -49,9 +50,11 @@ fn on_two<R: Threads + Wait + Sync>(
             };
             batch(rt, alloc, sampling, cells as usize, first, second)
         }
-        Request::Replay { .. } | Request::Source | Request::Translate { .. } => {
-            Err(ToolFault::WrongParts)
-        }
+        Request::Replay { .. }
+        | Request::Source
+        | Request::Trace { .. }
+        | Request::State { .. }
+        | Request::Translate { .. } => Err(ToolFault::WrongParts),
     }
 }
 
@@ -73,7 +76,16 @@ fn on_three<R: Threads + Wait + Sync>(
         Request::Replay { cells, live: true } => {
             replay_live(rt, alloc, cells as usize, classes, program, schedule)
         }
-        Request::Source => source(alloc, classes, program, schedule),
+        Request::Source => show(alloc, View::History, classes, program, schedule),
+        Request::Trace { from, to } => {
+            let steps = View::Trace {
+                from: from as usize,
+                to: to as usize,
+            };
+            show(alloc, steps, classes, program, schedule)
+        }
+        Request::State { dot: false } => show(alloc, View::State, classes, program, schedule),
+        Request::State { dot: true } => show(alloc, View::Drawing, classes, program, schedule),
         Request::Translate { to, cells } => {
             translate(alloc, to, cells as usize, classes, program, schedule)
         }
@@ -130,8 +142,8 @@ pub fn respond<'a, H: Threads + Wait + Sync, R: Read>(
 ) -> Result<String, Refusal>
     ensures { IfSome (R.remaining reader.old) (λ input. Decides (map string_bytes words.entry.now) input result) }
 {
-    let request = match read_words(alloc, words) {
-        Ok(request) => request,
+    let line = match read_words(alloc, words) {
+        Ok(line) => line,
         Err(WordsFault::Memory) => return Err(Refusal::Fault(ToolFault::Memory)),
         Err(WordsFault::BadLine(error)) => return Err(Refusal::BadLine(error)),
     };
@@ -139,8 +151,9 @@ pub fn respond<'a, H: Threads + Wait + Sync, R: Read>(
         Ok(input) => input,
         Err(fault) => return Err(Refusal::Fault(fault)),
     };
-    match answer_of(rt, alloc, request, input.as_slice()) {
+    let bytes = input.as_slice();
+    match answer_of(rt, alloc, line.request, bytes) {
         Ok(text) => Ok(text),
-        Err(fault) => Err(Refusal::Fault(fault)),
+        Err(fault) => Err(refusal_of(alloc, line.explain, fault, bytes)),
     }
 }

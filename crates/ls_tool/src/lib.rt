@@ -2,6 +2,7 @@
 #![tactic(auto)]
 
 mod answer;
+mod explained;
 mod parts;
 mod refusal;
 mod running;
@@ -9,6 +10,6 @@ mod streams;
 
 pub use answer::respond;
 pub use ls_command_line::Request;
-pub use ls_commands::fault::ToolFault;
+pub use ls_faults::fault::ToolFault;
 pub use refusal::Refusal;
 pub use running::{Exit, run};

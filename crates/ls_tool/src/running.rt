@@ -1,13 +1,14 @@
 // The whole run, over any streams.
 
 ghost use Rattle.std.specs.Prelude.{◌≡◌, IfSome, map, string_bytes};
+ghost use Rattle.ls_faults.specs.Faults.{fault_line};
 ghost use Rattle.ls_tool.specs.Output.{Ends, Told};
 
 use crate::answer::respond;
 use crate::refusal::Refusal;
 use crate::streams::write_out;
-use ls_commands::fault::ToolFault;
-use ls_commands::line::fault_line;
+use ls_faults::fault::ToolFault;
+use ls_faults::line::fault_line;
 use std::alloc::{AllocError, Global};
 use std::io::{Read, Write};
 use std::sync::Wait;
@@ -28,14 +29,22 @@ impl Clone for Exit {
     }
 }
 
-/// Writes the fault's line. Where that fails too, the status alone tells of the fault.
-fn tell<E: Write>(err: &mut E, fault: ToolFault) -> Exit
+/// Writes what is told of a fault. Where that fails too, the status alone tells of the fault.
+fn tell<E: Write>(err: &mut E, told: &[u8]) -> Exit
     ensures status { result.status ≡ 1 }
-    ensures told { Told fault result.is_told (E.contents err.old) (E.contents err.new) }
+    ensures told { Told told.now result.is_told (E.contents err.old) (E.contents err.new) }
+{
+    let is_told = write_out(err, told).is_ok();
+    Exit { status: 1, is_told }
+}
+
+/// Writes the fault's line.
+fn tell_line<E: Write>(err: &mut E, fault: ToolFault) -> Exit
+    ensures status { result.status ≡ 1 }
+    ensures told { Told (fault_line fault) result.is_told (E.contents err.old) (E.contents err.new) }
 {
     let line = fault_line(fault);
-    let is_told = write_out(err, line.as_bytes()).is_ok();
-    Exit { status: 1, is_told }
+    tell(err, line.as_bytes())
 }
 
 /// Does what the words ask for, and answers the exit status. Threads are started by `live`, `batch` and `replay --live` alone.
@@ -56,9 +65,10 @@ pub fn run<'a, H: Threads + Wait + Sync, R: Read, W: Write, E: Write>(
                 status: 0,
                 is_told: true,
             },
-            Err(_) => tell(err, ToolFault::WriteFailed),
+            Err(_) => tell_line(err, ToolFault::WriteFailed),
         },
-        Err(Refusal::Fault(fault)) => tell(err, fault),
+        Err(Refusal::Fault(fault)) => tell_line(err, fault),
+        Err(Refusal::Explained(told)) => tell(err, told.as_slice()),
         Err(Refusal::BadLine(error)) => Exit {
             status: 2,
             is_told: write!(err, "{error}").is_ok(),

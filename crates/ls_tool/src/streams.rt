@@ -3,9 +3,9 @@
 ghost use Rattle.std.specs.Prelude.{◌≡◌, ◌⊎◌, IfErr, IfOk, IfSome, OnErr, OnOk};
 ghost use Rattle.std.specs.Io.KnownBytes.{Appends};
 ghost use Rattle.ls_tool.specs.Output.{Begins};
-ghost use Rattle.ls_commands.specs.declared.fault.ToolFault.TheVariants as fault;
+ghost use Rattle.ls_faults.specs.declared.fault.ToolFault.TheVariants as fault;
 
-use ls_commands::fault::ToolFault;
+use ls_faults::fault::ToolFault;
 use std::alloc::Global;
 use std::io::{ErrorKind, Read, Write};
 

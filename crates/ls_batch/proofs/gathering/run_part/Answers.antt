@@ -1,5 +1,4 @@
-use Rattle.std.proofs.Common.{◌≡◌, ℕ, ap, ◌∙◌, subst}
-use Rattle.ls_code.specs.Code.{Code}
+use Rattle.std.proofs.Common.{ℕ, ◌∙◌}
 use Rattle.ls_batch.specs.Samples.{history_of}
 use Rattle.ls_batch.specs.Tallies.{History}
 use Rattle.ls_batch.proofs.Batched.{mapped_more}

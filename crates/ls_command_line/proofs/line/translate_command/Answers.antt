@@ -10,5 +10,5 @@ returns-clause-shape c =
       to.0,
       to.1,
       h.shape c.cells_option.ensures.local ∙ ap₂ with_rule (c.in_ok-arg.ensures.shape c.side_option.ensures.local
-          ∙ ap₂ with_rule c.plain_command.ensures.shape to.2) c.cells_option.ensures.rule,
+          ∙ ap₂ with_rule c.in_ok-plain_command.ensures.shape to.2) c.cells_option.ensures.rule,
     )) c.arg-2.ensures

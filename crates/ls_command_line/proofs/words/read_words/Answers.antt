@@ -6,7 +6,7 @@ use Rattle.clap.specs.declared.error.Error.{Error}
 use Rattle.clap.specs.declared.error.kind.ErrorKind.TheVariants.{OutOfMemory}
 use Rattle.clap.proofs.OnLiterals.{clap_on_literals}
 use Rattle.ls_command_line.specs.Words.{asked_by, if_empty, line}
-use Rattle.ls_command_line.specs.declared.words.Request.{Request}
+use Rattle.ls_command_line.specs.declared.words.CommandLine.{CommandLine}
 use Rattle.ls_command_line.proofs.words.read_words.Goals as goal
 
 is_read : (p : ValueParser) → is_simple (line p) ≡ true
@@ -18,7 +18,7 @@ unfolding clap_on_literals
 is_free p = refl
 
 -- an error that isn't want of memory comes only where some kind does
-no_request : (kinds : Kinds) (e : Error) (q : Request) → HasKind kinds e → (kind_of e ≡ OutOfMemory → ⊥) → if_empty kinds q ≡ None
+no_request : (kinds : Kinds) (e : Error) (q : CommandLine) → HasKind kinds e → (kind_of e ≡ OutOfMemory → ⊥) → if_empty kinds q ≡ None
 no_request [] e q (inl m) other = absurd (other m)
 no_request [] e q (inr x) other = absurd x
 no_request (k ∷ ks) e q h other = refl

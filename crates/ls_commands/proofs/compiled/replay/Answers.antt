@@ -4,7 +4,7 @@ use Rattle.std.specs.Prelude.{Result}
 use Rattle.ls_compiler.specs.declared.image.Image.{Image}
 use Rattle.ls_report.specs.Events.{Text}
 use Rattle.ls_schedule.specs.Reading.{schedule_of}
-use Rattle.ls_commands.specs.declared.fault.ToolFault.{ToolFault}
+use Rattle.ls_faults.specs.declared.fault.ToolFault.{ToolFault}
 use Rattle.ls_commands.specs.Compiled.{names_of_image, Replayed}
 use Rattle.ls_commands.proofs.Answering.{not_compiled, on_image}
 use Rattle.ls_commands.proofs.compiled.replay.Goals as goal

@@ -5,7 +5,7 @@ use Rattle.ls_compiler.specs.declared.image.Image.{Image}
 use Rattle.ls_report.specs.Events.{Text}
 use Rattle.ls_schedule.specs.Reading.{schedule_of}
 use Rattle.ls_commands.specs.Compiled.{names_of_image}
-use Rattle.ls_commands.specs.declared.fault.ToolFault.{ToolFault}
+use Rattle.ls_faults.specs.declared.fault.ToolFault.{ToolFault}
 use Rattle.ls_commands.specs.Lived.{ReplayedLive}
 use Rattle.ls_commands.proofs.Answering.{not_compiled, on_image}
 use Rattle.ls_commands.proofs.living.replay_live.Goals as goal

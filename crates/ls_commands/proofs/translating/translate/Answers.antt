@@ -6,7 +6,7 @@ use Rattle.ls_report.specs.Events.{Text}
 use Rattle.ls_schedule.specs.Reading.{schedule_of}
 use Rattle.ls_commands.specs.Compiled.{names_of_image}
 use Rattle.ls_command_line.specs.declared.words.Side.{Side}
-use Rattle.ls_commands.specs.declared.fault.ToolFault.{ToolFault}
+use Rattle.ls_faults.specs.declared.fault.ToolFault.{ToolFault}
 use Rattle.ls_commands.specs.Translated.{Translated}
 use Rattle.ls_commands.proofs.Answering.{not_compiled, on_image}
 use Rattle.ls_commands.proofs.translating.translate.Goals as goal

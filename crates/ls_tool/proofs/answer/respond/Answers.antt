@@ -11,11 +11,11 @@ returns-in-Err-BadLine g c =
 pub returns-in-Ok-answer_of : goal.returns-in-Ok-answer_of
 returns-in-Ok-answer_of g c =
     if_known (g.R.Read.remaining c.args.reader.now) _ _
-    (λ input h. decide_ok (map string_bytes c.args.words.now) input c.as_slice.result.now c.in-Ok.request c.in-Ok-answer_of.text c.in-Ok.ensures (c.as_slice.ensures.value ∙ h) c.in-Ok-answer_of.ensures)
+    (λ input h. decide_ok (map string_bytes c.args.words.now) input c.as_slice-bytes.result.now c.in-Ok.line c.in-Ok-answer_of.text c.in-Ok.ensures (c.as_slice-bytes.ensures.value ∙ h) c.in-Ok-answer_of.ensures)
     c.in-Ok-read_whole.ensures.ok
 
 pub returns : goal.returns
 returns g c =
     if_known (g.R.Read.remaining c.args.reader.now) _ _
-    (λ input h. decide_err (map string_bytes c.args.words.now) input c.as_slice.result.now c.in-Ok.request c.in-Err-answer_of.fault c.in-Ok.ensures (c.as_slice.ensures.value ∙ h) c.in-Err-answer_of.ensures)
+    (λ input h. decide_err (map string_bytes c.args.words.now) input c.as_slice-bytes.result.now c.in-Ok.line c.in-Err-answer_of.fault c.refusal_of.result c.in-Ok.ensures (c.as_slice-bytes.ensures.value ∙ h) c.in-Err-answer_of.ensures c.refusal_of.ensures)
     c.in-Ok-read_whole.ensures.ok

@@ -1,8 +1,8 @@
 use Rattle.std.proofs.Common.{map, subst, refl, true}
 use Rattle.std.specs.Prelude.{string_bytes}
 use Rattle.std.specs.Io.KnownBytes.{Appends}
-use Rattle.ls_tool.specs.Output.{Begins}
-use Rattle.ls_tool.proofs.Ending.{bad_line, cut_short, done, if_known, tells}
+use Rattle.ls_tool.specs.Output.{Begins, Told}
+use Rattle.ls_tool.proofs.Ending.{bad_line, cut_short, done, explains, if_known, tells}
 use Rattle.ls_tool.proofs.running.run.Goals as goal
 
 pub returns-in-Ok-write_out : goal.returns-in-Ok-write_out
@@ -12,14 +12,20 @@ returns-in-Ok-write_out g c =
 
 pub returns-in-Ok : goal.returns-in-Ok
 returns-in-Ok g c =
-    if_known (g.R.Read.remaining c.args.reader.now) _ _ (λ input d. cut_short (map string_bytes c.args.words.now) input c.in-Ok.text _ _ _ _ _ c.tell.ensures.status
-    (subst (λ z. Begins (g.W.Write.contents c.args.out.now) (g.W.Write.contents c.write_out.new.writer) z) c.as_bytes.ensures.value c.in-Err.ensures.err) c.tell.ensures.told d) c.in-Ok.ensures
+    if_known (g.R.Read.remaining c.args.reader.now) _ _ (λ input d. cut_short (map string_bytes c.args.words.now) input c.in-Ok.text _ _ _ _ _ c.tell_line.ensures.status
+    (subst (λ z. Begins (g.W.Write.contents c.args.out.now) (g.W.Write.contents c.write_out.new.writer) z) c.as_bytes.ensures.value c.in-Err.ensures.err) c.tell_line.ensures.told d) c.in-Ok.ensures
 
 pub returns-in-Err-Fault : goal.returns-in-Err-Fault
 returns-in-Err-Fault g c =
     if_known (g.R.Read.remaining c.args.reader.now) _ _ (λ input d. tells (map string_bytes c.args.words.now) input c.in-Err-Fault.fault _ _ _ _
-    c.tell-in-Err-Fault.ensures.status c.tell-in-Err-Fault.ensures.told d) (rw c.in-Err-Fault.field-0-is at c.in-Err-Fault.ensures)
+    c.tell_line-in-Err-Fault.ensures.status c.tell_line-in-Err-Fault.ensures.told d) (rw c.in-Err-Fault.field-0-is at c.in-Err-Fault.ensures)
 
 pub returns : goal.returns
 returns g c =
     if_known (g.R.Read.remaining c.args.reader.now) _ _ (λ input d. bad_line (map string_bytes c.args.words.now) input c.in-Err-BadLine.error _ _ _ _ refl d) (rw c.in-Err-BadLine.field-0-is at c.in-Err-BadLine.ensures)
+
+pub returns-in-Err-Explained : goal.returns-in-Err-Explained
+returns-in-Err-Explained g c =
+    if_known (g.R.Read.remaining c.args.reader.now) _ _ (λ input d. explains (map string_bytes c.args.words.now) input c.in-Err-Explained.told.items _ _ _ _ c.tell.ensures.status
+    (subst (λ z. Told z c.tell.result.is_told (g.E.Write.contents c.args.err.now) (g.E.Write.contents c.tell.new.err)) c.as_slice.ensures.value c.tell.ensures.told) d)
+    (rw c.in-Err-Explained.field-0-is at c.in-Err-Explained.ensures)

@@ -1,0 +1,69 @@
+-- What the commands `source`, `trace` and `state` say.
+use Rattle.std.specs.Prelude.{◌≡◌, ℕ, List, map, Some, None, Result, Ok, Err}
+use Rattle.ls_lexer.specs.declared.fault.TextFault.{TextFault}
+use Rattle.ls_tree.specs.Trees.{File as ParsedFile}
+use Rattle.ls_tree.specs.FileView.{bare_file}
+use Rattle.ls_spelling.specs.Spells.{TextSpells}
+use Rattle.ls_parser.specs.Comes.{Comes}
+use Rattle.ls_terms.specs.Answers.{Refuses}
+use Rattle.ls_tree.specs.declared.tree.ClassFile.{ClassFile}
+use Rattle.ls_checked.specs.CheckedProgram.{Program}
+use Rattle.ls_elaboration.specs.Elaboration.{Outcome, elaborated}
+use Rattle.ls_elaboration.specs.PlacedStatements.{placed_file}
+use Rattle.ls_types.specs.CheckedFile as checked_file
+use Rattle.ls_programs.specs.Programs.{IsTextOf}
+use Rattle.ls_types.specs.ProgramRefusals.{IsNoProgram}
+use Rattle.ls_types.specs.declared.check.CheckFault.{CheckFault}
+use Rattle.ls_types.specs.declared.fault.ProgramFault.{ProgramFault}
+use Rattle.ls_meaning.specs.Runs.{source_history}
+use Rattle.ls_schedule.specs.Reading.{schedule_of}
+use Rattle.ls_schedule.specs.declared.fault.ScheduleFault.{ScheduleFault}
+use Rattle.ls_report.specs.Events.{Text}
+use Rattle.ls_report.specs.Printing.{run_text}
+use Rattle.ls_labels.specs.Names.{Names}
+use Rattle.ls_trace.specs.Lines.{trace_text}
+use Rattle.ls_state.specs.State.{state_text}
+use Rattle.ls_drawing.specs.Drawing.{drawing_text}
+use Rattle.ls_faults.specs.Faults.{lifted_text, lifted_check, lifted_program, lifted_schedule}
+use Rattle.ls_faults.specs.declared.fault.ToolFault.{ToolFault}
+use Rattle.ls_commands.specs.declared.viewing.View.{View}
+use Rattle.ls_commands.specs.declared.viewing.View.TheVariants as views
+
+abbrev pub names_in : Outcome → Program → Names
+names_in o p = record { classes = o.names; signs = o.signs; file = o.file; program = p }
+
+-- what is shown of the source run of a schedule
+abbrev pub shown : View → Names → List ℕ → Text
+shown views.History names steps = run_text names.program (source_history names.file names.program steps)
+shown (views.Trace from to) names steps = trace_text names steps from to
+shown views.State names steps = state_text names steps
+shown views.Drawing names steps = drawing_text names steps
+
+-- the same of what a schedule's text is, or the schedule's fault
+abbrev pub viewed_by : View → Names → Result (List ℕ) ScheduleFault → Result Text ToolFault
+viewed_by view names (Ok steps) = Ok (shown view names steps)
+viewed_by view names (Err f) = Err (lifted_schedule f)
+
+abbrev pub thread_names_of : Program → List Text
+thread_names_of p = map (λ t. t.name) p.threads
+
+abbrev pub viewed : View → Names → Text → Result Text ToolFault
+viewed view names schedule = viewed_by view names (schedule_of (thread_names_of names.program) schedule)
+
+-- the program part is a program of the file, and the answer that of its run; or it is none
+pub data RunsTo (view : View) (o : Outcome) (program schedule : Text) : Result Text ToolFault → Type 0 where
+  Ran : (p : Program) → IsTextOf o p program → RunsTo view o program schedule (viewed view (names_in o p) schedule)
+  NoProgram : (f : ProgramFault) → IsNoProgram o program f → RunsTo view o program schedule (Err (lifted_program f))
+
+-- The class part spells a file that keeps every rule, and the answer is that of its program and schedule; or it spells
+-- one that breaks the rule that is named; or it spells none, and the fault is one that may come of it.
+pub data ViewsTo (view : View) (classes program schedule : Text) : Result Text ToolFault → Type 0 where
+  Checks : (parsed : ClassFile) (o : Outcome) (answer : Result Text ToolFault) →
+      TextSpells (bare_file parsed) classes → elaborated (placed_file parsed) ≡ Ok o → RunsTo view o program schedule answer →
+      ViewsTo view classes program schedule answer
+  Breaks : (parsed : ClassFile) (f : CheckFault) →
+      TextSpells (bare_file parsed) classes → checked_file.Names f (elaborated (placed_file parsed)) →
+      ViewsTo view classes program schedule (Err (lifted_check f))
+  NoFile : (f : TextFault) →
+      Refuses f ((file : ParsedFile) → TextSpells file classes → ⊥) → Comes classes f →
+      ViewsTo view classes program schedule (Err (lifted_text f))

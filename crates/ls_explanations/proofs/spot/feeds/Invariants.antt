@@ -1,0 +1,7 @@
+use Rattle.std.proofs.Common.{◌≡◌, ◌≤◌, take}
+use Rattle.std.specs.List.{count_by}
+use Rattle.ls_explanations.specs.Spots.{is_feed}
+use Rattle.ls_explanations.proofs.spot.feeds.Given as goal
+
+abbrev pub invariant-loop-byte : goal.invariant-loop-byte
+invariant-loop-byte l = (l.count ≡ count_by is_feed (take l.byte-index l.bytes)) × (l.count ≤ l.byte-index)

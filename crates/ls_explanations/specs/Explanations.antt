@@ -1,0 +1,74 @@
+-- What is said behind the line of a fault.
+use Rattle.std.specs.Prelude.{ℕ, ◌+◌, ◌-◌, ◌==◌, ◌&&◌, max, Bool, true, false, List, [], ◌∷◌, ◌++◌, take, Option, Some, None, replicate, slice_get, codes, if◌then◌else◌}
+use Rattle.std.specs.Fmt.{decimal}
+use Rattle.std.specs.List.{flat_map, list_any}
+use Rattle.std.specs.Option.{option_map_or}
+use Rattle.ls_lexer.specs.declared.token.Span.{Span}
+use Rattle.ls_faults.specs.declared.fault.ToolFault.{ToolFault}
+use Rattle.ls_faults.specs.declared.fault.ToolFault.TheVariants as faults
+use Rattle.ls_explanations.specs.declared.place.Part.{Part}
+use Rattle.ls_explanations.specs.declared.place.Part.TheVariants as parts
+use Rattle.ls_explanations.specs.declared.place.Place.{Place}
+use Rattle.ls_explanations.specs.Places.{place_of}
+use Rattle.ls_explanations.specs.Spots.{Bytes, before, begins_character, characters, from_on, line_number}
+
+abbrev pub part_name : Part → Bytes
+part_name parts.Classes = codes "class text"
+part_name parts.Program = codes "program"
+part_name parts.Schedule = codes "schedule"
+part_name parts.History = codes "history"
+part_name parts.Order = codes "order"
+
+-- which part of an input it is, from 0
+abbrev pub part_number : Part → ℕ
+part_number parts.Classes = 0
+part_number parts.Program = 1
+part_number parts.Schedule = 2
+part_number parts.History = 0
+part_number parts.Order = 1
+
+-- a space below each character, a tab below a tab
+abbrev pub space_below : ℕ → Bytes
+space_below byte = if begins_character byte then (if byte == 9 then 9 else 32) ∷ [] else []
+
+-- a mark below each character of the place that stands in its line, and at least one
+abbrev pub marks : Bytes → Span → Bytes
+marks text span = replicate (max 1 (characters (take (span.end - span.start) (from_on text span.start)))) 94
+
+-- `program, line 2, column 8:`
+abbrev pub heading : Part → Bytes → ℕ → Bytes
+heading part text at =
+    part_name part ++ (codes ", line " ++ (decimal (line_number text at)
+    ++ (codes ", column " ++ (decimal (1 + characters (before text at)) ++ codes ":\n"))))
+
+-- the line of the place, and under it a mark
+abbrev pub shown : Bytes → Span → Bytes
+shown text span =
+    before text span.start ++ (from_on text span.start ++ (10 ∷ (flat_map space_below (before text span.start) ++ (marks text span ++ 10 ∷ []))))
+
+abbrev pub explanation : Place → Bytes → Bytes
+explanation place text = heading place.part text place.span.start ++ shown text place.span
+
+abbrev pub in_part : List Bytes → Place → Bytes
+in_part texts place = option_map_or (explanation place) (slice_get texts (part_number place.part)) []
+
+-- a carriage return is white space in class texts and programs, and a part of a line elsewhere
+abbrev pub minds_returns : ToolFault → Bool
+minds_returns faults.WrongParts = true
+minds_returns (faults.Schedule f) = true
+minds_returns (faults.History f) = true
+minds_returns (faults.Order f) = true
+minds_returns _ = false
+
+abbrev pub has_return : Bytes → Bool
+has_return text = list_any (λ b. b == 13) text
+
+abbrev pub return_hint : Bytes
+return_hint = codes "lines end with a line feed alone here, and the input has carriage returns\n"
+
+abbrev pub hint : ToolFault → List Bytes → Bytes
+hint f texts = if minds_returns f && list_any has_return texts then return_hint else []
+
+-- What is said of a fault of these parts. A fault without a place has no explanation.
+abbrev pub note : ToolFault → List Bytes → Bytes
+note f texts = option_map_or (in_part texts) (place_of f) [] ++ hint f texts

@@ -1,0 +1,82 @@
+-- Where a fault stands.
+use Rattle.std.specs.Prelude.{ℕ, Option, Some, None}
+use Rattle.ls_lexer.specs.declared.token.Span.{Span}
+use Rattle.ls_lexer.specs.declared.fault.TextFault.{TextFault}
+use Rattle.ls_lexer.specs.declared.fault.TextFault.TheVariants as text
+use Rattle.ls_types.specs.declared.check.CheckFault.{CheckFault}
+use Rattle.ls_types.specs.declared.check.CheckFault.TheVariants as rule
+use Rattle.ls_types.specs.declared.fault.ProgramFault.{ProgramFault}
+use Rattle.ls_types.specs.declared.fault.ProgramFault.TheVariants as program
+use Rattle.ls_schedule.specs.declared.fault.ScheduleFault.{ScheduleFault}
+use Rattle.ls_schedule.specs.declared.fault.ScheduleFault.TheVariants as schedule
+use Rattle.ls_report.specs.declared.fault.HistoryFault.{HistoryFault}
+use Rattle.ls_report.specs.declared.fault.HistoryFault.TheVariants as history
+use Rattle.ls_orders.specs.declared.fault.OrderFault.{OrderFault}
+use Rattle.ls_orders.specs.declared.fault.OrderFault.TheVariants as order
+use Rattle.ls_faults.specs.declared.fault.ToolFault.{ToolFault}
+use Rattle.ls_faults.specs.declared.fault.ToolFault.TheVariants as faults
+use Rattle.ls_explanations.specs.declared.place.Part.{Part}
+use Rattle.ls_explanations.specs.declared.place.Part.TheVariants as parts
+use Rattle.ls_explanations.specs.declared.place.Place.{Place}
+
+-- a place with its end
+abbrev pub at_span : Part → Span → Option Place
+at_span part span = Some (record { part = part; span = span })
+
+-- the place of one byte
+abbrev pub at_byte : Part → ℕ → Option Place
+at_byte part at = at_span part (record { start = at; end = at })
+
+abbrev pub text_place : TextFault → Option Place
+text_place text.Memory = None
+text_place text.TooLong = None
+text_place (text.BadByte at) = at_byte parts.Classes at
+text_place (text.OpenComment at) = at_byte parts.Classes at
+text_place (text.BadNumber at) = at_byte parts.Classes at
+text_place (text.Syntax at) = at_byte parts.Classes at
+text_place (text.TooDeep at) = at_byte parts.Classes at
+
+abbrev pub check_place : CheckFault → Option Place
+check_place rule.Memory = None
+check_place (rule.UnknownName span) = at_span parts.Classes span
+check_place (rule.TwiceDeclared span) = at_span parts.Classes span
+check_place (rule.UnknownType span) = at_span parts.Classes span
+check_place (rule.WrongType span) = at_span parts.Classes span
+check_place (rule.WrongArguments span) = at_span parts.Classes span
+check_place (rule.NotAssignable span) = at_span parts.Classes span
+check_place (rule.NoLoop span) = at_span parts.Classes span
+check_place (rule.UnknownLabel span) = at_span parts.Classes span
+check_place (rule.MissingReturn span) = at_span parts.Classes span
+check_place (rule.ReservedClass span) = at_span parts.Classes span
+check_place (rule.Limit span) = at_span parts.Classes span
+
+abbrev pub program_place : ProgramFault → Option Place
+program_place program.Memory = None
+program_place (program.BadProgram at) = at_byte parts.Program at
+program_place (program.UnknownThing at) = at_byte parts.Program at
+program_place (program.ReferenceResult at) = at_byte parts.Program at
+program_place program.ProgramLimit = None
+
+abbrev pub schedule_place : ScheduleFault → Option Place
+schedule_place schedule.Memory = None
+schedule_place (schedule.BadItem at) = at_byte parts.Schedule at
+schedule_place (schedule.UnknownThread at) = at_byte parts.Schedule at
+schedule_place schedule.TooManySteps = None
+
+abbrev pub history_place : HistoryFault → Option Place
+history_place history.Memory = None
+history_place (history.BadHistory at) = at_byte parts.History at
+
+abbrev pub order_place : OrderFault → Option Place
+order_place order.Memory = None
+order_place (order.BadOrder at) = at_byte parts.Order at
+
+-- limits of whole texts, and faults of a run and of the streams, stand at no place
+abbrev pub place_of : ToolFault → Option Place
+place_of (faults.Text f) = text_place f
+place_of (faults.Check f) = check_place f
+place_of (faults.Program f) = program_place f
+place_of (faults.Schedule f) = schedule_place f
+place_of (faults.History f) = history_place f
+place_of (faults.Order f) = order_place f
+place_of _ = None

@@ -1,0 +1,142 @@
+// What is said behind the line of a fault.
+
+ghost use Rattle.std.specs.Prelude.{◌≡◌, ◌++◌, IfOk, OnOk, map, replicate, string_bytes};
+ghost use Rattle.std.specs.List.{flat_map, list_any};
+ghost use Rattle.ls_explanations.specs.Explanations.{explanation, has_return, heading, hint, in_part, marks, minds_returns, note, shown, space_below};
+
+use crate::place::{Part, Place, place_of};
+use crate::spot::{Spot, begins_character, characters, spot_of};
+use ls_faults::fault::ToolFault;
+use ls_lexer::token::Span;
+use std::alloc::{AllocError, Global};
+use std::fmt::Write;
+
+/// What is said where a carriage return isn't white space.
+const RETURN_HINT: &str =
+    "lines end with a line feed alone here, and the input has carriage returns\n";
+
+/// The part, and the line and column of a byte.
+fn push_heading(
+    alloc: Global,
+    out: &mut Vec<u8>,
+    part: Part,
+    text: &[u8],
+    at: usize,
+) -> Result<(), AllocError>
+    ensures { OnOk result (out.new.items ≡ out.old.items ++ heading part text.now at) }
+{
+    let spot = spot_of(text, at);
+    let name = part.name();
+    let line = spot.line;
+    let column = 1 + characters(spot.before);
+    let mut heading = String::new(alloc);
+    write!(heading, "{name}, line {line}, column {column}:\n")?;
+    out.extend_from_slice(heading.as_bytes())
+}
+
+fn push_spaces(out: &mut Vec<u8>, before: &[u8]) -> Result<(), AllocError>
+    ensures { OnOk result (out.new.items ≡ out.old.items ++ flat_map space_below before.now) }
+{
+    for byte in before {
+        if begins_character(*byte) {
+            out.push(if *byte == b'\t' { b'\t' } else { b' ' })?;
+        }
+    }
+    Ok(())
+}
+
+fn push_marks(out: &mut Vec<u8>, count: usize) -> Result<(), AllocError>
+    ensures { OnOk result (out.new.items ≡ out.old.items ++ replicate count 94) }
+{
+    for _ in 0..count {
+        out.push(b'^')?;
+    }
+    Ok(())
+}
+
+/// The line of a place, and a mark under it.
+fn push_shown(out: &mut Vec<u8>, text: &[u8], span: Span) -> Result<(), AllocError>
+    ensures { OnOk result (out.new.items ≡ out.old.items ++ shown text.now span) }
+{
+    let Spot {
+        line: _,
+        before,
+        from_on,
+    } = spot_of(text, span.start);
+    out.extend_from_slice(before)?;
+    out.extend_from_slice(from_on)?;
+    out.push(b'\n')?;
+    push_spaces(out, before)?;
+    let length = span.end.saturating_sub(span.start).min(from_on.len());
+    push_marks(out, characters(&from_on[..length]).max(1))?;
+    out.push(b'\n')?;
+    Ok(())
+}
+
+fn push_explanation(
+    alloc: Global,
+    out: &mut Vec<u8>,
+    place: Place,
+    text: &[u8],
+) -> Result<(), AllocError>
+    ensures { OnOk result (out.new.items ≡ out.old.items ++ explanation place text.now) }
+{
+    push_heading(alloc, out, place.part, text, place.span.start)?;
+    push_shown(out, text, place.span)
+}
+
+fn push_in_part(
+    alloc: Global,
+    out: &mut Vec<u8>,
+    texts: &[String],
+    place: Place,
+) -> Result<(), AllocError>
+    ensures { OnOk result (out.new.items ≡ out.old.items ++ in_part (map string_bytes texts.now) place) }
+{
+    match texts.get(place.part.number()) {
+        Some(text) => push_explanation(alloc, out, place, text.as_bytes()),
+        None => Ok(()),
+    }
+}
+
+fn minds_returns(fault: ToolFault) -> bool
+    ensures { result ≡ minds_returns fault }
+{
+    matches!(
+        fault,
+        ToolFault::WrongParts | ToolFault::Schedule(_) | ToolFault::History(_) | ToolFault::Order(_)
+    )
+}
+
+fn have_returns(texts: &[String]) -> bool
+    ensures { result ≡ list_any has_return (map string_bytes texts.now) }
+{
+    for text in texts {
+        if text.as_bytes().contains(&b'\r') {
+            return true;
+        }
+    }
+    false
+}
+
+fn push_hint(out: &mut Vec<u8>, fault: ToolFault, texts: &[String]) -> Result<(), AllocError>
+    ensures { OnOk result (out.new.items ≡ out.old.items ++ hint fault (map string_bytes texts.now)) }
+{
+    if minds_returns(fault) && have_returns(texts) {
+        out.extend_from_slice(RETURN_HINT.as_bytes())?;
+    }
+    Ok(())
+}
+
+/// What is said of a fault behind its line, as bytes to write: where its place is, and the line of that place with marks under it.
+/// A fault without a place has no more than a hint, if that.
+pub fn explain(alloc: Global, fault: ToolFault, texts: &[String]) -> Result<Vec<u8>, AllocError>
+    ensures { IfOk result (λ bytes. bytes.items ≡ note fault (map string_bytes texts.now)) }
+{
+    let mut out = Vec::new(alloc);
+    if let Some(place) = place_of(fault) {
+        push_in_part(alloc, &mut out, texts, place)?;
+    }
+    push_hint(&mut out, fault, texts)?;
+    Ok(out)
+}

@@ -1,0 +1,176 @@
+// Where a fault stands.
+
+ghost use Rattle.std.specs.Prelude.{◌≡◌};
+ghost use Rattle.ls_explanations.specs.declared.place.Part.TheVariants as parts;
+ghost use Rattle.ls_explanations.specs.Places.{at_byte as byte_place, at_span as span_place, check_place, history_place, order_place, place_of, program_place, schedule_place, text_place};
+ghost use Rattle.ls_explanations.specs.Explanations.{part_name, part_number};
+
+use ls_faults::fault::ToolFault;
+use ls_lexer::fault::TextFault;
+use ls_lexer::token::Span;
+use ls_orders::OrderFault;
+use ls_report::HistoryFault;
+use ls_schedule::fault::ScheduleFault;
+use ls_types::check::CheckFault;
+use ls_types::fault::ProgramFault;
+use std::alloc::AllocError;
+
+/// A part of an input, by what it holds.
+#[derive(Copy)]
+pub enum Part {
+    Classes,
+    Program,
+    Schedule,
+    History,
+    Order,
+}
+
+impl Clone for Part {
+    fn clone(&self) -> Result<Part, AllocError> {
+        Ok(*self)
+    }
+}
+
+impl Part {
+    /// Which part of the input it is, from 0.
+    pub fn number(self) -> usize
+        ensures { result ≡ part_number self }
+    {
+        match self {
+            Part::Classes | Part::History => 0,
+            Part::Program | Part::Order => 1,
+            Part::Schedule => 2,
+        }
+    }
+
+    /// What it is called.
+    pub fn name(self) -> &'static str
+        ensures { result.now ≡ part_name self }
+    {
+        match self {
+            Part::Classes => "class text",
+            Part::Program => "program",
+            Part::Schedule => "schedule",
+            Part::History => "history",
+            Part::Order => "order",
+        }
+    }
+}
+
+/// A place in a part, from byte to byte.
+#[derive(Copy)]
+pub struct Place {
+    pub part: Part,
+    pub span: Span,
+}
+
+impl Clone for Place {
+    fn clone(&self) -> Result<Place, AllocError> {
+        Ok(*self)
+    }
+}
+
+/// The place of one byte.
+fn at_byte(part: Part, at: usize) -> Option<Place>
+    ensures { result ≡ byte_place part at }
+{
+    let span = Span { start: at, end: at };
+    Some(Place { part, span })
+}
+
+fn at_span(span: Span) -> Option<Place>
+    ensures { result ≡ span_place parts.Classes span }
+{
+    Some(Place {
+        part: Part::Classes,
+        span,
+    })
+}
+
+fn text_place(fault: TextFault) -> Option<Place>
+    ensures { result ≡ text_place fault }
+{
+    match fault {
+        TextFault::Memory | TextFault::TooLong => None,
+        TextFault::BadByte { at }
+        | TextFault::OpenComment { at }
+        | TextFault::BadNumber { at }
+        | TextFault::Syntax { at }
+        | TextFault::TooDeep { at } => at_byte(Part::Classes, at),
+    }
+}
+
+fn check_place(fault: CheckFault) -> Option<Place>
+    ensures { result ≡ check_place fault }
+{
+    match fault {
+        CheckFault::Memory => None,
+        CheckFault::UnknownName(span)
+        | CheckFault::TwiceDeclared(span)
+        | CheckFault::UnknownType(span)
+        | CheckFault::WrongType(span)
+        | CheckFault::WrongArguments(span)
+        | CheckFault::NotAssignable(span)
+        | CheckFault::NoLoop(span)
+        | CheckFault::UnknownLabel(span)
+        | CheckFault::MissingReturn(span)
+        | CheckFault::ReservedClass(span)
+        | CheckFault::Limit(span) => at_span(span),
+    }
+}
+
+fn program_place(fault: ProgramFault) -> Option<Place>
+    ensures { result ≡ program_place fault }
+{
+    match fault {
+        ProgramFault::Memory | ProgramFault::ProgramLimit => None,
+        ProgramFault::BadProgram { at }
+        | ProgramFault::UnknownThing { at }
+        | ProgramFault::ReferenceResult { at } => at_byte(Part::Program, at),
+    }
+}
+
+fn schedule_place(fault: ScheduleFault) -> Option<Place>
+    ensures { result ≡ schedule_place fault }
+{
+    match fault {
+        ScheduleFault::Memory | ScheduleFault::TooManySteps => None,
+        ScheduleFault::BadItem { at } | ScheduleFault::UnknownThread { at } => {
+            at_byte(Part::Schedule, at)
+        }
+    }
+}
+
+fn history_place(fault: HistoryFault) -> Option<Place>
+    ensures { result ≡ history_place fault }
+{
+    match fault {
+        HistoryFault::Memory => None,
+        HistoryFault::BadHistory { at } => at_byte(Part::History, at),
+    }
+}
+
+fn order_place(fault: OrderFault) -> Option<Place>
+    ensures { result ≡ order_place fault }
+{
+    match fault {
+        OrderFault::Memory => None,
+        OrderFault::BadOrder { at } => at_byte(Part::Order, at),
+    }
+}
+
+/// Where the fault stands in its part. Those of programs, schedules, histories and orders stand at one byte; limits of whole
+/// texts, faults of a run and of the streams stand at no place.
+pub fn place_of(fault: ToolFault) -> Option<Place>
+    ensures { result ≡ place_of fault }
+{
+    match fault {
+        ToolFault::Text(fault) => text_place(fault),
+        ToolFault::Check(fault) => check_place(fault),
+        ToolFault::Program(fault) => program_place(fault),
+        ToolFault::Schedule(fault) => schedule_place(fault),
+        ToolFault::History(fault) => history_place(fault),
+        ToolFault::Order(fault) => order_place(fault),
+        _ => None,
+    }
+}

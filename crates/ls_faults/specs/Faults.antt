@@ -1,0 +1,211 @@
+-- The lines of faults.
+use Rattle.std.specs.Prelude.{ℕ, List, [], ◌∷◌, ◌++◌, codes}
+use Rattle.std.specs.Fmt.{decimal}
+use Rattle.ls_report.specs.declared.fault.HistoryFault.{HistoryFault}
+use Rattle.ls_report.specs.declared.fault.HistoryFault.TheVariants as history
+use Rattle.ls_orders.specs.declared.fault.OrderFault.{OrderFault}
+use Rattle.ls_orders.specs.declared.fault.OrderFault.TheVariants as order
+use Rattle.ls_lexer.specs.declared.token.Span.{Span}
+use Rattle.ls_lexer.specs.declared.fault.TextFault.{TextFault}
+use Rattle.ls_lexer.specs.declared.fault.TextFault.TheVariants as text
+use Rattle.ls_types.specs.declared.check.CheckFault.{CheckFault}
+use Rattle.ls_types.specs.declared.check.CheckFault.TheVariants as rule
+use Rattle.ls_types.specs.declared.fault.ProgramFault.{ProgramFault}
+use Rattle.ls_types.specs.declared.fault.ProgramFault.TheVariants as program
+use Rattle.ls_lowered.specs.declared.fault.LowerFault.TheVariants as lower
+use Rattle.ls_emit.specs.declared.fault.EmitFault.TheVariants as emit
+use Rattle.ls_linker.specs.declared.fault.LinkFault.TheVariants as link
+use Rattle.ls_linker.specs.declared.fault.BuildFault.{BuildFault}
+use Rattle.ls_linker.specs.declared.fault.BuildFault.TheVariants as build
+use Rattle.ls_compiler.specs.declared.fault.CompileFault.{CompileFault}
+use Rattle.ls_compiler.specs.declared.fault.CompileFault.TheVariants as stage
+use Rattle.ls_machine.specs.declared.fault.LoadFault.{LoadFault}
+use Rattle.ls_machine.specs.declared.fault.LoadFault.TheVariants as load
+use Rattle.ls_schedule.specs.declared.fault.ScheduleFault.{ScheduleFault}
+use Rattle.ls_schedule.specs.declared.fault.ScheduleFault.TheVariants as schedule
+use Rattle.ls_translation.specs.declared.fault.TranslationFault.{TranslationFault}
+use Rattle.ls_translation.specs.declared.fault.TranslationFault.TheVariants as translation
+use Rattle.ls_live.specs.declared.fault.LiveFault.TheVariants as opening
+use Rattle.ls_live.specs.declared.fault.PlayFault.{PlayFault as LiveFault}
+use Rattle.ls_live.specs.declared.fault.PlayFault.TheVariants as live
+use Rattle.ls_turnstile.specs.declared.fault.FollowFault.TheVariants as follow
+use Rattle.ls_turnstile.specs.declared.fault.PlayFault.{PlayFault as TurnsFault}
+use Rattle.ls_turnstile.specs.declared.fault.PlayFault.TheVariants as turns
+use Rattle.ls_batch.specs.declared.fault.BatchFault.{BatchFault}
+use Rattle.ls_batch.specs.declared.fault.BatchFault.TheVariants as batch
+use Rattle.ls_faults.specs.declared.fault.ToolFault.{ToolFault}
+use Rattle.ls_faults.specs.declared.fault.ToolFault.TheVariants as faults
+
+-- faults of the layers, here
+abbrev pub lifted_history : HistoryFault → ToolFault
+lifted_history history.Memory = faults.Memory
+lifted_history f = faults.History f
+
+abbrev pub lifted_order : OrderFault → ToolFault
+lifted_order order.Memory = faults.Memory
+lifted_order f = faults.Order f
+
+abbrev pub lifted_text : TextFault → ToolFault
+lifted_text text.Memory = faults.Memory
+lifted_text f = faults.Text f
+
+abbrev pub lifted_check : CheckFault → ToolFault
+lifted_check rule.Memory = faults.Memory
+lifted_check f = faults.Check f
+
+abbrev pub lifted_program : ProgramFault → ToolFault
+lifted_program program.Memory = faults.Memory
+lifted_program f = faults.Program f
+
+abbrev pub lifted_schedule : ScheduleFault → ToolFault
+lifted_schedule schedule.Memory = faults.Memory
+lifted_schedule f = faults.Schedule f
+
+abbrev pub lifted_build : BuildFault → ToolFault
+lifted_build (build.Lower lower.Memory) = faults.Memory
+lifted_build (build.Emit emit.Memory) = faults.Memory
+lifted_build (build.Link link.Memory) = faults.Memory
+lifted_build f = faults.Build f
+
+abbrev pub lifted_compile : CompileFault → ToolFault
+lifted_compile (stage.Text f) = lifted_text f
+lifted_compile (stage.Check f) = lifted_check f
+lifted_compile (stage.Program f) = lifted_program f
+lifted_compile (stage.Build f) = lifted_build f
+
+abbrev pub lifted_cells : LoadFault → ToolFault
+lifted_cells load.Memory = faults.Memory
+lifted_cells load.BadCells = faults.BadCells
+
+abbrev pub lifted_translation : TranslationFault → ToolFault
+lifted_translation translation.Memory = faults.Memory
+lifted_translation translation.BadCells = faults.BadCells
+lifted_translation f = faults.Translation f
+
+abbrev pub lifted_live : LiveFault → ToolFault
+lifted_live (live.Open opening.Memory) = faults.Memory
+lifted_live (live.Open opening.BadCells) = faults.BadCells
+lifted_live f = faults.Live f
+
+abbrev pub lifted_turns : TurnsFault → ToolFault
+lifted_turns (turns.Load f) = lifted_cells f
+lifted_turns (turns.Follow follow.Memory) = faults.Memory
+lifted_turns f = faults.Turns f
+
+abbrev pub lifted_batch : BatchFault → ToolFault
+lifted_batch batch.Memory = faults.Memory
+lifted_batch batch.BadCells = faults.BadCells
+lifted_batch batch.BadCount = faults.Batch batch.BadCount
+
+-- `fault N Name`
+abbrev pub plain : List ℕ → List ℕ
+plain name = codes "fault " ++ (name ++ 10 ∷ [])
+
+-- `fault N Name at P`
+abbrev pub placed : List ℕ → ℕ → List ℕ
+placed name at = codes "fault " ++ (name ++ (codes " at " ++ (decimal at ++ 10 ∷ [])))
+
+-- `fault N Name at S-E`
+abbrev pub spanned : List ℕ → Span → List ℕ
+spanned name span =
+    codes "fault " ++ (name ++ (codes " at " ++ (decimal span.start ++ (45 ∷ (decimal span.end ++ 10 ∷ [])))))
+
+abbrev pub text_line : TextFault → List ℕ
+text_line text.Memory = plain (codes "1 Memory")
+text_line text.TooLong = plain (codes "2 TooLong")
+text_line (text.BadByte at) = placed (codes "3 BadByte") at
+text_line (text.OpenComment at) = placed (codes "4 OpenComment") at
+text_line (text.BadNumber at) = placed (codes "5 BadNumber") at
+text_line (text.Syntax at) = placed (codes "6 Syntax") at
+text_line (text.TooDeep at) = placed (codes "7 TooDeep") at
+
+abbrev pub check_line : CheckFault → List ℕ
+check_line rule.Memory = plain (codes "1 Memory")
+check_line (rule.UnknownName span) = spanned (codes "10 UnknownName") span
+check_line (rule.TwiceDeclared span) = spanned (codes "11 TwiceDeclared") span
+check_line (rule.UnknownType span) = spanned (codes "12 UnknownType") span
+check_line (rule.WrongType span) = spanned (codes "13 WrongType") span
+check_line (rule.WrongArguments span) = spanned (codes "14 WrongArguments") span
+check_line (rule.NotAssignable span) = spanned (codes "15 NotAssignable") span
+check_line (rule.NoLoop span) = spanned (codes "16 NoLoop") span
+check_line (rule.UnknownLabel span) = spanned (codes "17 UnknownLabel") span
+check_line (rule.MissingReturn span) = spanned (codes "18 MissingReturn") span
+check_line (rule.ReservedClass span) = spanned (codes "19 ReservedClass") span
+check_line (rule.Limit span) = spanned (codes "20 Limit") span
+
+abbrev pub program_line : ProgramFault → List ℕ
+program_line program.Memory = plain (codes "1 Memory")
+program_line (program.BadProgram at) = placed (codes "21 BadProgram") at
+program_line (program.UnknownThing at) = placed (codes "22 UnknownThing") at
+program_line (program.ReferenceResult at) = placed (codes "23 ReferenceResult") at
+program_line program.ProgramLimit = plain (codes "24 ProgramLimit")
+
+abbrev pub build_line : BuildFault → List ℕ
+build_line (build.Lower lower.Memory) = plain (codes "1 Memory")
+build_line (build.Lower lower.TooManyLocals) = plain (codes "30 TooManyLocals")
+build_line (build.Lower lower.TooManyCopies) = plain (codes "31 TooManyCopies")
+build_line (build.Emit emit.Memory) = plain (codes "1 Memory")
+build_line (build.Emit emit.CodeTooLong) = plain (codes "32 CodeTooLong")
+build_line (build.Link link.Memory) = plain (codes "1 Memory")
+build_line (build.Link link.CodeTooLong) = plain (codes "33 CodeTooLong")
+
+abbrev pub schedule_line : ScheduleFault → List ℕ
+schedule_line schedule.Memory = plain (codes "1 Memory")
+schedule_line (schedule.BadItem at) = placed (codes "40 BadItem") at
+schedule_line (schedule.UnknownThread at) = placed (codes "41 UnknownThread") at
+schedule_line schedule.TooManySteps = plain (codes "42 TooManySteps")
+
+abbrev pub cells_line : LoadFault → List ℕ
+cells_line load.Memory = plain (codes "1 Memory")
+cells_line load.BadCells = plain (codes "35 BadCells")
+
+abbrev pub translation_line : TranslationFault → List ℕ
+translation_line translation.Memory = plain (codes "1 Memory")
+translation_line translation.BadCells = plain (codes "35 BadCells")
+translation_line (translation.DoesNotFit step) = placed (codes "43 DoesNotFit") step
+translation_line translation.ResultTooLong = plain (codes "44 ResultTooLong")
+
+abbrev pub live_line : LiveFault → List ℕ
+live_line (live.Open opening.Memory) = plain (codes "1 Memory")
+live_line (live.Open opening.BadCells) = plain (codes "35 BadCells")
+live_line (live.Open opening.BadLimit) = plain (codes "51 BadLimit")
+live_line live.NoThread = plain (codes "52 NoThread")
+live_line live.Disagree = plain (codes "54 Disagree")
+
+abbrev pub turns_line : TurnsFault → List ℕ
+turns_line (turns.Load f) = cells_line f
+turns_line (turns.Follow follow.Memory) = plain (codes "1 Memory")
+turns_line (turns.Follow follow.NoThread) = plain (codes "52 NoThread")
+turns_line (turns.Follow (follow.TurnsSpent place)) = placed (codes "53 TurnsSpent") place
+
+abbrev pub batch_line : BatchFault → List ℕ
+batch_line batch.Memory = plain (codes "1 Memory")
+batch_line batch.BadCells = plain (codes "35 BadCells")
+batch_line batch.BadCount = plain (codes "60 BadCount")
+
+abbrev pub history_line : HistoryFault → List ℕ
+history_line history.Memory = plain (codes "1 Memory")
+history_line (history.BadHistory at) = placed (codes "77 BadHistory") at
+
+abbrev pub order_line : OrderFault → List ℕ
+order_line order.Memory = plain (codes "1 Memory")
+order_line (order.BadOrder at) = placed (codes "78 BadOrder") at
+
+abbrev pub fault_line : ToolFault → List ℕ
+fault_line faults.Memory = plain (codes "1 Memory")
+fault_line (faults.Text f) = text_line f
+fault_line (faults.Check f) = check_line f
+fault_line (faults.Program f) = program_line f
+fault_line (faults.Build f) = build_line f
+fault_line faults.BadCells = plain (codes "35 BadCells")
+fault_line (faults.Schedule f) = schedule_line f
+fault_line (faults.Translation f) = translation_line f
+fault_line (faults.Live f) = live_line f
+fault_line (faults.Turns f) = turns_line f
+fault_line (faults.Batch f) = batch_line f
+fault_line (faults.History f) = history_line f
+fault_line (faults.Order f) = order_line f
+fault_line faults.WrongParts = plain (codes "80 WrongParts")
+fault_line faults.NotText = plain (codes "81 NotText")
+fault_line faults.ReadFailed = plain (codes "82 ReadFailed")
+fault_line faults.WriteFailed = plain (codes "83 WriteFailed")

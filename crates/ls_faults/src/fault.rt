@@ -1,0 +1,229 @@
+// Faults of the program and of the layers below.
+
+ghost use Rattle.std.specs.Prelude.{◌≡◌};
+ghost use Rattle.ls_faults.specs.Faults.{lifted_batch, lifted_build, lifted_cells, lifted_check, lifted_compile, lifted_history, lifted_live, lifted_order, lifted_program, lifted_schedule, lifted_text, lifted_translation, lifted_turns};
+ghost use Rattle.ls_faults.specs.declared.fault.ToolFault.TheVariants.{Memory};
+
+use ls_batch::BatchFault;
+use ls_compiler::fault::CompileFault;
+use ls_emit::fault::EmitFault;
+use ls_lexer::fault::TextFault;
+use ls_linker::fault::{BuildFault, LinkFault};
+use ls_live::{LiveFault, PlayFault as LivePlayFault};
+use ls_lowered::fault::LowerFault;
+use ls_machine::LoadFault;
+use ls_orders::OrderFault;
+use ls_report::HistoryFault;
+use ls_schedule::fault::ScheduleFault;
+use ls_translation::fault::TranslationFault;
+use ls_turnstile::{FollowFault, PlayFault as TurnsPlayFault};
+use ls_types::check::CheckFault;
+use ls_types::fault::ProgramFault;
+use std::alloc::{AllocError, AllocFailed};
+use thiserror::Error;
+
+/// A fault of the program, or of a layer below.
+#[derive(Clone, Copy, Debug, Error, PartialEq, Eq)]
+pub enum ToolFault {
+    #[error("out of memory")]
+    Memory,
+    #[error(transparent)]
+    Text(TextFault),
+    #[error(transparent)]
+    Check(CheckFault),
+    #[error(transparent)]
+    Program(ProgramFault),
+    #[error(transparent)]
+    Build(BuildFault),
+    #[error("a machine can't have so many cells, or so few")]
+    BadCells,
+    #[error(transparent)]
+    Schedule(ScheduleFault),
+    #[error(transparent)]
+    Translation(TranslationFault),
+    #[error(transparent)]
+    Live(LivePlayFault),
+    #[error(transparent)]
+    Turns(TurnsPlayFault),
+    #[error(transparent)]
+    Batch(BatchFault),
+    #[error(transparent)]
+    History(HistoryFault),
+    #[error(transparent)]
+    Order(OrderFault),
+    #[error("the command wants another number of parts")]
+    WrongParts,
+    #[error("the input isn't UTF-8")]
+    NotText,
+    #[error("the input couldn't be read")]
+    ReadFailed,
+    #[error("the output couldn't be written")]
+    WriteFailed,
+}
+
+impl From<AllocError> for ToolFault {
+    ghost from_gives = { λ _ e. e ≡ Memory };
+
+    fn from(_error: AllocError) -> ToolFault {
+        ToolFault::Memory
+    }
+}
+
+impl<T: Drop> From<AllocFailed<T>> for ToolFault {
+    ghost from_gives = { λ _ e. e ≡ Memory };
+
+    fn from(_error: AllocFailed<T>) -> ToolFault {
+        ToolFault::Memory
+    }
+}
+
+impl From<HistoryFault> for ToolFault {
+    ghost from_gives = { λ f e. e ≡ lifted_history f };
+
+    fn from(fault: HistoryFault) -> ToolFault {
+        match fault {
+            HistoryFault::Memory => ToolFault::Memory,
+            other => ToolFault::History(other),
+        }
+    }
+}
+
+impl From<OrderFault> for ToolFault {
+    ghost from_gives = { λ f e. e ≡ lifted_order f };
+
+    fn from(fault: OrderFault) -> ToolFault {
+        match fault {
+            OrderFault::Memory => ToolFault::Memory,
+            other => ToolFault::Order(other),
+        }
+    }
+}
+
+impl From<TextFault> for ToolFault {
+    ghost from_gives = { λ f e. e ≡ lifted_text f };
+
+    fn from(fault: TextFault) -> ToolFault {
+        match fault {
+            TextFault::Memory => ToolFault::Memory,
+            other => ToolFault::Text(other),
+        }
+    }
+}
+
+impl From<CheckFault> for ToolFault {
+    ghost from_gives = { λ f e. e ≡ lifted_check f };
+
+    fn from(fault: CheckFault) -> ToolFault {
+        match fault {
+            CheckFault::Memory => ToolFault::Memory,
+            other => ToolFault::Check(other),
+        }
+    }
+}
+
+impl From<ProgramFault> for ToolFault {
+    ghost from_gives = { λ f e. e ≡ lifted_program f };
+
+    fn from(fault: ProgramFault) -> ToolFault {
+        match fault {
+            ProgramFault::Memory => ToolFault::Memory,
+            other => ToolFault::Program(other),
+        }
+    }
+}
+
+impl From<ScheduleFault> for ToolFault {
+    ghost from_gives = { λ f e. e ≡ lifted_schedule f };
+
+    fn from(fault: ScheduleFault) -> ToolFault {
+        match fault {
+            ScheduleFault::Memory => ToolFault::Memory,
+            other => ToolFault::Schedule(other),
+        }
+    }
+}
+
+impl From<BuildFault> for ToolFault {
+    ghost from_gives = { λ f e. e ≡ lifted_build f };
+
+    fn from(fault: BuildFault) -> ToolFault {
+        match fault {
+            BuildFault::Lower(LowerFault::Memory)
+            | BuildFault::Emit(EmitFault::Memory)
+            | BuildFault::Link(LinkFault::Memory) => ToolFault::Memory,
+            other => ToolFault::Build(other),
+        }
+    }
+}
+
+impl From<CompileFault> for ToolFault {
+    ghost from_gives = { λ f e. e ≡ lifted_compile f };
+
+    fn from(fault: CompileFault) -> ToolFault {
+        match fault {
+            CompileFault::Text(fault) => ToolFault::from(fault),
+            CompileFault::Check(fault) => ToolFault::from(fault),
+            CompileFault::Program(fault) => ToolFault::from(fault),
+            CompileFault::Build(fault) => ToolFault::from(fault),
+        }
+    }
+}
+
+impl From<LoadFault> for ToolFault {
+    ghost from_gives = { λ f e. e ≡ lifted_cells f };
+
+    fn from(fault: LoadFault) -> ToolFault {
+        match fault {
+            LoadFault::Memory => ToolFault::Memory,
+            LoadFault::BadCells => ToolFault::BadCells,
+        }
+    }
+}
+
+impl From<TranslationFault> for ToolFault {
+    ghost from_gives = { λ f e. e ≡ lifted_translation f };
+
+    fn from(fault: TranslationFault) -> ToolFault {
+        match fault {
+            TranslationFault::Memory => ToolFault::Memory,
+            TranslationFault::BadCells => ToolFault::BadCells,
+            other => ToolFault::Translation(other),
+        }
+    }
+}
+
+impl From<LivePlayFault> for ToolFault {
+    ghost from_gives = { λ f e. e ≡ lifted_live f };
+
+    fn from(fault: LivePlayFault) -> ToolFault {
+        match fault {
+            LivePlayFault::Open(LiveFault::Memory) => ToolFault::Memory,
+            LivePlayFault::Open(LiveFault::BadCells) => ToolFault::BadCells,
+            other => ToolFault::Live(other),
+        }
+    }
+}
+
+impl From<TurnsPlayFault> for ToolFault {
+    ghost from_gives = { λ f e. e ≡ lifted_turns f };
+
+    fn from(fault: TurnsPlayFault) -> ToolFault {
+        match fault {
+            TurnsPlayFault::Load(fault) => ToolFault::from(fault),
+            TurnsPlayFault::Follow(FollowFault::Memory) => ToolFault::Memory,
+            other => ToolFault::Turns(other),
+        }
+    }
+}
+
+impl From<BatchFault> for ToolFault {
+    ghost from_gives = { λ f e. e ≡ lifted_batch f };
+
+    fn from(fault: BatchFault) -> ToolFault {
+        match fault {
+            BatchFault::Memory => ToolFault::Memory,
+            BatchFault::BadCells => ToolFault::BadCells,
+            BatchFault::BadCount => ToolFault::Batch(BatchFault::BadCount),
+        }
+    }
+}

@@ -1,0 +1,4 @@
+pub mod Labels
+pub mod Names
+pub mod Objects
+pub mod Words

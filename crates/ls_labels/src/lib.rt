@@ -1,0 +1,7 @@
+//! What the objects of a run are called by, and its actions in words.
+#![tactic(auto)]
+
+pub mod label;
+pub mod names;
+pub mod objects;
+pub mod words;

@@ -1,0 +1,85 @@
+// The names of a text and a program.
+
+ghost use Rattle.std.specs.Prelude.{◌≡◌, ◌++◌, OnOk, [], option_map, slice_get, string_bytes};
+ghost use Rattle.std.specs.Option.{option_map_or};
+ghost use Rattle.ls_elaboration.specs.Tables.{field_signs_of, method_signs_of};
+ghost use Rattle.ls_labels.specs.Names.{class_name, field_name, method_found, method_name, names_of};
+
+use indexmap::{IndexMap, IndexSet};
+use ls_checked::program::Program;
+use ls_checked::tree::File;
+use ls_elaboration::known::{ClassSign, MethodSign};
+use ls_events::value::ValueType;
+use std::alloc::AllocError;
+use std::fmt::Write;
+
+/// What the names of a run come from: the names of the classes and what they declare, a class's number being its index, the checked
+/// file, and the program that is run.
+#[derive(Clone, Copy)]
+pub struct Names<'n> {
+    pub classes: &'n IndexSet<String>,
+    pub signs: &'n [ClassSign],
+    pub file: &'n File,
+    pub program: &'n Program,
+}
+
+/// The name of a class, by its number.
+pub fn class_name<'n>(names: Names<'n>, class: usize) -> &'n str
+    ensures { result.now ≡ class_name (names_of names.entry) class }
+{
+    match names.classes.get_index(class) {
+        Some(name) => name.as_str(),
+        None => "",
+    }
+}
+
+// The name of a field, by its number.
+fn field_at(fields: &IndexMap<String, ValueType>, field: usize) -> &str
+    ensures { result.now ≡ option_map_or (λ f. f.name) (slice_get (field_signs_of fields.now) field) [] }
+{
+    match fields.get_index(field) {
+        Some((name, _)) => name.as_str(),
+        None => "",
+    }
+}
+
+/// The name of a field of a class, by their numbers.
+pub fn field_name<'n>(names: Names<'n>, class: usize, field: usize) -> &'n str
+    ensures { result.now ≡ field_name (names_of names.entry) class field }
+{
+    match names.signs.get(class) {
+        Some(sign) => field_at(&sign.fields, field),
+        None => "",
+    }
+}
+
+// The name of the method of a number in the file, among those of its class.
+fn method_found(methods: &IndexMap<String, MethodSign>, number: usize) -> Option<&str>
+    ensures { option_map (λ n. n.now) result ≡ method_found (method_signs_of methods.now) number }
+{
+    for index in 0..methods.len() {
+        if let Some((name, sign)) = methods.get_index(index) {
+            if sign.number == number {
+                return Some(name.as_str());
+            }
+        }
+    }
+    None
+}
+
+/// Adds a method of the file, as `SetList.add`, or a constructor, as `new SetList`, by its number.
+pub fn push_method(out: &mut String, names: Names, number: usize) -> Result<(), AllocError>
+    ensures { OnOk result (string_bytes out.new ≡ string_bytes out.old ++ method_name (names_of names.entry) number) }
+{
+    let Some(method) = names.file.methods.get(number) else {
+        return Ok(());
+    };
+    let Some(sign) = names.signs.get(method.class) else {
+        return Ok(());
+    };
+    let class = class_name(names, method.class);
+    match method_found(&sign.methods, number) {
+        Some(name) => write!(out, "{class}.{name}"),
+        None => write!(out, "new {class}"),
+    }
+}

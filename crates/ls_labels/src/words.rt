@@ -1,0 +1,268 @@
+// What an action is in words, and its answer.
+
+ghost use Rattle.std.specs.Prelude.{◌≡◌, ◌++◌, OnOk, string_bytes};
+ghost use Rattle.ls_labels.specs.Names.{names_of};
+ghost use Rattle.ls_labels.specs.Objects.{object_text, value_text};
+ghost use Rattle.ls_report.specs.Printing.{run_words};
+ghost use Rattle.ls_labels.specs.Words.{action_text, answer_text, field_text, item_text, move_text, operation_text, performed_text, phrase_text};
+
+use crate::label::Label;
+use crate::names::{Names, class_name, field_name, push_method};
+use crate::objects::{label_at, push_object, push_value};
+use ls_events::action::{Action, Answer};
+use ls_events::event::{Event, Happening};
+use ls_events::value::Value;
+use ls_report::{kind_name, object_name, push_words};
+use std::alloc::AllocError;
+use std::fmt::Write;
+
+// A field of an object, as `Node#3.next`.
+fn push_field(
+    out: &mut String,
+    names: Names,
+    labels: &[Label],
+    object: u64,
+    field: usize,
+) -> Result<(), AllocError>
+    ensures { OnOk result (string_bytes out.new ≡ string_bytes out.old ++ field_text (names_of names.entry) labels.now object field) }
+{
+    push_object(out, names, labels, object)?;
+    out.push_str(".")?;
+    match label_at(labels, object) {
+        Some(Label::Class(class)) => out.push_str(field_name(names, class, field)),
+        _ => Ok(()),
+    }
+}
+
+// An item of an array, as `boolean[]#7[2]`.
+fn push_item(
+    out: &mut String,
+    names: Names,
+    labels: &[Label],
+    array: u64,
+    index: i32,
+) -> Result<(), AllocError>
+    ensures { OnOk result (string_bytes out.new ≡ string_bytes out.old ++ item_text (names_of names.entry) labels.now array index) }
+{
+    push_object(out, names, labels, array)?;
+    write!(out, "[{index}]")
+}
+
+// `verb` and an object.
+fn push_on(
+    out: &mut String,
+    names: Names,
+    labels: &[Label],
+    verb: &str,
+    object: u64,
+) -> Result<(), AllocError>
+    ensures { OnOk result (string_bytes out.new ≡ string_bytes out.old ++ (verb.now ++ object_text (names_of names.entry) labels.now object)) }
+{
+    out.push_str(verb)?;
+    push_object(out, names, labels, object)
+}
+
+// `verb` and a value.
+fn push_with(
+    out: &mut String,
+    names: Names,
+    labels: &[Label],
+    verb: &str,
+    value: Value,
+) -> Result<(), AllocError>
+    ensures { OnOk result (string_bytes out.new ≡ string_bytes out.old ++ (verb.now ++ value_text (names_of names.entry) labels.now value)) }
+{
+    out.push_str(verb)?;
+    push_value(out, names, labels, value)
+}
+
+// An operation of a lock or a markable.
+fn push_operation(
+    out: &mut String,
+    names: Names,
+    labels: &[Label],
+    action: Action<Value>,
+) -> Result<(), AllocError>
+    ensures { OnOk result (string_bytes out.new ≡ string_bytes out.old ++ operation_text (names_of names.entry) labels.now action) }
+{
+    match action {
+        Action::Lock(o) => push_on(out, names, labels, "locks ", o),
+        Action::Unlock(o) => push_on(out, names, labels, "unlocks ", o),
+        Action::TryLock(o) => push_on(out, names, labels, "tries ", o),
+        Action::IsHeld(o) => push_on(out, names, labels, "asks whether it holds ", o),
+        Action::ReadPair(o) => push_on(out, names, labels, "reads ", o),
+        Action::SetPair(o, pair) => {
+            push_on(out, names, labels, "sets ", o)?;
+            push_with(out, names, labels, " to ", pair)
+        }
+        Action::SwapPair {
+            markable,
+            expected,
+            new,
+        } => {
+            push_on(out, names, labels, "exchanges ", markable)?;
+            push_with(out, names, labels, " from ", expected)?;
+            push_with(out, names, labels, " to ", new)
+        }
+        Action::AttemptMark {
+            markable,
+            reference,
+            mark,
+        } => {
+            push_on(out, names, labels, "marks ", markable)?;
+            write!(out, " {mark}")?;
+            push_on(out, names, labels, " if it refers to ", reference)
+        }
+        _ => Ok(()),
+    }
+}
+
+// A making, an entered method, a turn of a loop, or an operation.
+fn push_move(
+    out: &mut String,
+    names: Names,
+    labels: &[Label],
+    action: Action<Value>,
+) -> Result<(), AllocError>
+    ensures { OnOk result (string_bytes out.new ≡ string_bytes out.old ++ move_text (names_of names.entry) labels.now action) }
+{
+    match action {
+        Action::New(class) => write!(out, "makes {}", class_name(names, class)),
+        Action::NewLock => out.push_str("makes ReentrantLock"),
+        Action::NewMarkable(pair) => {
+            push_with(
+                out,
+                names,
+                labels,
+                "makes AtomicMarkableReference of ",
+                pair,
+            )
+        }
+        Action::NewArray(size) => write!(out, "makes boolean[{size}]"),
+        Action::Turn => out.push_str("goes round a loop"),
+        Action::Enter(method) => {
+            out.push_str("enters ")?;
+            push_method(out, names, method)
+        }
+        _ => push_operation(out, names, labels, action),
+    }
+}
+
+// A read or write of a field, an item or a setup name, or another action that is no event.
+fn push_phrase(
+    out: &mut String,
+    names: Names,
+    labels: &[Label],
+    action: Action<Value>,
+) -> Result<(), AllocError>
+    ensures { OnOk result (string_bytes out.new ≡ string_bytes out.old ++ phrase_text (names_of names.entry) labels.now action) }
+{
+    match action {
+        Action::ReadField { object, field } => {
+            out.push_str("reads ")?;
+            push_field(out, names, labels, object, field)
+        }
+        Action::WriteField {
+            object,
+            field,
+            value,
+        } => {
+            out.push_str("writes ")?;
+            push_field(out, names, labels, object, field)?;
+            push_with(out, names, labels, ": ", value)
+        }
+        Action::ReadItem { array, index } => {
+            out.push_str("reads ")?;
+            push_item(out, names, labels, array, index)
+        }
+        Action::WriteItem {
+            array,
+            index,
+            value,
+        } => {
+            out.push_str("writes ")?;
+            push_item(out, names, labels, array, index)?;
+            push_with(out, names, labels, ": ", value)
+        }
+        Action::ReadName(n) => write!(out, "reads {}", object_name(names.program, n)),
+        Action::WriteName(n, value) => {
+            write!(out, "writes {}", object_name(names.program, n))?;
+            push_with(out, names, labels, ": ", value)
+        }
+        _ => push_move(out, names, labels, action),
+    }
+}
+
+// The event of a history that an action is.
+fn push_event(
+    out: &mut String,
+    names: Names,
+    thread: usize,
+    call: usize,
+    happening: Happening,
+) -> Result<(), AllocError>
+    ensures { OnOk result (string_bytes out.new ≡ string_bytes out.old ++ run_words (names_of names.entry).program (record { thread = thread; call = call; happening = happening })) }
+{
+    let event = Event {
+        thread,
+        call,
+        happening,
+    };
+    push_words(out, names.program, event)
+}
+
+/// Adds what a thread's action is, as `reads Node#3.next`.
+pub fn push_action(
+    out: &mut String,
+    names: Names,
+    labels: &[Label],
+    thread: usize,
+    action: Action<Value>,
+) -> Result<(), AllocError>
+    ensures { OnOk result (string_bytes out.new ≡ string_bytes out.old ++ action_text (names_of names.entry) labels.now thread action) }
+{
+    match action {
+        Action::Call(call) => push_event(out, names, thread, call, Happening::Called),
+        Action::Return(call, value) => {
+            push_event(out, names, thread, call, Happening::Returned(value))
+        }
+        Action::Trap(call, kind) => {
+            push_event(out, names, thread, call, Happening::Trapped(kind))
+        }
+        _ => push_phrase(out, names, labels, action),
+    }
+}
+
+/// Adds an action's answer with a colon in front, as `: Node#4`, or nothing where the action is done.
+pub fn push_answer(
+    out: &mut String,
+    names: Names,
+    labels: &[Label],
+    answer: Answer<Value>,
+) -> Result<(), AllocError>
+    ensures { OnOk result (string_bytes out.new ≡ string_bytes out.old ++ answer_text (names_of names.entry) labels.now answer) }
+{
+    match answer {
+        Answer::Done => Ok(()),
+        Answer::Gives(value) => push_with(out, names, labels, ": ", value),
+        Answer::Fails(kind) => {
+            out.push_str(": ")?;
+            out.push_str(kind_name(kind))
+        }
+    }
+}
+
+/// Adds an action of a thread with its answer, as `reads Node#3.next: Node#4`. The labels are those after the action.
+pub fn push_performed(
+    out: &mut String,
+    names: Names,
+    labels: &[Label],
+    thread: usize,
+    action: Action<Value>,
+    answer: Answer<Value>,
+) -> Result<(), AllocError>
+    ensures { OnOk result (string_bytes out.new ≡ string_bytes out.old ++ performed_text (names_of names.entry) labels.now thread action answer) }
+{
+    push_action(out, names, labels, thread, action)?;
+    push_answer(out, names, labels, answer)
+}

@@ -1,0 +1,5 @@
+pub mod Said
+pub mod Texts
+pub mod Faults
+pub mod Limits
+pub mod Printed

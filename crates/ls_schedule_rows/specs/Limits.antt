@@ -1,0 +1,25 @@
+-- Counts of seven and more digits, and the most steps that a schedule has.
+use Rattle.std.specs.Prelude.{◌≡◌, ℕ, [], ◌∷◌, codes, replicate, Ok, Err}
+use Rattle.ls_schedule.specs.declared.fault.ScheduleFault.TheVariants.{BadItem, UnknownThread, TooManySteps}
+use Rattle.ls_schedule.specs.Reading.{turns_of, within}
+use Rattle.ls_schedule_rows.specs.Said.{names, IsRefused}
+
+-- a count has as many digits as are written
+abbrev pub LongCounts : Type 0
+LongCounts =
+    (turns_of names (0, codes "A*999999") ≡ Ok (1 ∷ [], 999999))
+    × (turns_of names (0, codes "A*1000000") ≡ Ok (1 ∷ [], 1000000))
+    × (turns_of names (0, codes "A*7654321") ≡ Ok (1 ∷ [], 7654321))
+    × (turns_of names (0, codes "A*98765432109876543210") ≡ Ok (1 ∷ [], 98765432109876543210))
+
+-- 1,000,000 steps are a schedule
+abbrev pub MostSteps : Type 0
+MostSteps = (t : ℕ) → within (replicate 1000000 t) ≡ Ok (replicate 1000000 t)
+
+abbrev pub OneStepTooMany : Type 0
+OneStepTooMany = (t : ℕ) → within (replicate 1000001 t) ≡ Err TooManySteps
+
+-- an item with a fault is told before the length is
+abbrev pub FaultsBeforeTheLength : Type 0
+FaultsBeforeTheLength =
+    IsRefused (codes "A*2000000 A*0") (BadItem 10) × IsRefused (codes "A*2000000 C") (UnknownThread 10)

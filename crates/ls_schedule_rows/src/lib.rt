@@ -1,0 +1,48 @@
+//! Schedule texts whose steps or faults, worked out by hand, are what the definitions of ls_schedule compute, and schedules
+//! whose texts are. They stand above ls_schedule, so that a new one is no change of that crate.
+#![tactic(auto)]
+
+ghost use Rattle.ls_schedule_rows.specs.Texts.{OneStepEach, NothingAtAll, EachGap, GapsRoundAText, Times, All, AllSeveralTimes, SetupIsZero, AllOfNone};
+ghost use Rattle.ls_schedule_rows.specs.Faults.{ZeroTimes, BadCounts, BadNames, OtherGaps, UnknownNames, ReservedNames, FirstFault, PlacesOfFaults};
+ghost use Rattle.ls_schedule_rows.specs.Limits.{LongCounts, MostSteps, OneStepTooMany, FaultsBeforeTheLength};
+ghost use Rattle.ls_schedule_rows.specs.Printed.{NoSteps, StepsInARow, NamesByNumber};
+
+/// Texts that say steps.
+pub fn texts()
+    ensures one_step_each { OneStepEach }
+    ensures nothing_at_all { NothingAtAll }
+    ensures each_gap { EachGap }
+    ensures gaps_round_a_text { GapsRoundAText }
+    ensures times { Times }
+    ensures all { All }
+    ensures all_several_times { AllSeveralTimes }
+    ensures setup_is_zero { SetupIsZero }
+    ensures all_of_none { AllOfNone }
+{}
+
+/// Texts with a fault, and where it stands.
+pub fn faults()
+    ensures zero_times { ZeroTimes }
+    ensures bad_counts { BadCounts }
+    ensures bad_names { BadNames }
+    ensures other_gaps { OtherGaps }
+    ensures unknown_names { UnknownNames }
+    ensures reserved_names { ReservedNames }
+    ensures first_fault { FirstFault }
+    ensures places_of_faults { PlacesOfFaults }
+{}
+
+/// Counts of many digits, and the most steps.
+pub fn limits()
+    ensures long_counts { LongCounts }
+    ensures most_steps { MostSteps }
+    ensures one_step_too_many { OneStepTooMany }
+    ensures faults_before_the_length { FaultsBeforeTheLength }
+{}
+
+/// Schedules as texts.
+pub fn printed()
+    ensures no_steps { NoSteps }
+    ensures steps_in_a_row { StepsInARow }
+    ensures names_by_number { NamesByNumber }
+{}

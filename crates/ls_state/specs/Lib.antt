@@ -1,0 +1,6 @@
+pub mod Parts
+pub mod Scene
+pub mod Objects
+pub mod Asking
+pub mod State
+pub mod Seen

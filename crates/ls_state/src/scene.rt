@@ -1,0 +1,55 @@
+// A run that has gone through a schedule.
+
+ghost use Rattle.std.specs.Prelude.{◌≡◌, ◌++◌, IfOk, OnOk};
+ghost use Rattle.ls_state.specs.Scene.{made_by};
+
+use ls_labels::label::{Label, label_of};
+use ls_labels::names::Names;
+use ls_meaning::step::Did;
+use ls_source::run::SourceRun;
+use std::alloc::{AllocError, Global};
+
+/// A run with the labels of the objects that it has made.
+#[derive(Drop)]
+pub struct Scene<'n> {
+    pub names: Names<'n>,
+    pub run: SourceRun<'n>,
+    pub labels: Vec<Label>,
+}
+
+// Keeps the label of the object that a step has made.
+fn keep_label(labels: &mut Vec<Label>, did: Did) -> Result<(), AllocError>
+    ensures { OnOk result (labels.new.items ≡ labels.old.items ++ made_by did) }
+{
+    let Did::Acted(action, _) = did else {
+        return Ok(());
+    };
+    match label_of(action) {
+        Some(label) => {
+            labels.push(label)?;
+            Ok(())
+        }
+        None => Ok(()),
+    }
+}
+
+impl<'n> Scene<'n> {
+    ghost use Rattle.ls_labels.specs.Names.{names_of};
+    ghost use Rattle.ls_state.specs.Scene.{scene_of};
+    ghost use Rattle.ls_state.specs.Seen.{IsOwn, names_in, scene_seen};
+
+    /// The run of a program for a schedule.
+    pub fn after(alloc: Global, names: Names<'n>, steps: &[usize]) -> Result<Scene<'n>, AllocError>
+        ensures names { IfOk result (λ s. names_in s ≡ names_of names.entry) }
+        ensures own { IfOk result (λ s. IsOwn s) }
+        ensures scene { IfOk result (λ s. scene_seen s ≡ scene_of (names_of names.entry) steps.now) }
+    {
+        let mut run = SourceRun::new(alloc, names.file, names.program)?;
+        let mut labels = Vec::new(alloc);
+        for thread in steps {
+            let did = run.step(alloc, *thread)?;
+            keep_label(&mut labels, did)?;
+        }
+        Ok(Scene { names, run, labels })
+    }
+}

@@ -1,0 +1,24 @@
+// What holds after a schedule.
+
+ghost use Rattle.std.specs.Prelude.{◌≡◌, IfOk, string_bytes};
+ghost use Rattle.ls_labels.specs.Names.{names_of};
+ghost use Rattle.ls_state.specs.State.{state_text};
+
+use crate::asking::push_threads;
+use crate::objects::{push_names, push_things};
+use crate::scene::Scene;
+use ls_labels::names::Names;
+use std::alloc::{AllocError, Global};
+
+/// What holds after a schedule, whose steps are numbers of threads: a line for each object, each setup name and each thread. Refused
+/// where memory runs out.
+pub fn state<'n>(alloc: Global, names: Names<'n>, steps: &[usize]) -> Result<String, AllocError>
+    ensures { IfOk result (λ text. string_bytes text ≡ state_text (names_of names.entry) steps.now) }
+{
+    let scene = Scene::after(alloc, names, steps)?;
+    let mut out = String::new(alloc);
+    push_things(&mut out, &scene)?;
+    push_names(&mut out, &scene)?;
+    push_threads(alloc, &mut out, &scene)?;
+    Ok(out)
+}

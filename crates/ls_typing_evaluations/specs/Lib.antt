@@ -1,0 +1,6 @@
+pub mod Written
+pub mod Expressions
+pub mod Calls
+pub mod Statements
+pub mod Files
+pub mod Programs
