@@ -5,17 +5,16 @@ use Rattle.std.specs.Global.{Global}
 use Rattle.ls_lexer.specs.declared.fault.TextFault.{TextFault}
 use Rattle.ls_lexer.specs.declared.fault.TextFault.TheVariants as text
 use Rattle.ls_tree.specs.Trees.{File as ParsedFile}
-use Rattle.ls_tree.specs.FileView.{bare_file}
 use Rattle.ls_spelling.specs.Spells.{TextSpells}
 use Rattle.ls_terms.specs.Answers.{Refuses}
 use Rattle.ls_parser.specs.Comes.{Comes}
-use Rattle.ls_tree.specs.declared.tree.ClassFile.{ClassFile}
 use Rattle.ls_checked.specs.CheckedProgram.{Program}
 use Rattle.ls_checked.specs.PlainProgram.{plain_thread, plain_program}
 use Rattle.ls_checked.specs.declared.program.ThreadProgram.{ThreadProgram}
 use Rattle.ls_checked.specs.declared.program.Program as code
 use Rattle.ls_elaboration.specs.Elaboration.{Outcome, elaborated}
-use Rattle.ls_elaboration.specs.PlacedStatements.{placed_file}
+use Rattle.ls_elaboration.specs.Trees.{File}
+use Rattle.ls_placing.specs.Files.{IsFileOf}
 use Rattle.ls_types.specs.CheckedFile as checked_file
 use Rattle.ls_types.specs.ProgramRefusals.{IsNoProgram}
 use Rattle.ls_programs.specs.Programs.{IsTextOf}
@@ -52,22 +51,22 @@ text_fails v c p s (text.BadNumber at) r m = NoFile (text.BadNumber at) r m
 text_fails v c p s (text.Syntax at) r m = NoFile (text.Syntax at) r m
 text_fails v c p s (text.TooDeep at) r m = NoFile (text.TooDeep at) r m
 
-pub check_fails : (v : View) (c p s : Text) (parsed : ClassFile) (f : CheckFault) → TextSpells (bare_file parsed) c → checked_file.Names f (elaborated (placed_file parsed)) → Gives (ViewsTo v c p s) (Failed (lifted_check f))
-check_fails v c p s parsed rule.Memory t n = tt
-check_fails v c p s parsed (rule.UnknownName span) t n = Breaks parsed (rule.UnknownName span) t n
-check_fails v c p s parsed (rule.TwiceDeclared span) t n = Breaks parsed (rule.TwiceDeclared span) t n
-check_fails v c p s parsed (rule.UnknownType span) t n = Breaks parsed (rule.UnknownType span) t n
-check_fails v c p s parsed (rule.WrongType span) t n = Breaks parsed (rule.WrongType span) t n
-check_fails v c p s parsed (rule.WrongArguments span) t n = Breaks parsed (rule.WrongArguments span) t n
-check_fails v c p s parsed (rule.NotAssignable span) t n = Breaks parsed (rule.NotAssignable span) t n
-check_fails v c p s parsed (rule.NoLoop span) t n = Breaks parsed (rule.NoLoop span) t n
-check_fails v c p s parsed (rule.UnknownLabel span) t n = Breaks parsed (rule.UnknownLabel span) t n
-check_fails v c p s parsed (rule.MissingReturn span) t n = Breaks parsed (rule.MissingReturn span) t n
-check_fails v c p s parsed (rule.ReservedClass span) t n = Breaks parsed (rule.ReservedClass span) t n
-check_fails v c p s parsed (rule.Limit span) t n = Breaks parsed (rule.Limit span) t n
+pub check_fails : (v : View) (c p s : Text) (file : File) (f : CheckFault) → IsFileOf c file → checked_file.Names f (elaborated file) → Gives (ViewsTo v c p s) (Failed (lifted_check f))
+check_fails v c p s file rule.Memory t n = tt
+check_fails v c p s file (rule.UnknownName span) t n = Breaks file (rule.UnknownName span) t n
+check_fails v c p s file (rule.TwiceDeclared span) t n = Breaks file (rule.TwiceDeclared span) t n
+check_fails v c p s file (rule.UnknownType span) t n = Breaks file (rule.UnknownType span) t n
+check_fails v c p s file (rule.WrongType span) t n = Breaks file (rule.WrongType span) t n
+check_fails v c p s file (rule.WrongArguments span) t n = Breaks file (rule.WrongArguments span) t n
+check_fails v c p s file (rule.NotAssignable span) t n = Breaks file (rule.NotAssignable span) t n
+check_fails v c p s file (rule.NoLoop span) t n = Breaks file (rule.NoLoop span) t n
+check_fails v c p s file (rule.UnknownLabel span) t n = Breaks file (rule.UnknownLabel span) t n
+check_fails v c p s file (rule.MissingReturn span) t n = Breaks file (rule.MissingReturn span) t n
+check_fails v c p s file (rule.ReservedClass span) t n = Breaks file (rule.ReservedClass span) t n
+check_fails v c p s file (rule.Limit span) t n = Breaks file (rule.Limit span) t n
 
-pub checked_runs : (v : View) (c p s : Text) (parsed : ClassFile) (o : Outcome) (r : Result (String Global) ToolFault) → TextSpells (bare_file parsed) c → elaborated (placed_file parsed) ≡ Ok o → Gives (RunsTo v o p s) r → Gives (ViewsTo v c p s) r
-checked_runs v c p s parsed o r t e g = wider (RunsTo v o p s) (ViewsTo v c p s) r (λ a h. Checks parsed o a t e h) g
+pub checked_runs : (v : View) (c p s : Text) (file : File) (o : Outcome) (r : Result (String Global) ToolFault) → IsFileOf c file → elaborated file ≡ Ok o → Gives (RunsTo v o p s) r → Gives (ViewsTo v c p s) r
+checked_runs v c p s file o r t e g = wider (RunsTo v o p s) (ViewsTo v c p s) r (λ a h. Checks file o a t e h) g
 
 pub program_fails : (v : View) (o : Outcome) (p s : Text) (f : ProgramFault) → IsNoProgram o p f → Gives (RunsTo v o p s) (Failed (lifted_program f))
 program_fails v o p s program.Memory r = tt

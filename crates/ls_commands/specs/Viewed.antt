@@ -2,14 +2,13 @@
 use Rattle.std.specs.Prelude.{◌≡◌, ℕ, List, map, Some, None, Result, Ok, Err}
 use Rattle.ls_lexer.specs.declared.fault.TextFault.{TextFault}
 use Rattle.ls_tree.specs.Trees.{File as ParsedFile}
-use Rattle.ls_tree.specs.FileView.{bare_file}
 use Rattle.ls_spelling.specs.Spells.{TextSpells}
+use Rattle.ls_placing.specs.Files.{IsFileOf}
 use Rattle.ls_parser.specs.Comes.{Comes}
 use Rattle.ls_terms.specs.Answers.{Refuses}
-use Rattle.ls_tree.specs.declared.tree.ClassFile.{ClassFile}
 use Rattle.ls_checked.specs.CheckedProgram.{Program}
 use Rattle.ls_elaboration.specs.Elaboration.{Outcome, elaborated}
-use Rattle.ls_elaboration.specs.PlacedStatements.{placed_file}
+use Rattle.ls_elaboration.specs.Trees.{File}
 use Rattle.ls_types.specs.CheckedFile as checked_file
 use Rattle.ls_programs.specs.Programs.{IsTextOf}
 use Rattle.ls_types.specs.ProgramRefusals.{IsNoProgram}
@@ -55,14 +54,14 @@ pub data RunsTo (view : View) (o : Outcome) (program schedule : Text) : Result T
   Ran : (p : Program) → IsTextOf o p program → RunsTo view o program schedule (viewed view (names_in o p) schedule)
   NoProgram : (f : ProgramFault) → IsNoProgram o program f → RunsTo view o program schedule (Err (lifted_program f))
 
--- The class part spells a file that keeps every rule, and the answer is that of its program and schedule; or it spells
+-- The class part is a file that keeps every rule, and the answer is that of its program and schedule; or it is
 -- one that breaks the rule that is named; or it spells none, and the fault is one that may come of it.
 pub data ViewsTo (view : View) (classes program schedule : Text) : Result Text ToolFault → Type 0 where
-  Checks : (parsed : ClassFile) (o : Outcome) (answer : Result Text ToolFault) →
-      TextSpells (bare_file parsed) classes → elaborated (placed_file parsed) ≡ Ok o → RunsTo view o program schedule answer →
+  Checks : (file : File) (o : Outcome) (answer : Result Text ToolFault) →
+      IsFileOf classes file → elaborated file ≡ Ok o → RunsTo view o program schedule answer →
       ViewsTo view classes program schedule answer
-  Breaks : (parsed : ClassFile) (f : CheckFault) →
-      TextSpells (bare_file parsed) classes → checked_file.Names f (elaborated (placed_file parsed)) →
+  Breaks : (file : File) (f : CheckFault) →
+      IsFileOf classes file → checked_file.Names f (elaborated file) →
       ViewsTo view classes program schedule (Err (lifted_check f))
   NoFile : (f : TextFault) →
       Refuses f ((file : ParsedFile) → TextSpells file classes → ⊥) → Comes classes f →

@@ -1,17 +1,14 @@
 -- What an image of these parts is.
 use Rattle.std.proofs.Common.{◌≡◌, sym, subst, Some, Ok, Err}
 use Rattle.std.specs.Prelude.{IsErrOf}
-use Rattle.ls_tree.specs.FileView.{bare_file}
-use Rattle.ls_spelling.specs.Spells.{TextSpells}
-use Rattle.ls_tree.specs.declared.tree.ClassFile.{ClassFile}
+use Rattle.ls_placing.specs.Files.{IsFileOf}
 use Rattle.ls_lexer.specs.declared.fault.TextFault.{TextFault}
 use Rattle.ls_lexer.specs.declared.fault.TextFault.TheVariants as text
 use Rattle.ls_checked.specs.PlainProgram.{plain_program}
 use Rattle.ls_checked.specs.declared.program.Program.{Program}
 use Rattle.ls_code.specs.Code.{Code}
-use Rattle.ls_elaboration.specs.Trees.{Text}
+use Rattle.ls_elaboration.specs.Trees.{Text, File}
 use Rattle.ls_elaboration.specs.Elaboration.{elaborated}
-use Rattle.ls_elaboration.specs.PlacedStatements.{placed_file}
 use Rattle.ls_types.specs.CheckedFile.{outcome_of}
 use Rattle.ls_programs.specs.Programs.{IsTextOf}
 use Rattle.ls_types.specs.declared.check.Checked.{Checked}
@@ -23,15 +20,15 @@ use Rattle.ls_compiler.specs.declared.image.Image.{Image}
 pub err_of : {T : Type 0} (f : TextFault) → IsErrOf {T = T} (Err f) text.TooLong → f ≡ text.TooLong
 err_of f e = cc
 
-pub compiled : (classes text : Text) (parsed : ClassFile) (checked : Checked) (program : Program) (code : Code) (image : Image) →
+pub compiled : (classes text : Text) (file : File) (checked : Checked) (program : Program) (code : Code) (image : Image) →
     checked_of image ≡ checked → program_of_image image ≡ program → code_of_image image ≡ code →
-    TextSpells (bare_file parsed) classes → elaborated (placed_file parsed) ≡ Ok (outcome_of checked) →
+    IsFileOf classes file → elaborated file ≡ Ok (outcome_of checked) →
     IsTextOf (outcome_of checked) (plain_program program) text → Runs (outcome_of checked).file (plain_program program) code →
     Compiles classes text image
-compiled classes text parsed checked program code image c p d spelled elaborates reads runs = record {
-  parsed = parsed;
+compiled classes text file checked program code image c p d spelled elaborates reads runs = record {
+  file = file;
   spelled = spelled;
-  elaborates = subst (λ x. elaborated (placed_file parsed) ≡ Ok (outcome_of x)) (sym c) elaborates;
+  elaborates = subst (λ x. elaborated file ≡ Ok (outcome_of x)) (sym c) elaborates;
   reads = subst (λ x. IsTextOf (outcome_of x) (plain_program (program_of_image image)) text) (sym c)
       (subst (λ y. IsTextOf (outcome_of checked) (plain_program y) text) (sym p) reads);
   runs = subst (λ x. Runs (outcome_of x).file (plain_program (program_of_image image)) (code_of_image image)) (sym c)

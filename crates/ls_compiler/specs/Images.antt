@@ -2,18 +2,16 @@
 use Rattle.std.specs.Prelude.{◌≡◌, Result, Ok, Err}
 use Rattle.ls_lexer.specs.declared.fault.TextFault.{TextFault}
 use Rattle.ls_terms.specs.Answers.{Refuses}
-use Rattle.ls_tree.specs.FileView.{bare_file}
 use Rattle.ls_tree.specs.Trees.{File as ParsedFile}
 use Rattle.ls_spelling.specs.Spells.{TextSpells}
+use Rattle.ls_placing.specs.Files.{IsFileOf}
 use Rattle.ls_parser.specs.Comes.{Comes}
-use Rattle.ls_tree.specs.declared.tree.ClassFile.{ClassFile}
 use Rattle.ls_checked.specs.CheckedProgram.{Program as PlainProgram}
 use Rattle.ls_checked.specs.PlainProgram.{plain_program}
 use Rattle.ls_checked.specs.declared.program.Program.{Program}
 use Rattle.ls_code.specs.Code.{Code}
-use Rattle.ls_elaboration.specs.Trees.{Text}
+use Rattle.ls_elaboration.specs.Trees.{Text, File}
 use Rattle.ls_elaboration.specs.Elaboration.{Outcome, elaborated}
-use Rattle.ls_elaboration.specs.PlacedStatements.{placed_file}
 use Rattle.ls_types.specs.CheckedFile.{outcome_of, Names}
 use Rattle.ls_types.specs.ProgramRefusals.{IsNoProgram}
 use Rattle.ls_programs.specs.Programs.{IsTextOf}
@@ -40,11 +38,11 @@ code_of_image i = i.code
 abbrev pub RunsAsItsTexts : Image → Type 0
 RunsAsItsTexts image = Runs (outcome_of (checked_of image)).file (plain_program (program_of_image image)) (code_of_image image)
 
--- the class text spells a file that keeps every rule, the program text is a program of that file, and the code runs as the two
+-- the class text is a file that keeps every rule, the program text is a program of that file, and the code runs as the two
 pub record Compiles (classes program : Text) (image : Image) : Type 0 where
-  pub parsed : ClassFile
-  pub spelled : TextSpells (bare_file parsed) classes
-  pub elaborates : elaborated (placed_file parsed) ≡ Ok (outcome_of (checked_of image))
+  pub file : File
+  pub spelled : IsFileOf classes file
+  pub elaborates : elaborated file ≡ Ok (outcome_of (checked_of image))
   pub reads : IsTextOf (outcome_of (checked_of image)) (plain_program (program_of_image image)) program
   pub runs : RunsAsItsTexts image
 
@@ -59,12 +57,12 @@ IsWithinLimits image = KeepsLimits (outcome_of (checked_of image)).file (plain_p
 pub data CompilesTo (classes program : Text) : Result Image CompileFault → Type 0 where
   Compiled : (image : Image) → Compiles classes program image → CompilesTo classes program (Ok image)
   NoFile : (f : TextFault) → Refuses f ((file : ParsedFile) → TextSpells file classes → ⊥) → Comes classes f → CompilesTo classes program (Err (faults.Text f))
-  Breaks : (parsed : ClassFile) (f : CheckFault) →
-      TextSpells (bare_file parsed) classes → Names f (elaborated (placed_file parsed)) →
+  Breaks : (file : File) (f : CheckFault) →
+      IsFileOf classes file → Names f (elaborated file) →
       CompilesTo classes program (Err (faults.Check f))
-  NoProgram : (parsed : ClassFile) (o : Outcome) (f : ProgramFault) →
-      TextSpells (bare_file parsed) classes → elaborated (placed_file parsed) ≡ Ok o → IsNoProgram o program f →
+  NoProgram : (file : File) (o : Outcome) (f : ProgramFault) →
+      IsFileOf classes file → elaborated file ≡ Ok o → IsNoProgram o program f →
       CompilesTo classes program (Err (faults.Program f))
-  PastLimit : (parsed : ClassFile) (o : Outcome) (p : PlainProgram) (f : BuildFault) →
-      TextSpells (bare_file parsed) classes → elaborated (placed_file parsed) ≡ Ok o → IsTextOf o p program → GoesPast o.file p f →
+  PastLimit : (file : File) (o : Outcome) (p : PlainProgram) (f : BuildFault) →
+      IsFileOf classes file → elaborated file ≡ Ok o → IsTextOf o p program → GoesPast o.file p f →
       CompilesTo classes program (Err (faults.Build f))

@@ -1,4 +1,6 @@
-pub mod Trees
+pub use Rattle.ls_tree.specs.PlacedTrees as Trees
+pub use Rattle.ls_tree.specs.Placed
+pub use Rattle.ls_tree.specs.PlacedStatements
 pub mod Elaborated
 pub mod Known
 pub mod StaticTypes
@@ -10,8 +12,6 @@ pub mod TypedStatements
 pub mod TypedMethods
 pub mod Signs
 pub mod Elaboration
-pub mod Placed
-pub mod PlacedStatements
 pub mod Tables
 pub mod Answers
 pub mod SignViews

@@ -1,11 +1,9 @@
-pub mod OntoActions
 pub mod OntoClasses
-pub mod StatementRows
-pub mod StatementSteps
-pub mod ActionsRead
 pub mod ClassesRead
-pub mod ActionsAgain
 pub mod ClassesAgain
 pub mod Spelled
 pub mod Files
 pub mod Steps
+pub mod Places
+pub mod Leaving
+pub mod FilePlaces

@@ -9,7 +9,7 @@ use Rattle.ls_tree.specs.Trees.{Text, Term, Modifier, Public, Protected, Private
 use Rattle.ls_spelling.specs.Spelling.{spell_term, spell_modifier, spell_type, spell_initial, spell_declarator, spell_declaration, spell_label, spell_label_before, spell_value, spell_action, spell_items, in_parens, in_braces, spell_parameter, spell_parameters, spell_result, spell_member, spell_class, spell_dotted, spell_all, spell_import, spell_package, spell}
 use Rattle.ls_terms.proofs.Onto.{onto, onto_spells}
 use Rattle.ls_terms.proofs.Lists.{onto_all, onto_all_spells}
-use Rattle.ls_parser.proofs.OntoActions.{onto_modifier, onto_type, onto_initial, onto_declarator, onto_next_declarator, onto_declaration, onto_label, onto_label_before, onto_value, onto_condition, onto_action, onto_items, onto_block}
+use Rattle.ls_statements.proofs.OntoActions.{onto_modifier, onto_type, onto_initial, onto_declarator, onto_next_declarator, onto_declaration, onto_label, onto_label_before, onto_value, onto_condition, onto_action, onto_items, onto_block}
 use Rattle.ls_parser.proofs.OntoClasses.{onto_parameter, onto_next_parameter, onto_group, onto_parameters, onto_result, onto_member, onto_class_tree, onto_part, onto_dotted, onto_star, onto_import, onto_header, onto_file}
 
 modifier_spells : (m : Modifier) (rest : List Lexeme) → onto_modifier m rest ≡ spell_modifier m ++ rest
@@ -149,11 +149,11 @@ star_spells : (all : Bool) (rest : List Lexeme) → onto_star all rest ≡ spell
 star_spells true rest = refl
 star_spells false rest = refl
 
-import_spells : (i : Import) (rest : List Lexeme) → onto_import i rest ≡ spell_import i ++ rest
+pub import_spells : (i : Import) (rest : List Lexeme) → onto_import i rest ≡ spell_import i ++ rest
 import_spells i rest =
     ap (cons (Reserved words.Import)) (dotted_spells i.path (onto_star i.all (Marked signs.Semicolon ∷ rest)) ∙ ap (on (spell_dotted i.path)) (star_spells i.all (Marked signs.Semicolon ∷ rest)) ∙ simp append_assoc)
 
-header_spells : (name : Option Dotted) (rest : List Lexeme) → onto_header name rest ≡ spell_package name ++ rest
+pub header_spells : (name : Option Dotted) (rest : List Lexeme) → onto_header name rest ≡ spell_package name ++ rest
 header_spells None rest = refl
 header_spells (Some name) rest = ap (cons (Reserved words.Package)) (dotted_spells name (Marked signs.Semicolon ∷ rest) ∙ sym (append_assoc (spell_dotted name) (Marked signs.Semicolon ∷ []) rest))
 

@@ -1,10 +1,11 @@
-pub mod ReadingActions
 pub mod ReadingClasses
 pub mod Laws
 pub mod Comes
+pub mod Leaves
 pub use Rattle.ls_spelling.specs.Spelling
 pub use Rattle.ls_spelling.specs.Spells
 pub use Rattle.ls_spelling.specs.Kinds
 pub use Rattle.ls_terms.specs.Answers
 pub use Rattle.ls_terms.specs.Reading
 pub use Rattle.ls_terms.specs.ReadingTerms
+pub use Rattle.ls_statements.specs.ReadingActions

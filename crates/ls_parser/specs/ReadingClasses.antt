@@ -7,7 +7,7 @@ use Rattle.ls_tree.specs.Trees.{Text, Modifier, TypeName, Items, Parameter, Memb
 use Rattle.ls_tree.specs.WellFormed.{most_nodes}
 use Rattle.ls_terms.specs.Reading.{◌>>=◌, Reader, given, after_sign, after_word, name_at, starts, many_at, not_yet, group_at}
 use Rattle.ls_terms.specs.ReadingTerms.{term_at}
-use Rattle.ls_parser.specs.ReadingActions.{modifiers_at, type_at, declarators_at, block_at}
+use Rattle.ls_statements.specs.ReadingActions.{modifiers_at, type_at, declarators_at, block_at}
 
 abbrev pub parameter_of : List Modifier → TypeName → Text → Parameter
 parameter_of modifiers type_name name = record { modifiers = modifiers; type_name = type_name; name = name }

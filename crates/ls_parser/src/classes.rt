@@ -1,19 +1,25 @@
 // Members and classes.
 
-ghost use Rattle.std.specs.Prelude.{◌≡◌, ◌+◌, ◌-◌, ◌<◌, ◌≤◌, ◌^◌, ◌++◌, ◌∷◌, [], IfOk, Some, None, length, map, option_map, is_some};
+ghost use Rattle.std.specs.Prelude.{◌≡◌, ◌+◌, ◌-◌, ◌<◌, ◌≤◌, ◌^◌, ◌++◌, ◌∷◌, List, [], IfOk, Some, None, length, map, option_map, is_some};
 ghost use Rattle.ls_lexer.specs.Lexemes.{lexemes};
 ghost use Rattle.ls_lexer.specs.declared.sign.Sign.TheVariants as signs;
 ghost use Rattle.ls_tree.specs.Views.{name_text, bare_modifier, bare_type, bare_parameter, bare_block, bare_member, bare_class};
+ghost use Rattle.ls_tree.specs.Trees as trees;
+ghost use Rattle.ls_tree.specs.Placed.{placed_name};
+ghost use Rattle.ls_tree.specs.PlacedStatements.{placed_type, placed_items, placed_parameter, placed_member, placed_class};
+ghost use Rattle.ls_spelling.specs.Places.{Spot, sign, spots};
+ghost use Rattle.ls_spelling.specs.StatementPlaces.{ManyAt, ModifierAt, TypeAt};
+ghost use Rattle.ls_spelling.specs.FilePlaces.{ParameterAt, SomeParametersAt, ParametersAt, CallableAt, ResultAt, MemberAt, BodyAt, ClassAt};
 ghost use Rattle.ls_terms.specs.Answers.{Gives, Finds};
 ghost use Rattle.ls_terms.specs.Reading.{one_more, behind_comma, many_at, not_yet, group_at};
 ghost use Rattle.ls_parser.specs.ReadingClasses.{parameter_at, parameters_at, starts_call, callable_at, constructor_at, method_at, typed_at, unmodified_at, member_at, class_body_at, class_at, is_left};
 
-use crate::declarations::{declarators, modifiers, type_name};
-use crate::statements::block;
 use ls_lexer::fault::TextFault;
 use ls_lexer::sign::Sign;
-use ls_lexer::token::Token;
+use ls_lexer::token::{Span, Token};
 use ls_lexer::word::Word;
+use ls_statements::declarations::{declarators, modifiers, type_name};
+use ls_statements::statements::block;
 use ls_terms::tokens::{
     Context, Read, closed, expect, expect_word, name, name_part, push, sign_part, starts_with,
     word_part,
@@ -25,11 +31,13 @@ pub const MOST_NODES: usize = 128;
 
 // ---- parameters
 
+#[tactic(auto, using(crate::proofs::Places::parameter_is))]
 fn parameter<'t, 'a>(
     context: Context,
     tokens: &'t [Token<'a>],
 ) -> Result<Read<'t, 'a, Parameter>, TextFault>
-    ensures { Gives (λ p. (bare_parameter p.tree, lexemes p.rest.now)) result (parameter_at (lexemes tokens.now)) }
+    ensures read { Gives (λ p. (bare_parameter p.tree, lexemes p.rest.now)) result (parameter_at (lexemes tokens.now)) }
+    ensures places { IfOk result (λ p. ParameterAt (placed_parameter p.tree) (spots tokens.now) (spots p.rest.now)) }
 {
     let modifiers = modifiers(context, tokens)?;
     let type_name = type_name(context, modifiers.rest)?;
@@ -45,17 +53,18 @@ fn parameter<'t, 'a>(
 }
 
 // What stands behind an opening parenthesis.
-#[tactic(auto, using(ls_terms::proofs::Repeats::group_none, ls_terms::proofs::Repeats::group_begins, ls_terms::proofs::Repeats::group_ends, ls_terms::proofs::Repeats::group_goes_on))]
+#[tactic(auto, using(ls_terms::proofs::Repeats::group_none, ls_terms::proofs::Repeats::group_begins, ls_terms::proofs::Repeats::group_ends, ls_terms::proofs::Repeats::group_goes_on, crate::proofs::Places::no_parameter, crate::proofs::Places::first_parameter, crate::proofs::Places::group_is))]
 fn parameter_group<'t, 'a>(
     context: Context,
     tokens: &'t [Token<'a>],
 ) -> Result<Read<'t, 'a, Vec<Parameter>>, TextFault>
-    ensures { Gives (λ p. (map bare_parameter p.tree.items, lexemes p.rest.now)) result (group_at parameter_at (lexemes tokens.now)) }
+    ensures read { Gives (λ p. (map bare_parameter p.tree.items, lexemes p.rest.now)) result (group_at parameter_at (lexemes tokens.now)) }
+    ensures places { IfOk result (λ p. (opening : Span) → ParametersAt (map placed_parameter p.tree.items) (sign signs.OpenParen opening ∷ spots tokens.now) (spots p.rest.now)) }
 {
-    if let Some(rest) = sign_part(tokens, Sign::CloseParen) {
+    if let Some(close) = sign_part(tokens, Sign::CloseParen) {
         return Ok(Read {
             tree: Vec::new(context.alloc),
-            rest,
+            rest: close.rest,
         });
     }
     let first = parameter(context, tokens)?;
@@ -66,22 +75,23 @@ fn parameter_group<'t, 'a>(
     while !starts_with(all.rest, Sign::CloseParen) {
         all = one_parameter(context, all)?;
     }
-    let rest = expect(context, all.rest, Sign::CloseParen)?;
+    let close = expect(context, all.rest, Sign::CloseParen)?;
     Ok(Read {
         tree: all.tree,
-        rest,
+        rest: close.rest,
     })
 }
 
-#[tactic(auto, using(ls_terms::proofs::Rows::map_push))]
+#[tactic(auto, using(ls_terms::proofs::Rows::map_push, crate::proofs::Places::parameter_pushed))]
 fn one_parameter<'t, 'a>(
     context: Context,
     before: Read<'t, 'a, Vec<Parameter>>,
 ) -> Result<Read<'t, 'a, Vec<Parameter>>, TextFault>
-    ensures { Gives (λ p. (map bare_parameter p.tree.items, lexemes p.rest.now)) result (one_more (behind_comma parameter_at) (map bare_parameter before.entry.tree.items) (lexemes before.entry.rest.now)) }
+    ensures read { Gives (λ p. (map bare_parameter p.tree.items, lexemes p.rest.now)) result (one_more (behind_comma parameter_at) (map bare_parameter before.entry.tree.items) (lexemes before.entry.rest.now)) }
+    ensures places { IfOk result (λ p. (ss : List Spot) → SomeParametersAt (map placed_parameter before.entry.tree.items) ss (spots before.entry.rest.now) → SomeParametersAt (map placed_parameter p.tree.items) ss (spots p.rest.now)) }
 {
-    let tokens = expect(context, before.rest, Sign::Comma)?;
-    let found = parameter(context, tokens)?;
+    let comma = expect(context, before.rest, Sign::Comma)?;
+    let found = parameter(context, comma.rest)?;
     Ok(Read {
         tree: push(before.tree, found.tree)?,
         rest: found.rest,
@@ -92,10 +102,11 @@ fn parameters<'t, 'a>(
     context: Context,
     tokens: &'t [Token<'a>],
 ) -> Result<Read<'t, 'a, Vec<Parameter>>, TextFault>
-    ensures { Gives (λ p. (map bare_parameter p.tree.items, lexemes p.rest.now)) result (parameters_at (lexemes tokens.now)) }
+    ensures read { Gives (λ p. (map bare_parameter p.tree.items, lexemes p.rest.now)) result (parameters_at (lexemes tokens.now)) }
+    ensures places { IfOk result (λ p. ParametersAt (map placed_parameter p.tree.items) (spots tokens.now) (spots p.rest.now)) }
 {
     let open = expect(context, tokens, Sign::OpenParen)?;
-    parameter_group(context, open)
+    parameter_group(context, open.rest)
 }
 
 // ---- members
@@ -105,17 +116,19 @@ fn starts_call(tokens: &[Token]) -> bool
     ensures { result ≡ starts_call (lexemes tokens.now) }
 {
     match name_part(tokens) {
-        Some((_, rest)) => starts_with(rest, Sign::OpenParen),
+        Some(found) => starts_with(found.rest, Sign::OpenParen),
         None => false,
     }
 }
 
 // A name, parameters and a body.
+#[tactic(auto, using(crate::proofs::Places::callable_is))]
 fn callable<'t, 'a>(
     context: Context,
     tokens: &'t [Token<'a>],
 ) -> Result<Read<'t, 'a, (Name, Vec<Parameter>, Block)>, TextFault>
-    ensures { Gives (λ c. ((name_text c.tree.0, map bare_parameter c.tree.1.items, bare_block c.tree.2), lexemes c.rest.now)) result (callable_at (lexemes tokens.now)) }
+    ensures read { Gives (λ c. ((name_text c.tree.0, map bare_parameter c.tree.1.items, bare_block c.tree.2), lexemes c.rest.now)) result (callable_at (lexemes tokens.now)) }
+    ensures places { IfOk result (λ c. CallableAt (placed_name c.tree.0) (map placed_parameter c.tree.1.items) (placed_items c.tree.2.items.items) (spots tokens.now) (spots c.rest.now)) }
 {
     let name = name(context, tokens)?;
     let parameters = parameters(context, name.rest)?;
@@ -126,13 +139,14 @@ fn callable<'t, 'a>(
     })
 }
 
-#[tactic(auto, using(crate::proofs::Steps::constructor_found, crate::proofs::Steps::constructor_fails))]
+#[tactic(auto, using(crate::proofs::Steps::constructor_found, crate::proofs::Steps::constructor_fails, crate::proofs::Places::constructor_is))]
 fn constructor<'t, 'a>(
     context: Context,
     modifiers: Vec<Modifier>,
     tokens: &'t [Token<'a>],
 ) -> Result<Read<'t, 'a, Member>, TextFault>
-    ensures { Gives (λ m. (bare_member m.tree, lexemes m.rest.now)) result (constructor_at (map bare_modifier modifiers.items) (lexemes tokens.now)) }
+    ensures read { Gives (λ m. (bare_member m.tree, lexemes m.rest.now)) result (constructor_at (map bare_modifier modifiers.items) (lexemes tokens.now)) }
+    ensures places { IfOk result (λ m. (ms : List trees.Modifier) (ss : List Spot) → ManyAt ModifierAt ms ss (spots tokens.now) → MemberAt (placed_member m.tree) ss (spots m.rest.now)) }
 {
     let found = callable(context, tokens)?;
     Ok(Read {
@@ -147,14 +161,15 @@ fn constructor<'t, 'a>(
 }
 
 // What stands behind the modifiers and the result of a method; no result is `void`.
-#[tactic(auto, using(crate::proofs::Steps::method_found, crate::proofs::Steps::method_fails))]
+#[tactic(auto, using(crate::proofs::Steps::method_found, crate::proofs::Steps::method_fails, crate::proofs::Places::method_is))]
 fn method<'t, 'a>(
     context: Context,
     modifiers: Vec<Modifier>,
     answer: Option<Type>,
     tokens: &'t [Token<'a>],
 ) -> Result<Read<'t, 'a, Member>, TextFault>
-    ensures { Gives (λ m. (bare_member m.tree, lexemes m.rest.now)) result (method_at (map bare_modifier modifiers.items) (option_map bare_type answer) (lexemes tokens.now)) }
+    ensures read { Gives (λ m. (bare_member m.tree, lexemes m.rest.now)) result (method_at (map bare_modifier modifiers.items) (option_map bare_type answer) (lexemes tokens.now)) }
+    ensures places { IfOk result (λ m. (ms : List trees.Modifier) (ss middle : List Spot) → ManyAt ModifierAt ms ss middle → ResultAt (option_map placed_type answer) middle (spots tokens.now) → MemberAt (placed_member m.tree) ss (spots m.rest.now)) }
 {
     let found = callable(context, tokens)?;
     Ok(Read {
@@ -170,6 +185,7 @@ fn method<'t, 'a>(
 }
 
 // What stands behind the modifiers and a type. All the tokens begin with the modifiers.
+#[tactic(auto, using(crate::proofs::Places::fields_is))]
 fn typed<'t, 'a>(
     context: Context,
     all: &'t [Token<'a>],
@@ -177,7 +193,8 @@ fn typed<'t, 'a>(
     type_name: Type,
     tokens: &'t [Token<'a>],
 ) -> Result<Read<'t, 'a, Member>, TextFault>
-    ensures { Gives (λ m. (bare_member m.tree, lexemes m.rest.now)) result (typed_at (map bare_modifier modifiers.items) (bare_type type_name) (lexemes tokens.now)) }
+    ensures read { Gives (λ m. (bare_member m.tree, lexemes m.rest.now)) result (typed_at (map bare_modifier modifiers.items) (bare_type type_name) (lexemes tokens.now)) }
+    ensures places { IfOk result (λ m. (ms : List trees.Modifier) (ss middle : List Spot) → ManyAt ModifierAt ms ss middle → TypeAt (placed_type type_name) middle (spots tokens.now) → MemberAt (placed_member m.tree) ss (spots m.rest.now)) }
 {
     if starts_call(tokens) {
         return method(context, modifiers, Some(type_name), tokens);
@@ -196,13 +213,14 @@ fn unmodified<'t, 'a>(
     modifiers: Vec<Modifier>,
     tokens: &'t [Token<'a>],
 ) -> Result<Read<'t, 'a, Member>, TextFault>
-    ensures { Gives (λ m. (bare_member m.tree, lexemes m.rest.now)) result (unmodified_at (map bare_modifier modifiers.items) (lexemes tokens.now)) }
+    ensures read { Gives (λ m. (bare_member m.tree, lexemes m.rest.now)) result (unmodified_at (map bare_modifier modifiers.items) (lexemes tokens.now)) }
+    ensures places { IfOk result (λ m. (ms : List trees.Modifier) (ss : List Spot) → ManyAt ModifierAt ms ss (spots tokens.now) → MemberAt (placed_member m.tree) ss (spots m.rest.now)) }
 {
     if starts_call(tokens) {
         return constructor(context, modifiers, tokens);
     }
-    if let Some(rest) = word_part(tokens, Word::Void) {
-        return method(context, modifiers, None, rest);
+    if let Some(void) = word_part(tokens, Word::Void) {
+        return method(context, modifiers, None, void.rest);
     }
     let type_name = type_name(context, tokens)?;
     typed(context, all, modifiers, type_name.tree, type_name.rest)
@@ -212,17 +230,20 @@ fn member<'t, 'a>(
     context: Context,
     tokens: &'t [Token<'a>],
 ) -> Result<Read<'t, 'a, Member>, TextFault>
-    ensures { Gives (λ m. (bare_member m.tree, lexemes m.rest.now)) result (member_at (lexemes tokens.now)) }
+    ensures read { Gives (λ m. (bare_member m.tree, lexemes m.rest.now)) result (member_at (lexemes tokens.now)) }
+    ensures places { IfOk result (λ m. MemberAt (placed_member m.tree) (spots tokens.now) (spots m.rest.now)) }
 {
     let modifiers = modifiers(context, tokens)?;
     unmodified(context, tokens, modifiers.tree, modifiers.rest)
 }
 
+#[tactic(auto, using(crate::proofs::Places::members_none))]
 fn members<'t, 'a>(
     context: Context,
     tokens: &'t [Token<'a>],
 ) -> Result<Read<'t, 'a, Vec<Member>>, TextFault>
-    ensures { Gives (λ m. (map bare_member m.tree.items, lexemes m.rest.now)) result (many_at (not_yet signs.CloseBrace) member_at (lexemes tokens.now)) }
+    ensures read { Gives (λ m. (map bare_member m.tree.items, lexemes m.rest.now)) result (many_at (not_yet signs.CloseBrace) member_at (lexemes tokens.now)) }
+    ensures places { IfOk result (λ m. ManyAt MemberAt (map placed_member m.tree.items) (spots tokens.now) (spots m.rest.now)) }
 {
     let mut all = Read {
         tree: Vec::new(context.alloc),
@@ -234,12 +255,13 @@ fn members<'t, 'a>(
     Ok(all)
 }
 
-#[tactic(auto, using(ls_terms::proofs::Rows::map_push))]
+#[tactic(auto, using(ls_terms::proofs::Rows::map_push, crate::proofs::Places::members_pushed))]
 fn one_member<'t, 'a>(
     context: Context,
     before: Read<'t, 'a, Vec<Member>>,
 ) -> Result<Read<'t, 'a, Vec<Member>>, TextFault>
-    ensures { Gives (λ m. (map bare_member m.tree.items, lexemes m.rest.now)) result (one_more member_at (map bare_member before.entry.tree.items) (lexemes before.entry.rest.now)) }
+    ensures read { Gives (λ m. (map bare_member m.tree.items, lexemes m.rest.now)) result (one_more member_at (map bare_member before.entry.tree.items) (lexemes before.entry.rest.now)) }
+    ensures places { IfOk result (λ m. (ss : List Spot) → ManyAt MemberAt (map placed_member before.entry.tree.items) ss (spots before.entry.rest.now) → ManyAt MemberAt (map placed_member m.tree.items) ss (spots m.rest.now)) }
 {
     let found = member(context, before.rest)?;
     Ok(Read {
@@ -251,26 +273,31 @@ fn one_member<'t, 'a>(
 // ---- classes
 
 // Members in braces.
+#[tactic(auto, using(crate::proofs::Places::body_is))]
 fn class_body<'t, 'a>(
     context: Context,
     tokens: &'t [Token<'a>],
 ) -> Result<Read<'t, 'a, Vec<Member>>, TextFault>
-    ensures { Gives (λ m. (map bare_member m.tree.items, lexemes m.rest.now)) result (class_body_at (lexemes tokens.now)) }
+    ensures read { Gives (λ m. (map bare_member m.tree.items, lexemes m.rest.now)) result (class_body_at (lexemes tokens.now)) }
+    ensures places { IfOk result (λ m. BodyAt (map placed_member m.tree.items) (spots tokens.now) (spots m.rest.now)) }
 {
     let open = expect(context, tokens, Sign::OpenBrace)?;
-    let members = members(context, open)?;
-    closed(context, members, Sign::CloseBrace)
+    let members = members(context, open.rest)?;
+    let members = closed(context, members, Sign::CloseBrace)?;
+    Ok(members)
 }
 
+#[tactic(auto, using(crate::proofs::Places::class_is))]
 fn class<'t, 'a>(
     context: Context,
     tokens: &'t [Token<'a>],
 ) -> Result<Read<'t, 'a, Class>, TextFault>
-    ensures { Gives (λ c. (bare_class c.tree, lexemes c.rest.now)) result (class_at (lexemes tokens.now)) }
+    ensures read { Gives (λ c. (bare_class c.tree, lexemes c.rest.now)) result (class_at (lexemes tokens.now)) }
+    ensures places { IfOk result (λ c. ClassAt (placed_class c.tree) (spots tokens.now) (spots c.rest.now)) }
 {
     let modifiers = modifiers(context, tokens)?;
-    let named = expect_word(context, modifiers.rest, Word::Class)?;
-    let name = name(context, named)?;
+    let word = expect_word(context, modifiers.rest, Word::Class)?;
+    let name = name(context, word.rest)?;
     let members = class_body(context, name.rest)?;
     Ok(Read {
         tree: Class {
@@ -289,11 +316,13 @@ fn is_left(tokens: &[Token]) -> bool
 }
 
 /// Classes up to the end of the tokens.
+#[tactic(auto, using(crate::proofs::Places::classes_none))]
 pub fn classes<'t, 'a>(
     context: Context,
     tokens: &'t [Token<'a>],
 ) -> Result<Read<'t, 'a, Vec<Class>>, TextFault>
-    ensures { Gives (λ c. (map bare_class c.tree.items, lexemes c.rest.now)) result (many_at is_left class_at (lexemes tokens.now)) }
+    ensures read { Gives (λ c. (map bare_class c.tree.items, lexemes c.rest.now)) result (many_at is_left class_at (lexemes tokens.now)) }
+    ensures places { IfOk result (λ c. ManyAt ClassAt (map placed_class c.tree.items) (spots tokens.now) []) }
 {
     let mut all = Read {
         tree: Vec::new(context.alloc),
@@ -305,12 +334,13 @@ pub fn classes<'t, 'a>(
     Ok(all)
 }
 
-#[tactic(auto, using(ls_terms::proofs::Rows::map_push))]
+#[tactic(auto, using(ls_terms::proofs::Rows::map_push, crate::proofs::Places::classes_pushed))]
 fn one_class<'t, 'a>(
     context: Context,
     before: Read<'t, 'a, Vec<Class>>,
 ) -> Result<Read<'t, 'a, Vec<Class>>, TextFault>
-    ensures { Gives (λ c. (map bare_class c.tree.items, lexemes c.rest.now)) result (one_more class_at (map bare_class before.entry.tree.items) (lexemes before.entry.rest.now)) }
+    ensures read { Gives (λ c. (map bare_class c.tree.items, lexemes c.rest.now)) result (one_more class_at (map bare_class before.entry.tree.items) (lexemes before.entry.rest.now)) }
+    ensures places { IfOk result (λ c. (ss : List Spot) → ManyAt ClassAt (map placed_class before.entry.tree.items) ss (spots before.entry.rest.now) → ManyAt ClassAt (map placed_class c.tree.items) ss (spots c.rest.now)) }
 {
     let found = class(context, before.rest)?;
     Ok(Read {

@@ -1,9 +1,11 @@
 // Packages and imports.
 
-ghost use Rattle.std.specs.Prelude.{◌≡◌, ◌++◌, ◌∷◌, [], IfOk, Some, None, map, option_map};
+ghost use Rattle.std.specs.Prelude.{◌≡◌, ◌++◌, ◌∷◌, [], IfOk, IfSome, Some, None, map, option_map};
 ghost use Rattle.ls_lexer.specs.Lexemes.{lexemes};
 ghost use Rattle.ls_lexer.specs.declared.sign.Sign.TheVariants as signs;
 ghost use Rattle.ls_tree.specs.Views.{name_text, bare_dotted, bare_import};
+ghost use Rattle.ls_spelling.specs.Places.{spots};
+ghost use Rattle.ls_parser.specs.Leaves.{Leaves};
 ghost use Rattle.ls_terms.specs.Answers.{Gives, Finds};
 ghost use Rattle.ls_terms.specs.Reading.{after_sign, one_more, many_at, not_yet};
 ghost use Rattle.ls_parser.specs.ReadingClasses.{part_at, dotted_at, after_star, more_path, import_of, import_at, package_at, header_at, starts_import};
@@ -18,11 +20,13 @@ use ls_terms::tokens::{
 use ls_tree::tree::{Dotted, Import, Name};
 
 // Names behind dots, up to a semicolon.
+#[tactic(auto, using(crate::proofs::Leaving::all_kept))]
 fn package_parts<'t, 'a>(
     context: Context,
     tokens: &'t [Token<'a>],
 ) -> Result<Read<'t, 'a, Vec<Name>>, TextFault>
-    ensures { Gives (λ d. (map name_text d.tree.items, lexemes d.rest.now)) result (many_at (not_yet signs.Semicolon) part_at (lexemes tokens.now)) }
+    ensures read { Gives (λ d. (map name_text d.tree.items, lexemes d.rest.now)) result (many_at (not_yet signs.Semicolon) part_at (lexemes tokens.now)) }
+    ensures leaves { IfOk result (λ x. Leaves (spots tokens.now) (spots x.rest.now)) }
 {
     let mut all = Read {
         tree: Vec::new(context.alloc),
@@ -35,11 +39,13 @@ fn package_parts<'t, 'a>(
 }
 
 // Names behind dots, up to a semicolon or `.*`.
+#[tactic(auto, using(crate::proofs::Leaving::all_kept))]
 fn import_parts<'t, 'a>(
     context: Context,
     tokens: &'t [Token<'a>],
 ) -> Result<Read<'t, 'a, Vec<Name>>, TextFault>
-    ensures { Gives (λ d. (map name_text d.tree.items, lexemes d.rest.now)) result (many_at more_path part_at (lexemes tokens.now)) }
+    ensures read { Gives (λ d. (map name_text d.tree.items, lexemes d.rest.now)) result (many_at more_path part_at (lexemes tokens.now)) }
+    ensures leaves { IfOk result (λ x. Leaves (spots tokens.now) (spots x.rest.now)) }
 {
     let mut all = Read {
         tree: Vec::new(context.alloc),
@@ -51,15 +57,16 @@ fn import_parts<'t, 'a>(
     Ok(all)
 }
 
-#[tactic(auto, using(ls_terms::proofs::Rows::map_push))]
+#[tactic(auto, using(ls_terms::proofs::Rows::map_push, crate::proofs::Leaving::two_taken))]
 fn one_part<'t, 'a>(
     context: Context,
     before: Read<'t, 'a, Vec<Name>>,
 ) -> Result<Read<'t, 'a, Vec<Name>>, TextFault>
-    ensures { Gives (λ d. (map name_text d.tree.items, lexemes d.rest.now)) result (one_more part_at (map name_text before.entry.tree.items) (lexemes before.entry.rest.now)) }
+    ensures read { Gives (λ d. (map name_text d.tree.items, lexemes d.rest.now)) result (one_more part_at (map name_text before.entry.tree.items) (lexemes before.entry.rest.now)) }
+    ensures leaves { IfOk result (λ x. Leaves (spots before.entry.rest.now) (spots x.rest.now)) }
 {
-    let tokens = expect(context, before.rest, Sign::Dot)?;
-    let found = name(context, tokens)?;
+    let dot = expect(context, before.rest, Sign::Dot)?;
+    let found = name(context, dot.rest)?;
     Ok(Read {
         tree: push(before.tree, found.tree)?,
         rest: found.rest,
@@ -67,11 +74,14 @@ fn one_part<'t, 'a>(
 }
 
 // What is left behind `.*`.
+#[tactic(auto, using(crate::proofs::Leaving::two_taken))]
 fn star_part<'t, 'a>(tokens: &'t [Token<'a>]) -> Option<&'t [Token<'a>]>
-    ensures { Finds (λ rest. lexemes rest.now) result (after_star (lexemes tokens.now)) }
+    ensures read { Finds (λ rest. lexemes rest.now) result (after_star (lexemes tokens.now)) }
+    ensures leaves { IfSome result (λ x. Leaves (spots tokens.now) (spots x.now)) }
 {
-    let rest = sign_part(tokens, Sign::Dot)?;
-    sign_part(rest, Sign::Star)
+    let dot = sign_part(tokens, Sign::Dot)?;
+    let star = sign_part(dot.rest, Sign::Star)?;
+    Some(star.rest)
 }
 
 fn more_path(tokens: &[Token]) -> bool
@@ -81,11 +91,13 @@ fn more_path(tokens: &[Token]) -> bool
 }
 
 // What stands behind `import`.
+#[tactic(auto, using(crate::proofs::Leaving::taken_then))]
 fn path<'t, 'a>(
     context: Context,
     tokens: &'t [Token<'a>],
 ) -> Result<Read<'t, 'a, Dotted>, TextFault>
-    ensures { Gives (λ d. (bare_dotted d.tree, lexemes d.rest.now)) result (dotted_at more_path (lexemes tokens.now)) }
+    ensures read { Gives (λ d. (bare_dotted d.tree, lexemes d.rest.now)) result (dotted_at more_path (lexemes tokens.now)) }
+    ensures leaves { IfOk result (λ x. Leaves (spots tokens.now) (spots x.rest.now)) }
 {
     let first = name(context, tokens)?;
     let more = import_parts(context, first.rest)?;
@@ -99,6 +111,7 @@ fn path<'t, 'a>(
 }
 
 // An import, where a semicolon is left.
+#[tactic(auto, using(crate::proofs::Leaving::one_taken))]
 fn imported<'t, 'a>(
     context: Context,
     path: Dotted,
@@ -106,23 +119,26 @@ fn imported<'t, 'a>(
     tokens: &'t [Token<'a>],
 ) -> Result<Read<'t, 'a, Import>, TextFault>
     ensures read { Gives (λ i. lexemes i.rest.now) result (after_sign signs.Semicolon (lexemes tokens.now)) }
+    ensures leaves { IfOk result (λ x. Leaves (spots tokens.now) (spots x.rest.now)) }
     ensures same { IfOk result (λ i. bare_import i.tree ≡ import_of (bare_dotted path) all) }
 {
-    let rest = expect(context, tokens, Sign::Semicolon)?;
+    let end = expect(context, tokens, Sign::Semicolon)?;
     Ok(Read {
         tree: Import { path, all },
-        rest,
+        rest: end.rest,
     })
 }
 
+#[tactic(auto, using(crate::proofs::Leaving::taken_and_both))]
 fn import<'t, 'a>(
     context: Context,
     tokens: &'t [Token<'a>],
 ) -> Result<Read<'t, 'a, Import>, TextFault>
-    ensures { Gives (λ i. (bare_import i.tree, lexemes i.rest.now)) result (import_at (lexemes tokens.now)) }
+    ensures read { Gives (λ i. (bare_import i.tree, lexemes i.rest.now)) result (import_at (lexemes tokens.now)) }
+    ensures leaves { IfOk result (λ x. Leaves (spots tokens.now) (spots x.rest.now)) }
 {
-    let named = expect_word(context, tokens, Word::Import)?;
-    let path = path(context, named)?;
+    let word = expect_word(context, tokens, Word::Import)?;
+    let path = path(context, word.rest)?;
     match star_part(path.rest) {
         Some(rest) => imported(context, path.tree, true, rest),
         None => imported(context, path.tree, false, path.rest),
@@ -135,11 +151,13 @@ fn starts_import(tokens: &[Token]) -> bool
     word_part(tokens, Word::Import).is_some()
 }
 
+#[tactic(auto, using(crate::proofs::Leaving::all_kept))]
 pub fn imports<'t, 'a>(
     context: Context,
     tokens: &'t [Token<'a>],
 ) -> Result<Read<'t, 'a, Vec<Import>>, TextFault>
-    ensures { Gives (λ i. (map bare_import i.tree.items, lexemes i.rest.now)) result (many_at starts_import import_at (lexemes tokens.now)) }
+    ensures read { Gives (λ i. (map bare_import i.tree.items, lexemes i.rest.now)) result (many_at starts_import import_at (lexemes tokens.now)) }
+    ensures leaves { IfOk result (λ x. Leaves (spots tokens.now) (spots x.rest.now)) }
 {
     let mut all = Read {
         tree: Vec::new(context.alloc),
@@ -156,7 +174,8 @@ fn one_import<'t, 'a>(
     context: Context,
     before: Read<'t, 'a, Vec<Import>>,
 ) -> Result<Read<'t, 'a, Vec<Import>>, TextFault>
-    ensures { Gives (λ i. (map bare_import i.tree.items, lexemes i.rest.now)) result (one_more import_at (map bare_import before.entry.tree.items) (lexemes before.entry.rest.now)) }
+    ensures read { Gives (λ i. (map bare_import i.tree.items, lexemes i.rest.now)) result (one_more import_at (map bare_import before.entry.tree.items) (lexemes before.entry.rest.now)) }
+    ensures leaves { IfOk result (λ x. Leaves (spots before.entry.rest.now) (spots x.rest.now)) }
 {
     let found = import(context, before.rest)?;
     Ok(Read {
@@ -166,11 +185,13 @@ fn one_import<'t, 'a>(
 }
 
 // What stands behind `package`.
+#[tactic(auto, using(crate::proofs::Leaving::taken_then, crate::proofs::Leaving::then_closed))]
 fn package_name<'t, 'a>(
     context: Context,
     tokens: &'t [Token<'a>],
 ) -> Result<Read<'t, 'a, Dotted>, TextFault>
-    ensures { Gives (λ d. (bare_dotted d.tree, lexemes d.rest.now)) result (package_at (lexemes tokens.now)) }
+    ensures read { Gives (λ d. (bare_dotted d.tree, lexemes d.rest.now)) result (package_at (lexemes tokens.now)) }
+    ensures leaves { IfOk result (λ x. Leaves (spots tokens.now) (spots x.rest.now)) }
 {
     let first = name(context, tokens)?;
     let more = package_parts(context, first.rest)?;
@@ -185,15 +206,17 @@ fn package_name<'t, 'a>(
 }
 
 /// The package, if one is named.
+#[tactic(auto, using(crate::proofs::Leaving::all_kept, crate::proofs::Leaving::taken_then))]
 pub fn header<'t, 'a>(
     context: Context,
     tokens: &'t [Token<'a>],
 ) -> Result<Read<'t, 'a, Option<Dotted>>, TextFault>
-    ensures { Gives (λ h. (option_map bare_dotted h.tree, lexemes h.rest.now)) result (header_at (lexemes tokens.now)) }
+    ensures read { Gives (λ h. (option_map bare_dotted h.tree, lexemes h.rest.now)) result (header_at (lexemes tokens.now)) }
+    ensures leaves { IfOk result (λ x. Leaves (spots tokens.now) (spots x.rest.now)) }
 {
     match word_part(tokens, Word::Package) {
-        Some(rest) => {
-            let name = package_name(context, rest)?;
+        Some(word) => {
+            let name = package_name(context, word.rest)?;
             Ok(Read {
                 tree: Some(name.tree),
                 rest: name.rest,

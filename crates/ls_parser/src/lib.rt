@@ -2,12 +2,9 @@
 #![tactic(auto)]
 
 mod classes;
-mod declarations;
 mod imports;
 pub mod parse;
-mod simple_statements;
 pub mod spelling;
-mod statements;
 
 pub use crate::spelling::spell;
 pub use ls_lexer::lexing::lex;

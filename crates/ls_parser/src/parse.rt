@@ -1,12 +1,16 @@
 // From tokens and texts to trees.
 
-ghost use Rattle.std.specs.Prelude.{◌≡◌, ◌<◌, IfOk, IfErr, IsErrOf, Some, length};
+ghost use Rattle.std.specs.Prelude.{◌≡◌, ◌<◌, IfOk, IfErr, IsErrOf, Some, length, map};
 ghost use Rattle.ls_lexer.specs.Lexemes.{lexemes};
 ghost use Rattle.ls_lexer.specs.Places.{text_limit};
 ghost use Rattle.ls_lexer.specs.declared.fault.TextFault.TheVariants.{TooLong};
 ghost use Rattle.ls_tree.specs.Trees.{File};
 ghost use Rattle.ls_tree.specs.Views.{file_of};
 ghost use Rattle.ls_tree.specs.FileView.{bare_file};
+ghost use Rattle.ls_tree.specs.PlacedStatements.{placed_class, placed_file};
+ghost use Rattle.ls_spelling.specs.Places.{spots};
+ghost use Rattle.ls_spelling.specs.FilePlaces.{FileAt};
+ghost use Rattle.ls_placing.specs.Files.{IsFileOf};
 ghost use Rattle.ls_terms.specs.Answers.{Refuses, RefusesTokens, MayCome, Gives};
 ghost use Rattle.ls_parser.specs.ReadingClasses.{file_at};
 ghost use Rattle.ls_spelling.specs.Spells.{Spells, TextSpells};
@@ -28,9 +32,10 @@ struct Parts {
     classes: Vec<Class>,
 }
 
-#[tactic(auto, unfolding(crate::specs::ReadingClasses::file_at))]
+#[tactic(auto, unfolding(crate::specs::ReadingClasses::file_at), using(crate::proofs::FilePlaces::file_placed))]
 fn read_parts(context: Context, tokens: &[Token]) -> Result<Parts, TextFault>
-    ensures { Gives (λ p. file_of p.header p.imports.items p.classes.items) result (file_at (lexemes tokens.now)) }
+    ensures read { Gives (λ p. file_of p.header p.imports.items p.classes.items) result (file_at (lexemes tokens.now)) }
+    ensures places { IfOk result (λ p. FileAt (record { classes = map placed_class p.classes.items }) (spots tokens.now)) }
 {
     let header = header(context, tokens)?;
     let imports = imports(context, header.rest)?;
@@ -50,6 +55,7 @@ fn read_parts(context: Context, tokens: &[Token]) -> Result<Parts, TextFault>
 #[tactic(auto, using(crate::proofs::Files::found_is, crate::proofs::Files::formed_is, crate::proofs::Files::refused_is))]
 pub fn parse(alloc: Global, tokens: &[Token]) -> Result<ClassFile, TextFault>
     ensures found { IfOk result (λ f. Spells (bare_file f) (lexemes tokens.now)) }
+    ensures placed { IfOk result (λ f. FileAt (placed_file f) (spots tokens.now)) }
     ensures refused { IfErr result (λ e. RefusesTokens e ((f : File) → Spells f (lexemes tokens.now) → ⊥)) }
 {
     let end = match tokens.last() {
@@ -64,9 +70,10 @@ pub fn parse(alloc: Global, tokens: &[Token]) -> Result<ClassFile, TextFault>
 /// none. `TooLong` comes exactly where the text has more than 262,144 bytes, which is a limit of this profile, and `BadByte`
 /// and `OpenComment` only where that fault stands behind gaps and tokens. `BadNumber` comes where it stands so too, or else,
 /// as `Syntax` and `TooDeep` do, of a text that has tokens, as `parse` says.
-#[tactic(auto, using(crate::proofs::Files::text_found, crate::proofs::Files::text_refused, crate::proofs::Files::lexing_refused, crate::proofs::Files::lexing_may_come, crate::proofs::Files::parsing_may_come))]
+#[tactic(auto, using(crate::proofs::Files::text_found, crate::proofs::FilePlaces::text_file, crate::proofs::Files::text_refused, crate::proofs::Files::lexing_refused, crate::proofs::Files::lexing_may_come, crate::proofs::Files::parsing_may_come))]
 pub fn parse_text(alloc: Global, text: &str) -> Result<ClassFile, TextFault>
     ensures found { IfOk result (λ f. TextSpells (bare_file f) text.now) }
+    ensures file { IfOk result (λ f. IsFileOf text.now (placed_file f)) }
     ensures refused { IfErr result (λ e. Refuses e ((f : File) → TextSpells f text.now → ⊥)) }
     ensures comes { IfErr result (λ e. MayCome text.now e) }
     ensures long { text_limit < length text.now → IsErrOf result TooLong }

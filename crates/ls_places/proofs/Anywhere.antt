@@ -2,7 +2,7 @@
 use Rattle.std.proofs.Common.{◌≡◌, ap, Ok, Err}
 use Rattle.ls_elaboration.specs.declared.rule.Rule.{Rule}
 use Rattle.ls_elaboration.specs.Elaborated.{Elaborated}
-use Rattle.ls_places.specs.Unplaced.{nowhere}
+use Rattle.ls_placing.specs.Unplaced.{nowhere}
 use Rattle.ls_places.specs.Laws.{SameAnswer}
 
 -- the answer with its place put to 0

@@ -23,7 +23,7 @@ use Rattle.ls_elaboration.specs.StaticTypes.{Typed, typed_as, fits, as_type, is_
 use Rattle.ls_elaboration.specs.Members.{method_member, member_of, found, maker_of, object_maker, markable_maker}
 use Rattle.ls_elaboration.specs.Operators.{unary_of, of_operands, computed, compared, binary_of}
 use Rattle.ls_elaboration.specs.TypedExpressions.{own_field, local_or, field_in, field_at, is_integer, integer_constant, typed, passed, fitting}
-use Rattle.ls_places.specs.Unplaced.{nowhere, unplaced, all_unplaced, unplaced_name}
+use Rattle.ls_placing.specs.Unplaced.{nowhere, unplaced, all_unplaced, unplaced_name}
 use Rattle.ls_places.proofs.Anywhere.{anywhere}
 use Rattle.ls_places.proofs.Steps.{bind, blank, choice}
 

@@ -18,7 +18,7 @@ use Rattle.ls_elaboration.specs.TypedStatements.{sequence, items}
 use Rattle.ls_elaboration.specs.TypedMethods.{parameter, field_set, declarator_set, member_set, initialisers, finished, method, written_method, written_constructor, one_method, has_constructor, default_constructor, class_methods}
 use Rattle.ls_elaboration.specs.Signs.{is_reserved, most_classes, most_fields, most_methods, with_room, one_name, one_type, parameter_types, Met, field_met, fields_met, method_met, constructor_met, member_met, Classes, class_met, nothing_met, one_class, class_names, class_signs}
 use Rattle.ls_elaboration.specs.Elaboration.{Bodies, one_body, file_methods, elaborated}
-use Rattle.ls_places.specs.Unplaced.{nowhere, unplaced, unplaced_name, unplaced_type, unplaced_declarator, unplaced_declaration, unplaced_items, unplaced_parameter, unplaced_member, unplaced_class, unplaced_file}
+use Rattle.ls_placing.specs.Unplaced.{nowhere, unplaced, unplaced_name, unplaced_type, unplaced_declarator, unplaced_declaration, unplaced_items, unplaced_parameter, unplaced_member, unplaced_class, unplaced_file}
 use Rattle.ls_places.proofs.Anywhere.{anywhere, same_answer}
 use Rattle.ls_places.specs.Laws.{NoPlaces}
 use Rattle.ls_places.proofs.Steps.{bind, test, choice, each_same}

@@ -3,5 +3,4 @@ pub mod Steps
 pub mod Expressions
 pub mod Statements
 pub mod Files
-pub mod Spelled
 pub mod Texts

@@ -15,7 +15,7 @@ use Rattle.ls_elaboration.specs.Known.{Known, Local, local_named, number_of, is_
 use Rattle.ls_elaboration.specs.TypedExpressions.{typed, fitting}
 use Rattle.ls_elaboration.specs.Scopes.{Body, Scope, most_slots, start_of, with_statement, with_variable, may_declare, initialised, declared, declaration}
 use Rattle.ls_elaboration.specs.TypedStatements.{Loops, with_slots, loop_named, found_loop, jump, label_text, fresh_label, variable, assignment, returned, opened, closed, followed, statement, items}
-use Rattle.ls_places.specs.Unplaced.{nowhere, unplaced, unplaced_name, unplaced_type, unplaced_declarator, unplaced_declaration, unplaced_statement, unplaced_items}
+use Rattle.ls_placing.specs.Unplaced.{nowhere, unplaced, unplaced_name, unplaced_type, unplaced_declarator, unplaced_declaration, unplaced_statement, unplaced_items}
 use Rattle.ls_places.proofs.Anywhere.{anywhere}
 use Rattle.ls_places.proofs.Steps.{bind, blank, test, choice, each_same}
 use Rattle.ls_places.proofs.Expressions.{span_nowhere, typed_same, fitting_same}

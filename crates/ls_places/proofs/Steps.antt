@@ -4,7 +4,7 @@ use Rattle.std.specs.Prelude.{if◌then◌else◌}
 use Rattle.ls_lexer.specs.declared.token.Span.{Span}
 use Rattle.ls_elaboration.specs.declared.rule.Rule.{Rule}
 use Rattle.ls_elaboration.specs.Elaborated.{Elaborated, broken, with_ok, unless_broken, each}
-use Rattle.ls_places.specs.Unplaced.{nowhere}
+use Rattle.ls_placing.specs.Unplaced.{nowhere}
 use Rattle.ls_places.proofs.Anywhere.{anywhere}
 
 pub bind : {A B : Type 0} (x x' : Elaborated A) (f f' : A → Elaborated B) → x' ≡ anywhere x → ((a : A) → f' a ≡ anywhere (f a))

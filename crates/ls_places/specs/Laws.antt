@@ -1,13 +1,10 @@
 -- What elaboration answers doesn't depend on places.
 use Rattle.std.specs.Prelude.{◌≡◌, ℕ, List, Ok, Err}
-use Rattle.ls_tree.specs.declared.tree.ClassFile.{ClassFile}
-use Rattle.ls_tree.specs.FileView.{bare_file}
-use Rattle.ls_spelling.specs.Spells.{TextSpells}
 use Rattle.ls_elaboration.specs.Trees.{File}
 use Rattle.ls_elaboration.specs.Elaborated.{Elaborated}
 use Rattle.ls_elaboration.specs.Elaboration.{elaborated}
-use Rattle.ls_elaboration.specs.PlacedStatements.{placed_file}
-use Rattle.ls_places.specs.Unplaced.{unplaced_file}
+use Rattle.ls_placing.specs.Unplaced.{unplaced_file}
+use Rattle.ls_placing.specs.Files.{IsFileOf}
 
 -- one outcome, or one rule that is broken, wherever that is
 abbrev pub SameAnswer : {A : Type 0} → Elaborated A → Elaborated A → Type 0
@@ -19,7 +16,6 @@ SameAnswer _ _ = ⊥
 abbrev pub NoPlaces : Type 0
 NoPlaces = (f g : File) → unplaced_file f ≡ unplaced_file g → SameAnswer (elaborated f) (elaborated g)
 
--- two trees that one text spells: so where one is refused, every one is
+-- two files that one text is: so where one is refused, every one is
 abbrev pub OneAnswer : Type 0
-OneAnswer = (text : List ℕ) (f g : ClassFile) → TextSpells (bare_file f) text → TextSpells (bare_file g) text
-    → SameAnswer (elaborated (placed_file f)) (elaborated (placed_file g))
+OneAnswer = (text : List ℕ) (f g : File) → IsFileOf text f → IsFileOf text g → SameAnswer (elaborated f) (elaborated g)

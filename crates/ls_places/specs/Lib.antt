@@ -1,2 +1,1 @@
-pub mod Unplaced
 pub mod Laws

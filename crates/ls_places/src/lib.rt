@@ -10,9 +10,8 @@ pub fn no_places()
     ensures { NoPlaces }
 {}
 
-/// Two trees that one text spells have one outcome, or break one rule: so a text that is refused is refused for every
-/// tree that it spells.
-#[tactic(auto, using(crate::proofs::Texts::one_answer))]
+/// Two files that one text is have one outcome, or break one rule: so a text that is refused is refused for every
+/// file that it is.
 pub fn one_answer()
     ensures { OneAnswer }
 {

@@ -6,5 +6,7 @@ pub mod Lists
 pub mod Chains
 pub mod Posts
 pub mod Rows
+pub mod PlacedRows
+pub mod Places
 pub mod TermsRead
 pub mod TermsAgain

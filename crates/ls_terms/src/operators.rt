@@ -1,14 +1,18 @@
 // Operators.
 
-ghost use Rattle.std.specs.Prelude.{◌≡◌, ◌-◌, ◌<◌, IfOk, Some};
-ghost use Rattle.ls_lexer.specs.Lexemes.{lexeme_of, lexemes};
+ghost use Rattle.std.specs.Prelude.{◌≡◌, ◌∷◌, ◌-◌, ◌<◌, IfOk, IfSome, Some};
+ghost use Rattle.ls_lexer.specs.Lexemes.{Marked, lexeme_of, lexemes};
+ghost use Rattle.ls_spelling.specs.Spelling.{sign_of, sign_of_unary};
+ghost use Rattle.ls_spelling.specs.Places.{spots, sign, upto};
+ghost use Rattle.ls_tree.specs.PlacedTrees as trees;
+ghost use Rattle.ls_tree.specs.Placed.{placed};
 ghost use Rattle.ls_tree.specs.Trees.{Binary};
 ghost use Rattle.ls_tree.specs.WellFormed.{rank_of};
 ghost use Rattle.ls_tree.specs.Views.{bare};
 ghost use Rattle.ls_terms.specs.Answers.{Finds};
 ghost use Rattle.ls_terms.specs.ReadingTerms.{operator_of_sign, operator_at, has_operator, unary_of};
 
-use crate::tokens::{Context, two_boxed};
+use crate::tokens::{Context, two_boxed, upto};
 use ls_lexer::fault::TextFault;
 use ls_lexer::sign::Sign;
 use ls_lexer::token::{Span, Token, TokenKind};
@@ -19,7 +23,8 @@ use std::alloc::AllocError;
 // ---- operators
 
 pub fn operator_of(sign: Sign) -> Option<BinaryOp>
-    ensures { result ≡ operator_of_sign sign }
+    ensures read { result ≡ operator_of_sign sign }
+    ensures spelled { IfSome result (λ op. sign_of op ≡ sign) }
 {
     match sign {
         Sign::Or => Some(BinaryOp::Or),
@@ -53,18 +58,29 @@ pub fn rank(op: BinaryOp) -> usize
     }
 }
 
-pub fn operator_part<'t, 'a>(
-    tokens: &'t [Token<'a>],
-    wanted: usize,
-) -> Option<(BinaryOp, &'t [Token<'a>])>
-    ensures { Finds (λ x. (x.0, lexemes x.1.now)) result (operator_at wanted (lexemes tokens.now)) }
+/// An operator, where it stands, and the tokens behind it.
+#[derive(Clone, Copy)]
+pub struct Operator<'t, 'a> {
+    pub op: BinaryOp,
+    pub span: Span,
+    pub rest: &'t [Token<'a>],
+}
+
+#[tactic(auto, using(crate::proofs::Places::operator_stands))]
+pub fn operator_part<'t, 'a>(tokens: &'t [Token<'a>], wanted: usize) -> Option<Operator<'t, 'a>>
+    ensures read { Finds (λ x. (x.op, lexemes x.rest.now)) result (operator_at wanted (lexemes tokens.now)) }
+    ensures placed { IfSome result (λ x. spots tokens.now ≡ sign (sign_of x.op) x.span ∷ spots x.rest.now) }
 {
     match tokens {
         [token, rest @ ..] => match token.kind {
             TokenKind::Sign(sign) => {
                 let op = operator_of(sign)?;
                 if rank(op) == wanted {
-                    Some((op, rest))
+                    Some(Operator {
+                        op,
+                        span: token.span,
+                        rest,
+                    })
                 } else {
                     None
                 }
@@ -82,7 +98,8 @@ pub fn has_operator(tokens: &[Token], wanted: usize) -> bool
 }
 
 pub fn unary_op(kind: TokenKind) -> Option<UnaryOp>
-    ensures { result ≡ unary_of (lexeme_of kind.entry) }
+    ensures read { result ≡ unary_of (lexeme_of kind.entry) }
+    ensures spelled { IfSome result (λ op. lexeme_of kind.entry ≡ Marked (sign_of_unary op)) }
 {
     match kind {
         TokenKind::Sign(Sign::Minus) => Some(UnaryOp::Minus),
@@ -92,12 +109,10 @@ pub fn unary_op(kind: TokenKind) -> Option<UnaryOp>
 }
 
 pub fn join(context: Context, op: BinaryOp, left: Expr, right: Expr) -> Result<Expr, AllocError>
-    ensures { IfOk result (λ t. bare t ≡ Binary op (bare left) (bare right)) }
+    ensures read { IfOk result (λ t. bare t ≡ Binary op (bare left) (bare right)) }
+    ensures placed { IfOk result (λ t. placed t ≡ trees.Binary op (placed left) (placed right) (upto (trees.span_of (placed left)) (trees.span_of (placed right)))) }
 {
-    let span = Span {
-        start: left.span().start,
-        end: right.span().end,
-    };
+    let span = upto(left.span(), right.span());
     let (left, right) = two_boxed(context.alloc, left, right)?;
     Ok(Expr::Binary {
         op,

@@ -1,7 +1,11 @@
 // What an expression begins by, and its suffixes, as far as no expression stands in it.
 
-ghost use Rattle.std.specs.Prelude.{◌≡◌, ◌-◌, ◌<◌, IfOk};
-ghost use Rattle.ls_lexer.specs.Lexemes.{lexemes};
+ghost use Rattle.std.specs.Prelude.{◌≡◌, ◌∷◌, ◌-◌, ◌<◌, IfOk};
+ghost use Rattle.ls_lexer.specs.Lexemes.{Numeral, lexemes};
+ghost use Rattle.ls_spelling.specs.Places.{spot, spots, ClassNameAt, At};
+ghost use Rattle.ls_tree.specs.PlacedTrees as trees;
+ghost use Rattle.ls_tree.specs.Placed as views;
+ghost use Rattle.ls_tree.specs.Placed.{placed, placed_name, placed_target, placed_all};
 ghost use Rattle.ls_tree.specs.Trees.{NewArray, New, NewMarkable};
 ghost use Rattle.ls_tree.specs.WellFormed.{term_height, is_new_array};
 ghost use Rattle.ls_tree.specs.Views.{name_text, bare, bare_target, call_of, terms_of};
@@ -32,7 +36,8 @@ pub fn is_new_array(tree: &Expr) -> bool
 }
 
 pub fn called(target: Option<Box<Expr>>, name: Name, arguments: Vec<Expr>, span: Span) -> Expr
-    ensures { bare result ≡ call_of (bare_target target) (name_text name) (terms_of arguments.items) }
+    ensures read { bare result ≡ call_of (bare_target target) (name_text name) (terms_of arguments.items) }
+    ensures placed { placed result ≡ views.call_of (placed_target target) (placed_name name) (placed_all arguments.items) span }
 {
     Expr::Call {
         target,
@@ -56,6 +61,7 @@ pub fn is_markable(text: &str) -> bool
     text == "AtomicMarkableReference"
 }
 
+#[tactic(auto, using(ls_spelling::specs::Places::number_at))]
 pub fn number<'t, 'a>(
     context: Context,
     text: &'a str,
@@ -64,6 +70,7 @@ pub fn number<'t, 'a>(
     after_minus: bool,
 ) -> Result<Part<'t, 'a, Expr>, TextFault>
     ensures read { Gives (λ p. (bare p.tree, lexemes p.rest.now)) result (number_here after_minus text.now (lexemes rest.now)) }
+    ensures placed { IfOk result (λ p. At (placed p.tree) (spot (Numeral text.now) span ∷ spots rest.now) (spots p.rest.now)) }
     ensures height { IfOk result (λ p. (p.height ≡ term_height (bare p.tree)) × (p.height ≡ 1)) }
 {
     if !after_minus && is_largest(text) {
@@ -78,19 +85,22 @@ pub fn number<'t, 'a>(
 }
 
 /// A name between `<` and `>`.
+#[tactic(auto, using(crate::proofs::Places::class_name_is))]
 pub fn class_name<'t, 'a>(
     context: Context,
     tokens: &'t [Token<'a>],
 ) -> Result<Read<'t, 'a, Name>, TextFault>
-    ensures { Gives (λ n. (name_text n.tree, lexemes n.rest.now)) result (class_at (lexemes tokens.now)) }
+    ensures read { Gives (λ n. (name_text n.tree, lexemes n.rest.now)) result (class_at (lexemes tokens.now)) }
+    ensures placed { IfOk result (λ n. ClassNameAt (placed_name n.tree) (spots tokens.now) (spots n.rest.now)) }
 {
     let open = expect(context, tokens, Sign::Less)?;
-    let name = name(context, open)?;
+    let name = name(context, open.rest)?;
     closed(context, name, Sign::Greater)
 }
 
 pub fn new_object(class: Name, arguments: Vec<Expr>, span: Span) -> Expr
-    ensures { bare result ≡ New (name_text class) (terms_of arguments.items) }
+    ensures read { bare result ≡ New (name_text class) (terms_of arguments.items) }
+    ensures placed { placed result ≡ trees.New (placed_name class) (placed_all arguments.items) span }
 {
     Expr::New {
         class,
@@ -100,7 +110,8 @@ pub fn new_object(class: Name, arguments: Vec<Expr>, span: Span) -> Expr
 }
 
 pub fn new_markable(class: Name, arguments: Vec<Expr>, span: Span) -> Expr
-    ensures { bare result ≡ NewMarkable (name_text class) (terms_of arguments.items) }
+    ensures read { bare result ≡ NewMarkable (name_text class) (terms_of arguments.items) }
+    ensures placed { placed result ≡ trees.NewMarkable (placed_name class) (placed_all arguments.items) span }
 {
     Expr::NewMarkable {
         class,

@@ -1,10 +1,15 @@
 // Expressions.
 
-ghost use Rattle.std.specs.Prelude.{◌≡◌, ◌+◌, ◌-◌, ◌<◌, ◌≤◌, ◌^◌, IfOk, Some, false, length, map};
-ghost use Rattle.ls_lexer.specs.Lexemes.{lexemes};
+ghost use Rattle.std.specs.Prelude.{◌≡◌, ◌+◌, ◌-◌, ◌<◌, ◌≤◌, ◌^◌, ◌∷◌, List, IfOk, Some, false, length, map};
+ghost use Rattle.ls_lexer.specs.Lexemes.{Named, Reserved, lexemes};
+ghost use Rattle.ls_lexer.specs.declared.sign.Sign.TheVariants as signs;
+ghost use Rattle.ls_lexer.specs.declared.word.Word.TheVariants as words;
 ghost use Rattle.ls_tree.specs.Trees.{Unary, Binary, Paren, Field, Item, NewArray, New};
 ghost use Rattle.ls_tree.specs.WellFormed.{term_height, terms_height, is_new_array, is_minus};
 ghost use Rattle.ls_tree.specs.Views.{bare, terms_of};
+ghost use Rattle.ls_tree.specs.Placed.{placed, placed_all};
+ghost use Rattle.ls_spelling.specs.Spelling.{sign_of_unary};
+ghost use Rattle.ls_spelling.specs.Places.{Spot, spot, sign, spots, At, OperandAt, IndexAt, ArgumentsAt, SomeAt};
 ghost use Rattle.ls_terms.specs.Answers.{Gives};
 ghost use Rattle.ls_terms.specs.Reading.{one_more, behind_comma, is_markable};
 ghost use Rattle.ls_terms.specs.ReadingTerms.{has_operator, joined_at, binary_at, signed_at, unary_at, term_at, post_at, has_suffix, suffix_at, member_at, index_at, item_at, arguments_at, primary_at, named_at, object_at, new_at, paren_at};
@@ -14,8 +19,8 @@ use crate::primaries::{
     called, class_name, has_suffix, is_markable, is_new_array, new_markable, new_object, number,
 };
 use crate::tokens::{
-    Context, Part, boxed_part, closed_part, expect, expect_word, make_name, name, name_part, push,
-    sign_part, span_from, starts_with, syntax, too_deep,
+    Enclosed, Context, NamePart, Part, boxed_part, closed_part, expect, expect_word, make_name, name,
+    name_part, push, sign_part, starts_with, syntax, too_deep, upto,
 };
 use ls_lexer::fault::TextFault;
 use ls_lexer::sign::Sign;
@@ -34,6 +39,7 @@ pub fn binary<'t, 'a>(
 ) -> Result<Part<'t, 'a, Expr>, TextFault>
     requires { wanted ≤ 6 }
     ensures read { Gives (λ p. (bare p.tree, lexemes p.rest.now)) result (binary_at wanted limit (unary_at limit false) (lexemes tokens.now)) }
+    ensures places { IfOk result (λ p. At (placed p.tree) (spots tokens.now) (spots p.rest.now)) }
     ensures height { IfOk result (λ p. (p.height ≡ term_height (bare p.tree)) × (p.height ≤ limit)) }
 {
     if wanted == 0 {
@@ -48,6 +54,7 @@ pub fn binary<'t, 'a>(
 
 // An operator and a right operand, under it with what stands on the left.
 #[cycle(terms)]
+#[tactic(auto, using(crate::proofs::Places::binary_is))]
 fn joined<'t, 'a>(
     context: Context,
     left: Part<'t, 'a, Expr>,
@@ -57,6 +64,7 @@ fn joined<'t, 'a>(
     requires rank { (0 < wanted) × (wanted ≤ 6) }
     requires height { left.height ≡ term_height (bare left.tree) }
     ensures read { Gives (λ p. (bare p.tree, lexemes p.rest.now)) result (joined_at wanted limit (binary_at (wanted - 1) limit (unary_at limit false)) (bare left.entry.tree) (lexemes left.entry.rest.now)) }
+    ensures places { IfOk result (λ p. (ss : List Spot) → At (placed left.entry.tree) ss (spots left.entry.rest.now) → At (placed p.tree) ss (spots p.rest.now)) }
     ensures height { IfOk result (λ p. (p.height ≡ term_height (bare p.tree)) × (p.height ≤ limit) × (left.entry.height < p.height)) }
 {
     let right = operand(context, &left, wanted, limit)?;
@@ -70,7 +78,7 @@ fn joined<'t, 'a>(
 
 // The operator and the right operand of what stands on the left.
 #[cycle(terms)]
-#[tactic(auto, using(crate::proofs::Chains::joined_is, crate::proofs::Chains::left_too_high, crate::proofs::Chains::right_too_high))]
+#[tactic(auto, using(crate::proofs::Chains::joined_is, crate::proofs::Chains::left_too_high, crate::proofs::Chains::right_too_high, crate::proofs::Places::operand_is))]
 fn operand<'t, 'a>(
     context: Context,
     left: &Part<'t, 'a, Expr>,
@@ -80,20 +88,21 @@ fn operand<'t, 'a>(
     requires rank { (0 < wanted) × (wanted ≤ 6) }
     requires height { left.now.height ≡ term_height (bare left.now.tree) }
     ensures read { Gives (λ p. (Binary p.tree.0 (bare left.now.tree) (bare p.tree.1), lexemes p.rest.now)) result (joined_at wanted limit (binary_at (wanted - 1) limit (unary_at limit false)) (bare left.now.tree) (lexemes left.now.rest.now)) }
+    ensures places { IfOk result (λ p. OperandAt p.tree.0 (placed p.tree.1) (spots left.now.rest.now) (spots p.rest.now)) }
     ensures height { IfOk result (λ p. (p.height ≡ term_height (bare p.tree.1)) × (p.height < limit) × (left.now.height < limit)) }
 {
-    let Some((op, rest)) = operator_part(left.rest, wanted) else {
+    let Some(operator) = operator_part(left.rest, wanted) else {
         return Err(syntax(context, left.rest));
     };
     if left.height >= limit {
         return Err(too_deep(context, left.rest));
     }
-    let right = binary(context, rest, wanted - 1, limit)?;
+    let right = binary(context, operator.rest, wanted - 1, limit)?;
     if right.height >= limit {
-        return Err(too_deep(context, rest));
+        return Err(too_deep(context, operator.rest));
     }
     Ok(Part {
-        tree: (op, right.tree),
+        tree: (operator.op, right.tree),
         height: right.height,
         rest: right.rest,
     })
@@ -108,6 +117,7 @@ fn unary<'t, 'a>(
     after_minus: bool,
 ) -> Result<Part<'t, 'a, Expr>, TextFault>
     ensures read { Gives (λ p. (bare p.tree, lexemes p.rest.now)) result (unary_at limit after_minus (lexemes tokens.now)) }
+    ensures places { IfOk result (λ p. At (placed p.tree) (spots tokens.now) (spots p.rest.now)) }
     ensures height { IfOk result (λ p. (p.height ≡ term_height (bare p.tree)) × (p.height ≤ limit)) }
 {
     if limit == 0 {
@@ -124,6 +134,7 @@ fn unary<'t, 'a>(
 
 // What stands behind the sign of a unary operator, under it.
 #[cycle(terms)]
+#[tactic(auto, using(crate::proofs::Places::unary_is))]
 fn signed<'t, 'a>(
     context: Context,
     tokens: &'t [Token<'a>],
@@ -133,13 +144,11 @@ fn signed<'t, 'a>(
 ) -> Result<Part<'t, 'a, Expr>, TextFault>
     requires { limit + 1 < 2 ^ 64 }
     ensures read { Gives (λ p. (bare p.tree, lexemes p.rest.now)) result (signed_at op (unary_at limit (is_minus op)) (lexemes tokens.now)) }
+    ensures places { IfOk result (λ p. At (placed p.tree) (sign (sign_of_unary op) start ∷ spots tokens.now) (spots p.rest.now)) }
     ensures height { IfOk result (λ p. (p.height ≡ term_height (bare p.tree)) × (p.height ≤ limit + 1)) }
 {
     let operand = unary(context, tokens, limit, matches!(&op, UnaryOp::Minus))?;
-    let span = Span {
-        start: start.start,
-        end: operand.tree.span().end,
-    };
+    let span = upto(start, operand.tree.span());
     let operand = boxed_part(context.alloc, operand)?;
     Ok(Part {
         tree: Expr::Unary {
@@ -162,6 +171,7 @@ pub fn post<'t, 'a>(
     after_minus: bool,
 ) -> Result<Part<'t, 'a, Expr>, TextFault>
     ensures read { Gives (λ p. (bare p.tree, lexemes p.rest.now)) result (post_at limit after_minus (lexemes tokens.now)) }
+    ensures places { IfOk result (λ p. At (placed p.tree) (spots tokens.now) (spots p.rest.now)) }
     ensures height { IfOk result (λ p. (p.height ≡ term_height (bare p.tree)) × (p.height ≤ limit)) }
 {
     if limit == 0 {
@@ -176,7 +186,7 @@ pub fn post<'t, 'a>(
 
 // One suffix, with what stands on its left.
 #[cycle(terms)]
-#[tactic(auto, using(crate::proofs::Posts::suffix_too_high, crate::proofs::Posts::suffix_fits))]
+#[tactic(auto, using(crate::proofs::Posts::suffix_too_high, crate::proofs::Posts::suffix_fits, crate::proofs::Places::dotted))]
 fn suffix<'t, 'a>(
     context: Context,
     left: Part<'t, 'a, Expr>,
@@ -185,6 +195,7 @@ fn suffix<'t, 'a>(
     requires limit { 0 < limit }
     requires height { left.height ≡ term_height (bare left.tree) }
     ensures read { Gives (λ p. (bare p.tree, lexemes p.rest.now)) result (suffix_at limit (term_at (limit - 1)) (bare left.entry.tree) (lexemes left.entry.rest.now)) }
+    ensures places { IfOk result (λ p. (ss : List Spot) → At (placed left.entry.tree) ss (spots left.entry.rest.now) → At (placed p.tree) ss (spots p.rest.now)) }
     ensures height { IfOk result (λ p. (p.height ≡ term_height (bare p.tree)) × (p.height ≤ limit) × (left.entry.height < p.height)) }
 {
     if left.height >= limit {
@@ -192,13 +203,14 @@ fn suffix<'t, 'a>(
     }
     let left = boxed_part(context.alloc, left)?;
     match sign_part(left.rest, Sign::Dot) {
-        Some(rest) => member(context, left, rest, limit - 1),
+        Some(dot) => member(context, left, dot.rest, limit - 1),
         None => item(context, left, limit - 1),
     }
 }
 
 // What stands behind a dot.
 #[cycle(terms)]
+#[tactic(auto, using(crate::proofs::Places::field_is, crate::proofs::Places::call_on_is))]
 fn member<'t, 'a>(
     context: Context,
     left: Part<'t, 'a, Box<Expr>>,
@@ -208,13 +220,14 @@ fn member<'t, 'a>(
     requires limit { limit + 1 < 2 ^ 64 }
     requires height { (left.height ≡ term_height (bare left.tree.value)) × (left.height ≤ limit) }
     ensures read { Gives (λ p. (bare p.tree, lexemes p.rest.now)) result (member_at (term_at limit) (bare left.entry.tree.value) (lexemes tokens.now)) }
+    ensures places { IfOk result (λ p. (ss : List Spot) (dot : Span) → At (placed left.entry.tree.value) ss (sign signs.Dot dot ∷ spots tokens.now) → At (placed p.tree) ss (spots p.rest.now)) }
     ensures height { IfOk result (λ p. (p.height ≡ term_height (bare p.tree)) × (p.height ≤ limit + 1) × (left.entry.height < p.height)) }
 {
     let name = name(context, tokens)?;
     match sign_part(name.rest, Sign::OpenParen) {
-        Some(rest) => {
-            let arguments = arguments(context, rest, limit)?;
-            let span = span_from(left.tree.span().start, tokens, arguments.rest);
+        Some(open) => {
+            let arguments = arguments(context, open.rest, limit)?;
+            let span = upto(left.tree.span(), arguments.end);
             Ok(Part {
                 tree: called(Some(left.tree), name.tree, arguments.tree, span),
                 height: left.height.max(arguments.height) + 1,
@@ -222,10 +235,7 @@ fn member<'t, 'a>(
             })
         }
         None => {
-            let span = Span {
-                start: left.tree.span().start,
-                end: name.tree.span.end,
-            };
+            let span = upto(left.tree.span(), name.tree.span);
             Ok(Part {
                 tree: Expr::Field {
                     target: left.tree,
@@ -241,6 +251,7 @@ fn member<'t, 'a>(
 
 // An index in brackets.
 #[cycle(terms)]
+#[tactic(auto, using(crate::proofs::Places::item_is))]
 fn item<'t, 'a>(
     context: Context,
     left: Part<'t, 'a, Box<Expr>>,
@@ -249,13 +260,14 @@ fn item<'t, 'a>(
     requires limit { limit + 1 < 2 ^ 64 }
     requires height { (left.height ≡ term_height (bare left.tree.value)) × (left.height ≤ limit) }
     ensures read { Gives (λ p. (bare p.tree, lexemes p.rest.now)) result (item_at (term_at limit) (bare left.entry.tree.value) (lexemes left.entry.rest.now)) }
+    ensures places { IfOk result (λ p. (ss : List Spot) → At (placed left.entry.tree.value) ss (spots left.entry.rest.now) → At (placed p.tree) ss (spots p.rest.now)) }
     ensures height { IfOk result (λ p. (p.height ≡ term_height (bare p.tree)) × (p.height ≤ limit + 1) × (left.entry.height < p.height)) }
 {
     if is_new_array(&left.tree) {
         return Err(syntax(context, left.rest));
     }
     let index = index(context, left.rest, limit)?;
-    let span = span_from(left.tree.span().start, left.rest, index.rest);
+    let span = upto(left.tree.span(), index.end);
     Ok(Part {
         tree: Expr::Item {
             array: left.tree,
@@ -268,35 +280,40 @@ fn item<'t, 'a>(
 }
 
 #[cycle(terms)]
+#[tactic(auto, using(crate::proofs::Places::index_is))]
 fn index<'t, 'a>(
     context: Context,
     tokens: &'t [Token<'a>],
     limit: usize,
-) -> Result<Part<'t, 'a, Box<Expr>>, TextFault>
+) -> Result<Enclosed<'t, 'a, Box<Expr>>, TextFault>
     ensures read { Gives (λ p. (bare p.tree.value, lexemes p.rest.now)) result (index_at (term_at limit) (lexemes tokens.now)) }
+    ensures places { IfOk result (λ p. IndexAt (placed p.tree.value) p.end (spots tokens.now) (spots p.rest.now)) }
     ensures height { IfOk result (λ p. (p.height ≡ term_height (bare p.tree.value)) × (p.height ≤ limit)) }
 {
     let open = expect(context, tokens, Sign::OpenBracket)?;
-    let index = binary(context, open, 6, limit)?;
+    let index = binary(context, open.rest, 6, limit)?;
+    let index = boxed_part(context.alloc, index)?;
     let index = closed_part(context, index, Sign::CloseBracket)?;
-    Ok(boxed_part(context.alloc, index)?)
+    Ok(index)
 }
 
 #[cycle(terms)]
-#[tactic(auto, using(crate::proofs::Repeats::group_none, crate::proofs::Repeats::group_begins, crate::proofs::Repeats::group_ends, crate::proofs::Repeats::group_goes_on))]
+#[tactic(auto, using(crate::proofs::Repeats::group_none, crate::proofs::Repeats::group_begins, crate::proofs::Repeats::group_ends, crate::proofs::Repeats::group_goes_on, crate::proofs::Places::none_is, crate::proofs::Places::first_is, crate::proofs::Places::some_is))]
 fn arguments<'t, 'a>(
     context: Context,
     tokens: &'t [Token<'a>],
     limit: usize,
-) -> Result<Part<'t, 'a, Vec<Expr>>, TextFault>
+) -> Result<Enclosed<'t, 'a, Vec<Expr>>, TextFault>
     ensures read { Gives (λ p. (terms_of p.tree.items, lexemes p.rest.now)) result (arguments_at (term_at limit) (lexemes tokens.now)) }
+    ensures places { IfOk result (λ p. ArgumentsAt (placed_all p.tree.items) p.end (spots tokens.now) (spots p.rest.now)) }
     ensures height { IfOk result (λ p. (p.height ≡ terms_height (terms_of p.tree.items)) × (p.height ≤ limit)) }
 {
-    if let Some(rest) = sign_part(tokens, Sign::CloseParen) {
-        return Ok(Part {
+    if let Some(close) = sign_part(tokens, Sign::CloseParen) {
+        return Ok(Enclosed {
             tree: Vec::new(context.alloc),
             height: 0,
-            rest,
+            end: close.span,
+            rest: close.rest,
         });
     }
     let first = binary(context, tokens, 6, limit)?;
@@ -308,17 +325,13 @@ fn arguments<'t, 'a>(
     while !starts_with(all.rest, Sign::CloseParen) {
         all = one_argument(context, all, limit)?;
     }
-    let rest = expect(context, all.rest, Sign::CloseParen)?;
-    Ok(Part {
-        tree: all.tree,
-        height: all.height,
-        rest,
-    })
+    let all = closed_part(context, all, Sign::CloseParen)?;
+    Ok(all)
 }
 
 // One more argument, behind a comma.
 #[cycle(terms)]
-#[tactic(auto, using(crate::proofs::Rows::terms_height_push, crate::proofs::Rows::map_push))]
+#[tactic(auto, using(crate::proofs::Rows::terms_height_push, crate::proofs::Rows::map_push, crate::proofs::Places::pushed_is))]
 fn one_argument<'t, 'a>(
     context: Context,
     before: Part<'t, 'a, Vec<Expr>>,
@@ -326,10 +339,11 @@ fn one_argument<'t, 'a>(
 ) -> Result<Part<'t, 'a, Vec<Expr>>, TextFault>
     requires height { (before.height ≡ terms_height (terms_of before.tree.items)) × (before.height ≤ limit) }
     ensures read { Gives (λ p. (map bare p.tree.items, lexemes p.rest.now)) result (one_more (behind_comma (term_at limit)) (map bare before.entry.tree.items) (lexemes before.entry.rest.now)) }
+    ensures places { IfOk result (λ p. (ss : List Spot) → SomeAt (placed_all before.entry.tree.items) ss (spots before.entry.rest.now) → SomeAt (placed_all p.tree.items) ss (spots p.rest.now)) }
     ensures height { IfOk result (λ p. (p.height ≡ terms_height (terms_of p.tree.items)) × (p.height ≤ limit)) }
 {
-    let tokens = expect(context, before.rest, Sign::Comma)?;
-    let argument = binary(context, tokens, 6, limit)?;
+    let comma = expect(context, before.rest, Sign::Comma)?;
+    let argument = binary(context, comma.rest, 6, limit)?;
     Ok(Part {
         tree: push(before.tree, argument.tree)?,
         height: before.height.max(argument.height),
@@ -338,6 +352,7 @@ fn one_argument<'t, 'a>(
 }
 
 #[cycle(terms)]
+#[tactic(auto, using(ls_spelling::specs::Places::true_at, ls_spelling::specs::Places::false_at, ls_spelling::specs::Places::null_at, ls_spelling::specs::Places::this_at))]
 fn primary<'t, 'a>(
     context: Context,
     tokens: &'t [Token<'a>],
@@ -346,6 +361,7 @@ fn primary<'t, 'a>(
 ) -> Result<Part<'t, 'a, Expr>, TextFault>
     requires { limit + 1 < 2 ^ 64 }
     ensures read { Gives (λ p. (bare p.tree, lexemes p.rest.now)) result (primary_at after_minus (term_at limit) (lexemes tokens.now)) }
+    ensures places { IfOk result (λ p. At (placed p.tree) (spots tokens.now) (spots p.rest.now)) }
     ensures height { IfOk result (λ p. (p.height ≡ term_height (bare p.tree)) × (p.height ≤ limit + 1)) }
 {
     let Some((token, rest)) = tokens.split_first() else {
@@ -372,6 +388,7 @@ fn primary<'t, 'a>(
 
 // What begins by a name: the name or a call.
 #[cycle(terms)]
+#[tactic(auto, using(crate::proofs::Places::name_is, crate::proofs::Places::call_is))]
 fn named<'t, 'a>(
     context: Context,
     text: &'a str,
@@ -381,13 +398,14 @@ fn named<'t, 'a>(
 ) -> Result<Part<'t, 'a, Expr>, TextFault>
     requires { limit + 1 < 2 ^ 64 }
     ensures read { Gives (λ p. (bare p.tree, lexemes p.rest.now)) result (named_at (term_at limit) text.now (lexemes tokens.now)) }
+    ensures places { IfOk result (λ p. At (placed p.tree) (spot (Named text.now) span ∷ spots tokens.now) (spots p.rest.now)) }
     ensures height { IfOk result (λ p. (p.height ≡ term_height (bare p.tree)) × (p.height ≤ limit + 1)) }
 {
     let name = make_name(context, text, span)?;
     match sign_part(tokens, Sign::OpenParen) {
-        Some(rest) => {
-            let arguments = arguments(context, rest, limit)?;
-            let span = span_from(span.start, tokens, arguments.rest);
+        Some(open) => {
+            let arguments = arguments(context, open.rest, limit)?;
+            let span = upto(span, arguments.end);
             Ok(Part {
                 tree: called(None, name, arguments.tree, span),
                 height: arguments.height + 1,
@@ -403,6 +421,7 @@ fn named<'t, 'a>(
 }
 
 #[cycle(terms)]
+#[tactic(auto, using(crate::proofs::Places::paren_is))]
 fn paren<'t, 'a>(
     context: Context,
     tokens: &'t [Token<'a>],
@@ -411,16 +430,16 @@ fn paren<'t, 'a>(
 ) -> Result<Part<'t, 'a, Expr>, TextFault>
     requires { limit + 1 < 2 ^ 64 }
     ensures read { Gives (λ p. (bare p.tree, lexemes p.rest.now)) result (paren_at (term_at limit) (lexemes tokens.now)) }
+    ensures places { IfOk result (λ p. At (placed p.tree) (sign signs.OpenParen start ∷ spots tokens.now) (spots p.rest.now)) }
     ensures height { IfOk result (λ p. (p.height ≡ term_height (bare p.tree)) × (p.height ≤ limit + 1)) }
 {
     let inner = binary(context, tokens, 6, limit)?;
-    let inner = closed_part(context, inner, Sign::CloseParen)?;
     let inner = boxed_part(context.alloc, inner)?;
-    let span = span_from(start.start, tokens, inner.rest);
+    let inner = closed_part(context, inner, Sign::CloseParen)?;
     Ok(Part {
         tree: Expr::Paren {
             inner: inner.tree,
-            span,
+            span: upto(start, inner.end),
         },
         height: inner.height + 1,
         rest: inner.rest,
@@ -429,6 +448,7 @@ fn paren<'t, 'a>(
 
 // What stands behind `new`.
 #[cycle(terms)]
+#[tactic(auto, using(crate::proofs::Places::new_array_is))]
 fn made<'t, 'a>(
     context: Context,
     tokens: &'t [Token<'a>],
@@ -437,59 +457,55 @@ fn made<'t, 'a>(
 ) -> Result<Part<'t, 'a, Expr>, TextFault>
     requires { limit + 1 < 2 ^ 64 }
     ensures read { Gives (λ p. (bare p.tree, lexemes p.rest.now)) result (new_at (term_at limit) (lexemes tokens.now)) }
+    ensures places { IfOk result (λ p. At (placed p.tree) (spot (Reserved words.New) start ∷ spots tokens.now) (spots p.rest.now)) }
     ensures height { IfOk result (λ p. (p.height ≡ term_height (bare p.tree)) × (p.height ≤ limit + 1)) }
 {
-    if let Some((text, rest)) = name_part(tokens) {
-        let span = span_from(start.start, tokens, rest);
-        return object(context, text, span, rest, limit);
+    if let Some(class) = name_part(tokens) {
+        return object(context, class, limit, start);
     }
-    let rest = expect_word(context, tokens, Word::Boolean)?;
-    let length = index(context, rest, limit)?;
-    let span = span_from(start.start, tokens, length.rest);
+    let word = expect_word(context, tokens, Word::Boolean)?;
+    let length = index(context, word.rest, limit)?;
     Ok(Part {
         tree: Expr::NewArray {
             length: length.tree,
-            span,
+            span: upto(start, length.end),
         },
         height: length.height + 1,
         rest: length.rest,
     })
 }
 
-// What stands behind `new` and a name. The span goes from `new` to the name.
+// A class's name behind `new`, and what stands behind it.
 #[cycle(terms)]
+#[tactic(auto, using(crate::proofs::Places::new_is, crate::proofs::Places::new_markable_is))]
 fn object<'t, 'a>(
     context: Context,
-    text: &'a str,
-    span: Span,
-    tokens: &'t [Token<'a>],
+    class: NamePart<'t, 'a>,
     limit: usize,
+    start: Span,
 ) -> Result<Part<'t, 'a, Expr>, TextFault>
     requires { limit + 1 < 2 ^ 64 }
-    ensures read { Gives (λ p. (bare p.tree, lexemes p.rest.now)) result (object_at (term_at limit) text.now (lexemes tokens.now)) }
+    ensures read { Gives (λ p. (bare p.tree, lexemes p.rest.now)) result (object_at (term_at limit) class.entry.text.now (lexemes class.entry.rest.now)) }
+    ensures places { IfOk result (λ p. At (placed p.tree) (spot (Reserved words.New) start ∷ spot (Named class.entry.text.now) class.entry.span ∷ spots class.entry.rest.now) (spots p.rest.now)) }
     ensures height { IfOk result (λ p. (p.height ≡ term_height (bare p.tree)) × (p.height ≤ limit + 1)) }
 {
-    if is_markable(text) && starts_with(tokens, Sign::Less) {
-        let class = class_name(context, tokens)?;
+    if is_markable(class.text) && starts_with(class.rest, Sign::Less) {
+        let class = class_name(context, class.rest)?;
         let open = expect(context, class.rest, Sign::OpenParen)?;
-        let arguments = arguments(context, open, limit)?;
-        let span = span_from(span.start, tokens, arguments.rest);
+        let arguments = arguments(context, open.rest, limit)?;
+        let span = upto(start, arguments.end);
         Ok(Part {
             tree: new_markable(class.tree, arguments.tree, span),
             height: arguments.height + 1,
             rest: arguments.rest,
         })
     } else {
-        let open = expect(context, tokens, Sign::OpenParen)?;
-        let arguments = arguments(context, open, limit)?;
-        let whole = span_from(span.start, tokens, arguments.rest);
-        let named = Span {
-            start: span.end.saturating_sub(text.len()),
-            end: span.end,
-        };
-        let class = make_name(context, text, named)?;
+        let open = expect(context, class.rest, Sign::OpenParen)?;
+        let arguments = arguments(context, open.rest, limit)?;
+        let name = make_name(context, class.text, class.span)?;
+        let span = upto(start, arguments.end);
         Ok(Part {
-            tree: new_object(class, arguments.tree, whole),
+            tree: new_object(name, arguments.tree, span),
             height: arguments.height + 1,
             rest: arguments.rest,
         })

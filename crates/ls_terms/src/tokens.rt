@@ -1,10 +1,13 @@
 // The next tokens, and what reading makes of them.
 
-ghost use Rattle.std.specs.Prelude.{◌≡◌, ◌++◌, ◌∷◌, ℕ, [], IfOk, length};
+ghost use Rattle.std.specs.Prelude.{◌≡◌, ◌++◌, ◌∷◌, ℕ, [], IfOk, IfSome, length};
+ghost use Rattle.ls_lexer.specs.declared.token.Span.{Span};
 ghost use Rattle.ls_lexer.specs.declared.fault.TextFault.TheVariants.{Syntax, TooDeep};
-ghost use Rattle.ls_lexer.specs.Lexemes.{lexemes};
+ghost use Rattle.ls_lexer.specs.Lexemes.{Named, Reserved, Marked, lexemes};
+ghost use Rattle.ls_spelling.specs.Places.{spot, spots, sign, named, upto};
 ghost use Rattle.ls_terms.specs.Reading.{after_sign, after_word, name_at, starts};
 ghost use Rattle.ls_tree.specs.Views.{name_text};
+ghost use Rattle.ls_tree.specs.Placed.{placed_name};
 ghost use Rattle.ls_terms.specs.Answers.{Gives, Finds};
 
 use ls_lexer::fault::TextFault;
@@ -33,6 +36,30 @@ pub struct Read<'t, 'a, T> {
 pub struct Part<'t, 'a, T> {
     pub tree: T,
     pub height: usize,
+    pub rest: &'t [Token<'a>],
+}
+
+/// What is read up to a closing sign, where that sign stands, and the tokens behind it.
+#[derive(Drop)]
+pub struct Enclosed<'t, 'a, T> {
+    pub tree: T,
+    pub height: usize,
+    pub end: Span,
+    pub rest: &'t [Token<'a>],
+}
+
+/// Where a token stands, and the tokens behind it.
+#[derive(Clone, Copy)]
+pub struct Mark<'t, 'a> {
+    pub span: Span,
+    pub rest: &'t [Token<'a>],
+}
+
+/// The text of a name, where it stands, and the tokens behind it.
+#[derive(Clone, Copy)]
+pub struct NamePart<'t, 'a> {
+    pub text: &'a str,
+    pub span: Span,
     pub rest: &'t [Token<'a>],
 }
 
@@ -72,45 +99,59 @@ pub fn span_to(tokens: &[Token], rest: &[Token]) -> Span {
     }
 }
 
-// From a place in front of the tokens to the last one before the rest.
-pub fn span_from(start: usize, tokens: &[Token], rest: &[Token]) -> Span {
+/// From the beginning of one span to the end of another.
+pub fn upto(first: Span, last: Span) -> Span
+    ensures { result ≡ upto first last }
+{
     Span {
-        start,
-        end: span_to(tokens, rest).end,
+        start: first.start,
+        end: last.end,
     }
 }
 
-pub fn sign_part<'t, 'a>(tokens: &'t [Token<'a>], wanted: Sign) -> Option<&'t [Token<'a>]>
-    ensures { Finds (λ rest. lexemes rest.now) result (after_sign wanted (lexemes tokens.now)) }
+pub fn sign_part<'t, 'a>(tokens: &'t [Token<'a>], wanted: Sign) -> Option<Mark<'t, 'a>>
+    ensures read { Finds (λ m. lexemes m.rest.now) result (after_sign wanted (lexemes tokens.now)) }
+    ensures placed { IfSome result (λ m. spots tokens.now ≡ sign wanted m.span ∷ spots m.rest.now) }
 {
     match tokens {
         [token, rest @ ..] => match token.kind {
-            TokenKind::Sign(sign) if sign == wanted => Some(rest),
+            TokenKind::Sign(sign) if sign == wanted => Some(Mark {
+                span: token.span,
+                rest,
+            }),
             _ => None,
         },
         [] => None,
     }
 }
 
-pub fn word_part<'t, 'a>(tokens: &'t [Token<'a>], wanted: Word) -> Option<&'t [Token<'a>]>
-    ensures { Finds (λ rest. lexemes rest.now) result (after_word wanted (lexemes tokens.now)) }
+pub fn word_part<'t, 'a>(tokens: &'t [Token<'a>], wanted: Word) -> Option<Mark<'t, 'a>>
+    ensures read { Finds (λ m. lexemes m.rest.now) result (after_word wanted (lexemes tokens.now)) }
+    ensures placed { IfSome result (λ m. spots tokens.now ≡ spot (Reserved wanted) m.span ∷ spots m.rest.now) }
 {
     match tokens {
         [token, rest @ ..] => match token.kind {
-            TokenKind::Word(word) if word == wanted => Some(rest),
+            TokenKind::Word(word) if word == wanted => Some(Mark {
+                span: token.span,
+                rest,
+            }),
             _ => None,
         },
         [] => None,
     }
 }
 
-/// The text of a name, and the tokens behind it.
-pub fn name_part<'t, 'a>(tokens: &'t [Token<'a>]) -> Option<(&'a str, &'t [Token<'a>])>
-    ensures { Finds (λ x. (x.0.now, lexemes x.1.now)) result (name_at (lexemes tokens.now)) }
+pub fn name_part<'t, 'a>(tokens: &'t [Token<'a>]) -> Option<NamePart<'t, 'a>>
+    ensures read { Finds (λ n. (n.text.now, lexemes n.rest.now)) result (name_at (lexemes tokens.now)) }
+    ensures placed { IfSome result (λ n. spots tokens.now ≡ spot (Named n.text.now) n.span ∷ spots n.rest.now) }
 {
     match tokens {
         [token, rest @ ..] => match token.kind {
-            TokenKind::Name(text) => Some((text, rest)),
+            TokenKind::Name(text) => Some(NamePart {
+                text,
+                span: token.span,
+                rest,
+            }),
             _ => None,
         },
         [] => None,
@@ -127,11 +168,12 @@ pub fn expect<'t, 'a>(
     context: Context,
     tokens: &'t [Token<'a>],
     wanted: Sign,
-) -> Result<&'t [Token<'a>], TextFault>
-    ensures { Gives (λ rest. lexemes rest.now) result (after_sign wanted (lexemes tokens.now)) }
+) -> Result<Mark<'t, 'a>, TextFault>
+    ensures read { Gives (λ m. lexemes m.rest.now) result (after_sign wanted (lexemes tokens.now)) }
+    ensures placed { IfOk result (λ m. spots tokens.now ≡ sign wanted m.span ∷ spots m.rest.now) }
 {
     match sign_part(tokens, wanted) {
-        Some(rest) => Ok(rest),
+        Some(mark) => Ok(mark),
         None => Err(syntax(context, tokens)),
     }
 }
@@ -140,17 +182,18 @@ pub fn expect_word<'t, 'a>(
     context: Context,
     tokens: &'t [Token<'a>],
     wanted: Word,
-) -> Result<&'t [Token<'a>], TextFault>
-    ensures { Gives (λ rest. lexemes rest.now) result (after_word wanted (lexemes tokens.now)) }
+) -> Result<Mark<'t, 'a>, TextFault>
+    ensures read { Gives (λ m. lexemes m.rest.now) result (after_word wanted (lexemes tokens.now)) }
+    ensures placed { IfOk result (λ m. spots tokens.now ≡ spot (Reserved wanted) m.span ∷ spots m.rest.now) }
 {
     match word_part(tokens, wanted) {
-        Some(rest) => Ok(rest),
+        Some(mark) => Ok(mark),
         None => Err(syntax(context, tokens)),
     }
 }
 
 pub fn make_name(context: Context, text: &str, span: Span) -> Result<Name, AllocError>
-    ensures { IfOk result (λ n. name_text n ≡ text.now) }
+    ensures { IfOk result (λ n. (name_text n ≡ text.now) × (n.span ≡ span)) }
 {
     let text = String::from_str(context.alloc, text)?;
     Ok(Name { text, span })
@@ -160,12 +203,13 @@ pub fn name<'t, 'a>(
     context: Context,
     tokens: &'t [Token<'a>],
 ) -> Result<Read<'t, 'a, Name>, TextFault>
-    ensures { Gives (λ n. (name_text n.tree, lexemes n.rest.now)) result (name_at (lexemes tokens.now)) }
+    ensures read { Gives (λ n. (name_text n.tree, lexemes n.rest.now)) result (name_at (lexemes tokens.now)) }
+    ensures placed { IfOk result (λ n. spots tokens.now ≡ named (placed_name n.tree) ∷ spots n.rest.now) }
 {
     match name_part(tokens) {
-        Some((text, rest)) => Ok(Read {
-            tree: make_name(context, text, span_to(tokens, rest))?,
-            rest,
+        Some(found) => Ok(Read {
+            tree: make_name(context, found.text, found.span)?,
+            rest: found.rest,
         }),
         None => Err(syntax(context, tokens)),
     }
@@ -212,15 +256,17 @@ pub fn closed_part<'t, 'a, T: Drop>(
     context: Context,
     part: Part<'t, 'a, T>,
     wanted: Sign,
-) -> Result<Part<'t, 'a, T>, TextFault>
+) -> Result<Enclosed<'t, 'a, T>, TextFault>
     ensures read { Gives (λ p. lexemes p.rest.now) result (after_sign wanted (lexemes part.entry.rest.now)) }
     ensures same { IfOk result (λ p. (p.tree ≡ part.entry.tree) × (p.height ≡ part.entry.height)) }
+    ensures placed { IfOk result (λ p. spots part.entry.rest.now ≡ sign wanted p.end ∷ spots p.rest.now) }
 {
-    let rest = expect(context, part.rest, wanted)?;
-    Ok(Part {
+    let close = expect(context, part.rest, wanted)?;
+    Ok(Enclosed {
         tree: part.tree,
         height: part.height,
-        rest,
+        end: close.span,
+        rest: close.rest,
     })
 }
 
@@ -232,10 +278,11 @@ pub fn closed<'t, 'a, T: Drop>(
 ) -> Result<Read<'t, 'a, T>, TextFault>
     ensures read { Gives (λ r. lexemes r.rest.now) result (after_sign wanted (lexemes read.entry.rest.now)) }
     ensures same { IfOk result (λ r. r.tree ≡ read.entry.tree) }
+    ensures placed { IfOk result (λ r. (s : Span) × (spots read.entry.rest.now ≡ sign wanted s ∷ spots r.rest.now)) }
 {
-    let rest = expect(context, read.rest, wanted)?;
+    let close = expect(context, read.rest, wanted)?;
     Ok(Read {
         tree: read.tree,
-        rest,
+        rest: close.rest,
     })
 }

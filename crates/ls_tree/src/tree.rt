@@ -3,6 +3,8 @@
 ghost use Rattle.std.specs.Prelude.{◌≡◌, option_map};
 ghost use Rattle.ls_tree.specs.WellFormed.{WellFormedFile};
 ghost use Rattle.ls_tree.specs.Views.{file_of};
+ghost use Rattle.ls_tree.specs.PlacedTrees.{span_of};
+ghost use Rattle.ls_tree.specs.Placed.{placed};
 
 use ls_lexer::token::Span;
 use std::alloc::AllocError;
@@ -315,7 +317,9 @@ pub enum Expr {
 
 impl Expr {
     /// Where it stands in its text.
-    pub fn span(&self) -> Span {
+    pub fn span(&self) -> Span
+        ensures { result ≡ span_of (placed self.now) }
+    {
         match self {
             Expr::Name(name) => name.span,
             Expr::True(span)

@@ -1,5 +1,6 @@
 use Rattle.std.proofs.lemmas.Result.{err_from_is_err_and}
 use Rattle.ls_types.specs.CheckedFile.{outcome_of}
+use Rattle.ls_elaboration.specs.PlacedStatements.{placed_file}
 use Rattle.ls_commands.proofs.ViewedLemmas.{check_fails, checked_runs, text_fails, err_of}
 use Rattle.ls_commands.proofs.viewing.show.Goals as goal
 
@@ -12,9 +13,9 @@ returns-in_err-parsed c =
 pub returns-in_err-checked : goal.returns-in_err-checked
 returns-in_err-checked c =
     let p = err_from_is_err_and c.from_residual-in_err-checked.result c.from_residual-in_err-checked.ensures.1 in
-    rw (p.1, p.2) (check_fails c.args.view c.args.classes.now c.args.program.now c.args.schedule.now c.in_ok-parsed.parsed c.in_err-checked.field-0.0 c.in_ok-parsed.ensures.found c.in_err-checked.ensures.refused)
+    rw (p.1, p.2) (check_fails c.args.view c.args.classes.now c.args.program.now c.args.schedule.now (placed_file c.in_ok-parsed.parsed) c.in_err-checked.field-0.0 c.in_ok-parsed.ensures.file c.in_err-checked.ensures.refused)
 
 pub returns : goal.returns
 returns c =
-    checked_runs c.args.view c.args.classes.now c.args.program.now c.args.schedule.now c.in_ok-parsed.parsed (outcome_of c.in_ok-checked.checked) c.run.result
-    c.in_ok-parsed.ensures.found c.in_ok-checked.ensures.checked c.run.ensures
+    checked_runs c.args.view c.args.classes.now c.args.program.now c.args.schedule.now (placed_file c.in_ok-parsed.parsed) (outcome_of c.in_ok-checked.checked) c.run.result
+    c.in_ok-parsed.ensures.file c.in_ok-checked.ensures.checked c.run.ensures

@@ -63,8 +63,8 @@ new-requires c = subst (λ x. Runs (plain_file x) (plain_program c.in_ok-program
 
 pub returns-clause-compiled : goal.returns-clause-compiled
 returns-clause-compiled c =
-    compiled c.args.classes.now c.args.program.now c.in_ok-parsed.parsed c.in_ok-checked.checked c.in_ok-program.program c.in_ok-code.code c.new.result
-    c.new.ensures.checked c.new.ensures.program c.new.ensures.code c.in_ok-parsed.ensures.found c.in_ok-checked.ensures.checked c.in_ok-program.ensures.spelled
+    compiled c.args.classes.now c.args.program.now (placed_file c.in_ok-parsed.parsed) c.in_ok-checked.checked c.in_ok-program.program c.in_ok-code.code c.new.result
+    c.new.ensures.checked c.new.ensures.program c.new.ensures.code c.in_ok-parsed.ensures.file c.in_ok-checked.ensures.checked c.in_ok-program.ensures.spelled
     (subst (λ x. Runs (plain_file x) (plain_program c.in_ok-program.program) c.in_ok-code.code) c.file.ensures c.in_ok-code.ensures.runs)
 
 pub returns-clause-within : goal.returns-clause-within
@@ -83,13 +83,13 @@ returns-in_err-parsed-clause-refused c =
 pub returns-in_err-checked-clause-refused : goal.returns-in_err-checked-clause-refused
 returns-in_err-checked-clause-refused c =
     let p = err_from_is_err_and c.from_residual-in_err-checked.result c.from_residual-in_err-checked.ensures.1 in
-    rw (p.1, p.2) (Breaks c.in_ok-parsed.parsed c.in_err-checked.field-0.0 c.in_ok-parsed.ensures.found c.in_err-checked.ensures.refused)
+    rw (p.1, p.2) (Breaks (placed_file c.in_ok-parsed.parsed) c.in_err-checked.field-0.0 c.in_ok-parsed.ensures.file c.in_err-checked.ensures.refused)
 
 pub returns-in_err-program-clause-refused : goal.returns-in_err-program-clause-refused
 returns-in_err-program-clause-refused c =
     let p = err_from_is_err_and c.from_residual-in_err-program.result c.from_residual-in_err-program.ensures.1 in
     rw (p.1, p.2)
-    (NoProgram c.in_ok-parsed.parsed (outcome_of c.in_ok-checked.checked) c.in_err-program.field-0.0 c.in_ok-parsed.ensures.found c.in_ok-checked.ensures.checked
+    (NoProgram (placed_file c.in_ok-parsed.parsed) (outcome_of c.in_ok-checked.checked) c.in_err-program.field-0.0 c.in_ok-parsed.ensures.file c.in_ok-checked.ensures.checked
     (no_program (outcome_of c.in_ok-checked.checked) c.args.program.now c.in_err-program.field-0.0 c.in_err-program.ensures.refused c.in_err-program.ensures.stands))
 
 pub returns-in_err-code-clause-refused : goal.returns-in_err-code-clause-refused
@@ -98,5 +98,5 @@ returns-in_err-code-clause-refused c =
     let o = outcome_of c.in_ok-checked.checked in
     let program = plain_program c.in_ok-program.program in
     rw (p.1, p.2)
-    (PastLimit c.in_ok-parsed.parsed o program c.in_err-code.field-0.0 c.in_ok-parsed.ensures.found c.in_ok-checked.ensures.checked c.in_ok-program.ensures.spelled
+    (PastLimit (placed_file c.in_ok-parsed.parsed) o program c.in_err-code.field-0.0 c.in_ok-parsed.ensures.file c.in_ok-checked.ensures.checked c.in_ok-program.ensures.spelled
     (subst (λ x. GoesPast (plain_file x) program c.in_err-code.field-0.0) c.file.ensures c.in_err-code.ensures.refused))

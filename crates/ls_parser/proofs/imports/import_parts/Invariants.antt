@@ -2,12 +2,17 @@ use Rattle.std.proofs.Common.{length, map}
 use Rattle.ls_lexer.specs.Lexemes.{lexemes}
 use Rattle.ls_terms.specs.Reading.{one_more, many_at}
 use Rattle.ls_tree.specs.Views.{name_text}
+use Rattle.ls_spelling.specs.Places.{spots}
+use Rattle.ls_parser.specs.Leaves.{Leaves}
 use Rattle.ls_parser.specs.ReadingClasses.{part_at, more_path}
 use Rattle.ls_terms.proofs.Repeats.{InRepeat}
 use Rattle.ls_parser.proofs.imports.import_parts.Given as goal
 
 abbrev pub invariant-loop-context : goal.invariant-loop-context
-invariant-loop-context l = InRepeat more_path (one_more part_at) (length (lexemes l.all.rest.now)) (map name_text l.all.tree.items) (lexemes l.all.rest.now) (many_at more_path part_at (lexemes l.fn.tokens))
+invariant-loop-context l = record {
+  list : InRepeat more_path (one_more part_at) (length (lexemes l.all.rest.now)) (map name_text l.all.tree.items) (lexemes l.all.rest.now) (many_at more_path part_at (lexemes l.fn.tokens));
+  leaves : Leaves (spots l.fn.tokens) (spots l.all.rest.now);
+}
 
 abbrev pub decreases-loop-context : goal.decreases-loop-context
 decreases-loop-context l = length l.all.rest.now

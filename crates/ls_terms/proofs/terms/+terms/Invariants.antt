@@ -2,6 +2,8 @@ use Rattle.std.proofs.Common.{◌≡◌, ◌+◌, ◌-◌, ◌*◌, ◌≤◌, f
 use Rattle.ls_lexer.specs.Lexemes.{lexemes}
 use Rattle.ls_tree.specs.WellFormed.{term_height, terms_height}
 use Rattle.ls_tree.specs.Views.{bare, terms_of}
+use Rattle.ls_tree.specs.Placed.{placed, placed_all}
+use Rattle.ls_spelling.specs.Places.{At, SomeAt, spots}
 use Rattle.ls_terms.specs.Reading.{group_at}
 use Rattle.ls_terms.specs.ReadingTerms.{has_operator, joined_at, binary_at, unary_at, term_at, post_at, has_suffix, suffix_at}
 use Rattle.ls_terms.proofs.Repeats.{InRepeat, InGroup}
@@ -61,6 +63,7 @@ decreases-one_argument l = l.limit * 40 + 26
 abbrev pub invariant-binary-loop-context : goal.invariant-binary-loop-context
 invariant-binary-loop-context l = record {
   chain : InRepeat (has_operator l.wanted) (joined_at l.wanted l.limit (binary_at (l.wanted - 1) l.limit (unary_at l.limit false))) (l.limit - term_height (bare l.left.tree)) (bare l.left.tree) (lexemes l.left.rest.now) (binary_at l.wanted l.limit (unary_at l.limit false) (lexemes l.fn.tokens));
+  places : At (placed l.left.tree) (spots l.fn.tokens) (spots l.left.rest.now);
   height : l.left.height ≡ term_height (bare l.left.tree);
   low : l.left.height ≤ l.limit;
 }
@@ -71,6 +74,7 @@ decreases-binary-loop-context l = l.limit - l.left.height
 abbrev pub invariant-post-loop-context : goal.invariant-post-loop-context
 invariant-post-loop-context l = record {
   chain : InRepeat has_suffix (suffix_at l.limit (term_at (l.limit - 1))) (l.limit - term_height (bare l.left.tree)) (bare l.left.tree) (lexemes l.left.rest.now) (post_at l.limit l.after_minus (lexemes l.fn.tokens));
+  places : At (placed l.left.tree) (spots l.fn.tokens) (spots l.left.rest.now);
   height : l.left.height ≡ term_height (bare l.left.tree);
   low : l.left.height ≤ l.limit;
 }
@@ -81,6 +85,7 @@ decreases-post-loop-context l = l.limit - l.left.height
 abbrev pub invariant-arguments-loop-context : goal.invariant-arguments-loop-context
 invariant-arguments-loop-context l = record {
   group : InGroup (term_at l.limit) (map bare l.all.tree.items) (lexemes l.all.rest.now) (group_at (term_at l.limit) (lexemes l.fn.tokens));
+  places : SomeAt (placed_all l.all.tree.items) (spots l.fn.tokens) (spots l.all.rest.now);
   height : l.all.height ≡ terms_height (terms_of l.all.tree.items);
   low : l.all.height ≤ l.limit;
 }

@@ -1,0 +1,4 @@
+pub mod Wholes
+pub mod Forgets
+pub mod Puts
+pub mod Views

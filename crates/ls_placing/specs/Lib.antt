@@ -1,0 +1,4 @@
+pub mod Unplaced
+pub mod Outlines
+pub mod Files
+pub mod Laws
