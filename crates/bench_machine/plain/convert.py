@@ -53,7 +53,7 @@ def write(name, text):
 
 
 def main():
-    for crate in ("ls_events", "ls_code", "ls_machine"):
+    for crate in ("ls_events", "ls_code", "ls_moves", "ls_machine"):
         for file in sorted((CRATES / crate / "src").glob("*.rt")):
             if file.stem == "tests":
                 continue
@@ -74,6 +74,7 @@ mod images;
 mod ls_code;
 mod ls_events;
 mod ls_machine;
+mod ls_moves;
 use images::{Part, SHORT_STEPS, image};
 use ls_code::code::Code;
 use ls_code::step::Did;

@@ -1,4 +1,5 @@
 pub mod Labels
 pub mod Names
 pub mod Objects
+pub mod Threads
 pub mod Words

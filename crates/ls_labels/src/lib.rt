@@ -1,7 +1,8 @@
-//! What the objects of a run are called by, and its actions in words.
+//! What the objects of a run are called by, and its actions and threads in words.
 #![tactic(auto)]
 
 pub mod label;
 pub mod names;
 pub mod objects;
+pub mod threads;
 pub mod words;

@@ -1,4 +1,3 @@
-pub mod Operands
 pub mod Frames
 pub mod Stepping
 pub mod Whole

@@ -1,6 +1,6 @@
 -- A step of one thread as a step of the whole machine.
-use Rattle.std.proofs.Common.{◌≡◌, ℕ, ◌+◌, ◌<◌, ◌++◌, List, length, map, set, get_or, true, false, Some, slice_get, option_map, refl, ap, sym, subst, ◌∙◌, arith}
-use Rattle.std.proofs.lemmas.List.{map-set, length-set}
+use Rattle.std.proofs.Common.{◌≡◌, ℕ, ◌+◌, ◌<◌, ◌++◌, List, [], Bool, length, map, set, get_or, true, false, Some, slice_get, option_map, refl, ap, sym, subst, ◌∙◌, arith}
+use Rattle.std.proofs.lemmas.List.{append-nil, map-set, length-set, set-get_or}
 use Rattle.std.proofs.lemmas.List.Sums.{sum_by-set}
 use Rattle.std.proofs.lemmas.List.Elements.{All-set}
 use Rattle.std.proofs.lemmas.Option.{slice_get-map, slice_get-get_or}
@@ -9,12 +9,13 @@ use Rattle.ls_code.specs.Thread.{Thread}
 use Rattle.ls_machine.specs.Memory.{KeptThread, MethodsFit, no_thread, events_left}
 use Rattle.ls_machine.specs.Outcomes.{Came}
 use Rattle.ls_machine.specs.Room.{HasMemory}
-use Rattle.ls_machine.specs.Takes.{TakesEvents}
+use Rattle.ls_machine.specs.Takes.{IsUnseen, TakesEvents}
 use Rattle.ls_code.specs.Cells.{Cells}
 use Rattle.ls_code.specs.Events.{events_of}
 use Rattle.ls_code.specs.Steps.{Outcome, performed, thread_move}
 use Rattle.ls_code.specs.Machine.{Machine, is_due, stops, after, stepped_by, machine_step, open_step, due_step, step_of}
 use Rattle.ls_code.specs.declared.step.Did.{Did}
+use Rattle.ls_events.specs.declared.event.Event.{Event}
 
 -- after a step of thread n the memory is there again
 pub memory_kept : (p : Code) (ts : List KeptThread) (events limit n : ℕ) (k : KeptThread) (o : Outcome) (c : Cells) (d : Did) → n < length ts → HasMemory p ts events limit → Came o (get_or ts n no_thread) k c d → TakesEvents p n d (get_or ts n no_thread).thread k.thread → HasMemory p (set ts n k) (events + length (events_of p n d)) limit
@@ -43,3 +44,22 @@ step_due m n ts k c d h list runs due came =
     let cells = sym came.1 in
     let did = sym came.2 in
     ap (step_of m n) found ∙ (ap (open_step m n t) runs ∙ (ap (due_step m n t) due ∙ stepped_is m n o (map (λ (x : KeptThread). x.thread) (set ts n k)) c d threads cells did))
+
+-- after a step of thread n that is unseen the memory is there again
+pub memory_unseen : (p : Code) (ts : List KeptThread) (events limit n : ℕ) (k : KeptThread) (o : Outcome) (c : Cells) (d : Did) → n < length ts → HasMemory p ts events limit → Came o (get_or ts n no_thread) k c d → TakesEvents p n d (get_or ts n no_thread).thread k.thread → IsUnseen d → HasMemory p (set ts n k) events limit
+memory_unseen p ts events limit n k o c d h m came takes unseen =
+    let kept = memory_kept p ts events limit n k o c d h m came takes in
+    let none : length (events_of p n d) ≡ 0 = ap length (unseen.1 p n) in
+    record { few = kept.few; fit = kept.fit; events_fit = let e = kept.events_fit in omega (arith, none, e) }
+
+unseen_is : (m : Machine) (threads : List Thread) (c : Cells) (d : Did) (b : Bool) (es : List Event) → b ≡ m.stopped → es ≡ [] → stepped_by (record { code = m.code; threads = threads; cells = c; stopped = b; history = m.history ++ es }) d ≡ stepped_by (record { code = m.code; threads = threads; cells = c; stopped = m.stopped; history = m.history }) d
+unseen_is m threads c d b es e f = rw (e, f, append-nil) refl
+
+-- a step of a thread that is due, which is unseen
+pub step_unseen : (m : Machine) (n : ℕ) (ts : List KeptThread) (k : KeptThread) (c : Cells) (d : Did) → n < length ts → m.threads ≡ map (λ t. t.thread) ts → m.stopped ≡ false → is_due m.threads n (get_or ts n no_thread).thread ≡ true → Came (performed m.cells n (get_or ts n no_thread).thread (thread_move m.code (get_or ts n no_thread).thread)) (get_or ts n no_thread) k c d → IsUnseen d → machine_step m n ≡ stepped_by (record { code = m.code; threads = map (λ t. t.thread) (set ts n k); cells = c; stopped = m.stopped; history = m.history }) d
+step_unseen m n ts k c d h list runs due came unseen =
+    step_due m n ts k c d h list runs due came ∙ unseen_is m (map (λ (x : KeptThread). x.thread) (set ts n k)) c d (stops d) (events_of m.code n d) (unseen.0 ∙ sym runs) (unseen.1 m.code n)
+
+-- a thread that is as it was
+pub same_threads : (ts : List KeptThread) (n : ℕ) (k : KeptThread) → k ≡ get_or ts n no_thread → set ts n k ≡ ts
+same_threads ts n k e = rw e (set-get_or ts n no_thread)

@@ -6,11 +6,9 @@ ghost use Rattle.ls_code.specs.Frame.{top_one, top_two};
 ghost use Rattle.ls_code.specs.Locks.{taken_of};
 ghost use Rattle.ls_code.specs.Steps.{seen_outcome, planned};
 ghost use Rattle.ls_machine.specs.Outcomes.{Came};
-ghost use Rattle.ls_machine.specs.Takes.{IsQuiet, TakesEvents};
+ghost use Rattle.ls_moves.specs.Flows.{IsQuiet};
+ghost use Rattle.ls_machine.specs.Takes.{IsUnseen, TakesEvents};
 
-use crate::cells::Cells;
-use crate::flow::Reply;
-use crate::lock_words::{is_own_word, lock_word, unlock_word};
 use crate::thread::Thread;
 use ls_code::code::Code;
 use ls_code::instruction::Resume;
@@ -18,6 +16,9 @@ use ls_code::lock_word::{Left, Taken};
 use ls_code::step::Did;
 use ls_events::action::{Action, Answer};
 use ls_events::kind::Kind;
+use ls_moves::cells::Cells;
+use ls_moves::flow::Reply;
+use ls_moves::lock_words::{is_own_word, lock_word, unlock_word};
 
 /// An operation that fails is over, where the thread's throw is caught.
 fn fail(
@@ -31,6 +32,7 @@ fn fail(
     requires { IsQuiet operation }
     ensures came { Came (seen_outcome cells.old thread.old.thread (Reports operation (Answer.Fails kind) (throwing code.now thread.old.thread kind))) thread.old thread.new cells.new result }
     ensures events { TakesEvents code.now number result thread.old.thread thread.new.thread }
+    ensures unseen { IsUnseen result }
 {
     if thread.throw(code.handlers(), kind) {
         Did::Acted(operation, Answer::Fails(kind))
@@ -78,6 +80,7 @@ fn saw_word(
     requires room { length thread.old.thread.top.operands < thread.old.thread.top.need }
     ensures came { Came (seen_outcome cells.old thread.old.thread (saw code.now thread.old.thread number which lock word)) thread.old thread.new cells.new result }
     ensures events { TakesEvents code.now number result thread.old.thread thread.new.thread }
+    ensures unseen { IsUnseen result }
 {
     if which == 2 {
         thread.resume(Resume::Push, word);
@@ -114,6 +117,7 @@ fn see_lock(
     requires place { thread.old.thread.top.counter + 1 < 2 ^ 64 }
     ensures came { Came (planned cells.old number thread.old.thread (see_named code.now thread.old.thread number which lock (seeing_action which lock))) thread.old thread.new cells.new result }
     ensures events { TakesEvents code.now number result thread.old.thread thread.new.thread }
+    ensures unseen { IsUnseen result }
 {
     match seen_operation(which, lock) {
         None => Did::Silent,
@@ -134,11 +138,13 @@ fn see_lock(
 }
 
 /// The thread looks at the word of the lock on top.
+#[inline(always)]
 pub fn see(code: &Code, cells: &mut Cells, number: usize, thread: &mut Thread, which: u32) -> Did
     requires number { number ≤ 64 }
     requires place { thread.old.thread.top.counter + 1 < 2 ^ 64 }
     ensures came { Came (planned cells.old number thread.old.thread (see_at code.now thread.old.thread number which (top_one thread.old.thread.top.operands))) thread.old thread.new cells.new result }
     ensures events { TakesEvents code.now number result thread.old.thread thread.new.thread }
+    ensures unseen { IsUnseen result }
 {
     match thread.one() {
         None => Did::Silent,
@@ -161,6 +167,7 @@ fn took_word(
     requires quiet { IsQuiet operation }
     ensures came { Came (seen_outcome cells.old thread.old.thread (took thread.old.thread which operation won)) thread.old thread.new cells.new result }
     ensures events { TakesEvents code.now number result thread.old.thread thread.new.thread }
+    ensures unseen { IsUnseen result }
 {
     if won == 1 {
         thread.resume(Resume::Settle(1), 1);
@@ -196,6 +203,7 @@ fn take_word(
     requires quiet { IsQuiet operation }
     ensures came { Came (planned cells.old number thread.old.thread (take_from code.now thread.old.thread which operation lock word (taken_of word number))) thread.old thread.new cells.new result }
     ensures events { TakesEvents code.now number result thread.old.thread thread.new.thread }
+    ensures unseen { IsUnseen result }
 {
     match lock_word(word, number) {
         Taken::Other => {
@@ -220,11 +228,13 @@ fn take_word(
 }
 
 /// The thread exchanges the word on top, which it saw, of the lock below.
+#[inline(always)]
 pub fn take(code: &Code, cells: &mut Cells, number: usize, thread: &mut Thread, which: u32) -> Did
     requires number { number ≤ 64 }
     requires place { thread.old.thread.top.counter + 1 < 2 ^ 64 }
     ensures came { Came (planned cells.old number thread.old.thread (take_at code.now thread.old.thread number which (top_two thread.old.thread.top.operands))) thread.old thread.new cells.new result }
     ensures events { TakesEvents code.now number result thread.old.thread thread.new.thread }
+    ensures unseen { IsUnseen result }
 {
     match thread.two() {
         None => Did::Silent,
@@ -236,11 +246,13 @@ pub fn take(code: &Code, cells: &mut Cells, number: usize, thread: &mut Thread, 
 }
 
 /// The thread stores the word after one unlock.
+#[inline(always)]
 pub fn drop_lock(code: &Code, cells: &mut Cells, number: usize, thread: &mut Thread) -> Did
     requires number { number ≤ 64 }
     requires place { thread.old.thread.top.counter + 1 < 2 ^ 64 }
     ensures came { Came (planned cells.old number thread.old.thread (drop_at thread.old.thread number (top_two thread.old.thread.top.operands))) thread.old thread.new cells.new result }
     ensures events { TakesEvents code.now number result thread.old.thread thread.new.thread }
+    ensures unseen { IsUnseen result }
 {
     match thread.two() {
         None => Did::Silent,

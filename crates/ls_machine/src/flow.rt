@@ -1,39 +1,7 @@
-// How a frame, a thread and the cells say what they did.
+// How a thread says what became of a call.
 
-use ls_code::instruction::{Resume, ThreadInstruction};
-use ls_events::action::{Action, Answer};
 use ls_events::kind::Kind;
 use std::alloc::AllocError;
-
-/// How a frame goes on after a silent instruction; the other instructions are left to `acting`. It fits into two bytes.
-#[derive(Copy)]
-pub enum Quick {
-    Next,
-    Throws(Kind),
-    Stuck,
-    Other,
-}
-
-impl Clone for Quick {
-    fn clone(&self) -> Result<Quick, AllocError> {
-        Ok(*self)
-    }
-}
-
-/// How a frame goes on at an instruction that isn't silent.
-#[derive(Copy)]
-pub enum Flow {
-    Throws(Kind),
-    Stuck,
-    Asks(Action<u64>, Resume),
-    Beyond(ThreadInstruction),
-}
-
-impl Clone for Flow {
-    fn clone(&self) -> Result<Flow, AllocError> {
-        Ok(*self)
-    }
-}
 
 /// What became of a call of a method: it was entered, it throws, or the thread is stuck.
 #[derive(Copy)]
@@ -45,21 +13,6 @@ pub enum Entered {
 
 impl Clone for Entered {
     fn clone(&self) -> Result<Entered, AllocError> {
-        Ok(*self)
-    }
-}
-
-/// How the cells answer an action: with an answer, or the thread waits, or the machine stops, or there is no such cell.
-#[derive(Copy)]
-pub enum Reply {
-    Answered(Answer<u64>),
-    Waits,
-    Stops,
-    Unfit,
-}
-
-impl Clone for Reply {
-    fn clone(&self) -> Result<Reply, AllocError> {
         Ok(*self)
     }
 }

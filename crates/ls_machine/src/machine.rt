@@ -1,6 +1,6 @@
 // The parallel machine.
 
-ghost use Rattle.std.specs.Prelude.{◌≡◌, ℕ, ◌+◌, ◌<◌, ◌≤◌, ◌^◌, ◌++◌, ◌↔◌, List, length, map, slice_get, slice_index_or, vec_len, vec_capacity, IfOk, IsErrOf, ◌*◌};
+ghost use Rattle.std.specs.Prelude.{◌≡◌, ℕ, ◌+◌, ◌<◌, ◌≤◌, ◌^◌, ◌++◌, ◌↔◌, List, [], length, map, slice_get, slice_index_or, vec_len, vec_capacity, IfOk, IsErrOf, ◌*◌};
 ghost use Rattle.std.specs.List.{All, sum_by};
 ghost use Rattle.ls_code.specs.Events.{events_of, result_of, result_value};
 ghost use Rattle.ls_code.specs.Machine.{loaded, machine_step, machine_run, machine_state, setup_ended, stops, is_due as due};
@@ -8,16 +8,17 @@ ghost use Rattle.ls_machine.specs.Back.{all_back};
 ghost use Rattle.ls_machine.specs.Memory.{no_thread, started_kept};
 ghost use Rattle.ls_machine.specs.Room.{AreBadCells};
 
-use crate::cells::Cells;
 use crate::fault::LoadFault;
+use crate::steps;
 use crate::thread::Thread;
-use crate::{steps, words};
 use ls_code::code::{CallResult, Code, Method, Start};
 use ls_code::step::{Did, Mode, ThreadState};
 use ls_events::action::Action;
 use ls_events::event::{Event, Happening};
 use ls_events::schedule::Schedule;
 use ls_events::value::Value;
+use ls_moves::cells::Cells;
+use ls_moves::words;
 use std::alloc::{AllocError, Global};
 use std::marker::Model;
 
@@ -97,8 +98,52 @@ impl Machine {
     }
 
     /// One step of a thread. It takes no memory, and always succeeds.
-    #[inline]
+    #[inline(always)]
     pub fn step(&mut self, number: usize) -> Did
+        ensures machine { self.new ≡ (machine_step self.old number).machine }
+        ensures did { result ≡ (machine_step self.old number).did }
+    {
+        if number >= self.threads.len() {
+            return Did::Idle;
+        }
+        if self.stopped {
+            return Did::Stopped;
+        }
+        if !is_due(&self.threads, number) {
+            return Did::Idle;
+        }
+        let thread = &mut self.threads[number];
+        if steps::move_silently(&self.code, thread) {
+            return Did::Silent;
+        }
+        self.acting_step(number)
+    }
+
+    /// One step of a thread, which most likely acts.
+    #[inline(never)]
+    fn acting_step(&mut self, number: usize) -> Did
+        ensures machine { self.new ≡ (machine_step self.old number).machine }
+        ensures did { result ≡ (machine_step self.old number).did }
+    {
+        if number >= self.threads.len() {
+            return Did::Idle;
+        }
+        if self.stopped {
+            return Did::Stopped;
+        }
+        if !is_due(&self.threads, number) {
+            return Did::Idle;
+        }
+        let thread = &mut self.threads[number];
+        match steps::act(&self.code, &mut self.cells, number, thread) {
+            Some(did) => did,
+            None => self.any_step(number),
+        }
+    }
+
+    /// One step of a thread, whatever its instruction.
+    #[inline(never)]
+    fn any_step(&mut self, number: usize) -> Did
         ensures machine { self.new ≡ (machine_step self.old number).machine }
         ensures did { result ≡ (machine_step self.old number).did }
     {
@@ -126,7 +171,7 @@ impl Machine {
         self.cells.set_back();
         set_all_back(&mut self.threads, self.code.starts());
         self.stopped = false;
-        self.history.clear();
+        forget(&mut self.history);
     }
 
     /// Takes the steps of a schedule. It takes no memory, and always succeeds.
@@ -175,7 +220,7 @@ fn copied_sizes(alloc: Global, sizes: &[usize]) -> Result<Vec<usize>, AllocError
 }
 
 /// Whether a thread goes on and, but for the setup, the setup has ended.
-#[inline]
+#[inline(always)]
 fn is_due(threads: &[Thread], number: usize) -> bool
     requires { number < length threads.now }
     ensures { result ≡ due (map (λ t. t.thread) threads.now) number (slice_index_or threads.now number no_thread).thread }
@@ -237,6 +282,15 @@ fn record(history: &mut Vec<Event>, code: &Code, thread: usize, did: Did)
     }) else {
         unreachable!()
     };
+}
+
+/// Forgets all events.
+fn forget(history: &mut Vec<Event>)
+    ensures events { history.new.items ≡ [] }
+    ensures len { vec_len history.new ≡ 0 }
+    ensures capacity { vec_capacity history.old ≤ vec_capacity history.new }
+{
+    history.clear();
 }
 
 /// Whether a step stops the machine.

@@ -1,24 +1,25 @@
 // One step of one thread.
 
-ghost use Rattle.std.specs.Prelude.{◌≡◌, ℕ, ◌+◌, ◌<◌, ◌≤◌, ◌^◌, length, slice_get, IfSome, true, false};
+ghost use Rattle.std.specs.Prelude.{◌≡◌, ℕ, ◌+◌, ◌*◌, ◌<◌, ◌≤◌, ◌^◌, length, slice_get, IfSome, IsTrue, None, true, false};
 ghost use Rattle.ls_code.specs.Cells.{effect};
 ghost use Rattle.ls_code.specs.Moves.{frame_move};
 ghost use Rattle.ls_code.specs.Steps.{answered, settled, performed, thread_move, wide_move, enters_move, throw_move, leaves_with_move, throws_move, begin_move, gives_move, result_move, trap_move, of_frame};
-ghost use Rattle.ls_machine.specs.Flows.{CanResume, is_silent};
-ghost use Rattle.ls_machine.specs.Memory.{MethodsFit};
-ghost use Rattle.ls_machine.specs.Outcomes.{Came};
-ghost use Rattle.ls_machine.specs.Takes.{IsQuiet, TakesEvents};
+ghost use Rattle.ls_moves.specs.Flows.{CanResume, IsQuiet, is_silent};
+ghost use Rattle.ls_machine.specs.Memory.{MethodsFit, events_left};
+ghost use Rattle.ls_machine.specs.Outcomes.{Came, IsSilentMove};
+ghost use Rattle.ls_machine.specs.Takes.{IsUnseen, TakesEvents};
 
-use crate::cells::Cells;
 use crate::exchanges::{drop_lock, see, take};
-use crate::flow::{Entered, Flow, Quick, Reply};
+use crate::flow::Entered;
 use crate::thread::Thread;
-use crate::words;
 use ls_code::code::{CallResult, Code, Method};
 use ls_code::instruction::{Instruction, Resume, ThreadInstruction};
 use ls_code::step::Did;
 use ls_events::action::{Action, Answer};
 use ls_events::kind::Kind;
+use ls_moves::cells::Cells;
+use ls_moves::flow::{Flow, Quick, Reply};
+use ls_moves::words;
 
 /// The innermost frame asks the cells, and goes on with their answer.
 #[inline]
@@ -62,15 +63,18 @@ fn ask(
 }
 
 /// The thread throws, and drops frames up to the one that catches it.
+#[inline(never)]
 fn throw(code: &Code, cells: &mut Cells, number: usize, thread: &mut Thread, kind: Kind) -> Did
     ensures came { Came (performed cells.old number thread.old.thread (throw_move code.now thread.old.thread kind)) thread.old thread.new cells.new result }
     ensures events { TakesEvents code.now number result thread.old.thread thread.new.thread }
+    ensures unseen { IsUnseen result }
 {
     let _ = thread.throw(code.handlers(), kind);
     Did::Silent
 }
 
 /// The method of a number.
+#[inline(always)]
 fn find_method(code: &Code, number: usize) -> Option<Method>
     ensures { result ≡ slice_get code.now.methods number }
 {
@@ -78,11 +82,13 @@ fn find_method(code: &Code, number: usize) -> Option<Method>
 }
 
 /// The thread enters a method.
+#[inline(always)]
 fn enter(code: &Code, cells: &mut Cells, number: usize, thread: &mut Thread, method: u32) -> Did
     requires place { thread.old.thread.top.counter + 1 < 2 ^ 64 }
     requires fit { MethodsFit code.now.methods thread.old.locals_room thread.old.operands_room }
     ensures came { Came (performed cells.old number thread.old.thread (enters_move code.now thread.old.thread method)) thread.old thread.new cells.new result }
     ensures events { TakesEvents code.now number result thread.old.thread thread.new.thread }
+    ensures unseen { IsUnseen result }
 {
     match find_method(code, method as usize) {
         None => Did::Silent,
@@ -95,9 +101,11 @@ fn enter(code: &Code, cells: &mut Cells, number: usize, thread: &mut Thread, met
 }
 
 /// The thread leaves its frame with a value.
+#[inline(always)]
 fn leave_with(code: &Code, cells: &mut Cells, number: usize, thread: &mut Thread) -> Did
     ensures came { Came (performed cells.old number thread.old.thread (leaves_with_move thread.old.thread)) thread.old thread.new cells.new result }
     ensures events { TakesEvents code.now number result thread.old.thread thread.new.thread }
+    ensures unseen { IsUnseen result }
 {
     match thread.one() {
         None => Did::Silent,
@@ -229,12 +237,129 @@ fn beyond(
 }
 
 /// The instruction at a place.
-#[inline]
+#[inline(always)]
 fn fetch(code: &Code, place: usize) -> Option<Instruction>
     ensures value { result ≡ slice_get code.now.instructions place }
     ensures within { IfSome result (λ _. place + 1 < 2 ^ 64) }
 {
     code.instructions().get(place).copied()
+}
+
+/// The thread reads a field of the object on top.
+#[inline(always)]
+fn read_field(code: &Code, cells: &mut Cells, number: usize, thread: &mut Thread, field: u32) -> Did
+    requires place { thread.old.thread.top.counter + 1 < 2 ^ 64 }
+    ensures came { Came (performed cells.old number thread.old.thread (of_frame code.now thread.old.thread (frame_move (Instruction.GetField field) thread.old.thread.top))) thread.old thread.new cells.new result }
+    ensures events { TakesEvents code.now number result thread.old.thread thread.new.thread }
+    ensures unseen { IsUnseen result }
+{
+    match thread.one() {
+        None => Did::Silent,
+        Some(object) => {
+            if object == 0 {
+                return throw(code, cells, number, thread, Kind::NullPointer);
+            }
+            match cells.get(object, field as usize) {
+                None => Did::Silent,
+                Some(word) => {
+                    thread.resume(Resume::Settle(1), word);
+                    Did::Acted(
+                        Action::ReadField {
+                            object,
+                            field: field as usize,
+                        },
+                        Answer::Gives(word),
+                    )
+                }
+            }
+        }
+    }
+}
+
+/// The thread writes a field of the object below the top.
+#[inline(always)]
+fn write_field(
+    code: &Code,
+    cells: &mut Cells,
+    number: usize,
+    thread: &mut Thread,
+    field: u32,
+) -> Did
+    requires place { thread.old.thread.top.counter + 1 < 2 ^ 64 }
+    ensures came { Came (performed cells.old number thread.old.thread (of_frame code.now thread.old.thread (frame_move (Instruction.PutField field) thread.old.thread.top))) thread.old thread.new cells.new result }
+    ensures events { TakesEvents code.now number result thread.old.thread thread.new.thread }
+    ensures unseen { IsUnseen result }
+{
+    match thread.two() {
+        None => Did::Silent,
+        Some((object, value)) => {
+            if object == 0 {
+                return throw(code, cells, number, thread, Kind::NullPointer);
+            }
+            match cells.write(object, field as usize, value, Answer::Done) {
+                Reply::Answered(_) => {
+                    thread.resume(Resume::Discard(2), 0);
+                    Did::Acted(
+                        Action::WriteField {
+                            object,
+                            field: field as usize,
+                            value,
+                        },
+                        Answer::Done,
+                    )
+                }
+                _ => Did::Silent,
+            }
+        }
+    }
+}
+
+/// Does a silent instruction, or nothing where the thread is stuck; the others are left.
+#[inline(always)]
+pub fn move_silently(code: &Code, thread: &mut Thread) -> bool
+    ensures silent { IsTrue result → IsSilentMove code.now thread.old thread.new }
+    ensures events { events_left thread.new.thread ≤ events_left thread.old.thread }
+    ensures left { result ≡ false → thread.new ≡ thread.old }
+{
+    match fetch(code, thread.counter()) {
+        None => true,
+        Some(Instruction::Leave) => {
+            let _ = thread.leave();
+            true
+        }
+        Some(instruction) => match thread.quick(instruction) {
+            Quick::Next => true,
+            Quick::Stuck => true,
+            Quick::Throws(_) => false,
+            Quick::Other => false,
+        },
+    }
+}
+
+/// Does an instruction that neither stops the machine nor is an event, and that most code has; the others are left.
+#[inline(always)]
+pub fn act(code: &Code, cells: &mut Cells, number: usize, thread: &mut Thread) -> Option<Did>
+    requires number { number ≤ 64 }
+    requires fit { MethodsFit code.now.methods thread.old.locals_room thread.old.operands_room }
+    ensures came { IfSome result (λ did. Came (performed cells.old number thread.old.thread (thread_move code.now thread.old.thread)) thread.old thread.new cells.new did) }
+    ensures events { IfSome result (λ did. TakesEvents code.now number did thread.old.thread thread.new.thread) }
+    ensures unseen { IfSome result IsUnseen }
+    ensures none { result ≡ None → (thread.new ≡ thread.old) × (cells.new ≡ cells.old) }
+{
+    match fetch(code, thread.counter())? {
+        Instruction::Turn(x) => {
+            thread.resume(Resume::Lead(x as usize), 0);
+            Some(Did::Acted(Action::Turn, Answer::Done))
+        }
+        Instruction::GetField(x) => Some(read_field(code, cells, number, thread, x)),
+        Instruction::PutField(x) => Some(write_field(code, cells, number, thread, x)),
+        Instruction::Enter(x) => Some(enter(code, cells, number, thread, x)),
+        Instruction::LeaveWith => Some(leave_with(code, cells, number, thread)),
+        Instruction::See(x) => Some(see(code, cells, number, thread, x)),
+        Instruction::Take(x) => Some(take(code, cells, number, thread, x)),
+        Instruction::DropLock => Some(drop_lock(code, cells, number, thread)),
+        _ => None,
+    }
 }
 
 /// An instruction that isn't silent.

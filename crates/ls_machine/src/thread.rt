@@ -6,18 +6,20 @@ ghost use Rattle.ls_code.specs.Frame.{top_one, top_two};
 ghost use Rattle.ls_code.specs.Throws.{thrown, onto, caught, find_row as row_at};
 ghost use Rattle.ls_code.specs.Calls.{left_frame, left_with, halted, call_begun, call_ended, call_trapped, with_callee, enter_move, entered, calling};
 ghost use Rattle.ls_events.specs.declared.kind.Kind.{Kind};
-ghost use Rattle.ls_machine.specs.Memory.{keeping, keeping_thread, no_frame, HaveRooms, started_kept};
-ghost use Rattle.ls_machine.specs.Flows.{IsFlow, IsReady, CanResume, LeavesOthers, is_silent};
+ghost use Rattle.ls_moves.specs.Frames.{keeping, no_frame};
+ghost use Rattle.ls_machine.specs.Memory.{keeping_thread, HaveRooms, started_kept};
+ghost use Rattle.ls_moves.specs.Flows.{IsFlow, IsReady, CanResume, LeavesOthers, is_silent};
 ghost use Rattle.ls_machine.specs.Back.{back_at};
 ghost use Rattle.ls_machine.specs.Threads.{IsQuickThread, thread_after, call_flow};
 
-use crate::flow::{Entered, Flow, Quick};
-use crate::frame::Frame;
-use crate::{acting, silent};
+use crate::flow::Entered;
 use ls_code::code::{CallResult, HandlerRow, Method, Start};
 use ls_code::instruction::{Instruction, Resume};
 use ls_code::step::Mode;
 use ls_events::kind::Kind;
+use ls_moves::flow::{Flow, Quick};
+use ls_moves::frame::Frame;
+use ls_moves::{acting, silent};
 use std::alloc::{AllocError, Global};
 use std::marker::Model;
 
@@ -40,7 +42,8 @@ pub struct Thread {
 impl Model for Thread {
     ghost use Rattle.std.specs.Prelude.{◌≡◌, ℕ, ◌+◌, ◌<◌, length, drop, map, slice_index_or};
     ghost use Rattle.std.specs.List.{All};
-    ghost use Rattle.ls_machine.specs.Memory.{KeptThread, no_frame, IsThread, AreCalls};
+    ghost use Rattle.ls_moves.specs.Frames.{no_frame};
+    ghost use Rattle.ls_machine.specs.Memory.{KeptThread, IsThread, AreCalls};
 
     ghost Value = { KeptThread };
 
@@ -94,14 +97,14 @@ impl Thread {
         self.pending = false;
     }
 
-    #[inline]
+    #[inline(always)]
     pub fn mode(&self) -> Mode
         ensures { result ≡ self.now.thread.mode }
     {
         self.mode
     }
 
-    #[inline]
+    #[inline(always)]
     pub fn counter(&self) -> usize
         ensures { result ≡ self.now.thread.top.counter }
     {
@@ -110,7 +113,7 @@ impl Thread {
     }
 
     /// What an instruction that isn't silent asks for.
-    #[inline]
+    #[inline(always)]
     pub fn advance(&self, instruction: Instruction) -> Flow
         requires { is_silent instruction ≡ false }
         ensures flow { IsFlow result (frame_move instruction self.now.thread.top) }
@@ -121,7 +124,7 @@ impl Thread {
     }
 
     /// Does a silent instruction.
-    #[inline]
+    #[inline(always)]
     pub fn quick(&mut self, instruction: Instruction) -> Quick
         requires { self.old.thread.top.counter + 1 < 2 ^ 64 }
         ensures quick { IsQuickThread result (frame_move instruction self.old.thread.top) self.old self.new }
@@ -132,7 +135,7 @@ impl Thread {
     }
 
     /// The innermost frame goes on with an answer.
-    #[inline]
+    #[inline(always)]
     pub fn resume(&mut self, how: Resume, word: u64)
         requires place { self.old.thread.top.counter + 1 < 2 ^ 64 }
         requires ready { CanResume how self.old.thread.top }
@@ -162,6 +165,7 @@ impl Thread {
     }
 
     /// Leaves the innermost frame, where it isn't the lowest.
+    #[inline(always)]
     pub fn leave(&mut self) -> bool
         ensures left { MatchOption (left_frame self.old.thread self.old.thread.below) (result ≡ false) (λ t. IsTrue result × (self.new ≡ keeping_thread self.old t)) }
         ensures stays { result ≡ false → self.new ≡ self.old }
@@ -176,6 +180,7 @@ impl Thread {
     }
 
     /// Leaves the innermost frame with a value, where it isn't the lowest and the value has room.
+    #[inline(always)]
     pub fn leave_with(&mut self, word: u64) -> bool
         ensures left { MatchOption (left_with self.old.thread self.old.thread.below word) (result ≡ false) (λ t. IsTrue result × (self.new ≡ keeping_thread self.old t)) }
         ensures stays { result ≡ false → self.new ≡ self.old }
@@ -193,6 +198,7 @@ impl Thread {
     }
 
     /// The top operands of the innermost frame.
+    #[inline(always)]
     pub fn one(&self) -> Option<u64>
         ensures { result ≡ top_one self.now.thread.top.operands }
     {
@@ -201,6 +207,7 @@ impl Thread {
     }
 
     /// The two topmost operands of the innermost frame, the top last.
+    #[inline(always)]
     pub fn two(&self) -> Option<(u64, u64)>
         ensures { result ≡ top_two self.now.thread.top.operands }
     {

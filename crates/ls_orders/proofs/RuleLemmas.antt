@@ -44,7 +44,7 @@ any_push p (y ∷ ys) x = swap (p y) (p x) (list_any p ys) (list_any p (ys ++ x 
 pub any_more : (p : SetCall → Bool) (xs : List SetCall) (i : ℕ) → i < length xs → list_any p (take (i + 1) xs) ≡ (p (at xs i) || list_any p (take i xs))
 any_more p xs i lt = ap (list_any p) (take_more xs i no_call lt) ∙ any_push p (take i xs) (at xs i)
 
-one_before : (xs : List SetCall) (i : ℕ) → 0 < i → i ≤ length xs → drop (i - 1) xs ≡ at xs (i - 1) ∷ drop i xs
+pub one_before : (xs : List SetCall) (i : ℕ) → 0 < i → i ≤ length xs → drop (i - 1) xs ≡ at xs (i - 1) ∷ drop i xs
 one_before xs i some le =
     let lt : i - 1 < length xs = omega arith in
     let e : i - 1 + 1 ≡ i = omega arith in

@@ -146,7 +146,7 @@ fn end_at(at: usize, occurrence: &Occurrence) -> End
 fn is_of(event: &NamedEvent, thread: &str, call: usize) -> bool
     ensures { result ≡ (bytes_eq (string_bytes event.now.thread) thread.now && event.now.call == call) }
 {
-    event.thread.as_str() == thread && event.call == call
+    event.call == call && event.thread.as_str() == thread
 }
 
 /// How the call ends whose events stand from the place on.

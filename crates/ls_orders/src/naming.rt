@@ -1,7 +1,6 @@
 // Set calls by their texts.
 
-ghost use Rattle.std.specs.Prelude.{◌≡◌, Some, None, IfOk, OnOk, map, ok_or, string_bytes, if◌then◌else◌};
-ghost use Rattle.std.specs.Option.{option_or};
+ghost use Rattle.std.specs.Prelude.{◌≡◌, Some, IfOk, OnOk, map, ok_or, string_bytes, if◌then◌else◌};
 ghost use Rattle.std.specs.BTreeMap.{get_by_text};
 ghost use Rattle.std.specs.Str.{bytes_eq};
 ghost use Rattle.ls_report.specs.Events.{Text};
@@ -24,18 +23,15 @@ pub(crate) enum Named {
     Unknown(String),
 }
 
-/// Adds a call's text, unless it is there already.
-fn add_name(
+/// Puts a call by its text, in the place of the one that is there.
+fn put_name(
     names: &mut BTreeMap<String, SetCall>,
     name: String,
     call: SetCall,
 ) -> Result<(), AllocError>
     ensures { OnOk result ((q : Text) → get_by_text names.new q
-        ≡ option_or (get_by_text names.old q) (if bytes_eq q (string_bytes name) then Some call else None)) }
+        ≡ (if bytes_eq q (string_bytes name) then Some call else get_by_text names.old q)) }
 {
-    if names.contains_key(name.as_str()) {
-        return Ok(());
-    }
     names.insert(name, call)?;
     Ok(())
 }
@@ -49,9 +45,11 @@ pub(crate) fn names_of(
     ensures { IfOk result (λ names. (q : Text) → get_by_text names q ≡ call_named (map plain_event events.now) calls.now q) }
 {
     let mut names = BTreeMap::new(alloc);
-    for call in calls {
+    // From the last to the first, so that of calls with one text the first stays.
+    for i in (0..calls.len()).rev() {
+        let call = calls[i];
         let name = name_at(alloc, events, call.called)?;
-        add_name(&mut names, name, *call)?;
+        put_name(&mut names, name, call)?;
     }
     Ok(names)
 }

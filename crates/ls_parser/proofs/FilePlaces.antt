@@ -34,10 +34,10 @@ pub file_placed : (tokens behind inner : List Token) {name : Option Dotted} {imp
 file_placed tokens behind inner {name} {imports} header l many k cs =
     file_at name imports
     (taken (spell_package name) l
-        (spots_forgotten tokens ∙ header_sound (lexemes tokens) (name, lexemes behind) header ∙ header_spells name (lexemes behind) ∙ ap (λ (ks : List Lexeme). spell_package name ++ ks) (sym (spots_forgotten behind))))
+    (spots_forgotten tokens ∙ header_sound (lexemes tokens) (name, lexemes behind) header ∙ header_spells name (lexemes behind) ∙ ap (λ (ks : List Lexeme). spell_package name ++ ks) (sym (spots_forgotten behind))))
     (taken (flat_map spell_import imports) k
-        (spots_forgotten behind ∙ (many_sound onto_import Anything starts_import import_at import_sound (lexemes behind) (imports, lexemes inner) many).0.spelled
-        ∙ onto_all_spells onto_import spell_import import_spells imports (lexemes inner) ∙ ap (λ (ks : List Lexeme). flat_map spell_import imports ++ ks) (sym (spots_forgotten inner))))
+    (spots_forgotten behind ∙ (many_sound onto_import Anything starts_import import_at import_sound (lexemes behind) (imports, lexemes inner) many).0.spelled
+    ∙ onto_all_spells onto_import spell_import import_spells imports (lexemes inner) ∙ ap (λ (ks : List Lexeme). flat_map spell_import imports ++ ks) (sym (spots_forgotten inner))))
     cs
 
 stand : (text : List ℕ) (from : ℕ) (ts : List Token) → InOrder text from ts (length text) → StandIn text from (spots ts)

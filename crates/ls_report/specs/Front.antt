@@ -1,6 +1,6 @@
 -- What is kept of the events that are read so far.
 use Rattle.std.specs.Prelude.{◌≡◌, ◌<◌, IfSome, find, length, reverse, slice_get, string_bytes}
-use Rattle.std.specs.HashMap.{get_by_text}
+use Rattle.std.specs.BTreeMap.{get_by_text}
 use Rattle.std.specs.Option.{option_and_then}
 use Rattle.std.specs.Str.{bytes_eq}
 use Rattle.ls_report.specs.Events.{Text}

@@ -7,14 +7,14 @@ ghost use Rattle.ls_report.specs.Front.{IsIndexed};
 
 use crate::history::NamedEvent;
 use std::alloc::{AllocError, Global};
-use std::collections::HashMap;
+use std::collections::BTreeMap;
 
-/// Events in order, and for each thread's name the place of its last one, so that a search costs the same however many
-/// they are.
+/// Events in order, and for each thread's name the place of its last one, so that a search takes no longer with their number than
+/// its logarithm.
 #[derive(Drop)]
 pub(crate) struct Front {
     pub(crate) events: Vec<NamedEvent>,
-    pub(crate) places: HashMap<String, usize>,
+    pub(crate) places: BTreeMap<String, usize>,
 }
 
 impl Front {
@@ -24,7 +24,7 @@ impl Front {
     {
         Front {
             events: Vec::new(alloc),
-            places: HashMap::new(alloc),
+            places: BTreeMap::new(alloc),
         }
     }
 

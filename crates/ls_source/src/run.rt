@@ -18,7 +18,9 @@ use ls_checked::tree::File;
 use ls_events::action::Action;
 use ls_events::event::Event;
 use ls_events::value::Value;
+use ls_meaning::sort::Sort;
 use ls_meaning::step::{Asked, Did};
+use ls_pending::work::Control;
 use std::alloc::{AllocError, Global};
 
 /// A run of a program of a file: each thread with its pending work, up to its next question. The answers that it has had are
@@ -36,12 +38,12 @@ pub struct SourceRun<'a> {
 
 // What a step did that performed an action.
 #[inline(always)]
-fn did_by(action: Action<Value>, effect: Effect) -> Did
-    ensures { result ≡ did_by action effect }
+fn did_by(action: &Action<Value>, effect: Effect) -> Did
+    ensures { result ≡ did_by action.now effect }
 {
     match effect {
         Effect::Waits => Did::Waits,
-        Effect::Does(answer) => Did::Acted(action, answer),
+        Effect::Does(answer) => Did::Acted(*action, answer),
     }
 }
 
@@ -60,12 +62,14 @@ fn fresh_threads<'a>(
 }
 
 impl<'a> SourceRun<'a> {
-    ghost use Rattle.std.specs.Prelude.{◌<◌, OnOk, OnErr, Some, option_map, slice_get};
+    ghost use Rattle.std.specs.Prelude.{◌<◌, IfSome, OnOk, OnErr, Some, option_map, slice_get};
     ghost use Rattle.std.specs.Option.{option_copied};
     ghost use Rattle.ls_meaning.specs.Store.{name_at, thing_at};
     ghost use Rattle.ls_meaning.specs.Threads.{next};
     ghost use Rattle.ls_meaning.specs.Runs.{asked, has_ended, has_started, step, answers_of, performed};
     ghost use Rattle.ls_meaning.specs.Effect.{effect};
+    ghost use Rattle.ls_pending.specs.Seen.{control_of};
+    ghost use Rattle.ls_source.specs.Calls.{asked_by};
     ghost use Rattle.ls_source.specs.Ends.{has_trapped};
     ghost use Rattle.ls_source.specs.SeenThing.{thing_of};
     ghost use Rattle.ls_source.specs.SeenThread.{seen_next};
@@ -104,6 +108,43 @@ impl<'a> SourceRun<'a> {
                 None => Err(AllocError),
                 Some(next) => Ok(next),
             },
+        }
+    }
+
+    // What the work of a thread does now, where it is in a body.
+    #[inline(always)]
+    fn control_at(&self, thread: usize) -> Option<&Control<'a>>
+        ensures { IfSome result (λ c. asked_at (progress_of self.now).program (slice_get (map thread_of self.now.threads.items) thread) ≡ asked_by (control_of c.now)) }
+    {
+        match self.threads.get(thread) {
+            None => None,
+            Some(t) => match t.control() {
+                None => None,
+                Some(control) => Some(control),
+            },
+        }
+    }
+
+    // What a thread does next, apart from the way that most steps take: an action that many places make is copied in parts.
+    #[inline(never)]
+    fn next_outside(&self, thread: usize) -> Result<Next, AllocError>
+        ensures asked { IfOk result (λ r. asked_at (progress_of self.now).program (slice_get (map thread_of self.now.threads.items) thread) ≡ Some (seen_next r)) }
+        ensures next { IfOk result (λ r. seen_next r ≡ next (progress_of self.now).file (progress_of self.now).program thread (answers_of (progress_of self.now).state thread)) }
+    {
+        self.next_of_thread(thread)
+    }
+
+    // What a thread does next, soonest where it is in a body.
+    #[inline(always)]
+    fn next_at_once(&self, thread: usize) -> Result<Next, AllocError>
+        ensures asked { IfOk result (λ r. asked_at (progress_of self.now).program (slice_get (map thread_of self.now.threads.items) thread) ≡ Some (seen_next r)) }
+        ensures next { IfOk result (λ r. seen_next r ≡ next (progress_of self.now).file (progress_of self.now).program thread (answers_of (progress_of self.now).state thread)) }
+    {
+        match self.control_at(thread) {
+            Some(Control::Asks(action, sort)) => Ok(Next::Goes(*action, *sort)),
+            Some(Control::Enters(m, _, _)) => Ok(Next::Goes(Action::Enter(*m), Sort::NoValue)),
+            Some(Control::Turns(_, _)) => Ok(Next::Goes(Action::Turn, Sort::NoValue)),
+            _ => self.next_outside(thread),
         }
     }
 
@@ -195,12 +236,12 @@ impl<'a> SourceRun<'a> {
         &mut self,
         alloc: Global,
         thread: usize,
-        action: Action<Value>,
+        action: &Action<Value>,
     ) -> Result<Effect, AllocError>
         requires within { thread < length self.old.threads.items }
-        requires asks { action_in (asked_at (progress_of self.old).program (slice_get (map thread_of self.old.threads.items) thread)) ≡ Some action }
-        ensures did { IfOk result (λ e. did_by action e ≡ (performed (progress_of self.old).state thread action (effect (progress_of self.old).file.classes (progress_of self.old).state.store thread action)).did) }
-        ensures run { OnOk result (progress_of self.new ≡ gone_by (progress_of self.old) thread (performed (progress_of self.old).state thread action (effect (progress_of self.old).file.classes (progress_of self.old).state.store thread action))) }
+        requires asks { action_in (asked_at (progress_of self.old).program (slice_get (map thread_of self.old.threads.items) thread)) ≡ Some action.now }
+        ensures did { IfOk result (λ e. did_by action.now e ≡ (performed (progress_of self.old).state thread action.now (effect (progress_of self.old).file.classes (progress_of self.old).state.store thread action.now)).did) }
+        ensures run { OnOk result (progress_of self.new ≡ gone_by (progress_of self.old) thread (performed (progress_of self.old).state thread action.now (effect (progress_of self.old).file.classes (progress_of self.old).state.store thread action.now))) }
         ensures refused { OnErr result (progress_of self.new ≡ progress_of self.old) }
     {
         let effect = self
@@ -227,9 +268,9 @@ impl<'a> SourceRun<'a> {
         if !self.has_started(thread)? {
             return Ok(Did::Idle);
         }
-        match self.next_of_thread(thread)? {
+        match self.next_at_once(thread)? {
             Next::Goes(action, _) => {
-                let did = did_by(action, self.act(alloc, thread, action)?);
+                let did = did_by(&action, self.act(alloc, thread, &action)?);
                 let _settled = self.settle(alloc, thread);
                 Ok(did)
             }

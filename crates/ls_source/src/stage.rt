@@ -27,13 +27,13 @@ pub struct Stage {
 
 // The event of a history that an action of a thread is.
 #[inline(always)]
-fn event_of(thread: usize, action: Action<Value>) -> Option<Event>
-    ensures { result ≡ event_of thread action }
+fn event_of(thread: usize, action: &Action<Value>) -> Option<Event>
+    ensures { result ≡ event_of thread action.now }
 {
     let (call, happening) = match action {
-        Action::Call(call) => (call, Happening::Called),
-        Action::Return(call, value) => (call, Happening::Returned(value)),
-        Action::Trap(call, kind) => (call, Happening::Trapped(kind)),
+        Action::Call(call) => (*call, Happening::Called),
+        Action::Return(call, value) => (*call, Happening::Returned(*value)),
+        Action::Trap(call, kind) => (*call, Happening::Trapped(*kind)),
         _ => return None,
     };
     Some(Event {
@@ -91,12 +91,12 @@ impl Stage {
         alloc: Global,
         classes: &[Class],
         thread: usize,
-        action: Action<Value>,
+        action: &Action<Value>,
     ) -> Result<Effect, AllocError>
         requires { thread < length self.old.answers.items }
-        ensures did { IfOk result (λ e. did_by action e ≡ (performed (state_of self.old) thread action (effect (map plain_class classes.now) (store_of self.old.store) thread action)).did) }
-        ensures after { OnOk result (state_of self.new ≡ (performed (state_of self.old) thread action (effect (map plain_class classes.now) (store_of self.old.store) thread action)).after) }
-        ensures events { IfOk result (λ e. self.new.events.items ≡ self.old.events.items ++ events_by thread (did_by action e)) }
+        ensures did { IfOk result (λ e. did_by action.now e ≡ (performed (state_of self.old) thread action.now (effect (map plain_class classes.now) (store_of self.old.store) thread action.now)).did) }
+        ensures after { OnOk result (state_of self.new ≡ (performed (state_of self.old) thread action.now (effect (map plain_class classes.now) (store_of self.old.store) thread action.now)).after) }
+        ensures events { IfOk result (λ e. self.new.events.items ≡ self.old.events.items ++ events_by thread (did_by action.now e)) }
         ensures threads { length self.new.answers.items ≡ length self.old.answers.items }
         ensures err { OnErr result (state_of self.new ≡ state_of self.old) }
         ensures err_events { OnErr result (self.new.events.items ≡ self.old.events.items) }

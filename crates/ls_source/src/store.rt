@@ -61,8 +61,13 @@ impl Store {
     }
 
     // An action on the thing with a number.
-    fn act_on(&mut self, o: u64, thread: usize, action: Action<Value>) -> Result<Effect, AllocError>
-        ensures effect { IfOk result (λ r. seen_effect (store_of self.new) r ≡ on_thing (store_of self.old) o thread action) }
+    fn act_on(
+        &mut self,
+        o: u64,
+        thread: usize,
+        action: &Action<Value>,
+    ) -> Result<Effect, AllocError>
+        ensures effect { IfOk result (λ r. seen_effect (store_of self.new) r ≡ on_thing (store_of self.old) o thread action.now) }
         ensures waits { IfOk result (λ r. r ≡ Effect.Waits → store_of self.new ≡ store_of self.old) }
         ensures err { OnErr result (store_of self.new ≡ store_of self.old) }
     {
@@ -103,34 +108,34 @@ impl Store {
         alloc: Global,
         classes: &[Class],
         thread: usize,
-        action: Action<Value>,
+        action: &Action<Value>,
     ) -> Result<Effect, AllocError>
-        ensures effect { IfOk result (λ r. seen_effect (store_of self.new) r ≡ effect (map plain_class classes.now) (store_of self.old) thread action) }
+        ensures effect { IfOk result (λ r. seen_effect (store_of self.new) r ≡ effect (map plain_class classes.now) (store_of self.old) thread action.now) }
         ensures waits { IfOk result (λ r. r ≡ Effect.Waits → store_of self.new ≡ store_of self.old) }
         ensures err { OnErr result (store_of self.new ≡ store_of self.old) }
     {
         match action {
-            Action::ReadField { object, .. } => self.act_on(object, thread, action),
-            Action::WriteField { object, .. } => self.act_on(object, thread, action),
-            Action::ReadItem { array, .. } => self.act_on(array, thread, action),
-            Action::WriteItem { array, .. } => self.act_on(array, thread, action),
-            Action::ReadName(n) => Ok(self.read_name(n)),
-            Action::WriteName(n, v) => Ok(self.write_name(n, v)),
+            Action::ReadField { object, .. } => self.act_on(*object, thread, action),
+            Action::WriteField { object, .. } => self.act_on(*object, thread, action),
+            Action::ReadItem { array, .. } => self.act_on(*array, thread, action),
+            Action::WriteItem { array, .. } => self.act_on(*array, thread, action),
+            Action::ReadName(n) => Ok(self.read_name(*n)),
+            Action::WriteName(n, v) => Ok(self.write_name(*n, *v)),
             Action::New(class) => {
-                let fields = fresh_fields(alloc, classes, class)?;
+                let fields = fresh_fields(alloc, classes, *class)?;
                 self.make(Thing::Object(fields))
             }
             Action::NewLock => self.make(Thing::FreeLock),
-            Action::NewMarkable(pair) => self.make(Thing::Markable(pair)),
-            Action::NewArray(length) => self.make(new_array(alloc, length)),
-            Action::Lock(o) => self.act_on(o, thread, action),
-            Action::Unlock(o) => self.act_on(o, thread, action),
-            Action::TryLock(o) => self.act_on(o, thread, action),
-            Action::IsHeld(o) => self.act_on(o, thread, action),
-            Action::ReadPair(o) => self.act_on(o, thread, action),
-            Action::SetPair(o, _) => self.act_on(o, thread, action),
-            Action::SwapPair { markable, .. } => self.act_on(markable, thread, action),
-            Action::AttemptMark { markable, .. } => self.act_on(markable, thread, action),
+            Action::NewMarkable(pair) => self.make(Thing::Markable(*pair)),
+            Action::NewArray(length) => self.make(new_array(alloc, *length)),
+            Action::Lock(o) => self.act_on(*o, thread, action),
+            Action::Unlock(o) => self.act_on(*o, thread, action),
+            Action::TryLock(o) => self.act_on(*o, thread, action),
+            Action::IsHeld(o) => self.act_on(*o, thread, action),
+            Action::ReadPair(o) => self.act_on(*o, thread, action),
+            Action::SetPair(o, _) => self.act_on(*o, thread, action),
+            Action::SwapPair { markable, .. } => self.act_on(*markable, thread, action),
+            Action::AttemptMark { markable, .. } => self.act_on(*markable, thread, action),
             Action::Turn
             | Action::Enter(_)
             | Action::Call(_)

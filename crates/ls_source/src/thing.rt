@@ -306,28 +306,32 @@ fn attempt_mark(thing: &mut Thing, reference: u64, mark: bool) -> Effect
 }
 
 /// What an action does to the thing that it is on.
-pub fn change(thing: &mut Thing, thread: usize, action: Action<Value>) -> Result<Effect, AllocError>
-    ensures change { IfOk result (λ r. seen_change (thing_of thing.new) r ≡ change thread action (thing_of thing.old)) }
+pub fn change(
+    thing: &mut Thing,
+    thread: usize,
+    action: &Action<Value>,
+) -> Result<Effect, AllocError>
+    ensures change { IfOk result (λ r. seen_change (thing_of thing.new) r ≡ change thread action.now (thing_of thing.old)) }
     ensures waits { IfOk result (λ r. r ≡ Effect.Waits → thing_of thing.new ≡ thing_of thing.old) }
     ensures err { OnErr result (thing_of thing.new ≡ thing_of thing.old) }
 {
     match action {
-        Action::ReadField { field, .. } => Ok(read_field(thing, field)),
-        Action::WriteField { field, value, .. } => Ok(write_field(thing, field, value)),
-        Action::ReadItem { index, .. } => Ok(read_item(thing, index)),
-        Action::WriteItem { index, value, .. } => write_item(thing, index, value),
+        Action::ReadField { field, .. } => Ok(read_field(thing, *field)),
+        Action::WriteField { field, value, .. } => Ok(write_field(thing, *field, *value)),
+        Action::ReadItem { index, .. } => Ok(read_item(thing, *index)),
+        Action::WriteItem { index, value, .. } => write_item(thing, *index, *value),
         Action::Lock(_) => Ok(lock(thing, thread)),
         Action::Unlock(_) => Ok(unlock(thing, thread)),
         Action::TryLock(_) => Ok(try_lock(thing, thread)),
         Action::IsHeld(_) => Ok(is_held(thing, thread)),
         Action::ReadPair(_) => Ok(read_pair(thing)),
-        Action::SetPair(_, v) => Ok(set_pair(thing, v)),
-        Action::SwapPair { expected, new, .. } => Ok(swap_pair(thing, expected, new)),
+        Action::SetPair(_, v) => Ok(set_pair(thing, *v)),
+        Action::SwapPair { expected, new, .. } => Ok(swap_pair(thing, *expected, *new)),
         Action::AttemptMark {
             reference,
             mark,
             ..
-        } => Ok(attempt_mark(thing, reference, mark)),
+        } => Ok(attempt_mark(thing, *reference, *mark)),
         _ => Ok(done()),
     }
 }

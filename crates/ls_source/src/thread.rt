@@ -111,7 +111,7 @@ fn asked_by<'a>(control: &Control<'a>) -> Option<Next>
 }
 
 impl<'a> Thread<'a> {
-    ghost use Rattle.std.specs.Prelude.{◌∷◌, [], ℕ, drop, length, map};
+    ghost use Rattle.std.specs.Prelude.{◌∷◌, [], ℕ, IfSome, drop, length, map};
     ghost use Rattle.ls_checked.specs.CheckedProgram.{Program as PlainProgram};
     ghost use Rattle.ls_checked.specs.PlainProgram.{plain_call};
     ghost use Rattle.ls_meaning.specs.Course.{Answers};
@@ -307,6 +307,17 @@ impl<'a> Thread<'a> {
             Phase::ReturnsWith(_) => self.phase = Phase::Starts,
             Phase::TrapsWith(_) => self.phase = Phase::Trapped,
             Phase::Trapped => {}
+        }
+    }
+
+    /// What its work does now, where it is in a body.
+    #[inline(always)]
+    pub fn control(&self) -> Option<&Control<'a>>
+        ensures { IfSome result (λ c. (program : PlainProgram) → asked_now program (thread_of self.now) ≡ asked_by (control_of c.now)) }
+    {
+        match self.phase {
+            Phase::Works(_) => Some(&self.work.control),
+            _ => None,
         }
     }
 

@@ -81,7 +81,7 @@ mutual
     new_markable_at : {class : Name} {arguments : Expressions} {from word opening last : Span} {ss middle rest : List Spot} →
         ClassNameAt class ss (sign signs.OpenParen opening ∷ middle) → ArgumentsAt arguments last middle rest →
         At (trees.NewMarkable class arguments (upto from last))
-            (spot (Reserved words.New) from ∷ spot (Named (codes "AtomicMarkableReference")) word ∷ ss) rest
+        (spot (Reserved words.New) from ∷ spot (Named (codes "AtomicMarkableReference")) word ∷ ss) rest
     new_array_at : {length : Expression} {from word last : Span} {ss rest : List Spot} →
         IndexAt length last ss rest →
         At (trees.NewArray length (upto from last)) (spot (Reserved words.New) from ∷ spot (Reserved words.Boolean) word ∷ ss) rest

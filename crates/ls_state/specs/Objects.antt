@@ -1,5 +1,5 @@
 -- What the objects and the setup names hold.
-use Rattle.std.specs.Prelude.{ℕ, ◌==◌, List, [], ◌∷◌, ◌++◌, slice_get, codes, if◌then◌else◌}
+use Rattle.std.specs.Prelude.{ℕ, ◌==◌, List, [], ◌∷◌, ◌++◌, codes, if◌then◌else◌}
 use Rattle.std.specs.Option.{option_map_or}
 use Rattle.ls_events.specs.declared.value.Value.{Value}
 use Rattle.ls_checked.specs.CheckedProgram.{Program, SetupName}
@@ -9,11 +9,9 @@ use Rattle.ls_labels.specs.declared.label.Label.{Label}
 use Rattle.ls_labels.specs.Labels.{label_at}
 use Rattle.ls_labels.specs.Names.{Names}
 use Rattle.ls_labels.specs.Objects.{object_text, value_text}
+use Rattle.ls_labels.specs.Threads.{thread_name}
 use Rattle.ls_labels.specs.Words.{field_of}
 use Rattle.ls_state.specs.Parts.{numbered, count_text, array_text}
-
-abbrev pub thread_name : Program → ℕ → Text
-thread_name program thread = option_map_or (λ t. t.name) (slice_get program.threads thread) []
 
 -- a lock that a thread owns, as `held by A, 2 holds`
 abbrev pub held_text : Program → ℕ → ℕ → Text

@@ -4,20 +4,18 @@ ghost use Rattle.std.specs.Prelude.{◌≡◌, ◌==◌, ◌&&◌, ◌++◌, OnO
 ghost use Rattle.ls_checked.specs.PlainProgram.{plain_thread};
 ghost use Rattle.ls_meaning.specs.Effect.{effect};
 ghost use Rattle.ls_source.specs.Shown.{progress_of};
-ghost use Rattle.ls_state.specs.Asking.{asked_text, asking_text, asks_text, awaited, call_of, calls_begun, end_text, is_call, lock_of, thread_line};
+ghost use Rattle.ls_state.specs.Asking.{asked_text, asking_text, asks_text, call_of, calls_begun, has_to_wait, is_call, thread_line};
 ghost use Rattle.ls_state.specs.Seen.{IsOwn, names_in, scene_seen};
 ghost use Rattle.ls_state.specs.State.{threads_text};
 
-use crate::objects::thread_name;
 use crate::scene::Scene;
 use ls_checked::program::ThreadProgram;
 use ls_events::action::Action;
 use ls_events::event::{Event, Happening};
 use ls_events::value::Value;
-use ls_labels::objects::push_object;
+use ls_labels::threads::{end_words, owner_of, push_wait, start_words};
 use ls_labels::words::push_action;
 use ls_meaning::step::Asked;
-use ls_source::Thing;
 use ls_source::run::SourceRun;
 use std::alloc::{AllocError, Global};
 use std::fmt::Write;
@@ -49,48 +47,34 @@ fn call_of(history: &[Event], thread: usize, action: Action<Value>) -> usize
     }
 }
 
-// The lock that an action takes.
-fn lock_of(action: Action<Value>) -> u64
-    ensures { result ≡ lock_of action }
+// Whether a thread's action has to wait: it takes a lock that another owns.
+fn has_to_wait(run: &SourceRun, thread: usize, action: Action<Value>) -> bool
+    ensures { result ≡ has_to_wait (effect (progress_of run.now).file.classes (progress_of run.now).state.store thread action) }
 {
-    match action {
-        Action::Lock(object) => object,
-        _ => 0,
-    }
-}
-
-// The owner of the lock that a thread's action waits for.
-fn awaited(run: &SourceRun, thread: usize, action: Action<Value>) -> Option<usize>
-    ensures { result ≡ awaited (progress_of run.now).state.store action
-        (effect (progress_of run.now).file.classes (progress_of run.now).state.store thread action) }
-{
-    let Action::Lock(object) = action else {
-        return None;
+    let Action::Lock(lock) = action else {
+        return false;
     };
-    match run.thing(object) {
-        Some(Thing::HeldLock { owner, .. }) if *owner != thread => Some(*owner),
-        _ => None,
+    match owner_of(run.thing(lock)) {
+        Some(owner) => owner != thread,
+        None => false,
     }
 }
 
-// Adds an action, or that it waits for a lock of this owner.
+// Adds an action, or what it waits for.
 fn push_asking(
     out: &mut String,
     scene: &Scene,
     thread: usize,
     action: Action<Value>,
-    owner: Option<usize>,
+    waits: bool,
 ) -> Result<(), AllocError>
     ensures { OnOk result (string_bytes out.new
-        ≡ string_bytes out.old ++ asking_text (names_in scene.now) (scene_seen scene.now) thread action owner) }
+        ≡ string_bytes out.old ++ asking_text (names_in scene.now) (scene_seen scene.now) thread action waits) }
 {
-    let Some(owner) = owner else {
-        return push_action(out, scene.names, &scene.labels, thread, action);
-    };
-    out.push_str("waits for ")?;
-    push_object(out, scene.names, &scene.labels, lock_of(action))?;
-    let name = thread_name(scene.names.program, owner);
-    write!(out, ", which {name} owns")
+    if waits {
+        return push_wait(out, scene.names, &scene.labels, &scene.run, action);
+    }
+    push_action(out, scene.names, &scene.labels, thread, action)
 }
 
 // Adds what a thread of this name asks for.
@@ -107,19 +91,8 @@ fn push_asks(
 {
     let call = call_of(scene.run.history(), thread, action);
     write!(out, "{name}.{call} ")?;
-    let owner = awaited(&scene.run, thread, action);
-    push_asking(out, scene, thread, action, owner)
-}
-
-// How a thread has ended.
-fn end_words(has_trapped: bool) -> &'static str
-    ensures { result.now ≡ end_text has_trapped }
-{
-    if has_trapped {
-        " has ended with a trap"
-    } else {
-        " has ended"
-    }
+    let waits = has_to_wait(&scene.run, thread, action);
+    push_asking(out, scene, thread, action, waits)
 }
 
 fn push_asked(
@@ -139,7 +112,10 @@ fn push_asked(
             let end = end_words(scene.run.has_trapped(thread)?);
             write!(out, "{name}{end}")
         }
-        Asked::NotStarted => write!(out, "{name} hasn't started"),
+        Asked::NotStarted => {
+            let start = start_words(scene.run.has_trapped(0)?);
+            write!(out, "{name}{start}")
+        }
     }
 }
 

@@ -3,7 +3,7 @@
 ghost use Rattle.std.specs.Prelude.{◌≡◌, ◌++◌, OnOk, string_bytes};
 ghost use Rattle.ls_checked.specs.PlainProgram.{plain_name, plain_program};
 ghost use Rattle.ls_source.specs.SeenThing.{thing_of};
-ghost use Rattle.ls_state.specs.Objects.{field_name_of, field_part, held_text, name_line, thing_line, thing_text, thread_name};
+ghost use Rattle.ls_state.specs.Objects.{field_name_of, field_part, held_text, name_line, thing_line, thing_text};
 ghost use Rattle.ls_state.specs.Parts.{numbered};
 ghost use Rattle.ls_state.specs.Seen.{names_in, scene_seen};
 ghost use Rattle.ls_state.specs.State.{names_text, things_text};
@@ -15,19 +15,10 @@ use ls_events::value::Value;
 use ls_labels::label::Label;
 use ls_labels::names::field_name;
 use ls_labels::objects::{label_at, push_object, push_value};
+use ls_labels::threads::thread_name;
 use ls_source::Thing;
 use std::alloc::AllocError;
 use std::fmt::Write;
-
-/// The name of a thread.
-pub(crate) fn thread_name(program: &Program, thread: usize) -> &str
-    ensures { result.now ≡ thread_name (plain_program program.now) thread }
-{
-    match program.threads.get(thread) {
-        Some(named) => named.name.as_str(),
-        None => "",
-    }
-}
 
 /// Adds who owns a lock, as `held by A, 2 holds`.
 pub fn push_held(

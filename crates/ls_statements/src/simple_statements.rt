@@ -24,8 +24,8 @@ use ls_lexer::token::{Span, Token};
 use ls_lexer::word::Word;
 use ls_terms::terms::binary;
 use ls_terms::tokens::{
-    Context, Enclosed, NamePart, Part, closed_part, expect, make_name, name_part, sign_part, syntax,
-    too_deep, upto,
+    Context, Enclosed, NamePart, Part, closed_part, expect, make_name, name_part, sign_part,
+    syntax, too_deep, upto,
 };
 use ls_tree::tree::{Block, BlockItem, Expr, Name, Statement};
 use std::alloc::AllocError;

@@ -146,7 +146,7 @@ pub call_is : (n : Name) {t : Expression} {text : trees.Text} {start span openin
     ss ≡ sign signs.OpenParen opening ∷ middle → ArgumentsAt arguments last middle rest → At t (spot (Named text) start ∷ ss) rest
 call_is n {t} {start = start} {last = last} {arguments} {ss} {middle} {rest} a b is whole c g =
     let called : At (trees.Call (placed_name n) arguments (upto n.span last)) (named (placed_name n) ∷ ss) rest =
-        subst (λ (xs : List Spot). At (trees.Call (placed_name n) arguments (upto n.span last)) (named (placed_name n) ∷ xs) rest) (sym c) (call_at g) in
+    subst (λ (xs : List Spot). At (trees.Call (placed_name n) arguments (upto n.span last)) (named (placed_name n) ∷ xs) rest) (sym c) (call_at g) in
     subst (λ (x : Spot). At t (x ∷ ss) rest) (name_spot n a b)
     (subst (λ (x : Expression). At x (named (placed_name n) ∷ ss) rest) (sym (is ∙ ap (trees.Call (placed_name n) arguments) (whole ∙ ap (λ (s : Span). upto s last) (sym b)))) called)
 
@@ -156,7 +156,7 @@ pub new_is : (n : Name) {t : Expression} {text : trees.Text} {from start span op
     At t (spot (Reserved words.New) from ∷ spot (Named text) start ∷ ss) rest
 new_is n {t} {from = from} {last = last} {arguments} {ss} {middle} {rest} a b is whole c g =
     let made : At (trees.New (placed_name n) arguments (upto from last)) (spot (Reserved words.New) from ∷ named (placed_name n) ∷ ss) rest =
-        subst (λ (xs : List Spot). At (trees.New (placed_name n) arguments (upto from last)) (spot (Reserved words.New) from ∷ named (placed_name n) ∷ xs) rest) (sym c) (new_at g) in
+    subst (λ (xs : List Spot). At (trees.New (placed_name n) arguments (upto from last)) (spot (Reserved words.New) from ∷ named (placed_name n) ∷ xs) rest) (sym c) (new_at g) in
     subst (λ (x : Spot). At t (spot (Reserved words.New) from ∷ x ∷ ss) rest) (name_spot n a b)
     (subst (λ (x : Expression). At x (spot (Reserved words.New) from ∷ named (placed_name n) ∷ ss) rest) (sym (is ∙ ap (trees.New (placed_name n) arguments) whole)) made)
 

@@ -19,8 +19,8 @@ use crate::primaries::{
     called, class_name, has_suffix, is_markable, is_new_array, new_markable, new_object, number,
 };
 use crate::tokens::{
-    Enclosed, Context, NamePart, Part, boxed_part, closed_part, expect, expect_word, make_name, name,
-    name_part, push, sign_part, starts_with, syntax, too_deep, upto,
+    Context, Enclosed, NamePart, Part, boxed_part, closed_part, expect, expect_word, make_name,
+    name, name_part, push, sign_part, starts_with, syntax, too_deep, upto,
 };
 use ls_lexer::fault::TextFault;
 use ls_lexer::sign::Sign;

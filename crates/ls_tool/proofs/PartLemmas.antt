@@ -1,14 +1,8 @@
 -- The parts of lines, one line after the other.
 use Rattle.std.proofs.Common.{◌≡◌, ◌∙◌, ◌+◌, ◌<◌, ℕ, zero, suc, true, false, cond, List, [], ◌∷◌, ◌++◌, length, get_or, map, drop, refl, sym, ap, append_assoc, append-nil, arith, Option, Some, None}
 use Rattle.std.specs.Prelude.{unwrap_or}
-use Rattle.std.specs.Borrow.{Bor}
+use Rattle.ls_tool.specs.Cutting.{open_with}
 use Rattle.ls_tool.specs.Parts.{fed, groups_of, grown, into_group, is_mark, part_of}
-
--- the parts of groups, the first of which goes on from what was had of it so far
-abbrev pub open_with : Option (List ℕ) → List (List (List ℕ)) → List (List ℕ)
-open_with None gs = map part_of gs
-open_with (Some text) [] = text ∷ []
-open_with (Some text) (g ∷ gs) = (text ++ fed g) ∷ map part_of gs
 
 one_more : (had : Option (List ℕ)) (l : List ℕ) (gs : List (List (List ℕ))) → open_with had (into_group l gs) ≡ open_with (Some (grown had l)) gs
 one_more None l [] = ap (λ x. x ∷ []) (append-nil l)
@@ -34,10 +28,3 @@ at_line done had l ls all e h =
 
 pub at_end : (done : List (List ℕ)) (had : Option (List ℕ)) (all : List (List ℕ)) → done ++ open_with had (groups_of []) ≡ all → done ++ unwrap_or had [] ∷ [] ≡ all
 at_end done had all h = ap (λ x. done ++ x) (sym (one_less had [])) ∙ h
-
-pub line_at : (ls : List (Bor (List ℕ))) (i : ℕ) (d : Bor (List ℕ)) → i < length ls → drop i (map (λ x. x.now) ls) ≡ (get_or ls i d).now ∷ drop (i + 1) (map (λ x. x.now) ls)
-line_at [] i d lt = absurd (omega arith)
-line_at (l ∷ ls) zero d lt = refl
-line_at (l ∷ ls) (suc i) d lt =
-    let more : suc (i + 1) ≡ suc i + 1 = omega arith in
-    line_at ls i d (omega arith) ∙ ap (λ n. (get_or ls i d).now ∷ drop n (l.now ∷ map (λ x. x.now) ls)) more

@@ -1,2 +1,3 @@
 pub mod Parts
+pub mod Cutting
 pub mod Output

@@ -1,7 +1,8 @@
 // The parts of an input.
 
-ghost use Rattle.std.specs.Prelude.{◌≡◌, IfNone, IfOk, IfSome, [], false, map, option_map, string_bytes, true, unwrap_or};
-ghost use Rattle.ls_tool.specs.Parts.{groups_of, grown, is_text, lines_of, part_of, parts_of};
+ghost use Rattle.std.specs.Prelude.{◌≡◌, ◌++◌, ◌∷◌, ℕ, IfNone, IfOk, IfSome, List, [], false, map, option_map, string_bytes, true, unwrap_or};
+ghost use Rattle.ls_tool.specs.Cutting.{open_with};
+ghost use Rattle.ls_tool.specs.Parts.{groups_of, grown, is_text, parts_of};
 
 use std::alloc::{AllocError, Global};
 
@@ -14,20 +15,6 @@ pub(crate) fn text_of(bytes: &[u8]) -> Option<&str>
         Ok(text) => Some(text),
         Err(_) => None,
     }
-}
-
-/// What stands between the line feeds.
-fn lines_between(alloc: Global, text: &str) -> Result<Vec<&str>, AllocError>
-    ensures { IfOk result (λ lines. map (λ l. l.now) lines.items ≡ lines_of text.now) }
-{
-    let mut lines = Vec::new(alloc);
-    let mut rest = text;
-    while let Some((line, after)) = rest.split_once('\n') {
-        lines.push(line)?;
-        rest = after;
-    }
-    lines.push(rest)?;
-    Ok(lines)
 }
 
 /// The part with one line more.
@@ -53,28 +40,35 @@ fn closed(alloc: Global, part: Option<String>) -> String
     }
 }
 
-/// The parts between the lines that are exactly `%%`.
-fn parts_between(alloc: Global, lines: &[&str]) -> Result<Vec<String>, AllocError>
-    ensures { IfOk result (λ parts. map string_bytes parts.items ≡ map part_of (groups_of (map (λ l. l.now) lines.now))) }
+/// What is had of the open part after one line more: a line that is exactly `%%` closes it.
+fn cut(
+    alloc: Global,
+    parts: &mut Vec<String>,
+    part: Option<String>,
+    line: &str,
+) -> Result<Option<String>, AllocError>
+    ensures { IfOk result (λ next. (ls : List (List ℕ)) → map string_bytes parts.new.items ++ open_with (option_map string_bytes next) (groups_of ls)
+        ≡ map string_bytes parts.old.items ++ open_with (option_map string_bytes part) (groups_of (line.now ∷ ls))) }
 {
-    let mut parts = Vec::new(alloc);
-    let mut part: Option<String> = None;
-    for line in lines {
-        if *line == "%%" {
-            parts.push(closed(alloc, part))?;
-            part = None;
-        } else {
-            part = Some(with_line(alloc, part, line)?);
-        }
+    if line == "%%" {
+        parts.push(closed(alloc, part))?;
+        return Ok(None);
     }
-    parts.push(closed(alloc, part))?;
-    Ok(parts)
+    Ok(Some(with_line(alloc, part, line)?))
 }
 
-/// The parts of the text.
+/// The parts of the text, cut at the lines that are exactly `%%`.
 pub(crate) fn parts_of(alloc: Global, text: &str) -> Result<Vec<String>, AllocError>
     ensures { IfOk result (λ parts. map string_bytes parts.items ≡ parts_of text.now) }
 {
-    let lines = lines_between(alloc, text)?;
-    parts_between(alloc, lines.as_slice())
+    let mut parts = Vec::new(alloc);
+    let mut part: Option<String> = None;
+    let mut rest = text;
+    while let Some((line, after)) = rest.split_once('\n') {
+        part = cut(alloc, &mut parts, part, line)?;
+        rest = after;
+    }
+    let last = cut(alloc, &mut parts, part, rest)?;
+    parts.push(closed(alloc, last))?;
+    Ok(parts)
 }

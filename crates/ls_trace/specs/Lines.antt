@@ -1,63 +1,25 @@
 -- The line of each step.
-use Rattle.std.specs.Prelude.{ℕ, ◌+◌, Bool, List, [], ◌∷◌, ◌++◌, Option, Some, nat_le, nat_lt, length, slice_get, slice_index_or, take, codes, if◌then◌else◌}
+use Rattle.std.specs.Prelude.{ℕ, ◌+◌, List, [], ◌∷◌, ◌++◌, nat_le, nat_lt, length, slice_index_or, take, codes, if◌then◌else◌}
 use Rattle.std.specs.Fmt.{decimal}
-use Rattle.std.specs.Option.{option_map_or}
-use Rattle.ls_events.specs.declared.value.Value.{Value}
-use Rattle.ls_events.specs.declared.action.Action.{Action}
-use Rattle.ls_events.specs.declared.action.Action.TheVariants.{Lock}
-use Rattle.ls_checked.specs.CheckedProgram.{Program}
 use Rattle.ls_meaning.specs.declared.step.Asked.{Asked}
 use Rattle.ls_meaning.specs.declared.step.Asked.TheVariants.{Asks, Ended, NotStarted}
 use Rattle.ls_meaning.specs.declared.step.Did.{Did}
 use Rattle.ls_meaning.specs.declared.step.Did.TheVariants.{Acted, Waits, Idle}
-use Rattle.ls_meaning.specs.Store.{Thing, HeldLock, thing_at}
-use Rattle.ls_meaning.specs.Threads.{next}
-use Rattle.ls_meaning.specs.Runs.{State, answers_of, asked}
+use Rattle.ls_meaning.specs.Runs.{asked}
 use Rattle.ls_report.specs.Events.{Text}
 use Rattle.ls_report.specs.Lines.{call_text}
-use Rattle.ls_source.specs.Ends.{has_trapped}
 use Rattle.ls_labels.specs.Names.{Names}
-use Rattle.ls_labels.specs.Objects.{object_text}
+use Rattle.ls_labels.specs.Threads.{end_text, start_text, thread_name, trapped_in, wait_text}
 use Rattle.ls_labels.specs.Words.{performed_text}
 use Rattle.ls_trace.specs.Told.{Told, begun, step_in, after_step}
-
-abbrev pub thread_name : Program → ℕ → Text
-thread_name program thread = option_map_or (λ t. t.name) (slice_get program.threads thread) []
 
 -- a thread with its last call, as `A.1 `
 abbrev pub who : Names → Told → ℕ → Text
 who names r thread = call_text (thread_name names.program thread) (slice_index_or r.calls thread 0) ++ 32 ∷ []
 
--- whether a thread's next is the end by a trap
-abbrev pub trapped_in : Names → State → ℕ → Bool
-trapped_in names s thread = has_trapped (next names.file names.program thread (answers_of s thread))
-
--- a thread that asks for a lock which another owns waits
-abbrev pub owner_name : Program → Option Thing → Text
-owner_name program (Some (HeldLock owner holds)) = thread_name program owner
-owner_name program _ = []
-
-abbrev pub lock_text : Names → Told → ℕ → Text
-lock_text names r o =
-    codes "waits for " ++ (object_text names r.labels o ++ (codes ", which " ++ (owner_name names.program (thing_at r.state.store o) ++ codes " owns")))
-
-abbrev pub wait_text : Names → Told → Action Value → Text
-wait_text names r (Lock o) = lock_text names r o
-wait_text names r _ = []
-
--- before the setup has ended no other thread starts
-abbrev pub start_text : Bool → Text
-start_text setup_has_trapped =
-    if setup_has_trapped
-    then codes " never starts: the setup has ended with a trap"
-    else codes " hasn't started: the setup hasn't ended"
-
-abbrev pub end_text : Bool → Text
-end_text has_trapped = if has_trapped then codes " has ended with a trap" else codes " has ended"
-
 -- what is told of a step that changes nothing, by what its thread asks for
 abbrev pub still_text : Names → Told → ℕ → Asked → Text
-still_text names r thread (Asks action) = who names r thread ++ wait_text names r action
+still_text names r thread (Asks action) = who names r thread ++ wait_text names r.labels r.state.store action
 still_text names r thread NotStarted = thread_name names.program thread ++ start_text (trapped_in names r.state 0)
 still_text names r thread Ended = thread_name names.program thread ++ end_text (trapped_in names r.state thread)
 

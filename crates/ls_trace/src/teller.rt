@@ -1,23 +1,19 @@
 // A run whose steps are told.
 
-ghost use Rattle.std.specs.Prelude.{◌≡◌, ◌++◌, IfOk, OnOk, map, option_map, option_to_list, string_bytes};
-ghost use Rattle.std.specs.Option.{option_copied};
-ghost use Rattle.ls_checked.specs.PlainProgram.{plain_program};
+ghost use Rattle.std.specs.Prelude.{◌≡◌, ◌++◌, IfOk, OnOk, OnErr, map, option_to_list, string_bytes};
 ghost use Rattle.ls_labels.specs.Labels.{label_of};
 ghost use Rattle.ls_labels.specs.Names.{names_of};
-ghost use Rattle.ls_source.specs.SeenThing.{thing_of};
-ghost use Rattle.ls_trace.specs.Lines.{end_text, line, lock_text, numbered_text, owner_name, start_text, step_text, still_text, thread_name, who};
+ghost use Rattle.ls_trace.specs.Lines.{line, numbered_text, step_text, still_text, who};
 ghost use Rattle.ls_trace.specs.Told.{after_step, begun, call_noted, step_in};
 
-use ls_checked::program::{Program, ThreadProgram};
+use ls_checked::program::ThreadProgram;
 use ls_events::action::Action;
 use ls_events::value::Value;
 use ls_labels::label::{Label, label_of};
 use ls_labels::names::Names;
-use ls_labels::objects::push_object;
+use ls_labels::threads::{end_words, push_wait, start_words, thread_name};
 use ls_labels::words::push_performed;
 use ls_meaning::step::{Asked, Did};
-use ls_source::Thing;
 use ls_source::run::SourceRun;
 use std::alloc::{AllocError, Global};
 use std::fmt::Write;
@@ -42,49 +38,7 @@ fn no_calls(alloc: Global, threads: &[ThreadProgram]) -> Result<Vec<usize>, Allo
     Ok(calls)
 }
 
-// The name of a thread.
-fn thread_name(program: &Program, thread: usize) -> &str
-    ensures { result.now ≡ thread_name (plain_program program.now) thread }
-{
-    match program.threads.get(thread) {
-        Some(named) => named.name.as_str(),
-        None => "",
-    }
-}
-
-// The name of the thread that holds a lock.
-fn owner_name<'a>(program: &'a Program, thing: Option<&Thing>) -> &'a str
-    ensures { result.now ≡ owner_name (plain_program program.now) (option_map thing_of (option_copied thing.entry)) }
-{
-    match thing {
-        Some(Thing::HeldLock { owner, .. }) => thread_name(program, *owner),
-        _ => "",
-    }
-}
-
-// Why a thread hasn't started.
-fn start_words(setup_has_trapped: bool) -> &'static str
-    ensures { result.now ≡ start_text setup_has_trapped }
-{
-    if setup_has_trapped {
-        " never starts: the setup has ended with a trap"
-    } else {
-        " hasn't started: the setup hasn't ended"
-    }
-}
-
-// How a thread has ended.
-fn end_words(has_trapped: bool) -> &'static str
-    ensures { result.now ≡ end_text has_trapped }
-{
-    if has_trapped {
-        " has ended with a trap"
-    } else {
-        " has ended"
-    }
-}
-
-// The label of a new object and the number of a call are kept.
+// The label of a new object and the number of a call are kept. Where memory is short, nothing is.
 fn note(
     labels: &mut Vec<Label>,
     calls: &mut Vec<usize>,
@@ -93,6 +47,8 @@ fn note(
 ) -> Result<(), AllocError>
     ensures labels { OnOk result (labels.new.items ≡ labels.old.items ++ option_to_list (label_of action)) }
     ensures calls { OnOk result (calls.new.items ≡ call_noted calls.old.items thread action) }
+    ensures labels_refused { OnErr result (labels.new.items ≡ labels.old.items) }
+    ensures calls_refused { OnErr result (calls.new.items ≡ calls.old.items) }
 {
     if let Some(label) = label_of(action) {
         labels.push(label)?;
@@ -152,16 +108,6 @@ impl<'a> Teller<'a> {
         write!(out, "{name}.{call} ")
     }
 
-    // What a thread waits for that asks for a lock.
-    fn push_lock(&self, out: &mut String, object: u64) -> Result<(), AllocError>
-        ensures { OnOk result (string_bytes out.new ≡ string_bytes out.old ++ lock_text (names_in self.now) (told_of self.now) object) }
-    {
-        out.push_str("waits for ")?;
-        push_object(out, self.names, &self.labels, object)?;
-        let owner = owner_name(self.names.program, self.run.thing(object));
-        write!(out, ", which {owner} owns")
-    }
-
     // Why a step of a thread changes nothing, by what the thread asks for.
     fn push_still(&self, out: &mut String, thread: usize, asked: Asked) -> Result<(), AllocError>
         requires { RunsNamed self.now }
@@ -170,10 +116,7 @@ impl<'a> Teller<'a> {
         match asked {
             Asked::Asks(action) => {
                 self.push_who(out, thread)?;
-                match action {
-                    Action::Lock(object) => self.push_lock(out, object),
-                    _ => Ok(()),
-                }
+                push_wait(out, self.names, &self.labels, &self.run, action)
             }
             Asked::NotStarted => {
                 out.push_str(thread_name(self.names.program, thread))?;

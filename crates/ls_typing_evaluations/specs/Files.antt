@@ -67,7 +67,7 @@ MembersOfOneName =
     × Break (A (a_constructor 1 [] ∷ parsed.Constructor (name (codes "A") 2) (parameter parsed.Int (codes "x") 3 ∷ []) parsed.NoItem ∷ [])) rules.TwiceDeclared 2
     × Break (A (parsed.Method None (name (codes "f") 1) (parameter parsed.Int (codes "x") 2 ∷ parameter parsed.Boolean (codes "x") 3 ∷ []) parsed.NoItem ∷ [])) rules.TwiceDeclared 3
 
--- a field and a method, members of two classes, and a method named as its class
+-- a field and a method, members of two classes, and a method named as its class; a method is called by its name alone in its own class
 abbrev pub OneNameForSeveral : Type 0
 OneNameForSeveral =
     Are (A (an_int (codes "f") 1 ∷ doing (codes "f") 2 [] ∷ []))
@@ -82,6 +82,7 @@ OneNameForSeveral =
     })
     × Are (A (doing (codes "A") 1 [] ∷ []))
     (record { classes = record { fields = []; constructor = 1 } ∷ []; methods = checked_method 0 None [] ∷ checked_method 0 None [] ∷ [] })
+    × Break (class (codes "A") 1 (doing (codes "g") 2 [] ∷ []) ∷ class (codes "B") 3 (doing (codes "f") 4 (parsed.Evaluate (call (codes "g") [] 5) ∷ []) ∷ []) ∷ []) rules.UnknownName 5
 
 -- a constructor is named as its class is
 abbrev pub OtherConstructors : Type 0

@@ -8,7 +8,7 @@ pub returns-clause-members_of_one_name : goal.returns-clause-members_of_one_name
 returns-clause-members_of_one_name c = (refl, refl, refl, refl, refl, refl, refl)
 
 pub returns-clause-one_name_for_several : goal.returns-clause-one_name_for_several
-returns-clause-one_name_for_several c = (refl, refl, refl)
+returns-clause-one_name_for_several c = (refl, refl, refl, refl)
 
 pub returns-clause-other_constructors : goal.returns-clause-other_constructors
 returns-clause-other_constructors c = (refl, refl)

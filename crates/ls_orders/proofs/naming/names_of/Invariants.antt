@@ -1,9 +1,9 @@
-use Rattle.std.proofs.Common.{◌≡◌, take, map}
+use Rattle.std.proofs.Common.{◌≡◌, drop, map}
 use Rattle.std.specs.BTreeMap.{get_by_text}
 use Rattle.ls_report.specs.Events.{Text}
 use Rattle.ls_report.specs.Plain.{plain_event}
 use Rattle.ls_orders.specs.SetCalls.{call_named}
 use Rattle.ls_orders.proofs.naming.names_of.Given as goal
 
-abbrev pub invariant-loop-call : goal.invariant-loop-call
-invariant-loop-call l = (q : Text) → get_by_text l.names q ≡ call_named (map plain_event l.events) (take l.call-index l.calls) q
+abbrev pub invariant-loop-i : goal.invariant-loop-i
+invariant-loop-i l = (q : Text) → get_by_text l.names q ≡ call_named (map plain_event l.events) (drop l.i l.calls) q

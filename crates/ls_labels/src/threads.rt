@@ -1,0 +1,99 @@
+// Threads in words.
+
+ghost use Rattle.std.specs.Prelude.{◌≡◌, ◌++◌, OnOk, option_map, string_bytes};
+ghost use Rattle.std.specs.Option.{option_copied};
+ghost use Rattle.ls_checked.specs.PlainProgram.{plain_program};
+ghost use Rattle.ls_source.specs.SeenThing.{thing_of};
+ghost use Rattle.ls_source.specs.Shown.{progress_of};
+ghost use Rattle.ls_labels.specs.Names.{names_of};
+ghost use Rattle.ls_labels.specs.Threads.{awaited_text, end_text, owner_of, start_text, thread_name, wait_text};
+
+use crate::label::Label;
+use crate::names::Names;
+use crate::objects::push_object;
+use ls_checked::program::Program;
+use ls_events::action::Action;
+use ls_events::value::Value;
+use ls_source::Thing;
+use ls_source::run::SourceRun;
+use std::alloc::AllocError;
+use std::fmt::Write;
+
+/// The name of a thread, by its number; the setup is thread 0.
+pub fn thread_name(program: &Program, thread: usize) -> &str
+    ensures { result.now ≡ thread_name (plain_program program.now) thread }
+{
+    match program.threads.get(thread) {
+        Some(named) => named.name.as_str(),
+        None => "",
+    }
+}
+
+/// How a thread has ended.
+pub fn end_words(has_trapped: bool) -> &'static str
+    ensures { result.now ≡ end_text has_trapped }
+{
+    if has_trapped {
+        " has ended with a trap"
+    } else {
+        " has ended"
+    }
+}
+
+/// Why a thread hasn't started.
+pub fn start_words(setup_has_trapped: bool) -> &'static str
+    ensures { result.now ≡ start_text setup_has_trapped }
+{
+    if setup_has_trapped {
+        " never starts: the setup has ended with a trap"
+    } else {
+        " hasn't started: the setup hasn't ended"
+    }
+}
+
+/// The thread that owns a lock.
+pub fn owner_of(thing: Option<&Thing>) -> Option<usize>
+    ensures { result ≡ owner_of (option_map thing_of (option_copied thing.entry)) }
+{
+    match thing {
+        Some(Thing::HeldLock { owner, .. }) => Some(*owner),
+        _ => None,
+    }
+}
+
+// Adds that a lock is waited for which a thread owns.
+fn push_awaited(
+    out: &mut String,
+    names: Names,
+    labels: &[Label],
+    lock: u64,
+    owner: usize,
+) -> Result<(), AllocError>
+    ensures { OnOk result (string_bytes out.new ≡ string_bytes out.old ++ awaited_text (names_of names.entry) labels.now lock owner) }
+{
+    out.push_str("waits for ")?;
+    push_object(out, names, labels, lock)?;
+    let name = thread_name(names.program, owner);
+    write!(out, ", which {name} owns")
+}
+
+/// Adds what a thread waits for that asks for an action, as `waits for ReentrantLock#2, which A owns`; nothing where that is no
+/// lock that a thread owns.
+pub fn push_wait(
+    out: &mut String,
+    names: Names,
+    labels: &[Label],
+    run: &SourceRun,
+    action: Action<Value>,
+) -> Result<(), AllocError>
+    ensures { OnOk result (string_bytes out.new
+        ≡ string_bytes out.old ++ wait_text (names_of names.entry) labels.now (progress_of run.now).state.store action) }
+{
+    let Action::Lock(lock) = action else {
+        return Ok(());
+    };
+    match owner_of(run.thing(lock)) {
+        Some(owner) => push_awaited(out, names, labels, lock, owner),
+        None => Ok(()),
+    }
+}

@@ -1,0 +1,31 @@
+use Rattle.std.proofs.Common.{ap, ◌∙◌}
+use Rattle.std.specs.Prelude.{map}
+use Rattle.ls_events.specs.declared.action.Action.TheVariants.{Enter, Turn}
+use Rattle.ls_checked.specs.Plain.{plain_file}
+use Rattle.ls_checked.specs.PlainProgram.{plain_program}
+use Rattle.ls_meaning.specs.Threads.{Goes}
+use Rattle.ls_meaning.specs.declared.sort.Sort.TheVariants.{NoValue}
+use Rattle.ls_pending.specs.Seen.{control_of}
+use Rattle.ls_source.specs.Calls.{asked_by}
+use Rattle.ls_source.specs.SeenThread.{thread_of}
+use Rattle.ls_source.specs.SeenRun.{lists_of}
+use Rattle.ls_source.proofs.Kept.{now_is}
+use Rattle.ls_source.proofs.run.SourceRun.next_at_once.Goals as goal
+
+pub returns-in-Some-Asks-clause-next : goal.returns-in-Some-Asks-clause-next
+returns-in-Some-Asks-clause-next c =
+    let r = c.args.self.now in
+    now_is (plain_file r.file.now) (plain_program r.program.now) (map thread_of r.threads.items) (lists_of r.stage.answers.items) c.args.thread (Goes c.in-Some-Asks.action c.in-Some-Asks.sort) r.kept
+    (c.in-Some-Asks.ensures ∙ ap (λ k. asked_by (control_of k)) c.in-Some-Asks.field-0-is)
+
+pub returns-in-Some-Enters-clause-next : goal.returns-in-Some-Enters-clause-next
+returns-in-Some-Enters-clause-next c =
+    let r = c.args.self.now in
+    now_is (plain_file r.file.now) (plain_program r.program.now) (map thread_of r.threads.items) (lists_of r.stage.answers.items) c.args.thread (Goes (Enter c.in-Some-Enters.m) NoValue) r.kept
+    (c.in-Some-Enters.ensures ∙ ap (λ k. asked_by (control_of k)) c.in-Some-Enters.field-0-is)
+
+pub returns-in-Some-Turns-clause-next : goal.returns-in-Some-Turns-clause-next
+returns-in-Some-Turns-clause-next c =
+    let r = c.args.self.now in
+    now_is (plain_file r.file.now) (plain_program r.program.now) (map thread_of r.threads.items) (lists_of r.stage.answers.items) c.args.thread (Goes Turn NoValue) r.kept
+    (c.in-Some-Turns.ensures ∙ ap (λ k. asked_by (control_of k)) c.in-Some-Turns.field-0-is)

@@ -1,0 +1,22 @@
+//! What is shown of small states.
+#![tactic(auto)]
+
+ghost use Rattle.ls_state_rows.specs.Rows.{AtFirst, BeforeACall, Graph, Left, NeverStarts, Over, Reading, SetupNames, Things, Waiting};
+
+/// Each kind of thing.
+pub fn things()
+    ensures things { Things }
+    ensures names { SetupNames }
+    ensures graph { Graph }
+{}
+
+/// What threads ask for, and what a run leaves.
+pub fn threads()
+    ensures at_first { AtFirst }
+    ensures waiting { Waiting }
+    ensures reading { Reading }
+    ensures over { Over }
+    ensures never_starts { NeverStarts }
+    ensures before_a_call { BeforeACall }
+    ensures left { Left }
+{}

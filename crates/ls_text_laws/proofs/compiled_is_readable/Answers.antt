@@ -1,0 +1,5 @@
+use Rattle.ls_text_laws.proofs.Whole as whole
+use Rattle.ls_text_laws.proofs.compiled_is_readable.Goals as goal
+
+pub returns : goal.returns
+returns c = whole.compiled_is_readable

@@ -1,0 +1,35 @@
+-- What is printed of a schedule of a program reads back as the same schedule.
+use Rattle.std.specs.Prelude.{◌≡◌, ◌<◌, ◌≤◌, ℕ, List, length, Ok, All}
+use Rattle.ls_checked.specs.PlainProgram.{plain_program}
+use Rattle.ls_checked.specs.declared.program.Program.{Program}
+use Rattle.ls_elaboration.specs.Trees.{Text}
+use Rattle.ls_elaboration.specs.Elaboration.{Outcome}
+use Rattle.ls_programs.specs.Programs.{IsTextOf}
+use Rattle.ls_schedule.specs.Printing.{schedule_text}
+use Rattle.ls_schedule.specs.Reading.{schedule_of, thread_names}
+use Rattle.ls_schedule.specs.RoundTrip.{AreThreadNames}
+
+-- at most 1,000,000 steps, each of a thread that is there
+pub record IsScheduleOf (program : Program) (steps : List ℕ) : Type 0 where
+  pub there : All (λ t. t < length (thread_names program)) steps
+  pub short : length steps ≤ 1000000
+
+-- the names of a program that a text is
+abbrev pub NamesAreRead : Type 0
+NamesAreRead = (o : Outcome) (text : Text) (program : Program) → IsTextOf o (plain_program program) text → AreThreadNames (thread_names program)
+
+abbrev pub SchedulesReadBack : Type 0
+SchedulesReadBack =
+    (o : Outcome) (text : Text) (program : Program) (steps : List ℕ) → IsTextOf o (plain_program program) text → IsScheduleOf program steps
+    → schedule_of (thread_names program) (schedule_text (thread_names program) steps) ≡ Ok steps
+
+-- what is read is such a schedule
+abbrev pub WhatIsReadIsASchedule : Type 0
+WhatIsReadIsASchedule =
+    (program : Program) (said : Text) (steps : List ℕ) → schedule_of (thread_names program) said ≡ Ok steps → IsScheduleOf program steps
+
+-- and is read again from what is printed of it
+abbrev pub IsReadAgain : Type 0
+IsReadAgain =
+    (o : Outcome) (text said : Text) (program : Program) (steps : List ℕ) → IsTextOf o (plain_program program) text
+    → schedule_of (thread_names program) said ≡ Ok steps → schedule_of (thread_names program) (schedule_text (thread_names program) steps) ≡ Ok steps
