@@ -5,6 +5,8 @@
 #[cfg(test)]
 mod following;
 #[cfg(test)]
+mod memory;
+#[cfg(test)]
 mod playing;
 #[cfg(test)]
 mod seats;

@@ -74,8 +74,8 @@ fn answers_of_three_seats(rt: HostRuntime) -> Result<(), Fail> {
     Ok(())
 }
 
-// Whether the seats do these steps, each at its place.
-fn go_in_order(
+/// Whether the seats do these steps, each at its place.
+pub(crate) fn go_in_order(
     turnstile: &Turnstile,
     setup: &mut TurnSeat,
     a: &mut TurnSeat,
