@@ -7,8 +7,12 @@ mod arithmetic;
 #[cfg(test)]
 mod compiling;
 #[cfg(test)]
+mod refused;
+#[cfg(test)]
 mod schedules;
 #[cfg(test)]
 mod sharing;
+#[cfg(test)]
+mod streams;
 #[cfg(test)]
 mod tool;

@@ -5,7 +5,7 @@ use std::alloc::{AllocError, Global};
 use std::io::{self, Error, ErrorKind, Read, Write};
 use std::test::Fail;
 
-fn texts(alloc: Global, words: &[&str]) -> Result<Vec<String>, AllocError> {
+pub(crate) fn texts(alloc: Global, words: &[&str]) -> Result<Vec<String>, AllocError> {
     let mut texts = Vec::new(alloc);
     for word in words {
         texts.push(String::from_str(alloc, word)?)?;
