@@ -1,6 +1,8 @@
 pub mod ItemLemmas
 pub mod CallTexts
 pub mod FindingLemmas
+pub mod EndLemmas
+pub mod PlaceLemmas
 pub mod RuleLemmas
 pub mod NamingLemmas
 pub mod JudgingLemmas

@@ -1,6 +1,6 @@
 // Finding the set calls of a history.
 
-ghost use Rattle.std.specs.Prelude.{◌≡◌, ◌==◌, ◌&&◌, IfOk, [], drop, length, map, option_map, string_bytes};
+ghost use Rattle.std.specs.Prelude.{◌≡◌, IfOk, [], drop, length, map, option_map, string_bytes};
 ghost use Rattle.std.specs.Option.{option_copied};
 ghost use Rattle.std.specs.Str.{bytes_eq};
 ghost use Rattle.ls_report.specs.Events.{Called};
@@ -8,8 +8,6 @@ ghost use Rattle.ls_report.specs.Plain.{plain_event, plain_occurrence};
 ghost use Rattle.ls_orders.specs.SetCalls.{
   asked_of,
   calls_from,
-  end_at,
-  end_of,
   first_after,
   first_foreign,
   is_foreign,
@@ -18,14 +16,15 @@ ghost use Rattle.ls_orders.specs.SetCalls.{
   object_of,
   only_int,
   operation_of,
-  reply_of,
   set_calls,
 };
 
 use crate::calls::{End, Operation, SetCall};
+use crate::ends::put_event;
 use ls_events::value::Value;
 use ls_report::history::{NamedEvent, Occurrence};
 use std::alloc::{AllocError, Global};
+use std::collections::BTreeMap;
 use std::fmt::Write;
 
 fn operation_of(method: &str) -> Option<Operation>
@@ -124,44 +123,6 @@ pub(crate) fn first_foreign(events: &[NamedEvent]) -> Option<&NamedEvent>
     None
 }
 
-fn reply_of(value: Option<Value>) -> Option<bool>
-    ensures { result ≡ reply_of value }
-{
-    match value {
-        Some(Value::Boolean(b)) => Some(b),
-        _ => None,
-    }
-}
-
-fn end_at(at: usize, occurrence: &Occurrence) -> End
-    ensures { result ≡ end_at at (plain_occurrence occurrence.now) }
-{
-    match occurrence {
-        Occurrence::Returned(value) => End::Returned(at, reply_of(*value)),
-        Occurrence::Trapped(_) => End::Trapped(at),
-        _ => End::Pending,
-    }
-}
-
-fn is_of(event: &NamedEvent, thread: &str, call: usize) -> bool
-    ensures { result ≡ (bytes_eq (string_bytes event.now.thread) thread.now && event.now.call == call) }
-{
-    event.call == call && event.thread.as_str() == thread
-}
-
-/// How the call ends whose events stand from the place on.
-fn end_of(events: &[NamedEvent], from: usize, thread: &str, call: usize) -> End
-    ensures { result ≡ end_of thread.now call from (drop from (map plain_event events.now)) }
-{
-    for at in from..events.len() {
-        let event = &events[at];
-        if is_of(event, thread, call) {
-            return end_at(at, &event.occurrence);
-        }
-    }
-    End::Pending
-}
-
 fn set_call(called: usize, asked: (Operation, i32), end: End) -> SetCall
     ensures { result ≡ record { called = called; operation = asked.0; item = asked.1; end = end } }
 {
@@ -178,14 +139,16 @@ fn set_call(called: usize, asked: (Operation, i32), end: End) -> SetCall
 pub(crate) fn set_calls(alloc: Global, events: &[NamedEvent]) -> Result<Vec<SetCall>, AllocError>
     ensures { IfOk result (λ calls. calls.items ≡ set_calls (map plain_event events.now)) }
 {
+    let mut ends = BTreeMap::new(alloc);
     let mut calls = Vec::new(alloc);
-    for called in 0..events.len() {
-        let event = &events[called];
+    for at in (0..events.len()).rev() {
+        let event = &events[at];
+        let end = put_event(&mut ends, at, event)?;
         if let Some(asked) = asked_of(&event.occurrence) {
-            let end = end_of(events, called + 1, event.thread.as_str(), event.call);
-            calls.push(set_call(called, asked, end))?;
+            calls.push(set_call(at, asked, end))?;
         }
     }
+    calls.reverse();
     Ok(calls)
 }
 

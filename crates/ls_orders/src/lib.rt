@@ -2,11 +2,13 @@
 #![tactic(auto)]
 
 pub mod calls;
+mod ends;
 mod fault;
 mod finding;
 pub mod judging;
 mod naming;
 pub mod order;
+mod places;
 mod reading;
 mod rules;
 mod set;

@@ -1,9 +1,8 @@
 // The rules of an order, each by the first call that breaks it.
 
-ghost use Rattle.std.specs.Prelude.{◌≡◌, ◌==◌, ◌&&◌, ◌||◌, [], ℕ, IfOk, OnOk, find, not};
+ghost use Rattle.std.specs.Prelude.{◌≡◌, ◌==◌, ◌&&◌, [], ℕ, IfOk, find, not};
 ghost use Rattle.std.specs.List.{list_any};
-ghost use Rattle.std.specs.Ordering.{nat_cmp};
-ghost use Rattle.std.specs.BTreeSet.{contains};
+ghost use Rattle.ls_orders.specs.Places.{is_marked};
 ghost use Rattle.ls_orders.specs.Rules.{
   answer_of,
   differs,
@@ -17,6 +16,7 @@ ghost use Rattle.ls_orders.specs.Rules.{
 };
 
 use crate::calls::{End, Operation, SetCall};
+use crate::places::{is_marked, mark};
 use crate::set::apply;
 use std::alloc::{AllocError, Global};
 use std::collections::BTreeSet;
@@ -57,21 +57,13 @@ fn differs(end: End, wanted: bool) -> bool
     }
 }
 
-/// Adds a place.
-fn add_place(places: &mut BTreeSet<usize>, place: usize) -> Result<(), AllocError>
-    ensures { OnOk result ((k : ℕ) → contains nat_cmp places.new k ≡ (place == k || contains nat_cmp places.old k)) }
-{
-    places.insert(place)?;
-    Ok(())
-}
-
 /// The places of the calls.
-fn places_of(alloc: Global, order: &[SetCall]) -> Result<BTreeSet<usize>, AllocError>
-    ensures { IfOk result (λ places. (k : ℕ) → contains nat_cmp places k ≡ list_any (λ y. y.called == k) order.now) }
+fn places_of(alloc: Global, order: &[SetCall]) -> Result<Vec<bool>, AllocError>
+    ensures { IfOk result (λ places. (k : ℕ) → is_marked places.items k ≡ list_any (λ y. y.called == k) order.now) }
 {
-    let mut places = BTreeSet::new(alloc);
+    let mut places = Vec::new(alloc);
     for call in order {
-        add_place(&mut places, call.called)?;
+        mark(&mut places, call.called)?;
     }
     Ok(places)
 }
@@ -83,22 +75,22 @@ pub(crate) fn first_repeated(
 ) -> Result<Option<SetCall>, AllocError>
     ensures { IfOk result (λ r. r ≡ first_repeated order.now) }
 {
-    let mut behind = BTreeSet::new(alloc);
+    let mut behind = Vec::new(alloc);
     let mut first = None;
     for i in (0..order.len()).rev() {
         let call = order[i];
-        if behind.contains(&call.called) {
+        if is_marked(behind.as_slice(), call.called) {
             first = Some(call);
         }
-        add_place(&mut behind, call.called)?;
+        mark(&mut behind, call.called)?;
     }
     Ok(first)
 }
 
-fn is_missing(places: &BTreeSet<usize>, call: SetCall) -> bool
-    ensures { result ≡ (is_returned call.end && not (contains nat_cmp places.now call.called)) }
+fn is_missing(places: &[bool], call: SetCall) -> bool
+    ensures { result ≡ (is_returned call.end && not (is_marked places.now call.called)) }
 {
-    is_returned(call.end) && !places.contains(&call.called)
+    is_returned(call.end) && !is_marked(places, call.called)
 }
 
 /// Of the returned calls that the order lacks, the one called first.
@@ -111,7 +103,7 @@ pub(crate) fn first_missing(
 {
     let places = places_of(alloc, order)?;
     for call in calls {
-        if is_missing(&places, *call) {
+        if is_missing(places.as_slice(), *call) {
             return Ok(Some(*call));
         }
     }

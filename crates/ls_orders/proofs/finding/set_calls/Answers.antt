@@ -1,21 +1,33 @@
-use Rattle.std.proofs.Common.{◌∙◌, ◌+◌, ◌++◌, ◌∷◌, [], ap, drop, map}
-use Rattle.ls_report.specs.Plain.{plain_event}
-use Rattle.ls_orders.specs.SetCalls.{Asked, end_of}
-use Rattle.ls_orders.proofs.FindingLemmas.{call_here, no_call_here}
+use Rattle.std.proofs.Common.{◌∙◌, ◌++◌, ◌∷◌, [], ◌<◌, ◌≤◌, ap, arith, length, string_bytes}
+use Rattle.ls_orders.specs.Ends.{ended}
+use Rattle.ls_orders.specs.SetCalls.{Asked}
+use Rattle.ls_orders.proofs.EndLemmas.{call_before, ends_before, no_call_before}
 use Rattle.ls_orders.proofs.finding.set_calls.Goals as goal
-use Rattle.ls_orders.proofs.finding.set_calls.Goals.{in-Some+in_ok-push, in_default}
 
-pub loop-called-preserved : goal.loop-called-preserved
-loop-called-preserved c =
+pub loop-at-preserved : goal.loop-at-preserved
+loop-at-preserved c =
     let es = c.args.events.now in
-    let at = c.loop-called.called in
-    let e = c.index-events-called.result in
-    elim c.match-asked_of.branch [
-      | in-Some+in_ok-push w ↦
-          let asked : Asked = w.in-Some.asked in
-          let front = c.loop-called.calls.items in
-          rw w.calls-is (call_here es at e asked w.end_of-end.result c.loop-called.calls.items _ _ c.loop-called-test.true c.index-events-called.is w.in-Some.ensures
-          (w.end_of-end.ensures ∙ ap (λ t. end_of t e.call (at + 1) (drop (at + 1) (map plain_event es))) w.as_str.ensures.value) (w.in_ok-push.ensures.items ∙ ap (λ x. front ++ x ∷ []) w.set_call.ensures) c.loop-called.invariant)
-      | in_default w ↦
-          rw w.calls-is (no_call_here es at e c.loop-called.calls.items _ c.loop-called-test.true c.index-events-called.is w.in_default.ensures c.loop-called.invariant)
-    ]
+    let i = c.loop-at.at in
+    let e = c.index-events-at.result in
+    let some : 0 < i = omega arith in
+    let le : i ≤ length es = omega arith in
+    record {
+      ends = ends_before es i e (ended c.loop-at.ends) (ended c.put_event.new.ends) some le c.index-events-at.is c.loop-at.invariant.ends c.in_ok-end.ensures.put;
+      calls = no_call_before es i e c.loop-at.calls.items some le c.index-events-at.is c.in_default.ensures c.loop-at.invariant.calls;
+    }
+
+pub loop-at-preserved-in-Continue-branch-2 : goal.loop-at-preserved-in-Continue-branch-2
+loop-at-preserved-in-Continue-branch-2 c =
+    let es = c.args.events.now in
+    let i = c.loop-at.at in
+    let e = c.index-events-at.result in
+    let asked : Asked = c.in-Some.asked in
+    let front = c.loop-at.calls.items in
+    let some : 0 < i = omega arith in
+    let le : i ≤ length es = omega arith in
+    let there = c.in_ok-end.ensures.behind ∙ c.loop-at.invariant.ends (string_bytes e.thread) e.call in
+    record {
+      ends = ends_before es i e (ended c.loop-at.ends) (ended c.put_event.new.ends) some le c.index-events-at.is c.loop-at.invariant.ends c.in_ok-end.ensures.put;
+      calls = call_before es i e asked c.in_ok-end.end front _ some le c.index-events-at.is c.in-Some.ensures there
+          (c.in_ok-push.ensures.items ∙ ap (λ x. front ++ x ∷ []) c.set_call.ensures) c.loop-at.invariant.calls;
+    }

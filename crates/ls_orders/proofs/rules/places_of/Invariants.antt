@@ -1,8 +1,7 @@
 use Rattle.std.proofs.Common.{◌≡◌, ◌==◌, ℕ, take}
-use Rattle.std.specs.Ordering.{nat_cmp}
-use Rattle.std.specs.BTreeSet.{contains}
 use Rattle.std.specs.List.{list_any}
+use Rattle.ls_orders.specs.Places.{is_marked}
 use Rattle.ls_orders.proofs.rules.places_of.Given as goal
 
 abbrev pub invariant-loop-call : goal.invariant-loop-call
-invariant-loop-call l = (k : ℕ) → contains nat_cmp l.places k ≡ list_any (λ y. y.called == k) (take l.call-index l.order)
+invariant-loop-call l = (k : ℕ) → is_marked l.places.items k ≡ list_any (λ y. y.called == k) (take l.call-index l.order)

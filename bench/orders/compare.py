@@ -1,0 +1,89 @@
+#!/usr/bin/env python3
+"""What `check` costs beside the same work in plain Rust (plain.rs).
+
+  compare.py LISTSET [RUNS]
+
+LISTSET is the built program. Each row is a history of so many threads with so many calls each, whose events come in a random
+order, and a legal order of it: instructions of the processor by callgrind, without those of a history without events, and the least
+user and system time of RUNS runs (15 where it isn't given), of both programs by turns. Both must say that the order is legal.
+"""
+import os
+import pathlib
+import random
+import re
+import resource
+import subprocess
+import sys
+import tempfile
+
+HERE = pathlib.Path(__file__).resolve().parent
+ROWS = [(1, 256), (4, 256), (16, 256), (16, 1024), (16, 4096)]
+
+
+def text_of(threads, calls):
+    """A history in which each call takes place where it returns, and the order of its calls."""
+    chance = random.Random(7)
+    lines, order, kept = ['setup.1 call s = new LazyList()', 'setup.1 return'], [], set()
+    open_calls, next_call = {}, {thread: 1 for thread in range(threads)}
+    while next_call:
+        thread = chance.choice(list(next_call))
+        name = f'T{thread}.{next_call[thread]}'
+        if thread not in open_calls:
+            open_calls[thread] = chance.choice(['add', 'remove', 'contains']), chance.randrange(100)
+            lines.append(f'{name} call s.{open_calls[thread][0]}({open_calls[thread][1]})')
+            continue
+        method, item = open_calls.pop(thread)
+        answer = (item in kept) != (method == 'add')
+        kept = kept | {item} if method == 'add' else kept - {item} if method == 'remove' else kept
+        lines.append(f'{name} return {str(answer).lower()}')
+        order.append(name)
+        next_call[thread] += 1
+        if next_call[thread] > calls:
+            del next_call[thread]
+    return ('\n'.join(lines) + '\n%%\n' + ' '.join(order) + '\n').encode(), len(lines)
+
+
+def spent():
+    usage = resource.getrusage(resource.RUSAGE_CHILDREN)
+    return usage.ru_utime + usage.ru_stime
+
+
+def run(words, text):
+    before = spent()
+    done = subprocess.run(words, input=text, stdout=subprocess.PIPE, check=True)
+    return 1000 * (spent() - before), done.stdout
+
+
+def counted(words, text):
+    told = subprocess.run(['valgrind', '--tool=callgrind', '--callgrind-out-file=/dev/null', *words], input=text,
+                          stdout=subprocess.DEVNULL, stderr=subprocess.PIPE, check=True).stderr
+    return int(re.search(rb'Collected : (\d+)', told)[1])
+
+
+def main():
+    if len(sys.argv) < 2:
+        sys.exit(__doc__)
+    runs = int(sys.argv[2]) if len(sys.argv) > 2 else 15
+    with tempfile.TemporaryDirectory() as folder:
+        plain = f'{folder}/plain'
+        subprocess.run(['rustc', '--edition', '2021', '-O', '-o', plain, HERE / 'plain.rs'], check=True)
+        both = [[os.path.abspath(sys.argv[1]), 'check'], [plain]]
+        starts = [counted(words, b'%%\n') for words in both]
+        print('| Threads x calls | Events | Instructions | Plain Rust | Ratio | listset | Plain Rust | Ratio |')
+        print('|---|---|---|---|---|---|---|---|')
+        for threads, calls in ROWS:
+            text, events = text_of(threads, calls)
+            counts = [counted(words, text) - start for words, start in zip(both, starts)]
+            times = [[], []]
+            for _ in range(runs):
+                for words, of_one in zip(both, times):
+                    took, said = run(words, text)
+                    of_one.append(took)
+                    if said != b'legal\n':
+                        sys.exit(f'{words}: {said.decode()}')
+            least = [min(of_one) for of_one in times]
+            print(f'| {threads} x {calls} | {events:,} | {counts[0] / 1e6:.2f} million | {counts[1] / 1e6:.2f} million | {counts[0] / counts[1]:.2f} '
+                  f'| {least[0]:.1f} ms | {least[1]:.1f} ms | {least[0] / least[1]:.2f} |', flush=True)
+
+
+main()

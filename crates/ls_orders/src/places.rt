@@ -1,0 +1,31 @@
+// Places that are marked.
+
+ghost use Rattle.std.specs.Prelude.{◌≡◌, ◌==◌, ◌||◌, ◌<◌, ℕ, OnOk, length};
+ghost use Rattle.ls_orders.specs.Places.{is_marked};
+
+use std::alloc::AllocError;
+
+/// Whether the place is marked. None beyond the list is.
+pub(crate) fn is_marked(marks: &[bool], place: usize) -> bool
+    ensures { result ≡ is_marked marks.now place }
+{
+    place < marks.len() && marks[place]
+}
+
+fn fill(marks: &mut Vec<bool>, place: usize) -> Result<(), AllocError>
+    ensures { OnOk result ((place < length marks.new.items) × ((k : ℕ) → is_marked marks.new.items k ≡ is_marked marks.old.items k)) }
+{
+    'marks: while marks.len() <= place {
+        marks.push(false)?;
+    }
+    Ok(())
+}
+
+/// Marks a place.
+pub(crate) fn mark(marks: &mut Vec<bool>, place: usize) -> Result<(), AllocError>
+    ensures { OnOk result ((k : ℕ) → is_marked marks.new.items k ≡ (place == k || is_marked marks.old.items k)) }
+{
+    fill(marks, place)?;
+    marks[place] = true;
+    Ok(())
+}
