@@ -1,7 +1,7 @@
 // Set calls by their texts.
 
 ghost use Rattle.std.specs.Prelude.{◌≡◌, Some, IfOk, OnOk, map, ok_or, string_bytes, if◌then◌else◌};
-ghost use Rattle.std.specs.BTreeMap.{get_by_text};
+ghost use Rattle.std.specs.HashMap.{get_by_text};
 ghost use Rattle.std.specs.Str.{bytes_eq};
 ghost use Rattle.ls_report.specs.Events.{Text};
 ghost use Rattle.ls_report.specs.Plain.{plain_event};
@@ -13,7 +13,7 @@ use crate::calls::SetCall;
 use crate::finding::name_at;
 use ls_report::history::NamedEvent;
 use std::alloc::{AllocError, Global};
-use std::collections::BTreeMap;
+use std::collections::HashMap;
 
 /// What an order names.
 #[derive(Drop)]
@@ -25,7 +25,7 @@ pub(crate) enum Named {
 
 /// Puts a call by its text, in the place of the one that is there.
 fn put_name(
-    names: &mut BTreeMap<String, SetCall>,
+    names: &mut HashMap<String, SetCall>,
     name: String,
     call: SetCall,
 ) -> Result<(), AllocError>
@@ -41,10 +41,10 @@ pub(crate) fn names_of(
     alloc: Global,
     events: &[NamedEvent],
     calls: &[SetCall],
-) -> Result<BTreeMap<String, SetCall>, AllocError>
+) -> Result<HashMap<String, SetCall>, AllocError>
     ensures { IfOk result (λ names. (q : Text) → get_by_text names q ≡ call_named (map plain_event events.now) calls.now q) }
 {
-    let mut names = BTreeMap::new(alloc);
+    let mut names = HashMap::new(alloc);
     // From the last to the first, so that of calls with one text the first stays.
     for i in (0..calls.len()).rev() {
         let call = calls[i];
@@ -57,7 +57,7 @@ pub(crate) fn names_of(
 /// The calls that the texts name.
 pub(crate) fn calls_of(
     alloc: Global,
-    names: &BTreeMap<String, SetCall>,
+    names: &HashMap<String, SetCall>,
     order: &[String],
 ) -> Result<Named, AllocError>
     ensures { IfOk result (λ named. plain_named named

@@ -1,13 +1,32 @@
 // The events that are read so far.
 
-ghost use Rattle.std.specs.Prelude.{◌≡◌, ◌++◌, ◌∷◌, [], OnOk, find, reverse, string_bytes};
+ghost use Rattle.std.specs.Prelude.{◌≡◌, ◌++◌, ◌∷◌, [], OnOk, Some, find, if◌then◌else◌, reverse, string_bytes};
+ghost use Rattle.std.specs.BTreeMap.{get_by_text};
 ghost use Rattle.std.specs.Option.{option_copied};
 ghost use Rattle.std.specs.Str.{bytes_eq};
+ghost use Rattle.ls_report.specs.Events.{Text};
 ghost use Rattle.ls_report.specs.Front.{IsIndexed};
 
 use crate::history::NamedEvent;
 use std::alloc::{AllocError, Global};
 use std::collections::BTreeMap;
+
+/// Puts the place of the thread's last event.
+fn put_place(
+    places: &mut BTreeMap<String, usize>,
+    thread: &String,
+    place: usize,
+) -> Result<(), AllocError>
+    ensures { OnOk result ((q : Text) → get_by_text places.new q
+        ≡ (if bytes_eq (string_bytes thread.now) q then Some place else get_by_text places.old q)) }
+{
+    if let Some(kept) = places.get_mut(thread.as_str()) {
+        *kept = place;
+        return Ok(());
+    }
+    places.insert(thread.clone()?, place)?;
+    Ok(())
+}
 
 /// Events in order, and for each thread's name the place of its last one, so that a search takes no longer with their number than
 /// its logarithm.
@@ -42,8 +61,7 @@ impl Front {
         ensures events { OnOk result (self.new.events.items ≡ self.old.events.items ++ event ∷ []) }
         ensures indexed { OnOk result (IsIndexed self.new) }
     {
-        let thread = event.thread.clone()?;
-        self.places.insert(thread, self.events.len())?;
+        put_place(&mut self.places, &event.thread, self.events.len())?;
         self.events.push(event)?;
         Ok(())
     }

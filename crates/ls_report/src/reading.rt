@@ -18,17 +18,22 @@ use crate::line_reading::event_in;
 use crate::lines::push_event;
 use std::alloc::{AllocError, Global};
 
-/// Whether it is the event's line, without the line feed.
-fn is_line_of(alloc: Global, event: &NamedEvent, line: &str) -> Result<bool, AllocError>
+/// Whether it is the event's line, without the line feed. The event is printed in the place of the text that it is lent.
+fn is_line_of(printed: &mut String, event: &NamedEvent, line: &str) -> Result<bool, AllocError>
     ensures { IfOk result (λ b. b ≡ bytes_eq (event_text (plain_event event.now)) line.now) }
 {
-    let mut text = String::new(alloc);
-    push_event(&mut text, event)?;
-    Ok(text.as_str() == line)
+    printed.clear();
+    push_event(printed, event)?;
+    Ok(printed.as_str() == line)
 }
 
 /// The event of the line, if it may come after those in front.
-fn next_in(alloc: Global, front: &Front, line: &str) -> Result<Option<NamedEvent>, AllocError>
+fn next_in(
+    alloc: Global,
+    printed: &mut String,
+    front: &Front,
+    line: &str,
+) -> Result<Option<NamedEvent>, AllocError>
     requires { IsIndexed front.now }
     ensures some { IfOk result (λ o. IfSome o (λ e.
         (is_next (map plain_event front.now.events.items) (plain_event e) ≡ true) × (line.now ≡ event_text (plain_event e)))) }
@@ -41,7 +46,7 @@ fn next_in(alloc: Global, front: &Front, line: &str) -> Result<Option<NamedEvent
     if !is_next(front, &event) {
         return Ok(None);
     }
-    if !is_line_of(alloc, &event, line)? {
+    if !is_line_of(printed, &event, line)? {
         return Ok(None);
     }
     Ok(Some(event))
@@ -54,10 +59,11 @@ fn read_events(alloc: Global, text: &str, length: usize) -> Result<Vec<NamedEven
     ensures fault { IfErr result (Explains text.now) }
 {
     let mut front = Front::new(alloc);
+    let mut printed = String::new(alloc);
     let mut rest = text;
     while let Some((line, after)) = cut(rest, '\n') {
         let at = length - rest.len();
-        let Some(event) = next_in(alloc, &front, line)? else {
+        let Some(event) = next_in(alloc, &mut printed, &front, line)? else {
             return Err(HistoryFault::BadHistory { at });
         };
         front.push(event)?;

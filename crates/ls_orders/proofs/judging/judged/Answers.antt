@@ -1,6 +1,6 @@
 use Rattle.std.proofs.Common.{◌≡◌, ◌∙◌, ap, sym, map, Result, Ok}
 use Rattle.std.specs.Prelude.{ok_or}
-use Rattle.std.specs.BTreeMap.{get_by_text}
+use Rattle.std.specs.HashMap.{get_by_text}
 use Rattle.std.proofs.lemmas.Result.{IfOk-weaker}
 use Rattle.ls_report.specs.Events.{Text}
 use Rattle.ls_report.specs.Plain.{plain_event}

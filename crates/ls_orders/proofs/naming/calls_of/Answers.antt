@@ -1,6 +1,6 @@
 use Rattle.std.proofs.Common.{◌∙◌, ◌+◌, ◌∷◌, ap, sym, map, drop, Result, Err}
 use Rattle.std.specs.Prelude.{ok_or, string_bytes}
-use Rattle.std.specs.BTreeMap.{get_by_text}
+use Rattle.std.specs.HashMap.{get_by_text}
 use Rattle.std.proofs.lemmas.List.{drop_more}
 use Rattle.ls_report.specs.Events.{Text}
 use Rattle.ls_orders.specs.declared.calls.SetCall.{SetCall}

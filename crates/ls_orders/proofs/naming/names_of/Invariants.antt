@@ -1,5 +1,5 @@
 use Rattle.std.proofs.Common.{◌≡◌, drop, map}
-use Rattle.std.specs.BTreeMap.{get_by_text}
+use Rattle.std.specs.HashMap.{get_by_text}
 use Rattle.ls_report.specs.Events.{Text}
 use Rattle.ls_report.specs.Plain.{plain_event}
 use Rattle.ls_orders.specs.SetCalls.{call_named}
