@@ -27,6 +27,9 @@ use std::alloc::{AllocError, Global};
 use std::collections::BTreeMap;
 use std::fmt::Write;
 
+/// Room for the most names of calls, so that they are printed without moving.
+const NAME_ROOM: usize = 24;
+
 fn operation_of(method: &str) -> Option<Operation>
     ensures { result ≡ operation_of method.now }
 {
@@ -158,7 +161,9 @@ pub(crate) fn name_of(alloc: Global, event: &NamedEvent) -> Result<String, Alloc
 {
     let thread = event.thread.as_str();
     let call = event.call;
-    format!(in alloc; "{thread}.{call}")
+    let mut text = String::with_capacity(alloc, NAME_ROOM)?;
+    write!(text, "{thread}.{call}")?;
+    Ok(text)
 }
 
 pub(crate) fn name_at(alloc: Global, events: &[NamedEvent], at: usize) -> Result<String, AllocError>
