@@ -13,18 +13,19 @@ ghost use Rattle.ls_courses.specs.Forms.{unary_course, field_course, after_value
 ghost use Rattle.ls_courses.specs.SeenCourse.{seen_turn, course_of, statement_course};
 
 use crate::forms::{After, Unary, after_operand, after_target};
-use crate::operations::{Chosen, choose, constructor_of, literal, make_lock, method_at, slot};
+use crate::operations::{Chosen, choose, literal, make_lock, slot};
 use crate::outcome::{Evaluated, Executed, ask, on_object, tell};
-use crate::value::{
-    divides_by_zero, int_of, operated, pair_of, reference_of, start_of, starts_of, truth_of,
-    value_at,
-};
 use ls_checked::tree::{Called, Expression, Expressions, File, Operator, Statement};
 use ls_events::action::{Action, Answer};
 use ls_events::kind::Kind;
 use ls_events::value::{Value, ValueType};
 use ls_meaning::completion::Completion;
 use ls_meaning::sort::Sort;
+use ls_values::lookups::{constructor_of, method_at};
+use ls_values::value::{
+    divides_by_zero, int_of, operated, pair_of, reference_of, start_of, starts_of, truth_of,
+    value_at,
+};
 use std::alloc::{AllocError, Global};
 
 macro_rules! results {

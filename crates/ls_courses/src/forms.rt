@@ -5,14 +5,14 @@ ghost use Rattle.ls_checked.specs.Plain.{plain_class};
 ghost use Rattle.ls_courses.specs.Seen.{seen};
 ghost use Rattle.ls_courses.specs.Forms.{field_course, unary_course};
 
-use crate::operations::field_of;
 use crate::outcome::{Evaluated, ask, on_object};
-use crate::value::{int_of, negated, reference_of, truth_of};
 use ls_checked::tree::Class;
 use ls_events::action::{Action, Answer};
 use ls_events::kind::Kind;
 use ls_events::value::{Value, ValueType};
 use ls_meaning::sort::Sort;
+use ls_values::lookups::field_of;
+use ls_values::value::{int_of, negated, reference_of, truth_of};
 use std::alloc::AllocError;
 
 /// The expressions with one operand, a field's aside.

@@ -6,4 +6,3 @@ mod forms;
 pub mod operations;
 pub mod outcome;
 pub mod threads;
-pub mod value;

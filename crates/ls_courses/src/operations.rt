@@ -1,50 +1,19 @@
-// Operations of locks and of markable references, and what is looked up in a file.
+// Operations of locks and of markable references.
 
-ghost use Rattle.std.specs.Prelude.{◌≡◌, IfOk, option_copied, slice_get, slice_index_or, map, option_map};
-ghost use Rattle.ls_checked.specs.Plain.{plain_file, plain_class, plain_method};
+ghost use Rattle.std.specs.Prelude.{◌≡◌, IfOk, slice_index_or};
 ghost use Rattle.ls_meaning.specs.Course.{Results, ask};
-ghost use Rattle.ls_meaning.specs.Expressions.{Calls, call, get_both, constructor_of, field_of};
+ghost use Rattle.ls_meaning.specs.Expressions.{Calls, call, get_both};
 ghost use Rattle.ls_meaning.specs.Values.{nothing};
 ghost use Rattle.ls_courses.specs.Seen.{seen, seen_call};
 
 use crate::outcome::{Evaluated, ask};
-use crate::value::{mark_of, pair_of, reference_of, truth_of, value_at};
-use ls_checked::tree::{Called, Class, File, Method};
+use ls_checked::tree::Called;
 use ls_events::action::{Action, Answer};
 use ls_events::kind::Kind;
 use ls_events::value::{Value, ValueType};
 use ls_meaning::sort::Sort;
+use ls_values::value::{mark_of, pair_of, reference_of, truth_of, value_at};
 use std::alloc::AllocError;
-
-/// The method with a number.
-pub fn method_at<'a>(file: &'a File, n: usize) -> Option<&'a Method>
-    ensures { option_map plain_method (option_copied result) ≡ slice_get (plain_file file.now).methods n }
-{
-    file.methods.get(n)
-}
-
-/// The constructor of a class.
-pub fn constructor_of(classes: &[Class], n: usize) -> usize
-    ensures { result ≡ constructor_of (map plain_class classes.now) n }
-{
-    match classes.get(n) {
-        None => 0,
-        Some(c) => c.constructor,
-    }
-}
-
-/// What the read of a field is answered.
-pub fn field_of(classes: &[Class], class: usize, field: usize) -> Sort
-    ensures { result ≡ field_of (map plain_class classes.now) class field }
-{
-    match classes.get(class) {
-        None => Sort::NoValue,
-        Some(c) => match c.fields.get(field) {
-            None => Sort::NoValue,
-            Some(t) => Sort::ValueOf(*t),
-        },
-    }
-}
 
 // The pair is read, and then the mark goes to element 0 of the array.
 fn get_both<'a>(

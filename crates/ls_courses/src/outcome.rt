@@ -4,12 +4,12 @@ ghost use Rattle.std.specs.Prelude.{◌≡◌};
 ghost use Rattle.ls_meaning.specs.Course.{ask, tell, on_object};
 ghost use Rattle.ls_courses.specs.Seen.{seen};
 
-use crate::value::reference_of;
 use ls_events::action::{Action, Answer};
 use ls_events::kind::Kind;
 use ls_events::value::Value;
 use ls_meaning::completion::Completion;
 use ls_meaning::sort::Sort;
+use ls_values::value::reference_of;
 
 /// The evaluation of an expression.
 #[derive(Drop)]

@@ -9,15 +9,15 @@ ghost use Rattle.ls_courses.specs.Seen.{seen};
 ghost use Rattle.ls_courses.specs.SeenThread.{seen_next};
 
 use crate::course::invoke;
-use crate::operations::{constructor_of, method_at};
 use crate::outcome::{Evaluated, ask, tell};
-use crate::value::reference_of;
 use ls_checked::program::{Program, ProgramCall};
 use ls_checked::tree::File;
 use ls_events::action::{Action, Answer};
 use ls_events::kind::Kind;
 use ls_events::value::{Value, ValueType};
 use ls_meaning::sort::Sort;
+use ls_values::lookups::{constructor_of, method_at};
+use ls_values::value::reference_of;
 use std::alloc::{AllocError, Global};
 
 /// What a thread asks for, or that it has ended, by its last return or by a trap.

@@ -10,7 +10,6 @@ ghost use Rattle.ls_state.specs.Parts.{numbered};
 ghost use Rattle.ls_state.specs.Seen.{names_in, scene_seen};
 
 use ls_checked::program::SetupName;
-use ls_courses::value::{mark_of, reference_of};
 use ls_events::value::Value;
 use ls_labels::names::Names;
 use ls_labels::objects::{push_object, push_value};
@@ -18,6 +17,7 @@ use ls_source::Thing;
 use ls_state::array::push_array;
 use ls_state::objects::{field_name_of, push_held};
 use ls_state::scene::Scene;
+use ls_values::value::{mark_of, reference_of};
 use std::alloc::{AllocError, Global};
 use std::fmt::Write;
 

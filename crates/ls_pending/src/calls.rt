@@ -13,13 +13,13 @@ use crate::pending::Pending;
 use crate::tables::known;
 use crate::work::{Control, Frame, Operand, Purpose};
 use ls_checked::tree::{Called, Class, Expressions};
-use ls_courses::operations::constructor_of;
-use ls_courses::value::{pair_of, reference_of, truth_of, value_at};
 use ls_events::action::Action;
 use ls_events::kind::Kind;
 use ls_events::value::{Value, ValueType};
 use ls_meaning::completion::Completion;
 use ls_meaning::sort::Sort;
+use ls_values::lookups::constructor_of;
+use ls_values::value::{pair_of, reference_of, truth_of, value_at};
 use std::alloc::AllocError;
 
 // compareAndSet(expectedReference, newReference, expectedMark, newMark)

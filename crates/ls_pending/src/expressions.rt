@@ -11,10 +11,10 @@ use crate::pending::Pending;
 use crate::tables::known;
 use crate::work::{Control, Frame, Operand, Purpose};
 use ls_checked::tree::{Called, Class, Expression, Expressions, Operator};
-use ls_courses::value::value_at;
 use ls_events::action::Action;
 use ls_events::value::ValueType;
 use ls_meaning::sort::Sort;
+use ls_values::value::value_at;
 use std::alloc::Global;
 
 // A function of Rattle clears the room of its locals as it begins. So the parts that hold frames stand in functions of their

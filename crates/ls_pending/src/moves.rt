@@ -12,12 +12,12 @@ use crate::stack::{pop, push};
 use crate::tables::{answer_without, frame};
 use crate::work::{Control, Frame, Waiting};
 use ls_checked::tree::{Class, Expression, File, Statement};
-use ls_courses::operations::method_at;
 use ls_events::action::Action;
 use ls_events::kind::Kind;
 use ls_events::value::{Value, ValueType};
 use ls_meaning::completion::Completion;
 use ls_meaning::sort::Sort;
+use ls_values::lookups::method_at;
 use std::alloc::{AllocError, Global};
 use std::mem;
 

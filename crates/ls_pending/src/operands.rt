@@ -14,15 +14,15 @@ use crate::stack::push;
 use crate::tables::known;
 use crate::work::{Control, Frame, Operand, Purpose};
 use ls_checked::tree::{Called, Class, Expression, Expressions, Operator};
-use ls_courses::operations::field_of;
-use ls_courses::value::{
-    divides_by_zero, int_of, mark_of, negated, operated, reference_of, truth_of,
-};
 use ls_events::action::Action;
 use ls_events::kind::Kind;
 use ls_events::value::{Value, ValueType};
 use ls_meaning::completion::Completion;
 use ls_meaning::sort::Sort;
+use ls_values::lookups::field_of;
+use ls_values::value::{
+    divides_by_zero, int_of, mark_of, negated, operated, reference_of, truth_of,
+};
 use std::alloc::{AllocError, Global};
 
 impl<'a> Pending<'a> {

@@ -13,11 +13,11 @@ use crate::stack::push;
 use crate::tables::known;
 use crate::work::{Control, Ending, Frame, Waiting};
 use ls_checked::tree::{Expression, Statement};
-use ls_courses::value::{int_of, reference_of, truth_of};
 use ls_events::action::Action;
 use ls_events::value::Value;
 use ls_meaning::completion::Completion;
 use ls_meaning::sort::Sort;
+use ls_values::value::{int_of, reference_of, truth_of};
 
 // What goes on after a normal completion.
 #[inline(always)]

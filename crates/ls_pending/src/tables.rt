@@ -6,8 +6,8 @@ ghost use Rattle.ls_meaning.specs.Methods.{frame, answer_without};
 ghost use Rattle.ls_pending.specs.Machine.{known};
 
 use ls_checked::tree::Expression;
-use ls_courses::value::{start_of, starts_of, value_at};
 use ls_events::value::{Value, ValueType};
+use ls_values::value::{start_of, starts_of, value_at};
 use std::alloc::{AllocError, Global};
 
 /// The slots of a method as it is entered.

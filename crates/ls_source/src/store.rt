@@ -9,9 +9,9 @@ ghost use Rattle.ls_source.specs.SeenStore.{store_of, seen_effect};
 
 use crate::thing::{Effect, Thing, change, done, gives};
 use ls_checked::tree::Class;
-use ls_courses::value::starts_of;
 use ls_events::action::{Action, Answer};
 use ls_events::value::Value;
+use ls_values::value::starts_of;
 use std::alloc::{AllocError, Global};
 use std::collections::BTreeMap;
 

@@ -4,10 +4,10 @@ ghost use Rattle.std.specs.Prelude.{◌≡◌, IfOk, OnErr};
 ghost use Rattle.ls_meaning.specs.Effect.{same_mark, change, in_range, same_pair, reading_field, writing_field, reading_item, writing_item, locking, trying, unlocking, asking_held, reading_pair, setting_pair, swapping, attempting};
 ghost use Rattle.ls_source.specs.SeenThing.{items_of, thing_of, seen_change};
 
-use ls_courses::value::{mark_of, reference_of};
 use ls_events::action::{Action, Answer};
 use ls_events::kind::Kind;
 use ls_events::value::Value;
+use ls_values::value::{mark_of, reference_of};
 use std::alloc::AllocError;
 use std::collections::BTreeMap;
 

@@ -12,8 +12,6 @@ ghost use Rattle.ls_source.specs.SeenThread.{seen_next};
 use crate::next::Next;
 use ls_checked::program::{Program, ProgramCall};
 use ls_checked::tree::File;
-use ls_courses::operations::{constructor_of, method_at};
-use ls_courses::value::reference_of;
 use ls_events::action::{Action, Answer};
 use ls_events::kind::Kind;
 use ls_events::value::{Value, ValueType};
@@ -21,6 +19,8 @@ use ls_meaning::completion::Completion;
 use ls_meaning::sort::Sort;
 use ls_pending::pending::Pending;
 use ls_pending::work::Control;
+use ls_values::lookups::{constructor_of, method_at};
+use ls_values::value::reference_of;
 use std::alloc::{AllocError, Global};
 
 /// What a body was entered for: a setup name and its new object, or a method.
