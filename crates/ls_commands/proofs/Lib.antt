@@ -4,4 +4,5 @@ pub mod ViewedLemmas
 pub mod CompiledLemmas
 pub mod TranslatedLemmas
 pub mod LivedLemmas
+pub mod ReadBackLemmas
 pub mod TalliedLemmas

@@ -29,7 +29,9 @@ use Rattle.ls_schedule.specs.declared.fault.ScheduleFault.TheVariants as schedul
 use Rattle.ls_report.specs.Events.{Text}
 use Rattle.ls_faults.specs.Faults.{lifted_text, lifted_check, lifted_program, lifted_schedule}
 use Rattle.ls_faults.specs.Given.{Gives}
+use Rattle.ls_text_laws.specs.Histories.{SourceIsReadable}
 use Rattle.ls_commands.proofs.Answering.{wider}
+use Rattle.ls_commands.proofs.ReadBackLemmas.{shows_back}
 use Rattle.ls_labels.specs.Names.{Names}
 use Rattle.ls_commands.specs.Viewed.{names_in, shown, viewed_by, viewed, RunsTo, Ran, NoProgram, ViewsTo, Checks, Breaks, NoFile}
 use Rattle.ls_commands.specs.declared.viewing.View.{View}
@@ -65,8 +67,8 @@ check_fails v c p s file (rule.MissingReturn span) t n = Breaks file (rule.Missi
 check_fails v c p s file (rule.ReservedClass span) t n = Breaks file (rule.ReservedClass span) t n
 check_fails v c p s file (rule.Limit span) t n = Breaks file (rule.Limit span) t n
 
-pub checked_runs : (v : View) (c p s : Text) (file : File) (o : Outcome) (r : Result (String Global) ToolFault) → IsFileOf c file → elaborated file ≡ Ok o → Gives (RunsTo v o p s) r → Gives (ViewsTo v c p s) r
-checked_runs v c p s file o r t e g = wider (RunsTo v o p s) (ViewsTo v c p s) r (λ a h. Checks file o a t e h) g
+pub checked_runs : SourceIsReadable → (v : View) (c p s : Text) (file : File) (o : Outcome) (r : Result (String Global) ToolFault) → IsFileOf c file → elaborated file ≡ Ok o → Gives (RunsTo v o p s) r → Gives (ViewsTo v c p s) r
+checked_runs readable v c p s file o r t e g = wider (RunsTo v o p s) (ViewsTo v c p s) r (λ a h. Checks file o a t e h (shows_back readable file o e p s v h)) g
 
 pub program_fails : (v : View) (o : Outcome) (p s : Text) (f : ProgramFault) → IsNoProgram o p f → Gives (RunsTo v o p s) (Failed (lifted_program f))
 program_fails v o p s program.Memory r = tt

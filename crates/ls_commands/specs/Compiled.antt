@@ -14,6 +14,7 @@ use Rattle.ls_schedule.specs.Reading.{schedule_of, thread_names}
 use Rattle.ls_schedule.specs.declared.fault.ScheduleFault.{ScheduleFault}
 use Rattle.ls_report.specs.Events.{Text}
 use Rattle.ls_report.specs.Printing.{run_text}
+use Rattle.ls_commands.specs.ReadBack.{ReadsBack}
 use Rattle.ls_faults.specs.Faults.{lifted_compile, lifted_schedule}
 use Rattle.ls_faults.specs.declared.fault.ToolFault.{ToolFault}
 use Rattle.ls_faults.specs.declared.fault.ToolFault.TheVariants as faults
@@ -53,6 +54,9 @@ pub data Replayed (i : Image) (cells : ℕ) : Result (List ℕ) ScheduleFault �
   NoCells : (steps : List ℕ) → AreBadCells (code_of_image i).names cells → Replayed i cells (Ok steps) (Err faults.BadCells)
   NoSchedule : (f : ScheduleFault) → Replayed i cells (Err f) (Err (lifted_schedule f))
 
+-- and a history that is printed reads back
+abbrev pub ReplayedOf : ℕ → Text → Image → Result Text ToolFault → Type 0
+ReplayedOf cells schedule i answer = Replayed i cells (schedule_of (names_of_image i) schedule) answer × ReadsBack answer
+
 abbrev pub ReplaysTo : ℕ → Text → Text → Text → Result Text ToolFault → Type 0
-ReplaysTo cells classes program schedule answer =
-    AnswersOn classes program (λ i. Replayed i cells (schedule_of (names_of_image i) schedule)) answer
+ReplaysTo cells classes program schedule answer = AnswersOn classes program (ReplayedOf cells schedule) answer

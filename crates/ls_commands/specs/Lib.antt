@@ -3,4 +3,5 @@ pub mod Viewed
 pub mod Compiled
 pub mod Translated
 pub mod Lived
+pub mod ReadBack
 pub mod Tallied

@@ -19,6 +19,7 @@ use Rattle.ls_report.specs.Printing.{run_text}
 use Rattle.ls_faults.specs.declared.fault.ToolFault.{ToolFault}
 use Rattle.ls_faults.specs.declared.fault.ToolFault.TheVariants as faults
 use Rattle.ls_commands.specs.Compiled.{AnswersOn, names_of_image, plain_program_of, Replayed}
+use Rattle.ls_commands.specs.ReadBack.{ReadsBack, ReadsBackBehind}
 
 -- each thread is over after the steps, or they are as many as may be recorded
 abbrev pub AreDone : Code → ℕ → ℕ → List ℕ → Type 0
@@ -35,8 +36,12 @@ pub data Lived (i : Image) (cells limit : ℕ) : Result Text ToolFault → Type 
   NoThread : Lived i cells limit (Err (faults.Live live.NoThread))
   Disagree : Lived i cells limit (Err (faults.Live live.Disagree))
 
+-- and the history behind the schedule reads back
+abbrev pub LivedOf : ℕ → ℕ → Image → Result Text ToolFault → Type 0
+LivedOf cells limit i answer = Lived i cells limit answer × ReadsBackBehind (names_of_image i) answer
+
 abbrev pub LivesTo : ℕ → ℕ → Text → Text → Result Text ToolFault → Type 0
-LivesTo cells limit classes program answer = AnswersOn classes program (λ i. Lived i cells limit) answer
+LivesTo cells limit classes program answer = AnswersOn classes program (LivedOf cells limit) answer
 
 -- why live threads don't come to the end of a schedule of so many steps
 abbrev pub BreaksOff : ℕ → FollowFault → Type 0
@@ -49,6 +54,9 @@ pub data ReplayedLive (i : Image) (cells : ℕ) (read : Result (List ℕ) Schedu
   AsReplayed : (answer : Result Text ToolFault) → Replayed i cells read answer → ReplayedLive i cells read answer
   NotFollowed : (steps : List ℕ) (f : FollowFault) → read ≡ Ok steps → BreaksOff (length steps) f → ReplayedLive i cells read (Err (faults.Turns (turns.Follow f)))
 
+-- and a history that is printed reads back
+abbrev pub ReplayedLiveOf : ℕ → Text → Image → Result Text ToolFault → Type 0
+ReplayedLiveOf cells schedule i answer = ReplayedLive i cells (schedule_of (names_of_image i) schedule) answer × ReadsBack answer
+
 abbrev pub ReplaysLiveTo : ℕ → Text → Text → Text → Result Text ToolFault → Type 0
-ReplaysLiveTo cells classes program schedule answer =
-    AnswersOn classes program (λ i. ReplayedLive i cells (schedule_of (names_of_image i) schedule)) answer
+ReplaysLiveTo cells classes program schedule answer = AnswersOn classes program (ReplayedLiveOf cells schedule) answer

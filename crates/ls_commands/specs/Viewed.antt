@@ -25,6 +25,7 @@ use Rattle.ls_state.specs.State.{state_text}
 use Rattle.ls_drawing.specs.Drawing.{drawing_text}
 use Rattle.ls_faults.specs.Faults.{lifted_text, lifted_check, lifted_program, lifted_schedule}
 use Rattle.ls_faults.specs.declared.fault.ToolFault.{ToolFault}
+use Rattle.ls_commands.specs.ReadBack.{ReadsBack}
 use Rattle.ls_commands.specs.declared.viewing.View.{View}
 use Rattle.ls_commands.specs.declared.viewing.View.TheVariants as views
 
@@ -54,11 +55,16 @@ pub data RunsTo (view : View) (o : Outcome) (program schedule : Text) : Result T
   Ran : (p : Program) → IsTextOf o p program → RunsTo view o program schedule (viewed view (names_in o p) schedule)
   NoProgram : (f : ProgramFault) → IsNoProgram o program f → RunsTo view o program schedule (Err (lifted_program f))
 
+-- a history that is shown reads back
+abbrev pub ShowsBack : View → Result Text ToolFault → Type 0
+ShowsBack views.History answer = ReadsBack answer
+ShowsBack other answer = Unit {0}
+
 -- The class part is a file that keeps every rule, and the answer is that of its program and schedule; or it is
 -- one that breaks the rule that is named; or it spells none, and the fault is one that may come of it.
 pub data ViewsTo (view : View) (classes program schedule : Text) : Result Text ToolFault → Type 0 where
   Checks : (file : File) (o : Outcome) (answer : Result Text ToolFault) →
-      IsFileOf classes file → elaborated file ≡ Ok o → RunsTo view o program schedule answer →
+      IsFileOf classes file → elaborated file ≡ Ok o → RunsTo view o program schedule answer → ShowsBack view answer →
       ViewsTo view classes program schedule answer
   Breaks : (file : File) (f : CheckFault) →
       IsFileOf classes file → checked_file.Names f (elaborated file) →

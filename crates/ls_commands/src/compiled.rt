@@ -12,6 +12,7 @@ use ls_compiler::image::Image;
 use ls_faults::fault::ToolFault;
 use ls_report::print_history;
 use ls_schedule::read_schedule;
+use ls_text_laws::compiled_is_readable;
 use std::alloc::{AllocError, Global};
 use std::fmt::Write;
 
@@ -54,5 +55,6 @@ pub fn replay(
     ensures { Gives (ReplaysTo cells classes.now program.now schedule.now) result }
 {
     let image = compile(alloc, classes, program)?;
+    compiled_is_readable();
     replayed(alloc, &image, cells, schedule)
 }

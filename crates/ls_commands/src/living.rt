@@ -17,6 +17,7 @@ use ls_faults::fault::ToolFault;
 use ls_live::{Gate, play_live};
 use ls_report::print_history;
 use ls_schedule::{Record, print_schedule, read_schedule};
+use ls_text_laws::compiled_is_readable;
 use ls_turnstile::{OpenGate, play_turns};
 use std::alloc::{AllocError, Global};
 use std::sync::Wait;
@@ -66,6 +67,7 @@ pub fn live<R: Threads + Wait + Sync>(
     ensures { Gives (LivesTo cells limit classes.now program.now) result }
 {
     let image = compile(alloc, classes, program)?;
+    compiled_is_readable();
     lived(rt, alloc, &image, cells, limit)
 }
 
@@ -96,5 +98,6 @@ pub fn replay_live<R: Threads + Wait + Sync>(
     ensures { Gives (ReplaysLiveTo cells classes.now program.now schedule.now) result }
 {
     let image = compile(alloc, classes, program)?;
+    compiled_is_readable();
     replayed_live(rt, alloc, &image, cells, schedule)
 }

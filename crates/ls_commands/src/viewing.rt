@@ -16,6 +16,7 @@ use ls_report::print_history;
 use ls_schedule::read_schedule;
 use ls_source::run::play;
 use ls_state::state::state;
+use ls_text_laws::source_is_readable;
 use ls_trace::trace;
 use ls_types::check::Checked;
 use ls_types::checking::check;
@@ -98,5 +99,6 @@ pub fn show(
 {
     let parsed = parse_text(alloc, classes)?;
     let checked = check(alloc, parsed)?;
+    source_is_readable();
     run(alloc, view, &checked, program, schedule)
 }

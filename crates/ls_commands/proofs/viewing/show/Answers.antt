@@ -17,5 +17,5 @@ returns-in_err-checked c =
 
 pub returns : goal.returns
 returns c =
-    checked_runs c.args.view c.args.classes.now c.args.program.now c.args.schedule.now (placed_file c.in_ok-parsed.parsed) (outcome_of c.in_ok-checked.checked) c.run.result
+    checked_runs c.source_is_readable.ensures c.args.view c.args.classes.now c.args.program.now c.args.schedule.now (placed_file c.in_ok-parsed.parsed) (outcome_of c.in_ok-checked.checked) c.run.result
     c.in_ok-parsed.ensures.file c.in_ok-checked.ensures.checked c.run.ensures
