@@ -38,10 +38,10 @@ def main():
     print('| Run | Bytes of the trace | `source` | `state` | `trace` | Beyond `source` | Plain Rust | Ratio |\n|---|---|---|---|---|---|---|---|')
     with tempfile.TemporaryDirectory() as folder:
         folder = pathlib.Path(folder)
-        subprocess.run(['rustc', '-O', '--edition', '2024', '-o', folder / 'plain', HERE / 'main.rs'], check=True)
+        subprocess.run(['rustc', '-O', '--edition', '2024', '-o', folder / 'program', HERE / 'main.rs'], check=True)
         for part, (name, body) in enumerate(ROWS):
             text = TEXT.format(body, (steps - 30) // 2)
-            words = {view: [program, view] for view in ('source', 'state', 'trace')} | {'plain': [folder / 'plain', part, steps]}
+            words = {view: [program, view] for view in ('source', 'state', 'trace')} | {'plain': [folder / 'program', part, steps]}
             least = dict.fromkeys(words, float('inf'))
             for _ in range(runs):
                 for view, it in words.items():
