@@ -1,0 +1,6 @@
+//! Traces that are worked out by hand.
+#![tactic(auto)]
+
+mod rows;
+#[cfg(test)]
+mod texts;
