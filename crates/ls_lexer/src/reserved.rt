@@ -1,176 +1,240 @@
-// Which texts are reserved words.
+// Which texts are reserved words, by what stands behind the first byte.
 
-ghost use Rattle.ls_lexer.specs.Words.{
-  fifth_words,
-  first_words,
-  fourth_words,
-  reserved_word,
-  second_words,
-  seventh_words,
-  sixth_words,
-  third_words,
-};
-ghost use Rattle.std.specs.Prelude.{◌≡◌};
+ghost use Rattle.ls_lexer.specs.Words.{reserved_word};
+ghost use Rattle.std.specs.Prelude.{◌≡◌, ◌∷◌};
+ghost use Rattle.std.specs.Str.{byte};
 
 use crate::word::Word;
 
-fn first_words(text: &[u8]) -> Option<Word>
-    ensures { result ≡ first_words text.now }
+fn behind_a(rest: &[u8]) -> Option<Word>
+    ensures { result ≡ reserved_word (byte "a" ∷ rest.now) }
 {
-    if text == b"abstract".as_slice() {
+    if rest == b"bstract".as_slice() {
         Some(Word::Abstract)
-    } else if text == b"continue".as_slice() {
-        Some(Word::Continue)
-    } else if text == b"for".as_slice() {
-        Some(Word::For)
-    } else if text == b"new".as_slice() {
-        Some(Word::New)
-    } else if text == b"switch".as_slice() {
-        Some(Word::Switch)
-    } else if text == b"assert".as_slice() {
+    } else if rest == b"ssert".as_slice() {
         Some(Word::Assert)
-    } else if text == b"default".as_slice() {
-        Some(Word::Default)
-    } else if text == b"if".as_slice() {
-        Some(Word::If)
     } else {
         None
     }
 }
 
-fn second_words(text: &[u8]) -> Option<Word>
-    ensures { result ≡ second_words text.now }
+fn behind_b(rest: &[u8]) -> Option<Word>
+    ensures { result ≡ reserved_word (byte "b" ∷ rest.now) }
 {
-    if text == b"package".as_slice() {
-        Some(Word::Package)
-    } else if text == b"synchronized".as_slice() {
-        Some(Word::Synchronized)
-    } else if text == b"boolean".as_slice() {
+    if rest == b"oolean".as_slice() {
         Some(Word::Boolean)
-    } else if text == b"do".as_slice() {
-        Some(Word::Do)
-    } else if text == b"goto".as_slice() {
-        Some(Word::Goto)
-    } else if text == b"private".as_slice() {
-        Some(Word::Private)
-    } else if text == b"this".as_slice() {
-        Some(Word::This)
-    } else if text == b"break".as_slice() {
+    } else if rest == b"reak".as_slice() {
         Some(Word::Break)
-    } else {
-        None
-    }
-}
-
-fn third_words(text: &[u8]) -> Option<Word>
-    ensures { result ≡ third_words text.now }
-{
-    if text == b"double".as_slice() {
-        Some(Word::Double)
-    } else if text == b"implements".as_slice() {
-        Some(Word::Implements)
-    } else if text == b"protected".as_slice() {
-        Some(Word::Protected)
-    } else if text == b"throw".as_slice() {
-        Some(Word::Throw)
-    } else if text == b"byte".as_slice() {
+    } else if rest == b"yte".as_slice() {
         Some(Word::Byte)
-    } else if text == b"else".as_slice() {
-        Some(Word::Else)
-    } else if text == b"import".as_slice() {
-        Some(Word::Import)
-    } else if text == b"public".as_slice() {
-        Some(Word::Public)
     } else {
         None
     }
 }
 
-fn fourth_words(text: &[u8]) -> Option<Word>
-    ensures { result ≡ fourth_words text.now }
+fn behind_c(rest: &[u8]) -> Option<Word>
+    ensures { result ≡ reserved_word (byte "c" ∷ rest.now) }
 {
-    if text == b"throws".as_slice() {
-        Some(Word::Throws)
-    } else if text == b"case".as_slice() {
+    if rest == b"ontinue".as_slice() {
+        Some(Word::Continue)
+    } else if rest == b"ase".as_slice() {
         Some(Word::Case)
-    } else if text == b"enum".as_slice() {
-        Some(Word::Enum)
-    } else if text == b"instanceof".as_slice() {
-        Some(Word::Instanceof)
-    } else if text == b"return".as_slice() {
-        Some(Word::Return)
-    } else if text == b"transient".as_slice() {
-        Some(Word::Transient)
-    } else if text == b"catch".as_slice() {
+    } else if rest == b"atch".as_slice() {
         Some(Word::Catch)
-    } else if text == b"extends".as_slice() {
+    } else if rest == b"har".as_slice() {
+        Some(Word::Char)
+    } else if rest == b"lass".as_slice() {
+        Some(Word::Class)
+    } else if rest == b"onst".as_slice() {
+        Some(Word::Const)
+    } else {
+        None
+    }
+}
+
+fn behind_d(rest: &[u8]) -> Option<Word>
+    ensures { result ≡ reserved_word (byte "d" ∷ rest.now) }
+{
+    if rest == b"efault".as_slice() {
+        Some(Word::Default)
+    } else if rest == b"o".as_slice() {
+        Some(Word::Do)
+    } else if rest == b"ouble".as_slice() {
+        Some(Word::Double)
+    } else {
+        None
+    }
+}
+
+fn behind_e(rest: &[u8]) -> Option<Word>
+    ensures { result ≡ reserved_word (byte "e" ∷ rest.now) }
+{
+    if rest == b"lse".as_slice() {
+        Some(Word::Else)
+    } else if rest == b"num".as_slice() {
+        Some(Word::Enum)
+    } else if rest == b"xtends".as_slice() {
         Some(Word::Extends)
     } else {
         None
     }
 }
 
-fn fifth_words(text: &[u8]) -> Option<Word>
-    ensures { result ≡ fifth_words text.now }
+fn behind_f(rest: &[u8]) -> Option<Word>
+    ensures { result ≡ reserved_word (byte "f" ∷ rest.now) }
 {
-    if text == b"int".as_slice() {
-        Some(Word::Int)
-    } else if text == b"short".as_slice() {
-        Some(Word::Short)
-    } else if text == b"try".as_slice() {
-        Some(Word::Try)
-    } else if text == b"char".as_slice() {
-        Some(Word::Char)
-    } else if text == b"final".as_slice() {
+    if rest == b"or".as_slice() {
+        Some(Word::For)
+    } else if rest == b"inal".as_slice() {
         Some(Word::Final)
-    } else if text == b"interface".as_slice() {
-        Some(Word::Interface)
-    } else if text == b"static".as_slice() {
-        Some(Word::Static)
-    } else if text == b"void".as_slice() {
-        Some(Word::Void)
-    } else {
-        None
-    }
-}
-
-fn sixth_words(text: &[u8]) -> Option<Word>
-    ensures { result ≡ sixth_words text.now }
-{
-    if text == b"class".as_slice() {
-        Some(Word::Class)
-    } else if text == b"finally".as_slice() {
+    } else if rest == b"inally".as_slice() {
         Some(Word::Finally)
-    } else if text == b"long".as_slice() {
-        Some(Word::Long)
-    } else if text == b"strictfp".as_slice() {
-        Some(Word::Strictfp)
-    } else if text == b"volatile".as_slice() {
-        Some(Word::Volatile)
-    } else if text == b"const".as_slice() {
-        Some(Word::Const)
-    } else if text == b"float".as_slice() {
+    } else if rest == b"loat".as_slice() {
         Some(Word::Float)
-    } else if text == b"native".as_slice() {
-        Some(Word::Native)
+    } else if rest == b"alse".as_slice() {
+        Some(Word::False)
     } else {
         None
     }
 }
 
-fn seventh_words(text: &[u8]) -> Option<Word>
-    ensures { result ≡ seventh_words text.now }
+fn behind_g(rest: &[u8]) -> Option<Word>
+    ensures { result ≡ reserved_word (byte "g" ∷ rest.now) }
 {
-    if text == b"super".as_slice() {
-        Some(Word::Super)
-    } else if text == b"while".as_slice() {
-        Some(Word::While)
-    } else if text == b"true".as_slice() {
-        Some(Word::True)
-    } else if text == b"false".as_slice() {
-        Some(Word::False)
-    } else if text == b"null".as_slice() {
+    if rest == b"oto".as_slice() {
+        Some(Word::Goto)
+    } else {
+        None
+    }
+}
+
+fn behind_i(rest: &[u8]) -> Option<Word>
+    ensures { result ≡ reserved_word (byte "i" ∷ rest.now) }
+{
+    if rest == b"f".as_slice() {
+        Some(Word::If)
+    } else if rest == b"mplements".as_slice() {
+        Some(Word::Implements)
+    } else if rest == b"mport".as_slice() {
+        Some(Word::Import)
+    } else if rest == b"nstanceof".as_slice() {
+        Some(Word::Instanceof)
+    } else if rest == b"nt".as_slice() {
+        Some(Word::Int)
+    } else if rest == b"nterface".as_slice() {
+        Some(Word::Interface)
+    } else {
+        None
+    }
+}
+
+fn behind_l(rest: &[u8]) -> Option<Word>
+    ensures { result ≡ reserved_word (byte "l" ∷ rest.now) }
+{
+    if rest == b"ong".as_slice() {
+        Some(Word::Long)
+    } else {
+        None
+    }
+}
+
+fn behind_n(rest: &[u8]) -> Option<Word>
+    ensures { result ≡ reserved_word (byte "n" ∷ rest.now) }
+{
+    if rest == b"ew".as_slice() {
+        Some(Word::New)
+    } else if rest == b"ative".as_slice() {
+        Some(Word::Native)
+    } else if rest == b"ull".as_slice() {
         Some(Word::Null)
+    } else {
+        None
+    }
+}
+
+fn behind_p(rest: &[u8]) -> Option<Word>
+    ensures { result ≡ reserved_word (byte "p" ∷ rest.now) }
+{
+    if rest == b"ackage".as_slice() {
+        Some(Word::Package)
+    } else if rest == b"rivate".as_slice() {
+        Some(Word::Private)
+    } else if rest == b"rotected".as_slice() {
+        Some(Word::Protected)
+    } else if rest == b"ublic".as_slice() {
+        Some(Word::Public)
+    } else {
+        None
+    }
+}
+
+fn behind_r(rest: &[u8]) -> Option<Word>
+    ensures { result ≡ reserved_word (byte "r" ∷ rest.now) }
+{
+    if rest == b"eturn".as_slice() {
+        Some(Word::Return)
+    } else {
+        None
+    }
+}
+
+fn behind_s(rest: &[u8]) -> Option<Word>
+    ensures { result ≡ reserved_word (byte "s" ∷ rest.now) }
+{
+    if rest == b"witch".as_slice() {
+        Some(Word::Switch)
+    } else if rest == b"ynchronized".as_slice() {
+        Some(Word::Synchronized)
+    } else if rest == b"hort".as_slice() {
+        Some(Word::Short)
+    } else if rest == b"tatic".as_slice() {
+        Some(Word::Static)
+    } else if rest == b"trictfp".as_slice() {
+        Some(Word::Strictfp)
+    } else if rest == b"uper".as_slice() {
+        Some(Word::Super)
+    } else {
+        None
+    }
+}
+
+fn behind_t(rest: &[u8]) -> Option<Word>
+    ensures { result ≡ reserved_word (byte "t" ∷ rest.now) }
+{
+    if rest == b"his".as_slice() {
+        Some(Word::This)
+    } else if rest == b"hrow".as_slice() {
+        Some(Word::Throw)
+    } else if rest == b"hrows".as_slice() {
+        Some(Word::Throws)
+    } else if rest == b"ransient".as_slice() {
+        Some(Word::Transient)
+    } else if rest == b"ry".as_slice() {
+        Some(Word::Try)
+    } else if rest == b"rue".as_slice() {
+        Some(Word::True)
+    } else {
+        None
+    }
+}
+
+fn behind_v(rest: &[u8]) -> Option<Word>
+    ensures { result ≡ reserved_word (byte "v" ∷ rest.now) }
+{
+    if rest == b"oid".as_slice() {
+        Some(Word::Void)
+    } else if rest == b"olatile".as_slice() {
+        Some(Word::Volatile)
+    } else {
+        None
+    }
+}
+
+fn behind_w(rest: &[u8]) -> Option<Word>
+    ensures { result ≡ reserved_word (byte "w" ∷ rest.now) }
+{
+    if rest == b"hile".as_slice() {
+        Some(Word::While)
     } else {
         None
     }
@@ -180,23 +244,24 @@ fn seventh_words(text: &[u8]) -> Option<Word>
 pub fn reserved_word(text: &[u8]) -> Option<Word>
     ensures { result ≡ reserved_word text.now }
 {
-    if let Some(word) = first_words(text) {
-        return Some(word);
+    let (first, rest) = text.split_first()?;
+    match *first {
+        b'a' => behind_a(rest),
+        b'b' => behind_b(rest),
+        b'c' => behind_c(rest),
+        b'd' => behind_d(rest),
+        b'e' => behind_e(rest),
+        b'f' => behind_f(rest),
+        b'g' => behind_g(rest),
+        b'i' => behind_i(rest),
+        b'l' => behind_l(rest),
+        b'n' => behind_n(rest),
+        b'p' => behind_p(rest),
+        b'r' => behind_r(rest),
+        b's' => behind_s(rest),
+        b't' => behind_t(rest),
+        b'v' => behind_v(rest),
+        b'w' => behind_w(rest),
+        _ => None,
     }
-    if let Some(word) = second_words(text) {
-        return Some(word);
-    }
-    if let Some(word) = third_words(text) {
-        return Some(word);
-    }
-    if let Some(word) = fourth_words(text) {
-        return Some(word);
-    }
-    if let Some(word) = fifth_words(text) {
-        return Some(word);
-    }
-    if let Some(word) = sixth_words(text) {
-        return Some(word);
-    }
-    seventh_words(text)
 }
