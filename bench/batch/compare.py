@@ -4,8 +4,9 @@
   compare.py LISTSET [COUNT [STEPS [RUNS]]]
 
 LISTSET is the built program. 5,000 seeds of 200 steps and 10 runs where they aren't given. Each row is the least wall time of
-RUNS runs, in turns. The plain loop is the machine of the crates' own text (crates/bench_machine/plain/convert.py) in one thread: on
-one machine that is set back for each seed, and on one that is loaded for each. In both two threads add one to a local for ever.
+RUNS runs, in turns, and its ratio to that of the plain loop that sets its machine back. The plain loop is the machine of the crates'
+own text (crates/bench_machine/plain/convert.py) in one thread: on one machine that is set back for each seed, and on one that is
+loaded for each. In both two threads add one to a local for ever.
 """
 import os
 import pathlib
@@ -51,9 +52,10 @@ def main():
         for _ in range(runs - 1):
             for name, words in rows.items():
                 least[name] = min(least[name], spent(words, TEXT))
-    print(f'| {count} seeds of {steps} steps | Wall time |\n|---|---|')
+    print(f'| {count} seeds of {steps} steps | Wall time | Ratio |\n|---|---|---|')
     for name, wall in least.items():
-        print(f'| {name} | {wall:.1f} ms |')
+        ratio = f"{wall / least['plain Rust, set back']:.2f}" if name.endswith('workers') else ''
+        print(f'| {name} | {wall:.1f} ms | {ratio} |')
 
 
 main()

@@ -4,6 +4,7 @@ pub mod Lists
 pub mod Order
 pub mod Markables
 pub mod Operators
+pub mod Comparisons
 pub mod Completions
 pub mod Threads
 pub mod Limits
