@@ -10,7 +10,7 @@ use Rattle.ls_tree.specs.WellFormed.{term_height, is_minus}
 use Rattle.ls_terms.specs.Answers.{Fails}
 use Rattle.ls_terms.specs.Reading.{Reader, given, repeat}
 use Rattle.ls_terms.specs.ReadingTerms.{operator_at, has_operator, joined_at, binary_at, unary_of, signed_at, unary_at, post_at}
-use Rattle.ls_terms.proofs.Repeats.{InRepeat, repeat_goes_on, fails_first}
+use Rattle.ls_terms.proofs.Repeats.{InRepeat, repeat_ends, repeat_goes_on, fails_first}
 
 pub chain_begins : (wanted limit : ℕ) (operand : Reader Term) (ks : List Lexeme) (left : Term) (rest : List Lexeme) → 0 < wanted → binary_at (wanted - 1) limit operand ks ≡ Some (left, rest)
     → InRepeat (has_operator wanted) (joined_at wanted limit (binary_at (wanted - 1) limit operand)) (limit - term_height left) left rest (binary_at wanted limit operand ks)
@@ -39,6 +39,50 @@ pub chain_goes_on : {goes : List Lexeme → Bool} {step : Term → Reader Term} 
     → InRepeat goes step (limit - term_height left) left ks whole → goes ks ≡ true → step left ks ≡ Some (t, rest) → term_height left < term_height t → term_height t ≤ limit
     → InRepeat goes step (limit - term_height t) t rest whole
 chain_goes_on {goes} {step} {limit} {left} {ks} {whole} {t} {rest} r h e grows fits = repeat_goes_on (limit - term_height t) r h e (omega arith)
+
+-- the chain of a rank, behind what is read of all ranks that bind more tightly
+abbrev pub InChain : ℕ → ℕ → Reader Term → List Lexeme → Term → List Lexeme → Type 0
+InChain rank limit operand ks left rest =
+    InRepeat (has_operator rank) (joined_at rank limit (binary_at (rank - 1) limit operand)) (limit - term_height left) left rest (binary_at rank limit operand ks)
+
+pub chain_starts : (limit : ℕ) (operand : Reader Term) (ks : List Lexeme) (left : Term) (rest : List Lexeme) → operand ks ≡ Some (left, rest) → InChain 1 limit operand ks left rest
+chain_starts limit operand ks left rest e =
+    let first : binary_at (1 - 1) limit operand ks ≡ Some (left, rest) = binary_zero (1 - 1) limit operand ks (omega arith) ∙ e in
+    chain_begins 1 limit operand ks left rest (omega arith) first
+
+pub operand_alone : (wanted limit : ℕ) (operand : Reader Term) (ks : List Lexeme) (left : Term) (rest : List Lexeme) → wanted < 1 → operand ks ≡ Some (left, rest) → binary_at wanted limit operand ks ≡ Some (left, rest)
+operand_alone wanted limit operand ks left rest lt e = binary_zero wanted limit operand ks (omega arith) ∙ e
+
+pub chain_climbs : (rank limit : ℕ) (operand : Reader Term) (ks : List Lexeme) (left : Term) (rest : List Lexeme) → InChain rank limit operand ks left rest → has_operator rank rest ≡ false
+    → InChain (rank + 1) limit operand ks left rest
+chain_climbs rank limit operand ks left rest r h =
+    let read : binary_at rank limit operand ks ≡ Some (left, rest) = repeat_ends r h in
+    let is : rank + 1 - 1 ≡ rank = omega arith in
+    let first : binary_at (rank + 1 - 1) limit operand ks ≡ Some (left, rest) = ap (λ (n : ℕ). binary_at n limit operand ks) is ∙ read in
+    chain_begins (rank + 1) limit operand ks left rest (omega arith) first
+
+pub chain_ends : (rank wanted limit : ℕ) (operand : Reader Term) (ks : List Lexeme) (left : Term) (rest : List Lexeme) → rank ≤ wanted → wanted < rank + 1 → InChain rank limit operand ks left rest → has_operator rank rest ≡ false
+    → binary_at wanted limit operand ks ≡ Some (left, rest)
+chain_ends rank wanted limit operand ks left rest up most r h =
+    let is : rank ≡ wanted = omega arith in
+    subst (λ (n : ℕ). binary_at n limit operand ks ≡ Some (left, rest)) is (repeat_ends r h)
+
+fails_rises : (e : TextFault) (more rank wanted limit : ℕ) (operand : Reader Term) (ks : List Lexeme) → more + rank ≡ wanted → Fails e (binary_at rank limit operand ks) → Fails e (binary_at wanted limit operand ks)
+fails_rises e zero rank wanted limit operand ks is h =
+    let same : rank ≡ wanted = omega arith in
+    subst (λ (n : ℕ). Fails e (binary_at n limit operand ks)) same h
+fails_rises e (suc more) rank wanted limit operand ks is h =
+    let low : more + rank ≡ wanted - 1 = omega arith in
+    fails_begins e wanted limit operand ks (omega arith) (fails_rises e more rank (wanted - 1) limit operand ks low h)
+
+-- what fails at one rank fails at each that is looser
+pub fails_climbs : (e : TextFault) (rank wanted limit : ℕ) (operand : Reader Term) (ks : List Lexeme) → rank ≤ wanted → Fails e (binary_at rank limit operand ks) → Fails e (binary_at wanted limit operand ks)
+fails_climbs e rank wanted limit operand ks up h =
+    let is : wanted - rank + rank ≡ wanted = omega arith in
+    fails_rises e (wanted - rank) rank wanted limit operand ks is h
+
+pub fails_starts : (e : TextFault) (wanted limit : ℕ) (operand : Reader Term) (ks : List Lexeme) → Fails e (operand ks) → Fails e (binary_at wanted limit operand ks)
+fails_starts e wanted limit operand ks h = fails_climbs e 0 wanted limit operand ks (omega arith) (subst (Fails e) (sym (binary_zero 0 limit operand ks refl)) h)
 
 -- ---- one operator more
 

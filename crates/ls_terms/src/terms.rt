@@ -29,8 +29,9 @@ use ls_lexer::word::Word;
 use ls_tree::tree::{BinaryOp, Expr, Name, UnaryOp};
 use std::alloc::AllocError;
 
+// A chain of each rank in turn, from those that bind most tightly: what is read of one rank is the first operand of the next.
 #[cycle(terms)]
-#[tactic(auto, using(crate::proofs::Chains::binary_zero, crate::proofs::Chains::chain_begins, crate::proofs::Chains::fails_begins, crate::proofs::Repeats::repeat_ends, crate::proofs::Chains::chain_goes_on))]
+#[tactic(auto, using(crate::proofs::Chains::chain_starts, crate::proofs::Chains::operand_alone, crate::proofs::Chains::fails_starts, crate::proofs::Chains::chain_goes_on))]
 pub fn binary<'t, 'a>(
     context: Context,
     tokens: &'t [Token<'a>],
@@ -42,12 +43,14 @@ pub fn binary<'t, 'a>(
     ensures places { IfOk result (λ p. At (placed p.tree) (spots tokens.now) (spots p.rest.now)) }
     ensures height { IfOk result (λ p. (p.height ≡ term_height (bare p.tree)) × (p.height ≤ limit)) }
 {
-    if wanted == 0 {
-        return unary(context, tokens, limit, false);
-    }
-    let mut left = binary(context, tokens, wanted - 1, limit)?;
-    while has_operator(left.rest, wanted) {
-        left = joined(context, left, wanted, limit)?;
+    let mut left = unary(context, tokens, limit, false)?;
+    let mut rank = 1;
+    while rank <= wanted {
+        if has_operator(left.rest, rank) {
+            left = joined(context, left, rank, limit)?;
+        } else {
+            rank += 1;
+        }
     }
     Ok(left)
 }

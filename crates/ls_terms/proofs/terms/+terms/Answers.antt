@@ -1,11 +1,13 @@
-use Rattle.std.proofs.Common.{◌≡◌, true, refl}
+use Rattle.std.proofs.Common.{◌≡◌, true, false, refl, arith}
 use Rattle.std.proofs.lemmas.Result.{err_from_is_err_and}
 use Rattle.ls_lexer.specs.Lexemes.{lexemes}
 use Rattle.ls_tree.specs.PlacedTrees.{span_of}
 use Rattle.ls_tree.specs.Placed.{placed}
+use Rattle.ls_tree.specs.Views.{bare}
 use Rattle.ls_spelling.specs.Places.{spots}
 use Rattle.ls_terms.specs.Reading.{group_at, is_markable}
-use Rattle.ls_terms.specs.ReadingTerms.{term_at}
+use Rattle.ls_terms.specs.ReadingTerms.{has_operator, unary_at, term_at}
+use Rattle.ls_terms.proofs.Chains.{chain_climbs, chain_ends, fails_climbs}
 use Rattle.ls_terms.proofs.Repeats.{repeat_ends, repeat_fails, group_ends, group_fails, group_goes_on, fails_first}
 use Rattle.ls_terms.proofs.Shrinks.{one_more_shrinks, tokens_shrink, comma_shrinks}
 use Rattle.ls_terms.proofs.TermsRead.{term_shrinks}
@@ -15,10 +17,22 @@ use Rattle.ls_terms.proofs.terms.+terms.Goals as goal
 pub binary-returns-in_err-left-2-clause-read : goal.binary-returns-in_err-left-2-clause-read
 binary-returns-in_err-left-2-clause-read t c =
     let p = err_from_is_err_and c.from_residual-in_err-left-2.result c.from_residual-in_err-left-2.ensures.1 in
-    rw (p.1, p.2) (repeat_fails c.in_err-left-2.field-0.0 c.loop-context.invariant.chain (cc (c.loop-context-test.true, c.has_operator.ensures)) c.in_err-left-2.ensures.read)
+    rw (p.1, p.2) (fails_climbs c.in_err-left-2.field-0.0 c.loop-rank.rank c.args.wanted c.args.limit (unary_at c.args.limit false) (lexemes c.args.tokens.now) c.loop-rank-test.true
+    (repeat_fails c.in_err-left-2.field-0.0 (c.loop-rank.invariant.chain c.loop-rank-test.true) (cc (c.if-has_operator.true, c.has_operator.ensures)) c.in_err-left-2.ensures.read))
 
-pub binary-returns-clause-read : goal.binary-returns-clause-read
-binary-returns-clause-read t c = repeat_ends c.loop-context.invariant.chain (cc (c.loop-context-test.false, c.has_operator.ensures))
+pub binary-loop-rank-preserved : goal.binary-loop-rank-preserved
+binary-loop-rank-preserved t c =
+    let none : has_operator c.loop-rank.rank (lexemes c.loop-rank.left.rest.now) ≡ false = cc (c.if-has_operator.false, c.has_operator.ensures) in
+    let chain = c.loop-rank.invariant.chain c.loop-rank-test.true in
+    record {
+      from = omega arith;
+      most = omega (arith, c.loop-rank-test.true);
+      chain = λ up. chain_climbs c.loop-rank.rank c.args.limit (unary_at c.args.limit false) (lexemes c.args.tokens.now) (bare c.loop-rank.left.tree) (lexemes c.loop-rank.left.rest.now) chain none;
+      done = λ last. chain_ends c.loop-rank.rank c.args.wanted c.args.limit (unary_at c.args.limit false) (lexemes c.args.tokens.now) (bare c.loop-rank.left.tree) (lexemes c.loop-rank.left.rest.now) c.loop-rank-test.true last chain none;
+      places = c.loop-rank.invariant.places;
+      height = c.loop-rank.invariant.height;
+      low = c.loop-rank.invariant.low;
+    }
 
 pub post-returns-in_err-left-2-clause-read : goal.post-returns-in_err-left-2-clause-read
 post-returns-in_err-left-2-clause-read t c =

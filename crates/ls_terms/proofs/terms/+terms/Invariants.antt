@@ -1,12 +1,13 @@
-use Rattle.std.proofs.Common.{◌≡◌, ◌+◌, ◌-◌, ◌*◌, ◌≤◌, false, length, map}
+use Rattle.std.proofs.Common.{◌≡◌, ◌+◌, ◌-◌, ◌*◌, ◌<◌, ◌≤◌, false, Some, length, map}
 use Rattle.ls_lexer.specs.Lexemes.{lexemes}
 use Rattle.ls_tree.specs.WellFormed.{term_height, terms_height}
 use Rattle.ls_tree.specs.Views.{bare, terms_of}
 use Rattle.ls_tree.specs.Placed.{placed, placed_all}
 use Rattle.ls_spelling.specs.Places.{At, SomeAt, spots}
 use Rattle.ls_terms.specs.Reading.{group_at}
-use Rattle.ls_terms.specs.ReadingTerms.{has_operator, joined_at, binary_at, unary_at, term_at, post_at, has_suffix, suffix_at}
+use Rattle.ls_terms.specs.ReadingTerms.{binary_at, unary_at, term_at, post_at, has_suffix, suffix_at}
 use Rattle.ls_terms.proofs.Repeats.{InRepeat, InGroup}
+use Rattle.ls_terms.proofs.Chains.{InChain}
 use Rattle.ls_terms.proofs.terms.+terms.Given as goal
 
 abbrev pub decreases-binary : goal.decreases-binary
@@ -60,16 +61,19 @@ decreases-index l = l.limit * 40 + 27
 abbrev pub decreases-one_argument : goal.decreases-one_argument
 decreases-one_argument l = l.limit * 40 + 26
 
-abbrev pub invariant-binary-loop-context : goal.invariant-binary-loop-context
-invariant-binary-loop-context l = record {
-  chain : InRepeat (has_operator l.wanted) (joined_at l.wanted l.limit (binary_at (l.wanted - 1) l.limit (unary_at l.limit false))) (l.limit - term_height (bare l.left.tree)) (bare l.left.tree) (lexemes l.left.rest.now) (binary_at l.wanted l.limit (unary_at l.limit false) (lexemes l.fn.tokens));
+abbrev pub invariant-binary-loop-rank : goal.invariant-binary-loop-rank
+invariant-binary-loop-rank l = record {
+  from : 0 < l.rank;
+  most : l.rank ≤ l.wanted + 1;
+  chain : l.rank ≤ l.wanted → InChain l.rank l.limit (unary_at l.limit false) (lexemes l.fn.tokens) (bare l.left.tree) (lexemes l.left.rest.now);
+  done : l.wanted < l.rank → binary_at l.wanted l.limit (unary_at l.limit false) (lexemes l.fn.tokens) ≡ Some (bare l.left.tree, lexemes l.left.rest.now);
   places : At (placed l.left.tree) (spots l.fn.tokens) (spots l.left.rest.now);
   height : l.left.height ≡ term_height (bare l.left.tree);
   low : l.left.height ≤ l.limit;
 }
 
-abbrev pub decreases-binary-loop-context : goal.decreases-binary-loop-context
-decreases-binary-loop-context l = l.limit - l.left.height
+abbrev pub decreases-binary-loop-rank : goal.decreases-binary-loop-rank
+decreases-binary-loop-rank l = l.limit - l.left.height + (l.wanted + 1 - l.rank)
 
 abbrev pub invariant-post-loop-context : goal.invariant-post-loop-context
 invariant-post-loop-context l = record {
