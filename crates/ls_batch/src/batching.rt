@@ -2,7 +2,7 @@
 
 ghost use Rattle.std.specs.Prelude.{◌≡◌, ◌↔◌, ℕ, ◌+◌, ◌≤◌, ◌^◌, map, IfOk, IsErrOf, IsTrue};
 ghost use Rattle.std.specs.List.{range_with_len};
-ghost use Rattle.ls_compiler.specs.Images.{RunsAsItsTexts, code_of_image};
+ghost use Rattle.ls_image.specs.Images.{RunsAsItsTexts, code_of_image};
 ghost use Rattle.ls_machine.specs.Room.{AreBadCells};
 ghost use Rattle.ls_batch.specs.Samples.{IsBadCount, histories_of};
 ghost use Rattle.ls_batch.specs.Tallies.{IsTally};
@@ -11,8 +11,8 @@ use crate::fault::BatchFault;
 use crate::gathering::histories;
 use crate::tallying::{Tally, tally_of};
 use ls_code::code::Code;
-use ls_compiler::image::Image;
-use ls_compiler::laws::runs;
+use ls_image::image::Image;
+use ls_image::laws::runs;
 use ls_machine::MOST_CELLS;
 use std::alloc::{AllocError, Global};
 use std::thread::Threads;

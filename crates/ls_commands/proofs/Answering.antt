@@ -2,9 +2,10 @@
 use Rattle.std.proofs.Common.{◌≡◌, ◌↔◌, ℕ, List, Result, Ok, Err, subst}
 use Rattle.std.specs.Prelude.{IsErrOf, String, string_bytes}
 use Rattle.std.specs.Global.{Global}
-use Rattle.ls_compiler.specs.Images.{Compiles, CompilesTo}
+use Rattle.ls_image.specs.Images.{Compiles}
+use Rattle.ls_compiler.specs.Answers.{CompilesTo}
 use Rattle.ls_compiler.specs.declared.fault.CompileFault.{CompileFault}
-use Rattle.ls_compiler.specs.declared.image.Image.{Image}
+use Rattle.ls_image.specs.declared.image.Image.{Image}
 use Rattle.ls_schedule.specs.Answers.{Fails}
 use Rattle.ls_schedule.specs.declared.fault.ScheduleFault.{ScheduleFault}
 use Rattle.ls_schedule.specs.declared.fault.ScheduleFault.TheVariants as schedule

@@ -7,8 +7,8 @@ use Rattle.ls_code.specs.Machine.{machine_history}
 use Rattle.ls_machine.specs.Room.{AreBadCells}
 use Rattle.ls_machine.specs.declared.fault.LoadFault.{LoadFault}
 use Rattle.ls_machine.specs.declared.fault.LoadFault.TheVariants as load
-use Rattle.ls_compiler.specs.Images.{code_of_image, program_of_image}
-use Rattle.ls_compiler.specs.declared.image.Image.{Image}
+use Rattle.ls_image.specs.Images.{code_of_image, program_of_image}
+use Rattle.ls_image.specs.declared.image.Image.{Image}
 use Rattle.ls_schedule.specs.Answers.{Fails}
 use Rattle.ls_schedule.specs.Reading.{schedule_of, thread_names}
 use Rattle.ls_schedule.specs.Records.{happened, IsRecordOf}

@@ -4,8 +4,8 @@ use Rattle.std.specs.Prelude.{IsErrOf}
 use Rattle.ls_code.specs.Machine.{machine_history}
 use Rattle.ls_machine.specs.Room.{AreBadCells}
 use Rattle.ls_machine.specs.declared.fault.LoadFault.TheVariants as load
-use Rattle.ls_compiler.specs.Images.{code_of_image}
-use Rattle.ls_compiler.specs.declared.image.Image.{Image}
+use Rattle.ls_image.specs.Images.{code_of_image}
+use Rattle.ls_image.specs.declared.image.Image.{Image}
 use Rattle.ls_schedule.specs.Printing.{schedule_text}
 use Rattle.ls_schedule.specs.Records.{happened, IsRecordOf, scheduled}
 use Rattle.ls_schedule.specs.declared.fault.ScheduleFault.{ScheduleFault}

@@ -7,9 +7,10 @@ use Rattle.ls_checked.specs.PlainProgram.{plain_program}
 use Rattle.ls_types.specs.CheckedFile.{outcome_of}
 use Rattle.ls_code.specs.Machine.{machine_history}
 use Rattle.ls_machine.specs.Room.{AreBadCells}
-use Rattle.ls_compiler.specs.Images.{checked_of, code_of_image, Compiles, CompilesTo, program_of_image}
+use Rattle.ls_image.specs.Images.{checked_of, code_of_image, Compiles, program_of_image}
+use Rattle.ls_compiler.specs.Answers.{CompilesTo}
 use Rattle.ls_compiler.specs.declared.fault.CompileFault.{CompileFault}
-use Rattle.ls_compiler.specs.declared.image.Image.{Image}
+use Rattle.ls_image.specs.declared.image.Image.{Image}
 use Rattle.ls_schedule.specs.Reading.{schedule_of, thread_names}
 use Rattle.ls_schedule.specs.declared.fault.ScheduleFault.{ScheduleFault}
 use Rattle.ls_report.specs.Events.{Text}

@@ -3,8 +3,8 @@ use Rattle.std.specs.Prelude.{◌≡◌, ℕ, ◌<◌, ◌≤◌, ◌⊎◌, Lis
 use Rattle.ls_code.specs.Code.{Code}
 use Rattle.ls_code.specs.Machine.{loaded, machine_history, machine_run}
 use Rattle.ls_machine.specs.Room.{AreBadCells}
-use Rattle.ls_compiler.specs.Images.{code_of_image}
-use Rattle.ls_compiler.specs.declared.image.Image.{Image}
+use Rattle.ls_image.specs.Images.{code_of_image}
+use Rattle.ls_image.specs.declared.image.Image.{Image}
 use Rattle.ls_schedule.specs.Printing.{schedule_text}
 use Rattle.ls_schedule.specs.Reading.{schedule_of}
 use Rattle.ls_schedule.specs.declared.fault.ScheduleFault.{ScheduleFault}

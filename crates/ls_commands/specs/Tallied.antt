@@ -1,8 +1,8 @@
 -- What the command `batch` says.
 use Rattle.std.specs.Prelude.{ℕ, List, Result, Ok, Err}
 use Rattle.ls_machine.specs.Room.{AreBadCells}
-use Rattle.ls_compiler.specs.Images.{code_of_image}
-use Rattle.ls_compiler.specs.declared.image.Image.{Image}
+use Rattle.ls_image.specs.Images.{code_of_image}
+use Rattle.ls_image.specs.declared.image.Image.{Image}
 use Rattle.ls_batch.specs.Printing.{tally_text}
 use Rattle.ls_batch.specs.Samples.{histories_of, IsBadCount}
 use Rattle.ls_batch.specs.Tallies.{IsTally, Row}

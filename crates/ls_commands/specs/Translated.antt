@@ -3,8 +3,8 @@ use Rattle.std.specs.Prelude.{ℕ, ◌<◌, ◌≤◌, List, length, Result, Ok,
 use Rattle.ls_machine.specs.Room.{AreBadCells}
 use Rattle.ls_headline.specs.Same.{Fits}
 use Rattle.ls_headline.specs.Translations.{to_machine, to_source}
-use Rattle.ls_compiler.specs.Images.{code_of_image}
-use Rattle.ls_compiler.specs.declared.image.Image.{Image}
+use Rattle.ls_image.specs.Images.{code_of_image}
+use Rattle.ls_image.specs.declared.image.Image.{Image}
 use Rattle.ls_schedule.specs.Printing.{schedule_text}
 use Rattle.ls_schedule.specs.Reading.{schedule_of}
 use Rattle.ls_schedule.specs.declared.fault.ScheduleFault.{ScheduleFault}

@@ -2,14 +2,14 @@
 
 ghost use Rattle.std.specs.Prelude.{IfOk, ◌≡◌, string_bytes};
 ghost use Rattle.ls_checked.specs.PlainProgram.{plain_program};
-ghost use Rattle.ls_compiler.specs.Images.{program_of_image};
+ghost use Rattle.ls_image.specs.Images.{program_of_image};
 ghost use Rattle.ls_schedule.specs.Reading.{schedule_of};
 ghost use Rattle.ls_commands.specs.Compiled.{counts_text, CountsTo, file_of_image, names_of_image, Replayed, ReplaysTo};
 ghost use Rattle.ls_faults.specs.Given.{Gives};
 
 use ls_compiler::compile::compile;
-use ls_compiler::image::Image;
 use ls_faults::fault::ToolFault;
+use ls_image::image::Image;
 use ls_report::print_history;
 use ls_schedule::read_schedule;
 use ls_text_laws::compiled_is_readable;

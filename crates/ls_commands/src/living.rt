@@ -12,8 +12,8 @@ ghost use Rattle.ls_schedule.specs.Records.{happened, scheduled};
 
 use ls_checked::program::Program;
 use ls_compiler::compile::compile;
-use ls_compiler::image::Image;
 use ls_faults::fault::ToolFault;
+use ls_image::image::Image;
 use ls_live::{Gate, play_live};
 use ls_report::print_history;
 use ls_schedule::{Record, print_schedule, read_schedule};

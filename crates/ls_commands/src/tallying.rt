@@ -5,8 +5,8 @@ ghost use Rattle.ls_faults.specs.Given.{Gives};
 
 use ls_batch::print_tally;
 use ls_compiler::compile::compile;
-use ls_compiler::image::Image;
 use ls_faults::fault::ToolFault;
+use ls_image::image::Image;
 use std::alloc::{AllocError, Global};
 use std::thread::Threads;
 

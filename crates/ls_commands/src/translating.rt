@@ -7,9 +7,9 @@ ghost use Rattle.ls_schedule.specs.Reading.{schedule_of};
 
 use ls_command_line::Side;
 use ls_compiler::compile::compile;
-use ls_compiler::image::Image;
 use ls_events::schedule::Schedule;
 use ls_faults::fault::ToolFault;
+use ls_image::image::Image;
 use ls_schedule::{print_schedule, read_schedule};
 use ls_translation::{to_machine, to_source};
 use std::alloc::Global;

@@ -13,9 +13,10 @@ use Rattle.ls_types.specs.CheckedFile.{outcome_of}
 use Rattle.ls_programs.specs.Programs.{IsTextOf}
 use Rattle.ls_types.specs.declared.check.Checked.{Checked}
 use Rattle.ls_linker.specs.Limits.{KeepsLimits}
-use Rattle.ls_linker.specs.Runs.{Runs}
-use Rattle.ls_compiler.specs.Images.{Compiles, IsWithinLimits, checked_of, program_of_image, code_of_image}
-use Rattle.ls_compiler.specs.declared.image.Image.{Image}
+use Rattle.ls_linking.specs.Runs.{Runs}
+use Rattle.ls_image.specs.Images.{Compiles, checked_of, program_of_image, code_of_image}
+use Rattle.ls_compiler.specs.Answers.{IsWithinLimits}
+use Rattle.ls_image.specs.declared.image.Image.{Image}
 
 pub err_of : {T : Type 0} (f : TextFault) → IsErrOf {T = T} (Err f) text.TooLong → f ≡ text.TooLong
 err_of f e = cc

@@ -1,10 +1,11 @@
 // The whole way from two texts to an image.
 
 ghost use Rattle.std.specs.Prelude.{IfOk};
-ghost use Rattle.ls_compiler.specs.Images.{Compiles, CompilesTo, IsWithinLimits};
+ghost use Rattle.ls_image.specs.Images.{Compiles};
+ghost use Rattle.ls_compiler.specs.Answers.{CompilesTo, IsWithinLimits};
 
 use crate::fault::CompileFault;
-use crate::image::Image;
+use ls_image::image::Image;
 use ls_linker::build::build;
 use ls_parser::parse::parse_text;
 use ls_program_laws::reads_typed;

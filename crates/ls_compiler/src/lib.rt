@@ -3,5 +3,3 @@
 
 pub mod compile;
 pub mod fault;
-pub mod image;
-pub mod laws;

@@ -12,7 +12,7 @@ use Rattle.ls_emission.specs.Emittable.{IsEmittableFile}
 use Rattle.ls_emit.specs.Short.{AllShort}
 use Rattle.ls_linking.specs.Linked.{linked}
 use Rattle.ls_ranges.specs.Links.{Links}
-use Rattle.ls_linker.specs.Compiled.{flat_of, code_of}
+use Rattle.ls_linking.specs.Compiled.{flat_of, code_of}
 use Rattle.std.specs.Prelude.{List}
 
 pub placed_here : (file : File) (refs : low.File) → refs ≡ lowered_file file → AllPlaced (lowered_file file) (lowered_file file) → AllPlaced refs refs

@@ -14,7 +14,7 @@ use Rattle.ls_finally.specs.Placed.{AllPlaced, Takes, TakesIn}
 use Rattle.ls_finally.specs.Laws.{KeepsCourses}
 use Rattle.ls_soundness.specs.InCall.{SuitedInCall}
 use Rattle.ls_linking.specs.Laws.{LoweredAsks}
-use Rattle.ls_linker.specs.Compiled.{flat_of}
+use Rattle.ls_linking.specs.Compiled.{flat_of}
 
 got : {A B : Type 0} (f : A → B) (xs : List A) (n : ℕ) (x : A) → slice_get xs n ≡ Some x → slice_get (map f xs) n ≡ Some (f x)
 got f [] n x e = absurd (none e)

@@ -18,8 +18,8 @@ use Rattle.ls_sizes.specs.Floor.{KeepsFloor}
 use Rattle.ls_linker.specs.declared.fault.LinkFault.{LinkFault}
 use Rattle.ls_linker.specs.declared.fault.LinkFault.TheVariants as link
 use Rattle.ls_linker.specs.declared.fault.BuildFault.TheVariants.{Lower, Emit, Link}
-use Rattle.ls_linker.specs.Compiled.{flat_of, code_of}
-use Rattle.ls_linker.specs.Limits.{GoesPast, count}
+use Rattle.ls_linking.specs.Compiled.{flat_of, code_of, count}
+use Rattle.ls_linker.specs.Limits.{GoesPast}
 
 -- code that is too long has a count over 4,096
 long_unit : (file : File) (program : Program) → KeepsFloor → ¬ AllShort (flat_of file) → 4096 < count file program

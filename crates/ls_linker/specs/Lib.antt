@@ -1,4 +1,2 @@
 pub mod Added
-pub mod Compiled
 pub mod Limits
-pub mod Runs

@@ -1,5 +1,5 @@
 -- When no code is built of a checked file and a program, and what holds where one is.
-use Rattle.std.specs.Prelude.{ℕ, ◌+◌, ◌<◌, ◌≤◌, length}
+use Rattle.std.specs.Prelude.{◌<◌, ◌≤◌, length}
 use Rattle.ls_checked.specs.CheckedTree.{File}
 use Rattle.ls_checked.specs.CheckedProgram.{Program}
 use Rattle.ls_lowered.specs.declared.fault.LowerFault.TheVariants as lower
@@ -11,8 +11,7 @@ use Rattle.ls_emit.specs.declared.fault.EmitFault.TheVariants as emit
 use Rattle.ls_linker.specs.declared.fault.LinkFault.TheVariants as link
 use Rattle.ls_linker.specs.declared.fault.BuildFault.{BuildFault}
 use Rattle.ls_linker.specs.declared.fault.BuildFault.TheVariants.{Lower, Emit, Link}
-use Rattle.ls_sizes.specs.Counts.{file_count, program_count}
-use Rattle.ls_linker.specs.Compiled.{flat_of, code_of}
+use Rattle.ls_linking.specs.Compiled.{flat_of, code_of, count}
 
 -- each limit of the code is kept: no method has over 128 locals, over 4,096 copies of finally blocks or over 65,536
 -- instructions, and the whole code has no more than 65,536
@@ -21,10 +20,6 @@ pub record KeepsLimits (file : File) (program : Program) : Type 0 where
   pub copies : FewCopies (lowered_file file)
   pub short : AllShort (flat_of file)
   pub whole : length (code_of file program).instructions ≤ 65536
-
--- the nodes and declared names of all methods without `try`, and the threads, calls and arguments of the program
-abbrev pub count : File → Program → ℕ
-count file program = file_count (flat_of file) + program_count program
 
 -- A fault names the first limit that isn't kept: locals, then copies, then the instructions of a method, then those of the whole code. No code is too
 -- long where the count is at most 4,096. Want of memory says nothing.

@@ -9,9 +9,9 @@ ghost use Rattle.ls_refs.specs.Refused.{AllSlotted};
 ghost use Rattle.ls_ranges.specs.Ranged.{IsRanged, IsRangedProgram};
 ghost use Rattle.ls_soundness.specs.Files.{HasItsClasses};
 ghost use Rattle.ls_soundness.specs.Programs.{IsTypedProgram};
-ghost use Rattle.ls_linker.specs.Compiled.{code_of};
+ghost use Rattle.ls_linking.specs.Compiled.{code_of};
 ghost use Rattle.ls_linker.specs.Limits.{KeepsLimits, GoesPast};
-ghost use Rattle.ls_linker.specs.Runs.{Runs};
+ghost use Rattle.ls_linking.specs.Runs.{Runs};
 
 use crate::fault::BuildFault;
 use crate::laws::compiled_runs;

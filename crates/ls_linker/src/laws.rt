@@ -10,8 +10,8 @@ ghost use Rattle.ls_soundness.specs.Files.{HasItsClasses};
 ghost use Rattle.ls_soundness.specs.Programs.{IsTypedProgram};
 ghost use Rattle.ls_finally.specs.Placed.{AllPlaced};
 ghost use Rattle.ls_emission.specs.Emittable.{IsEmittableFile};
-ghost use Rattle.ls_linker.specs.Compiled.{flat_of, code_of};
-ghost use Rattle.ls_linker.specs.Runs.{Runs};
+ghost use Rattle.ls_linking.specs.Compiled.{flat_of, code_of};
+ghost use Rattle.ls_linking.specs.Runs.{Runs};
 
 use ls_emission::laws::units_ask;
 use ls_ends::laws::{acts_in_time, ends_in_time};

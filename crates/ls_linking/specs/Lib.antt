@@ -2,3 +2,8 @@ pub mod Threads
 pub mod Linked
 pub mod Laws
 pub mod Example
+pub mod Compiled
+pub mod Counts
+pub mod Quick
+pub mod Own
+pub mod Runs

@@ -1,6 +1,6 @@
 // A machine under a lock, and the seats that step it.
 
-ghost use Rattle.ls_compiler.specs.Images.{code_of_image};
+ghost use Rattle.ls_image.specs.Images.{code_of_image};
 ghost use Rattle.ls_code.specs.Machine.{loaded};
 ghost use Rattle.ls_live.specs.Answers.{done_by};
 ghost use Rattle.ls_live.specs.Seats.{Seat as SeatValue, agrees, seat_after, seat_of};
@@ -11,8 +11,8 @@ ghost use Rattle.std.specs.Prelude.{◌≡◌, ◌↔◌, ℕ, ◌+◌, ◌≤�
 
 use crate::fault::LiveFault;
 use crate::laws::{Book, More, Session, Told};
-use ls_compiler::image::Image;
 use ls_events::schedule::MOST_STEPS;
+use ls_image::image::Image;
 use ls_machine::{LoadFault, Machine};
 use ls_schedule::Record;
 use std::alloc::Global;

@@ -1,7 +1,7 @@
 // A whole live run.
 
 ghost use Rattle.ls_code.specs.Machine.{loaded};
-ghost use Rattle.ls_compiler.specs.Images.{code_of_image};
+ghost use Rattle.ls_image.specs.Images.{code_of_image};
 ghost use Rattle.ls_live.specs.Records.{AreThere, IsDone};
 ghost use Rattle.ls_live.specs.declared.fault.LiveFault.TheVariants.{BadCells, BadLimit};
 ghost use Rattle.ls_machine.specs.Room.{AreBadCells};
@@ -12,7 +12,7 @@ use crate::fault::PlayFault;
 use crate::laws::Session;
 use crate::live::{CloseFault, Live};
 use crate::running::{Gate, run_live};
-use ls_compiler::image::Image;
+use ls_image::image::Image;
 use ls_schedule::Record;
 use std::alloc::Global;
 use std::marker::Brand;

@@ -1,14 +1,14 @@
 // What each seat was answered, beside a machine that is stepped by the record.
 
 ghost use Rattle.ls_code.specs.Machine.{loaded};
-ghost use Rattle.ls_compiler.specs.Images.{code_of_image};
+ghost use Rattle.ls_image.specs.Images.{code_of_image};
 ghost use Rattle.std.specs.Prelude.{◌≡◌, length};
 
 use crate::keys::key;
 use crate::texts::{COUNTER, TWO_COUNT};
 use ls_code::step::Did;
 use ls_compiler::compile::compile;
-use ls_compiler::image::Image;
+use ls_image::image::Image;
 use ls_live::{Live, More, Seat, Session};
 use ls_machine::Machine;
 use ls_schedule::Record;

@@ -1,15 +1,15 @@
 // Two threads that really run at one time.
 
 ghost use Rattle.ls_code.specs.Machine.{loaded};
-ghost use Rattle.ls_compiler.specs.Images.{code_of_image};
+ghost use Rattle.ls_image.specs.Images.{code_of_image};
 ghost use Rattle.std.specs.Prelude.{◌≡◌, length};
 
 use crate::gates::Meeting;
 use crate::texts::{LAZY_LIST, TWO_ADD};
 use ls_compiler::compile::compile;
-use ls_compiler::image::Image;
 use ls_events::event::{Event, Happening};
 use ls_events::value::Value;
+use ls_image::image::Image;
 use ls_live::{Gate, Live, Session, run_live};
 use ls_schedule::{Record, replay};
 use std::alloc::Global;

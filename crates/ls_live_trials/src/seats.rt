@@ -1,12 +1,12 @@
 // Seats: what each is told, and a run that is closed without one of them.
 
 ghost use Rattle.ls_code.specs.Machine.{loaded};
-ghost use Rattle.ls_compiler.specs.Images.{code_of_image};
+ghost use Rattle.ls_image.specs.Images.{code_of_image};
 ghost use Rattle.std.specs.Prelude.{◌≡◌, length};
 
 use crate::texts::{COUNTER, TWO_COUNT};
 use ls_compiler::compile::compile;
-use ls_compiler::image::Image;
+use ls_image::image::Image;
 use ls_live::{CloseFault, Live, More, Seat, Session, Told};
 use std::alloc::Global;
 use std::marker::Brand;

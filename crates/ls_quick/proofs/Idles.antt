@@ -4,8 +4,8 @@ use Rattle.ls_checked.specs.CheckedProgram.{ThreadProgram, Making}
 use Rattle.ls_code.specs.Thread.{Thread}
 use Rattle.ls_code.specs.Machine.{started}
 use Rattle.ls_headline.specs.Example.{file, program}
-use Rattle.ls_quick.specs.Quick.{InFrame}
-use Rattle.ls_quick.specs.Own.{ThreadsAreQuick}
+use Rattle.ls_linking.specs.Quick.{InFrame}
+use Rattle.ls_linking.specs.Own.{ThreadsAreQuick}
 use Rattle.ls_quick.specs.Idling.{start, idles}
 
 abbrev setup : ThreadProgram

@@ -26,8 +26,8 @@ use Rattle.ls_linking.proofs.Places.{HasAt}
 use Rattle.ls_linking.proofs.Units.{all_within, units_end, units_long}
 use Rattle.ls_linking.proofs.Threads.{ThreadLies, Thread as LyingThread, threads_lie}
 use Rattle.ls_linking.proofs.Linked.{last_traps}
-use Rattle.ls_quick.specs.Quick.{InFrame}
-use Rattle.ls_quick.specs.Own.{values_of, most_values, ThreadsAreQuick}
+use Rattle.ls_linking.specs.Quick.{InFrame}
+use Rattle.ls_linking.specs.Own.{values_of, most_values, ThreadsAreQuick}
 use Rattle.ls_quick.proofs.OwnSteps.{IsOwn, LeadsTo, trap_acts, own_step}
 
 -- how many silent steps code may begin with

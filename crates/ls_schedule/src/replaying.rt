@@ -1,15 +1,15 @@
 // Replaying a schedule on the machine.
 
 ghost use Rattle.std.specs.Prelude.{◌≡◌, ◌↔◌, IfOk, IsErrOf};
-ghost use Rattle.ls_compiler.specs.Images.{RunsAsItsTexts, code_of_image};
+ghost use Rattle.ls_image.specs.Images.{RunsAsItsTexts, code_of_image};
 ghost use Rattle.ls_code.specs.Machine.{Machine as MachineValue, machine_run};
 ghost use Rattle.ls_machine.specs.Room.{AreBadCells};
 ghost use Rattle.ls_schedule.specs.Records.{IsRecordOf};
 
-use ls_compiler::image::Image;
-use ls_compiler::laws::runs;
 use ls_events::event::Event;
 use ls_events::schedule::Schedule;
+use ls_image::image::Image;
+use ls_image::laws::runs;
 use ls_machine::{LoadFault, Machine};
 use std::alloc::{AllocError, Global};
 

@@ -14,7 +14,7 @@ use Rattle.ls_soundness.specs.Programs.{IsTypedProgram}
 use Rattle.ls_soundness.proofs.Threads.{is_sound}
 use Rattle.ls_typing_laws.proofs.Whole.{typed_when}
 use Rattle.ls_program_laws.proofs.Steps.{program_reads}
-use Rattle.ls_compiler.specs.Images.{code_of_image, program_of_image}
+use Rattle.ls_image.specs.Images.{code_of_image, program_of_image}
 use Rattle.ls_text_laws.specs.Histories.{IsReadable, CompiledIsReadable, SourceIsReadable}
 use Rattle.ls_text_laws.proofs.Names.{program_names}
 use Rattle.ls_text_laws.proofs.Runs.{readable}

@@ -9,8 +9,8 @@ use Rattle.ls_headline.specs.Same.{IsCells}
 use Rattle.ls_elaboration.specs.Trees.{File, Text}
 use Rattle.ls_elaboration.specs.Elaboration.{Outcome, elaborated}
 use Rattle.ls_programs.specs.Programs.{IsTextOf}
-use Rattle.ls_compiler.specs.declared.image.Image.{Image}
-use Rattle.ls_compiler.specs.Images.{Compiles, code_of_image, program_of_image}
+use Rattle.ls_image.specs.declared.image.Image.{Image}
+use Rattle.ls_image.specs.Images.{Compiles, code_of_image, program_of_image}
 use Rattle.ls_report.specs.Events.{Event}
 use Rattle.ls_report.specs.Printing.{named, run_text}
 use Rattle.ls_report.specs.Reading.{Says}

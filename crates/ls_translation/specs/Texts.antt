@@ -3,8 +3,8 @@ use Rattle.ls_checked.specs.CheckedTree.{File}
 use Rattle.ls_checked.specs.CheckedProgram.{Program}
 use Rattle.ls_checked.specs.PlainProgram.{plain_program}
 use Rattle.ls_types.specs.CheckedFile.{outcome_of}
-use Rattle.ls_compiler.specs.Images.{checked_of, program_of_image}
-use Rattle.ls_compiler.specs.declared.image.Image.{Image}
+use Rattle.ls_image.specs.Images.{checked_of, program_of_image}
+use Rattle.ls_image.specs.declared.image.Image.{Image}
 
 abbrev pub file_of : Image → File
 file_of image = (outcome_of (checked_of image)).file

@@ -4,7 +4,7 @@ ghost use Rattle.std.specs.Prelude.{◌≡◌, ℕ, ◌<◌, ◌↔◌, ◌++◌
 ghost use Rattle.ls_checked.specs.Plain.{plain_file};
 ghost use Rattle.ls_checked.specs.PlainProgram.{plain_program};
 ghost use Rattle.ls_code.specs.Machine.{machine_history};
-ghost use Rattle.ls_compiler.specs.Images.{code_of_image};
+ghost use Rattle.ls_image.specs.Images.{code_of_image};
 ghost use Rattle.ls_headline.specs.Same.{Alike, Fits};
 ghost use Rattle.ls_headline.specs.Translations.{most_silent, steps_all, to_machine};
 ghost use Rattle.ls_machine.specs.Room.{AreBadCells};
@@ -22,8 +22,8 @@ use crate::machine_run::MachineRun;
 use crate::room::first_unfit;
 use ls_checked::program::Program;
 use ls_checked::tree::File;
-use ls_compiler::image::Image;
 use ls_events::schedule::Schedule;
+use ls_image::image::Image;
 use ls_machine::Machine;
 use ls_meaning::step::Did;
 use ls_source::run::SourceRun;

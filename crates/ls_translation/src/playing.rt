@@ -4,9 +4,9 @@ ghost use Rattle.std.specs.Prelude.{◌≡◌, IfOk};
 ghost use Rattle.ls_meaning.specs.Runs.{source_history};
 ghost use Rattle.ls_translation.specs.Texts.{file_of, program_of};
 
-use ls_compiler::image::Image;
 use ls_events::event::Event;
 use ls_events::schedule::Schedule;
+use ls_image::image::Image;
 use ls_source::run::play;
 use std::alloc::{AllocError, Global};
 

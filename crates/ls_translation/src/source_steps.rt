@@ -3,7 +3,7 @@
 ghost use Rattle.std.specs.Prelude.{◌≡◌, ◌<◌, ◌≤◌, ◌++◌, ◌↔◌, IfErr, IfOk, IsErrOf, OnOk, length};
 ghost use Rattle.std.specs.Prelude.{◌⊎◌};
 ghost use Rattle.ls_code.specs.Machine.{machine_history, machine_step};
-ghost use Rattle.ls_compiler.specs.Images.{code_of_image};
+ghost use Rattle.ls_image.specs.Images.{code_of_image};
 ghost use Rattle.ls_headline.specs.Same.{Alike};
 ghost use Rattle.ls_headline.specs.Translations.{to_source};
 ghost use Rattle.ls_machine.specs.Room.{AreBadCells};
@@ -14,8 +14,8 @@ ghost use Rattle.ls_translation.specs.declared.fault.TranslationFault.TheVariant
 
 use crate::fault::TranslationFault;
 use ls_code::step::Did;
-use ls_compiler::image::Image;
 use ls_events::schedule::{MOST_STEPS, Schedule};
+use ls_image::image::Image;
 use ls_machine::Machine;
 use std::alloc::{AllocError, Global};
 

@@ -1,6 +1,6 @@
 // A whole run of live threads along a tape.
 
-ghost use Rattle.ls_compiler.specs.Images.{RunsAsItsTexts, code_of_image};
+ghost use Rattle.ls_image.specs.Images.{RunsAsItsTexts, code_of_image};
 ghost use Rattle.ls_machine.specs.Room.{AreBadCells};
 ghost use Rattle.ls_schedule.specs.Records.{IsRecordOf};
 ghost use Rattle.std.specs.Prelude.{◌≡◌, ◌↔◌, ◌<◌, ℕ, IfOk, IsErrOf, length};
@@ -8,8 +8,8 @@ ghost use Rattle.std.specs.Prelude.{◌≡◌, ◌↔◌, ◌<◌, ℕ, IfOk, Is
 use crate::fault::{FollowFault, PlayFault};
 use crate::follow::{Gate, follow_tape};
 use crate::turnstile::Turnstile;
-use ls_compiler::image::Image;
 use ls_events::schedule::Schedule;
+use ls_image::image::Image;
 use ls_machine::LoadFault;
 use ls_schedule::Record;
 use std::alloc::Global;

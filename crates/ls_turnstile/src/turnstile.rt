@@ -1,7 +1,7 @@
 // Turnstiles.
 
 ghost use Rattle.ls_code.specs.Machine.{loaded, machine_run, machine_step};
-ghost use Rattle.ls_compiler.specs.Images.{RunsAsItsTexts, code_of_image};
+ghost use Rattle.ls_image.specs.Images.{RunsAsItsTexts, code_of_image};
 ghost use Rattle.ls_machine.specs.Room.{AreBadCells};
 ghost use Rattle.ls_schedule.specs.Records.{IsRecordOf};
 ghost use Rattle.ls_turnstile.specs.Turns.{Closes, IsSeatOf, IsTurn, new_seat, seat_state, steps_of};
@@ -36,9 +36,9 @@ use crate::turn::Turn;
 use crate::view::View;
 use atomic_table::{Seat, Table};
 use ls_code::step::Did;
-use ls_compiler::image::Image;
-use ls_compiler::laws::runs;
 use ls_events::schedule::{MOST_STEPS, Schedule};
+use ls_image::image::Image;
+use ls_image::laws::runs;
 use ls_machine::{LoadFault, Machine};
 use ls_schedule::Record;
 use std::alloc::{AllocError, Global};

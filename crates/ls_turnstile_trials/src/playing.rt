@@ -2,8 +2,8 @@
 
 use crate::texts::{COARSE_LIST, COUNTER, COUNTER_PROGRAM, LAZY_LIST, LOCKS, LOCKS_PROGRAM};
 use ls_compiler::compile::compile;
-use ls_compiler::image::Image;
 use ls_events::schedule::Schedule;
+use ls_image::image::Image;
 use ls_machine::LoadFault;
 use ls_schedule::{read_schedule, replay};
 use ls_turnstile::{FollowFault, Gate, OpenGate, PlayFault, play_turns};

@@ -1,7 +1,7 @@
 use Rattle.std.proofs.Common.{◌≡◌, ◌∙◌, ap₂, subst, Ok}
 use Rattle.std.proofs.lemmas.Result.{err_from_is_err_and}
 use Rattle.ls_checked.specs.PlainProgram.{plain_program}
-use Rattle.ls_compiler.specs.Images.{program_of_image}
+use Rattle.ls_image.specs.Images.{program_of_image}
 use Rattle.ls_schedule.specs.Answers.{Fails}
 use Rattle.ls_schedule.specs.Reading.{schedule_of, thread_names}
 use Rattle.ls_report.specs.Printing.{run_text}

@@ -1,7 +1,7 @@
 use Rattle.std.proofs.Common.{ℕ}
 use Rattle.std.proofs.lemmas.Result.{err_from_is_err_and}
 use Rattle.std.specs.Prelude.{Result}
-use Rattle.ls_compiler.specs.declared.image.Image.{Image}
+use Rattle.ls_image.specs.declared.image.Image.{Image}
 use Rattle.ls_report.specs.Events.{Text}
 use Rattle.ls_schedule.specs.Reading.{schedule_of}
 use Rattle.ls_commands.specs.Compiled.{names_of_image}

@@ -1,6 +1,6 @@
 use Rattle.std.proofs.Common.{◌≡◌, ◌∙◌, ap, subst, Ok}
 use Rattle.std.proofs.lemmas.Result.{err_from_is_err_and}
-use Rattle.ls_compiler.specs.Images.{program_of_image}
+use Rattle.ls_image.specs.Images.{program_of_image}
 use Rattle.ls_schedule.specs.Answers.{Fails}
 use Rattle.ls_schedule.specs.Printing.{schedule_text}
 use Rattle.ls_schedule.specs.Reading.{schedule_of, thread_names}

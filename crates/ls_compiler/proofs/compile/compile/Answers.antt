@@ -9,11 +9,11 @@ use Rattle.ls_refs.specs.Typing.{IsTypedFile}
 use Rattle.ls_ranges.specs.Ranged.{IsRanged}
 use Rattle.ls_soundness.specs.Files.{HasItsClasses}
 use Rattle.ls_soundness.specs.Programs.{IsTypedProgram}
-use Rattle.ls_linker.specs.Runs.{Runs}
+use Rattle.ls_linking.specs.Runs.{Runs}
 use Rattle.std.proofs.lemmas.Result.{err_from_is_err_and}
 use Rattle.ls_linker.specs.Limits.{KeepsLimits, GoesPast}
 use Rattle.ls_types.proofs.Standing.{no_program}
-use Rattle.ls_compiler.specs.Images.{Compiled, NoFile, Breaks, NoProgram, PastLimit}
+use Rattle.ls_compiler.specs.Answers.{Compiled, NoFile, Breaks, NoProgram, PastLimit}
 use Rattle.ls_compiler.proofs.Put.{compiled, limited, err_of}
 use Rattle.ls_compiler.proofs.compile.compile.Goals as goal
 

@@ -3,7 +3,7 @@ use Rattle.ls_emission.specs.Units.{units_of}
 use Rattle.ls_linking.specs.Linked.{words_of, threads_code, threads_rows}
 use Rattle.ls_linking.proofs.Threads.{threads_from}
 use Rattle.ls_linking.proofs.Units.{lie_in}
-use Rattle.ls_linker.specs.Compiled.{flat_of, code_of}
+use Rattle.ls_linking.specs.Compiled.{flat_of, code_of}
 use Rattle.ls_linker.proofs.Composed.{lowered_asks}
 use Rattle.ls_linker.proofs.laws.compiled_runs.Goals as goal
 

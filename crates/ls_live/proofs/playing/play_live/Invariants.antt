@@ -1,5 +1,5 @@
 use Rattle.ls_code.specs.Machine.{loaded}
-use Rattle.ls_compiler.specs.Images.{code_of_image}
+use Rattle.ls_image.specs.Images.{code_of_image}
 use Rattle.ls_live.proofs.playing.play_live.Given as goal
 
 abbrev pub ghosts-played-L-Ledger : goal.ghosts-played-L-Ledger

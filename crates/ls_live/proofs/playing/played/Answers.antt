@@ -1,7 +1,7 @@
 use Rattle.std.proofs.Common.{◌≡◌, ◌<◌, ◌∙◌, ℕ, All, ap, length, subst}
 use Rattle.std.proofs.lemmas.List.{length-map}
 use Rattle.ls_code.specs.Machine.{Machine, loaded}
-use Rattle.ls_compiler.specs.Images.{code_of_image}
+use Rattle.ls_image.specs.Images.{code_of_image}
 use Rattle.ls_live.proofs.Ends.{opened_in_order, all_done}
 use Rattle.ls_schedule.specs.Records.{scheduled}
 use Rattle.ls_live.proofs.playing.played.Goals as goal

@@ -1,5 +1,5 @@
 use Rattle.ls_code.specs.Machine.{loaded}
-use Rattle.ls_compiler.specs.Images.{code_of_image}
+use Rattle.ls_image.specs.Images.{code_of_image}
 use Rattle.ls_live_trials.proofs.dids.each_answer_is_that_of_the_record.Given as goal
 
 abbrev pub ghosts-run_noted-L-Ledger : goal.ghosts-run_noted-L-Ledger

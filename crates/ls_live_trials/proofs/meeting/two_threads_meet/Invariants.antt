@@ -1,5 +1,5 @@
 use Rattle.ls_code.specs.Machine.{loaded}
-use Rattle.ls_compiler.specs.Images.{code_of_image}
+use Rattle.ls_image.specs.Images.{code_of_image}
 use Rattle.ls_live_trials.proofs.meeting.two_threads_meet.Given as goal
 
 abbrev pub ghosts-run_counted-L-Ledger : goal.ghosts-run_counted-L-Ledger

@@ -1,5 +1,5 @@
 use Rattle.ls_code.specs.Machine.{loaded}
-use Rattle.ls_compiler.specs.Images.{code_of_image}
+use Rattle.ls_image.specs.Images.{code_of_image}
 use Rattle.ls_live_trials.proofs.seats.a_full_book_is_told_before_a_late_start.Given as goal
 
 abbrev pub ghosts-first_answer-L-Ledger : goal.ghosts-first_answer-L-Ledger

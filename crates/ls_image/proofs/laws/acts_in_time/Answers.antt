@@ -1,6 +1,6 @@
 use Rattle.std.proofs.Math.Logic.{∥∥₁_elim}
 use Rattle.ls_ends.proofs.Once.{acting_prop}
-use Rattle.ls_compiler.proofs.laws.acts_in_time.Goals as goal
+use Rattle.ls_image.proofs.laws.acts_in_time.Goals as goal
 
 pub returns : goal.returns
 returns c = ∥∥₁_elim c.args.image.now.kept (acting_prop _ _ _) (λ r. r.acts)

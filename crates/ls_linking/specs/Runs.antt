@@ -9,10 +9,9 @@ use Rattle.ls_headline.specs.ByWords.{AsksByWords}
 use Rattle.ls_ends.specs.InTime.{EndsInTime}
 use Rattle.ls_ends.specs.Acting.{ActsInTime}
 use Rattle.ls_emission.specs.Units.{units_of}
-use Rattle.ls_quick.specs.Quick.{KeepsFrames}
-use Rattle.ls_quick.specs.Own.{ThreadsAreQuick}
-use Rattle.ls_linker.specs.Compiled.{flat_of}
-use Rattle.ls_linker.specs.Limits.{count}
+use Rattle.ls_linking.specs.Quick.{KeepsFrames}
+use Rattle.ls_linking.specs.Own.{ThreadsAreQuick}
+use Rattle.ls_linking.specs.Compiled.{flat_of, count}
 
 pub record Runs (file : File) (program : Program) (code : Code) : Type 0 where
   -- For each number of cells, each schedule of instructions has a schedule of source steps with the same trace and history, and each schedule of

@@ -1,7 +1,7 @@
 // What each image keeps, as the contract of functions that compute nothing.
 
 ghost use Rattle.ls_checked.specs.PlainProgram.{plain_program};
-ghost use Rattle.ls_compiler.specs.Images.{RunsAsItsTexts, checked_of, code_of_image, program_of_image};
+ghost use Rattle.ls_image.specs.Images.{RunsAsItsTexts, checked_of, code_of_image, program_of_image};
 ghost use Rattle.ls_ends.specs.Acting.{ActsInTime};
 ghost use Rattle.ls_ends.specs.InTime.{EndsInTime};
 ghost use Rattle.ls_types.specs.CheckedFile.{outcome_of};

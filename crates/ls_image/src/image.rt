@@ -2,7 +2,7 @@
 
 ghost use Rattle.std.specs.Prelude.{◌≡◌};
 ghost use Rattle.ls_checked.specs.PlainProgram.{plain_program};
-ghost use Rattle.ls_linker.specs.Runs.{Runs};
+ghost use Rattle.ls_linking.specs.Runs.{Runs};
 ghost use Rattle.ls_types.specs.CheckedFile.{outcome_of};
 
 use ls_checked::program::Program;
@@ -20,9 +20,10 @@ pub struct Image {
 }
 
 impl Image {
-    ghost use Rattle.ls_compiler.specs.Images.{checked_of, program_of_image, code_of_image};
+    ghost use Rattle.ls_image.specs.Images.{checked_of, code_of_image, program_of_image};
 
-    pub(crate) fn new(checked: Checked, program: Program, code: Code) -> Image
+    /// The image of a checked file, a program and code that runs as the two, which is for its caller to show.
+    pub fn new(checked: Checked, program: Program, code: Code) -> Image
         requires { Runs (outcome_of checked).file (plain_program program) code }
         ensures checked { checked_of result ≡ checked }
         ensures program { program_of_image result ≡ program }

@@ -1,4 +1,4 @@
--- What an image shows, what a compiled image owes its two texts, and what a refusal says of them.
+-- What `compile` answers of two texts.
 use Rattle.std.specs.Prelude.{◌≡◌, Result, Ok, Err}
 use Rattle.ls_lexer.specs.declared.fault.TextFault.{TextFault}
 use Rattle.ls_terms.specs.Answers.{Refuses}
@@ -8,43 +8,19 @@ use Rattle.ls_placing.specs.Files.{IsFileOf}
 use Rattle.ls_parser.specs.Comes.{Comes}
 use Rattle.ls_checked.specs.CheckedProgram.{Program as PlainProgram}
 use Rattle.ls_checked.specs.PlainProgram.{plain_program}
-use Rattle.ls_checked.specs.declared.program.Program.{Program}
-use Rattle.ls_code.specs.Code.{Code}
 use Rattle.ls_elaboration.specs.Trees.{Text, File}
 use Rattle.ls_elaboration.specs.Elaboration.{Outcome, elaborated}
 use Rattle.ls_types.specs.CheckedFile.{outcome_of, Names}
 use Rattle.ls_types.specs.ProgramRefusals.{IsNoProgram}
 use Rattle.ls_programs.specs.Programs.{IsTextOf}
-use Rattle.ls_types.specs.declared.check.Checked.{Checked}
 use Rattle.ls_types.specs.declared.check.CheckFault.{CheckFault}
 use Rattle.ls_types.specs.declared.fault.ProgramFault.{ProgramFault}
 use Rattle.ls_linker.specs.Limits.{KeepsLimits, GoesPast}
-use Rattle.ls_linker.specs.Runs.{Runs}
 use Rattle.ls_linker.specs.declared.fault.BuildFault.{BuildFault}
 use Rattle.ls_compiler.specs.declared.fault.CompileFault.{CompileFault}
 use Rattle.ls_compiler.specs.declared.fault.CompileFault.TheVariants as faults
-use Rattle.ls_compiler.specs.declared.image.Image.{Image}
-
-abbrev pub checked_of : Image → Checked
-checked_of i = i.checked
-
-abbrev pub program_of_image : Image → Program
-program_of_image i = i.program
-
-abbrev pub code_of_image : Image → Code
-code_of_image i = i.code
-
--- an image's code runs as its file and its program: it has the same histories, both ways, and no thread of it is silent for too long
-abbrev pub RunsAsItsTexts : Image → Type 0
-RunsAsItsTexts image = Runs (outcome_of (checked_of image)).file (plain_program (program_of_image image)) (code_of_image image)
-
--- the class text is a file that keeps every rule, the program text is a program of that file, and the code runs as the two
-pub record Compiles (classes program : Text) (image : Image) : Type 0 where
-  pub file : File
-  pub spelled : IsFileOf classes file
-  pub elaborates : elaborated file ≡ Ok (outcome_of (checked_of image))
-  pub reads : IsTextOf (outcome_of (checked_of image)) (plain_program (program_of_image image)) program
-  pub runs : RunsAsItsTexts image
+use Rattle.ls_image.specs.Images.{Compiles, checked_of, program_of_image}
+use Rattle.ls_image.specs.declared.image.Image.{Image}
 
 -- an image keeps each limit of the code
 abbrev pub IsWithinLimits : Image → Type 0

@@ -6,7 +6,7 @@ use Rattle.ls_checked.specs.CheckedProgram.{ProgramCall, Making, Calling, Thread
 use Rattle.ls_code.specs.Code.{Code, Start}
 use Rattle.ls_code.specs.Thread.{Thread}
 use Rattle.ls_linking.specs.Threads.{thread_size}
-use Rattle.ls_quick.specs.Quick.{InFrame}
+use Rattle.ls_linking.specs.Quick.{InFrame}
 
 abbrev pub values_of : ProgramCall → List Value
 values_of (Making name class text values) = values

@@ -1,0 +1,35 @@
+-- What an image shows, and what it owes the two texts that it is of.
+use Rattle.std.specs.Prelude.{◌≡◌, Ok}
+use Rattle.ls_placing.specs.Files.{IsFileOf}
+use Rattle.ls_checked.specs.CheckedProgram.{Program as PlainProgram}
+use Rattle.ls_checked.specs.PlainProgram.{plain_program}
+use Rattle.ls_checked.specs.declared.program.Program.{Program}
+use Rattle.ls_code.specs.Code.{Code}
+use Rattle.ls_elaboration.specs.Trees.{Text, File}
+use Rattle.ls_elaboration.specs.Elaboration.{elaborated}
+use Rattle.ls_types.specs.CheckedFile.{outcome_of}
+use Rattle.ls_programs.specs.Programs.{IsTextOf}
+use Rattle.ls_types.specs.declared.check.Checked.{Checked}
+use Rattle.ls_linking.specs.Runs.{Runs}
+use Rattle.ls_image.specs.declared.image.Image.{Image}
+
+abbrev pub checked_of : Image → Checked
+checked_of i = i.checked
+
+abbrev pub program_of_image : Image → Program
+program_of_image i = i.program
+
+abbrev pub code_of_image : Image → Code
+code_of_image i = i.code
+
+-- an image's code runs as its file and its program: it has the same histories, both ways, and no thread of it is silent for too long
+abbrev pub RunsAsItsTexts : Image → Type 0
+RunsAsItsTexts image = Runs (outcome_of (checked_of image)).file (plain_program (program_of_image image)) (code_of_image image)
+
+-- the class text is a file that keeps every rule, the program text is a program of that file, and the code runs as the two
+pub record Compiles (classes program : Text) (image : Image) : Type 0 where
+  pub file : File
+  pub spelled : IsFileOf classes file
+  pub elaborates : elaborated file ≡ Ok (outcome_of (checked_of image))
+  pub reads : IsTextOf (outcome_of (checked_of image)) (plain_program (program_of_image image)) program
+  pub runs : RunsAsItsTexts image
