@@ -1,5 +1,5 @@
 -- A step of one thread as a step of the whole machine.
-use Rattle.std.proofs.Common.{◌≡◌, ℕ, ◌+◌, ◌<◌, ◌++◌, List, [], Bool, length, map, set, get_or, true, false, Some, slice_get, option_map, refl, ap, sym, subst, ◌∙◌, arith}
+use Rattle.std.proofs.Common.{◌≡◌, ℕ, ◌+◌, ◌<◌, ◌++◌, List, [], Bool, length, map, set, get_or, true, false, Option, Some, slice_get, option_map, refl, ap, sym, subst, ◌∙◌, arith}
 use Rattle.std.proofs.lemmas.List.{append-nil, map-set, length-set, set-get_or}
 use Rattle.std.proofs.lemmas.List.Sums.{sum_by-set}
 use Rattle.std.proofs.lemmas.List.Elements.{All-set}
@@ -12,7 +12,9 @@ use Rattle.ls_machine.specs.Room.{HasMemory}
 use Rattle.ls_machine.specs.Takes.{IsUnseen, TakesEvents}
 use Rattle.ls_code.specs.Cells.{Cells}
 use Rattle.ls_code.specs.Events.{events_of}
-use Rattle.ls_code.specs.Steps.{Outcome, performed, thread_move}
+use Rattle.ls_code.specs.Moves.{frame_move}
+use Rattle.ls_code.specs.Steps.{Outcome, performed, thread_move, fetched_move, of_frame}
+use Rattle.ls_code.specs.declared.instruction.Instruction.{Instruction}
 use Rattle.ls_code.specs.Machine.{Machine, is_due, stops, after, stepped_by, machine_step, open_step, due_step, step_of}
 use Rattle.ls_code.specs.declared.step.Did.{Did}
 use Rattle.ls_events.specs.declared.event.Event.{Event}
@@ -59,6 +61,12 @@ unseen_is m threads c d b es e f = rw (e, f, append-nil) refl
 pub step_unseen : (m : Machine) (n : ℕ) (ts : List KeptThread) (k : KeptThread) (c : Cells) (d : Did) → n < length ts → m.threads ≡ map (λ t. t.thread) ts → m.stopped ≡ false → is_due m.threads n (get_or ts n no_thread).thread ≡ true → Came (performed m.cells n (get_or ts n no_thread).thread (thread_move m.code (get_or ts n no_thread).thread)) (get_or ts n no_thread) k c d → IsUnseen d → machine_step m n ≡ stepped_by (record { code = m.code; threads = map (λ t. t.thread) (set ts n k); cells = c; stopped = m.stopped; history = m.history }) d
 step_unseen m n ts k c d h list runs due came unseen =
     step_due m n ts k c d h list runs due came ∙ unseen_is m (map (λ (x : KeptThread). x.thread) (set ts n k)) c d (stops d) (events_of m.code n d) (unseen.0 ∙ sym runs) (unseen.1 m.code n)
+
+-- the step of a thread whose instruction is known
+pub came_here : (p : Code) (c : Cells) (n : ℕ) (k old new : KeptThread) (cells : Cells) (d : Did) (i : Instruction) → k ≡ old → slice_get p.instructions k.thread.top.counter ≡ Some i → Came (performed c n k.thread (of_frame p k.thread (frame_move i k.thread.top))) k new cells d → Came (performed c n old.thread (thread_move p old.thread)) old new cells d
+came_here p c n k old new cells d i is e came =
+    let here : Came (performed c n k.thread (thread_move p k.thread)) k new cells d = subst (λ (o : Option Instruction). Came (performed c n k.thread (fetched_move p k.thread o)) k new cells d) (sym e) came in
+    subst (λ (t : KeptThread). Came (performed c n t.thread (thread_move p t.thread)) t new cells d) is here
 
 -- a thread that is as it was
 pub same_threads : (ts : List KeptThread) (n : ℕ) (k : KeptThread) → k ≡ get_or ts n no_thread → set ts n k ≡ ts

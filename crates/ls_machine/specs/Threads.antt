@@ -7,6 +7,10 @@ use Rattle.ls_moves.specs.Flows.{frame_after}
 use Rattle.ls_machine.specs.Memory.{KeptThread, keeping_thread}
 use Rattle.ls_moves.specs.declared.flow.Quick.{Quick}
 use Rattle.ls_moves.specs.declared.flow.Quick.TheVariants as quick
+use Rattle.ls_code.specs.declared.instruction.Instruction.{Instruction}
+use Rattle.ls_code.specs.declared.instruction.Instruction.TheVariants as op
+use Rattle.ls_machine.specs.declared.flow.Acting.{Acting}
+use Rattle.ls_machine.specs.declared.flow.Acting.TheVariants as acting
 use Rattle.ls_machine.specs.declared.flow.Entered.{Entered}
 use Rattle.ls_machine.specs.declared.flow.Entered.TheVariants as came
 
@@ -27,3 +31,13 @@ abbrev pub call_flow : CallMove → Entered
 call_flow (Calls t) = came.Entered
 call_flow (CallThrows kind) = came.Throws kind
 call_flow CallStuck = came.Stuck
+
+abbrev pub instruction_of : Acting → Instruction
+instruction_of (acting.Turn x) = op.Turn x
+instruction_of (acting.GetField x) = op.GetField x
+instruction_of (acting.PutField x) = op.PutField x
+instruction_of (acting.Enter x) = op.Enter x
+instruction_of acting.LeaveWith = op.LeaveWith
+instruction_of (acting.See x) = op.See x
+instruction_of (acting.Take x) = op.Take x
+instruction_of acting.DropLock = op.DropLock

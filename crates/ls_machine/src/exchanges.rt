@@ -66,6 +66,7 @@ fn taken_operation(which: u32, lock: u64) -> Option<Action<u64>>
 }
 
 /// The thread has seen a lock's word.
+#[inline(always)]
 fn saw_word(
     code: &Code,
     cells: &mut Cells,
@@ -105,6 +106,7 @@ fn saw_word(
 }
 
 /// The thread looks at the word of a lock.
+#[inline(always)]
 fn see_lock(
     code: &Code,
     cells: &mut Cells,
@@ -153,6 +155,7 @@ pub fn see(code: &Code, cells: &mut Cells, number: usize, thread: &mut Thread, w
 }
 
 /// The exchange was won or lost.
+#[inline(always)]
 fn took_word(
     code: &Code,
     cells: &mut Cells,
@@ -187,6 +190,7 @@ fn took_word(
 }
 
 /// The thread exchanges the word that it saw.
+#[inline(always)]
 fn take_word(
     code: &Code,
     cells: &mut Cells,
@@ -211,14 +215,7 @@ fn take_word(
             Did::Silent
         }
         Taken::TooMany => fail(code, cells, number, thread, operation, Kind::Error),
-        Taken::Taken(next) => match cells.perform(
-            number,
-            Action::SwapPair {
-                markable: lock,
-                expected: word,
-                new: next,
-            },
-        ) {
+        Taken::Taken(next) => match cells.swap(lock, word, next) {
             Reply::Answered(Answer::Gives(won)) => took_word(
                 code, cells, number, thread, which, operation, won,
             ),
@@ -258,7 +255,7 @@ pub fn drop_lock(code: &Code, cells: &mut Cells, number: usize, thread: &mut Thr
         None => Did::Silent,
         Some((lock, word)) => match unlock_word(word, number) {
             Left::NotOwner => Did::Silent,
-            Left::Left(next) => match cells.perform(number, Action::SetPair(lock, next)) {
+            Left::Left(next) => match cells.write(lock, 0, next, Answer::Done) {
                 Reply::Answered(Answer::Done) => {
                     thread.resume(Resume::Discard(2), 0);
                     Did::Acted(Action::Unlock(lock), Answer::Done)

@@ -1,4 +1,4 @@
-// How a thread says what became of a call.
+// What a thread says of its next step, and of what became of a call.
 
 use ls_events::kind::Kind;
 use std::alloc::AllocError;
@@ -13,6 +13,25 @@ pub enum Entered {
 
 impl Clone for Entered {
     fn clone(&self) -> Result<Entered, AllocError> {
+        Ok(*self)
+    }
+}
+
+/// An instruction that neither stops the machine nor is an event, and that most code has.
+#[derive(Copy)]
+pub enum Acting {
+    Turn(u32),
+    GetField(u32),
+    PutField(u32),
+    Enter(u32),
+    LeaveWith,
+    See(u32),
+    Take(u32),
+    DropLock,
+}
+
+impl Clone for Acting {
+    fn clone(&self) -> Result<Acting, AllocError> {
         Ok(*self)
     }
 }

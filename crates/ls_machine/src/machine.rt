@@ -135,9 +135,9 @@ impl Machine {
             return Did::Idle;
         }
         let thread = &mut self.threads[number];
-        match steps::act(&self.code, &mut self.cells, number, thread) {
-            Some(did) => did,
+        match steps::find_acting(&self.code, thread) {
             None => self.any_step(number),
+            Some(acting) => steps::act(&self.code, &mut self.cells, number, thread, acting),
         }
     }
 

@@ -1,6 +1,6 @@
 // One step of one thread.
 
-ghost use Rattle.std.specs.Prelude.{◌≡◌, ℕ, ◌+◌, ◌*◌, ◌<◌, ◌≤◌, ◌^◌, length, slice_get, IfSome, IsTrue, None, true, false};
+ghost use Rattle.std.specs.Prelude.{◌≡◌, ℕ, ◌+◌, ◌*◌, ◌<◌, ◌≤◌, ◌^◌, length, slice_get, IfSome, IsTrue, Some, true, false};
 ghost use Rattle.ls_code.specs.Cells.{effect};
 ghost use Rattle.ls_code.specs.Moves.{frame_move};
 ghost use Rattle.ls_code.specs.Steps.{answered, settled, performed, thread_move, wide_move, enters_move, throw_move, leaves_with_move, throws_move, begin_move, gives_move, result_move, trap_move, of_frame};
@@ -8,9 +8,10 @@ ghost use Rattle.ls_moves.specs.Flows.{CanResume, IsQuiet, is_silent};
 ghost use Rattle.ls_machine.specs.Memory.{MethodsFit, events_left};
 ghost use Rattle.ls_machine.specs.Outcomes.{Came, IsSilentMove};
 ghost use Rattle.ls_machine.specs.Takes.{IsUnseen, TakesEvents};
+ghost use Rattle.ls_machine.specs.Threads.{instruction_of};
 
 use crate::exchanges::{drop_lock, see, take};
-use crate::flow::Entered;
+use crate::flow::{Acting, Entered};
 use crate::thread::Thread;
 use ls_code::code::{CallResult, Code, Method};
 use ls_code::instruction::{Instruction, Resume, ThreadInstruction};
@@ -336,29 +337,54 @@ pub fn move_silently(code: &Code, thread: &mut Thread) -> bool
     }
 }
 
-/// Does an instruction that neither stops the machine nor is an event, and that most code has; the others are left.
+/// What `act` is to do, where the thread stands at such an instruction.
 #[inline(always)]
-pub fn act(code: &Code, cells: &mut Cells, number: usize, thread: &mut Thread) -> Option<Did>
-    requires number { number ≤ 64 }
-    requires fit { MethodsFit code.now.methods thread.old.locals_room thread.old.operands_room }
-    ensures came { IfSome result (λ did. Came (performed cells.old number thread.old.thread (thread_move code.now thread.old.thread)) thread.old thread.new cells.new did) }
-    ensures events { IfSome result (λ did. TakesEvents code.now number did thread.old.thread thread.new.thread) }
-    ensures unseen { IfSome result IsUnseen }
-    ensures none { result ≡ None → (thread.new ≡ thread.old) × (cells.new ≡ cells.old) }
+pub fn find_acting(code: &Code, thread: &Thread) -> Option<Acting>
+    ensures here { IfSome result (λ acting. slice_get code.now.instructions thread.now.thread.top.counter ≡ Some (instruction_of acting)) }
+    ensures within { IfSome result (λ _. thread.now.thread.top.counter + 1 < 2 ^ 64) }
 {
     match fetch(code, thread.counter())? {
-        Instruction::Turn(x) => {
-            thread.resume(Resume::Lead(x as usize), 0);
-            Some(Did::Acted(Action::Turn, Answer::Done))
-        }
-        Instruction::GetField(x) => Some(read_field(code, cells, number, thread, x)),
-        Instruction::PutField(x) => Some(write_field(code, cells, number, thread, x)),
-        Instruction::Enter(x) => Some(enter(code, cells, number, thread, x)),
-        Instruction::LeaveWith => Some(leave_with(code, cells, number, thread)),
-        Instruction::See(x) => Some(see(code, cells, number, thread, x)),
-        Instruction::Take(x) => Some(take(code, cells, number, thread, x)),
-        Instruction::DropLock => Some(drop_lock(code, cells, number, thread)),
+        Instruction::Turn(x) => Some(Acting::Turn(x)),
+        Instruction::GetField(x) => Some(Acting::GetField(x)),
+        Instruction::PutField(x) => Some(Acting::PutField(x)),
+        Instruction::Enter(x) => Some(Acting::Enter(x)),
+        Instruction::LeaveWith => Some(Acting::LeaveWith),
+        Instruction::See(x) => Some(Acting::See(x)),
+        Instruction::Take(x) => Some(Acting::Take(x)),
+        Instruction::DropLock => Some(Acting::DropLock),
         _ => None,
+    }
+}
+
+/// Does an instruction that neither stops the machine nor is an event, and that most code has. What it did is answered as it is, since
+/// an `Option` of it would be moved once more.
+#[inline(always)]
+pub fn act(
+    code: &Code,
+    cells: &mut Cells,
+    number: usize,
+    thread: &mut Thread,
+    acting: Acting,
+) -> Did
+    requires number { number ≤ 64 }
+    requires place { thread.old.thread.top.counter + 1 < 2 ^ 64 }
+    requires fit { MethodsFit code.now.methods thread.old.locals_room thread.old.operands_room }
+    ensures came { Came (performed cells.old number thread.old.thread (of_frame code.now thread.old.thread (frame_move (instruction_of acting) thread.old.thread.top))) thread.old thread.new cells.new result }
+    ensures events { TakesEvents code.now number result thread.old.thread thread.new.thread }
+    ensures unseen { IsUnseen result }
+{
+    match acting {
+        Acting::Turn(x) => {
+            thread.resume(Resume::Lead(x as usize), 0);
+            Did::Acted(Action::Turn, Answer::Done)
+        }
+        Acting::GetField(x) => read_field(code, cells, number, thread, x),
+        Acting::PutField(x) => write_field(code, cells, number, thread, x),
+        Acting::Enter(x) => enter(code, cells, number, thread, x),
+        Acting::LeaveWith => leave_with(code, cells, number, thread),
+        Acting::See(x) => see(code, cells, number, thread, x),
+        Acting::Take(x) => take(code, cells, number, thread, x),
+        Acting::DropLock => drop_lock(code, cells, number, thread),
     }
 }
 

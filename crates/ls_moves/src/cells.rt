@@ -277,7 +277,9 @@ impl Cells {
         }
     }
 
-    fn swap(&mut self, markable: u64, expected: u64, word: u64) -> Reply
+    /// Writes a word in the place of an expected one.
+    #[inline]
+    pub fn swap(&mut self, markable: u64, expected: u64, word: u64) -> Reply
         ensures after { self.new ≡ cells_after self.old (swap_effect self.old markable expected word) }
         ensures reply { result ≡ reply_of (swap_effect self.old markable expected word) }
     {
