@@ -1,5 +1,5 @@
 // One frame of a thread.
-ghost use Rattle.std.specs.Prelude.{◌≡◌, ℕ, ◌+◌, ◌-◌, ◌<◌, ◌≤◌, ◌^◌, ◌↔◌, List, [], ◌∷◌, ◌++◌, reverse, replicate, length, take, drop, slice_get, slice_set, slice_index, IsTrue, IsSome, MatchOption, IfSome, IfOk, Bool, false};
+ghost use Rattle.std.specs.Prelude.{◌≡◌, ℕ, ◌+◌, ◌-◌, ◌<◌, ◌≤◌, ◌^◌, ◌↔◌, List, [], ◌∷◌, ◌++◌, reverse, replicate, length, take, drop, slice_get, slice_set, slice_index, vec_capacity, IsTrue, IsSome, MatchOption, IfSome, IfOk, Bool, false};
 ghost use Rattle.ls_moves.specs.Frames.{empty_kept, keeping};
 ghost use Rattle.ls_code.specs.Frame.{onward, led_to, top_one, top_two, top_three};
 ghost use Rattle.ls_code.specs.Moves.{stored};
@@ -12,7 +12,8 @@ use ls_events::kind::Kind;
 use std::alloc::{AllocError, Global};
 use std::marker::Model;
 
-/// A frame. Its operands fill the end of their memory, and the top is the first of them.
+/// A frame. Its operands fill the end of their words, and the top is the first of them. It has memory for any method from the
+/// start, but words in it only for those that have been entered here: memory that no word is written to costs next to nothing.
 #[derive(Drop)]
 pub struct Frame {
     counter: usize,
@@ -21,17 +22,19 @@ pub struct Frame {
     floor: usize,
     locals: Vec<u64>,
     operands: Vec<u64>,
+    locals_room: usize,
+    operands_room: usize,
 }
 
 impl Model for Frame {
-    ghost use Rattle.std.specs.Prelude.{ℕ, ◌-◌, ◌≤◌, length, take, drop};
+    ghost use Rattle.std.specs.Prelude.{ℕ, ◌-◌, ◌≤◌, length, take, drop, vec_capacity};
     ghost use Rattle.ls_moves.specs.Frames.{Kept};
 
     ghost Value = { Kept };
 
-    ghost view = { λ f. record { frame = record { counter = f.counter; locals = take f.count f.locals.items; operands = drop f.top f.operands.items; need = length f.operands.items - f.floor }; locals_room = length f.locals.items; operands_room = length f.operands.items } };
+    ghost view = { λ f. record { frame = record { counter = f.counter; locals = take f.count f.locals.items; operands = drop f.top f.operands.items; need = length f.operands.items - f.floor }; locals_room = f.locals_room; operands_room = f.operands_room } };
 
-    ghost invariant = { λ f. (f.count ≤ length f.locals.items) × (f.top ≤ length f.operands.items) × (f.floor ≤ length f.operands.items) };
+    ghost invariant = { λ f. (f.count ≤ length f.locals.items) × (f.top ≤ length f.operands.items) × (f.floor ≤ length f.operands.items) × (f.locals_room ≤ vec_capacity f.locals) × (f.operands_room ≤ vec_capacity f.operands) };
 }
 
 impl Frame {
@@ -46,13 +49,17 @@ impl Frame {
         requires { need ≤ operands }
         ensures { IfOk result (λ f. f ≡ empty_kept place need locals operands) }
     {
+        let mut words = Vec::with_capacity(alloc, operands)?;
+        lengthen(&mut words, need);
         Ok(Frame {
             counter: place,
             count: 0,
-            top: operands,
-            floor: operands - need,
-            locals: vec![in alloc; 0; locals]?,
-            operands: vec![in alloc; 0; operands]?,
+            top: words.len(),
+            floor: words.len() - need,
+            locals: Vec::with_capacity(alloc, locals)?,
+            operands: words,
+            locals_room: locals,
+            operands_room: operands,
         })
     }
 
@@ -61,6 +68,7 @@ impl Frame {
         requires { need ≤ self.old.operands_room }
         ensures { self.new ≡ empty_kept place need self.old.locals_room self.old.operands_room }
     {
+        lengthen(&mut self.operands, need);
         self.counter = place;
         self.count = 0;
         self.top = self.operands.len();
@@ -249,6 +257,8 @@ impl Frame {
         ensures callee { self.new ≡ keeping self.old (entered method.now caller.old.frame) }
         ensures caller { caller.new ≡ keeping caller.old (calling method.now caller.old.frame) }
     {
+        lengthen(&mut self.locals, method.arguments + method.more);
+        lengthen(&mut self.operands, method.need);
         copy_reversed(
             &mut self.locals,
             &caller.operands[caller.top..],
@@ -260,6 +270,20 @@ impl Frame {
         self.count = method.arguments + method.more;
         self.top = self.operands.len();
         self.floor = self.top - method.need;
+    }
+}
+
+/// Makes words so many at least, in memory that is there.
+#[inline]
+fn lengthen(words: &mut Vec<u64>, count: usize)
+    requires { count ≤ vec_capacity words.old }
+    ensures long { count ≤ length words.new.items }
+    ensures capacity { vec_capacity words.old ≤ vec_capacity words.new }
+{
+    if words.len() < count {
+        let Ok(()) = words.resize(count, 0) else {
+            unreachable!()
+        };
     }
 }
 

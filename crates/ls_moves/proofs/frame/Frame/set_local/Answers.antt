@@ -1,4 +1,4 @@
-use Rattle.std.proofs.Common.{◌≡◌, ◌<◌, length, take, arith, refl, ap, min, length-take, length-set}
+use Rattle.std.proofs.Common.{◌≡◌, ◌<◌, length, take, arith, refl, ap, min, length-take}
 use Rattle.ls_moves.specs.Frames.{Kept}
 use Rattle.ls_moves.proofs.Operands.{take_set_below}
 use Rattle.ls_moves.proofs.frame.Frame.set_local.Goals as goal
@@ -9,4 +9,4 @@ returns c =
     let l : min c.self.inside.count (length c.self.inside.locals.items) ≡ length c.args.self.now.frame.locals = simp length-take at (ap length v) in
     let h : c.args.number < c.self.inside.count = omega arith in
     let e = take_set_below c.self.inside.locals.items c.self.inside.count c.args.number c.args.word h in
-    rw (e, length-set, ← c.self.view_is) refl
+    rw (e, ← c.self.view_is) refl
