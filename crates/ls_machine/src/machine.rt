@@ -135,10 +135,10 @@ impl Machine {
             return Did::Idle;
         }
         let thread = &mut self.threads[number];
-        match steps::find_acting(&self.code, thread) {
-            None => self.any_step(number),
-            Some(acting) => steps::act(&self.code, &mut self.cells, number, thread, acting),
-        }
+        let Some(acting) = steps::find_acting(&self.code, thread) else {
+            return self.any_step(number);
+        };
+        steps::act(&self.code, &mut self.cells, number, thread, acting)
     }
 
     /// One step of a thread, whatever its instruction.

@@ -10,8 +10,8 @@ use Rattle.ls_machine.proofs.Whole.{memory_unseen, step_unseen, came_here}
 use Rattle.ls_machine.specs.contracts.machine.Machine.{the_view}
 use Rattle.ls_machine.proofs.machine.Machine.acting_step.Goals as goal
 
-pub invariant_of-self-in-Some : goal.invariant_of-self-in-Some
-invariant_of-self-in-Some c =
+pub invariant_of-self-2 : goal.invariant_of-self-2
+invariant_of-self-2 c =
     let n = c.args.number in
     let ts = c.self.inside.threads.items in
     let inside : n < length ts = search rules in
@@ -23,8 +23,8 @@ invariant_of-self-in-Some c =
       of_kept c.self.inside.code ts c.self.inside.cells c.self.inside.limit n c.act.new.thread c.act.new.cells c.act.result inside c.self.invariant.2 came,
     )
 
-pub returns-in-Some : goal.returns-in-Some
-returns-in-Some c =
+pub returns : goal.returns
+returns c =
     let n = c.args.number in
     let ts = c.self.inside.threads.items in
     let inside : n < length ts = search rules in
