@@ -13,7 +13,7 @@ FILES = {
     "ls_events": ("action", "event", "kind", "value"),
     "ls_checked": ("program", "tree"),
     "ls_meaning": ("completion", "sort", "step"),
-    "ls_courses": ("operations", "value"),
+    "ls_values": ("lookups", "value"),
     "ls_pending": ("calls", "expressions", "moves", "operands", "pending", "stack", "statements", "tables", "work"),
     "ls_source": ("next", "run", "stage", "store", "thing", "thread"),
 }
@@ -64,10 +64,6 @@ def main():
     for crate, files in FILES.items():
         for file in files:
             text = (CRATES / crate / f"src/{file}.rt").read_text()
-            if (crate, file) == ("ls_courses", "operations"):
-                # the look-ups alone, and not the plain form's operations
-                text = text[:text.index("// The pair is read")]
-                text = re.sub(r"^use crate::(outcome|value).*\n", "", text, flags=re.M)
             write(f"src/{crate}/{file}.rs", placed(plain(text), crate))
         write(f"src/{crate}/mod.rs", "".join(f"pub mod {file};\n" for file in files))
     timing = (CRATES / "bench_source/src/timing.rt").read_text()

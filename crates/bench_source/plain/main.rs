@@ -1,11 +1,11 @@
 // Steps of the same source run in plain Rust, to be timed: `plain_source PART STEPS`.
 #![allow(dead_code, unused_imports, unused_labels, unused_variables, unreachable_code)]
 mod ls_checked;
-mod ls_courses;
 mod ls_events;
 mod ls_meaning;
 mod ls_pending;
 mod ls_source;
+mod ls_values;
 mod timing;
 mod trees;
 

@@ -1,14 +1,14 @@
-//! Source runs beside their plain form, over many class texts, apart from the crates that they test.
+//! Source runs of many class texts, apart from the crates that they test.
 #![tactic(auto)]
 
-#[cfg(test)]
-mod beside;
 #[cfg(test)]
 mod classes;
 #[cfg(test)]
 mod lists;
 #[cfg(test)]
 mod long;
+#[cfg(test)]
+mod runs;
 #[cfg(test)]
 mod small;
 #[cfg(test)]

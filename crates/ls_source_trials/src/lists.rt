@@ -1,7 +1,7 @@
 // Runs of concurrent sets over lists.
 
-use crate::beside::{comes_to, holds};
 use crate::classes::{COARSE, FINE, LAZY, LOCK_FREE, OPTIMISTIC};
+use crate::runs::{comes_to, holds};
 use std::test::Fail;
 
 const LISTS: [(&str, &str); 5] = [

@@ -1,6 +1,6 @@
-// A long run, without the plain form, whose time grows with the square of its steps.
+// A long run, of which before each step the thread that steps is asked, and no other.
 
-use crate::beside::{as_asked, steps_of};
+use crate::runs::{as_asked, steps_of};
 use ls_parser::parse::parse_text;
 use ls_report::print_history;
 use ls_source::run::SourceRun;

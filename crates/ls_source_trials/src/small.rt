@@ -1,6 +1,6 @@
 // Runs of small class texts, each with the history that it has.
 
-use crate::beside::holds;
+use crate::runs::holds;
 use std::test::Fail;
 
 #[test]

@@ -1,7 +1,7 @@
 // Runs of class texts that have each form of the language, by turns of several threads: how many events they come to, two
 // for each call.
 
-use crate::beside::comes_to;
+use crate::runs::comes_to;
 use std::test::Fail;
 
 const GUARDED: &str = "class C {

@@ -1,11 +1,8 @@
-// Runs beside their plain form, which goes through each thread's answers from the start.
+// Runs of texts. Before and behind each step `next` is asked of each thread, and of a number that no thread has.
 
 use crate::told::summary;
 use ls_checked::program::Program;
 use ls_checked::tree::File;
-use ls_courses::threads::{Next, next_of};
-use ls_events::action::Answer;
-use ls_events::value::Value;
 use ls_meaning::step::{Asked, Did};
 use ls_parser::parse::parse_text;
 use ls_report::print_history;
@@ -22,31 +19,8 @@ pub struct Played {
     pub events: usize,
 }
 
-// What a thread asks for, in the plain form.
-fn plainly(
-    alloc: Global,
-    file: &File,
-    program: &Program,
-    had: &[Vec<Answer<Value>>],
-    thread: usize,
-) -> Result<Asked, AllocError> {
-    if thread >= had.len() || had.len() == 0 {
-        return Ok(Asked::Ended);
-    }
-    if thread != 0 {
-        match next_of(alloc, file, program, 0, &had[0])? {
-            Next::Ended => {}
-            Next::Goes(_, _) | Next::Trapped => return Ok(Asked::NotStarted),
-        }
-    }
-    match next_of(alloc, file, program, thread, &had[thread])? {
-        Next::Goes(action, _) => Ok(Asked::Asks(action)),
-        Next::Ended | Next::Trapped => Ok(Asked::Ended),
-    }
-}
-
-/// Whether a thread asks for the same.
-pub fn same(a: Asked, b: Asked) -> bool {
+// Whether a thread asks for the same.
+fn same(a: Asked, b: Asked) -> bool {
     match a {
         Asked::Asks(x) => match b {
             Asked::Asks(y) => summary(x) == summary(y),
@@ -67,43 +41,49 @@ pub fn as_asked(asked: Asked, did: Did) -> bool {
     }
 }
 
-// Whether both forms tell the same of each thread, and of a number that no thread has.
-fn agree(
+// What each thread asks for, and last what a number asks for that no thread has.
+fn asked_of_all(
     alloc: Global,
-    file: &File,
-    program: &Program,
     run: &SourceRun,
-    had: &[Vec<Answer<Value>>],
-) -> Result<bool, AllocError> {
-    for thread in 0..=had.len() {
-        let asked = run.next(alloc, thread)?;
-        if !same(asked, plainly(alloc, file, program, had, thread)?) {
-            return Ok(false);
-        }
+    program: &Program,
+) -> Result<Vec<Asked>, AllocError> {
+    let mut found = Vec::new(alloc);
+    for thread in 0..=program.threads.len() {
+        found.push(run.next(alloc, thread)?)?;
     }
-    Ok(true)
+    Ok(found)
 }
 
-// One step of a run: whether both forms tell the same before it, and it does what they tell.
-fn stepped(
-    alloc: Global,
-    file: &File,
-    program: &Program,
-    run: &mut SourceRun,
-    had: &mut Vec<Vec<Answer<Value>>>,
-    thread: usize,
-) -> Result<bool, Fail> {
-    if !agree(alloc, file, program, run, had)? {
-        return Ok(false);
-    }
-    let asked = run.next(alloc, thread)?;
-    let did = run.step(alloc, thread)?;
-    if let Did::Acted(_, answer) = did {
-        if thread < had.len() {
-            had[thread].push(answer)?;
+// Whether all but one thread ask for the same behind a step of that one; a thread that the setup held back may have started.
+fn others_stand(before: &[Asked], behind: &[Asked], thread: usize) -> bool {
+    for other in 0..before.len() {
+        let held_back = matches!(before[other], Asked::NotStarted);
+        if other < behind.len()
+            && other != thread
+            && !held_back
+            && !same(before[other], behind[other])
+        {
+            return false;
         }
     }
-    Ok(as_asked(asked, did))
+    matches!(behind.last(), Some(Asked::Ended))
+}
+
+// One step of a run: whether it does what its thread asked for before it, and the others ask for the same behind it.
+fn stepped(
+    alloc: Global,
+    program: &Program,
+    run: &mut SourceRun,
+    thread: usize,
+) -> Result<bool, AllocError> {
+    let before = asked_of_all(alloc, run, program)?;
+    let did = run.step(alloc, thread)?;
+    let behind = asked_of_all(alloc, run, program)?;
+    let does_as_asked = match before.get(thread) {
+        None => false,
+        Some(asked) => as_asked(*asked, did),
+    };
+    Ok(does_as_asked && others_stand(&before, &behind, thread))
 }
 
 /// The steps of a schedule: `NAME` or `NAME*COUNT`, where `all` is each thread but the setup, by turns.
@@ -126,7 +106,7 @@ pub fn steps_of(alloc: Global, schedule: &str, program: &Program) -> Result<Vec<
     Ok(steps)
 }
 
-// The run of a schedule, or nothing where the two forms part.
+// The run of a schedule, or nothing where a step doesn't do what was asked for before it.
 fn run_of(
     alloc: Global,
     file: &File,
@@ -134,25 +114,19 @@ fn run_of(
     steps: &[usize],
 ) -> Result<Option<Played>, Fail> {
     let mut run = SourceRun::new(alloc, file, program)?;
-    let mut had: Vec<Vec<Answer<Value>>> = Vec::new(alloc);
-    for _thread in &program.threads {
-        had.push(Vec::new(alloc))?;
-    }
     for thread in steps {
-        if !stepped(alloc, file, program, &mut run, &mut had, *thread)? {
+        if !stepped(alloc, program, &mut run, *thread)? {
             return Ok(None);
         }
-    }
-    if !agree(alloc, file, program, &run, &had)? {
-        return Ok(None);
     }
     let events = run.history().len();
     let history = print_history(alloc, run.history(), program)?;
     Ok(Some(Played { history, events }))
 }
 
-/// The run of texts, where both forms tell the same of each thread before each step and at the end; else nothing.
-pub fn play_beside(
+/// The run of texts, or nothing where a step of it doesn't do what its thread asked for, or another thread asks for
+/// something else behind it.
+fn play(
     alloc: Global,
     classes: &str,
     program: &str,
@@ -164,7 +138,7 @@ pub fn play_beside(
     run_of(alloc, checked.file(), &program, &steps)
 }
 
-/// Whether the run of texts is as the plain form has it, and has this history.
+/// Whether each step of the run of texts does what was asked for, and the run has this history.
 pub fn holds(
     alloc: Global,
     classes: &str,
@@ -172,13 +146,13 @@ pub fn holds(
     schedule: &str,
     history: &str,
 ) -> Result<bool, Fail> {
-    match play_beside(alloc, classes, program, schedule)? {
+    match play(alloc, classes, program, schedule)? {
         None => Ok(false),
         Some(found) => Ok(found.history.as_str() == history),
     }
 }
 
-/// Whether the run of texts is as the plain form has it, and has so many events.
+/// Whether each step of the run of texts does what was asked for, and the run has so many events.
 pub fn comes_to(
     alloc: Global,
     classes: &str,
@@ -186,7 +160,7 @@ pub fn comes_to(
     schedule: &str,
     events: usize,
 ) -> Result<bool, Fail> {
-    match play_beside(alloc, classes, program, schedule)? {
+    match play(alloc, classes, program, schedule)? {
         None => Ok(false),
         Some(found) => Ok(found.events == events),
     }

@@ -1,4 +1,0 @@
-pub mod Weight
-pub mod Depths
-pub mod Blocks
-pub mod Arguments

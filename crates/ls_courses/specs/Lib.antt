@@ -1,4 +1,0 @@
-pub mod Seen
-pub mod SeenCourse
-pub mod Forms
-pub mod SeenThread
