@@ -12,6 +12,8 @@ mod keys;
 #[cfg(test)]
 mod meeting;
 #[cfg(test)]
+mod memory;
+#[cfg(test)]
 mod seats;
 #[cfg(test)]
 mod texts;
