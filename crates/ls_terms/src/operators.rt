@@ -66,6 +66,7 @@ pub struct Operator<'t, 'a> {
     pub rest: &'t [Token<'a>],
 }
 
+#[inline(always)]
 #[tactic(auto, using(crate::proofs::Places::operator_stands))]
 pub fn operator_part<'t, 'a>(tokens: &'t [Token<'a>], wanted: usize) -> Option<Operator<'t, 'a>>
     ensures read { Finds (λ x. (x.op, lexemes x.rest.now)) result (operator_at wanted (lexemes tokens.now)) }
@@ -91,10 +92,21 @@ pub fn operator_part<'t, 'a>(tokens: &'t [Token<'a>], wanted: usize) -> Option<O
     }
 }
 
+// Asked once for each rank behind each operand, so it makes no `Operator`.
+#[inline(always)]
 pub fn has_operator(tokens: &[Token], wanted: usize) -> bool
     ensures { result ≡ has_operator wanted (lexemes tokens.now) }
 {
-    operator_part(tokens, wanted).is_some()
+    match tokens {
+        [token, ..] => match token.kind {
+            TokenKind::Sign(sign) => match operator_of(sign) {
+                Some(op) => rank(op) == wanted,
+                None => false,
+            },
+            _ => false,
+        },
+        [] => false,
+    }
 }
 
 pub fn unary_op(kind: TokenKind) -> Option<UnaryOp>
