@@ -19,7 +19,11 @@ pub struct Sampling {
 }
 
 impl Clone for Sampling {
-    fn clone(&self) -> Result<Sampling, AllocError> {
+    ghost use Rattle.std.specs.Prelude.{◌≡◌, IfOk};
+
+    fn clone(&self) -> Result<Sampling, AllocError>
+        ensures { IfOk result (λ copy. copy ≡ self.now) }
+    {
         Ok(*self)
     }
 }

@@ -34,7 +34,11 @@ pub enum View {
 }
 
 impl Clone for View {
-    fn clone(&self) -> Result<View, AllocError> {
+    ghost use Rattle.std.specs.Prelude.{◌≡◌, IfOk};
+
+    fn clone(&self) -> Result<View, AllocError>
+        ensures { IfOk result (λ copy. copy ≡ self.now) }
+    {
         Ok(*self)
     }
 }
