@@ -49,6 +49,8 @@ def method(number, other, room):
 
 
 def class_text(size, classes, stopped):
+    global state
+    state = 12345
     names = [f'C{n:02}' for n in range(classes)]
     fields = ''.join(f'  int n{n};\n' for n in range(FIELDS))
     room = size // classes - len(fields) - len('class C00 {\n}\n')
