@@ -5,6 +5,11 @@ import pathlib
 import re
 import sys
 
+sys.dont_write_bytecode = True
+
+sys.path.insert(0, str(pathlib.Path(__file__).resolve().parents[2]))
+from plain_rust import MANIFEST, derived, write
+
 HERE = pathlib.Path(__file__).resolve().parent
 CRATES = HERE.parents[2] / "crates"
 OUT = pathlib.Path(sys.argv[1])
@@ -45,23 +50,10 @@ def without_mark(text, calls):
     return text
 
 
-def derived(match):
-    names = [name.strip() for name in match.group(1).split(",")]
-    kept = ["Clone"] if "Copy" in names and "Clone" not in names else []
-    kept += [name for name in names if name not in ("Drop", "Error")]
-    return f"#[derive({', '.join(kept)})]" if kept else ""
-
-
 def placed(text, crate):
     text = text.replace("crate::", f"crate::{crate}::").replace("//!", "//")
     text = re.sub(r"\buse (ls_\w+|indexmap)::", r"use crate::\1::", text)
     return "#[allow(unused_imports)]\nuse crate::memory::*;\n" + text
-
-
-def write(name, text):
-    path = OUT / name
-    path.parent.mkdir(parents=True, exist_ok=True)
-    path.write_text(text)
 
 
 def main():
@@ -69,20 +61,11 @@ def main():
         paths = sorted((CRATES / crate / "src").glob("*.rt"))
         files = [path for path in paths if path.stem not in ("lib", "tests", "laws", "spelling") and path.stem in KEPT.get(crate, [path.stem])]
         for path in files:
-            write(f"src/{crate}/{path.stem}.rs", placed(plain(path.read_text()), crate))
-        write(f"src/{crate}/mod.rs", "".join(f"pub mod {path.stem};\n" for path in files))
+            write(OUT / f"src/{crate}/{path.stem}.rs", placed(plain(path.read_text()), crate))
+        write(OUT / f"src/{crate}/mod.rs", "".join(f"pub mod {path.stem};\n" for path in files))
     for path in HERE.glob("*.rs"):
-        write(f"src/{path.name}", path.read_text())
-    write("Cargo.toml", CARGO)
+        write(OUT / f"src/{path.name}", path.read_text())
+    write(OUT / "Cargo.toml", MANIFEST.format(name="plain_typing"))
 
-
-CARGO = """[package]
-name = "plain_typing"
-version = "0.1.0"
-edition = "2024"
-
-[profile.release]
-opt-level = 3
-"""
 
 main()

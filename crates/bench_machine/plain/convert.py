@@ -5,13 +5,13 @@ import pathlib
 import re
 import sys
 
+sys.dont_write_bytecode = True
+
+sys.path.insert(0, str(pathlib.Path(__file__).resolve().parents[3] / "bench"))
+from plain_rust import MANIFEST, derived, without_blocks, write
+
 CRATES = pathlib.Path(__file__).resolve().parents[2]
 OUT = pathlib.Path(sys.argv[1])
-
-
-def without_blocks(text, start):
-    """Leaves out each top-level item that begins so and ends at a closing brace in the first column."""
-    return re.sub(start + r".*?\n}\n", "", text, flags=re.S | re.M)
 
 
 def plain(text, crate):
@@ -39,19 +39,6 @@ def plain(text, crate):
     return text
 
 
-def derived(match):
-    names = [name.strip() for name in match.group(1).split(",")]
-    kept = ["Clone"] if "Copy" in names and "Clone" not in names else []
-    kept += [name for name in names if name not in ("Drop", "Error")]
-    return f"#[derive({', '.join(kept)})]" if kept else ""
-
-
-def write(name, text):
-    path = OUT / name
-    path.parent.mkdir(parents=True, exist_ok=True)
-    path.write_text(text)
-
-
 def main():
     for crate in ("ls_events", "ls_code", "ls_moves", "ls_machine"):
         for file in sorted((CRATES / crate / "src").glob("*.rt")):
@@ -60,13 +47,13 @@ def main():
             name = "mod" if file.stem == "lib" else file.stem
             text = plain(file.read_text(), crate).replace("//!", "//")
             text = re.sub(r"^#\[cfg\(test\)\]\nmod tests;\n", "", text, flags=re.M)
-            write(f"src/{crate}/{name}.rs", text)
+            write(OUT / f"src/{crate}/{name}.rs", text)
     images = plain((CRATES / "bench_machine/src/images.rt").read_text(), "bench_machine")
-    write("src/images.rs", images)
+    write(OUT / "src/images.rs", images)
     main_text = plain((CRATES / "bench_machine/src/main.rt").read_text(), "bench_machine").replace("//!", "//")
     body = main_text[main_text.index("/// How many of so many"):main_text.index("fn main(")]
-    write("src/main.rs", HEAD + body + MAIN)
-    write("Cargo.toml", CARGO)
+    write(OUT / "src/main.rs", HEAD + body + MAIN)
+    write(OUT / "Cargo.toml", MANIFEST.format(name="plain_machine"))
 
 
 HEAD = """#![allow(dead_code, unused_imports, unused_variables)]
@@ -100,15 +87,6 @@ MAIN = """fn main() {
     let acted = timed(Global, &code, part, steps).expect("loaded");
     println!("{acted} of {steps} steps acted");
 }
-"""
-
-CARGO = """[package]
-name = "plain_machine"
-version = "0.1.0"
-edition = "2024"
-
-[profile.release]
-opt-level = 3
 """
 
 main()

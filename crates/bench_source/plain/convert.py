@@ -6,6 +6,11 @@ import pathlib
 import re
 import sys
 
+sys.dont_write_bytecode = True
+
+sys.path.insert(0, str(pathlib.Path(__file__).resolve().parents[3] / "bench"))
+from plain_rust import MANIFEST, derived, without_blocks, write
+
 HERE = pathlib.Path(__file__).resolve().parent
 CRATES = HERE.parents[1]
 OUT = pathlib.Path(sys.argv[1])
@@ -19,14 +24,9 @@ FILES = {
 }
 
 
-def without_items(text, start):
-    """Leaves out each top-level item that begins so and ends at a closing brace in the first column."""
-    return re.sub(start + r".*?\n}\n", "", text, flags=re.S | re.M)
-
-
 def plain(text):
     text = re.sub(r"^ *#!?\[(tactic|cycle).*\n", "", text, flags=re.M)
-    text = without_items(text, r"^impl(<[^\n]*>)? Clone for ")
+    text = without_blocks(text, r"^impl(<[^\n]*>)? Clone for ")
     text = re.sub(r"^ *(pub )?ghost .*\n", "", text, flags=re.M)
     text = re.sub(r"^ *(requires|ensures)\b.*\n", "", text, flags=re.M)
     text = re.sub(r"^use std::alloc.*\n", "", text, flags=re.M)
@@ -41,45 +41,23 @@ def plain(text):
     return text
 
 
-def derived(match):
-    names = [name.strip() for name in match.group(1).split(",")]
-    kept = ["Clone"] if "Copy" in names and "Clone" not in names else []
-    kept += [name for name in names if name != "Drop"]
-    return f"#[derive({', '.join(kept)})]" if kept else ""
-
-
 def placed(text, crate):
     text = text.replace("crate::", f"crate::{crate}::" if crate else "crate::")
     text = re.sub(r"\buse (ls_\w+)::", r"use crate::\1::", text)
     return "use crate::{AllocError, Global};\n" + text
 
 
-def write(name, text):
-    path = OUT / name
-    path.parent.mkdir(parents=True, exist_ok=True)
-    path.write_text(text)
-
-
 def main():
     for crate, files in FILES.items():
         for file in files:
             text = (CRATES / crate / f"src/{file}.rt").read_text()
-            write(f"src/{crate}/{file}.rs", placed(plain(text), crate))
-        write(f"src/{crate}/mod.rs", "".join(f"pub mod {file};\n" for file in files))
+            write(OUT / f"src/{crate}/{file}.rs", placed(plain(text), crate))
+        write(OUT / f"src/{crate}/mod.rs", "".join(f"pub mod {file};\n" for file in files))
     timing = (CRATES / "bench_source/src/timing.rt").read_text()
-    write("src/timing.rs", placed(plain(timing), ""))
+    write(OUT / "src/timing.rs", placed(plain(timing), ""))
     for name in ("main.rs", "trees.rs"):
-        write(f"src/{name}", (HERE / name).read_text())
-    write("Cargo.toml", CARGO)
+        write(OUT / f"src/{name}", (HERE / name).read_text())
+    write(OUT / "Cargo.toml", MANIFEST.format(name="plain_source"))
 
-
-CARGO = """[package]
-name = "plain_source"
-version = "0.1.0"
-edition = "2024"
-
-[profile.release]
-opt-level = 3
-"""
 
 main()
