@@ -3,3 +3,5 @@
 
 pub mod compile;
 pub mod fault;
+
+pub use ls_image::image::Image;
