@@ -13,6 +13,12 @@ or_false : (a : Bool) → (a || false) ≡ a
 or_false true = refl
 or_false false = refl
 
+or_comm : (a b : Bool) → (a || b) ≡ (b || a)
+or_comm true true = refl
+or_comm true false = refl
+or_comm false true = refl
+or_comm false false = refl
+
 has_both : (n : ℕ) (ms ks : List ℕ) → has n (ms ++ ks) ≡ (has n ms || has n ks)
 has_both n [] ks = refl
 has_both n (m ∷ ms) ks = ap (λ (b : Bool). nat_eq m n || b) (has_both n ms ks) ∙ sym (or_assoc (nat_eq m n) (has n ms) (has n ks))
@@ -39,7 +45,8 @@ mutual
   left_broken n (While c s) = has_outward n (left s) ∙ left_broken (n + 1) s
   left_broken n (Break m) = or_false (nat_eq m n)
   left_broken n (Try b f) =
-      has_both n (if can_complete f then left b else []) (left f)
+      has_both n (left f) (if can_complete f then left b else [])
+      ∙ or_comm (has n (left f)) (has n (if can_complete f then left b else []))
       ∙ ap (λ (x : Bool). x || has n (left f)) (has_if n (can_complete f) (left b) ∙ ap (λ (x : Bool). can_complete f && x) (left_broken n b))
       ∙ ap (λ (x : Bool). (can_complete f && breaks n b) || x) (left_broken n f)
   left_broken n _ = refl
@@ -61,3 +68,7 @@ append_assoc (n ∷ a) b c = ap (λ (ns : List ℕ). n ∷ ns) (append_assoc a b
 
 pub joined : (a b c whole : List ℕ) → a ++ (b ++ c) ≡ whole → (a ++ b) ++ c ≡ whole
 joined a b c whole h = append_assoc a b c ∙ h
+
+pub none_more : (a : List ℕ) → a ++ [] ≡ a
+none_more [] = refl
+none_more (n ∷ a) = ap (λ (ns : List ℕ). n ∷ ns) (none_more a)

@@ -19,7 +19,7 @@ abbrev mutual
   left (If c a b) = left a ++ left b
   left (While c s) = outward (left s)
   left (Break n) = n ∷ []
-  left (Try b f) = (if can_complete f then left b else []) ++ left f
+  left (Try b f) = left f ++ (if can_complete f then left b else [])
   left _ = []
 
   pub all_left : Statements → List ℕ

@@ -4,10 +4,11 @@ use Rattle.std.specs.Prelude.{ℕ, List, map, option_copied}
 use Rattle.ls_checked.specs.CheckedTree as checked
 use Rattle.ls_checked.specs.Plain.{plain_statement, plain_method}
 use Rattle.ls_checked.specs.declared.tree.Method.{Method}
+use Rattle.ls_checked.specs.declared.tree.Statement.{Statement}
+use Rattle.ls_events.specs.declared.value.ValueType.{ValueType}
 use Rattle.ls_elaborate.specs.declared.scope.Context.{Context}
 use Rattle.ls_elaborate.specs.declared.scope.Scope.{Scope}
 use Rattle.ls_elaborate.specs.declared.statements.Round.{Round}
-use Rattle.ls_elaborate.specs.declared.statements.Formed.{Formed}
 use Rattle.ls_elaboration.specs.Known as known
 use Rattle.ls_elaboration.specs.Scopes as scopes
 use Rattle.ls_elaboration.specs.TypedStatements as typing
@@ -21,11 +22,12 @@ body_of c = record { known = known_of c.known; result = c.result; span = c.span 
 abbrev pub loops_of : Round → typing.Loops
 loops_of r = map option_copied r.loops.now
 
-abbrev pub scope_of : Scope → scopes.Scope
-scope_of s = record { statements = map plain_statement s.statements.items; locals = map local_of s.locals.items; slots = s.slots.items }
+-- a block's statements and locals, beside the types of the method's slots
+abbrev pub scope_of : Scope → List ValueType → scopes.Scope
+scope_of s slots = record { statements = map plain_statement s.statements.items; locals = map local_of s.locals.items; slots = slots }
 
-abbrev pub formed_of : Formed → typing.WithSlots checked.Statement
-formed_of f = record { tree = plain_statement f.statement; slots = f.slots.items }
+abbrev pub formed_of : List ValueType → Statement → typing.WithSlots checked.Statement
+formed_of slots s = record { tree = plain_statement s; slots = slots }
 
 -- the methods of so many classes
 abbrev pub bodies_of : ℕ → Vec Method → elaboration.Bodies

@@ -1,23 +1,14 @@
 // Which statements can complete normally.
 
-ghost use Rattle.std.specs.Prelude.{◌≡◌, ◌++◌, [], IfOk, if◌then◌else◌, map};
+ghost use Rattle.std.specs.Prelude.{◌≡◌, ◌++◌, [], IfOk, OnOk, if◌then◌else◌, map};
 ghost use Rattle.ls_checked.specs.Plain.{plain, plain_statement};
 ghost use Rattle.ls_elaboration.specs.TypedStatements.{sequence};
 ghost use Rattle.ls_elaborate.specs.Left.{outward as the_outward, has as the_has, left as the_left, all_left as the_all_left};
 ghost use Rattle.ls_completion.specs.Completion.{is_true as the_true, can_complete as the_can_complete, all_complete as the_all_complete};
 
 use ls_checked::tree::{Expression, Statement};
-use ls_elaboration::together::{also, push};
 use ls_events::value::Value;
 use std::alloc::{AllocError, Global};
-
-// How a statement may end: whether it can complete normally, and the loops that a `break` in it can leave, counted
-// outward from the innermost round it.
-#[derive(Drop)]
-struct Ways {
-    completes: bool,
-    left: Vec<usize>,
-}
 
 fn is_true(e: &Expression) -> bool
     ensures { result ≡ the_true (plain e.now) }
@@ -40,116 +31,88 @@ fn has_innermost(left: &[usize]) -> bool
     false
 }
 
-// The same loops from outside of the innermost.
+// The same loops from outside of the innermost, behind those before them.
 #[tactic(auto, using(crate::proofs::Left::goes_out, crate::proofs::Left::joined))]
-fn outward(alloc: Global, left: &[usize]) -> Result<Vec<usize>, AllocError>
-    ensures { IfOk result (λ r. r.items ≡ the_outward left.now) }
+fn outward(inner: &[usize], left: &mut Vec<usize>) -> Result<(), AllocError>
+    ensures { OnOk result (left.new.items ≡ left.old.items ++ the_outward inner.now) }
 {
-    let mut outer = Vec::new(alloc);
-    for n in left {
+    for n in inner {
         if *n > 0 {
-            outer.push(*n - 1)?;
+            left.push(*n - 1)?;
         }
     }
-    Ok(outer)
+    Ok(())
 }
 
-fn joined(left: Vec<usize>, more: Vec<usize>) -> Result<Vec<usize>, AllocError>
-    ensures { IfOk result (λ r. r.items ≡ left.items ++ more.items) }
+// Out of a body only where its `finally` completes.
+#[tactic(auto, using(crate::proofs::Left::none_more))]
+fn past(body: &[usize], finally: bool, left: &mut Vec<usize>) -> Result<(), AllocError>
+    ensures { OnOk result (left.new.items ≡ left.old.items ++ (if finally then body.now else [])) }
 {
-    let mut left = left;
-    left.extend_from_slice(&more)?;
-    Ok(left)
+    if finally {
+        left.extend_from_slice(body)?;
+    }
+    Ok(())
 }
 
-// Out of a body only where its `finally` completes, and out of that.
-fn past(
-    alloc: Global,
-    within: Vec<usize>,
-    finally: bool,
-    last: Vec<usize>,
-) -> Result<Vec<usize>, AllocError>
-    ensures { IfOk result (λ r. r.items ≡ (if finally then within.items else []) ++ last.items) }
-{
-    let left = if finally { within } else { Vec::new(alloc) };
-    joined(left, last)
-}
-
+// Whether a statement can complete normally. The loops that a `break` in it can leave, counted outward from the innermost round it, come behind those
+// before them.
 #[cycle(completion)]
-#[tactic(auto, using(crate::proofs::Blocks::block_read, crate::proofs::Left::left_broken))]
-fn ways_of(alloc: Global, s: &Statement) -> Result<Ways, AllocError>
-    ensures completes { IfOk result (λ w. w.completes ≡ the_can_complete (plain_statement s.now)) }
-    ensures left { IfOk result (λ w. w.left.items ≡ the_left (plain_statement s.now)) }
+#[tactic(auto, using(crate::proofs::Blocks::block_read, crate::proofs::Left::left_broken, crate::proofs::Left::joined))]
+fn can_complete(alloc: Global, s: &Statement, left: &mut Vec<usize>) -> Result<bool, AllocError>
+    ensures completes { IfOk result (λ b. b ≡ the_can_complete (plain_statement s.now)) }
+    ensures left { OnOk result (left.new.items ≡ left.old.items ++ the_left (plain_statement s.now)) }
 {
     match s {
-        Statement::Block(ss) => all_ways(alloc, ss),
+        Statement::Block(ss) => all_ways(alloc, ss, left),
         Statement::If(_, a, b) => {
-            let first = ways_of(alloc, a)?;
-            let (first, second) = also(first, ways_of(alloc, b))?;
-            Ok(Ways {
-                completes: first.completes || second.completes,
-                left: joined(first.left, second.left)?,
-            })
+            let first = can_complete(alloc, a, left)?;
+            let second = can_complete(alloc, b, left)?;
+            Ok(first || second)
         }
         Statement::While(c, s) => {
-            let Ways { completes: _, left } = ways_of(alloc, s)?;
-            let completes = !is_true(c) || has_innermost(&left);
-            let left = outward(alloc, &left)?;
-            Ok(Ways { completes, left })
+            let mut inner = Vec::new(alloc);
+            can_complete(alloc, s, &mut inner)?;
+            outward(&inner, left)?;
+            Ok(!is_true(c) || has_innermost(&inner))
         }
         Statement::Break(n) => {
-            Ok(Ways {
-                completes: false,
-                left: push(Vec::new(alloc), *n)?,
-            })
+            left.push(*n)?;
+            Ok(false)
         }
-        Statement::Continue(_) | Statement::ReturnNothing | Statement::ReturnValue(_) => {
-            Ok(Ways {
-                completes: false,
-                left: Vec::new(alloc),
-            })
-        }
+        Statement::Continue(_) | Statement::ReturnNothing | Statement::ReturnValue(_) => Ok(false),
         Statement::Try(b, f) => {
-            let body = ways_of(alloc, b)?;
-            let (body, finally) = also(body, ways_of(alloc, f))?;
-            Ok(Ways {
-                completes: body.completes && finally.completes,
-                left: past(alloc, body.left, finally.completes, finally.left)?,
-            })
+            let mut within = Vec::new(alloc);
+            let body = can_complete(alloc, b, &mut within)?;
+            let finally = can_complete(alloc, f, left)?;
+            past(&within, finally, left)?;
+            Ok(body && finally)
         }
         Statement::SetSlot(..)
         | Statement::SetField { .. }
         | Statement::SetItem { .. }
-        | Statement::Evaluate(_) => Ok(Ways {
-            completes: true,
-            left: Vec::new(alloc),
-        }),
+        | Statement::Evaluate(_) => Ok(true),
     }
 }
 
 #[cycle(completion)]
 #[tactic(auto, using(crate::proofs::Left::joined))]
-fn all_ways(alloc: Global, ss: &[Statement]) -> Result<Ways, AllocError>
-    ensures completes { IfOk result (λ w. w.completes ≡ the_all_complete (sequence (map plain_statement ss.now))) }
-    ensures left { IfOk result (λ w. w.left.items ≡ the_all_left (sequence (map plain_statement ss.now))) }
+fn all_ways(alloc: Global, ss: &[Statement], left: &mut Vec<usize>) -> Result<bool, AllocError>
+    ensures completes { IfOk result (λ b. b ≡ the_all_complete (sequence (map plain_statement ss.now))) }
+    ensures left { OnOk result (left.new.items ≡ left.old.items ++ the_all_left (sequence (map plain_statement ss.now))) }
 {
-    let mut completes = true;
-    let mut left = Vec::new(alloc);
+    let mut all = true;
     for s in ss {
-        let Ways {
-            completes: this,
-            left: more,
-        } = ways_of(alloc, s)?;
-        completes = completes && this;
-        left.extend_from_slice(&more)?;
+        let this = can_complete(alloc, s, left)?;
+        all = all && this;
     }
-    Ok(Ways { completes, left })
+    Ok(all)
 }
 
 /// Whether statements, one after another, can complete normally.
 pub fn all_complete(alloc: Global, ss: &[Statement]) -> Result<bool, AllocError>
     ensures { IfOk result (λ r. r ≡ the_all_complete (sequence (map plain_statement ss.now))) }
 {
-    let Ways { completes, left: _ } = all_ways(alloc, ss)?;
-    Ok(completes)
+    let mut left = Vec::new(alloc);
+    all_ways(alloc, ss, &mut left)
 }

@@ -1,6 +1,6 @@
 // Methods, constructors and field initialisers.
 
-ghost use Rattle.std.specs.Prelude.{◌≡◌, ◌≤◌, ◌&&◌, ◌∷◌, [], IfOk, is_some, map, option_map, vec_len};
+ghost use Rattle.std.specs.Prelude.{◌≡◌, ◌≤◌, ◌&&◌, ◌∷◌, [], IfOk, OnOk, is_some, map, option_map, vec_len};
 ghost use Rattle.ls_events.specs.declared.value.ValueType.TheVariants.{Class as class_type};
 ghost use Rattle.ls_checked.specs.CheckedTree.{Method as checked_method};
 ghost use Rattle.ls_completion.specs.Completion.{all_complete as the_all_complete};
@@ -26,38 +26,42 @@ use ls_elaboration::type_names::{result_of, type_of};
 use ls_events::value::ValueType;
 use ls_expressions::expressions::fitting;
 use ls_expressions::site::Site;
-use ls_lexer::token::Span;
 use ls_tree::tree::{
     BlockItem, Constructor, Declarator, Member, Method as MethodText, Name, Parameter,
 };
 use std::alloc::{AllocError, Global};
 
 // One more parameter in scope.
-fn parameter<'t>(context: Context, scope: Scope<'t>, p: &'t Parameter) -> Result<Scope<'t>, Refusal>
-    requires { vec_len scope.slots ≤ 128 }
-    ensures found { Gives scope_of result (the_parameter (body_of context.entry) (scope_of scope.entry) (placed_parameter p.entry.now)) }
-    ensures low { IfOk result (λ s. vec_len s.slots ≤ 128) }
+fn parameter<'t>(
+    context: Context,
+    scope: &mut Scope<'t>,
+    slots: &mut Vec<ValueType>,
+    p: &'t Parameter,
+) -> Result<(), Refusal>
+    requires { vec_len slots.old ≤ 128 }
+    ensures found { Gives (λ _. scope_of scope.new slots.new.items) result (the_parameter (body_of context.entry) (scope_of scope.old slots.old.items) (placed_parameter p.entry.now)) }
+    ensures low { OnOk result (vec_len slots.new ≤ 128) }
 {
-    let may = may_declare(context.span, &scope, &p.name);
-    let (scope, _) = also(scope, may)?;
-    let (scope, t) = also(scope, type_of(context.known.names, &p.type_name))?;
-    Ok(with_variable(scope, p.name.text.as_str(), t)?)
+    may_declare(context.span, scope, slots, &p.name)?;
+    let t = type_of(context.known.names, &p.type_name)?;
+    with_variable(scope, slots, p.name.text.as_str(), t)?;
+    Ok(())
 }
 
 fn parameters<'t>(
     context: Context,
-    before: Scope<'t>,
+    scope: &mut Scope<'t>,
+    slots: &mut Vec<ValueType>,
     ps: &'t [Parameter],
-) -> Result<Scope<'t>, Refusal>
-    requires { vec_len before.slots ≤ 128 }
-    ensures found { Gives scope_of result (each (the_parameter (body_of context.entry)) (scope_of before.entry) (map placed_parameter ps.entry.now)) }
-    ensures low { IfOk result (λ s. vec_len s.slots ≤ 128) }
+) -> Result<(), Refusal>
+    requires { vec_len slots.old ≤ 128 }
+    ensures found { Gives (λ _. scope_of scope.new slots.new.items) result (each (the_parameter (body_of context.entry)) (scope_of scope.old slots.old.items) (map placed_parameter ps.entry.now)) }
+    ensures low { OnOk result (vec_len slots.new ≤ 128) }
 {
-    let mut scope = before;
     for p in ps {
-        scope = parameter(context, scope, p)?;
+        parameter(context, scope, slots, p)?;
     }
-    Ok(scope)
+    Ok(())
 }
 
 // The initialiser of a field, where it has one, behind those before it.
@@ -132,16 +136,11 @@ fn first_slot(alloc: Global, known: Known) -> Result<Vec<ValueType>, AllocError>
 }
 
 // Whether a method that answers a value can't complete without one.
-fn answered(
-    alloc: Global,
-    answers: Option<ValueType>,
-    body: &[Statement],
-    span: Span,
-) -> Result<(), Refusal>
-    ensures { (go : Elaborated checked_method) → Leads (λ u. u) (λ u. go) result (unless_broken (is_some answers && the_all_complete (sequence (map plain_statement body.now))) MissingReturn span go) }
+fn answered(context: Context, body: &[Statement]) -> Result<(), Refusal>
+    ensures { (go : Elaborated checked_method) → Leads (λ u. u) (λ u. go) result (unless_broken (is_some context.entry.result && the_all_complete (sequence (map plain_statement body.now))) MissingReturn context.entry.span go) }
 {
-    if answers.is_some() && all_complete(alloc, body)? {
-        return Err(refused_at(Rule::MissingReturn, span));
+    if context.result.is_some() && all_complete(context.alloc, body)? {
+        return Err(refused_at(Rule::MissingReturn, context.span));
     }
     Ok(())
 }
@@ -164,27 +163,22 @@ fn method<'t>(
         result: answers,
         span: name.span,
     };
-    let (front, slots) = also(front, first_slot(alloc, known))?;
-    let scope = Scope {
+    let (front, mut slots) = also(front, first_slot(alloc, known))?;
+    let mut scope = Scope {
         statements: front,
         locals: Vec::new(alloc),
-        slots,
     };
-    let scope = parameters(context, scope, ps)?;
-    let scope = all_items(
-        Round {
-            context,
-            loops: &[],
-        },
-        scope,
-        items,
-    )?;
-    let answered = answered(alloc, answers, &scope.statements, name.span);
-    let (scope, _) = also(scope, answered)?;
+    parameters(context, &mut scope, &mut slots, ps)?;
+    let round = Round {
+        context,
+        loops: &[],
+    };
+    all_items(round, &mut scope, &mut slots, items)?;
+    answered(context, &scope.statements)?;
     Ok(Method {
         class: known.own,
         parameters: ps.len(),
-        slots: scope.slots,
+        slots,
         result: answers,
         body: block_of(scope.statements),
     })
@@ -235,19 +229,13 @@ fn one_method(
 ) -> Result<Vec<Method>, Refusal>
     ensures { Gives (λ v. map plain_method v.items) result (the_one_method (known_of known.entry) (map placed_member members.now) (map plain_method before.items) (placed_member m.now)) }
 {
-    match m {
-        Member::Field(_) => Ok(before),
-        Member::Method(m) => {
-            let m = written_method(alloc, known, m);
-            let (methods, m) = also(before, m)?;
-            Ok(push(methods, m)?)
-        }
-        Member::Constructor(c) => {
-            let m = written_constructor(alloc, known, members, c);
-            let (methods, m) = also(before, m)?;
-            Ok(push(methods, m)?)
-        }
-    }
+    let made = match m {
+        Member::Field(_) => return Ok(before),
+        Member::Method(m) => written_method(alloc, known, m),
+        Member::Constructor(c) => written_constructor(alloc, known, members, c),
+    };
+    let (methods, made) = also(before, made)?;
+    Ok(push(methods, made)?)
 }
 
 fn has_constructor(members: &[Member]) -> bool

@@ -1,9 +1,9 @@
 // Blocks as they are checked: their statements, and the locals in scope.
 
-ghost use Rattle.std.specs.Prelude.{◌≡◌, ◌<◌, ◌≤◌, IfOk, length, map, option_map, vec_len};
-ghost use Rattle.std.specs.Prelude.{OnOk};
+ghost use Rattle.std.specs.Prelude.{◌≡◌, ◌<◌, ◌≤◌, List, OnOk, length, option_map, vec_len};
+ghost use Rattle.ls_events.specs.declared.value.ValueType.{ValueType as value_type};
 ghost use Rattle.ls_elaboration.specs.Elaborated.{Elaborated};
-ghost use Rattle.ls_checked.specs.Plain.{plain_statement};
+ghost use Rattle.ls_checked.specs.CheckedTree.{Literal as literal, SetSlot as set_slot};
 ghost use Rattle.ls_elaboration.specs.Answers.{Gives, unless_refused};
 ghost use Rattle.ls_elaboration.specs.Scopes.{start_of as the_start, with_variable as the_variable, with_statement as the_with_statement, initialised as the_initialised, declared as the_declared, declaration as the_declaration, may_declare as the_may_declare, Scope as the_scope};
 ghost use Rattle.ls_elaboration.specs.PlacedStatements.{placed_declarator, placed_declaration};
@@ -15,7 +15,6 @@ use ls_checked::tree::{Expression, Statement};
 use ls_elaboration::known::{Known, Local, local_named};
 use ls_elaboration::rule::{Broken, Refusal, Rule, broken_at};
 use ls_elaboration::signs::MOST_SLOTS;
-use ls_elaboration::together::also;
 use ls_elaboration::type_names::type_of;
 use ls_events::value::{Value, ValueType};
 use ls_expressions::expressions::fitting;
@@ -39,12 +38,11 @@ impl<'k> Clone for Context<'k> {
     }
 }
 
-/// The statements of a block so far, the locals in scope behind them, and the types of the method's slots so far.
+/// The statements of a block so far, and the locals in scope behind them.
 #[derive(Drop)]
 pub struct Scope<'t> {
     pub statements: Vec<Statement>,
     pub locals: Vec<Local<'t>>,
-    pub slots: Vec<ValueType>,
 }
 
 /// What a local starts at.
@@ -60,87 +58,77 @@ pub fn start_of(t: ValueType) -> Value
 
 /// One more variable in scope, in the next slot.
 pub fn with_variable<'t>(
-    scope: Scope<'t>,
+    scope: &mut Scope<'t>,
+    slots: &mut Vec<ValueType>,
     name: &'t str,
     t: ValueType,
-) -> Result<Scope<'t>, AllocError>
-    requires { vec_len scope.slots < 128 }
-    ensures grown { IfOk result (λ s. scope_of s ≡ the_variable (scope_of scope.entry) name.entry.now t) }
-    ensures low { IfOk result (λ s. vec_len s.slots ≤ 128) }
+) -> Result<(), AllocError>
+    requires { vec_len slots.old < 128 }
+    ensures grown { OnOk result (scope_of scope.new slots.new.items ≡ the_variable (scope_of scope.old slots.old.items) name.entry.now t) }
+    ensures low { OnOk result (vec_len slots.new ≤ 128) }
 {
-    let Scope {
-        statements,
-        mut locals,
-        mut slots,
-    } = scope;
-    locals.push(Local {
+    scope.locals.push(Local {
         name,
         value_type: t,
         slot: slots.len(),
     })?;
     slots.push(t)?;
-    Ok(Scope {
-        statements,
-        locals,
-        slots,
-    })
+    Ok(())
 }
 
-/// One more statement.
-pub fn with_statement<'t>(scope: Scope<'t>, s: Statement) -> Result<Scope<'t>, AllocError>
-    ensures grown { IfOk result (λ r. scope_of r ≡ the_with_statement (scope_of scope.entry) (plain_statement s)) }
-    ensures same { IfOk result (λ r. vec_len r.slots ≡ vec_len scope.entry.slots) }
+// One more variable in scope, and the statement that gives it its start value.
+fn started<'t>(
+    scope: &mut Scope<'t>,
+    slots: &mut Vec<ValueType>,
+    name: &'t str,
+    t: ValueType,
+) -> Result<(), AllocError>
+    requires { vec_len slots.old < 128 }
+    ensures grown { OnOk result (scope_of scope.new slots.new.items ≡ the_with_statement (the_variable (scope_of scope.old slots.old.items) name.entry.now t) (set_slot (length slots.old.items) (literal (the_start t)))) }
+    ensures low { OnOk result (vec_len slots.new ≤ 128) }
 {
-    let Scope {
-        mut statements,
-        locals,
-        slots,
-    } = scope;
-    statements.push(s)?;
-    Ok(Scope {
-        statements,
-        locals,
-        slots,
-    })
+    let slot = slots.len();
+    with_variable(scope, slots, name, t)?;
+    let start = Expression::Literal(start_of(t));
+    scope.statements.push(Statement::SetSlot(slot, start))?;
+    Ok(())
 }
 
 /// Whether a name may be declared: no variable in scope has it, and there is room.
-pub fn may_declare(method: Span, scope: &Scope, n: &Name) -> Result<(), Broken>
-    ensures may { (go : Elaborated (the_scope)) → the_may_declare method (scope_of scope.now) (placed_name n.now) go ≡ unless_refused result go }
-    ensures room { OnOk result (vec_len scope.now.slots < 128) }
+pub fn may_declare(method: Span, scope: &Scope, slots: &[ValueType], n: &Name) -> Result<(), Broken>
+    ensures may { (go : Elaborated (the_scope)) → the_may_declare method (scope_of scope.now slots.now) (placed_name n.now) go ≡ unless_refused result go }
+    ensures room { OnOk result (length slots.now < 128) }
 {
     if local_named(&scope.locals, n.text.as_str()).is_some() {
         return Err(broken_at(Rule::TwiceDeclared, n.span));
     }
-    if scope.slots.len() >= MOST_SLOTS {
+    if slots.len() >= MOST_SLOTS {
         return Err(broken_at(Rule::Limit, method));
     }
     Ok(())
 }
 
 // The initialiser, where there is one, as an assignment.
-fn initialised<'t>(
+fn initialised(
     context: Context,
     t: ValueType,
     slot: usize,
-    scope: Scope<'t>,
+    scope: &mut Scope,
     value: &Option<Expr>,
-) -> Result<Scope<'t>, Refusal>
-    requires { vec_len scope.slots ≤ 128 }
-    ensures found { Gives scope_of result (the_initialised (known_of context.entry.known) t slot (scope_of scope.entry) (option_map placed value.now)) }
-    ensures low { IfOk result (λ s. vec_len s.slots ≤ 128) }
+) -> Result<(), Refusal>
+    ensures { (slots : List value_type) → Gives (λ _. scope_of scope.new slots) result (the_initialised (known_of context.entry.known) t slot (scope_of scope.old slots) (option_map placed value.now)) }
 {
     match value {
-        None => Ok(scope),
+        None => Ok(()),
         Some(e) => {
             let site = Site {
                 alloc: context.alloc,
                 known: context.known,
                 locals: &scope.locals,
             };
-            let v = fitting(site, t, e);
-            let (scope, v) = also(scope, v)?;
-            Ok(with_statement(scope, Statement::SetSlot(slot, v))?)
+            let v = fitting(site, t, e)?;
+            scope.statements.push(Statement::SetSlot(slot, v))?;
+            Ok(())
         }
     }
 }
@@ -149,38 +137,35 @@ fn initialised<'t>(
 fn declared<'t>(
     context: Context,
     t: ValueType,
-    scope: Scope<'t>,
+    scope: &mut Scope<'t>,
+    slots: &mut Vec<ValueType>,
     d: &'t Declarator,
-) -> Result<Scope<'t>, Refusal>
-    requires { vec_len scope.slots ≤ 128 }
-    ensures found { Gives scope_of result (the_declared (body_of context.entry) t (scope_of scope.entry) (placed_declarator d.entry.now)) }
-    ensures low { IfOk result (λ s. vec_len s.slots ≤ 128) }
+) -> Result<(), Refusal>
+    requires { vec_len slots.old ≤ 128 }
+    ensures found { Gives (λ _. scope_of scope.new slots.new.items) result (the_declared (body_of context.entry) t (scope_of scope.old slots.old.items) (placed_declarator d.entry.now)) }
+    ensures low { OnOk result (vec_len slots.new ≤ 128) }
 {
-    let may = may_declare(context.span, &scope, &d.name);
-    let (scope, _) = also(scope, may)?;
-    let slot = scope.slots.len();
-    let scope = with_variable(scope, d.name.text.as_str(), t)?;
-    let scope = with_statement(
-        scope,
-        Statement::SetSlot(slot, Expression::Literal(start_of(t))),
-    )?;
+    may_declare(context.span, scope, slots, &d.name)?;
+    let slot = slots.len();
+    started(scope, slots, d.name.text.as_str(), t)?;
     initialised(context, t, slot, scope, &d.value)
 }
 
 /// A declaration of locals.
 pub fn declaration<'t>(
     context: Context,
-    scope: Scope<'t>,
+    scope: &mut Scope<'t>,
+    slots: &mut Vec<ValueType>,
     d: &'t Declaration,
-) -> Result<Scope<'t>, Refusal>
-    requires { vec_len scope.slots ≤ 128 }
-    ensures found { Gives scope_of result (the_declaration (body_of context.entry) (scope_of scope.entry) (placed_declaration d.entry.now)) }
-    ensures low { IfOk result (λ s. vec_len s.slots ≤ 128) }
+) -> Result<(), Refusal>
+    requires { vec_len slots.old ≤ 128 }
+    ensures found { Gives (λ _. scope_of scope.new slots.new.items) result (the_declaration (body_of context.entry) (scope_of scope.old slots.old.items) (placed_declaration d.entry.now)) }
+    ensures low { OnOk result (vec_len slots.new ≤ 128) }
 {
-    let (scope, t) = also(scope, type_of(context.known.names, &d.type_name))?;
-    let mut scope = declared(context, t, scope, &d.first)?;
+    let t = type_of(context.known.names, &d.type_name)?;
+    declared(context, t, scope, slots, &d.first)?;
     for d in &d.more {
-        scope = declared(context, t, scope, d)?;
+        declared(context, t, scope, slots, d)?;
     }
-    Ok(scope)
+    Ok(())
 }

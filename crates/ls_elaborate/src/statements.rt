@@ -1,6 +1,6 @@
 // Statements: loops, and what fits where.
 
-ghost use Rattle.std.specs.Prelude.{◌≡◌, ◌<◌, ◌≤◌, ◌∷◌, IfOk, IfSome, length, map, option_map, option_copied, vec_len};
+ghost use Rattle.std.specs.Prelude.{◌≡◌, ◌<◌, ◌≤◌, ◌∷◌, IfOk, Ok, IfSome, OnOk, length, map, option_map, option_copied, vec_len};
 ghost use Rattle.ls_checked.specs.Plain.{plain, plain_statement};
 ghost use Rattle.ls_checked.specs.CheckedTree.{Block as checked_block, If as checked_if, Statement as checked_statement};
 ghost use Rattle.ls_elaboration.specs.Trees.{Items, While as while_written, Block as block_written, Try as try_written};
@@ -17,7 +17,7 @@ use crate::scope::{Context, Scope, declaration};
 use ls_checked::tree::{Expression, Statement};
 use ls_elaboration::known::Local;
 use ls_elaboration::rule::{Broken, Refusal, Rule, broken_at, refused_at};
-use ls_elaboration::together::{also, push, two, with_box};
+use ls_elaboration::together::{also, two, with_box};
 use ls_events::value::ValueType;
 use ls_expressions::assignments::assignment;
 use ls_expressions::expressions::{fitting, typed};
@@ -39,13 +39,6 @@ impl<'r, 't> Clone for Round<'r, 't> {
     fn clone(&self) -> Result<Round<'r, 't>, AllocError> {
         Ok(*self)
     }
-}
-
-/// A statement, and the types of the method's slots behind it.
-#[derive(Drop)]
-pub struct Formed {
-    pub statement: Statement,
-    pub slots: Vec<ValueType>,
 }
 
 fn site_in<'r, 'l, 't>(round: Round<'r, 't>, locals: &'l [Local<'t>]) -> Site<'r, 'l, 't>
@@ -169,16 +162,11 @@ fn returned(
     }
 }
 
-fn if_of(alloc: Global, e: Expression, a: Statement, b: Formed) -> Result<Formed, AllocError>
-    ensures made { IfOk result (λ f. formed_of f ≡ record { tree = checked_if (plain e) (plain_statement a) (plain_statement b.statement); slots = b.slots.items }) }
-    ensures same { IfOk result (λ f. vec_len f.slots ≡ vec_len b.slots) }
+fn if_of(alloc: Global, e: Expression, a: Statement, b: Statement) -> Result<Statement, Refusal>
+    ensures { Gives plain_statement result (Ok (checked_if (plain e) (plain_statement a) (plain_statement b))) }
 {
-    let Formed { statement, slots } = b;
-    let ((e, slots), (a, b)) = also((e, slots), two(alloc, a, statement))?;
-    Ok(Formed {
-        statement: Statement::If(e, a, b),
-        slots,
-    })
+    let (e, (a, b)) = also(e, two(alloc, a, b))?;
+    Ok(Statement::If(e, a, b))
 }
 
 /// A statement.
@@ -186,65 +174,46 @@ fn if_of(alloc: Global, e: Expression, a: Statement, b: Formed) -> Result<Formed
 pub fn statement<'r, 't>(
     round: Round<'r, 't>,
     locals: &[Local<'t>],
-    slots: Vec<ValueType>,
+    slots: &mut Vec<ValueType>,
     s: &'t tree::Statement,
-) -> Result<Formed, Refusal>
-    requires { vec_len slots ≤ 128 }
-    ensures found { Gives formed_of result (the_statement (body_of round.entry.context) (loops_of round.entry) (map local_of locals.now) slots.items (placed_statement s.entry.now)) }
-    ensures low { IfOk result (λ x. vec_len x.slots ≤ 128) }
+) -> Result<Statement, Refusal>
+    requires { vec_len slots.old ≤ 128 }
+    ensures found { Gives (formed_of slots.new.items) result (the_statement (body_of round.entry.context) (loops_of round.entry) (map local_of locals.now) slots.old.items (placed_statement s.entry.now)) }
+    ensures low { OnOk result (vec_len slots.new ≤ 128) }
 {
     match s {
-        tree::Statement::Block(b) => { block(round, locals, slots, &b.items) }
-        tree::Statement::Empty(_) => {
-            let statement = block_of(Vec::new(round.context.alloc));
-            Ok(Formed { statement, slots })
-        }
+        tree::Statement::Block(b) => block(round, locals, slots, &b.items),
+        tree::Statement::Empty(_) => Ok(block_of(Vec::new(round.context.alloc))),
         tree::Statement::If {
             condition,
             then,
             otherwise,
             ..
-        } => { branches(round, locals, slots, condition, then, otherwise) }
+        } => branches(round, locals, slots, condition, then, otherwise),
         tree::Statement::While {
             label,
             condition,
             body,
             ..
-        } => { while_loop(round, locals, slots, label, condition, body) }
+        } => while_loop(round, locals, slots, label, condition, body),
         tree::Statement::Break { label, span } => {
-            let (slots, n) = also(slots, jump(round.loops, label, *span))?;
-            Ok(Formed {
-                statement: Statement::Break(n),
-                slots,
-            })
+            Ok(Statement::Break(jump(round.loops, label, *span)?))
         }
         tree::Statement::Continue { label, span } => {
-            let (slots, n) = also(slots, jump(round.loops, label, *span))?;
-            Ok(Formed {
-                statement: Statement::Continue(n),
-                slots,
-            })
+            Ok(Statement::Continue(jump(round.loops, label, *span)?))
         }
         tree::Statement::Return { value, span } => {
-            let s = returned(site_in(round, locals), round.context.result, value, *span);
-            let (slots, statement) = also(slots, s)?;
-            Ok(Formed { statement, slots })
+            returned(site_in(round, locals), round.context.result, value, *span)
         }
         tree::Statement::Try { body, finally, .. } => {
             try_finally(round, locals, slots, &body.items, &finally.items)
         }
         tree::Statement::Assign { target, value, .. } => {
-            let s = assignment(site_in(round, locals), target, value);
-            let (slots, statement) = also(slots, s)?;
-            Ok(Formed { statement, slots })
+            assignment(site_in(round, locals), target, value)
         }
         tree::Statement::Expression { value, .. } => {
-            let x = typed(site_in(round, locals), value);
-            let (slots, x) = also(slots, x)?;
-            Ok(Formed {
-                statement: Statement::Evaluate(x.expression),
-                slots,
-            })
+            let x = typed(site_in(round, locals), value)?;
+            Ok(Statement::Evaluate(x.expression))
         }
     }
 }
@@ -253,31 +222,23 @@ pub fn statement<'r, 't>(
 fn branches<'r, 't>(
     round: Round<'r, 't>,
     locals: &[Local<'t>],
-    slots: Vec<ValueType>,
+    slots: &mut Vec<ValueType>,
     condition: &'t Expr,
     then: &'t tree::Statement,
     otherwise: &'t Option<Box<tree::Statement>>,
-) -> Result<Formed, Refusal>
-    requires { vec_len slots ≤ 128 }
-    ensures found { Gives formed_of result (the_statement (body_of round.entry.context) (loops_of round.entry) (map local_of locals.now) slots.items (if_of (placed condition.entry.now) (placed_statement then.entry.now) (placed_other otherwise.entry.now))) }
-    ensures low { IfOk result (λ x. vec_len x.slots ≤ 128) }
+) -> Result<Statement, Refusal>
+    requires { vec_len slots.old ≤ 128 }
+    ensures found { Gives (formed_of slots.new.items) result (the_statement (body_of round.entry.context) (loops_of round.entry) (map local_of locals.now) slots.old.items (if_of (placed condition.entry.now) (placed_statement then.entry.now) (placed_other otherwise.entry.now))) }
+    ensures low { OnOk result (vec_len slots.new ≤ 128) }
 {
+    let alloc = round.context.alloc;
     let e = fitting(site_in(round, locals), ValueType::Boolean, condition)?;
-    let a = statement(round, locals, slots, then);
-    let (e, a) = also(e, a)?;
-    let Formed {
-        statement: a,
-        slots,
-    } = a;
+    let (e, a) = also(e, statement(round, locals, slots, then))?;
     match otherwise {
-        None => {
-            let statement = block_of(Vec::new(round.context.alloc));
-            Ok(if_of(round.context.alloc, e, a, Formed { statement, slots })?)
-        }
+        None => if_of(alloc, e, a, block_of(Vec::new(alloc))),
         Some(other) => {
-            let b = statement(round, locals, slots, other);
-            let ((e, a), b) = also((e, a), b)?;
-            Ok(if_of(round.context.alloc, e, a, b)?)
+            let ((e, a), b) = also((e, a), statement(round, locals, slots, other))?;
+            if_of(alloc, e, a, b)
         }
     }
 }
@@ -286,59 +247,59 @@ fn branches<'r, 't>(
 fn while_loop<'r, 't>(
     round: Round<'r, 't>,
     locals: &[Local<'t>],
-    slots: Vec<ValueType>,
+    slots: &mut Vec<ValueType>,
     label: &'t Option<Name>,
     condition: &'t Expr,
     body: &'t tree::Statement,
-) -> Result<Formed, Refusal>
-    requires { vec_len slots ≤ 128 }
-    ensures found { Gives formed_of result (the_statement (body_of round.entry.context) (loops_of round.entry) (map local_of locals.now) slots.items (while_written (option_map placed_name label.entry.now) (placed condition.entry.now) (placed_statement body.entry.now))) }
-    ensures low { IfOk result (λ x. vec_len x.slots ≤ 128) }
+) -> Result<Statement, Refusal>
+    requires { vec_len slots.old ≤ 128 }
+    ensures found { Gives (formed_of slots.new.items) result (the_statement (body_of round.entry.context) (loops_of round.entry) (map local_of locals.now) slots.old.items (while_written (option_map placed_name label.entry.now) (placed condition.entry.now) (placed_statement body.entry.now))) }
+    ensures low { OnOk result (vec_len slots.new ≤ 128) }
 {
     fresh_label(round.loops, label)?;
     let e = fitting(site_in(round, locals), ValueType::Boolean, condition)?;
-    let (e, inner) = also(e, within(round.context.alloc, round.loops, label))?;
+    let (e, s) = also(e, looped(round, locals, slots, label, body))?;
+    let (e, s) = with_box(round.context.alloc, e, s)?;
+    Ok(Statement::While(e, s))
+}
+
+// The body of a loop with a label.
+#[cycle(statements)]
+fn looped<'r, 't>(
+    round: Round<'r, 't>,
+    locals: &[Local<'t>],
+    slots: &mut Vec<ValueType>,
+    label: &'t Option<Name>,
+    body: &'t tree::Statement,
+) -> Result<Statement, Refusal>
+    requires { vec_len slots.old ≤ 128 }
+    ensures found { Gives (formed_of slots.new.items) result (the_statement (body_of round.entry.context) (label_text (option_map placed_name label.entry.now) ∷ loops_of round.entry) (map local_of locals.now) slots.old.items (placed_statement body.entry.now)) }
+    ensures low { OnOk result (vec_len slots.new ≤ 128) }
+{
+    let inner = within(round.context.alloc, round.loops, label)?;
     let inside = Round {
         context: round.context,
         loops: &inner,
     };
-    let s = statement(inside, locals, slots, body);
-    let (e, s) = also(e, s)?;
-    let Formed { statement, slots } = s;
-    let ((e, slots), body) = with_box(round.context.alloc, (e, slots), statement)?;
-    Ok(Formed {
-        statement: Statement::While(e, body),
-        slots,
-    })
+    statement(inside, locals, slots, body)
 }
 
 #[cycle(statements)]
 fn try_finally<'r, 't>(
     round: Round<'r, 't>,
     locals: &[Local<'t>],
-    slots: Vec<ValueType>,
+    slots: &mut Vec<ValueType>,
     body: &'t [BlockItem],
     finally: &'t [BlockItem],
-) -> Result<Formed, Refusal>
-    requires { vec_len slots ≤ 128 }
-    ensures found { Gives formed_of result (the_statement (body_of round.entry.context) (loops_of round.entry) (map local_of locals.now) slots.items (try_written (placed_items body.entry.now) (placed_items finally.entry.now))) }
-    ensures low { IfOk result (λ x. vec_len x.slots ≤ 128) }
+) -> Result<Statement, Refusal>
+    requires { vec_len slots.old ≤ 128 }
+    ensures found { Gives (formed_of slots.new.items) result (the_statement (body_of round.entry.context) (loops_of round.entry) (map local_of locals.now) slots.old.items (try_written (placed_items body.entry.now) (placed_items finally.entry.now))) }
+    ensures low { OnOk result (vec_len slots.new ≤ 128) }
 {
-    let Formed {
-        statement: b,
-        slots,
-    } = block(round, locals, slots, body)?;
-    let f = block(round, locals, slots, finally);
-    let (b, f) = also(b, f)?;
-    let Formed {
-        statement: f,
-        slots,
-    } = f;
+    let b = block(round, locals, slots, body)?;
+    let (b, f) = also(b, block(round, locals, slots, finally))?;
     let (b, f) = two(round.context.alloc, b, f)?;
-    Ok(Formed {
-        statement: Statement::Try(b, f),
-        slots,
-    })
+    Ok(Statement::Try(b, f))
 }
 
 // A block, whose locals are added to a copy of those in scope.
@@ -346,72 +307,59 @@ fn try_finally<'r, 't>(
 fn block<'r, 't>(
     round: Round<'r, 't>,
     locals: &[Local<'t>],
-    slots: Vec<ValueType>,
+    slots: &mut Vec<ValueType>,
     items: &'t [BlockItem],
-) -> Result<Formed, Refusal>
-    requires { vec_len slots ≤ 128 }
-    ensures found { Gives formed_of result (the_statement (body_of round.entry.context) (loops_of round.entry) (map local_of locals.now) slots.items (block_written (placed_items items.entry.now))) }
-    ensures low { IfOk result (λ x. vec_len x.slots ≤ 128) }
+) -> Result<Statement, Refusal>
+    requires { vec_len slots.old ≤ 128 }
+    ensures found { Gives (formed_of slots.new.items) result (the_statement (body_of round.entry.context) (loops_of round.entry) (map local_of locals.now) slots.old.items (block_written (placed_items items.entry.now))) }
+    ensures low { OnOk result (vec_len slots.new ≤ 128) }
 {
-    let locals = Vec::from_slice(round.context.alloc, locals)?;
-    let scope = Scope {
-        statements: Vec::new(round.context.alloc),
+    let alloc = round.context.alloc;
+    let locals = Vec::from_slice(alloc, locals)?;
+    let mut scope = Scope {
+        statements: Vec::new(alloc),
         locals,
-        slots,
     };
-    let scope = all_items(round, scope, items)?;
-    Ok(Formed {
-        statement: block_of(scope.statements),
-        slots: scope.slots,
-    })
+    all_items(round, &mut scope, slots, items)?;
+    Ok(block_of(scope.statements))
 }
 
 /// The statements and declarations of a block, one after another.
 #[cycle(statements)]
 pub fn all_items<'r, 't>(
     round: Round<'r, 't>,
-    before: Scope<'t>,
+    scope: &mut Scope<'t>,
+    slots: &mut Vec<ValueType>,
     items: &'t [BlockItem],
-) -> Result<Scope<'t>, Refusal>
-    requires { vec_len before.slots ≤ 128 }
-    ensures found { Gives scope_of result (the_items (body_of round.entry.context) (loops_of round.entry) (scope_of before.entry) (placed_items items.entry.now)) }
-    ensures low { IfOk result (λ x. vec_len x.slots ≤ 128) }
+) -> Result<(), Refusal>
+    requires { vec_len slots.old ≤ 128 }
+    ensures found { Gives (λ _. scope_of scope.new slots.new.items) result (the_items (body_of round.entry.context) (loops_of round.entry) (scope_of scope.old slots.old.items) (placed_items items.entry.now)) }
+    ensures low { OnOk result (vec_len slots.new ≤ 128) }
 {
-    let mut scope = before;
     for item in items {
-        scope = one_item(round, scope, item)?;
+        one_item(round, scope, slots, item)?;
     }
-    Ok(scope)
+    Ok(())
 }
 
 // One more statement or declaration of a block.
 #[cycle(statements)]
 fn one_item<'r, 't>(
     round: Round<'r, 't>,
-    scope: Scope<'t>,
+    scope: &mut Scope<'t>,
+    slots: &mut Vec<ValueType>,
     item: &'t BlockItem,
-) -> Result<Scope<'t>, Refusal>
-    requires { vec_len scope.slots ≤ 128 }
-    ensures found { (rest : Items) → Leads scope_of (λ s. the_items (body_of round.entry.context) (loops_of round.entry) s rest) result (the_items (body_of round.entry.context) (loops_of round.entry) (scope_of scope.entry) (placed_before item.entry.now rest)) }
-    ensures low { IfOk result (λ x. vec_len x.slots ≤ 128) }
+) -> Result<(), Refusal>
+    requires { vec_len slots.old ≤ 128 }
+    ensures found { (rest : Items) → Leads (λ _. scope_of scope.new slots.new.items) (λ s. the_items (body_of round.entry.context) (loops_of round.entry) s rest) result (the_items (body_of round.entry.context) (loops_of round.entry) (scope_of scope.old slots.old.items) (placed_before item.entry.now rest)) }
+    ensures low { OnOk result (vec_len slots.new ≤ 128) }
 {
     match item {
         BlockItem::Statement(s) => {
-            let Scope {
-                statements,
-                locals,
-                slots,
-            } = scope;
-            let s = statement(round, &locals, slots, s);
-            let ((statements, locals), s) = also((statements, locals), s)?;
-            let Formed { statement, slots } = s;
-            let ((locals, slots), statements) = also((locals, slots), push(statements, statement))?;
-            Ok(Scope {
-                statements,
-                locals,
-                slots,
-            })
+            let s = statement(round, &scope.locals, slots, s)?;
+            scope.statements.push(s)?;
+            Ok(())
         }
-        BlockItem::Declaration(d) => { declaration(round.context, scope, d) }
+        BlockItem::Declaration(d) => declaration(round.context, scope, slots, d),
     }
 }

@@ -2,7 +2,6 @@
 use Rattle.std.specs.Prelude.{◌≡◌, List, map}
 use Rattle.ls_checked.specs.Plain.{plain_file}
 use Rattle.ls_checked.specs.declared.tree.File.{File}
-use Rattle.ls_tree.specs.declared.tree.ClassFile.{ClassFile}
 use Rattle.ls_elaboration.specs.declared.rule.Rule.TheVariants as rules
 use Rattle.ls_elaboration.specs.Trees.{Text}
 use Rattle.ls_elaboration.specs.Known.{ClassSign}
@@ -12,9 +11,6 @@ use Rattle.ls_elaboration.specs.Tables.{texts_of, class_sign_of}
 use Rattle.ls_types.specs.declared.check.Checked.{Checked}
 use Rattle.ls_types.specs.declared.check.CheckFault.{CheckFault}
 use Rattle.ls_types.specs.declared.check.CheckFault.TheVariants as faults
-
-abbrev pub parsed_of : Checked → ClassFile
-parsed_of c = c.parsed
 
 abbrev pub file_of : Checked → File
 file_of c = c.file

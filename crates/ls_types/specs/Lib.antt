@@ -1,3 +1,4 @@
 pub mod CheckedFile
+pub mod Kept
 pub mod ProgramViews
 pub mod ProgramRefusals

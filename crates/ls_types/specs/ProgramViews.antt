@@ -1,8 +1,6 @@
 -- What contracts see of a program that is being read.
 use Rattle.std.specs.Prelude.{◌≡◌, ℕ, List, map, string_bytes, Option, Some, None, Result, Ok, Err, option_map}
-use Rattle.ls_checked.specs.CheckedProgram.{Program}
-use Rattle.ls_checked.specs.PlainProgram.{plain_name, plain_call, plain_thread, plain_program}
-use Rattle.ls_checked.specs.declared.program.Program.{Program as code_program}
+use Rattle.ls_checked.specs.PlainProgram.{plain_name, plain_call, plain_thread}
 use Rattle.ls_types.specs.declared.fault.ProgramFault.{ProgramFault}
 use Rattle.ls_types.specs.declared.fault.ProgramFault.TheVariants as faults
 use Rattle.ls_types.specs.declared.calls.Callee.{Callee}
@@ -11,9 +9,9 @@ use Rattle.ls_types.specs.declared.calls.Pending.{Pending}
 use Rattle.ls_types.specs.declared.reading.Stage.{Stage}
 use Rattle.ls_types.specs.declared.reading.Stage.TheVariants as stages
 use Rattle.ls_types.specs.declared.reading.Parts.{Parts}
-use Rattle.ls_types.specs.declared.reading.Reading.{Reading}
 use Rattle.ls_programs.specs.ProgramCalls as calls
 use Rattle.ls_programs.specs.ThreadPrograms as programs
+use Rattle.ls_types.specs.ProgramRefusals.{Says}
 use Rattle.ls_programs.specs.Stops.{Marks, unmarked, name_mark, callee_mark, minus_mark, marked, Why, Fault, Bad, Unknown, References, Past, fault_for, fault_at_end}
 
 abbrev pub callee_of : Callee → calls.Callee
@@ -22,14 +20,6 @@ callee_of (callees.Method name method method_name answers) = calls.Method name m
 
 abbrev pub pending_of : Pending → calls.Pending
 pending_of p = record { callee = callee_of p.callee; types = p.types.items; values = p.values.items }
-
--- what is read, or nothing where it is refused
-abbrev pub reads : {X Y : Type 0} → (X → Y) → Result X ProgramFault → Option Y
-reads view (Ok x) = Some (view x)
-reads view (Err e) = None
-
-abbrev pub reads_pending : Result Pending ProgramFault → Option calls.Pending
-reads_pending r = reads pending_of r
 
 abbrev pub stage_of : Stage → programs.Stage
 stage_of stages.AtSetup = programs.AtSetup
@@ -56,22 +46,17 @@ parts_of r = record {
   calls = map plain_call r.calls.items;
 }
 
-abbrev pub reading_of : Reading → programs.Reading
-reading_of r = record { stage = stage_of r.stage; parts = parts_of r.parts }
+abbrev pub reading_of : Parts → Stage → programs.Reading
+reading_of r s = record { stage = stage_of s; parts = parts_of r }
 
-abbrev pub reads_on : Result Reading ProgramFault → Option programs.Reading
-reads_on r = reads reading_of r
+-- a refusal for another reason than want of memory says that no program of the file goes on so
+abbrev pub Refuses : {X : Type 0} → ProgramFault → Option X → Type 0
+Refuses e said = Says e (said ≡ None)
 
-abbrev pub reads_program : Result code_program ProgramFault → Option Program
-reads_program r = reads plain_program r
-
--- a refusal for another reason than want of memory says that the text is no program
-abbrev pub Refuses : ProgramFault → Option Program → Type 0
-Refuses faults.Memory p = Unit {0}
-Refuses (faults.BadProgram at) p = p ≡ None
-Refuses (faults.UnknownThing at) p = p ≡ None
-Refuses (faults.ReferenceResult at) p = p ≡ None
-Refuses faults.ProgramLimit p = p ≡ None
+-- the answer, seen by view, is what the definition says, unless memory ran out
+abbrev pub Gives : {X Y : Type 0} → (X → Y) → Result X ProgramFault → Option Y → Type 0
+Gives view (Ok x) said = said ≡ Some (view x)
+Gives view (Err e) said = Refuses e said
 
 -- the places that a stage keeps
 abbrev pub marks_of : Stage → Marks
@@ -90,17 +75,25 @@ fault_seen (Unknown at) = faults.UnknownThing at
 fault_seen (References at) = faults.ReferenceResult at
 fault_seen Past = faults.ProgramLimit
 
+-- the fault is this one, unless memory ran out
+abbrev pub IsFault : ProgramFault → Fault → Type 0
+IsFault e f = Says e (e ≡ fault_seen f)
+
 -- behind a token at the place the next stage keeps its marks; or else this is the fault
-abbrev pub Goes : Marks → ℕ → Why → Result Reading ProgramFault → Type 0
-Goes m at why (Ok q) = marks_of q.stage ≡ marked m at (stage_of q.stage)
-Goes m at why (Err e) = e ≡ fault_seen (fault_for m at why)
+abbrev pub Goes : Marks → ℕ → Why → Result Stage ProgramFault → Type 0
+Goes m at why (Ok s) = marks_of s ≡ marked m at (stage_of s)
+Goes m at why (Err e) = IsFault e (fault_for m at why)
 
 -- a call at its place, or this fault
-abbrev pub Called : ℕ → ProgramFault → Result Pending ProgramFault → Type 0
-Called at fault (Ok p) = p.at ≡ at
-Called at fault (Err e) = e ≡ fault
+abbrev pub Called : ℕ → Fault → Result Pending ProgramFault → Type 0
+Called at f (Ok p) = p.at ≡ at
+Called at f (Err e) = IsFault e f
 
--- read to the end, or stopped by this fault
-abbrev pub StopsAt : ℕ → Option Fault → Result Reading ProgramFault → Type 0
-StopsAt end stop (Ok q) = stop ≡ fault_at_end end (programs.ended (stage_of q.stage))
-StopsAt end stop (Err e) = option_map fault_seen stop ≡ Some e
+-- reading stops with this fault, unless memory ran out
+abbrev pub StopsWith : ProgramFault → Option Fault → Type 0
+StopsWith e stop = Says e (option_map fault_seen stop ≡ Some e)
+
+-- read to the end, which is one or a fault, or stopped by this fault
+abbrev pub StopsAt : ℕ → Option Fault → Result Stage ProgramFault → Type 0
+StopsAt end stop (Ok s) = stop ≡ fault_at_end end (programs.ended (stage_of s))
+StopsAt end stop (Err e) = StopsWith e stop

@@ -1,13 +1,13 @@
 // The calls of a thread program against the classes of a file.
 
-ghost use Rattle.std.specs.Prelude.{◌≡◌, ◌<◌, [], IfOk, IfSome, Some, length, map, option_map, slice_get};
+ghost use Rattle.std.specs.Prelude.{◌≡◌, ◌<◌, [], IfOk, IfSome, length, map, option_map, slice_get, Some};
 ghost use Rattle.ls_checked.specs.PlainProgram.{plain_name, plain_call};
 ghost use Rattle.ls_elaboration.specs.Known.{number_of};
 ghost use Rattle.ls_elaboration.specs.Tables.{method_sign_of};
 ghost use Rattle.ls_types.specs.CheckedFile.{outcome_of, names_of};
 ghost use Rattle.ls_programs.specs.ProgramCalls.{setup_named as the_setup_named, maker as the_maker, is_plain as the_plain, method_on as the_method_on, called_on as the_called_on, fits as the_fits, with_argument as the_with_argument, is_full as the_full, plain_number as the_plain_number, minus_number as the_minus_number, call_of as the_call_of, names_after as the_names_after};
-ghost use Rattle.ls_programs.specs.Stops.{unmarked, callee_mark, fault_for, why_method, why_value};
-ghost use Rattle.ls_types.specs.ProgramViews.{callee_of, pending_of, reads_pending, Called, fault_seen};
+ghost use Rattle.ls_programs.specs.Stops.{Unknown, unmarked, callee_mark, fault_for, why_method, why_value};
+ghost use Rattle.ls_types.specs.ProgramViews.{callee_of, pending_of, Gives, Called};
 
 use crate::check::Checked;
 use crate::fault::ProgramFault;
@@ -85,23 +85,21 @@ pub fn maker<'a>(
     name: &'a str,
     class_name: &'a str,
     at: usize,
-) -> Result<Option<Pending<'a>>, AllocError>
-    ensures read { IfOk result (λ o. option_map pending_of o ≡ the_maker (outcome_of checked.now) name.entry.now class_name.entry.now (number_of (names_of checked.now) class_name.entry.now)) }
-    ensures place { IfOk result (λ o. IfSome o (λ p. p.at ≡ at)) }
+) -> Result<Pending<'a>, ProgramFault>
+    ensures read { Gives pending_of result (the_maker (outcome_of checked.now) name.entry.now class_name.entry.now (number_of (names_of checked.now) class_name.entry.now)) }
+    ensures place { Called at (Unknown at) result }
 {
-    match class_number(checked.class_names(), class_name) {
-        None => Ok(None),
-        Some(class) => {
-            let callee = Callee::Maker {
-                name,
-                class,
-                class_name,
-            };
-            match checked.class_signs().get(class) {
-                None => Ok(Some(begun(alloc, callee, at, &[])?)),
-                Some(c) => Ok(Some(begun(alloc, callee, at, &c.parameters)?)),
-            }
-        }
+    let Some(class) = class_number(checked.class_names(), class_name) else {
+        return Err(ProgramFault::UnknownThing { at });
+    };
+    let callee = Callee::Maker {
+        name,
+        class,
+        class_name,
+    };
+    match checked.class_signs().get(class) {
+        None => Ok(begun(alloc, callee, at, &[])?),
+        Some(c) => Ok(begun(alloc, callee, at, &c.parameters)?),
     }
 }
 
@@ -140,26 +138,23 @@ pub fn called_on<'a>(
     n: usize,
     name: &'a str,
     at: usize,
-) -> Result<Result<Pending<'a>, ProgramFault>, AllocError>
-    ensures read { IfOk result (λ r. reads_pending r ≡ the_called_on (outcome_of checked.now) n (slice_get (map plain_name names.now) n) name.entry.now) }
-    ensures place { IfOk result (λ r. Called at (fault_seen (fault_for unmarked at (why_method (the_method_on (outcome_of checked.now) (slice_get (map plain_name names.now) n) name.entry.now)))) r) }
+) -> Result<Pending<'a>, ProgramFault>
+    ensures read { Gives pending_of result (the_called_on (outcome_of checked.now) n (slice_get (map plain_name names.now) n) name.entry.now) }
+    ensures place { Called at (fault_for unmarked at (why_method (the_method_on (outcome_of checked.now) (slice_get (map plain_name names.now) n) name.entry.now))) result }
 {
-    match method_on(checked, names.get(n), name) {
-        None => Ok(Err(ProgramFault::UnknownThing { at })),
-        Some(m) => {
-            if is_plain(m.result) {
-                let callee = Callee::Method {
-                    name: n,
-                    method: m.number,
-                    method_name: name,
-                    answers: m.result,
-                };
-                Ok(Ok(begun(alloc, callee, at, &m.parameters)?))
-            } else {
-                Ok(Err(ProgramFault::ReferenceResult { at }))
-            }
-        }
+    let Some(m) = method_on(checked, names.get(n), name) else {
+        return Err(ProgramFault::UnknownThing { at });
+    };
+    if !is_plain(m.result) {
+        return Err(ProgramFault::ReferenceResult { at });
     }
+    let callee = Callee::Method {
+        name: n,
+        method: m.number,
+        method_name: name,
+        answers: m.result,
+    };
+    Ok(begun(alloc, callee, at, &m.parameters)?)
 }
 
 fn fits(t: ValueType, v: Value) -> bool
@@ -174,34 +169,21 @@ fn fits(t: ValueType, v: Value) -> bool
 
 /// One more argument, which stands at `at`.
 pub fn with_argument<'a>(
-    p: Pending<'a>,
+    mut p: Pending<'a>,
     v: Value,
     at: usize,
-) -> Result<Result<Pending<'a>, ProgramFault>, AllocError>
-    ensures read { IfOk result (λ r. reads_pending r ≡ the_with_argument (pending_of p.entry) v) }
-    ensures place { IfOk result (λ r. Called p.entry.at (fault_seen (fault_for (callee_mark p.entry.at) at (why_value (pending_of p.entry)))) r) }
+) -> Result<Pending<'a>, ProgramFault>
+    ensures read { Gives pending_of result (the_with_argument (pending_of p.entry) v) }
+    ensures place { Called p.entry.at (fault_for (callee_mark p.entry.at) at (why_value (pending_of p.entry))) result }
 {
-    match p.types.get(p.values.len()) {
-        None => Ok(Err(ProgramFault::UnknownThing { at: p.at })),
-        Some(t) => {
-            if !fits(*t, v) {
-                return Ok(Err(ProgramFault::UnknownThing { at }));
-            }
-            let Pending {
-                callee,
-                at,
-                types,
-                mut values,
-            } = p;
-            values.push(v)?;
-            Ok(Ok(Pending {
-                callee,
-                at,
-                types,
-                values,
-            }))
-        }
+    let Some(t) = p.types.get(p.values.len()) else {
+        return Err(ProgramFault::UnknownThing { at: p.at });
+    };
+    if !fits(*t, v) {
+        return Err(ProgramFault::UnknownThing { at });
     }
+    p.values.push(v)?;
+    Ok(p)
 }
 
 /// Whether every parameter has its argument.
@@ -268,23 +250,17 @@ pub fn call_of(alloc: Global, names: usize, p: Pending) -> Result<ProgramCall, A
     }
 }
 
-/// The setup names behind a call.
-pub fn names_after(
+/// Adds the setup name that a call gives, if it gives one.
+pub fn name_callee(
     alloc: Global,
-    names: Vec<SetupName>,
+    names: &mut Vec<SetupName>,
     callee: Callee,
-) -> Result<Vec<SetupName>, AllocError>
-    ensures { IfOk result (λ v. map plain_name v.items ≡ the_names_after (map plain_name names.items) (callee_of callee.entry)) }
+) -> Result<(), AllocError>
+    ensures { IfOk result (λ _. map plain_name names.new.items ≡ the_names_after (map plain_name names.old.items) (callee_of callee.entry)) }
 {
-    match callee {
-        Callee::Maker { name, class, .. } => {
-            let mut names = names;
-            names.push(SetupName {
-                name: String::from_str(alloc, name)?,
-                class,
-            })?;
-            Ok(names)
-        }
-        Callee::Method { .. } => Ok(names),
+    if let Callee::Maker { name, class, .. } = callee {
+        let name = String::from_str(alloc, name)?;
+        names.push(SetupName { name, class })?;
     }
+    Ok(())
 }

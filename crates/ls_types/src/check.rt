@@ -1,17 +1,15 @@
 // Checked files.
 
-ghost use Rattle.std.specs.Prelude.{◌≡◌, Ok, map};
+ghost use Rattle.std.specs.Prelude.{◌≡◌, map};
 ghost use Rattle.ls_checked.specs.Plain.{plain_file};
-ghost use Rattle.ls_elaboration.specs.Elaboration.{elaborated};
-ghost use Rattle.ls_elaboration.specs.PlacedStatements.{placed_file};
 ghost use Rattle.ls_elaboration.specs.Tables.{texts_of, class_sign_of};
+ghost use Rattle.ls_types.specs.Kept.{IsElaborated};
 
 use indexmap::IndexSet;
 use ls_checked::tree::File;
 use ls_elaboration::known::ClassSign;
 use ls_elaboration::outcome::Outcome;
 use ls_lexer::token::Span;
-use ls_tree::tree::ClassFile;
 use std::alloc::AllocError;
 use thiserror::Error;
 
@@ -54,42 +52,28 @@ impl From<AllocError> for CheckFault {
     }
 }
 
-/// A class text's tree that keeps every rule, with its checked file.
+/// The checked file of a class text that keeps every rule.
 #[derive(Drop)]
 pub struct Checked {
-    parsed: ClassFile,
     names: IndexSet<String>,
     signs: Vec<ClassSign>,
     file: File,
-    /// The file is the elaboration of the tree.
-    pub ghost kept: { ∥ elaborated (placed_file parsed) ≡ Ok (record { names = texts_of names; signs = map class_sign_of signs.items; file = plain_file file }) ∥₁ },
+    /// The file is the elaboration of a tree.
+    pub ghost kept: { ∥ IsElaborated (record { names = texts_of names; signs = map class_sign_of signs.items; file = plain_file file }) ∥₁ },
 }
 
 impl Checked {
-    ghost use Rattle.ls_types.specs.CheckedFile.{parsed_of, file_of, names_of, signs_of};
+    ghost use Rattle.ls_types.specs.CheckedFile.{file_of, names_of, signs_of};
     ghost use Rattle.ls_elaboration.specs.Outcomes.{outcome_of as outcome_seen};
 
-    pub(crate) fn new(parsed: ClassFile, outcome: Outcome) -> Checked
-        requires { elaborated (placed_file parsed) ≡ Ok (outcome_seen outcome) }
-        ensures same { parsed_of result ≡ parsed }
+    pub(crate) fn new(outcome: Outcome) -> Checked
+        requires { IsElaborated (outcome_seen outcome) }
         ensures names { names_of result ≡ texts_of outcome.names }
         ensures signs { signs_of result ≡ map class_sign_of outcome.signs.items }
         ensures file { file_of result ≡ outcome.file }
     {
         let Outcome { names, signs, file } = outcome;
-        Checked {
-            parsed,
-            names,
-            signs,
-            file,
-        }
-    }
-
-    /// The tree as it was parsed.
-    pub fn parsed(&self) -> &ClassFile
-        ensures { result.now ≡ parsed_of self.now }
-    {
-        &self.parsed
+        Checked { names, signs, file }
     }
 
     pub fn file(&self) -> &File

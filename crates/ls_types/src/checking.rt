@@ -3,7 +3,7 @@
 ghost use Rattle.std.specs.Prelude.{◌≡◌, IfOk, IfErr};
 ghost use Rattle.ls_elaboration.specs.Elaboration.{elaborated};
 ghost use Rattle.ls_elaboration.specs.PlacedStatements.{placed_file};
-ghost use Rattle.ls_types.specs.CheckedFile.{parsed_of, outcome_of, Names};
+ghost use Rattle.ls_types.specs.CheckedFile.{outcome_of, Names};
 
 use crate::check::{CheckFault, Checked};
 use ls_elaborate::elaboration::elaborate;
@@ -31,12 +31,11 @@ fn fault_of(b: Broken) -> CheckFault
 
 /// Checks a class text's tree: the checked file, or a rule that is broken and where.
 pub fn check(alloc: Global, parsed: ClassFile) -> Result<Checked, CheckFault>
-    ensures same { IfOk result (λ c. parsed_of c ≡ parsed) }
     ensures checked { IfOk result (λ c. elaborated (placed_file parsed) ≡ Ok (outcome_of c)) }
     ensures refused { IfErr result (λ e. Names e (elaborated (placed_file parsed))) }
 {
     match elaborate(alloc, &parsed) {
-        Ok(outcome) => Ok(Checked::new(parsed, outcome)),
+        Ok(outcome) => Ok(Checked::new(outcome)),
         Err(Refusal::Memory) => Err(CheckFault::Memory),
         Err(Refusal::Broken(b)) => Err(fault_of(b)),
     }

@@ -1,90 +1,74 @@
 // Thread programs.
 
-ghost use Rattle.std.specs.Prelude.{◌≡◌, IfOk, IfErr, Some, option_map};
+ghost use Rattle.std.specs.Prelude.{◌≡◌, ℕ, IfOk, IfErr, Some};
 ghost use Rattle.ls_lexer.specs.Lexemes.{lexemes};
 ghost use Rattle.ls_lexer.specs.Places.{Refused};
 ghost use Rattle.ls_elaboration.specs.Trees.{Text};
 ghost use Rattle.ls_elaboration.specs.Elaboration.{Outcome};
 ghost use Rattle.ls_checked.specs.PlainProgram.{plain_program};
 ghost use Rattle.ls_types.specs.CheckedFile.{outcome_of};
-ghost use Rattle.ls_programs.specs.ThreadPrograms.{ended, after, beginning as the_beginning, whole as the_whole, program_of, program_of_tokens};
+ghost use Rattle.ls_programs.specs.ThreadPrograms.{after, beginning as the_beginning, program_of, program_of_tokens};
 ghost use Rattle.ls_programs.specs.Programs.{IsTextOf};
-ghost use Rattle.ls_programs.specs.Stops.{stops, unmarked, fault_at_end};
-ghost use Rattle.ls_types.specs.ProgramViews.{stage_of, reading_of, reads_on, reads_program, fault_seen, StopsAt, Refuses};
+ghost use Rattle.ls_programs.specs.Stops.{stops, unmarked};
+ghost use Rattle.ls_types.specs.ProgramViews.{parts_of, reading_of, Gives, StopsAt, StopsWith, Refuses};
 ghost use Rattle.ls_types.specs.ProgramRefusals.{Stands};
 
 use crate::check::Checked;
 use crate::fault::ProgramFault;
-use crate::reading::{Parts, Reading, Stage};
-use crate::steps::stepped;
+use crate::reading::{Parts, Stage};
 use ls_checked::program::Program;
 use ls_lexer::fault::TextFault;
 use ls_lexer::lexing::lex;
 use ls_lexer::token::Token;
 use std::alloc::{AllocError, Global};
 
-fn beginning<'a>(alloc: Global) -> Result<Reading<'a>, AllocError>
-    ensures { IfOk result (λ r. reading_of r ≡ the_beginning) }
+fn beginning(alloc: Global) -> Result<Parts, AllocError>
+    ensures { IfOk result (λ parts. parts_of parts ≡ the_beginning.parts) }
 {
-    let name = String::from_str(alloc, "setup")?;
-    let parts = Parts {
+    Ok(Parts {
         names: Vec::new(alloc),
         threads: Vec::new(alloc),
-        name,
+        name: String::from_str(alloc, "setup")?,
         calls: Vec::new(alloc),
-    };
-    Ok(Reading {
-        stage: Stage::AtSetup,
-        parts,
     })
 }
 
-fn all_tokens<'a>(
+// All tokens, behind which the stage is the one that is answered.
+fn read_tokens<'a>(
+    alloc: Global,
+    checked: &Checked,
+    parts: &mut Parts,
+    tokens: &[Token<'a>],
+) -> Result<Stage<'a>, ProgramFault>
+    requires { parts_of parts.old ≡ the_beginning.parts }
+    ensures read { Gives (reading_of parts.new) result (after (outcome_of checked.now) (Some the_beginning) (lexemes tokens.now)) }
+    ensures place { (end : ℕ) → StopsAt end (stops (outcome_of checked.now) end unmarked the_beginning tokens.now) result }
+{
+    let mut stage = Stage::AtSetup;
+    for token in tokens {
+        stage = parts.stepped(alloc, checked, stage, *token)?;
+    }
+    Ok(stage)
+}
+
+// A program ends behind a block; `end` is where the text does.
+fn whole<'a>(
     alloc: Global,
     checked: &Checked,
     tokens: &[Token<'a>],
     end: usize,
-) -> Result<Result<Reading<'a>, ProgramFault>, AllocError>
-    ensures read { IfOk result (λ r. reads_on r ≡ after (outcome_of checked.now) (Some the_beginning) (lexemes tokens.now)) }
-    ensures place { IfOk result (λ r. StopsAt end (stops (outcome_of checked.now) end unmarked the_beginning tokens.now) r) }
+) -> Result<Program, ProgramFault>
+    ensures read { Gives plain_program result (program_of_tokens (outcome_of checked.now) (Some (lexemes tokens.now))) }
+    ensures place { IfErr result (λ e. StopsWith e (stops (outcome_of checked.now) end unmarked the_beginning tokens.now)) }
 {
-    let mut reading = beginning(alloc)?;
-    for token in tokens {
-        reading = match stepped(alloc, checked, reading, *token)? {
-            Ok(next) => next,
-            Err(fault) => return Ok(Err(fault)),
-        };
-    }
-    Ok(Ok(reading))
-}
-
-// A program ends behind a block; `end` is where the text does.
-fn whole(reading: Reading, end: usize) -> Result<Program, ProgramFault>
-    ensures read { reads_program result ≡ the_whole (Some (reading_of reading.entry)) }
-    ensures place { IfErr result (λ e. option_map fault_seen (fault_at_end end (ended (stage_of reading.entry.stage))) ≡ Some e) }
-{
-    let Reading { stage, parts } = reading;
+    let mut parts = beginning(alloc)?;
+    let stage = read_tokens(alloc, checked, &mut parts, tokens)?;
     match stage {
         Stage::AtThread => Ok(Program {
             names: parts.names,
             threads: parts.threads,
         }),
         _ => Err(ProgramFault::BadProgram { at: end }),
-    }
-}
-
-fn program_of_all<'a>(
-    alloc: Global,
-    checked: &Checked,
-    tokens: &[Token<'a>],
-    end: usize,
-) -> Result<Result<Program, ProgramFault>, AllocError>
-    ensures read { IfOk result (λ r. reads_program r ≡ program_of_tokens (outcome_of checked.now) (Some (lexemes tokens.now))) }
-    ensures place { IfOk result (λ r. IfErr r (λ e. option_map fault_seen (stops (outcome_of checked.now) end unmarked the_beginning tokens.now) ≡ Some e)) }
-{
-    match all_tokens(alloc, checked, tokens, end)? {
-        Ok(reading) => Ok(whole(reading, end)),
-        Err(fault) => Ok(Err(fault)),
     }
 }
 
@@ -117,10 +101,8 @@ pub fn read_program(alloc: Global, text: &str, checked: &Checked) -> Result<Prog
     ensures refused { IfErr result (λ e. Refuses e (program_of (outcome_of checked.now) text.now)) }
     ensures stands { IfErr result (λ e. Stands (outcome_of checked.now) text.now e) }
 {
-    let tokens = match lex(alloc, text) {
-        Ok(tokens) => tokens,
-        Err(fault) => return Err(fault_of(fault)),
-    };
-    let program = program_of_all(alloc, checked, &tokens, text.len())?;
-    program
+    match lex(alloc, text) {
+        Ok(tokens) => whole(alloc, checked, &tokens, text.len()),
+        Err(fault) => Err(fault_of(fault)),
+    }
 }

@@ -3,7 +3,7 @@
 use crate::calls::Pending;
 use ls_checked::program::{ProgramCall, SetupName, ThreadProgram};
 
-/// What is read up to here, and so what comes next.
+/// What comes next.
 #[derive(Drop)]
 pub enum Stage<'a> {
     AtSetup,
@@ -24,17 +24,11 @@ pub enum Stage<'a> {
     AtThreadName,
 }
 
-/// The setup names, the threads that are read whole, and the name and calls of the one that is being read.
+/// What is read up to here: the setup names, the threads that are read whole, and the name and calls of the one that is being read.
 #[derive(Drop)]
 pub struct Parts {
     pub names: Vec<SetupName>,
     pub threads: Vec<ThreadProgram>,
     pub name: String,
     pub calls: Vec<ProgramCall>,
-}
-
-#[derive(Drop)]
-pub struct Reading<'a> {
-    pub stage: Stage<'a>,
-    pub parts: Parts,
 }

@@ -22,7 +22,7 @@ pub fn has_slots()
     ensures { (file : Checked) → IsTypedFile file → AllSlotted file.methods }
 {}
 
-/// What merely is the elaboration of a tree, as a checked file keeps it, is its elaboration.
+/// What merely is the elaboration of a tree is its elaboration.
 pub fn is_elaborated()
     ensures { (f : File) (o : Outcome) → ∥ elaborated f ≡ Ok o ∥₁ → elaborated f ≡ Ok o }
 {}

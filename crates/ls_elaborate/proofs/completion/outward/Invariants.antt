@@ -3,4 +3,4 @@ use Rattle.ls_elaborate.specs.Left.{outward}
 use Rattle.ls_elaborate.proofs.completion.outward.Given as goal
 
 abbrev pub invariant-loop-n : goal.invariant-loop-n
-invariant-loop-n l = l.outer.items ++ outward (drop l.n-index l.left) ≡ outward l.left
+invariant-loop-n l = l.left.items ++ outward (drop l.n-index l.inner) ≡ l.initial.left.items ++ outward l.inner

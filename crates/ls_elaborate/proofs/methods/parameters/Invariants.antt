@@ -8,8 +8,8 @@ use Rattle.ls_elaborate.proofs.methods.parameters.Given as goal
 abbrev pub invariant-loop-p : goal.invariant-loop-p
 invariant-loop-p l =
     record {
-      room : vec_len l.scope.slots ≤ 128;
+      room : vec_len l.slots ≤ 128;
       same :
-          each (parameter (body_of l.context)) (scope_of l.scope) (map placed_parameter (drop l.p-index l.ps))
-          ≡ each (parameter (body_of l.context)) (scope_of l.initial.scope) (map placed_parameter l.ps);
+          each (parameter (body_of l.context)) (scope_of l.scope l.slots.items) (map placed_parameter (drop l.p-index l.ps))
+          ≡ each (parameter (body_of l.context)) (scope_of l.initial.scope l.initial.slots.items) (map placed_parameter l.ps);
     }

@@ -7,8 +7,8 @@ use Rattle.ls_elaborate.proofs.scope.declaration.Given as goal
 
 abbrev pub invariant-loop-d : goal.invariant-loop-d
 invariant-loop-d l = record {
-  room : vec_len l.scope.slots ≤ 128;
+  room : vec_len l.slots ≤ 128;
   same :
-      each (declared (body_of l.context) l.t) (scope_of l.scope) (map placed_declarator (drop l.d-index l.d-items))
-      ≡ each (declared (body_of l.context) l.t) (scope_of l.initial.scope) (map placed_declarator l.d-items);
+      each (declared (body_of l.context) l.t) (scope_of l.scope l.slots.items) (map placed_declarator (drop l.d-index l.d-items))
+      ≡ each (declared (body_of l.context) l.t) (scope_of l.initial.scope l.initial.slots.items) (map placed_declarator l.d-items);
 }

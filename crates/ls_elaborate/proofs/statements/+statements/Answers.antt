@@ -45,11 +45,11 @@ all_items-loop-item-preserved t c =
     let n = nodes_at c.args.items.now c.loop-item.item-index c.item-item.result c.loop-item-test.true c.item-item.is in
     let e = items_at c.args.items.now c.loop-item.item-index c.item-item.result c.loop-item-test.true c.item-item.is in
     let rest : Items = placed_items (drop (c.loop-item.item-index + 1) c.args.items.now) in
-    let f : items (body_of c.args.round.context) (loops_of c.args.round) (scope_of c.loop-item.scope) (placed_before c.item-item.result rest)
-    ≡ items (body_of c.args.round.context) (loops_of c.args.round) (scope_of c.in_ok-scope.scope) rest = search rules in
-    let g : items (body_of c.args.round.context) (loops_of c.args.round) (scope_of c.loop-item.scope) (placed_items (drop c.loop-item.item-index c.args.items.now))
-    ≡ items (body_of c.args.round.context) (loops_of c.args.round) (scope_of c.loop-item.scope) (placed_before c.item-item.result rest) =
-    ap (items (body_of c.args.round.context) (loops_of c.args.round) (scope_of c.loop-item.scope)) e in
+    let f : items (body_of c.args.round.context) (loops_of c.args.round) (scope_of c.loop-item.scope c.loop-item.slots.items) (placed_before c.item-item.result rest)
+    ≡ items (body_of c.args.round.context) (loops_of c.args.round) (scope_of c.one_item.new.scope c.one_item.new.slots.items) rest = search rules in
+    let g : items (body_of c.args.round.context) (loops_of c.args.round) (scope_of c.loop-item.scope c.loop-item.slots.items) (placed_items (drop c.loop-item.item-index c.args.items.now))
+    ≡ items (body_of c.args.round.context) (loops_of c.args.round) (scope_of c.loop-item.scope c.loop-item.slots.items) (placed_before c.item-item.result rest) =
+    ap (items (body_of c.args.round.context) (loops_of c.args.round) (scope_of c.loop-item.scope c.loop-item.slots.items)) e in
     record {
       room = search rules;
       few = omega (arith, n, c.loop-item.invariant.few);

@@ -13,7 +13,10 @@ abbrev pub decreases-branches : goal.decreases-branches
 decreases-branches l = 4 * (statement_nodes (placed_statement l.then.now) + other_nodes (placed_other l.otherwise.now)) + 1
 
 abbrev pub decreases-while_loop : goal.decreases-while_loop
-decreases-while_loop l = 4 * statement_nodes (placed_statement l.body.now) + 1
+decreases-while_loop l = 4 * statement_nodes (placed_statement l.body.now) + 2
+
+abbrev pub decreases-looped : goal.decreases-looped
+decreases-looped l = 4 * statement_nodes (placed_statement l.body.now) + 1
 
 abbrev pub decreases-try_finally : goal.decreases-try_finally
 decreases-try_finally l = 4 * (items_nodes (placed_items l.body.now) + items_nodes (placed_items l.finally.now)) + 3
@@ -29,9 +32,9 @@ decreases-one_item l = 4 * items_nodes (placed_before l.item.now NoItem)
 
 abbrev pub invariant-all_items-loop-item : goal.invariant-all_items-loop-item
 invariant-all_items-loop-item l = record {
-  room : vec_len l.scope.slots ≤ 128;
+  room : vec_len l.slots ≤ 128;
   few : items_nodes (placed_items (drop l.item-index l.items)) ≤ items_nodes (placed_items l.items);
   same :
-      items (body_of l.round.context) (loops_of l.round) (scope_of l.scope) (placed_items (drop l.item-index l.items))
-      ≡ items (body_of l.round.context) (loops_of l.round) (scope_of l.initial.scope) (placed_items l.items);
+      items (body_of l.round.context) (loops_of l.round) (scope_of l.scope l.slots.items) (placed_items (drop l.item-index l.items))
+      ≡ items (body_of l.round.context) (loops_of l.round) (scope_of l.initial.scope l.initial.slots.items) (placed_items l.items);
 }
