@@ -1,26 +1,17 @@
 -- A block whose statements are replaced, one after the other.
-use Rattle.std.proofs.Common.{◌≡◌, ℕ, ◌+◌, ◌≤◌, length, length-append, ap, sym, ◌∙◌, subst, List, [], ◌∷◌, ◌++◌, arith}
+use Rattle.std.proofs.Common.{◌≡◌, ℕ, ◌+◌, ◌≤◌, length, length-append, ap, sym, ◌∙◌, List, [], ◌∷◌, ◌++◌, arith}
 use Rattle.ls_lowered.specs.declared.tree.Statement.{Statement}
-use Rattle.ls_lowered.specs.LoweredTree as lowered
-use Rattle.ls_lowered.specs.LoweredTree.{Block, Then}
+use Rattle.ls_lowered.specs.LoweredTree.{Then}
 use Rattle.ls_lowered.specs.Plain.{plain_statement, in_front, statements_of}
 use Rattle.ls_finally.specs.Exits.{exits, all_exits, replaced, all_replaced}
 use Rattle.ls_finally.specs.Counts.{regions, all_regions}
 use Rattle.ls_finally.proofs.Fronts.{one_made}
 
 -- what is done of a block, and what is left
-pub record Going (r l first : ℕ) (whole : lowered.Statement) (done : List Statement) (next : ℕ) (rest : List Statement) : Type 0 where
-  pub tree : Block (in_front done (all_replaced r l next (statements_of rest))) ≡ replaced r l first whole
-  pub count : next + length (all_exits l (statements_of rest)) ≡ first + length (exits l whole)
+pub record Going (r l first : ℕ) (whole done : List Statement) (next : ℕ) (rest : List Statement) : Type 0 where
+  pub tree : in_front done (all_replaced r l next (statements_of rest)) ≡ all_replaced r l first (statements_of whole)
+  pub count : next + length (all_exits l (statements_of rest)) ≡ first + length (all_exits l (statements_of whole))
   pub room : next + length (all_exits l (statements_of rest)) + all_regions (statements_of rest) ≤ 10000
-
-pub begins : (r l first : ℕ) (whole : lowered.Statement) (items done : List Statement) → whole ≡ Block (statements_of items) → done ≡ [] → first + length (exits l whole) + regions whole ≤ 10000 →
-    Going r l first whole done first items
-begins r l first whole items done e none h = record {
-  tree = ap (λ (ds : List Statement). Block (in_front ds (all_replaced r l first (statements_of items)))) none ∙ sym (ap (replaced r l first) e);
-  count = sym (ap (λ (x : lowered.Statement). first + length (exits l x)) e);
-  room = subst (λ (x : lowered.Statement). first + length (exits l x) + regions x ≤ 10000) e h;
-}
 
 -- the exits of a block are those of its first statement and the others'
 exits_split : (l : ℕ) (items rest : List Statement) (s : Statement) → items ≡ s ∷ rest →
@@ -32,7 +23,7 @@ regions_split : (items rest : List Statement) (s : Statement) → items ≡ s �
     all_regions (statements_of items) ≡ regions (plain_statement s) + all_regions (statements_of rest)
 regions_split items rest s split = ap (λ (xs : List Statement). all_regions (statements_of xs)) split
 
-pub goes_on : (r l first : ℕ) (whole : lowered.Statement) (done new : List Statement) (next after : ℕ) (items rest : List Statement) (s t : Statement) → items ≡ s ∷ rest →
+pub goes_on : (r l first : ℕ) (whole done new : List Statement) (next after : ℕ) (items rest : List Statement) (s t : Statement) → items ≡ s ∷ rest →
     new ≡ done ++ t ∷ [] → plain_statement t ≡ replaced r l next (plain_statement s) → after ≡ next + length (exits l (plain_statement s)) →
     Going r l first whole done next items → Going r l first whole new after rest
 goes_on r l first whole done new next after items rest s t split pushed is ends g =
@@ -40,11 +31,20 @@ goes_on r l first whole done new next after items rest s t split pushed is ends 
     let f = regions_split items rest s split in
     let c = g.count in
     let h = g.room in record {
-      tree = ap Block
-          (one_made done new t (replaced r l next (plain_statement s)) (all_replaced r l after (statements_of rest)) pushed is
+      tree =
+          one_made done new t (replaced r l next (plain_statement s)) (all_replaced r l after (statements_of rest)) pushed is
           ∙ ap (λ n. in_front done (Then (replaced r l next (plain_statement s)) (all_replaced r l n (statements_of rest)))) ends
-          ∙ ap (λ (xs : List Statement). in_front done (all_replaced r l next (statements_of xs))) (sym split))
+          ∙ ap (λ (xs : List Statement). in_front done (all_replaced r l next (statements_of xs))) (sym split)
           ∙ g.tree;
       count = omega (arith, e, c, ends);
       room = omega (arith, e, f, h, ends);
     }
+
+-- a statement of a block has room
+pub one_fits : (r l first : ℕ) (whole done : List Statement) (next : ℕ) (items rest : List Statement) (s : Statement) → items ≡ s ∷ rest → Going r l first whole done next items →
+    next + length (exits l (plain_statement s)) + regions (plain_statement s) ≤ 10000
+one_fits r l first whole done next items rest s split g =
+    let e = exits_split l items rest s split in
+    let f = regions_split items rest s split in
+    let h = g.room in
+    omega (arith, e, f, h)

@@ -1,6 +1,8 @@
--- How much of an expression there is to copy.
-use Rattle.std.proofs.Common.{ℕ, ◌+◌}
-use Rattle.ls_lowered.specs.LoweredTree.{Expression, Word, Local, Unary, Binary, And, Or, Hold, Keep, After, Field, Item, SetFirst, ReadPair, SetPair, SwapPair, AttemptMark, OnLock, Call, MakeObject, MakeLock, MakeMarkable, MakeArray, Expressions, End, More}
+-- How much of a tree there is to copy or to lower.
+use Rattle.std.proofs.Common.{◌≡◌, ℕ, zero, suc, ◌+◌, ◌≤◌, List, [], ◌∷◌, drop, ap, arith}
+use Rattle.ls_lowered.specs.declared.tree.Statement as code
+use Rattle.ls_lowered.specs.Plain.{plain_statement, statements_of}
+use Rattle.ls_lowered.specs.LoweredTree.{Expression, Word, Local, Unary, Binary, And, Or, Hold, Keep, After, Field, Item, SetFirst, ReadPair, SetPair, SwapPair, AttemptMark, OnLock, Call, MakeObject, MakeLock, MakeMarkable, MakeArray, Expressions, End, More, Statement, Block, If, While, Try, Guarded, Leavable, Statements, Done, Then}
 
 abbrev mutual
   pub weight : Expression → ℕ
@@ -30,3 +32,30 @@ abbrev mutual
   pub weights : Expressions → ℕ
   weights End = 1
   weights (More e es) = 1 + weight e + weights es
+
+abbrev mutual
+  pub size : Statement → ℕ
+  size (Block ss) = 1 + sizes ss
+  size (If e a b) = 1 + size a + size b
+  size (While e s) = 1 + size s
+  size (Try b f) = 1 + size b + size f
+  size (Guarded b n h) = 1 + size b + size h
+  size (Leavable b x) = 1 + size b + size x
+  size _ = 1
+
+  pub sizes : Statements → ℕ
+  sizes Done = 0
+  sizes (Then s ss) = size s + sizes ss
+
+sizes_drop : (xs : List code.Statement) (i : ℕ) → sizes (statements_of (drop i xs)) ≤ sizes (statements_of xs)
+sizes_drop [] zero = omega arith
+sizes_drop [] (suc i) = omega arith
+sizes_drop (x ∷ xs) zero = omega arith
+sizes_drop (x ∷ xs) (suc i) = let l = sizes_drop xs i in omega (arith, l)
+
+-- a statement of a block is no larger
+pub size_at : (xs : List code.Statement) (i : ℕ) (s : code.Statement) → drop i xs ≡ s ∷ drop (i + 1) xs → size (plain_statement s) ≤ sizes (statements_of xs)
+size_at xs i s split =
+    let e : sizes (statements_of (drop i xs)) ≡ size (plain_statement s) + sizes (statements_of (drop (i + 1) xs)) = ap (λ (ys : List code.Statement). sizes (statements_of ys)) split in
+    let l = sizes_drop xs i in
+    omega (arith, e, l)

@@ -1,17 +1,17 @@
 -- The methods of a file.
-use Rattle.std.proofs.Common.{◌≡◌, ℕ, ◌+◌, ◌<◌, ◌≤◌, add-one, length, take, map, sym, ap, ◌∙◌, subst, arith, Result, Ok, Err, List, [], ◌∷◌, ◌++◌, Option, Some, None, true, false}
+use Rattle.std.proofs.Common.{◌≡◌, ℕ, ◌+◌, ◌<◌, ◌≤◌, add-one, length, take, map, refl, sym, ap, ◌∙◌, subst, arith, Result, Ok, Err, List, [], ◌∷◌, ◌++◌, Option, Some, None, true, false}
 use Rattle.std.specs.Prelude.{All, slice_index_or, is_some, IfErr}
 use Rattle.std.specs.Option.{SomeIff}
 use Rattle.std.proofs.Math.Seq.{take-suc}
 use Rattle.std.proofs.lemmas.List.{take_all, get_or-map, length-map, map-append}
 use Rattle.std.proofs.lemmas.List.Elements.{All-push, All-map}
 use Rattle.std.proofs.lemmas.Simd.{map-map}
-use Rattle.ls_lowered.specs.LoweredTree as lowered
 use Rattle.ls_lowered.specs.declared.tree.Method.{Method}
 use Rattle.ls_lowered.specs.declared.fault.LowerFault.{LowerFault}
-use Rattle.ls_lowered.specs.declared.fault.LowerFault.TheVariants.{Memory}
+use Rattle.ls_lowered.specs.declared.fault.LowerFault.TheVariants.{Memory, TooManyLocals, TooManyCopies}
 use Rattle.ls_lowered.specs.Plain.{plain_method}
 use Rattle.ls_finally.specs.Flat.{flat_method, flat_file}
+use Rattle.ls_finally.specs.Code.{TooMany}
 use Rattle.ls_finally.specs.Counts.{locals_of, copies_of, FewLocals, FewCopies, Refused}
 
 -- what is done so far, and one more
@@ -52,9 +52,21 @@ too_many methods i m l e big = λ h.
     omega (arith, few, big)
 
 -- where the locals fit, want of memory may be answered
-pub wants_memory : {A : Type 0} (f : lowered.File) (r : Result A LowerFault) → FewLocals f → IfErr r (λ e. e ≡ Memory) → IfErr r (Refused f)
-wants_memory f (Ok x) fits e = tt
-wants_memory f (Err e) fits is = subst (λ z. Refused f z) (sym is) fits
+pub wants_memory : {A : Type 0} (methods : List Method) (r : Result A LowerFault) → All (λ m. locals_of (plain_method m) ≤ 128) methods → IfErr r (λ e. e ≡ Memory) → IfErr r (Refused (map plain_method methods))
+wants_memory methods (Ok x) fits e = tt
+wants_memory methods (Err e) fits is = subst (λ z. Refused (map plain_method methods) z) (sym is) (few_locals methods methods refl fits)
+
+-- a method is refused
+one_refused : (methods : List Method) (i : ℕ) (m : Method) (e : LowerFault) → i < length methods → m ≡ slice_index_or methods i m → All (λ m. locals_of (plain_method m) ≤ 128) methods →
+    TooMany e (copies_of (plain_method m)) → Refused (map plain_method methods) e
+one_refused methods i m Memory l is fits h = few_locals methods methods refl fits
+one_refused methods i m TooManyLocals l is fits h = absurd h
+one_refused methods i m TooManyCopies l is fits h = too_many methods i m l is h
+
+pub passes_on : {A : Type 0} (methods : List Method) (i : ℕ) (m : Method) (r : Result A LowerFault) → i < length methods → m ≡ slice_index_or methods i m → All (λ m. locals_of (plain_method m) ≤ 128) methods →
+    IfErr r (λ e. TooMany e (copies_of (plain_method m))) → IfErr r (Refused (map plain_method methods))
+passes_on methods i m (Ok x) l is fits h = tt
+passes_on methods i m (Err e) l is fits h = one_refused methods i m e l is fits h
 
 -- all methods are lowered
 pub all_lowered_so : (file : List Method) (methods : List Method) (i : ℕ) → length methods ≤ i →

@@ -4,6 +4,7 @@ ghost use Rattle.std.specs.Prelude.{◌≡◌, IfOk};
 ghost use Rattle.ls_lowered.specs.LoweredTree.{Block};
 ghost use Rattle.ls_lowered.specs.Plain.{plain, all_plain, plain_statement, statements_of};
 
+use crate::together::{in_box, put};
 use ls_lowered::together::also;
 use ls_lowered::tree::{Expression, Expressions, Statement};
 use std::alloc::{AllocError, Global};
@@ -81,7 +82,7 @@ pub fn copy_expression(alloc: Global, e: &Expression) -> Result<Expression, Allo
 fn boxed(alloc: Global, e: &Expression) -> Result<Box<Expression>, AllocError>
     ensures { IfOk result (λ t. plain t.value ≡ plain e.now) }
 {
-    Ok(Box::new(alloc, copy_expression(alloc, e)?)?)
+    in_box(alloc, copy_expression(alloc, e)?)
 }
 
 #[cycle(expressions)]
@@ -130,10 +131,10 @@ fn boxed_all(alloc: Global, es: &Expressions) -> Result<Box<Expressions>, AllocE
     ensures { IfOk result (λ t. all_plain t.value ≡ all_plain es.now) }
 {
     match es {
-        Expressions::End => Ok(Box::new(alloc, Expressions::End)?),
+        Expressions::End => in_box(alloc, Expressions::End),
         Expressions::More(first, others) => {
             let (first, others) = boxed_call(alloc, first, others)?;
-            Ok(Box::new(alloc, Expressions::More(first, others))?)
+            in_box(alloc, Expressions::More(first, others))
         }
     }
 }
@@ -198,9 +199,8 @@ pub fn copy_statement(alloc: Global, s: &Statement) -> Result<Statement, AllocEr
         }
         Statement::Evaluate(e) => Ok(Statement::Evaluate(copy_expression(alloc, e)?)),
         Statement::If(e, first, second) => {
-            let first = part(alloc, first)?;
-            let (first, second) = also(first, part(alloc, second))?;
-            let ((first, second), e) = also((first, second), copy_expression(alloc, e))?;
+            let parts = two_parts(alloc, first, second)?;
+            let ((first, second), e) = also(parts, copy_expression(alloc, e))?;
             Ok(Statement::If(e, first, second))
         }
         Statement::While(e, body) => {
@@ -212,19 +212,16 @@ pub fn copy_statement(alloc: Global, s: &Statement) -> Result<Statement, AllocEr
         Statement::Continue(loops) => Ok(Statement::Continue(*loops)),
         Statement::Return(e) => Ok(Statement::Return(copy_expression(alloc, e)?)),
         Statement::Try(body, last) => {
-            let body = part(alloc, body)?;
-            let (body, last) = also(body, part(alloc, last))?;
+            let (body, last) = two_parts(alloc, body, last)?;
             Ok(Statement::Try(body, last))
         }
         Statement::Guarded(body, number, handler) => {
-            let body = part(alloc, body)?;
-            let (body, handler) = also(body, part(alloc, handler))?;
+            let (body, handler) = two_parts(alloc, body, handler)?;
             Ok(Statement::Guarded(body, *number, handler))
         }
         Statement::Throw(number) => Ok(Statement::Throw(*number)),
         Statement::Leavable(body, exit) => {
-            let body = part(alloc, body)?;
-            let (body, exit) = also(body, part(alloc, exit))?;
+            let (body, exit) = two_parts(alloc, body, exit)?;
             Ok(Statement::Leavable(body, exit))
         }
         Statement::Leave(regions) => Ok(Statement::Leave(*regions)),
@@ -237,7 +234,22 @@ pub fn copy_statement(alloc: Global, s: &Statement) -> Result<Statement, AllocEr
 fn part(alloc: Global, s: &Statement) -> Result<Box<Statement>, AllocError>
     ensures { IfOk result (λ t. plain_statement t.value ≡ plain_statement s.now) }
 {
-    Ok(Box::new(alloc, copy_statement(alloc, s)?)?)
+    in_box(alloc, copy_statement(alloc, s)?)
+}
+
+// Two parts of a statement.
+#[cycle(statements)]
+#[inline(never)]
+fn two_parts(
+    alloc: Global,
+    first: &Statement,
+    second: &Statement,
+) -> Result<(Box<Statement>, Box<Statement>), AllocError>
+    ensures first { IfOk result (λ p. plain_statement p.0.value ≡ plain_statement first.now) }
+    ensures second { IfOk result (λ p. plain_statement p.1.value ≡ plain_statement second.now) }
+{
+    let first = part(alloc, first)?;
+    also(first, part(alloc, second))
 }
 
 #[cycle(statements)]
@@ -247,7 +259,7 @@ fn copy_block(alloc: Global, statements: &[Statement]) -> Result<Vec<Statement>,
 {
     let mut out = Vec::new(alloc);
     for s in statements {
-        out.push(copy_statement(alloc, s)?)?;
+        put(&mut out, copy_statement(alloc, s)?)?;
     }
     Ok(out)
 }

@@ -1,50 +1,51 @@
 // Methods and files.
 
-ghost use Rattle.std.specs.Prelude.{◌≡◌, ℕ, ◌<◌, ◌≤◌, List, length, map, All, IfOk, IfErr, IfSome, OnOk, MatchOption};
+ghost use Rattle.std.specs.Prelude.{◌≡◌, ℕ, ◌≤◌, List, length, map, All, IfOk, IfErr, OnOk};
 ghost use Rattle.ls_lowered.specs.Plain.{plain_method, plain_file};
 ghost use Rattle.ls_lowered.specs.Course.{Answers};
 ghost use Rattle.ls_lowered.specs.Methods.{invoke};
 ghost use Rattle.ls_finally.specs.Flat.{flat_method, flat_file};
 ghost use Rattle.ls_finally.specs.Placed.{Takes, AllPlaced};
 ghost use Rattle.ls_finally.specs.Counts.{locals_of, copies_of, FewCopies, Refused};
+ghost use Rattle.ls_finally.specs.Code.{Fits};
 
 use crate::counts::have_few_locals;
-use crate::flatten::flatten;
+use crate::flatten::Lowering;
+use crate::together::put;
 use ls_lowered::fault::LowerFault;
 use ls_lowered::tree::{File, Method};
-use std::alloc::{AllocError, Global};
+use std::alloc::Global;
 
-// A method without `try`; none where it would have too many copies.
-fn lower_method(alloc: Global, method: &Method) -> Result<Option<Method>, AllocError>
+// A method without `try`, where it would have few copies.
+fn lower_method(alloc: Global, method: &Method) -> Result<Method, LowerFault>
     requires { locals_of (plain_method method.now) ≤ 128 }
-    ensures tree { IfOk result (λ o. IfSome o (λ m. plain_method m ≡ flat_method (plain_method method.now))) }
-    ensures few { IfOk result (λ o. MatchOption o (4096 < copies_of (plain_method method.now)) (λ m. copies_of (plain_method method.now) ≤ 4096)) }
+    ensures tree { IfOk result (λ m. plain_method m ≡ flat_method (plain_method method.now)) }
+    ensures few { Fits result (copies_of (plain_method method.now)) }
 {
-    let own = method.arguments + method.locals;
-    let Some(body) = flatten(alloc, &method.body, own, 0)? else {
-        return Ok(None);
+    let mut lowering = Lowering {
+        free: method.arguments + method.locals,
+        count: 0,
     };
-    Ok(Some(Method {
+    let body = lowering.flatten(alloc, &method.body)?;
+    Ok(Method {
         arguments: method.arguments,
-        locals: body.free - method.arguments,
-        body: body.tree,
-    }))
+        locals: lowering.free - method.arguments,
+        body,
+    })
 }
 
-// All methods without `try`; none where one of them would have too many copies.
-fn lower_methods(alloc: Global, methods: &[Method]) -> Result<Option<Vec<Method>>, AllocError>
+// All methods without `try`, where each of them would have few copies.
+fn lower_methods(alloc: Global, methods: &[Method]) -> Result<Vec<Method>, LowerFault>
     requires { All (λ m. locals_of (plain_method m) ≤ 128) methods.now }
-    ensures tree { IfOk result (λ o. IfSome o (λ v. map plain_method v.items ≡ flat_file (map plain_method methods.now))) }
-    ensures few { IfOk result (λ o. MatchOption o (¬ FewCopies (map plain_method methods.now)) (λ v. FewCopies (map plain_method methods.now))) }
+    ensures tree { IfOk result (λ v. map plain_method v.items ≡ flat_file (map plain_method methods.now)) }
+    ensures few { OnOk result (FewCopies (map plain_method methods.now)) }
+    ensures refused { IfErr result (Refused (map plain_method methods.now)) }
 {
     let mut out = Vec::new(alloc);
     for method in methods {
-        let Some(method) = lower_method(alloc, method)? else {
-            return Ok(None);
-        };
-        out.push(method)?;
+        put(&mut out, lower_method(alloc, method)?)?;
     }
-    Ok(Some(out))
+    Ok(out)
 }
 
 /// The tree of a file without `try`. A thread that enters a method asks for the same and ends so. A method whose locals,
@@ -59,8 +60,6 @@ pub fn lower_finally(alloc: Global, tree: File) -> Result<File, LowerFault>
     if !have_few_locals(&tree.methods) {
         return Err(LowerFault::TooManyLocals);
     }
-    match lower_methods(alloc, &tree.methods)? {
-        Some(methods) => Ok(File { methods }),
-        None => Err(LowerFault::TooManyCopies),
-    }
+    let methods = lower_methods(alloc, &tree.methods)?;
+    Ok(File { methods })
 }

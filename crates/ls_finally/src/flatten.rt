@@ -1,27 +1,29 @@
 // Statements without `try`.
 
-ghost use Rattle.std.specs.Prelude.{◌≡◌, ℕ, ◌+◌, ◌*◌, ◌<◌, ◌≤◌, length, IfOk, IfSome, MatchOption};
+ghost use Rattle.std.specs.Prelude.{◌≡◌, ℕ, ◌+◌, ◌*◌, ◌≤◌, length, IfOk, IfErr, OnOk, Ok, Err};
 ghost use Rattle.std.specs.Option.{SomeIff};
-ghost use Rattle.ls_lowered.specs.LoweredTree.{If, While, Guarded, Leavable};
-ghost use Rattle.ls_lowered.specs.Plain.{plain, plain_statement};
+ghost use Rattle.ls_lowered.specs.LoweredTree.{Block, Try, Leavable};
+ghost use Rattle.ls_lowered.specs.Plain.{plain_statement, statements_of};
 ghost use Rattle.ls_finally.specs.Exits.{exits, finally_of};
-ghost use Rattle.ls_finally.specs.Flat.{tries, flat};
-ghost use Rattle.ls_finally.specs.Counts.{copies, regions};
+ghost use Rattle.ls_finally.specs.Flat.{tries, all_tries, flat, all_flat};
+ghost use Rattle.ls_finally.specs.Counts.{copies, all_copies, regions};
+ghost use Rattle.ls_finally.specs.Code.{Fits};
 
 use crate::copy::{block_of, copy_expression, copy_statement};
 use crate::exits::{Loops, collect_exits};
 use crate::replace::by_copies;
-use ls_lowered::together::{also, beside, two};
-use ls_lowered::tree::{Expression, Statement};
-use std::alloc::{AllocError, Global};
+use crate::together::{in_box, put};
+use ls_lowered::fault::LowerFault;
+use ls_lowered::together::also;
+use ls_lowered::tree::Statement;
+use std::alloc::Global;
 
 /// The most copies of finally blocks of a method.
 pub const MOST_COPIES: usize = 4096;
 
-/// A tree without `try`, the first local that is free behind it, and how many copies there are so far.
+/// How far the lowering of a method has come: the first local that is free, and how many copies there are.
 #[derive(Drop)]
-pub struct Flat {
-    pub tree: Statement,
+pub struct Lowering {
     pub free: usize,
     pub count: usize,
 }
@@ -42,217 +44,193 @@ fn total(body: usize, ways: usize, finally: usize) -> Option<usize>
     }
 }
 
-// A statement that has no `try`, as it is.
-fn unchanged(
-    alloc: Global,
-    s: &Statement,
-    free: usize,
-    so_far: usize,
-) -> Result<Option<Flat>, AllocError>
-    ensures tree { IfOk result (λ o. IfSome o (λ r. plain_statement r.tree ≡ plain_statement s.now)) }
-    ensures free { IfOk result (λ o. IfSome o (λ r. r.free ≡ free)) }
-    ensures count { IfOk result (λ o. MatchOption o ⊥ (λ r. r.count ≡ so_far)) }
+// What is there, with what comes next.
+fn beside<T: Drop, U: Drop>(first: T, next: Result<U, LowerFault>) -> Result<(T, U), LowerFault>
+    ensures first { IfOk result (λ p. p.0 ≡ first) }
+    ensures next { IfOk result (λ p. next ≡ Ok p.1) }
+    ensures refused { IfErr result (λ e. next ≡ Err e) }
 {
-    Ok(Some(Flat {
-        tree: copy_statement(alloc, s)?,
-        free,
-        count: so_far,
-    }))
+    match next {
+        Ok(next) => Ok((first, next)),
+        Err(fault) => Err(fault),
+    }
 }
 
-// The constructs whose parts are done; the last part says which local is free next, and how many copies there are.
-
-#[inline(never)]
-fn branch(
-    alloc: Global,
-    e: &Expression,
-    first: Flat,
-    second: Flat,
-) -> Result<Option<Flat>, AllocError>
-    ensures tree { IfOk result (λ o. IfSome o (λ r. plain_statement r.tree ≡ If (plain e.now) (plain_statement first.tree) (plain_statement second.tree))) }
-    ensures free { IfOk result (λ o. IfSome o (λ r. r.free ≡ second.free)) }
-    ensures count { IfOk result (λ o. MatchOption o ⊥ (λ r. r.count ≡ second.count)) }
-{
-    let Flat {
-        tree: second,
-        free,
-        count,
-    } = second;
-    let (first, second) = two(alloc, first.tree, second)?;
-    let ((first, second), e) = also((first, second), copy_expression(alloc, e))?;
-    let tree = Statement::If(e, first, second);
-    Ok(Some(Flat { tree, free, count }))
-}
-
-#[inline(never)]
-fn turn(alloc: Global, e: &Expression, body: Flat) -> Result<Option<Flat>, AllocError>
-    ensures tree { IfOk result (λ o. IfSome o (λ r. plain_statement r.tree ≡ While (plain e.now) (plain_statement body.tree))) }
-    ensures free { IfOk result (λ o. IfSome o (λ r. r.free ≡ body.free)) }
-    ensures count { IfOk result (λ o. MatchOption o ⊥ (λ r. r.count ≡ body.count)) }
-{
-    let Flat {
-        tree: body,
-        free,
-        count,
-    } = body;
-    let body = Box::new(alloc, body)?;
-    let (body, e) = also(body, copy_expression(alloc, e))?;
-    let tree = Statement::While(e, body);
-    Ok(Some(Flat { tree, free, count }))
-}
-
-#[inline(never)]
-fn guarded(
-    alloc: Global,
-    body: Flat,
-    number: usize,
-    handler: Flat,
-) -> Result<Option<Flat>, AllocError>
-    ensures tree { IfOk result (λ o. IfSome o (λ r. plain_statement r.tree ≡ Guarded (plain_statement body.tree) number (plain_statement handler.tree))) }
-    ensures free { IfOk result (λ o. IfSome o (λ r. r.free ≡ handler.free)) }
-    ensures count { IfOk result (λ o. MatchOption o ⊥ (λ r. r.count ≡ handler.count)) }
-{
-    let Flat {
-        tree: handler,
-        free,
-        count,
-    } = handler;
-    let (body, handler) = two(alloc, body.tree, handler)?;
-    let tree = Statement::Guarded(body, number, handler);
-    Ok(Some(Flat { tree, free, count }))
-}
-
-#[inline(never)]
-fn leavable(alloc: Global, body: Flat, exit: Flat) -> Result<Option<Flat>, AllocError>
-    ensures tree { IfOk result (λ o. IfSome o (λ r. plain_statement r.tree ≡ Leavable (plain_statement body.tree) (plain_statement exit.tree))) }
-    ensures free { IfOk result (λ o. IfSome o (λ r. r.free ≡ exit.free)) }
-    ensures count { IfOk result (λ o. MatchOption o ⊥ (λ r. r.count ≡ exit.count)) }
-{
-    let Flat {
-        tree: exit,
-        free,
-        count,
-    } = exit;
-    let (body, exit) = two(alloc, body.tree, exit)?;
-    let tree = Statement::Leavable(body, exit);
-    Ok(Some(Flat { tree, free, count }))
-}
-
-// A `try` whose parts have none: `body` with the copies up to its end, `finally` with its own.
-fn flat_try(alloc: Global, body: Flat, finally: Flat) -> Result<Option<Flat>, AllocError>
-    requires few { regions (plain_statement body.tree) ≤ 4096 }
-    requires fine { finally.count ≤ 4096 }
-    requires room { finally.free ≤ 128 }
-    ensures tree { IfOk result (λ o. IfSome o (λ r. plain_statement r.tree ≡ finally_of finally.free (plain_statement body.tree) (plain_statement finally.tree))) }
-    ensures free { IfOk result (λ o. IfSome o (λ r. r.free ≡ finally.free + 2)) }
-    ensures count { IfOk result (λ o. let n = body.count + (2 + length (exits 0 (plain_statement body.tree))) * (1 + finally.count) in MatchOption o (4096 < n) (λ r. r.count ≡ n)) }
-    ensures small { IfOk result (λ o. IfSome o (λ r. r.count ≤ 4096)) }
-{
-    let mut ways = Vec::new(alloc);
-    collect_exits(&body.tree, &Loops::Outermost, &mut ways)?;
-    let Some(count) = total(body.count, ways.len(), finally.count) else {
-        return Ok(None);
-    };
-    let tree = by_copies(alloc, &body.tree, &finally.tree, &ways, finally.free)?;
-    Ok(Some(Flat {
-        tree,
-        free: finally.free + 2,
-        count,
-    }))
-}
-
-/// A statement without `try`, where its copies and those so far aren't too many. From local `free` on two locals serve each
-/// `try`.
-#[tactic(auto, using(crate::proofs::Fronts::block_read))]
-pub fn flatten(
-    alloc: Global,
-    s: &Statement,
-    free: usize,
-    so_far: usize,
-) -> Result<Option<Flat>, AllocError>
-    requires room { free + 2 * tries (plain_statement s.now) ≤ 128 }
-    requires few { so_far ≤ 4096 }
-    ensures tree { IfOk result (λ o. IfSome o (λ r. plain_statement r.tree ≡ flat free (plain_statement s.now))) }
-    ensures free { IfOk result (λ o. IfSome o (λ r. r.free ≡ free + 2 * tries (plain_statement s.now))) }
-    ensures count { IfOk result (λ o. MatchOption o (4096 < so_far + copies free (plain_statement s.now)) (λ r. r.count ≡ so_far + copies free (plain_statement s.now))) }
-    ensures small { IfOk result (λ o. IfSome o (λ r. r.count ≤ 4096)) }
-{
-    match s {
-        Statement::Block(statements) => {
-            let mut out = Vec::new(alloc);
-            let mut next = free;
-            let mut count = so_far;
-            for s in statements {
-                let Some(s) = flatten(alloc, s, next, count)? else {
-                    return Ok(None);
-                };
-                out.push(s.tree)?;
-                next = s.free;
-                count = s.count;
+impl Lowering {
+    /// A statement without `try`, where its copies and those so far aren't too many. Two locals serve each `try`.
+    #[cycle(flatten)]
+    #[tactic(auto, using(crate::proofs::Fronts::block_read, ls_lowered::proofs::Rows::block_made))]
+    pub fn flatten(&mut self, alloc: Global, s: &Statement) -> Result<Statement, LowerFault>
+        requires room { self.old.free + 2 * tries (plain_statement s.now) ≤ 128 }
+        requires few { self.old.count ≤ 4096 }
+        ensures tree { IfOk result (λ t. plain_statement t ≡ flat self.old.free (plain_statement s.now)) }
+        ensures free { OnOk result (self.new.free ≡ self.old.free + 2 * tries (plain_statement s.now)) }
+        ensures count { OnOk result (self.new.count ≡ self.old.count + copies self.old.free (plain_statement s.now)) }
+        ensures few { Fits result (self.old.count + copies self.old.free (plain_statement s.now)) }
+    {
+        match s {
+            Statement::Block(statements) => self.flat_block(alloc, statements),
+            Statement::If(e, first, second) => {
+                let parts = self.flat_two(alloc, first, second)?;
+                let ((first, second), e) = also(parts, copy_expression(alloc, e))?;
+                Ok(Statement::If(e, first, second))
             }
-            Ok(Some(Flat {
-                tree: block_of(out),
-                free: next,
-                count,
-            }))
-        }
-        Statement::If(e, first, second) => {
-            let Some(first) = flatten(alloc, first, free, so_far)? else {
-                return Ok(None);
-            };
-            let second = flatten(alloc, second, first.free, first.count);
-            let Some((first, second)) = beside(first, second)? else {
-                return Ok(None);
-            };
-            branch(alloc, e, first, second)
-        }
-        Statement::While(e, body) => {
-            let Some(body) = flatten(alloc, body, free, so_far)? else {
-                return Ok(None);
-            };
-            turn(alloc, e, body)
-        }
-        Statement::Try(body, finally) => {
-            let Some(body) = flatten(alloc, body, free, so_far)? else {
-                return Ok(None);
-            };
-            let finally = flatten(alloc, finally, body.free, 0);
-            let Some((body, finally)) = beside(body, finally)? else {
-                return Ok(None);
-            };
-            flat_try(alloc, body, finally)
-        }
-        Statement::Guarded(body, number, handler) => {
-            let Some(body) = flatten(alloc, body, free, so_far)? else {
-                return Ok(None);
-            };
-            let handler = flatten(alloc, handler, body.free, body.count);
-            let Some((body, handler)) = beside(body, handler)? else {
-                return Ok(None);
-            };
-            guarded(alloc, body, *number, handler)
-        }
-        Statement::Leavable(body, exit) => {
-            if so_far == MOST_COPIES {
-                return Ok(None);
+            Statement::While(e, body) => {
+                let body = self.flat_part(alloc, body)?;
+                let (body, e) = also(body, copy_expression(alloc, e))?;
+                Ok(Statement::While(e, body))
             }
-            let Some(body) = flatten(alloc, body, free, so_far + 1)? else {
-                return Ok(None);
-            };
-            let exit = flatten(alloc, exit, body.free, body.count);
-            let Some((body, exit)) = beside(body, exit)? else {
-                return Ok(None);
-            };
-            leavable(alloc, body, exit)
+            Statement::Try(body, finally) => self.flat_try(alloc, body, finally),
+            Statement::Guarded(body, number, handler) => {
+                let (body, handler) = self.flat_two(alloc, body, handler)?;
+                Ok(Statement::Guarded(body, *number, handler))
+            }
+            Statement::Leavable(body, exit) => self.flat_leavable(alloc, body, exit),
+            Statement::SetLocal(_, _)
+            | Statement::SetField(_, _, _)
+            | Statement::SetItem(_, _, _)
+            | Statement::Evaluate(_)
+            | Statement::Break(_)
+            | Statement::Continue(_)
+            | Statement::Return(_)
+            | Statement::Throw(_)
+            | Statement::Leave(_) => Ok(copy_statement(alloc, s)?),
         }
-        Statement::SetLocal(_, _)
-        | Statement::SetField(_, _, _)
-        | Statement::SetItem(_, _, _)
-        | Statement::Evaluate(_)
-        | Statement::Break(_)
-        | Statement::Continue(_)
-        | Statement::Return(_)
-        | Statement::Throw(_)
-        | Statement::Leave(_) => unchanged(alloc, s, free, so_far),
+    }
+
+    #[cycle(flatten)]
+    #[inline(never)]
+    #[tactic(auto, using(crate::proofs::Flattening::too_many_more))]
+    fn flat_block(
+        &mut self,
+        alloc: Global,
+        statements: &[Statement],
+    ) -> Result<Statement, LowerFault>
+        requires room { self.old.free + 2 * all_tries (statements_of statements.now) ≤ 128 }
+        requires few { self.old.count ≤ 4096 }
+        ensures tree { IfOk result (λ t. plain_statement t ≡ Block (all_flat self.old.free (statements_of statements.now))) }
+        ensures free { OnOk result (self.new.free ≡ self.old.free + 2 * all_tries (statements_of statements.now)) }
+        ensures count { OnOk result (self.new.count ≡ self.old.count + all_copies self.old.free (statements_of statements.now)) }
+        ensures few { Fits result (self.old.count + all_copies self.old.free (statements_of statements.now)) }
+    {
+        let mut out = Vec::new(alloc);
+        for s in statements {
+            put(&mut out, self.flatten(alloc, s)?)?;
+        }
+        Ok(block_of(out))
+    }
+
+    // A part of a statement.
+    #[cycle(flatten)]
+    #[inline(never)]
+    fn flat_part(&mut self, alloc: Global, s: &Statement) -> Result<Box<Statement>, LowerFault>
+        requires room { self.old.free + 2 * tries (plain_statement s.now) ≤ 128 }
+        requires few { self.old.count ≤ 4096 }
+        ensures tree { IfOk result (λ t. plain_statement t.value ≡ flat self.old.free (plain_statement s.now)) }
+        ensures free { OnOk result (self.new.free ≡ self.old.free + 2 * tries (plain_statement s.now)) }
+        ensures count { OnOk result (self.new.count ≡ self.old.count + copies self.old.free (plain_statement s.now)) }
+        ensures few { Fits result (self.old.count + copies self.old.free (plain_statement s.now)) }
+    {
+        Ok(in_box(alloc, self.flatten(alloc, s)?)?)
+    }
+
+    // Two parts of a statement.
+    #[cycle(flatten)]
+    #[inline(never)]
+    #[tactic(auto, using(crate::proofs::Flattening::too_many_more))]
+    fn flat_two(
+        &mut self,
+        alloc: Global,
+        first: &Statement,
+        second: &Statement,
+    ) -> Result<(Box<Statement>, Box<Statement>), LowerFault>
+        requires room { self.old.free + 2 * (tries (plain_statement first.now) + tries (plain_statement second.now)) ≤ 128 }
+        requires few { self.old.count ≤ 4096 }
+        ensures first { IfOk result (λ p. plain_statement p.0.value ≡ flat self.old.free (plain_statement first.now)) }
+        ensures second { IfOk result (λ p. plain_statement p.1.value ≡ flat (self.old.free + 2 * tries (plain_statement first.now)) (plain_statement second.now)) }
+        ensures free { OnOk result (self.new.free ≡ self.old.free + 2 * (tries (plain_statement first.now) + tries (plain_statement second.now))) }
+        ensures count { OnOk result (self.new.count ≡ self.old.count + (copies self.old.free (plain_statement first.now) + copies (self.old.free + 2 * tries (plain_statement first.now)) (plain_statement second.now))) }
+        ensures few { Fits result (self.old.count + (copies self.old.free (plain_statement first.now) + copies (self.old.free + 2 * tries (plain_statement first.now)) (plain_statement second.now))) }
+    {
+        let first = self.flat_part(alloc, first)?;
+        beside(first, self.flat_part(alloc, second))
+    }
+
+    #[cycle(flatten)]
+    #[inline(never)]
+    #[tactic(auto, using(crate::proofs::Flattening::too_many_more))]
+    fn flat_leavable(
+        &mut self,
+        alloc: Global,
+        body: &Statement,
+        exit: &Statement,
+    ) -> Result<Statement, LowerFault>
+        requires room { self.old.free + 2 * (tries (plain_statement body.now) + tries (plain_statement exit.now)) ≤ 128 }
+        requires few { self.old.count ≤ 4096 }
+        ensures tree { IfOk result (λ t. plain_statement t ≡ flat self.old.free (Leavable (plain_statement body.now) (plain_statement exit.now))) }
+        ensures free { OnOk result (self.new.free ≡ self.old.free + 2 * (tries (plain_statement body.now) + tries (plain_statement exit.now))) }
+        ensures count { OnOk result (self.new.count ≡ self.old.count + copies self.old.free (Leavable (plain_statement body.now) (plain_statement exit.now))) }
+        ensures few { Fits result (self.old.count + copies self.old.free (Leavable (plain_statement body.now) (plain_statement exit.now))) }
+    {
+        if self.count == MOST_COPIES {
+            return Err(LowerFault::TooManyCopies);
+        }
+        self.count += 1;
+        let (body, exit) = self.flat_two(alloc, body, exit)?;
+        Ok(Statement::Leavable(body, exit))
+    }
+
+    #[cycle(flatten)]
+    #[inline(never)]
+    #[tactic(auto, using(crate::proofs::Flattening::too_many_more))]
+    fn flat_try(
+        &mut self,
+        alloc: Global,
+        body: &Statement,
+        finally: &Statement,
+    ) -> Result<Statement, LowerFault>
+        requires room { self.old.free + 2 * (tries (plain_statement body.now) + tries (plain_statement finally.now) + 1) ≤ 128 }
+        requires few { self.old.count ≤ 4096 }
+        ensures tree { IfOk result (λ t. plain_statement t ≡ flat self.old.free (Try (plain_statement body.now) (plain_statement finally.now))) }
+        ensures free { OnOk result (self.new.free ≡ self.old.free + 2 * (tries (plain_statement body.now) + tries (plain_statement finally.now) + 1)) }
+        ensures count { OnOk result (self.new.count ≡ self.old.count + copies self.old.free (Try (plain_statement body.now) (plain_statement finally.now))) }
+        ensures few { Fits result (self.old.count + copies self.old.free (Try (plain_statement body.now) (plain_statement finally.now))) }
+    {
+        let body = self.flatten(alloc, body)?;
+        let mut inside = Lowering {
+            free: self.free,
+            count: 0,
+        };
+        let finally = inside.flatten(alloc, finally);
+        let (body, finally) = beside(body, finally)?;
+        self.free = inside.free;
+        self.with_copies(alloc, &body, &finally, inside.count)
+    }
+
+    // A `try` whose parts have none, where the finally block has so many copies of its own.
+    fn with_copies(
+        &mut self,
+        alloc: Global,
+        body: &Statement,
+        finally: &Statement,
+        within: usize,
+    ) -> Result<Statement, LowerFault>
+        requires few { regions (plain_statement body.now) ≤ 4096 }
+        requires fine { within ≤ 4096 }
+        requires room { self.old.free ≤ 128 }
+        ensures tree { IfOk result (λ t. plain_statement t ≡ finally_of self.old.free (plain_statement body.now) (plain_statement finally.now)) }
+        ensures free { OnOk result (self.new.free ≡ self.old.free + 2) }
+        ensures count { OnOk result (self.new.count ≡ self.old.count + (2 + length (exits 0 (plain_statement body.now))) * (1 + within)) }
+        ensures few { Fits result (self.old.count + (2 + length (exits 0 (plain_statement body.now))) * (1 + within)) }
+    {
+        let mut ways = Vec::new(alloc);
+        collect_exits(body, &Loops::Outermost, &mut ways)?;
+        let Some(count) = total(self.count, ways.len(), within) else {
+            return Err(LowerFault::TooManyCopies);
+        };
+        let tree = by_copies(alloc, body, finally, &ways, self.free)?;
+        self.free += 2;
+        self.count = count;
+        Ok(tree)
     }
 }

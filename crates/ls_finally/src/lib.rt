@@ -9,3 +9,4 @@ pub mod files;
 mod flatten;
 pub mod laws;
 mod replace;
+mod together;

@@ -3,32 +3,19 @@
 // Each exit of a body puts one region more around it, so a tree can be thousands of levels high: what isn't recursive is
 // kept out of the recursive functions, whose frames have to be small.
 
-ghost use Rattle.std.specs.Prelude.{◌≡◌, ℕ, ◌+◌, ◌<◌, ◌≤◌, length, IfOk};
-ghost use Rattle.ls_lowered.specs.LoweredTree.{SetLocal, If, While, Guarded, Leavable, Leave};
-ghost use Rattle.ls_lowered.specs.Plain.{plain, plain_statement};
-ghost use Rattle.ls_finally.specs.Exits.{exits, both, exit_of, replaced, wrapped, finally_of};
-ghost use Rattle.ls_finally.specs.Counts.{regions};
+ghost use Rattle.std.specs.Prelude.{◌≡◌, ℕ, ◌+◌, ◌<◌, ◌≤◌, ◌++◌, length, IfOk, OnOk};
+ghost use Rattle.ls_lowered.specs.LoweredTree.{Block, SetLocal, Leavable, Leave};
+ghost use Rattle.ls_lowered.specs.Plain.{plain, plain_statement, statements_of};
+ghost use Rattle.ls_finally.specs.Exits.{exits, all_exits, both, exit_of, replaced, all_replaced, wrapped, finally_of};
+ghost use Rattle.ls_finally.specs.Counts.{regions, all_regions};
 ghost use Rattle.ls_finally.specs.Code.{how_many, plain_exit, plain_exits};
 
 use crate::copy::{block_of, copy_expression, copy_statement};
 use crate::exits::{Exit, Loops, beyond, collect_exits};
-use ls_lowered::together::{also, pair, two};
+use crate::together::{in_box, in_boxes, put};
+use ls_lowered::together::{also, pair};
 use ls_lowered::tree::{Expression, Statement};
 use std::alloc::{AllocError, Global};
-
-/// A tree with its exits as leaves, and the number of the next leave.
-#[derive(Drop)]
-struct Replaced {
-    tree: Statement,
-    next: usize,
-}
-
-/// The same in a box.
-#[derive(Drop)]
-struct ReplacedPart {
-    tree: Box<Statement>,
-    next: usize,
-}
 
 /// The first, and then the second.
 fn in_turn(alloc: Global, first: Statement, second: Statement) -> Result<Statement, AllocError>
@@ -38,16 +25,14 @@ fn in_turn(alloc: Global, first: Statement, second: Statement) -> Result<Stateme
 }
 
 // A leave in place of an exit.
-#[inline(never)]
-fn leave(next: usize) -> Result<Replaced, AllocError>
-    requires { next < 10000 }
-    ensures tree { IfOk result (λ r. plain_statement r.tree ≡ Leave next) }
-    ensures next { IfOk result (λ r. r.next ≡ next + 1) }
+fn leave(next: &mut usize) -> Statement
+    requires { next.old < 10000 }
+    ensures tree { plain_statement result ≡ Leave next.old }
+    ensures next { next.new ≡ next.old + 1 }
 {
-    Ok(Replaced {
-        tree: Statement::Leave(next),
-        next: next + 1,
-    })
+    let number = *next;
+    *next += 1;
+    Statement::Leave(number)
 }
 
 // The value of a return into the local, and a leave.
@@ -56,186 +41,159 @@ fn leave_with(
     alloc: Global,
     e: &Expression,
     kept: usize,
-    next: usize,
-) -> Result<Replaced, AllocError>
-    requires { next < 10000 }
-    ensures tree { IfOk result (λ r. plain_statement r.tree ≡ both (SetLocal kept (plain e.now)) (Leave next)) }
-    ensures next { IfOk result (λ r. r.next ≡ next + 1) }
+    next: &mut usize,
+) -> Result<Statement, AllocError>
+    requires { next.old < 10000 }
+    ensures tree { IfOk result (λ t. plain_statement t ≡ both (SetLocal kept (plain e.now)) (Leave next.old)) }
+    ensures next { OnOk result (next.new ≡ next.old + 1) }
 {
     let keep = Statement::SetLocal(kept, copy_expression(alloc, e)?);
-    Ok(Replaced {
-        tree: in_turn(alloc, keep, Statement::Leave(next))?,
-        next: next + 1,
-    })
-}
-
-// The constructs whose parts are done; the last part says where the next leave is.
-
-#[inline(never)]
-fn branch(
-    alloc: Global,
-    e: &Expression,
-    first: ReplacedPart,
-    second: ReplacedPart,
-) -> Result<Replaced, AllocError>
-    ensures tree { IfOk result (λ r. plain_statement r.tree ≡ If (plain e.now) (plain_statement first.tree.value) (plain_statement second.tree.value)) }
-    ensures next { IfOk result (λ r. r.next ≡ second.next) }
-{
-    Ok(Replaced {
-        tree: Statement::If(copy_expression(alloc, e)?, first.tree, second.tree),
-        next: second.next,
-    })
-}
-
-#[inline(never)]
-fn turn(alloc: Global, e: &Expression, body: ReplacedPart) -> Result<Replaced, AllocError>
-    ensures tree { IfOk result (λ r. plain_statement r.tree ≡ While (plain e.now) (plain_statement body.tree.value)) }
-    ensures next { IfOk result (λ r. r.next ≡ body.next) }
-{
-    Ok(Replaced {
-        tree: Statement::While(copy_expression(alloc, e)?, body.tree),
-        next: body.next,
-    })
-}
-
-#[inline(never)]
-fn guarded(body: ReplacedPart, number: usize, handler: ReplacedPart) -> Result<Replaced, AllocError>
-    ensures tree { IfOk result (λ r. plain_statement r.tree ≡ Guarded (plain_statement body.tree.value) number (plain_statement handler.tree.value)) }
-    ensures next { IfOk result (λ r. r.next ≡ handler.next) }
-{
-    Ok(Replaced {
-        tree: Statement::Guarded(body.tree, number, handler.tree),
-        next: handler.next,
-    })
-}
-
-#[inline(never)]
-fn leavable(body: ReplacedPart, exit: ReplacedPart) -> Result<Replaced, AllocError>
-    ensures tree { IfOk result (λ r. plain_statement r.tree ≡ Leavable (plain_statement body.tree.value) (plain_statement exit.tree.value)) }
-    ensures next { IfOk result (λ r. r.next ≡ exit.next) }
-{
-    Ok(Replaced {
-        tree: Statement::Leavable(body.tree, exit.tree),
-        next: exit.next,
-    })
-}
-
-// A statement without exits of its own, as it is.
-#[inline(never)]
-fn as_it_is(alloc: Global, s: &Statement, next: usize) -> Result<Replaced, AllocError>
-    ensures tree { IfOk result (λ r. plain_statement r.tree ≡ plain_statement s.now) }
-    ensures next { IfOk result (λ r. r.next ≡ next) }
-{
-    Ok(Replaced {
-        tree: copy_statement(alloc, s)?,
-        next,
-    })
+    in_turn(alloc, keep, leave(next))
 }
 
 // A statement that keeps its exits.
 #[inline(never)]
-fn keeping(alloc: Global, s: &Statement, loops: &Loops, next: usize) -> Result<Replaced, AllocError>
-    requires { next + length (exits (how_many loops.now) (plain_statement s.now)) ≤ 10000 }
-    ensures tree { IfOk result (λ r. plain_statement r.tree ≡ plain_statement s.now) }
-    ensures next { IfOk result (λ r. r.next ≡ next + length (exits (how_many loops.now) (plain_statement s.now))) }
+fn keeping(
+    alloc: Global,
+    s: &Statement,
+    loops: &Loops,
+    next: &mut usize,
+) -> Result<Statement, AllocError>
+    requires { next.old + length (exits (how_many loops.now) (plain_statement s.now)) ≤ 10000 }
+    ensures tree { IfOk result (λ t. plain_statement t ≡ plain_statement s.now) }
+    ensures next { OnOk result (next.new ≡ next.old + length (exits (how_many loops.now) (plain_statement s.now))) }
 {
     let mut inside = Vec::new(alloc);
     collect_exits(s, loops, &mut inside)?;
-    Ok(Replaced {
-        tree: copy_statement(alloc, s)?,
-        next: next + inside.len(),
-    })
+    *next += inside.len();
+    copy_statement(alloc, s)
 }
 
 // A part of a statement, in a box of its own.
-#[cycle(statements)]
+#[cycle(replace)]
 #[inline(never)]
 fn replace_in_part(
     alloc: Global,
     s: &Statement,
     loops: &Loops,
     kept: usize,
-    next: usize,
-) -> Result<ReplacedPart, AllocError>
-    requires { next + length (exits (how_many loops.now) (plain_statement s.now)) + regions (plain_statement s.now) ≤ 10000 }
-    ensures tree { IfOk result (λ r. plain_statement r.tree.value ≡ replaced kept (how_many loops.now) next (plain_statement s.now)) }
-    ensures next { IfOk result (λ r. r.next ≡ next + length (exits (how_many loops.now) (plain_statement s.now))) }
+    next: &mut usize,
+) -> Result<Box<Statement>, AllocError>
+    requires { next.old + length (exits (how_many loops.now) (plain_statement s.now)) + regions (plain_statement s.now) ≤ 10000 }
+    ensures tree { IfOk result (λ t. plain_statement t.value ≡ replaced kept (how_many loops.now) next.old (plain_statement s.now)) }
+    ensures next { OnOk result (next.new ≡ next.old + length (exits (how_many loops.now) (plain_statement s.now))) }
 {
-    let s = replace_exits(alloc, s, &*loops, kept, next)?;
-    Ok(ReplacedPart {
-        tree: Box::new(alloc, s.tree)?,
-        next: s.next,
-    })
+    in_box(alloc, replace_exits(alloc, s, &*loops, kept, next)?)
 }
 
-// A statement in these loops with each of its exits as a leave, numbered from `next` on. A value that is returned is kept
-// in local `kept`.
-#[cycle(statements)]
+// Two parts of a statement.
+#[cycle(replace)]
+#[inline(never)]
+fn replace_in_two(
+    alloc: Global,
+    first: &Statement,
+    second: &Statement,
+    loops: &Loops,
+    kept: usize,
+    next: &mut usize,
+) -> Result<(Box<Statement>, Box<Statement>), AllocError>
+    requires { next.old + length (exits (how_many loops.now) (plain_statement first.now) ++ exits (how_many loops.now) (plain_statement second.now)) + (regions (plain_statement first.now) + regions (plain_statement second.now)) ≤ 10000 }
+    ensures first { IfOk result (λ p. plain_statement p.0.value ≡ replaced kept (how_many loops.now) next.old (plain_statement first.now)) }
+    ensures second { IfOk result (λ p. plain_statement p.1.value ≡ replaced kept (how_many loops.now) (next.old + length (exits (how_many loops.now) (plain_statement first.now))) (plain_statement second.now)) }
+    ensures next { OnOk result (next.new ≡ next.old + length (exits (how_many loops.now) (plain_statement first.now) ++ exits (how_many loops.now) (plain_statement second.now))) }
+{
+    let first = replace_in_part(alloc, first, &*loops, kept, next)?;
+    also(first, replace_in_part(alloc, second, &*loops, kept, next))
+}
+
+// A region, whose leaves are one further inside of it.
+#[cycle(replace)]
+fn replace_in_region(
+    alloc: Global,
+    body: &Statement,
+    exit: &Statement,
+    loops: &Loops,
+    kept: usize,
+    next: &mut usize,
+) -> Result<Statement, AllocError>
+    requires { next.old + length (exits (how_many loops.now) (plain_statement body.now) ++ exits (how_many loops.now) (plain_statement exit.now)) + (1 + regions (plain_statement body.now) + regions (plain_statement exit.now)) ≤ 10000 }
+    ensures tree { IfOk result (λ t. plain_statement t ≡ replaced kept (how_many loops.now) next.old (Leavable (plain_statement body.now) (plain_statement exit.now))) }
+    ensures next { OnOk result (next.new ≡ next.old + length (exits (how_many loops.now) (plain_statement body.now) ++ exits (how_many loops.now) (plain_statement exit.now))) }
+{
+    *next += 1;
+    let body = replace_in_part(alloc, body, &*loops, kept, next)?;
+    *next -= 1;
+    let exit = replace_in_part(alloc, exit, &*loops, kept, next);
+    let (body, exit) = also(body, exit)?;
+    Ok(Statement::Leavable(body, exit))
+}
+
+#[cycle(replace)]
+#[inline(never)]
+fn replace_in_block(
+    alloc: Global,
+    statements: &[Statement],
+    loops: &Loops,
+    kept: usize,
+    next: &mut usize,
+) -> Result<Statement, AllocError>
+    requires { next.old + length (all_exits (how_many loops.now) (statements_of statements.now)) + all_regions (statements_of statements.now) ≤ 10000 }
+    ensures tree { IfOk result (λ t. plain_statement t ≡ Block (all_replaced kept (how_many loops.now) next.old (statements_of statements.now))) }
+    ensures next { OnOk result (next.new ≡ next.old + length (all_exits (how_many loops.now) (statements_of statements.now))) }
+{
+    let mut out = Vec::new(alloc);
+    for s in statements {
+        put(&mut out, replace_exits(alloc, s, &*loops, kept, next)?)?;
+    }
+    Ok(block_of(out))
+}
+
+// A statement that lies in these loops, with leaves in place of its exits, the first of them number `next`.
+#[cycle(replace)]
 #[tactic(auto, using(crate::proofs::Fronts::block_read))]
 fn replace_exits(
     alloc: Global,
     s: &Statement,
     loops: &Loops,
     kept: usize,
-    next: usize,
-) -> Result<Replaced, AllocError>
-    requires { next + length (exits (how_many loops.now) (plain_statement s.now)) + regions (plain_statement s.now) ≤ 10000 }
-    ensures tree { IfOk result (λ r. plain_statement r.tree ≡ replaced kept (how_many loops.now) next (plain_statement s.now)) }
-    ensures next { IfOk result (λ r. r.next ≡ next + length (exits (how_many loops.now) (plain_statement s.now))) }
+    next: &mut usize,
+) -> Result<Statement, AllocError>
+    requires { next.old + length (exits (how_many loops.now) (plain_statement s.now)) + regions (plain_statement s.now) ≤ 10000 }
+    ensures tree { IfOk result (λ t. plain_statement t ≡ replaced kept (how_many loops.now) next.old (plain_statement s.now)) }
+    ensures next { OnOk result (next.new ≡ next.old + length (exits (how_many loops.now) (plain_statement s.now))) }
 {
     match s {
-        Statement::Block(statements) => {
-            let mut out = Vec::new(alloc);
-            let mut number = next;
-            for s in statements {
-                let s = replace_exits(alloc, s, &*loops, kept, number)?;
-                out.push(s.tree)?;
-                number = s.next;
-            }
-            Ok(Replaced {
-                tree: block_of(out),
-                next: number,
-            })
-        }
+        Statement::Block(statements) => replace_in_block(alloc, statements, &*loops, kept, next),
         Statement::If(e, first, second) => {
-            let first = replace_in_part(alloc, first, &*loops, kept, next)?;
-            let second = replace_in_part(alloc, second, &*loops, kept, first.next);
-            let (first, second) = also(first, second)?;
-            branch(alloc, e, first, second)
+            let parts = replace_in_two(alloc, first, second, &*loops, kept, next)?;
+            let ((first, second), e) = also(parts, copy_expression(alloc, e))?;
+            Ok(Statement::If(e, first, second))
         }
         Statement::While(e, body) => {
             let body = replace_in_part(alloc, body, &Loops::Inside(&*loops), kept, next)?;
-            turn(alloc, e, body)
+            let (body, e) = also(body, copy_expression(alloc, e))?;
+            Ok(Statement::While(e, body))
         }
-        Statement::Break(number) => match beyond(loops, *number) {
-            None => as_it_is(alloc, s, next),
-            Some(_) => leave(next),
-        },
-        Statement::Continue(number) => match beyond(loops, *number) {
-            None => as_it_is(alloc, s, next),
-            Some(_) => leave(next),
+        Statement::Break(number) | Statement::Continue(number) => match beyond(loops, *number) {
+            None => copy_statement(alloc, s),
+            Some(_) => Ok(leave(next)),
         },
         Statement::Return(e) => leave_with(alloc, e, kept, next),
         // What is lowered has no `try`; one that has keeps it.
         Statement::Try(_, _) => keeping(alloc, s, loops, next),
         Statement::Guarded(body, number, handler) => {
-            let body = replace_in_part(alloc, body, &*loops, kept, next)?;
-            let handler = replace_in_part(alloc, handler, &*loops, kept, body.next);
-            let (body, handler) = also(body, handler)?;
-            guarded(body, *number, handler)
+            let (body, handler) = replace_in_two(alloc, body, handler, &*loops, kept, next)?;
+            Ok(Statement::Guarded(body, *number, handler))
         }
         Statement::Leavable(body, exit) => {
-            let body = replace_in_part(alloc, body, &*loops, kept, next + 1)?;
-            let exit = replace_in_part(alloc, exit, &*loops, kept, body.next - 1);
-            let (body, exit) = also(body, exit)?;
-            leavable(body, exit)
+            replace_in_region(alloc, body, exit, &*loops, kept, next)
         }
         Statement::SetLocal(_, _)
         | Statement::SetField(_, _, _)
         | Statement::SetItem(_, _, _)
         | Statement::Evaluate(_)
         | Statement::Throw(_)
-        | Statement::Leave(_) => as_it_is(alloc, s, next),
+        | Statement::Leave(_) => copy_statement(alloc, s),
     }
 }
 
@@ -275,8 +233,7 @@ fn wrap(
     let mut whole = tree;
     for way in ways {
         let last = copied_before(alloc, finally, exit_statement(kept, *way));
-        let (before, last) = also(whole, last)?;
-        let (before, last) = two(alloc, before, last)?;
+        let (before, last) = in_boxes(alloc, whole, last)?;
         whole = Statement::Leavable(before, last);
     }
     Ok(whole)
@@ -295,10 +252,10 @@ pub fn by_copies(
     requires room { free ≤ 128 }
     ensures { IfOk result (λ t. plain_statement t ≡ finally_of free (plain_statement body.now) (plain_statement finally.now)) }
 {
-    let inside = replace_exits(alloc, body, &Loops::Outermost, free + 1, 0)?;
+    let mut next = 0;
+    let inside = replace_exits(alloc, body, &Loops::Outermost, free + 1, &mut next)?;
     let on_throw = copied_before(alloc, finally, Statement::Throw(free));
-    let (inside, on_throw) = also(inside.tree, on_throw)?;
-    let (inside, on_throw) = two(alloc, inside, on_throw)?;
+    let (inside, on_throw) = in_boxes(alloc, inside, on_throw)?;
     let guarded = Statement::Guarded(inside, free, on_throw);
     let (guarded, last) = also(guarded, copy_statement(alloc, finally))?;
     let normally = in_turn(alloc, guarded, last)?;

@@ -1,6 +1,6 @@
 // Steps on values of any type. What is owned while something else may fail is dropped here, at a parameter's type.
 
-ghost use Rattle.std.specs.Prelude.{◌≡◌, ◌∷◌, ◌++◌, [], IfOk, IfSome, Ok, option_map};
+ghost use Rattle.std.specs.Prelude.{◌≡◌, ◌∷◌, ◌++◌, [], IfOk, Ok};
 
 use std::alloc::{AllocError, Global};
 
@@ -55,18 +55,4 @@ pub fn three<T: Drop, U: Drop, V: Drop>(
     let a = Box::new(alloc, a)?;
     let others = two(alloc, b, c);
     also(a, others)
-}
-
-/// What is there, with what comes next if anything does.
-pub fn beside<T: Drop, U: Drop>(
-    first: T,
-    next: Result<Option<U>, AllocError>,
-) -> Result<Option<(T, U)>, AllocError>
-    ensures next { IfOk result (λ r. next ≡ Ok (option_map (λ p. p.1) r)) }
-    ensures first { IfOk result (λ r. IfSome r (λ p. p.0 ≡ first)) }
-{
-    match next? {
-        None => Ok(None),
-        Some(next) => Ok(Some((first, next))),
-    }
 }

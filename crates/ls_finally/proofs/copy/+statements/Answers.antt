@@ -1,14 +1,23 @@
-use Rattle.std.proofs.Common.{◌≡◌, ◌∷◌, ◌+◌, ◌∙◌, sym, ap, drop, rules, List}
+use Rattle.std.proofs.Common.{◌≡◌, ◌∷◌, ◌+◌, ◌∙◌, sym, ap, drop, rules, arith, List}
 use Rattle.ls_lowered.specs.declared.tree.Statement.{Statement}
 use Rattle.ls_lowered.specs.Plain.{plain_statement, in_front, statements_of}
 use Rattle.ls_finally.proofs.Fronts.{left_at, one_made}
+use Rattle.ls_finally.proofs.Weights.{size_at}
 use Rattle.ls_finally.proofs.copy.+statements.Goals as goal
+
+pub copy_block-copy_statement-requires : goal.copy_block-copy_statement-requires
+copy_block-copy_statement-requires t c =
+    let xs : List Statement = c.args.statements.now in
+    let i = c.loop-s.s-index in
+    let split : drop i xs ≡ c.s-item.result ∷ drop (i + 1) xs = left_at xs i c.s-item.result (search rules) c.s-item.is in
+    let less = size_at xs i c.s-item.result split in
+    (omega (arith, less), tt)
 
 pub copy_block-loop-s-preserved : goal.copy_block-loop-s-preserved
 copy_block-loop-s-preserved t c =
     let xs : List Statement = c.args.statements.now in
     let i = c.loop-s.s-index in
     let split : drop i xs ≡ c.s-item.result ∷ drop (i + 1) xs = left_at xs i c.s-item.result (search rules) c.s-item.is in
-    one_made c.loop-s.out.items c.push.new.self.items c.in_ok-copy_statement.field-0 (plain_statement c.s-item.result) (statements_of (drop (i + 1) xs)) c.in_ok-push.ensures.items c.in_ok-copy_statement.ensures
+    one_made c.loop-s.out.items c.put.new.items.items c.in_ok-copy_statement.field-0 (plain_statement c.s-item.result) (statements_of (drop (i + 1) xs)) c.in_ok-put.ensures c.in_ok-copy_statement.ensures
     ∙ ap (λ (ys : List Statement). in_front c.loop-s.out.items (statements_of ys)) (sym split)
     ∙ c.loop-s.invariant

@@ -4,18 +4,14 @@ use Rattle.ls_lowered.specs.Plain.{plain_method, plain_file}
 use Rattle.ls_lowered.specs.Methods.{invoke}
 use Rattle.ls_finally.specs.Flat.{flat_file}
 use Rattle.ls_finally.proofs.Methods.{keeps}
-use Rattle.ls_finally.proofs.Whole.{few_locals, not_few_locals, wants_memory, no_truth}
+use Rattle.ls_finally.proofs.Whole.{not_few_locals, no_truth}
 use Rattle.ls_finally.proofs.files.lower_finally.Goals as goal
 
 pub returns-then-not-have_few_locals-clause-refused : goal.returns-then-not-have_few_locals-clause-refused
 returns-then-not-have_few_locals-clause-refused c =
     λ h. no_truth (c.if-not-have_few_locals.ensures.1 (not_few_locals c.deref.result.now c.args.tree.methods.items c.deref.ensures.value h))
 
-pub returns-in_err-methods-clause-refused : goal.returns-in_err-methods-clause-refused
-returns-in_err-methods-clause-refused c =
-    wants_memory (plain_file c.args.tree) c.from_residual.result (few_locals c.deref.result.now c.args.tree.methods.items c.deref.ensures.value (c.if-not-have_few_locals.ensures.0 (search rules))) (search rules)
-
-pub returns-in-Some-clause-asks : goal.returns-in-Some-clause-asks
-returns-in-Some-clause-asks c = λ depth m arguments answers takes.
-    let e : map plain_method c.in-Some.methods.items ≡ flat_file (plain_file c.args.tree) = search rules in
+pub returns-clause-asks : goal.returns-clause-asks
+returns-clause-asks c = λ depth m arguments answers takes.
+    let e : map plain_method c.in_ok-methods.methods.items ≡ flat_file (plain_file c.args.tree) = search rules in
     ap (λ (f : lowered.File). invoke f depth m arguments answers) e ∙ keeps (plain_file c.args.tree) c.requires depth m arguments answers takes
