@@ -132,16 +132,42 @@ fn are_the_same(machine: &mut Machine, steps: &[usize], answered: &[Vec<Did>]) -
             .all(|(place, dids)| *place == dids.len())
 }
 
-#[test]
-fn each_answer_is_that_of_the_record(rt: HostRuntime) -> Result<(), Fail> {
-    let alloc = rt.alloc();
+// An image, the record of a live run of it, and what its seats were answered.
+fn noted<R: Threads + Wait + Sync>(
+    rt: &R,
+    alloc: Global,
+) -> Result<(Image, Record, Vec<Vec<Did>>), Fail> {
     let image = compile(alloc, COUNTER, TWO_COUNT)?;
     let blank = Blank::new(image.code().starts().len() as u64);
-    let run = run_noted::<Brand, HostRuntime>(&rt, alloc, blank, &image)?;
+    let run = run_noted::<Brand, R>(rt, alloc, blank, &image)?;
     let (record, answered) = run.ok_or("a seat disagrees")?;
+    Ok((image, record, answered))
+}
+
+// Whether the record has what the seats were answered, each was answered, and its history is the machine's.
+fn agreements(
+    alloc: Global,
+    image: &Image,
+    record: &Record,
+    answered: &[Vec<Did>],
+) -> Result<[bool; 3], Fail> {
     let mut machine = Machine::load(alloc, image.code(), CELLS)?;
-    assert!(rt; are_the_same(&mut machine, record.schedule().steps(), answered.as_slice()));
-    assert!(rt; answered.iter().all(|dids| !dids.is_empty()));
-    assert!(rt; machine.history() == record.history());
+    let are_same = are_the_same(&mut machine, record.schedule().steps(), answered);
+    let are_answered = answered.iter().all(|dids| !dids.is_empty());
+    Ok([
+        are_same,
+        are_answered,
+        machine.history() == record.history(),
+    ])
+}
+
+fn live_agreements<R: Threads + Wait + Sync>(rt: &R, alloc: Global) -> Result<[bool; 3], Fail> {
+    let (image, record, answered) = noted(rt, alloc)?;
+    agreements(alloc, &image, &record, answered.as_slice())
+}
+
+#[test]
+fn each_answer_is_that_of_the_record(rt: HostRuntime) -> Result<(), Fail> {
+    assert_eq!(rt; live_agreements(&rt, rt.alloc())?, [true, true, true]);
     Ok(())
 }

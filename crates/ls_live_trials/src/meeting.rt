@@ -64,24 +64,57 @@ fn has_returned_true(history: &[Event], thread: usize, call: usize) -> bool {
     history.iter().any(|event| *event == wanted)
 }
 
-#[test]
-fn two_threads_meet(rt: HostRuntime) -> Result<(), Fail> {
-    let alloc = rt.alloc();
-    let gate = Meeting::new();
+// Whether each seat made as many steps as the record has of its thread.
+fn are_counted(record: &Record, counts: &[u64]) -> bool {
+    let steps = record.schedule().steps();
+    counts.iter().enumerate().all(|(thread, count)| {
+        steps.iter().filter(|step| **step == thread).count() as u64 == *count
+    })
+}
+
+fn replays(alloc: Global, image: &Image, record: &Record) -> Result<bool, Fail> {
+    let again = replay(alloc, image, CELLS, record.schedule())?;
+    Ok(again.history() == record.history())
+}
+
+fn have_returned(history: &[Event]) -> bool {
+    has_returned_true(history, 1, 1)
+        && has_returned_true(history, 2, 1)
+        && has_returned_true(history, 2, 2)
+}
+
+// An image, the record of a live run of it, and how many steps each seat made.
+fn counted<R: Threads + Wait + Sync>(
+    rt: &R,
+    alloc: Global,
+    gate: &Meeting,
+) -> Result<(Image, Record, Vec<u64>), Fail> {
     let image = compile(alloc, LAZY_LIST, TWO_ADD)?;
     let blank = Blank::new(image.code().starts().len() as u64);
-    let run = run_counted::<Brand, Meeting, HostRuntime>(&rt, alloc, blank, &image, &gate)?;
+    let run = run_counted::<Brand, Meeting, R>(rt, alloc, blank, &image, gate)?;
     let (record, counts) = run.ok_or("a seat disagrees")?;
+    Ok((image, record, counts))
+}
+
+// Whether the seats' counts are the record's, it replays, and each call returned true.
+fn agreements<R: Threads + Wait + Sync>(
+    rt: &R,
+    alloc: Global,
+    gate: &Meeting,
+) -> Result<[bool; 3], Fail> {
+    let (image, record, counts) = counted(rt, alloc, gate)?;
+    let replays = replays(alloc, &image, &record)?;
+    Ok([
+        are_counted(&record, &counts),
+        replays,
+        have_returned(record.history()),
+    ])
+}
+
+#[test]
+fn two_threads_meet(rt: HostRuntime) -> Result<(), Fail> {
+    let gate = Meeting::new();
+    assert_eq!(rt; agreements(&rt, rt.alloc(), &gate)?, [true, true, true]);
     assert_eq!(rt; gate.left_by_turns(), 0);
-    for (thread, count) in counts.iter().enumerate() {
-        let steps = record.schedule().steps();
-        let entries = steps.iter().filter(|step| **step == thread).count();
-        assert_eq!(rt; entries as u64, *count);
-    }
-    let again = replay(alloc, &image, CELLS, record.schedule())?;
-    assert!(rt; again.history() == record.history());
-    for (thread, call) in [(1, 1), (2, 1), (2, 2)] {
-        assert!(rt; has_returned_true(record.history(), thread, call));
-    }
     Ok(())
 }

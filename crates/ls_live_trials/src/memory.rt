@@ -49,21 +49,27 @@ fn a_machine_is_refused(alloc: Global, image: &Image) -> Result<bool, AllocError
     Ok(matches!(loaded, Err(LoadFault::Memory)))
 }
 
-fn did_the_same(did: Did, other: Did) -> bool {
-    key(did) == key(other)
+fn did_the_same(dids: &[Did], wanted: &[Did]) -> bool {
+    dids.len() == CALLS
+        && wanted.len() == CALLS
+        && dids
+            .iter()
+            .zip(wanted)
+            .all(|(did, other)| key(*did) == key(*other))
+}
+
+// Whether a machine isn't loaded without memory, and does without further memory what it does with it.
+fn machine_goes_on(alloc: Global) -> Result<[bool; 2], Fail> {
+    let image = compile(alloc, COUNTER, TWO_COUNT)?;
+    let is_refused = a_machine_is_refused(alloc, &image)?;
+    let wanted = machine_dids(alloc, &image, false)?;
+    let dids = machine_dids(alloc, &image, true)?;
+    Ok([is_refused, did_the_same(&dids, &wanted)])
 }
 
 #[test]
 fn a_machine_steps(rt: HostRuntime) -> Result<(), Fail> {
-    let alloc = rt.alloc();
-    let image = compile(alloc, COUNTER, TWO_COUNT)?;
-    assert!(rt; a_machine_is_refused(alloc, &image)?);
-    let wanted = machine_dids(alloc, &image, false)?;
-    let dids = machine_dids(alloc, &image, true)?;
-    assert_eq!(rt; dids.len(), CALLS);
-    assert_eq!(rt; wanted.len(), CALLS);
-    let mut both = dids.iter().zip(&wanted);
-    assert!(rt; both.all(|(did, other)| did_the_same(*did, *other)));
+    assert_eq!(rt; machine_goes_on(rt.alloc())?, [true, true]);
     Ok(())
 }
 
@@ -125,26 +131,36 @@ fn is_the_same(answer: More, other: More) -> bool {
         More::Full => matches!(other, More::Full),
         More::Later => matches!(other, More::Later),
         More::Did(did) => match other {
-            More::Did(wanted) => did_the_same(did, wanted),
+            More::Did(wanted) => key(did) == key(wanted),
             _ => false,
         },
     }
 }
 
-#[test]
-fn a_live_run_steps(rt: HostRuntime) -> Result<(), Fail> {
-    let alloc = rt.alloc();
-    let image = compile(alloc, COUNTER, TWO_COUNT)?;
-    let wanted = live_answers(&rt, alloc, &image, false)?;
-    let answers = live_answers(&rt, alloc, &image, true)?;
-    assert_eq!(rt; answers.len(), CALLS);
-    assert_eq!(rt; wanted.len(), CALLS);
+// Whether most answers are steps, and they are the others.
+fn are_the_same(answers: &[More], wanted: &[More]) -> bool {
     let done = answers
         .iter()
         .filter(|it| matches!(it, More::Did(_)))
         .count();
-    assert!(rt; done > CALLS / 2);
-    let mut both = answers.iter().zip(&wanted);
-    assert!(rt; both.all(|(answer, other)| is_the_same(*answer, *other)));
+    answers.len() == CALLS
+        && wanted.len() == CALLS
+        && done > CALLS / 2
+        && answers
+            .iter()
+            .zip(wanted)
+            .all(|(answer, other)| is_the_same(*answer, *other))
+}
+
+fn live_goes_on<R: Wait>(rt: &R, alloc: Global) -> Result<bool, Fail> {
+    let image = compile(alloc, COUNTER, TWO_COUNT)?;
+    let wanted = live_answers(rt, alloc, &image, false)?;
+    let answers = live_answers(rt, alloc, &image, true)?;
+    Ok(are_the_same(&answers, &wanted))
+}
+
+#[test]
+fn a_live_run_steps(rt: HostRuntime) -> Result<(), Fail> {
+    assert!(rt; live_goes_on(&rt, rt.alloc())?);
     Ok(())
 }

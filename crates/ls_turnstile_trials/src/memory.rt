@@ -1,14 +1,8 @@
 // Steps while all further memory is refused: they answer as they do with ample memory.
 
-use crate::seats::go_in_order;
-use ls_compiler::compile::compile;
-use ls_hoard::Hoard;
+use crate::seats::{Run, answers, are_in_order, open_fault};
 use ls_machine::LoadFault;
-use ls_schedule::read_schedule;
-use ls_turnstile::Turnstile;
 use std::test::Fail;
-
-const CELLS: usize = 100;
 
 const STEPS: usize = 100_000;
 
@@ -21,20 +15,21 @@ const TWO_GO: &str = "setup { a = new Adder(); a.more(); } \
 
 #[test]
 fn a_turnstile_steps(rt: HostRuntime) -> Result<(), Fail> {
-    let alloc = rt.alloc();
-    let image = compile(alloc, ADDER, TWO_GO)?;
-    let tape = read_schedule(alloc, "setup*50 all*49975", image.program())?;
-    assert_eq!(rt; tape.len(), STEPS);
-    let (turnstile, mut seats) = Turnstile::open(alloc, &image, CELLS, &tape)?;
-    let (Some(mut b), Some(mut a), Some(mut setup)) = (seats.pop(), seats.pop(), seats.pop()) else {
-        panic!(rt; "a seat is missing");
+    let run = Run {
+        classes: ADDER,
+        program: TWO_GO,
+        tape: "setup*50 all*49975",
+        order: None,
+        is_refused: true,
     };
-    let mut hoard = Hoard::new(alloc)?;
-    hoard.take_all(alloc);
-    let refused = Turnstile::open(alloc, &image, CELLS, &tape);
-    let went = go_in_order(&turnstile, &mut setup, &mut a, &mut b, tape.steps());
-    drop(hoard);
-    assert!(rt; matches!(refused, Err(LoadFault::Memory)));
-    assert!(rt; went);
+    let answered = answers(rt.alloc(), &run)?;
+    assert!(rt; are_in_order(&answered.turns, STEPS));
+    Ok(())
+}
+
+#[test]
+fn a_turnstile_is_refused(rt: HostRuntime) -> Result<(), Fail> {
+    let fault = open_fault(rt.alloc(), 100, true)?;
+    assert_eq!(rt; fault, Some(LoadFault::Memory));
     Ok(())
 }

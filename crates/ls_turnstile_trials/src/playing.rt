@@ -5,7 +5,7 @@ use ls_compiler::compile::compile;
 use ls_events::schedule::Schedule;
 use ls_image::image::Image;
 use ls_machine::LoadFault;
-use ls_schedule::{read_schedule, replay};
+use ls_schedule::{Record, read_schedule, replay};
 use ls_turnstile::{FollowFault, Gate, OpenGate, PlayFault, play_turns};
 use std::alloc::Global;
 use std::sync::Wait;
@@ -78,36 +78,62 @@ fn plays_a_list_with_a_lock_each(rt: HostRuntime) -> Result<(), Fail> {
     Ok(())
 }
 
-#[test]
-fn an_entry_of_nobody(rt: HostRuntime) -> Result<(), Fail> {
-    let alloc = rt.alloc();
-    let image = compile(alloc, COUNTER, COUNTER_PROGRAM)?;
-    let mut tape = read_schedule(alloc, "setup A", image.program())?;
-    if !tape.is_full() {
+// What is played: texts, entries of a tape and perhaps one of nobody behind them, on so many cells.
+#[derive(Drop)]
+struct Turns<'p> {
+    classes: &'p str,
+    program: &'p str,
+    entries: &'p str,
+    has_nobody: bool,
+    cells: usize,
+}
+
+// How many steps and events a record has, or why there is none.
+fn counts(played: Result<Record, PlayFault>) -> (Option<PlayFault>, usize, usize) {
+    match played {
+        Ok(record) => (None, record.schedule().len(), record.history().len()),
+        Err(fault) => (Some(fault), 0, 0),
+    }
+}
+
+fn played<R: Threads + Wait + Sync, G: Gate + Sync>(
+    rt: &R,
+    alloc: Global,
+    turns: &Turns,
+    gate: &G,
+) -> Result<(Option<PlayFault>, usize, usize), Fail> {
+    let image = compile(alloc, turns.classes, turns.program)?;
+    let mut tape = read_schedule(alloc, turns.entries, image.program())?;
+    if turns.has_nobody && !tape.is_full() {
         tape.push(9)?;
     }
-    match play_turns(&rt, alloc, &image, 100, &tape, &OpenGate) {
-        Ok(_) => panic!(rt; "an entry of nobody was done"),
-        Err(fault) => {
-            let wanted = FollowFault::TurnsSpent { place: 2 };
-            assert_eq!(rt; fault, PlayFault::Follow(wanted));
-        }
+    Ok(counts(play_turns(rt, alloc, &image, turns.cells, &tape, gate)))
+}
+
+fn counted<'p>(entries: &'p str, has_nobody: bool, cells: usize) -> Turns<'p> {
+    Turns {
+        classes: COUNTER,
+        program: COUNTER_PROGRAM,
+        entries,
+        has_nobody,
+        cells,
     }
+}
+
+#[test]
+fn an_entry_of_nobody(rt: HostRuntime) -> Result<(), Fail> {
+    let found = played(&rt, rt.alloc(), &counted("setup A", true, 100), &OpenGate)?;
+    let wanted = PlayFault::Follow(FollowFault::TurnsSpent { place: 2 });
+    assert_eq!(rt; found, (Some(wanted), 0, 0));
     Ok(())
 }
 
 #[test]
 fn no_entries_and_bad_cells(rt: HostRuntime) -> Result<(), Fail> {
-    let alloc = rt.alloc();
-    let image = compile(alloc, COUNTER, COUNTER_PROGRAM)?;
-    let tape = read_schedule(alloc, "", image.program())?;
-    let record = play_turns(&rt, alloc, &image, 1, &tape, &OpenGate)?;
-    assert!(rt; record.schedule().is_empty());
-    assert!(rt; record.history().is_empty());
-    match play_turns(&rt, alloc, &image, 0, &tape, &OpenGate) {
-        Ok(_) => panic!(rt; "played without cells"),
-        Err(fault) => assert_eq!(rt; fault, PlayFault::Load(LoadFault::BadCells)),
-    }
+    let found = played(&rt, rt.alloc(), &counted("", false, 1), &OpenGate)?;
+    assert_eq!(rt; found, (None, 0, 0));
+    let found = played(&rt, rt.alloc(), &counted("", false, 0), &OpenGate)?;
+    assert_eq!(rt; found, (Some(PlayFault::Load(LoadFault::BadCells)), 0, 0));
     Ok(())
 }
 
@@ -152,18 +178,20 @@ impl Gate for Meeting {
 // Were the seats worked on one thread, one of the two would leave the gate by its turns.
 #[test]
 fn two_threads_meet(rt: HostRuntime) -> Result<(), Fail> {
-    let alloc = rt.alloc();
-    let program =
-        "setup { s = new LazyList(); } thread A { s.add(1); } thread B { s.add(2); s.contains(2); }";
-    let image = compile(alloc, LAZY_LIST, program)?;
-    let schedule = read_schedule(alloc, "setup*999 all*999", image.program())?;
     let gate = Meeting {
         first: AtomicBool::new(false),
         second: AtomicBool::new(false),
         left_by_turns: AtomicU64::new(0),
     };
-    let record = play_turns(&rt, alloc, &image, 1000, &schedule, &gate)?;
+    let lists = Turns {
+        classes: LAZY_LIST,
+        program: "setup { s = new LazyList(); } thread A { s.add(1); } thread B { s.add(2); s.contains(2); }",
+        entries: "setup*999 all*999",
+        has_nobody: false,
+        cells: 1000,
+    };
+    let (_, _, events) = played(&rt, rt.alloc(), &lists, &gate)?;
     assert_eq!(rt; gate.left_by_turns.load(SeqCst), 0);
-    assert_eq!(rt; record.history().len(), 8);
+    assert_eq!(rt; events, 8);
     Ok(())
 }

@@ -1,6 +1,6 @@
 use Rattle.ls_code.specs.Machine.{loaded}
 use Rattle.ls_image.specs.Images.{code_of_image}
-use Rattle.ls_live_trials.proofs.meeting.two_threads_meet.Given as goal
+use Rattle.ls_live_trials.proofs.meeting.counted.Given as goal
 
 abbrev pub ghosts-run_counted-L-Ledger : goal.ghosts-run_counted-L-Ledger
 ghosts-run_counted-L-Ledger g a = record { name = a.blank.name; parts = a.blank.parts }

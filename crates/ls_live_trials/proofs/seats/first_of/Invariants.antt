@@ -1,6 +1,6 @@
 use Rattle.ls_code.specs.Machine.{loaded}
 use Rattle.ls_image.specs.Images.{code_of_image}
-use Rattle.ls_live_trials.proofs.seats.a_full_book_is_told_before_a_late_start.Given as goal
+use Rattle.ls_live_trials.proofs.seats.first_of.Given as goal
 
 abbrev pub ghosts-first_answer-L-Ledger : goal.ghosts-first_answer-L-Ledger
 ghosts-first_answer-L-Ledger g a = record { name = a.blank.name; parts = a.blank.parts }
