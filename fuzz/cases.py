@@ -24,10 +24,10 @@ class Stock:
     def __init__(self):
         self.inputs = {command: [] for command in words.COMMANDS}
         self.classes, self.programs, self.schedules, self.histories, self.orders = [], [], [], [], []
-        for command in sorted(os.listdir(ROWS)):
-            for name in sorted(os.listdir(f"{ROWS}/{command}")):
-                self.add(command, read(f"{ROWS}/{command}/{name}/stdin"))
-                self.add_history(f"{ROWS}/{command}/{name}/stdout")
+        for folder in sorted(os.listdir(ROWS)):
+            for name in sorted(os.listdir(f"{ROWS}/{folder}")):
+                self.add(read(f"{ROWS}/{folder}/{name}/args").split()[0].decode(), read(f"{ROWS}/{folder}/{name}/stdin"))
+                self.add_history(f"{ROWS}/{folder}/{name}/stdout")
         for name in sorted(os.listdir(EXAMPLES)):
             if name.endswith(".txt"):
                 text = read(f"{EXAMPLES}/{name}")
@@ -35,7 +35,8 @@ class Stock:
         self.classes += [read(f"{EXAMPLES}/classes/{name}") for name in sorted(os.listdir(f"{EXAMPLES}/classes"))]
 
     def add(self, command, text):
-        self.inputs[command].append(text)
+        if command in self.inputs:
+            self.inputs[command].append(text)
         parts = text.split(b"\n%%\n")
         into = (self.histories, self.orders) if command == "check" else (self.classes, self.programs, self.schedules)
         for part, kind in zip(parts, into):
