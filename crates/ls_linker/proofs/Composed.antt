@@ -4,9 +4,9 @@ use Rattle.std.specs.Prelude.{slice_get}
 use Rattle.ls_events.specs.declared.value.Value.{Value}
 use Rattle.ls_events.specs.declared.value.ValueType.{ValueType}
 use Rattle.ls_checked.specs.CheckedTree.{File, Method}
-use Rattle.ls_refs.specs.ValueWords.{value_word}
-use Rattle.ls_refs.specs.Sorts.{HaveTypes, IsSmall}
-use Rattle.ls_refs.specs.Typing.{IsTypedFile, parameters_of}
+use Rattle.ls_refs.specs.ValueWords.{value_word, IsSmall}
+use Rattle.ls_typing.specs.Sorts.{HaveTypes}
+use Rattle.ls_typing.specs.Typing.{IsTypedFile, parameters_of}
 use Rattle.ls_refs.specs.Lowered.{lowered_method, lowered_file}
 use Rattle.ls_refs.specs.Laws.{answer_words}
 use Rattle.ls_finally.specs.Flat.{flat_method}

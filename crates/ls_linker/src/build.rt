@@ -3,12 +3,7 @@
 ghost use Rattle.std.specs.Prelude.{◌≡◌, IfOk, IfErr, OnOk};
 ghost use Rattle.ls_checked.specs.Plain.{plain_file};
 ghost use Rattle.ls_checked.specs.PlainProgram.{plain_program};
-ghost use Rattle.ls_meaning.specs.Constants.{FileHasConstants, ProgramHasConstants};
-ghost use Rattle.ls_refs.specs.Typing.{IsTypedFile};
-ghost use Rattle.ls_refs.specs.Refused.{AllSlotted};
-ghost use Rattle.ls_ranges.specs.Ranged.{IsRanged, IsRangedProgram};
-ghost use Rattle.ls_soundness.specs.Files.{HasItsClasses};
-ghost use Rattle.ls_soundness.specs.Programs.{IsTypedProgram};
+ghost use Rattle.ls_typing.specs.WellTyped.{IsWellTyped, IsWellTypedProgram};
 ghost use Rattle.ls_linking.specs.Compiled.{code_of};
 ghost use Rattle.ls_linker.specs.Limits.{KeepsLimits, GoesPast};
 ghost use Rattle.ls_linking.specs.Runs.{Runs};
@@ -22,6 +17,7 @@ use ls_code::code::Code;
 use ls_emit::emit::emit;
 use ls_finally::files::lower_finally;
 use ls_ranges::{fits_lowered, ranged_is_emittable, ranged_links, typed_is_placed};
+use ls_refs::laws::has_slots;
 use ls_refs::lower::lower_refs;
 use ls_sizes::laws::sizes;
 use std::alloc::Global;
@@ -29,20 +25,15 @@ use std::alloc::Global;
 /// The whole code of a checked file and a thread program for it, which runs as the two: it has the same histories, both ways,
 /// and no thread is silent for too long. Refused with 30 to 33, by the first limit that isn't kept.
 pub fn build(alloc: Global, file: &File, program: &Program) -> Result<Code, BuildFault>
-    requires typed { IsTypedFile (plain_file file.now) }
-    requires ranged { IsRanged (plain_file file.now) }
-    requires classes { HasItsClasses (plain_file file.now) }
-    requires constants { FileHasConstants (plain_file file.now) }
-    requires slots { AllSlotted (plain_file file.now).methods }
-    requires program { IsTypedProgram (plain_file file.now) (plain_program program.now) }
-    requires ranged_program { IsRangedProgram (plain_program program.now) }
-    requires program_constants { ProgramHasConstants (plain_program program.now) }
+    requires file { IsWellTyped (plain_file file.now) }
+    requires program { IsWellTypedProgram (plain_file file.now) (plain_program program.now) }
     ensures code { IfOk result (λ code. code ≡ code_of (plain_file file.now) (plain_program program.now)) }
     ensures runs { IfOk result (Runs (plain_file file.now) (plain_program program.now)) }
     ensures within { OnOk result (KeepsLimits (plain_file file.now) (plain_program program.now)) }
     ensures refused { IfErr result (GoesPast (plain_file file.now) (plain_program program.now)) }
 {
     compiled_runs();
+    has_slots();
     sizes();
     typed_is_placed();
     fits_lowered();

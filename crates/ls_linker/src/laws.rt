@@ -3,11 +3,8 @@
 ghost use Rattle.std.specs.Prelude.{◌≤◌, length};
 ghost use Rattle.ls_checked.specs.CheckedTree.{File};
 ghost use Rattle.ls_checked.specs.CheckedProgram.{Program};
-ghost use Rattle.ls_meaning.specs.Constants.{FileHasConstants, ProgramHasConstants};
-ghost use Rattle.ls_refs.specs.Typing.{IsTypedFile};
+ghost use Rattle.ls_typing.specs.WellTyped.{IsWellTyped, IsWellTypedProgram};
 ghost use Rattle.ls_refs.specs.Lowered.{lowered_file};
-ghost use Rattle.ls_soundness.specs.Files.{HasItsClasses};
-ghost use Rattle.ls_soundness.specs.Programs.{IsTypedProgram};
 ghost use Rattle.ls_finally.specs.Placed.{AllPlaced};
 ghost use Rattle.ls_emission.specs.Emittable.{IsEmittableFile};
 ghost use Rattle.ls_linking.specs.Compiled.{flat_of, code_of};
@@ -22,9 +19,9 @@ use ls_quick::laws::{frames_are_quick, threads_are_quick};
 use ls_sizes::laws::sizes;
 use ls_soundness::laws::{is_sound, suited_in_call};
 
-/// The code of a typed file and a typed program runs as the two, where it isn't too long.
+/// The code of a well typed file and a well typed program of it runs as the two, where it isn't too long.
 pub fn compiled_runs()
-    ensures { (file : File) (program : Program) → IsTypedFile file → HasItsClasses file → FileHasConstants file → IsTypedProgram file program → ProgramHasConstants program → AllPlaced (lowered_file file) (lowered_file file) → IsEmittableFile (flat_of file) → length (code_of file program).instructions ≤ 65536 → Runs file program (code_of file program) }
+    ensures { (file : File) (program : Program) → IsWellTyped file → IsWellTypedProgram file program → AllPlaced (lowered_file file) (lowered_file file) → IsEmittableFile (flat_of file) → length (code_of file program).instructions ≤ 65536 → Runs file program (code_of file program) }
 {
     suited_in_call();
     keeps_courses();

@@ -22,15 +22,14 @@ use Rattle.ls_code.specs.Fed as fed
 use Rattle.ls_code.specs.declared.instruction.Resume.TheVariants as then
 use Rattle.ls_code.specs.declared.instruction.Instruction.TheVariants as op
 use Rattle.ls_code.specs.declared.code.CallResult.TheVariants as result
-use Rattle.ls_refs.specs.ValueWords.{value_word}
-use Rattle.ls_refs.specs.Sorts.{IsSmall}
+use Rattle.ls_refs.specs.ValueWords.{value_word, IsSmall}
 use Rattle.ls_refs.specs.Laws.{answer_words}
 use Rattle.ls_headline.specs.InWords.{word_of, map_option}
 use Rattle.ls_headline.specs.Sorts.{Suited}
 use Rattle.ls_headline.specs.Threads.{told, result_type}
 use Rattle.ls_linking.specs.Threads.{pushes, result_code, call_code}
 use Rattle.ls_soundness.specs.InCall.{then_next}
-use Rattle.ls_soundness.specs.Programs.{IsPlainResult, IsTypedMaking, IsTypedCalling}
+use Rattle.ls_typing.specs.Programs.{IsPlainResult, IsTypedMaking, IsTypedCalling}
 use Rattle.ls_linking.proofs.Places.{HasAt, has_front, has_after}
 use Rattle.ls_linking.proofs.SameWords.{value_is}
 use Rattle.ls_linking.proofs.InKind.{suited_same}

@@ -23,16 +23,15 @@ use Rattle.ls_code.specs.declared.instruction.Instruction.TheVariants as op
 use Rattle.ls_code.specs.declared.code.Method.{Method as MethodRow}
 use Rattle.ls_emission.specs.Units.{LieIn, unit_of, units_of}
 use Rattle.ls_emission.specs.Entering.{told_by, given_back, IsEntering, TakesAll, EntersAs}
-use Rattle.ls_refs.specs.ValueWords.{value_word}
-use Rattle.ls_refs.specs.Sorts.{IsSmall}
-use Rattle.ls_refs.specs.Typing.{parameters_of}
+use Rattle.ls_refs.specs.ValueWords.{value_word, IsSmall}
+use Rattle.ls_typing.specs.Typing.{parameters_of}
 use Rattle.ls_refs.specs.Laws.{answer_words, in_words}
 use Rattle.ls_headline.specs.InWords.{word_of}
 use Rattle.ls_headline.specs.Sorts.{Suited}
 use Rattle.ls_headline.specs.Threads.{told}
 use Rattle.ls_linking.specs.Laws.{CallAsks, LoweredAsks}
 use Rattle.ls_soundness.specs.InCall.{then_next}
-use Rattle.ls_soundness.specs.Programs.{AreArguments}
+use Rattle.ls_typing.specs.Programs.{AreArguments}
 use Rattle.ls_linking.proofs.Lists.{get_map, laid, laid_is, laid_get}
 use Rattle.ls_linking.proofs.SameWords.{values_are, action_is}
 use Rattle.ls_linking.proofs.InKind.{arguments_have, as_many}

@@ -7,8 +7,9 @@ use Rattle.ls_events.specs.declared.value.ValueType.TheVariants as types
 use Rattle.ls_meaning.specs.Course.{Answers}
 use Rattle.ls_meaning.specs.Threads.{Next}
 use Rattle.ls_headline.specs.Sorts.{Suits, Suited}
-use Rattle.ls_refs.specs.Sorts.{HasType, HaveTypes, IsSmall}
-use Rattle.ls_soundness.specs.Programs.{IsArgument, AreArguments}
+use Rattle.ls_typing.specs.Sorts.{HasType, HaveTypes}
+use Rattle.ls_refs.specs.ValueWords.{IsSmall}
+use Rattle.ls_typing.specs.Programs.{IsArgument, AreArguments}
 
 -- the same where the same comes next
 pub suited_same : (P : ℕ → ValueType → Type 0) (f g : Answers → Next) → ((q : Answers) → f q ≡ g q) → (q : Answers) → Suited P f q → Suited P g q

@@ -18,7 +18,7 @@ use Rattle.ls_code.specs.declared.code.CallResult.{CallResult}
 use Rattle.ls_code.specs.declared.code.CallResult.TheVariants as result
 use Rattle.ls_emission.specs.Units.{LieIn, units_of}
 use Rattle.ls_emission.specs.Entering.{UnitsAsk}
-use Rattle.ls_refs.specs.Sorts.{IsSmall}
+use Rattle.ls_refs.specs.ValueWords.{IsSmall}
 use Rattle.ls_refs.specs.Laws.{answer_words}
 use Rattle.ls_headline.specs.InWords.{word_of, map_answer}
 use Rattle.ls_headline.specs.Sorts.{Suited, InKind}
@@ -27,7 +27,7 @@ use Rattle.ls_headline.specs.Translations.{most_silent}
 use Rattle.ls_linking.specs.Threads.{pushes, result_code, call_code, calls_code, calls_need, thread_size, start_of}
 use Rattle.ls_linking.specs.Linked.{words_of, units_code, units_rows, threads_code, threads_rows, class_size, linked}
 use Rattle.ls_linking.specs.Laws.{LoweredAsks}
-use Rattle.ls_soundness.specs.Programs.{IsTypedCall, IsTypedProgram}
+use Rattle.ls_typing.specs.Programs.{IsTypedCall, IsTypedProgram}
 use Rattle.ls_linking.proofs.Lists.{RowsEnd, get_map}
 use Rattle.ls_linking.proofs.Places.{HasAt, has_front, has_after}
 use Rattle.ls_linking.proofs.Units.{all_within, units_end, units_long, lie_in}

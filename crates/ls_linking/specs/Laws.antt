@@ -9,9 +9,9 @@ use Rattle.ls_meaning.specs.Methods.{invoke}
 use Rattle.ls_meaning.specs.Threads.{Next}
 use Rattle.ls_lowered.specs.LoweredTree as low
 use Rattle.ls_lowered.specs.Methods as courses
-use Rattle.ls_refs.specs.ValueWords.{value_word}
-use Rattle.ls_refs.specs.Sorts.{HaveTypes, IsSmall}
-use Rattle.ls_refs.specs.Typing.{parameters_of}
+use Rattle.ls_refs.specs.ValueWords.{value_word, IsSmall}
+use Rattle.ls_typing.specs.Sorts.{HaveTypes}
+use Rattle.ls_typing.specs.Typing.{parameters_of}
 use Rattle.ls_refs.specs.Laws.{answer_words, in_words}
 use Rattle.ls_headline.specs.Sorts.{Suited}
 use Rattle.ls_soundness.specs.InCall.{then_next}

@@ -11,7 +11,7 @@ ghost use Rattle.ls_emission.specs.Emittable.{IsEmittableFile};
 ghost use Rattle.ls_emission.specs.Entering.{UnitsAsk};
 ghost use Rattle.ls_linking.specs.Linked.{linked};
 ghost use Rattle.ls_linking.specs.Laws.{LoweredAsks};
-ghost use Rattle.ls_soundness.specs.Programs.{IsTypedProgram};
+ghost use Rattle.ls_typing.specs.Programs.{IsTypedProgram};
 ghost use Rattle.ls_linking.specs.Example.{LinksSo};
 
 /// The threads of the whole code ask what the threads of the source ask, where the lowered file asks as its file and its

@@ -5,7 +5,7 @@ use Rattle.ls_events.specs.declared.value.ValueType.TheVariants as types
 use Rattle.ls_checked.specs.declared.tree.Called.TheVariants.{Method as OfMethod, LockIt, UnlockIt, TryIt, AskIt, GetReference, IsMarked, GetBoth, SetBoth, CompareAndSet, Attempt}
 use Rattle.ls_checked.specs.CheckedTree.{File, Expression, Literal, Slot, Field, Item, Negate, Not, Binary, And, Or, Call, MakeObject, MakeLock, MakeMarkable, MakeArray, Expressions, End, More}
 use Rattle.ls_meaning.specs.declared.sort.Sort.{Sort}
-use Rattle.ls_refs.specs.Typing.{IsTyped, AreTyped}
+use Rattle.ls_typing.specs.Typing.{IsTyped, AreTyped}
 use Rattle.ls_refs.specs.Temporaries.{temporaries, all_temporaries}
 use Rattle.ls_refs.specs.Lowered.{first_of, second_of, lowered, all_lowered}
 use Rattle.ls_finally.specs.Agreement.{IsBelow, AreBelow}

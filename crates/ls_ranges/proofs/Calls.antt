@@ -8,7 +8,7 @@ use Rattle.ls_checked.specs.CheckedTree.{Method, File, Expression, Literal, Slot
 use Rattle.ls_meaning.specs.declared.sort.Sort.{Sort}
 use Rattle.ls_meaning.specs.Expressions.{constructor_of}
 use Rattle.ls_lowered.specs.LoweredTree as low
-use Rattle.ls_refs.specs.Typing.{IsTyped, AreTyped, IsTypedFile, parameters_of}
+use Rattle.ls_typing.specs.Typing.{IsTyped, AreTyped, IsTypedFile, parameters_of}
 use Rattle.ls_refs.specs.Temporaries.{temporaries}
 use Rattle.ls_refs.specs.Lowered.{first_of, second_of, lowered, all_lowered, lowered_method, lowered_file}
 use Rattle.ls_finally.specs.Placed.{count, TakesIn, Takes, CallsWell, AllCallWell}

@@ -9,15 +9,15 @@ use Rattle.ls_meaning.specs.declared.sort.Sort.{Sort}
 use Rattle.ls_meaning.specs.declared.sort.Sort.TheVariants.{NoValue, ValueOf}
 use Rattle.ls_meaning.specs.Expressions.{value_in, field_in, constructor_of}
 use Rattle.ls_lowered.specs.LoweredTree as low
-use Rattle.ls_refs.specs.Typing.{IsTyped, AreTyped, IsTypedFile}
+use Rattle.ls_typing.specs.Typing.{IsTyped, AreTyped, IsTypedFile}
 use Rattle.ls_refs.specs.Lowered.{lowered, all_lowered, lowered_file}
 use Rattle.ls_finally.specs.Agreement.{IsBelow, AreBelow}
 use Rattle.ls_finally.specs.Flat.{flat_method, flat_file}
 use Rattle.ls_finally.specs.Placed as placed
 use Rattle.ls_finally.specs.Placed.{CallsWell, AllCallWell}
 use Rattle.ls_emission.specs.Emittable.{TakesIn, Takes, IsEmittable, AreEmittable}
-use Rattle.ls_soundness.specs.Files.{HasItsClasses}
-use Rattle.ls_ranges.specs.Ranged.{IsRanged}
+use Rattle.ls_typing.specs.Classes.{HasItsClasses}
+use Rattle.ls_typing.specs.Limits.{IsRanged}
 use Rattle.ls_ranges.proofs.Lists.{in_range}
 use Rattle.ls_ranges.proofs.Words.{small_word}
 

@@ -10,15 +10,15 @@ use Rattle.ls_events.specs.declared.value.ValueType.TheVariants as types
 use Rattle.ls_checked.specs.CheckedTree.{File}
 use Rattle.ls_checked.specs.CheckedProgram.{ProgramCall, Making, Calling, ThreadProgram, Program}
 use Rattle.ls_meaning.specs.Expressions.{constructor_of}
-use Rattle.ls_refs.specs.Typing.{IsTypedFile, parameters_of}
+use Rattle.ls_typing.specs.Typing.{IsTypedFile, parameters_of}
 use Rattle.ls_refs.specs.Lowered.{lowered_method, lowered_file}
 use Rattle.ls_refs.specs.Refused.{AllFit}
 use Rattle.ls_finally.specs.Flat.{flat_method, flat_file}
 use Rattle.ls_emission.specs.Units.{unit_of, units_of}
 use Rattle.ls_emit.specs.Short.{AllShort}
-use Rattle.ls_soundness.specs.Files.{HasItsClasses}
-use Rattle.ls_soundness.specs.Programs.{IsArgument, AreArguments, IsTypedCall, IsTypedProgram}
-use Rattle.ls_ranges.specs.Ranged.{IsRanged, IsRangedProgram}
+use Rattle.ls_typing.specs.Classes.{HasItsClasses}
+use Rattle.ls_typing.specs.Programs.{IsArgument, AreArguments, IsTypedCall, IsTypedProgram}
+use Rattle.ls_typing.specs.Limits.{IsRanged, IsRangedProgram}
 use Rattle.ls_ranges.specs.Links.{IsWritten, CallLinks, ThreadLinks, Links}
 use Rattle.ls_ranges.proofs.Lists.{in_range}
 use Rattle.ls_ranges.proofs.Ranges.{file_emittable}

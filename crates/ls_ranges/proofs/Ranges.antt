@@ -4,15 +4,15 @@ use Rattle.std.specs.Prelude.{slice_get}
 use Rattle.ls_events.specs.declared.value.ValueType.{ValueType}
 use Rattle.ls_checked.specs.CheckedTree.{Method, File, Expression, Statement, Block, SetSlot, SetField, SetItem, Evaluate, If, While, Break, Continue, ReturnNothing, ReturnValue, Try, Statements, Done, Then}
 use Rattle.ls_meaning.specs.declared.sort.Sort.{Sort}
-use Rattle.ls_refs.specs.Typing.{IsTyped, IsTypedStatement, AreTypedStatements, IsTypedMethod, IsTypedFile}
+use Rattle.ls_typing.specs.Typing.{IsTyped, IsTypedStatement, AreTypedStatements, IsTypedMethod, IsTypedFile}
 use Rattle.ls_refs.specs.Temporaries as refs
 use Rattle.ls_refs.specs.Temporaries.{temporaries, statement_temporaries, block_temporaries}
 use Rattle.ls_refs.specs.Lowered.{lowered, lowered_statement, lowered_block, lowered_method, lowered_file}
 use Rattle.ls_refs.specs.Refused.{AllFit}
 use Rattle.ls_finally.specs.Flat.{flat_method, flat_file}
 use Rattle.ls_emission.specs.Emittable.{IsEmittable, IsEmittableMethod, AllEmittable, IsEmittableFile}
-use Rattle.ls_soundness.specs.Files.{HasItsClasses}
-use Rattle.ls_ranges.specs.Ranged.{JumpsWithin, AllJumpWithin, IsRanged}
+use Rattle.ls_typing.specs.Classes.{HasItsClasses}
+use Rattle.ls_typing.specs.Limits.{JumpsWithin, AllJumpWithin, IsRanged}
 use Rattle.ls_ranges.proofs.Flattens.{Flattens, AllFlatten}
 use Rattle.ls_ranges.proofs.Lists.{in_range, all_at}
 use Rattle.ls_ranges.proofs.Below.{below}

@@ -8,7 +8,7 @@ use Rattle.ls_events.specs.declared.value.ValueType.{ValueType}
 use Rattle.ls_events.specs.declared.value.ValueType.TheVariants as types
 use Rattle.ls_meaning.specs.declared.sort.Sort.{Sort}
 use Rattle.ls_meaning.specs.declared.sort.Sort.TheVariants.{NoValue, ValueOf, NewOf, PairOf}
-use Rattle.ls_refs.specs.Sorts.{HasType, HasSort}
+use Rattle.ls_typing.specs.Sorts.{HasType, HasSort}
 use Rattle.ls_refs.specs.ValueWords.{value_word}
 
 abbrev IsNull : ℕ → ValueType → Type 0

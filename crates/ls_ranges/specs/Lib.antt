@@ -1,3 +1,2 @@
-pub mod Ranged
 pub mod Landing
 pub mod Links

@@ -3,7 +3,7 @@
 
 ghost use Rattle.ls_checked.specs.CheckedProgram.{Program};
 ghost use Rattle.ls_checked.specs.CheckedTree.{File};
-ghost use Rattle.ls_refs.specs.Typing.{IsTypedFile};
+ghost use Rattle.ls_typing.specs.Typing.{IsTypedFile};
 ghost use Rattle.ls_refs.specs.Lowered.{lowered_file};
 ghost use Rattle.ls_refs.specs.Refused.{AllFit, AllSlotted};
 ghost use Rattle.ls_finally.specs.Placed.{AllPlaced};
@@ -12,10 +12,10 @@ ghost use Rattle.ls_finally.specs.Flat.{flat_file};
 ghost use Rattle.ls_emission.specs.Emittable.{IsEmittableFile};
 ghost use Rattle.ls_emission.specs.Units.{units_of};
 ghost use Rattle.ls_emit.specs.Short.{AllShort};
-ghost use Rattle.ls_soundness.specs.Files.{HasItsClasses};
-ghost use Rattle.ls_soundness.specs.Programs.{IsTypedProgram};
+ghost use Rattle.ls_typing.specs.Classes.{HasItsClasses};
+ghost use Rattle.ls_typing.specs.Programs.{IsTypedProgram};
 ghost use Rattle.ls_ranges.specs.Links.{Links};
-ghost use Rattle.ls_ranges.specs.Ranged.{IsRanged, IsRangedProgram};
+ghost use Rattle.ls_typing.specs.Limits.{IsRanged, IsRangedProgram};
 
 /// In the tree over words of a typed file each local is there, each call has as many arguments as its method, and there
 /// are no regions: so `finally` can be lowered in it.

@@ -11,4 +11,5 @@ pub mod Exprs
 pub mod Stmts
 pub mod Frames
 pub mod Methods
+pub mod Slots
 pub mod Cases

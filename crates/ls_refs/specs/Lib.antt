@@ -2,6 +2,4 @@ pub mod ValueWords
 pub mod Temporaries
 pub mod Lowered
 pub mod Refused
-pub mod Sorts
-pub mod Typing
 pub mod Laws

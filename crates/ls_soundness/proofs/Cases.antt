@@ -1,17 +1,23 @@
 -- The headline's example is typed, and programs with a wrong call aren't.
-use Rattle.std.proofs.Common.{rules, ◌≡◌, ℕ, zero, suc, ◌<◌, [], ◌∷◌, Some, None, refl, sym, subst, arith}
-use Rattle.std.specs.Prelude.{slice_get, pos, FitsSigned}
+use Rattle.std.proofs.Common.{rules, ◌≡◌, ℕ, zero, suc, ◌<◌, ◌≤◌, [], ◌∷◌, length, true, false, Some, None, refl, sym, subst, ap, arith}
+use Rattle.std.specs.Prelude.{slice_get, is_some, pos, FitsSigned}
 use mir.Syntax.{w32}
 use borrow.Author.Differences.{fits_in}
 use Rattle.ls_events.specs.declared.value.Value.TheVariants.{Int}
 use Rattle.ls_events.specs.declared.value.ValueType.TheVariants as types
-use Rattle.ls_checked.specs.CheckedTree.{Method}
+use Rattle.ls_checked.specs.CheckedTree.{Class, Method}
 use Rattle.ls_checked.specs.CheckedProgram.{ThreadProgram, ProgramCall, Making, Calling}
 use Rattle.ls_meaning.specs.declared.sort.Sort.TheVariants.{NoValue}
-use Rattle.ls_refs.specs.Typing.{IsTypedMethod, IsTypedFile, parameters_of}
+use Rattle.ls_typing.specs.Typing.{IsTypedMethod, IsTypedFile, parameters_of}
 use Rattle.ls_headline.specs.Example.{file, program}
-use Rattle.ls_soundness.specs.Files.{HasItsClasses, EvaluatesNoPair, HasNoPairs}
-use Rattle.ls_soundness.specs.Programs.{AreArguments, IsTypedCalling, IsTypedCall, IsTypedProgram}
+use Rattle.ls_completion.specs.Completion.{can_complete}
+use Rattle.ls_completion.specs.Jumps.{JumpsInLoops}
+use Rattle.ls_typing.specs.Classes.{HasItsClasses}
+use Rattle.ls_typing.specs.Jumps.{HasItsLoops, HasItsEnds}
+use Rattle.ls_typing.specs.Limits.{IsRanged, IsRangedProgram}
+use Rattle.ls_typing.specs.WellTyped.{IsWellTyped, IsWellTypedProgram}
+use Rattle.ls_headline.proofs.ExampleSound.{example_constants}
+use Rattle.ls_typing.specs.Programs.{AreArguments, IsTypedCalling, IsTypedCall, IsTypedProgram}
 use Rattle.ls_soundness.specs.Cases.{with_call, of_no_name, of_no_method, with_argument, for_an_int, Arguments, NoArguments, Pairs}
 
 nothing_there : {A : Type 0} {x : A} → None ≡ Some x → ⊥
@@ -32,10 +38,36 @@ has_its_classes zero m e = subst (λ (z : Method). z.class < 1) (there _ m e) (o
 has_its_classes (suc zero) m e = subst (λ (z : Method). z.class < 1) (there _ m e) (omega arith)
 has_its_classes (suc (suc n)) m e = absurd (nothing_there e)
 
-pub has_no_pairs : HasNoPairs file
-has_no_pairs zero m e = subst (λ (z : Method). EvaluatesNoPair z.body) (there _ m e) (tt, (tt, tt))
-has_no_pairs (suc zero) m e = subst (λ (z : Method). EvaluatesNoPair z.body) (there _ m e) tt
-has_no_pairs (suc (suc n)) m e = absurd (nothing_there e)
+has_its_loops : HasItsLoops file
+has_its_loops zero m e = subst (λ (z : Method). JumpsInLoops 0 z.body) (there _ m e) (tt, (tt, tt))
+has_its_loops (suc zero) m e = subst (λ (z : Method). JumpsInLoops 0 z.body) (there _ m e) tt
+has_its_loops (suc (suc n)) m e = absurd (nothing_there e)
+
+-- no method of it answers a value
+no_value : (m : Method) → m.result ≡ None → is_some m.result ≡ true → can_complete m.body ≡ false
+no_value m e h = cc (ap is_some e, h)
+
+has_its_ends : HasItsEnds file
+has_its_ends zero m e = no_value m (sym (ap (λ (z : Method). z.result) (there _ m e)))
+has_its_ends (suc zero) m e = no_value m (sym (ap (λ (z : Method). z.result) (there _ m e)))
+has_its_ends (suc (suc n)) m e = absurd (nothing_there e)
+
+is_ranged : IsRanged file
+is_ranged = record { classes = omega arith; fields = few; methods = omega arith }
+  where
+    few : (n : ℕ) (c : Class) → slice_get file.classes n ≡ Some c → length c.fields ≤ 64
+    few zero c e = subst (λ (z : Class). length z.fields ≤ 64) (there _ c e) (omega arith)
+    few (suc n) c e = absurd (nothing_there e)
+
+pub well_typed : IsWellTyped file
+well_typed = record {
+  typed = typed_file;
+  classes = has_its_classes;
+  constants = example_constants.0;
+  loops = has_its_loops;
+  ends = has_its_ends;
+  limits = is_ranged;
+}
 
 setup_call : (n : ℕ) (call : ProgramCall) → slice_get (Making 0 0 [] [] ∷ []) n ≡ Some call → IsTypedCall file program call
 setup_call zero call e = subst (λ z. IsTypedCall file program z) (there _ call e)
@@ -51,6 +83,17 @@ pub typed_program : IsTypedProgram file program
 typed_program zero calls n call e is = setup_call n call (subst (λ (z : ThreadProgram). slice_get z.calls n ≡ Some call) (sym (there _ calls e)) is)
 typed_program (suc zero) calls n call e is = work_call n call (subst (λ (z : ThreadProgram). slice_get z.calls n ≡ Some call) (sym (there _ calls e)) is)
 typed_program (suc (suc t)) calls n call e is = absurd (nothing_there e)
+
+is_ranged_program : IsRangedProgram program
+is_ranged_program = record { threads = omega arith; calls = few; names = omega arith }
+  where
+    few : (n : ℕ) (t : ThreadProgram) → slice_get program.threads n ≡ Some t → length t.calls ≤ 256
+    few zero t e = subst (λ (z : ThreadProgram). length z.calls ≤ 256) (there _ t e) (omega arith)
+    few (suc zero) t e = subst (λ (z : ThreadProgram). length z.calls ≤ 256) (there _ t e) (omega arith)
+    few (suc (suc n)) t e = absurd (nothing_there e)
+
+pub well_typed_program : IsWellTypedProgram file program
+well_typed_program = record { typed = typed_program; constants = example_constants.1; limits = is_ranged_program }
 
 -- the call of a program with a call beside the setup's
 the_call : (call : ProgramCall) → IsTypedProgram file (with_call call) → IsTypedCall file (with_call call) call

@@ -6,7 +6,6 @@ pub mod Expressions
 pub mod Statements
 pub mod Methods
 pub mod Threads
-pub mod Constants
 pub mod Cases
 pub mod Split
 pub mod InCall

@@ -7,8 +7,8 @@ use Rattle.ls_events.specs.declared.value.Value.TheVariants.{Int, Boolean, Refer
 use Rattle.ls_events.specs.declared.value.ValueType.TheVariants as types
 use Rattle.ls_checked.specs.CheckedTree.{Literal, Evaluate}
 use Rattle.ls_checked.specs.CheckedProgram.{Program, ProgramCall, Making, Calling}
-use Rattle.ls_soundness.specs.Programs.{AreArguments}
-use Rattle.ls_soundness.specs.Files.{EvaluatesNoPair}
+use Rattle.ls_typing.specs.Programs.{AreArguments}
+use Rattle.ls_meaning.specs.Constants.{UsesConstants}
 
 abbrev pub with_call : ProgramCall → Program
 with_call call = record {
@@ -44,4 +44,4 @@ NoArguments =
 
 -- null may be evaluated alone, a pair may not
 abbrev pub Pairs : Type 0
-Pairs = EvaluatesNoPair (Evaluate (Literal (Reference 0))) × (EvaluatesNoPair (Evaluate (Literal (Pair 0 false))) → ⊥)
+Pairs = UsesConstants (Evaluate (Literal (Reference 0))) × (UsesConstants (Evaluate (Literal (Pair 0 false))) → ⊥)

@@ -1,4 +1,2 @@
-pub mod Programs
-pub mod Files
 pub mod Cases
 pub mod InCall

@@ -2,12 +2,12 @@
 
 ghost use Rattle.ls_checked.specs.CheckedTree.{File};
 ghost use Rattle.ls_checked.specs.CheckedProgram.{Program};
-ghost use Rattle.ls_meaning.specs.Constants.{FileHasConstants, ProgramHasConstants};
 ghost use Rattle.ls_headline.specs.Threads.{IsSound};
 ghost use Rattle.ls_headline.specs.Example;
-ghost use Rattle.ls_refs.specs.Typing.{IsTypedFile};
-ghost use Rattle.ls_soundness.specs.Files.{HasItsClasses, HasNoPairs};
-ghost use Rattle.ls_soundness.specs.Programs.{IsTypedProgram};
+ghost use Rattle.ls_typing.specs.Typing.{IsTypedFile};
+ghost use Rattle.ls_typing.specs.Classes.{HasItsClasses};
+ghost use Rattle.ls_typing.specs.WellTyped.{IsWellTyped, IsWellTypedProgram};
+ghost use Rattle.ls_typing.specs.Programs.{IsTypedProgram};
 ghost use Rattle.ls_soundness.specs.InCall.{SuitedInCall, SuitedInMaking, SuitedInCalling, NextInMaking, NextInCalling, NextOnNull};
 ghost use Rattle.ls_soundness.specs.Cases;
 
@@ -15,12 +15,6 @@ ghost use Rattle.ls_soundness.specs.Cases;
 /// things and values of the right types.
 pub fn is_sound()
     ensures { (file : File) (program : Program) → IsTypedFile file → HasItsClasses file → IsTypedProgram file program → IsSound file program }
-{}
-
-/// The constants of a typed file and of a typed program name no object.
-pub fn has_constants()
-    ensures of_file { (file : File) → IsTypedFile file → HasNoPairs file → FileHasConstants file }
-    ensures of_program { (file : File) (program : Program) → IsTypedProgram file program → ProgramHasConstants program }
 {}
 
 /// After answers in kind to a thread, the words of each call that it makes ask what the call asks and end as it ends,
@@ -45,15 +39,15 @@ pub fn next_in_call()
 /// What is asked of a file and of a program can be met, by the headline's example, and isn't met by programs of that file
 /// with a wrong call.
 pub fn example()
-    ensures file { IsTypedFile Example.file × HasItsClasses Example.file × HasNoPairs Example.file }
-    ensures typed { IsTypedProgram Example.file Example.program }
+    ensures file { IsWellTyped Example.file }
+    ensures typed { IsWellTypedProgram Example.file Example.program }
     ensures no_name { IsTypedProgram Example.file Cases.of_no_name → ⊥ }
     ensures no_method { IsTypedProgram Example.file Cases.of_no_method → ⊥ }
     ensures with_argument { IsTypedProgram Example.file Cases.with_argument → ⊥ }
     ensures for_an_int { IsTypedProgram Example.file Cases.for_an_int → ⊥ }
 {}
 
-/// Arguments and literals, evaluated on small cases.
+/// Arguments and constants, evaluated on small cases.
 pub fn rows()
     ensures arguments { Cases.Arguments }
     ensures others { Cases.NoArguments }

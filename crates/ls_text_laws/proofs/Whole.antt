@@ -10,10 +10,10 @@ use Rattle.ls_elaboration.specs.Trees.{File, Text}
 use Rattle.ls_elaboration.specs.Elaboration.{Outcome, elaborated}
 use Rattle.ls_programs.specs.Programs.{IsTextOf}
 use Rattle.ls_programs.proofs.Whole.{reads_what_is_spelled}
-use Rattle.ls_soundness.specs.Programs.{IsTypedProgram}
+use Rattle.ls_typing.specs.Programs.{IsTypedProgram}
 use Rattle.ls_soundness.proofs.Threads.{is_sound}
 use Rattle.ls_typing_laws.proofs.Whole.{typed_when}
-use Rattle.ls_program_laws.proofs.Steps.{program_reads}
+use Rattle.ls_typing_laws.proofs.ProgramSteps.{program_reads}
 use Rattle.ls_image.specs.Images.{code_of_image, program_of_image}
 use Rattle.ls_text_laws.specs.Histories.{IsReadable, CompiledIsReadable, SourceIsReadable}
 use Rattle.ls_text_laws.proofs.Names.{program_names}

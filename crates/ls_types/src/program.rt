@@ -1,11 +1,12 @@
 // Thread programs.
 
-ghost use Rattle.std.specs.Prelude.{◌≡◌, ℕ, IfOk, IfErr, Some};
+ghost use Rattle.std.specs.Prelude.{◌≡◌, ℕ, IfOk, IfErr, Ok, Some};
 ghost use Rattle.ls_lexer.specs.Lexemes.{lexemes};
 ghost use Rattle.ls_lexer.specs.Places.{Refused};
-ghost use Rattle.ls_elaboration.specs.Trees.{Text};
-ghost use Rattle.ls_elaboration.specs.Elaboration.{Outcome};
+ghost use Rattle.ls_elaboration.specs.Trees.{File, Text};
+ghost use Rattle.ls_elaboration.specs.Elaboration.{Outcome, elaborated};
 ghost use Rattle.ls_checked.specs.PlainProgram.{plain_program};
+ghost use Rattle.ls_typing.specs.WellTyped.{IsWellTypedProgram};
 ghost use Rattle.ls_types.specs.CheckedFile.{outcome_of};
 ghost use Rattle.ls_programs.specs.ThreadPrograms.{after, beginning as the_beginning, program_of, program_of_tokens};
 ghost use Rattle.ls_programs.specs.Programs.{IsTextOf};
@@ -20,6 +21,7 @@ use ls_checked::program::Program;
 use ls_lexer::fault::TextFault;
 use ls_lexer::lexing::lex;
 use ls_lexer::token::Token;
+use ls_typing_laws::reads_well_typed;
 use std::alloc::{AllocError, Global};
 
 fn beginning(alloc: Global) -> Result<Parts, AllocError>
@@ -88,7 +90,7 @@ fn fault_of(fault: TextFault) -> ProgramFault
     }
 }
 
-/// The thread program that a text is for a checked file: the one that its tokens spell. A fault other than want of memory
+/// The thread program that a text is for a checked file: the one that its tokens spell, a well typed program of the file. A fault other than want of memory
 /// says that it is none, and stands there: `BadProgram` at the first token with which no program of any file is spelled (or
 /// the end, or where no token begins), a making in a thread or of a name that is given, and a thread named `all` or as
 /// another; `UnknownThing` at a class, setup name or method that isn't there, a class or method with too few or too many
@@ -97,10 +99,12 @@ fn fault_of(fault: TextFault) -> ProgramFault
 #[tactic(auto, using(crate::proofs::Standing::program_stands, crate::proofs::Standing::program_spelled))]
 pub fn read_program(alloc: Global, text: &str, checked: &Checked) -> Result<Program, ProgramFault>
     ensures read { IfOk result (λ p. program_of (outcome_of checked.now) text.now ≡ Some (plain_program p)) }
+    ensures typed { IfOk result (λ p. (f : File) → elaborated f ≡ Ok (outcome_of checked.now) → IsWellTypedProgram (outcome_of checked.now).file (plain_program p)) }
     ensures spelled { IfOk result (λ p. IsTextOf (outcome_of checked.now) (plain_program p) text.now) }
     ensures refused { IfErr result (λ e. Refuses e (program_of (outcome_of checked.now) text.now)) }
     ensures stands { IfErr result (λ e. Stands (outcome_of checked.now) text.now e) }
 {
+    reads_well_typed();
     match lex(alloc, text) {
         Ok(tokens) => whole(alloc, checked, &tokens, text.len()),
         Err(fault) => Err(fault_of(fault)),

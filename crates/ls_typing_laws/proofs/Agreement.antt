@@ -8,8 +8,8 @@ use Rattle.ls_checked.specs.declared.tree.Called.TheVariants.{Method as OfMethod
 use Rattle.ls_checked.specs.CheckedTree as checked
 use Rattle.ls_meaning.specs.declared.sort.Sort.TheVariants.{ValueOf}
 use Rattle.ls_meaning.specs.Expressions as meaning
-use Rattle.ls_refs.specs.Typing as typing
-use Rattle.ls_refs.specs.Typing.{IsTyped, AreTyped, answer_sort}
+use Rattle.ls_typing.specs.Typing as typing
+use Rattle.ls_typing.specs.Typing.{IsTyped, AreTyped, answer_sort}
 use Rattle.ls_elaboration.specs.declared.known.FoundField.{FoundField}
 use Rattle.ls_elaboration.specs.declared.members.Makes.TheVariants.{ALock}
 use Rattle.ls_elaboration.specs.declared.static_types.Static.{Static}

@@ -6,8 +6,8 @@ use Rattle.ls_events.specs.declared.value.ValueType.{ValueType}
 use Rattle.ls_events.specs.declared.value.ValueType.TheVariants.{Int, Boolean, BooleanArray, Class, Lock, Markable}
 use Rattle.ls_checked.specs.CheckedTree as checked
 use Rattle.ls_meaning.specs.declared.sort.Sort.TheVariants.{NoValue, ValueOf}
-use Rattle.ls_refs.specs.Typing.{IsTyped, IsTypedStatement, AreTypedStatements}
-use Rattle.ls_soundness.specs.Files.{IsNoPair, EvaluatesNoPair, EvaluateNoPair}
+use Rattle.ls_typing.specs.Typing.{IsTyped, IsTypedStatement, AreTypedStatements}
+use Rattle.ls_typing_laws.proofs.Pairs.{IsNoPair, EvaluatesNoPair, EvaluateNoPair}
 use Rattle.ls_elaboration.specs.declared.rule.Rule.TheVariants as rules
 use Rattle.ls_elaboration.specs.declared.static_types.Static.{Static}
 use Rattle.ls_elaboration.specs.declared.static_types.Static.TheVariants.{Of, NullType, Void}

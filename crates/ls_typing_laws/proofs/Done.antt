@@ -6,7 +6,7 @@ use Rattle.ls_events.specs.declared.value.ValueType.{ValueType}
 use Rattle.ls_events.specs.declared.value.ValueType.TheVariants as types
 use Rattle.ls_checked.specs.CheckedTree as checked
 use Rattle.ls_meaning.specs.declared.sort.Sort.TheVariants.{ValueOf}
-use Rattle.ls_refs.specs.Typing.{IsTyped}
+use Rattle.ls_typing.specs.Typing.{IsTyped}
 use Rattle.ls_elaboration.specs.declared.rule.Rule.TheVariants as rules
 use Rattle.ls_elaboration.specs.Trees
 use Rattle.ls_elaboration.specs.Trees.{Text, Name, Expression, Declarator, Declaration, Statement, Items, span_of}

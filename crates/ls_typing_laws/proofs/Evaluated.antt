@@ -8,7 +8,7 @@ use Rattle.ls_events.specs.declared.value.ValueType.{ValueType}
 use Rattle.ls_events.specs.declared.value.ValueType.TheVariants.{Int, BooleanArray, Class}
 use Rattle.ls_checked.specs.CheckedTree as checked
 use Rattle.ls_meaning.specs.declared.sort.Sort.TheVariants.{ValueOf}
-use Rattle.ls_refs.specs.Typing.{IsTyped, AreTyped}
+use Rattle.ls_typing.specs.Typing.{IsTyped, AreTyped}
 use Rattle.ls_elaboration.specs.declared.rule.Rule.TheVariants as rules
 use Rattle.ls_elaboration.specs.Trees
 use Rattle.ls_elaboration.specs.Trees.{Text, Name, Expression, Expressions, span_of}

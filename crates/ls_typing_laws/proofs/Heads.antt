@@ -3,7 +3,7 @@ use Rattle.std.proofs.Common.{◌≡◌, ℕ, suc, ◌+◌, refl, sym, ◌∙◌
 use Rattle.ls_events.specs.declared.value.ValueType.{ValueType}
 use Rattle.ls_events.specs.declared.value.ValueType.TheVariants as types
 use Rattle.ls_checked.specs.CheckedTree as checked
-use Rattle.ls_refs.specs.Typing as typing
+use Rattle.ls_typing.specs.Typing as typing
 use Rattle.ls_elaboration.specs.Trees.{Text, Parameter, Member, Fields, Method, Constructor, ClassTree}
 use Rattle.ls_elaboration.specs.Elaborated.{Elaborated}
 use Rattle.ls_elaboration.specs.Known.{type_of, result_of}

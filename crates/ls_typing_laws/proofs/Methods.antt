@@ -6,8 +6,8 @@ use Rattle.ls_events.specs.declared.value.ValueType.{ValueType}
 use Rattle.ls_events.specs.declared.value.ValueType.TheVariants as types
 use Rattle.ls_checked.specs.CheckedTree as checked
 use Rattle.ls_meaning.specs.declared.sort.Sort.TheVariants.{ValueOf}
-use Rattle.ls_refs.specs.Typing.{IsTyped, IsTypedMethod}
-use Rattle.ls_soundness.specs.Files.{EvaluatesNoPair}
+use Rattle.ls_typing.specs.Typing.{IsTyped, IsTypedMethod}
+use Rattle.ls_typing_laws.proofs.Pairs.{EvaluatesNoPair}
 use Rattle.ls_elaboration.specs.declared.rule.Rule.TheVariants as rules
 use Rattle.ls_elaboration.specs.declared.known.FoundField.{FoundField}
 use Rattle.ls_elaboration.specs.Trees as parsed

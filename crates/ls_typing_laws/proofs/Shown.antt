@@ -12,8 +12,8 @@ use Rattle.ls_checked.specs.declared.tree.Operator.{Operator}
 use Rattle.ls_checked.specs.declared.tree.Operator.TheVariants as operators
 use Rattle.ls_checked.specs.CheckedTree as checked
 use Rattle.ls_meaning.specs.declared.sort.Sort.TheVariants.{NoValue, ValueOf}
-use Rattle.ls_refs.specs.Typing as typing
-use Rattle.ls_refs.specs.Typing.{IsTyped, IsOperand}
+use Rattle.ls_typing.specs.Typing as typing
+use Rattle.ls_typing.specs.Typing.{IsTyped, IsOperand}
 use Rattle.ls_elaboration.specs.declared.rule.Rule.TheVariants as rules
 use Rattle.ls_elaboration.specs.declared.static_types.Static.{Static}
 use Rattle.ls_elaboration.specs.declared.static_types.Static.TheVariants.{Of, NullType, Void}

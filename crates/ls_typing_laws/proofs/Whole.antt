@@ -4,15 +4,15 @@ use Rattle.std.specs.Prelude.{slice_get}
 use Rattle.std.proofs.lemmas.List.{length-map}
 use Rattle.std.proofs.lemmas.Option.{slice_get-map}
 use Rattle.ls_checked.specs.CheckedTree as checked
-use Rattle.ls_refs.specs.Typing.{IsTypedFile}
-use Rattle.ls_soundness.specs.Files.{HasItsClasses, HasNoPairs}
+use Rattle.ls_typing.specs.Typing.{IsTypedFile}
+use Rattle.ls_typing.specs.Classes.{HasItsClasses}
+use Rattle.ls_typing_laws.proofs.Pairs.{HasNoPairs}
 use Rattle.ls_elaboration.specs.Trees as parsed
 use Rattle.ls_elaboration.specs.Trees.{Text, ClassTree}
-use Rattle.ls_elaboration.specs.Elaborated.{Elaborated}
 use Rattle.ls_elaboration.specs.TypedMethods.{has_constructor}
 use Rattle.ls_elaboration.specs.Signs.{Classes, class_names, class_signs}
 use Rattle.ls_elaboration.specs.Elaboration.{Bodies, checked_class, file_methods, Outcome, elaborated}
-use Rattle.ls_typing_laws.proofs.Results.{Gives, bind, later}
+use Rattle.ls_typing_laws.proofs.Results.{Gives, bind, later, gives_of}
 use Rattle.ls_typing_laws.proofs.Lists.{Each, each_at}
 use Rattle.ls_typing_laws.proofs.Agreement.{Agrees}
 use Rattle.ls_typing_laws.proofs.Heads.{Head, head_of, member_heads, members_heads, default_head, class_heads, file_heads}
@@ -90,9 +90,6 @@ elaborated_typed f =
     bind (λ b. (F : checked.File) → Built F names classes.signs f.classes b) IsTypedOutcome (file_methods names classes.signs f.classes) _
     (later (λ (F : checked.File) (b : Bodies). Built F names classes.signs f.classes b) (file_methods names classes.signs f.classes) (λ F. file_methods_give F names classes.signs f.classes)) (λ b built.
     outcome_typed names classes f.classes b long s built)))
-
-gives_of : {A : Type 0} (P : A → Type 0) (x : Elaborated A) (a : A) → x ≡ Ok a → Gives P x → P a
-gives_of P x a e h = subst (Gives P) e h
 
 pub typed_when : (f : parsed.File) (o : Outcome) → elaborated f ≡ Ok o → IsTypedOutcome o
 typed_when f o e = gives_of IsTypedOutcome (elaborated f) o e (elaborated_typed f)

@@ -19,8 +19,8 @@ returns-clause-runs c =
     let f = c.in_ok-flat.ensures.tree in
     let code = code_here file program refs flat r f c.deref.result.now c.in_ok-code.code (c.deref.ensures.value ∙ c.in_ok-units.ensures.units) c.in_ok-code.ensures.code in
     subst (Runs file program) (sym code)
-    (c.compiled_runs.ensures file program c.requires.typed c.requires.classes c.requires.constants c.requires.program c.requires.program_constants
-    (c.typed_is_placed.ensures file c.requires.typed) (c.ranged_is_emittable.ensures file c.requires.typed c.requires.classes c.requires.ranged c.in_ok-refs.ensures.fits)
+    (c.compiled_runs.ensures file program c.requires.file c.requires.program
+    (c.typed_is_placed.ensures file c.requires.file.typed) (c.ranged_is_emittable.ensures file c.requires.file c.in_ok-refs.ensures.fits)
     (subst (λ (x : Code). length x.instructions ≤ 65536) code c.in_ok-code.ensures.short))
 
 pub returns-in_err-flat-clause-refused : goal.returns-in_err-flat-clause-refused
@@ -28,7 +28,7 @@ returns-in_err-flat-clause-refused c =
     let p = err_from_is_err_and c.from_residual-in_err-flat.result c.from_residual-in_err-flat.ensures.1 in
     rw (p.1, p.2)
     (finally_past (plain_file c.args.file.now) (plain_program c.args.program.now) (lowered.plain_file c.in_ok-refs.refs)
-    c.in_ok-refs.ensures.tree c.in_err-flat.field-0.0 c.in_ok-refs.ensures.fits (c.fits_lowered.ensures (plain_file c.args.file.now) c.requires.slots c.in_ok-refs.ensures.fits)
+    c.in_ok-refs.ensures.tree c.in_err-flat.field-0.0 c.in_ok-refs.ensures.fits (c.fits_lowered.ensures (plain_file c.args.file.now) (c.has_slots.ensures (plain_file c.args.file.now) c.requires.file.typed) c.in_ok-refs.ensures.fits)
     c.in_err-flat.ensures.refused)
 
 pub returns-in_err-units-clause-refused : goal.returns-in_err-units-clause-refused
@@ -49,13 +49,13 @@ returns-in_err-code-clause-refused c =
 pub lower_finally-requires : goal.lower_finally-requires
 lower_finally-requires c =
     placed_here (plain_file c.args.file.now) (lowered.plain_file c.in_ok-refs.refs) c.in_ok-refs.ensures.tree
-    (c.typed_is_placed.ensures (plain_file c.args.file.now) c.requires.typed)
+    (c.typed_is_placed.ensures (plain_file c.args.file.now) c.requires.file.typed)
 
 pub emit-requires : goal.emit-requires
 emit-requires c =
     emittable_here (plain_file c.args.file.now) (plain_program c.args.program.now) (lowered.plain_file c.in_ok-refs.refs) (lowered.plain_file c.in_ok-flat.flat)
     c.in_ok-refs.ensures.tree c.in_ok-flat.ensures.tree
-    (c.ranged_is_emittable.ensures (plain_file c.args.file.now) c.requires.typed c.requires.classes c.requires.ranged c.in_ok-refs.ensures.fits)
+    (c.ranged_is_emittable.ensures (plain_file c.args.file.now) c.requires.file c.in_ok-refs.ensures.fits)
 
 pub link-requires : goal.link-requires
 link-requires c =
@@ -66,5 +66,8 @@ link-requires c =
     let r = c.in_ok-refs.ensures.tree in
     let f = c.in_ok-flat.ensures.tree in
     links_here file program refs flat r f c.deref.result.now (c.deref.ensures.value ∙ c.in_ok-units.ensures.units)
-    (c.ranged_links.ensures file program c.requires.ranged c.requires.program c.requires.ranged_program c.requires.typed c.requires.classes c.in_ok-refs.ensures.fits
+    (c.ranged_links.ensures file program c.requires.file c.requires.program c.in_ok-refs.ensures.fits
     (short_here file program refs flat r f c.in_ok-units.ensures.short))
+
+pub lower_refs-requires : goal.lower_refs-requires
+lower_refs-requires c = c.has_slots.ensures (plain_file c.args.file.now) c.requires.file.typed

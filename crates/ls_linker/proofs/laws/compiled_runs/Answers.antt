@@ -8,11 +8,14 @@ use Rattle.ls_linker.proofs.Composed.{lowered_asks}
 use Rattle.ls_linker.proofs.laws.compiled_runs.Goals as goal
 
 pub returns : goal.returns
-returns c = λ file program typed classes constants typed_program program_constants placed emittable short.
+returns c = λ file program well reads placed emittable short.
+    let typed = well.typed in
+    let constants = well.constants in
+    let program_constants = reads.constants in
     let flat = flat_of file in
     let words = words_of (units_of flat) in
-    let asks = c.linked_asks.ensures file program flat (lowered_asks file typed (c.suited_in_call.ensures file typed) c.keeps_courses.ensures placed) emittable (c.units_ask.ensures flat emittable) typed_program in
-    let sound = c.is_sound.ensures file program typed classes typed_program in
+    let asks = c.linked_asks.ensures file program flat (lowered_asks file typed (c.suited_in_call.ensures file typed) c.keeps_courses.ensures placed) emittable (c.units_ask.ensures flat emittable) reads.typed in
+    let sound = c.is_sound.ensures file program typed well.classes reads.typed in
     let lies = lie_in (code_of file program) flat (threads_code file.classes program.threads) (threads_rows file.classes words program.threads) (threads_from file.classes program.threads words) refl refl refl in
     record {
       same = c.same_traces.ensures file program (code_of file program) asks constants program_constants sound;

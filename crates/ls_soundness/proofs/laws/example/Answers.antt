@@ -1,11 +1,11 @@
-use Rattle.ls_soundness.proofs.Cases.{typed_file, has_its_classes, has_no_pairs, typed_program, no_name, no_method, no_argument, no_int}
+use Rattle.ls_soundness.proofs.Cases.{well_typed, well_typed_program, no_name, no_method, no_argument, no_int}
 use Rattle.ls_soundness.proofs.laws.example.Goals as goal
 
 pub returns-clause-file : goal.returns-clause-file
-returns-clause-file c = (typed_file, has_its_classes, has_no_pairs)
+returns-clause-file c = well_typed
 
 pub returns-clause-typed : goal.returns-clause-typed
-returns-clause-typed c = typed_program
+returns-clause-typed c = well_typed_program
 
 pub returns-clause-no_name : goal.returns-clause-no_name
 returns-clause-no_name c = no_name

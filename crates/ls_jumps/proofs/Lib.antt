@@ -1,4 +1,0 @@
-pub mod Given
-pub mod Jumping
-pub mod Bodies
-pub mod Files

@@ -1,6 +1,0 @@
-mod Results
-mod Jumps
-mod Methods
-mod Signs
-mod Whole
-mod Programs
