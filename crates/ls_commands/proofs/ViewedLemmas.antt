@@ -15,11 +15,11 @@ use Rattle.ls_checked.specs.declared.program.Program as code
 use Rattle.ls_elaboration.specs.Elaboration.{Outcome, elaborated}
 use Rattle.ls_elaboration.specs.Trees.{File}
 use Rattle.ls_placing.specs.Files.{IsFileOf}
-use Rattle.ls_types.specs.CheckedFile as checked_file
+use Rattle.ls_elaboration.specs.Refused as typing
 use Rattle.ls_types.specs.ProgramRefusals.{IsNoProgram}
 use Rattle.ls_programs.specs.Programs.{IsTextOf}
-use Rattle.ls_types.specs.declared.check.CheckFault.{CheckFault}
-use Rattle.ls_types.specs.declared.check.CheckFault.TheVariants as rule
+use Rattle.ls_elaboration.specs.declared.rule.CheckFault.{CheckFault}
+use Rattle.ls_elaboration.specs.declared.rule.CheckFault.TheVariants as rule
 use Rattle.ls_types.specs.declared.fault.ProgramFault.{ProgramFault}
 use Rattle.ls_types.specs.declared.fault.ProgramFault.TheVariants as program
 use Rattle.ls_schedule.specs.Answers.{Fails}
@@ -53,19 +53,9 @@ text_fails v c p s (text.BadNumber at) r m = NoFile (text.BadNumber at) r m
 text_fails v c p s (text.Syntax at) r m = NoFile (text.Syntax at) r m
 text_fails v c p s (text.TooDeep at) r m = NoFile (text.TooDeep at) r m
 
-pub check_fails : (v : View) (c p s : Text) (file : File) (f : CheckFault) → IsFileOf c file → checked_file.Names f (elaborated file) → Gives (ViewsTo v c p s) (Failed (lifted_check f))
+pub check_fails : (v : View) (c p s : Text) (file : File) (f : CheckFault) → IsFileOf c file → typing.Fails f (elaborated file) → Gives (ViewsTo v c p s) (Failed (lifted_check f))
 check_fails v c p s file rule.Memory t n = tt
-check_fails v c p s file (rule.UnknownName span) t n = Breaks file (rule.UnknownName span) t n
-check_fails v c p s file (rule.TwiceDeclared span) t n = Breaks file (rule.TwiceDeclared span) t n
-check_fails v c p s file (rule.UnknownType span) t n = Breaks file (rule.UnknownType span) t n
-check_fails v c p s file (rule.WrongType span) t n = Breaks file (rule.WrongType span) t n
-check_fails v c p s file (rule.WrongArguments span) t n = Breaks file (rule.WrongArguments span) t n
-check_fails v c p s file (rule.NotAssignable span) t n = Breaks file (rule.NotAssignable span) t n
-check_fails v c p s file (rule.NoLoop span) t n = Breaks file (rule.NoLoop span) t n
-check_fails v c p s file (rule.UnknownLabel span) t n = Breaks file (rule.UnknownLabel span) t n
-check_fails v c p s file (rule.MissingReturn span) t n = Breaks file (rule.MissingReturn span) t n
-check_fails v c p s file (rule.ReservedClass span) t n = Breaks file (rule.ReservedClass span) t n
-check_fails v c p s file (rule.Limit span) t n = Breaks file (rule.Limit span) t n
+check_fails v c p s file (rule.Broken b) t n = Breaks file (rule.Broken b) t n
 
 pub checked_runs : SourceIsReadable → (v : View) (c p s : Text) (file : File) (o : Outcome) (r : Result (String Global) ToolFault) → IsFileOf c file → elaborated file ≡ Ok o → Gives (RunsTo v o p s) r → Gives (ViewsTo v c p s) r
 checked_runs readable v c p s file o r t e g = wider (RunsTo v o p s) (ViewsTo v c p s) r (λ a h. Checks file o a t e h (shows_back readable file o e p s v h)) g

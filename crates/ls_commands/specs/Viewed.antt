@@ -9,10 +9,10 @@ use Rattle.ls_terms.specs.Answers.{Refuses}
 use Rattle.ls_checked.specs.CheckedProgram.{Program}
 use Rattle.ls_elaboration.specs.Elaboration.{Outcome, elaborated}
 use Rattle.ls_elaboration.specs.Trees.{File}
-use Rattle.ls_types.specs.CheckedFile as checked_file
+use Rattle.ls_elaboration.specs.Refused as typing
 use Rattle.ls_programs.specs.Programs.{IsTextOf}
 use Rattle.ls_types.specs.ProgramRefusals.{IsNoProgram}
-use Rattle.ls_types.specs.declared.check.CheckFault.{CheckFault}
+use Rattle.ls_elaboration.specs.declared.rule.CheckFault.{CheckFault}
 use Rattle.ls_types.specs.declared.fault.ProgramFault.{ProgramFault}
 use Rattle.ls_meaning.specs.Runs.{source_history}
 use Rattle.ls_schedule.specs.Reading.{schedule_of}
@@ -67,7 +67,7 @@ pub data ViewsTo (view : View) (classes program schedule : Text) : Result Text T
       IsFileOf classes file → elaborated file ≡ Ok o → RunsTo view o program schedule answer → ShowsBack view answer →
       ViewsTo view classes program schedule answer
   Breaks : (file : File) (f : CheckFault) →
-      IsFileOf classes file → checked_file.Names f (elaborated file) →
+      IsFileOf classes file → typing.Fails f (elaborated file) →
       ViewsTo view classes program schedule (Err (lifted_check f))
   NoFile : (f : TextFault) →
       Refuses f ((file : ParsedFile) → TextSpells file classes → ⊥) → Comes classes f →

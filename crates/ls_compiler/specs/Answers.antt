@@ -9,11 +9,12 @@ use Rattle.ls_parser.specs.Comes.{Comes}
 use Rattle.ls_checked.specs.CheckedProgram.{Program as PlainProgram}
 use Rattle.ls_checked.specs.PlainProgram.{plain_program}
 use Rattle.ls_elaboration.specs.Trees.{Text, File}
+use Rattle.ls_elaboration.specs.Refused.{Fails}
 use Rattle.ls_elaboration.specs.Elaboration.{Outcome, elaborated}
-use Rattle.ls_types.specs.CheckedFile.{outcome_of, Names}
+use Rattle.ls_types.specs.CheckedFile.{outcome_of}
 use Rattle.ls_types.specs.ProgramRefusals.{IsNoProgram}
 use Rattle.ls_programs.specs.Programs.{IsTextOf}
-use Rattle.ls_types.specs.declared.check.CheckFault.{CheckFault}
+use Rattle.ls_elaboration.specs.declared.rule.CheckFault.{CheckFault}
 use Rattle.ls_types.specs.declared.fault.ProgramFault.{ProgramFault}
 use Rattle.ls_linker.specs.Limits.{KeepsLimits, GoesPast}
 use Rattle.ls_linker.specs.declared.fault.BuildFault.{BuildFault}
@@ -34,7 +35,7 @@ pub data CompilesTo (classes program : Text) : Result Image CompileFault → Typ
   Compiled : (image : Image) → Compiles classes program image → CompilesTo classes program (Ok image)
   NoFile : (f : TextFault) → Refuses f ((file : ParsedFile) → TextSpells file classes → ⊥) → Comes classes f → CompilesTo classes program (Err (faults.Text f))
   Breaks : (file : File) (f : CheckFault) →
-      IsFileOf classes file → Names f (elaborated file) →
+      IsFileOf classes file → Fails f (elaborated file) →
       CompilesTo classes program (Err (faults.Check f))
   NoProgram : (file : File) (o : Outcome) (f : ProgramFault) →
       IsFileOf classes file → elaborated file ≡ Ok o → IsNoProgram o program f →

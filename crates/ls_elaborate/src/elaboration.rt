@@ -13,7 +13,7 @@ use indexmap::IndexSet;
 use ls_checked::tree::{File, Method};
 use ls_elaboration::known::{ClassSign, Known};
 use ls_elaboration::outcome::{Outcome, checked_classes};
-use ls_elaboration::rule::Refusal;
+use ls_elaboration::rule::CheckFault;
 use ls_elaboration::signs::{Classes, class_names, class_signs};
 use ls_elaboration::together::also;
 use ls_tree::tree;
@@ -26,7 +26,7 @@ fn file_methods(
     names: &IndexSet<String>,
     signs: &[ClassSign],
     classes: &[tree::Class],
-) -> Result<Vec<Method>, Refusal>
+) -> Result<Vec<Method>, CheckFault>
     ensures { Gives (bodies_of (length classes.now)) result (the_file_methods (texts_of names.now) (map class_sign_of signs.now) (map placed_class classes.now)) }
 {
     let mut methods = Vec::new(alloc);
@@ -42,7 +42,7 @@ fn file_methods(
 }
 
 /// The elaboration of a file.
-pub fn elaborate(alloc: Global, parsed: &ClassFile) -> Result<Outcome, Refusal>
+pub fn elaborate(alloc: Global, parsed: &ClassFile) -> Result<Outcome, CheckFault>
     ensures { Gives outcome_of result (elaborated (placed_file parsed.now)) }
 {
     let names = class_names(alloc, &parsed.classes)?;

@@ -20,7 +20,7 @@ use crate::scope::{Context, Scope, may_declare, with_variable};
 use crate::statements::{Round, all_items, block_of};
 use ls_checked::tree::{Expression, Method, Statement};
 use ls_elaboration::known::{Known, field_of};
-use ls_elaboration::rule::{Refusal, Rule, refused_at};
+use ls_elaboration::rule::{CheckFault, Rule, refused_at};
 use ls_elaboration::together::{also, push};
 use ls_elaboration::type_names::{result_of, type_of};
 use ls_events::value::ValueType;
@@ -37,7 +37,7 @@ fn parameter<'t>(
     scope: &mut Scope<'t>,
     slots: &mut Vec<ValueType>,
     p: &'t Parameter,
-) -> Result<(), Refusal>
+) -> Result<(), CheckFault>
     requires { vec_len slots.old ≤ 128 }
     ensures found { Gives (λ _. scope_of scope.new slots.new.items) result (the_parameter (body_of context.entry) (scope_of scope.old slots.old.items) (placed_parameter p.entry.now)) }
     ensures low { OnOk result (vec_len slots.new ≤ 128) }
@@ -53,7 +53,7 @@ fn parameters<'t>(
     scope: &mut Scope<'t>,
     slots: &mut Vec<ValueType>,
     ps: &'t [Parameter],
-) -> Result<(), Refusal>
+) -> Result<(), CheckFault>
     requires { vec_len slots.old ≤ 128 }
     ensures found { Gives (λ _. scope_of scope.new slots.new.items) result (each (the_parameter (body_of context.entry)) (scope_of scope.old slots.old.items) (map placed_parameter ps.entry.now)) }
     ensures low { OnOk result (vec_len slots.new ≤ 128) }
@@ -70,7 +70,7 @@ fn declarator_set(
     known: Known,
     front: Vec<Statement>,
     d: &Declarator,
-) -> Result<Vec<Statement>, Refusal>
+) -> Result<Vec<Statement>, CheckFault>
     ensures { Gives (λ v. map plain_statement v.items) result (the_declarator_set (known_of known.entry) (map plain_statement front.items) (placed_declarator d.now)) }
 {
     match (field_of(known, known.own, d.name.text.as_str()), &d.value) {
@@ -99,7 +99,7 @@ fn member_set(
     known: Known,
     before: Vec<Statement>,
     m: &Member,
-) -> Result<Vec<Statement>, Refusal>
+) -> Result<Vec<Statement>, CheckFault>
     ensures { Gives (λ v. map plain_statement v.items) result (the_member_set (known_of known.entry) (map plain_statement before.items) (placed_member m.now)) }
 {
     match m {
@@ -116,7 +116,7 @@ fn member_set(
 }
 
 // The initialisers of a class's fields, as assignments in text order.
-fn initialisers(alloc: Global, known: Known, members: &[Member]) -> Result<Vec<Statement>, Refusal>
+fn initialisers(alloc: Global, known: Known, members: &[Member]) -> Result<Vec<Statement>, CheckFault>
     ensures { Gives (λ v. map plain_statement v.items) result (the_initialisers (known_of known.entry) (map placed_member members.now)) }
 {
     let mut front = Vec::new(alloc);
@@ -136,7 +136,7 @@ fn first_slot(alloc: Global, known: Known) -> Result<Vec<ValueType>, AllocError>
 }
 
 // Whether a method that answers a value can't complete without one.
-fn answered(context: Context, body: &[Statement]) -> Result<(), Refusal>
+fn answered(context: Context, body: &[Statement]) -> Result<(), CheckFault>
     ensures { (go : Elaborated checked_method) → Leads (λ u. u) (λ u. go) result (unless_broken (is_some context.entry.result && the_all_complete (sequence (map plain_statement body.now))) MissingReturn context.entry.span go) }
 {
     if context.result.is_some() && all_complete(context.alloc, body)? {
@@ -154,7 +154,7 @@ fn method<'t>(
     ps: &'t [Parameter],
     front: Vec<Statement>,
     items: &'t [BlockItem],
-) -> Result<Method, Refusal>
+) -> Result<Method, CheckFault>
     ensures { Gives plain_method result (the_method (known_of known.entry) answers (placed_name name.now) (map placed_parameter ps.entry.now) (map plain_statement front.items) (placed_items items.entry.now)) }
 {
     let context = Context {
@@ -184,7 +184,7 @@ fn method<'t>(
     })
 }
 
-fn written_method(alloc: Global, known: Known, m: &MethodText) -> Result<Method, Refusal>
+fn written_method(alloc: Global, known: Known, m: &MethodText) -> Result<Method, CheckFault>
     ensures { Gives plain_method result (the_written_method (known_of known.entry) (option_map placed_type m.now.result) (placed_name m.now.name) (map placed_parameter m.now.parameters.items) (placed_items m.now.body.items.items)) }
 {
     let answers = result_of(known.names, &m.result)?;
@@ -204,7 +204,7 @@ fn written_constructor(
     known: Known,
     members: &[Member],
     c: &Constructor,
-) -> Result<Method, Refusal>
+) -> Result<Method, CheckFault>
     ensures { Gives plain_method result (the_written_constructor (known_of known.entry) (map placed_member members.now) (placed_name c.now.name) (map placed_parameter c.now.parameters.items) (placed_items c.now.body.items.items)) }
 {
     let front = initialisers(alloc, known, members)?;
@@ -226,7 +226,7 @@ fn one_method(
     members: &[Member],
     before: Vec<Method>,
     m: &Member,
-) -> Result<Vec<Method>, Refusal>
+) -> Result<Vec<Method>, CheckFault>
     ensures { Gives (λ v. map plain_method v.items) result (the_one_method (known_of known.entry) (map placed_member members.now) (map plain_method before.items) (placed_member m.now)) }
 {
     let made = match m {
@@ -255,7 +255,7 @@ fn default_constructor(
     known: Known,
     members: &[Member],
     before: Vec<Method>,
-) -> Result<Vec<Method>, Refusal>
+) -> Result<Vec<Method>, CheckFault>
     ensures { Gives (λ v. map plain_method v.items) result (the_default_constructor (known_of known.entry) (map placed_member members.now) (map plain_method before.items)) }
 {
     if has_constructor(members) {
@@ -280,7 +280,7 @@ pub fn class_methods(
     known: Known,
     before: Vec<Method>,
     members: &[Member],
-) -> Result<Vec<Method>, Refusal>
+) -> Result<Vec<Method>, CheckFault>
     ensures { Gives (λ v. map plain_method v.items) result (the_class_methods (known_of known.entry) (map plain_method before.items) (map placed_member members.now)) }
 {
     let mut methods = before;

@@ -13,7 +13,7 @@ ghost use Rattle.ls_elaborate.specs.ScopeViews.{body_of, scope_of};
 
 use ls_checked::tree::{Expression, Statement};
 use ls_elaboration::known::{Known, Local, local_named};
-use ls_elaboration::rule::{Broken, Refusal, Rule, broken_at};
+use ls_elaboration::rule::{Broken, CheckFault, Rule, broken_at};
 use ls_elaboration::signs::MOST_SLOTS;
 use ls_elaboration::type_names::type_of;
 use ls_events::value::{Value, ValueType};
@@ -115,7 +115,7 @@ fn initialised(
     slot: usize,
     scope: &mut Scope,
     value: &Option<Expr>,
-) -> Result<(), Refusal>
+) -> Result<(), CheckFault>
     ensures { (slots : List value_type) → Gives (λ _. scope_of scope.new slots) result (the_initialised (known_of context.entry.known) t slot (scope_of scope.old slots) (option_map placed value.now)) }
 {
     match value {
@@ -140,7 +140,7 @@ fn declared<'t>(
     scope: &mut Scope<'t>,
     slots: &mut Vec<ValueType>,
     d: &'t Declarator,
-) -> Result<(), Refusal>
+) -> Result<(), CheckFault>
     requires { vec_len slots.old ≤ 128 }
     ensures found { Gives (λ _. scope_of scope.new slots.new.items) result (the_declared (body_of context.entry) t (scope_of scope.old slots.old.items) (placed_declarator d.entry.now)) }
     ensures low { OnOk result (vec_len slots.new ≤ 128) }
@@ -157,7 +157,7 @@ pub fn declaration<'t>(
     scope: &mut Scope<'t>,
     slots: &mut Vec<ValueType>,
     d: &'t Declaration,
-) -> Result<(), Refusal>
+) -> Result<(), CheckFault>
     requires { vec_len slots.old ≤ 128 }
     ensures found { Gives (λ _. scope_of scope.new slots.new.items) result (the_declaration (body_of context.entry) (scope_of scope.old slots.old.items) (placed_declaration d.entry.now)) }
     ensures low { OnOk result (vec_len slots.new ≤ 128) }

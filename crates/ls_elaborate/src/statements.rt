@@ -16,7 +16,7 @@ ghost use Rattle.ls_elaborate.specs.ScopeViews.{body_of, loops_of, scope_of, for
 use crate::scope::{Context, Scope, declaration};
 use ls_checked::tree::{Expression, Statement};
 use ls_elaboration::known::Local;
-use ls_elaboration::rule::{Broken, Refusal, Rule, broken_at, refused_at};
+use ls_elaboration::rule::{Broken, CheckFault, Rule, broken_at, refused_at};
 use ls_elaboration::together::{also, two, with_box};
 use ls_events::value::ValueType;
 use ls_expressions::assignments::assignment;
@@ -148,7 +148,7 @@ fn returned(
     answers: Option<ValueType>,
     value: &Option<Expr>,
     span: Span,
-) -> Result<Statement, Refusal>
+) -> Result<Statement, CheckFault>
     ensures { Gives plain_statement result (the_returned (known_of site.entry.known) (locals_of site.entry) answers (option_map placed value.now) span) }
 {
     match (answers, value) {
@@ -162,7 +162,7 @@ fn returned(
     }
 }
 
-fn if_of(alloc: Global, e: Expression, a: Statement, b: Statement) -> Result<Statement, Refusal>
+fn if_of(alloc: Global, e: Expression, a: Statement, b: Statement) -> Result<Statement, CheckFault>
     ensures { Gives plain_statement result (Ok (checked_if (plain e) (plain_statement a) (plain_statement b))) }
 {
     let (e, (a, b)) = also(e, two(alloc, a, b))?;
@@ -176,7 +176,7 @@ pub fn statement<'r, 't>(
     locals: &[Local<'t>],
     slots: &mut Vec<ValueType>,
     s: &'t tree::Statement,
-) -> Result<Statement, Refusal>
+) -> Result<Statement, CheckFault>
     requires { vec_len slots.old ≤ 128 }
     ensures found { Gives (formed_of slots.new.items) result (the_statement (body_of round.entry.context) (loops_of round.entry) (map local_of locals.now) slots.old.items (placed_statement s.entry.now)) }
     ensures low { OnOk result (vec_len slots.new ≤ 128) }
@@ -226,7 +226,7 @@ fn branches<'r, 't>(
     condition: &'t Expr,
     then: &'t tree::Statement,
     otherwise: &'t Option<Box<tree::Statement>>,
-) -> Result<Statement, Refusal>
+) -> Result<Statement, CheckFault>
     requires { vec_len slots.old ≤ 128 }
     ensures found { Gives (formed_of slots.new.items) result (the_statement (body_of round.entry.context) (loops_of round.entry) (map local_of locals.now) slots.old.items (if_of (placed condition.entry.now) (placed_statement then.entry.now) (placed_other otherwise.entry.now))) }
     ensures low { OnOk result (vec_len slots.new ≤ 128) }
@@ -251,7 +251,7 @@ fn while_loop<'r, 't>(
     label: &'t Option<Name>,
     condition: &'t Expr,
     body: &'t tree::Statement,
-) -> Result<Statement, Refusal>
+) -> Result<Statement, CheckFault>
     requires { vec_len slots.old ≤ 128 }
     ensures found { Gives (formed_of slots.new.items) result (the_statement (body_of round.entry.context) (loops_of round.entry) (map local_of locals.now) slots.old.items (while_written (option_map placed_name label.entry.now) (placed condition.entry.now) (placed_statement body.entry.now))) }
     ensures low { OnOk result (vec_len slots.new ≤ 128) }
@@ -271,7 +271,7 @@ fn looped<'r, 't>(
     slots: &mut Vec<ValueType>,
     label: &'t Option<Name>,
     body: &'t tree::Statement,
-) -> Result<Statement, Refusal>
+) -> Result<Statement, CheckFault>
     requires { vec_len slots.old ≤ 128 }
     ensures found { Gives (formed_of slots.new.items) result (the_statement (body_of round.entry.context) (label_text (option_map placed_name label.entry.now) ∷ loops_of round.entry) (map local_of locals.now) slots.old.items (placed_statement body.entry.now)) }
     ensures low { OnOk result (vec_len slots.new ≤ 128) }
@@ -291,7 +291,7 @@ fn try_finally<'r, 't>(
     slots: &mut Vec<ValueType>,
     body: &'t [BlockItem],
     finally: &'t [BlockItem],
-) -> Result<Statement, Refusal>
+) -> Result<Statement, CheckFault>
     requires { vec_len slots.old ≤ 128 }
     ensures found { Gives (formed_of slots.new.items) result (the_statement (body_of round.entry.context) (loops_of round.entry) (map local_of locals.now) slots.old.items (try_written (placed_items body.entry.now) (placed_items finally.entry.now))) }
     ensures low { OnOk result (vec_len slots.new ≤ 128) }
@@ -309,7 +309,7 @@ fn block<'r, 't>(
     locals: &[Local<'t>],
     slots: &mut Vec<ValueType>,
     items: &'t [BlockItem],
-) -> Result<Statement, Refusal>
+) -> Result<Statement, CheckFault>
     requires { vec_len slots.old ≤ 128 }
     ensures found { Gives (formed_of slots.new.items) result (the_statement (body_of round.entry.context) (loops_of round.entry) (map local_of locals.now) slots.old.items (block_written (placed_items items.entry.now))) }
     ensures low { OnOk result (vec_len slots.new ≤ 128) }
@@ -331,7 +331,7 @@ pub fn all_items<'r, 't>(
     scope: &mut Scope<'t>,
     slots: &mut Vec<ValueType>,
     items: &'t [BlockItem],
-) -> Result<(), Refusal>
+) -> Result<(), CheckFault>
     requires { vec_len slots.old ≤ 128 }
     ensures found { Gives (λ _. scope_of scope.new slots.new.items) result (the_items (body_of round.entry.context) (loops_of round.entry) (scope_of scope.old slots.old.items) (placed_items items.entry.now)) }
     ensures low { OnOk result (vec_len slots.new ≤ 128) }
@@ -349,7 +349,7 @@ fn one_item<'r, 't>(
     scope: &mut Scope<'t>,
     slots: &mut Vec<ValueType>,
     item: &'t BlockItem,
-) -> Result<(), Refusal>
+) -> Result<(), CheckFault>
     requires { vec_len slots.old ≤ 128 }
     ensures found { (rest : Items) → Leads (λ _. scope_of scope.new slots.new.items) (λ s. the_items (body_of round.entry.context) (loops_of round.entry) s rest) result (the_items (body_of round.entry.context) (loops_of round.entry) (scope_of scope.old slots.old.items) (placed_before item.entry.now rest)) }
     ensures low { OnOk result (vec_len slots.new ≤ 128) }

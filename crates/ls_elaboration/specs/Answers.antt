@@ -4,27 +4,22 @@ use Rattle.ls_checked.specs.CheckedTree as checked
 use Rattle.ls_checked.specs.Plain.{plain}
 use Rattle.ls_checked.specs.declared.tree.Expression.{Expression}
 use Rattle.ls_elaboration.specs.declared.rule.Broken.{Broken}
-use Rattle.ls_elaboration.specs.declared.rule.Refusal.{Refusal}
-use Rattle.ls_elaboration.specs.declared.rule.Refusal.TheVariants as refusals
+use Rattle.ls_elaboration.specs.declared.rule.CheckFault.{CheckFault}
 use Rattle.ls_elaboration.specs.declared.static_types.Typed.{Typed}
 use Rattle.ls_elaboration.specs.declared.members.Member.{Member}
 use Rattle.ls_elaboration.specs.declared.members.Maker.{Maker}
 use Rattle.ls_elaboration.specs.Elaborated.{Elaborated}
+use Rattle.ls_elaboration.specs.Refused.{Fails}
 use Rattle.ls_elaboration.specs.StaticTypes as statics
 use Rattle.ls_elaboration.specs.Members as members
 
--- a rule that is broken is the one that the definition answers; want of memory says nothing of it
-abbrev pub Fails : {Y : Type 0} → Refusal → Elaborated Y → Type 0
-Fails refusals.Memory said = Unit {0}
-Fails (refusals.Broken b) said = said ≡ Err b
-
 -- the answer, seen by view, is what the definition says, unless memory ran out
-abbrev pub Gives : {X Y : Type 0} → (X → Y) → Result X Refusal → Elaborated Y → Type 0
+abbrev pub Gives : {X Y : Type 0} → (X → Y) → Result X CheckFault → Elaborated Y → Type 0
 Gives view (Ok x) said = said ≡ Ok (view x)
 Gives view (Err e) said = Fails e said
 
 -- from the answer, seen by view, the definition goes on to what is next
-abbrev pub Leads : {X Y Z : Type 0} → (X → Y) → (Y → Elaborated Z) → Result X Refusal → Elaborated Z → Type 0
+abbrev pub Leads : {X Y Z : Type 0} → (X → Y) → (Y → Elaborated Z) → Result X CheckFault → Elaborated Z → Type 0
 Leads view next (Ok x) said = said ≡ next (view x)
 Leads view next (Err e) said = Fails e said
 

@@ -14,5 +14,6 @@ pub mod Signs
 pub mod Elaboration
 pub mod Tables
 pub mod Answers
+pub mod Refused
 pub mod SignViews
 pub mod Outcomes

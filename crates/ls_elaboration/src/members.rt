@@ -9,7 +9,7 @@ ghost use Rattle.ls_elaboration.specs.Tables.{known_of, texts_of};
 ghost use Rattle.ls_elaboration.specs.Answers.{Gives, member_of as seen_member, maker_of as seen_maker};
 
 use crate::known::{Known, class_at, method_of, number_of};
-use crate::rule::{Refusal, Rule, refused_at};
+use crate::rule::{CheckFault, Rule, refused_at};
 use crate::static_types::Static;
 use ls_checked::tree::{Called, Expression, Expressions};
 use ls_events::value::ValueType;
@@ -136,7 +136,7 @@ fn member_in(
 }
 
 /// A method of the own class.
-pub fn own_member(alloc: Global, known: Known, n: &Name) -> Result<Member, Refusal>
+pub fn own_member(alloc: Global, known: Known, n: &Name) -> Result<Member, CheckFault>
     ensures { Gives seen_member result (found (the_method_member (the_method_of (known_of known.entry) known.entry.own (string_bytes n.now.text))) n.now.span) }
 {
     match method_member(alloc, known, known.own, n.text.as_str())? {
@@ -146,7 +146,12 @@ pub fn own_member(alloc: Global, known: Known, n: &Name) -> Result<Member, Refus
 }
 
 /// What a name means on a target of a type.
-pub fn member_of(alloc: Global, known: Known, target: Static, n: &Name) -> Result<Member, Refusal>
+pub fn member_of(
+    alloc: Global,
+    known: Known,
+    target: Static,
+    n: &Name,
+) -> Result<Member, CheckFault>
     ensures { Gives seen_member result (found (the_member_of (known_of known.entry) target (string_bytes n.now.text)) n.now.span) }
 {
     match member_in(alloc, known, target, n.text.as_str())? {
@@ -160,7 +165,7 @@ fn maker_with(
     makes: Makes,
     parameters: &[ValueType],
     value_type: ValueType,
-) -> Result<Maker, Refusal>
+) -> Result<Maker, CheckFault>
     ensures { Gives seen_maker result (Ok (record { makes = makes; parameters = parameters.now; type = value_type })) }
 {
     Ok(Maker {
@@ -171,7 +176,7 @@ fn maker_with(
 }
 
 /// What `new` makes of a class's name.
-pub fn maker_of(alloc: Global, known: Known, n: &Name) -> Result<Maker, Refusal>
+pub fn maker_of(alloc: Global, known: Known, n: &Name) -> Result<Maker, CheckFault>
     ensures { Gives seen_maker result (the_maker_of (known_of known.entry) (placed_name n.now)) }
 {
     if n.text.as_str() == "ReentrantLock" {
@@ -192,7 +197,7 @@ pub fn maker_of(alloc: Global, known: Known, n: &Name) -> Result<Maker, Refusal>
 }
 
 /// What `new AtomicMarkableReference` makes.
-pub fn markable_maker(alloc: Global, known: Known, n: &Name) -> Result<Maker, Refusal>
+pub fn markable_maker(alloc: Global, known: Known, n: &Name) -> Result<Maker, CheckFault>
     ensures { Gives seen_maker result (the_markable_maker (the_number (texts_of known.entry.names.now) (string_bytes n.now.text)) n.now.span) }
 {
     match number_of(known.names, n.text.as_str()) {

@@ -9,7 +9,7 @@ ghost use Rattle.ls_elaboration.specs.SignViews.{met_of, classes_of};
 ghost use Rattle.ls_elaboration.specs.Answers.{Gives, seen};
 
 use crate::known::{ClassSign, MethodSign};
-use crate::rule::{Broken, Refusal, Rule, broken_at, refused_at};
+use crate::rule::{Broken, CheckFault, Rule, broken_at, refused_at};
 use crate::type_names::{result_of, type_of};
 use indexmap::{IndexMap, IndexSet};
 use ls_events::value::ValueType;
@@ -54,7 +54,7 @@ fn is_reserved(name: &str) -> bool
 }
 
 // One more class's name.
-fn one_name(alloc: Global, names: &mut IndexSet<String>, c: &Class) -> Result<(), Refusal>
+fn one_name(alloc: Global, names: &mut IndexSet<String>, c: &Class) -> Result<(), CheckFault>
     ensures { Gives (λ u. texts_of names.new) result (the_one_name (texts_of names.old) (placed_class c.now)) }
 {
     let name = c.name.text.as_str();
@@ -72,7 +72,7 @@ fn one_name(alloc: Global, names: &mut IndexSet<String>, c: &Class) -> Result<()
 }
 
 /// The names of the classes.
-pub fn class_names(alloc: Global, classes: &[Class]) -> Result<IndexSet<String>, Refusal>
+pub fn class_names(alloc: Global, classes: &[Class]) -> Result<IndexSet<String>, CheckFault>
     ensures { Gives texts_of result (the_class_names (map placed_class classes.now)) }
 {
     let mut names = IndexSet::new(alloc);
@@ -88,7 +88,7 @@ fn parameter_types(
     names: &IndexSet<String>,
     n: &Name,
     ps: &[Parameter],
-) -> Result<Vec<ValueType>, Refusal>
+) -> Result<Vec<ValueType>, CheckFault>
     ensures { Gives (λ v. v.items) result (the_parameter_types (texts_of names.now) (placed_name n.now) (map placed_parameter ps.now)) }
 {
     if ps.len() >= MOST_SLOTS {
@@ -101,7 +101,7 @@ fn parameter_types(
     Ok(types)
 }
 
-fn field_met(alloc: Global, t: ValueType, met: &mut Met, d: &Declarator) -> Result<(), Refusal>
+fn field_met(alloc: Global, t: ValueType, met: &mut Met, d: &Declarator) -> Result<(), CheckFault>
     ensures { Gives (λ u. met_of met.new) result (the_field_met t (met_of met.old) (placed_declarator d.now)) }
 {
     let name = d.name.text.as_str();
@@ -121,7 +121,7 @@ fn method_met(
     n: &Name,
     types: Vec<ValueType>,
     answers: Option<ValueType>,
-) -> Result<(), Refusal>
+) -> Result<(), CheckFault>
     ensures { Gives (λ u. met_of met.new) result (the_method_met (met_of met.old) (placed_name n.now) types.items answers) }
 {
     let name = n.text.as_str();
@@ -170,7 +170,7 @@ fn fields_met(
     names: &IndexSet<String>,
     met: &mut Met,
     d: &Declaration,
-) -> Result<(), Refusal>
+) -> Result<(), CheckFault>
     ensures { Gives (λ u. met_of met.new) result (the_fields_met (texts_of names.now) (met_of met.old) (placed_declaration d.now)) }
 {
     let t = type_of(names, &d.type_name)?;
@@ -187,7 +187,7 @@ fn member_met(
     class: &Name,
     met: &mut Met,
     m: &Member,
-) -> Result<(), Refusal>
+) -> Result<(), CheckFault>
     ensures { Gives (λ u. met_of met.new) result (the_member_met (texts_of names.now) (string_bytes class.now.text) (met_of met.old) (placed_member m.now)) }
 {
     match m {
@@ -206,7 +206,7 @@ fn member_met(
 }
 
 // A class that is met whole, behind those before it.
-fn class_met(alloc: Global, classes: &mut Classes, n: &Name, met: Met) -> Result<(), Refusal>
+fn class_met(alloc: Global, classes: &mut Classes, n: &Name, met: Met) -> Result<(), CheckFault>
     ensures { Gives (λ u. classes_of classes.new) result (the_class_met (classes_of classes.old) (placed_name n.now) (met_of met) met.constructor) }
 {
     let Met {
@@ -260,7 +260,7 @@ fn one_class(
     names: &IndexSet<String>,
     classes: &mut Classes,
     c: &Class,
-) -> Result<(), Refusal>
+) -> Result<(), CheckFault>
     ensures { Gives (λ u. classes_of classes.new) result (the_one_class (texts_of names.now) (classes_of classes.old) (placed_class c.now)) }
 {
     let mut met = nothing_met(alloc, classes.next);
@@ -275,7 +275,7 @@ pub fn class_signs(
     alloc: Global,
     names: &IndexSet<String>,
     all: &[Class],
-) -> Result<Classes, Refusal>
+) -> Result<Classes, CheckFault>
     ensures { Gives classes_of result (the_class_signs (texts_of names.now) (map placed_class all.now)) }
 {
     let mut classes = Classes {

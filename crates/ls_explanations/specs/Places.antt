@@ -3,8 +3,8 @@ use Rattle.std.specs.Prelude.{ℕ, Option, Some, None}
 use Rattle.ls_lexer.specs.declared.token.Span.{Span}
 use Rattle.ls_lexer.specs.declared.fault.TextFault.{TextFault}
 use Rattle.ls_lexer.specs.declared.fault.TextFault.TheVariants as text
-use Rattle.ls_types.specs.declared.check.CheckFault.{CheckFault}
-use Rattle.ls_types.specs.declared.check.CheckFault.TheVariants as rule
+use Rattle.ls_elaboration.specs.declared.rule.CheckFault.{CheckFault}
+use Rattle.ls_elaboration.specs.declared.rule.CheckFault.TheVariants as rule
 use Rattle.ls_types.specs.declared.fault.ProgramFault.{ProgramFault}
 use Rattle.ls_types.specs.declared.fault.ProgramFault.TheVariants as program
 use Rattle.ls_schedule.specs.declared.fault.ScheduleFault.{ScheduleFault}
@@ -38,17 +38,7 @@ text_place (text.TooDeep at) = at_byte parts.Classes at
 
 abbrev pub check_place : CheckFault → Option Place
 check_place rule.Memory = None
-check_place (rule.UnknownName span) = at_span parts.Classes span
-check_place (rule.TwiceDeclared span) = at_span parts.Classes span
-check_place (rule.UnknownType span) = at_span parts.Classes span
-check_place (rule.WrongType span) = at_span parts.Classes span
-check_place (rule.WrongArguments span) = at_span parts.Classes span
-check_place (rule.NotAssignable span) = at_span parts.Classes span
-check_place (rule.NoLoop span) = at_span parts.Classes span
-check_place (rule.UnknownLabel span) = at_span parts.Classes span
-check_place (rule.MissingReturn span) = at_span parts.Classes span
-check_place (rule.ReservedClass span) = at_span parts.Classes span
-check_place (rule.Limit span) = at_span parts.Classes span
+check_place (rule.Broken b) = at_span parts.Classes b.span
 
 abbrev pub program_place : ProgramFault → Option Place
 program_place program.Memory = None

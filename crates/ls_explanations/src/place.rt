@@ -105,17 +105,7 @@ fn check_place(fault: CheckFault) -> Option<Place>
 {
     match fault {
         CheckFault::Memory => None,
-        CheckFault::UnknownName(span)
-        | CheckFault::TwiceDeclared(span)
-        | CheckFault::UnknownType(span)
-        | CheckFault::WrongType(span)
-        | CheckFault::WrongArguments(span)
-        | CheckFault::NotAssignable(span)
-        | CheckFault::NoLoop(span)
-        | CheckFault::UnknownLabel(span)
-        | CheckFault::MissingReturn(span)
-        | CheckFault::ReservedClass(span)
-        | CheckFault::Limit(span) => at_span(span),
+        CheckFault::Broken(broken) => at_span(broken.span),
     }
 }
 

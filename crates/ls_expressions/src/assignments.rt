@@ -12,7 +12,7 @@ use crate::expressions::{fitting, typed};
 use crate::places::span_of;
 use crate::site::Site;
 use ls_checked::tree::{Expression, Statement};
-use ls_elaboration::rule::{Broken, Refusal, Rule, broken_at};
+use ls_elaboration::rule::{Broken, CheckFault, Rule, broken_at};
 use ls_elaboration::static_types::{Static, Typed};
 use ls_elaboration::together::also;
 use ls_events::value::ValueType;
@@ -79,7 +79,7 @@ fn assigned(place: Place, value: Expression) -> Statement
 }
 
 /// An assignment.
-pub fn assignment(site: Site, target: &Expr, value: &Expr) -> Result<Statement, Refusal>
+pub fn assignment(site: Site, target: &Expr, value: &Expr) -> Result<Statement, CheckFault>
     ensures { Gives plain_statement result (the_assignment (known_of site.entry.known) (locals_of site.entry) (placed target.now) (placed value.now)) }
 {
     let x = typed(site, target)?;

@@ -19,7 +19,7 @@ use ls_checked::tree::{Expression, Expressions};
 use ls_elaboration::known::{FoundField, Known, field_of, local_named};
 use ls_elaboration::members::{Member, made, maker_of, markable_maker, member_of, own_member};
 use ls_elaboration::numbers::digits_of;
-use ls_elaboration::rule::{Broken, Refusal, Rule, broken_at, refused_at};
+use ls_elaboration::rule::{Broken, CheckFault, Rule, broken_at, refused_at};
 use ls_elaboration::static_types::{
     Static, Typed, as_array, as_type, as_value, result_type, typed_as,
 };
@@ -42,7 +42,7 @@ fn number(text: &str) -> Expression
 }
 
 // A local, else a field of the own class.
-fn name_typed(site: Site, n: &Name) -> Result<Typed, Refusal>
+fn name_typed(site: Site, n: &Name) -> Result<Typed, CheckFault>
     ensures { Gives typed_of result (the_name (known_of site.entry.known) (locals_of site.entry) (placed_name n.now)) }
 {
     match local_named(site.locals, n.text.as_str()) {
@@ -76,7 +76,7 @@ fn field_in(known: Known, of: Static, n: &Name) -> Result<(usize, FoundField), B
 }
 
 // A field of an object.
-fn field_at(alloc: Global, known: Known, x: Typed, n: &Name) -> Result<Typed, Refusal>
+fn field_at(alloc: Global, known: Known, x: Typed, n: &Name) -> Result<Typed, CheckFault>
     ensures { Gives typed_of result (the_field_at (known_of known.entry) x.of (plain x.expression) (placed_name n.now)) }
 {
     let found = field_in(known, x.of, n);
@@ -120,7 +120,7 @@ fn integer_constant(n: &Name) -> Result<Typed, Broken>
 }
 
 // A call whose arguments are typed.
-fn call_of(alloc: Global, m: Member, target: Expression, es: Expressions) -> Result<Typed, Refusal>
+fn call_of(alloc: Global, m: Member, target: Expression, es: Expressions) -> Result<Typed, CheckFault>
     ensures { Gives typed_of result (the_call (seen_member m) (plain target) (all_plain es)) }
 {
     let (target, es) = two(alloc, target, es)?;
@@ -132,7 +132,7 @@ fn call_of(alloc: Global, m: Member, target: Expression, es: Expressions) -> Res
 
 /// An expression, with its type.
 #[cycle(expressions)]
-pub fn typed(site: Site, e: &Expr) -> Result<Typed, Refusal>
+pub fn typed(site: Site, e: &Expr) -> Result<Typed, CheckFault>
     ensures { Gives typed_of result (the_typed (known_of site.entry.known) (locals_of site.entry) (placed e.now)) }
 {
     match e {
@@ -203,7 +203,7 @@ pub fn typed(site: Site, e: &Expr) -> Result<Typed, Refusal>
 }
 
 #[cycle(expressions)]
-fn binary(site: Site, op: BinaryOp, left: &Expr, right: &Expr, span: Span) -> Result<Typed, Refusal>
+fn binary(site: Site, op: BinaryOp, left: &Expr, right: &Expr, span: Span) -> Result<Typed, CheckFault>
     ensures { Gives typed_of result (the_typed (known_of site.entry.known) (locals_of site.entry) (a_binary op (placed left.now) (placed right.now) span)) }
 {
     let x = typed(site, left)?;
@@ -219,7 +219,7 @@ fn call(
     n: &Name,
     arguments: &[Expr],
     span: Span,
-) -> Result<Typed, Refusal>
+) -> Result<Typed, CheckFault>
     ensures { Gives typed_of result (the_typed (known_of site.entry.known) (locals_of site.entry) (call_written (placed_target target.now) (placed_name n.now) (placed_all arguments.now) span)) }
 {
     match target {
@@ -230,7 +230,7 @@ fn call(
 
 // A method of the own class.
 #[cycle(expressions)]
-fn own_call(site: Site, n: &Name, arguments: &[Expr], span: Span) -> Result<Typed, Refusal>
+fn own_call(site: Site, n: &Name, arguments: &[Expr], span: Span) -> Result<Typed, CheckFault>
     ensures { Gives typed_of result (the_typed (known_of site.entry.known) (locals_of site.entry) (a_call (placed_name n.now) (placed_all arguments.now) span)) }
 {
     let m = own_member(site.alloc, site.known, n)?;
@@ -247,7 +247,7 @@ fn call_on(
     n: &Name,
     arguments: &[Expr],
     span: Span,
-) -> Result<Typed, Refusal>
+) -> Result<Typed, CheckFault>
     ensures { Gives typed_of result (the_typed (known_of site.entry.known) (locals_of site.entry) (a_call_on (placed target.now) (placed_name n.now) (placed_all arguments.now) span)) }
 {
     let x = typed(site, target)?;
@@ -260,7 +260,7 @@ fn call_on(
 
 // An element of an array.
 #[cycle(expressions)]
-fn item(site: Site, array: &Expr, index: &Expr, span: Span) -> Result<Typed, Refusal>
+fn item(site: Site, array: &Expr, index: &Expr, span: Span) -> Result<Typed, CheckFault>
     ensures { Gives typed_of result (the_typed (known_of site.entry.known) (locals_of site.entry) (an_item (placed array.now) (placed index.now) span)) }
 {
     let x = typed(site, array)?;
@@ -273,7 +273,7 @@ fn item(site: Site, array: &Expr, index: &Expr, span: Span) -> Result<Typed, Ref
 
 // An object or a lock.
 #[cycle(expressions)]
-fn making(site: Site, class: &Name, arguments: &[Expr], span: Span) -> Result<Typed, Refusal>
+fn making(site: Site, class: &Name, arguments: &[Expr], span: Span) -> Result<Typed, CheckFault>
     ensures { Gives typed_of result (the_typed (known_of site.entry.known) (locals_of site.entry) (a_new (placed_name class.now) (placed_all arguments.now) span)) }
 {
     let m = maker_of(site.alloc, site.known, class)?;
@@ -283,7 +283,7 @@ fn making(site: Site, class: &Name, arguments: &[Expr], span: Span) -> Result<Ty
 }
 
 #[cycle(expressions)]
-fn markable(site: Site, class: &Name, arguments: &[Expr], span: Span) -> Result<Typed, Refusal>
+fn markable(site: Site, class: &Name, arguments: &[Expr], span: Span) -> Result<Typed, CheckFault>
     ensures { Gives typed_of result (the_typed (known_of site.entry.known) (locals_of site.entry) (a_new_markable (placed_name class.now) (placed_all arguments.now) span)) }
 {
     let m = markable_maker(site.alloc, site.known, class)?;
@@ -294,7 +294,7 @@ fn markable(site: Site, class: &Name, arguments: &[Expr], span: Span) -> Result<
 
 // The arguments of a call.
 #[cycle(expressions)]
-fn passed(site: Site, types: &[ValueType], es: &[Expr], span: Span) -> Result<Expressions, Refusal>
+fn passed(site: Site, types: &[ValueType], es: &[Expr], span: Span) -> Result<Expressions, CheckFault>
     ensures { Gives all_plain result (the_passed (known_of site.entry.known) (locals_of site.entry) types.now (placed_all es.now) span) }
 {
     match (types, es) {
@@ -313,7 +313,7 @@ fn passed(site: Site, types: &[ValueType], es: &[Expr], span: Span) -> Result<Ex
 
 /// An expression where a value of a type is wanted.
 #[cycle(expressions)]
-pub fn fitting(site: Site, t: ValueType, e: &Expr) -> Result<Expression, Refusal>
+pub fn fitting(site: Site, t: ValueType, e: &Expr) -> Result<Expression, CheckFault>
     ensures { Gives plain result (the_fitting (known_of site.entry.known) (locals_of site.entry) t (placed e.now)) }
 {
     let x = typed(site, e)?;

@@ -9,7 +9,7 @@ ghost use Rattle.ls_elaboration.specs.declared.rule.Rule.TheVariants.{WrongType}
 ghost use Rattle.ls_elaboration.specs.Answers.{Gives, typed_of, unless_refused};
 
 use ls_checked::tree::{Expression, Operator};
-use ls_elaboration::rule::{Broken, Refusal, Rule, broken_at};
+use ls_elaboration::rule::{Broken, CheckFault, Rule, broken_at};
 use ls_elaboration::static_types::{Static, Typed, as_type, as_value, comparable, typed_as};
 use ls_elaboration::together::{also, two};
 use ls_events::value::ValueType;
@@ -18,7 +18,7 @@ use ls_tree::tree::{BinaryOp, UnaryOp};
 use std::alloc::Global;
 
 /// A unary operator on an operand that stands at `span`.
-pub fn unary_of(alloc: Global, op: UnaryOp, span: Span, x: Typed) -> Result<Typed, Refusal>
+pub fn unary_of(alloc: Global, op: UnaryOp, span: Span, x: Typed) -> Result<Typed, CheckFault>
     ensures { Gives typed_of result (the_unary op span (typed_of x)) }
 {
     match op {
@@ -42,7 +42,7 @@ fn computed(
     right: Span,
     x: Typed,
     y: Typed,
-) -> Result<Typed, Refusal>
+) -> Result<Typed, CheckFault>
     ensures { Gives typed_of result (the_computed t op left right (typed_of x) (typed_of y)) }
 {
     let (y, a) = also(y, as_type(ValueType::Int, left, x))?;
@@ -70,7 +70,7 @@ fn compared(
     right: Span,
     x: Typed,
     y: Typed,
-) -> Result<Typed, Refusal>
+) -> Result<Typed, CheckFault>
     ensures { Gives typed_of result (the_compared op span left right (typed_of x) (typed_of y)) }
 {
     let (y, x) = also(y, as_value(left, x))?;
@@ -89,7 +89,7 @@ fn decided(
     right: Span,
     x: Typed,
     y: Typed,
-) -> Result<Typed, Refusal>
+) -> Result<Typed, CheckFault>
     ensures { Gives typed_of result (the_binary (if and then and_written else or_written) left left right (typed_of x) (typed_of y)) }
 {
     let (y, a) = also(y, as_type(ValueType::Boolean, left, x))?;
@@ -111,7 +111,7 @@ pub fn binary_of(
     right: Span,
     x: Typed,
     y: Typed,
-) -> Result<Typed, Refusal>
+) -> Result<Typed, CheckFault>
     ensures { Gives typed_of result (the_binary op span left right (typed_of x) (typed_of y)) }
 {
     match op {

@@ -8,8 +8,10 @@ use Rattle.ls_orders.specs.declared.fault.OrderFault.TheVariants as order
 use Rattle.ls_lexer.specs.declared.token.Span.{Span}
 use Rattle.ls_lexer.specs.declared.fault.TextFault.{TextFault}
 use Rattle.ls_lexer.specs.declared.fault.TextFault.TheVariants as text
-use Rattle.ls_types.specs.declared.check.CheckFault.{CheckFault}
-use Rattle.ls_types.specs.declared.check.CheckFault.TheVariants as rule
+use Rattle.ls_elaboration.specs.declared.rule.CheckFault.{CheckFault}
+use Rattle.ls_elaboration.specs.declared.rule.CheckFault.TheVariants as rule
+use Rattle.ls_elaboration.specs.declared.rule.Rule.{Rule}
+use Rattle.ls_elaboration.specs.declared.rule.Rule.TheVariants as rules
 use Rattle.ls_types.specs.declared.fault.ProgramFault.{ProgramFault}
 use Rattle.ls_types.specs.declared.fault.ProgramFault.TheVariants as program
 use Rattle.ls_lowered.specs.declared.fault.LowerFault.TheVariants as lower
@@ -119,19 +121,22 @@ text_line (text.BadNumber at) = placed (codes "5 BadNumber") at
 text_line (text.Syntax at) = placed (codes "6 Syntax") at
 text_line (text.TooDeep at) = placed (codes "7 TooDeep") at
 
+abbrev pub rule_name : Rule → List ℕ
+rule_name rules.UnknownName = codes "10 UnknownName"
+rule_name rules.TwiceDeclared = codes "11 TwiceDeclared"
+rule_name rules.UnknownType = codes "12 UnknownType"
+rule_name rules.WrongType = codes "13 WrongType"
+rule_name rules.WrongArguments = codes "14 WrongArguments"
+rule_name rules.NotAssignable = codes "15 NotAssignable"
+rule_name rules.NoLoop = codes "16 NoLoop"
+rule_name rules.UnknownLabel = codes "17 UnknownLabel"
+rule_name rules.MissingReturn = codes "18 MissingReturn"
+rule_name rules.ReservedClass = codes "19 ReservedClass"
+rule_name rules.Limit = codes "20 Limit"
+
 abbrev pub check_line : CheckFault → List ℕ
 check_line rule.Memory = plain (codes "1 Memory")
-check_line (rule.UnknownName span) = spanned (codes "10 UnknownName") span
-check_line (rule.TwiceDeclared span) = spanned (codes "11 TwiceDeclared") span
-check_line (rule.UnknownType span) = spanned (codes "12 UnknownType") span
-check_line (rule.WrongType span) = spanned (codes "13 WrongType") span
-check_line (rule.WrongArguments span) = spanned (codes "14 WrongArguments") span
-check_line (rule.NotAssignable span) = spanned (codes "15 NotAssignable") span
-check_line (rule.NoLoop span) = spanned (codes "16 NoLoop") span
-check_line (rule.UnknownLabel span) = spanned (codes "17 UnknownLabel") span
-check_line (rule.MissingReturn span) = spanned (codes "18 MissingReturn") span
-check_line (rule.ReservedClass span) = spanned (codes "19 ReservedClass") span
-check_line (rule.Limit span) = spanned (codes "20 Limit") span
+check_line (rule.Broken b) = spanned (rule_name b.rule) b.span
 
 abbrev pub program_line : ProgramFault → List ℕ
 program_line program.Memory = plain (codes "1 Memory")

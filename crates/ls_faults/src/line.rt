@@ -1,10 +1,11 @@
 // The line of a fault, made without memory.
 
 ghost use Rattle.std.specs.Prelude.{◌≡◌, ◌≤◌, length};
-ghost use Rattle.ls_faults.specs.Faults.{batch_line, build_line, cells_line, check_line, fault_line, live_line, placed, plain, program_line, schedule_line, spanned, text_line, translation_line, turns_line};
+ghost use Rattle.ls_faults.specs.Faults.{batch_line, build_line, cells_line, check_line, fault_line, live_line, placed, plain, program_line, rule_name, schedule_line, spanned, text_line, translation_line, turns_line};
 
 use crate::fault::ToolFault;
 use ls_batch::BatchFault;
+use ls_elaboration::rule::Rule;
 use ls_emit::fault::EmitFault;
 use ls_lexer::fault::TextFault;
 use ls_lexer::token::Span;
@@ -146,22 +147,31 @@ fn text_line(fault: TextFault) -> Line
     }
 }
 
+fn rule_name(rule: Rule) -> &'static str
+    ensures name { result.now ≡ rule_name rule }
+    ensures short { length result.now ≤ 30 }
+{
+    match rule {
+        Rule::UnknownName => "10 UnknownName",
+        Rule::TwiceDeclared => "11 TwiceDeclared",
+        Rule::UnknownType => "12 UnknownType",
+        Rule::WrongType => "13 WrongType",
+        Rule::WrongArguments => "14 WrongArguments",
+        Rule::NotAssignable => "15 NotAssignable",
+        Rule::NoLoop => "16 NoLoop",
+        Rule::UnknownLabel => "17 UnknownLabel",
+        Rule::MissingReturn => "18 MissingReturn",
+        Rule::ReservedClass => "19 ReservedClass",
+        Rule::Limit => "20 Limit",
+    }
+}
+
 fn check_line(fault: CheckFault) -> Line
     ensures { result ≡ check_line fault }
 {
     match fault {
         CheckFault::Memory => plain("1 Memory"),
-        CheckFault::UnknownName(span) => spanned("10 UnknownName", span),
-        CheckFault::TwiceDeclared(span) => spanned("11 TwiceDeclared", span),
-        CheckFault::UnknownType(span) => spanned("12 UnknownType", span),
-        CheckFault::WrongType(span) => spanned("13 WrongType", span),
-        CheckFault::WrongArguments(span) => spanned("14 WrongArguments", span),
-        CheckFault::NotAssignable(span) => spanned("15 NotAssignable", span),
-        CheckFault::NoLoop(span) => spanned("16 NoLoop", span),
-        CheckFault::UnknownLabel(span) => spanned("17 UnknownLabel", span),
-        CheckFault::MissingReturn(span) => spanned("18 MissingReturn", span),
-        CheckFault::ReservedClass(span) => spanned("19 ReservedClass", span),
-        CheckFault::Limit(span) => spanned("20 Limit", span),
+        CheckFault::Broken(broken) => spanned(rule_name(broken.rule), broken.span),
     }
 }
 

@@ -2,7 +2,7 @@
 use Rattle.std.proofs.Common.{◌≡◌, ◌∙◌, ap, List, Option, None, Result}
 use Rattle.std.specs.Prelude.{ok_or}
 use Rattle.ls_report.specs.Events.{Event, Text}
-use Rattle.ls_orders.specs.Items.{each}
+use Rattle.ls_orders.specs.Each.{each}
 use Rattle.ls_orders.specs.SetCalls.{call_named, first_foreign, set_calls}
 use Rattle.ls_orders.specs.Rules.{calls_of, judged, judgement_of, unless_foreign}
 use Rattle.ls_orders.specs.declared.calls.SetCall.{SetCall}

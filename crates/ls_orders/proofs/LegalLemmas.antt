@@ -4,7 +4,7 @@ use Rattle.std.specs.Prelude.{find, ok_or}
 use Rattle.std.specs.List.{list_any}
 use Rattle.std.proofs.lemmas.Bool.{cond-false, or_parts, or_from, true≢false}
 use Rattle.ls_report.specs.Events.{Event, Text}
-use Rattle.ls_orders.specs.Items.{each, ◌>>=◌}
+use Rattle.ls_orders.specs.Each.{each, ◌>>=◌}
 use Rattle.ls_orders.specs.SetCalls.{call_named, first_foreign, set_calls}
 use Rattle.ls_orders.specs.Rules.{Judgement, Legal, after_call, answer_of, calls_of, differs, ended_before, first_repeated, first_where, has_wrong_reply, is_late, is_missing, is_present, is_returned, is_same, judged, judgement_of, judgement_of_calls, named_by, or_rule, unless_foreign}
 use Rattle.ls_orders.specs.Legal.{IsLegal, IsRun, Set, after}

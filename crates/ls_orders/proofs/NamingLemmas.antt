@@ -6,7 +6,7 @@ use Rattle.std.specs.Str.{bytes_eq}
 use Rattle.std.proofs.lemmas.Bool.{false_from_ne_true, true≢false}
 use Rattle.std.proofs.lemmas.Slice.Eq.{bytes_eq-Decides}
 use Rattle.ls_report.specs.Events.{Text}
-use Rattle.ls_orders.specs.Items.{each, ◌>>=◌}
+use Rattle.ls_orders.specs.Each.{each, ◌>>=◌}
 use Rattle.ls_orders.specs.declared.calls.SetCall.{SetCall}
 use Rattle.ls_orders.proofs.RuleLemmas.{at, one_before}
 

@@ -1,4 +1,4 @@
-pub mod Items
+pub mod Each
 pub mod Orders
 pub mod SetCalls
 pub mod Ends

@@ -6,7 +6,8 @@ use Rattle.ls_lexer.specs.Characters.{is_digit}
 use Rattle.ls_lexer.specs.Names.{is_name}
 use Rattle.ls_report.specs.Cut.{cut}
 use Rattle.ls_report.specs.Events.{Text}
-use Rattle.ls_orders.specs.Items.{Item, each, items}
+use Rattle.ls_orders.specs.Each.{each}
+use Rattle.ls_items.specs.Items.{Item, items}
 use Rattle.ls_orders.specs.declared.fault.OrderFault.{OrderFault}
 use Rattle.ls_orders.specs.declared.fault.OrderFault.TheVariants as faults
 

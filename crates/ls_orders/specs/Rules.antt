@@ -10,7 +10,7 @@ use Rattle.ls_orders.specs.declared.calls.End.TheVariants.{Pending, Returned, Tr
 use Rattle.ls_orders.specs.declared.calls.SetCall.{SetCall}
 use Rattle.ls_orders.specs.declared.verdict.Rule.{Rule}
 use Rattle.ls_orders.specs.declared.verdict.Rule.TheVariants as rules_of
-use Rattle.ls_orders.specs.Items.{each}
+use Rattle.ls_orders.specs.Each.{each}
 use Rattle.ls_orders.specs.SetCalls.{call_named, first_foreign, name_at, name_of, set_calls}
 
 -- ---- the set

@@ -5,7 +5,7 @@ ghost use Rattle.std.specs.HashMap.{get_by_text};
 ghost use Rattle.std.specs.Str.{bytes_eq};
 ghost use Rattle.ls_report.specs.Events.{Text};
 ghost use Rattle.ls_report.specs.Plain.{plain_event};
-ghost use Rattle.ls_orders.specs.Items.{each};
+ghost use Rattle.ls_orders.specs.Each.{each};
 ghost use Rattle.ls_orders.specs.Named.{plain_named};
 ghost use Rattle.ls_orders.specs.SetCalls.{call_named};
 

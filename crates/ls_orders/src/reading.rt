@@ -4,20 +4,16 @@ ghost use Rattle.std.specs.Prelude.{◌≡◌, ◌==◌, length, map, unwrap_or,
 ghost use Rattle.std.specs.List.{list_all, position};
 ghost use Rattle.ls_lexer.specs.Characters.{is_digit};
 ghost use Rattle.ls_report.specs.Events.{Text};
-ghost use Rattle.ls_orders.specs.Items.{each, is_gap, items};
+ghost use Rattle.ls_orders.specs.Each.{each};
+ghost use Rattle.ls_items.specs.Items.{items};
 ghost use Rattle.ls_orders.specs.Orders.{call_at, Gives, is_call, is_number, order_of};
 
 use crate::fault::OrderFault;
 use crate::order::Order;
+use ls_items::item_len;
 use ls_lexer::names::is_name;
 use ls_report::cuts::cut;
 use std::alloc::Global;
-
-fn is_gap(b: u8) -> bool
-    ensures { result ≡ is_gap b }
-{
-    b == b' ' || b == b'\t' || b == b'\r' || b == b'\n'
-}
 
 fn is_digit(b: u8) -> bool
     ensures { result ≡ is_digit b }
@@ -46,22 +42,6 @@ fn is_call(text: &str) -> bool
     match cut(text, '.') {
         Some((name, number)) => is_name(name) && is_number(number.as_bytes()),
         None => false,
-    }
-}
-
-fn gap_at(text: &[u8]) -> Option<usize>
-    ensures { result ≡ position is_gap text.now }
-{
-    text.iter().position(|b| is_gap(*b))
-}
-
-/// How many bytes stand before the first gap.
-fn item_len(text: &[u8]) -> usize
-    ensures { result ≡ unwrap_or (position is_gap text.now) (length text.now) }
-{
-    match gap_at(text) {
-        Some(i) => i,
-        None => text.len(),
     }
 }
 

@@ -3,15 +3,15 @@ use Rattle.std.proofs.Common.{◌≡◌, ◌+◌, ◌≤◌, Bool, true, false, 
 use Rattle.ls_lexer.specs.declared.sign.Sign.TheVariants as signs
 use Rattle.ls_lexer.specs.declared.word.Word.TheVariants as words
 use Rattle.ls_lexer.specs.Lexemes.{Lexeme, Named, Reserved, Marked}
-use Rattle.ls_tree.specs.Trees.{Text, Term, Modifier, Public, Protected, Private, Final, Volatile, Annotation, TypeName, Int, Boolean, BooleanArray, Class, Markable, Declarator, Items, Parameter, Member, Fields, Method, Constructor, ClassTree, Dotted, Import, File}
+use Rattle.ls_tree.specs.Trees.{Text, Expression, Modifier, Public, Protected, Private, Final, Volatile, Annotation, TypeName, Int, Boolean, BooleanArray, Class, Markable, Declarator, Items, Parameter, Member, Fields, Method, Constructor, ClassTree, Dotted, Import, File}
 use Rattle.ls_tree.specs.WellFormed.{most_nodes, WellFormedMember, WellFormedFile, WellFormedItems, items_height}
 use Rattle.ls_terms.specs.Reading.{after_sign, after_word, starts, not_yet, many_from, many_at, behind_comma, group_at}
 use Rattle.ls_parser.specs.ReadingClasses.{parameter_at, parameters_at, starts_call, method_at, typed_at, unmodified_at, member_at, class_at, part_at, dotted_at, more_path, import_at, header_at, starts_import, is_left, file_at}
 use Rattle.ls_terms.proofs.Lists.{onto_all, many_from_complete}
-use Rattle.ls_statements.proofs.OntoActions.{onto_modifier, onto_type, onto_initial, onto_declarator, onto_next_declarator, onto_block}
+use Rattle.ls_statements.proofs.OntoStatements.{onto_modifier, onto_type, onto_initial, onto_declarator, onto_next_declarator, onto_block}
 use Rattle.ls_parser.proofs.OntoClasses.{onto_parameter, next_parameter_longer, onto_next_parameter, onto_group, onto_parameters, onto_member, member_longer, onto_class_tree, class_longer, onto_part, part_longer, onto_dotted, onto_import, import_longer, onto_header, onto_file}
-use Rattle.ls_statements.proofs.ActionsRead.{Anything}
-use Rattle.ls_statements.proofs.ActionsAgain.{anything, modifiers_complete, type_complete, type_no_modifier, declarators_complete, block_complete, modifiers_brace}
+use Rattle.ls_statements.proofs.StatementsRead.{Anything}
+use Rattle.ls_statements.proofs.StatementsAgain.{anything, modifiers_complete, type_complete, type_no_modifier, declarators_complete, block_complete, modifiers_brace}
 use Rattle.ls_parser.proofs.ClassesRead.{FormedClass}
 
 abbrev Always : List Lexeme → Type 0
@@ -69,7 +69,7 @@ more_no_paren : (ds : List Declarator) (rest : List Lexeme) → starts signs.Ope
 more_no_paren [] rest = refl
 more_no_paren (d ∷ ds) rest = refl
 
-field_no_call : (name : Text) (value : Option Term) (ds : List Declarator) (rest : List Lexeme) → starts_call (Named name ∷ onto_initial value (onto_all onto_next_declarator ds (Marked signs.Semicolon ∷ rest))) ≡ false
+field_no_call : (name : Text) (value : Option Expression) (ds : List Declarator) (rest : List Lexeme) → starts_call (Named name ∷ onto_initial value (onto_all onto_next_declarator ds (Marked signs.Semicolon ∷ rest))) ≡ false
 field_no_call name None ds rest = more_no_paren ds rest
 field_no_call name (Some value) ds rest = refl
 

@@ -5,11 +5,11 @@ use Rattle.std.proofs.lemmas.List.{append-nil}
 use Rattle.ls_lexer.specs.declared.sign.Sign.TheVariants as signs
 use Rattle.ls_lexer.specs.declared.word.Word.TheVariants as words
 use Rattle.ls_lexer.specs.Lexemes.{Lexeme, Named, Reserved, Marked}
-use Rattle.ls_tree.specs.Trees.{Text, Term, Modifier, Public, Protected, Private, Final, Volatile, Annotation, TypeName, Int, Boolean, BooleanArray, Class, Markable, Declarator, Declaration, Action, Block, Empty, If, IfElse, While, Break, Continue, Return, Try, Assign, Evaluate, Items, NoItem, Do, Declare, Parameter, Member, Fields, Method, Constructor, ClassTree, Dotted, Import, File}
-use Rattle.ls_spelling.specs.Spelling.{spell_term, spell_modifier, spell_type, spell_initial, spell_declarator, spell_declaration, spell_label, spell_label_before, spell_value, spell_action, spell_items, in_parens, in_braces, spell_parameter, spell_parameters, spell_result, spell_member, spell_class, spell_dotted, spell_all, spell_import, spell_package, spell}
+use Rattle.ls_tree.specs.Trees.{Text, Expression, Modifier, Public, Protected, Private, Final, Volatile, Annotation, TypeName, Int, Boolean, BooleanArray, Class, Markable, Declarator, Declaration, Statement, Block, Empty, If, IfElse, While, Break, Continue, Return, Try, Assign, Evaluate, Items, NoItem, Do, Declare, Parameter, Member, Fields, Method, Constructor, ClassTree, Dotted, Import, File}
+use Rattle.ls_spelling.specs.Spelling.{spell_expression, spell_modifier, spell_type, spell_initial, spell_declarator, spell_declaration, spell_label, spell_label_before, spell_value, spell_statement, spell_items, in_parens, in_braces, spell_parameter, spell_parameters, spell_result, spell_member, spell_class, spell_dotted, spell_all, spell_import, spell_package, spell}
 use Rattle.ls_terms.proofs.Onto.{onto, onto_spells}
 use Rattle.ls_terms.proofs.Lists.{onto_all, onto_all_spells}
-use Rattle.ls_statements.proofs.OntoActions.{onto_modifier, onto_type, onto_initial, onto_declarator, onto_next_declarator, onto_declaration, onto_label, onto_label_before, onto_value, onto_condition, onto_action, onto_items, onto_block}
+use Rattle.ls_statements.proofs.OntoStatements.{onto_modifier, onto_type, onto_initial, onto_declarator, onto_next_declarator, onto_declaration, onto_label, onto_label_before, onto_value, onto_condition, onto_statement, onto_items, onto_block}
 use Rattle.ls_parser.proofs.OntoClasses.{onto_parameter, onto_next_parameter, onto_group, onto_parameters, onto_result, onto_member, onto_class_tree, onto_part, onto_dotted, onto_star, onto_import, onto_header, onto_file}
 
 modifier_spells : (m : Modifier) (rest : List Lexeme) → onto_modifier m rest ≡ spell_modifier m ++ rest
@@ -30,7 +30,7 @@ type_spells BooleanArray rest = refl
 type_spells (Class name) rest = refl
 type_spells (Markable name) rest = refl
 
-initial_spells : (value : Option Term) (rest : List Lexeme) → onto_initial value rest ≡ spell_initial value ++ rest
+initial_spells : (value : Option Expression) (rest : List Lexeme) → onto_initial value rest ≡ spell_initial value ++ rest
 initial_spells None rest = refl
 initial_spells (Some value) rest = ap (λ (ks : List Lexeme). Marked signs.Assign ∷ ks) (onto_spells value rest)
 
@@ -56,7 +56,7 @@ label_before_spells : (label : Option Text) (rest : List Lexeme) → onto_label_
 label_before_spells None rest = refl
 label_before_spells (Some name) rest = refl
 
-value_spells : (value : Option Term) (rest : List Lexeme) → onto_value value rest ≡ spell_value value ++ rest
+value_spells : (value : Option Expression) (rest : List Lexeme) → onto_value value rest ≡ spell_value value ++ rest
 value_spells None rest = refl
 value_spells (Some value) rest = onto_spells value rest
 
@@ -66,41 +66,41 @@ cons k ks = k ∷ ks
 abbrev on : List Lexeme → List Lexeme → List Lexeme
 on front ks = front ++ ks
 
-condition_spells : (c : Term) (rest : List Lexeme) → onto_condition c rest ≡ in_parens (spell_term c) ++ rest
-condition_spells c rest = ap (cons (Marked signs.OpenParen)) (onto_spells c (Marked signs.CloseParen ∷ rest) ∙ sym (append_assoc (spell_term c) (Marked signs.CloseParen ∷ []) rest))
+condition_spells : (c : Expression) (rest : List Lexeme) → onto_condition c rest ≡ in_parens (spell_expression c) ++ rest
+condition_spells c rest = ap (cons (Marked signs.OpenParen)) (onto_spells c (Marked signs.CloseParen ∷ rest) ∙ sym (append_assoc (spell_expression c) (Marked signs.CloseParen ∷ []) rest))
 
 braced : (ts : Items) (rest : List Lexeme) → onto_items ts (Marked signs.CloseBrace ∷ rest) ≡ spell_items ts ++ Marked signs.CloseBrace ∷ rest → onto_block ts rest ≡ in_braces (spell_items ts) ++ rest
 braced ts rest e = ap (cons (Marked signs.OpenBrace)) (e ∙ sym (append_assoc (spell_items ts) (Marked signs.CloseBrace ∷ []) rest))
 
 mutual
-  action_spells : (t : Action) (rest : List Lexeme) → onto_action t rest ≡ spell_action t ++ rest
-  action_spells (Block items) rest = braced items rest (items_spell items (Marked signs.CloseBrace ∷ rest))
-  action_spells Empty rest = refl
-  action_spells (If condition first) rest =
-      ap (cons (Reserved words.If)) (condition_spells condition (onto_action first rest) ∙ ap (on (in_parens (spell_term condition))) (action_spells first rest) ∙ sym (append_assoc (in_parens (spell_term condition)) (spell_action first) rest))
-  action_spells (IfElse condition first second) rest =
-      ap (cons (Reserved words.If)) (condition_spells condition (onto_action first (Reserved words.Else ∷ onto_action second rest))
-      ∙ ap (on (in_parens (spell_term condition))) (action_spells first (Reserved words.Else ∷ onto_action second rest) ∙ ap (λ (ks : List Lexeme). spell_action first ++ Reserved words.Else ∷ ks) (action_spells second rest))
+  statement_spells : (t : Statement) (rest : List Lexeme) → onto_statement t rest ≡ spell_statement t ++ rest
+  statement_spells (Block items) rest = braced items rest (items_spell items (Marked signs.CloseBrace ∷ rest))
+  statement_spells Empty rest = refl
+  statement_spells (If condition first) rest =
+      ap (cons (Reserved words.If)) (condition_spells condition (onto_statement first rest) ∙ ap (on (in_parens (spell_expression condition))) (statement_spells first rest) ∙ sym (append_assoc (in_parens (spell_expression condition)) (spell_statement first) rest))
+  statement_spells (IfElse condition first second) rest =
+      ap (cons (Reserved words.If)) (condition_spells condition (onto_statement first (Reserved words.Else ∷ onto_statement second rest))
+      ∙ ap (on (in_parens (spell_expression condition))) (statement_spells first (Reserved words.Else ∷ onto_statement second rest) ∙ ap (λ (ks : List Lexeme). spell_statement first ++ Reserved words.Else ∷ ks) (statement_spells second rest))
       ∙ simp append_assoc)
-  action_spells (While label condition body) rest =
-      label_before_spells label (Reserved words.While ∷ onto_condition condition (onto_action body rest))
-      ∙ ap (λ (ks : List Lexeme). spell_label_before label ++ Reserved words.While ∷ ks) (condition_spells condition (onto_action body rest) ∙ ap (on (in_parens (spell_term condition))) (action_spells body rest) ∙ sym (append_assoc (in_parens (spell_term condition)) (spell_action body) rest))
-      ∙ sym (append_assoc (spell_label_before label) (Reserved words.While ∷ (in_parens (spell_term condition) ++ spell_action body)) rest)
-  action_spells (Break label) rest = ap (cons (Reserved words.Break)) (label_spells label (Marked signs.Semicolon ∷ rest) ∙ sym (append_assoc (spell_label label) (Marked signs.Semicolon ∷ []) rest))
-  action_spells (Continue label) rest = ap (cons (Reserved words.Continue)) (label_spells label (Marked signs.Semicolon ∷ rest) ∙ sym (append_assoc (spell_label label) (Marked signs.Semicolon ∷ []) rest))
-  action_spells (Return value) rest = ap (cons (Reserved words.Return)) (value_spells value (Marked signs.Semicolon ∷ rest) ∙ sym (append_assoc (spell_value value) (Marked signs.Semicolon ∷ []) rest))
-  action_spells (Try body finally) rest =
+  statement_spells (While label condition body) rest =
+      label_before_spells label (Reserved words.While ∷ onto_condition condition (onto_statement body rest))
+      ∙ ap (λ (ks : List Lexeme). spell_label_before label ++ Reserved words.While ∷ ks) (condition_spells condition (onto_statement body rest) ∙ ap (on (in_parens (spell_expression condition))) (statement_spells body rest) ∙ sym (append_assoc (in_parens (spell_expression condition)) (spell_statement body) rest))
+      ∙ sym (append_assoc (spell_label_before label) (Reserved words.While ∷ (in_parens (spell_expression condition) ++ spell_statement body)) rest)
+  statement_spells (Break label) rest = ap (cons (Reserved words.Break)) (label_spells label (Marked signs.Semicolon ∷ rest) ∙ sym (append_assoc (spell_label label) (Marked signs.Semicolon ∷ []) rest))
+  statement_spells (Continue label) rest = ap (cons (Reserved words.Continue)) (label_spells label (Marked signs.Semicolon ∷ rest) ∙ sym (append_assoc (spell_label label) (Marked signs.Semicolon ∷ []) rest))
+  statement_spells (Return value) rest = ap (cons (Reserved words.Return)) (value_spells value (Marked signs.Semicolon ∷ rest) ∙ sym (append_assoc (spell_value value) (Marked signs.Semicolon ∷ []) rest))
+  statement_spells (Try body finally) rest =
       ap (cons (Reserved words.Try)) (braced body (Reserved words.Finally ∷ onto_block finally rest) (items_spell body (Marked signs.CloseBrace ∷ Reserved words.Finally ∷ onto_block finally rest)) ∙ ap (λ (ks : List Lexeme). in_braces (spell_items body) ++ Reserved words.Finally ∷ ks) (braced finally rest (items_spell finally (Marked signs.CloseBrace ∷ rest)))
       ∙ sym (append_assoc (in_braces (spell_items body)) (Reserved words.Finally ∷ in_braces (spell_items finally)) rest))
-  action_spells (Assign target value) rest =
+  statement_spells (Assign target value) rest =
       onto_spells target (Marked signs.Assign ∷ onto value (Marked signs.Semicolon ∷ rest))
-      ∙ ap (λ (ks : List Lexeme). spell_term target ++ Marked signs.Assign ∷ ks) (onto_spells value (Marked signs.Semicolon ∷ rest) ∙ sym (append_assoc (spell_term value) (Marked signs.Semicolon ∷ []) rest))
-      ∙ sym (append_assoc (spell_term target) (Marked signs.Assign ∷ (spell_term value ++ Marked signs.Semicolon ∷ [])) rest)
-  action_spells (Evaluate value) rest = onto_spells value (Marked signs.Semicolon ∷ rest) ∙ sym (append_assoc (spell_term value) (Marked signs.Semicolon ∷ []) rest)
+      ∙ ap (λ (ks : List Lexeme). spell_expression target ++ Marked signs.Assign ∷ ks) (onto_spells value (Marked signs.Semicolon ∷ rest) ∙ sym (append_assoc (spell_expression value) (Marked signs.Semicolon ∷ []) rest))
+      ∙ sym (append_assoc (spell_expression target) (Marked signs.Assign ∷ (spell_expression value ++ Marked signs.Semicolon ∷ [])) rest)
+  statement_spells (Evaluate value) rest = onto_spells value (Marked signs.Semicolon ∷ rest) ∙ sym (append_assoc (spell_expression value) (Marked signs.Semicolon ∷ []) rest)
 
   items_spell : (ts : Items) (rest : List Lexeme) → onto_items ts rest ≡ spell_items ts ++ rest
   items_spell NoItem rest = refl
-  items_spell (Do first others) rest = action_spells first (onto_items others rest) ∙ ap (on (spell_action first)) (items_spell others rest) ∙ sym (append_assoc (spell_action first) (spell_items others) rest)
+  items_spell (Do first others) rest = statement_spells first (onto_items others rest) ∙ ap (on (spell_statement first)) (items_spell others rest) ∙ sym (append_assoc (spell_statement first) (spell_items others) rest)
   items_spell (Declare first others) rest = declaration_spells first (onto_items others rest) ∙ ap (on (spell_declaration first)) (items_spell others rest) ∙ sym (append_assoc (spell_declaration first) (spell_items others) rest)
 
 block_spells : (ts : Items) (rest : List Lexeme) → onto_block ts rest ≡ in_braces (spell_items ts) ++ rest

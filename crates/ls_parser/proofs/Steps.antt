@@ -6,7 +6,7 @@ use Rattle.ls_tree.specs.Trees.{Text, Modifier, TypeName, Items, Parameter, Memb
 use Rattle.ls_tree.specs.WellFormed.{most_nodes}
 use Rattle.ls_terms.specs.Answers.{Fails}
 use Rattle.ls_terms.specs.Reading.{◌>>=◌, Reader, name_at}
-use Rattle.ls_statements.specs.ReadingActions.{block_at}
+use Rattle.ls_statements.specs.ReadingStatements.{block_at}
 use Rattle.ls_parser.specs.ReadingClasses.{parameters_at, callable_at, constructor_at, method_at}
 use Rattle.ls_terms.proofs.Repeats.{fails_first}
 use Rattle.ls_statements.proofs.Steps.{three_steps}

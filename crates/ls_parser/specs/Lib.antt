@@ -7,5 +7,5 @@ pub use Rattle.ls_spelling.specs.Spells
 pub use Rattle.ls_spelling.specs.Kinds
 pub use Rattle.ls_terms.specs.Answers
 pub use Rattle.ls_terms.specs.Reading
-pub use Rattle.ls_terms.specs.ReadingTerms
-pub use Rattle.ls_statements.specs.ReadingActions
+pub use Rattle.ls_terms.specs.ReadingExpressions
+pub use Rattle.ls_statements.specs.ReadingStatements

@@ -6,8 +6,8 @@ use Rattle.ls_lexer.specs.Lexemes.{Lexeme}
 use Rattle.ls_tree.specs.Trees.{Text, Modifier, TypeName, Items, Parameter, Member, Fields, Method, Constructor, ClassTree, Dotted, Import, File}
 use Rattle.ls_tree.specs.WellFormed.{most_nodes}
 use Rattle.ls_terms.specs.Reading.{◌>>=◌, Reader, given, after_sign, after_word, name_at, starts, many_at, not_yet, group_at}
-use Rattle.ls_terms.specs.ReadingTerms.{term_at}
-use Rattle.ls_statements.specs.ReadingActions.{modifiers_at, type_at, declarators_at, block_at}
+use Rattle.ls_terms.specs.ReadingExpressions.{expression_at}
+use Rattle.ls_statements.specs.ReadingStatements.{modifiers_at, type_at, declarators_at, block_at}
 
 abbrev pub parameter_of : List Modifier → TypeName → Text → Parameter
 parameter_of modifiers type_name name = record { modifiers = modifiers; type_name = type_name; name = name }
@@ -46,7 +46,7 @@ abbrev pub typed_at : List Modifier → TypeName → Reader Member
 typed_at modifiers type_name ks =
     if starts_call ks
     then method_at modifiers (Some type_name) ks
-    else (declarators_at (term_at most_nodes) modifiers type_name ks >>= λ d. Some (Fields d.0, d.1))
+    else (declarators_at (expression_at most_nodes) modifiers type_name ks >>= λ d. Some (Fields d.0, d.1))
 
 -- behind modifiers
 abbrev pub unmodified_at : List Modifier → Reader Member

@@ -5,7 +5,8 @@ use Rattle.ls_lexer.specs.declared.sign.Sign.TheVariants as signs
 use Rattle.ls_tree.specs.declared.tree.UnaryOp.{UnaryOp}
 use Rattle.ls_tree.specs.declared.tree.BinaryOp.{BinaryOp}
 use Rattle.ls_tree.specs.Trees as bare
-use Rattle.ls_tree.specs.Trees.{Text, Term, Terms, NoTerm, MoreTerms}
+use Rattle.ls_tree.specs.Trees as bare
+use Rattle.ls_tree.specs.Trees.{Text}
 use Rattle.ls_tree.specs.PlacedTrees as trees
 use Rattle.ls_tree.specs.PlacedTrees.{Name, Expression, Expressions, End, More, span_of}
 use Rattle.ls_spelling.specs.Places.{Spot, sign, named, upto, class_name_at, At, OperandAt, IndexAt, ArgumentsAt, SomeAt, number_at, true_at, false_at, null_at, this_at, name_at, paren_at, unary_at, binary_at, field_at, call_at, call_on_at, item_at, new_at, new_markable_at, new_array_at, operand_at, index_at, none_at, some_at, one_at, more_at}
@@ -70,7 +71,7 @@ abbrev closed_of : PutMany → PutClosed
 closed_of x = ((x.0, here x.1), behind x.1)
 
 abbrev mutual
-  put : Term → List Spot → Put
+  put : bare.Expression → List Spot → Put
   put (bare.Number text) ss = (trees.Number text (here ss), behind ss)
   put bare.True ss = (trees.True (here ss), behind ss)
   put bare.False ss = (trees.False (here ss), behind ss)
@@ -88,18 +89,18 @@ abbrev mutual
   put (bare.NewMarkable text arguments) ss = new_markable_of (name_of text (behind (behind (behind ss)))) (here ss) (put_arguments arguments (behind (behind (behind (behind (behind (behind ss)))))))
   put (bare.NewArray length) ss = new_array_of (here ss) (put length (behind (behind (behind ss))))
 
-  put_arguments : Terms → List Spot → PutClosed
-  put_arguments NoTerm ss = ((End, here ss), behind ss)
-  put_arguments (MoreTerms t ts) ss = closed_of (more_of (put t ss) (put_others ts (put t ss).1))
+  put_arguments : bare.Expressions → List Spot → PutClosed
+  put_arguments bare.NoExpression ss = ((End, here ss), behind ss)
+  put_arguments (bare.MoreExpressions t ts) ss = closed_of (more_of (put t ss) (put_others ts (put t ss).1))
 
   -- each behind a comma
-  put_others : Terms → List Spot → PutMany
-  put_others NoTerm ss = (End, ss)
-  put_others (MoreTerms t ts) ss = more_of (put t (behind ss)) (put_others ts (put t (behind ss)).1)
+  put_others : bare.Expressions → List Spot → PutMany
+  put_others bare.NoExpression ss = (End, ss)
+  put_others (bare.MoreExpressions t ts) ss = more_of (put t (behind ss)) (put_others ts (put t (behind ss)).1)
 
-abbrev put_some : Terms → List Spot → PutMany
-put_some NoTerm ss = (End, ss)
-put_some (MoreTerms t ts) ss = more_of (put t ss) (put_others ts (put t ss).1)
+abbrev put_some : bare.Expressions → List Spot → PutMany
+put_some bare.NoExpression ss = (End, ss)
+put_some (bare.MoreExpressions t ts) ss = more_of (put t ss) (put_others ts (put t ss).1)
 
 others_are_some : {es : Expressions} {ss rest : List Spot} (comma : Spot) → SomeAt es ss rest → put_others (all_plain es) (comma ∷ ss) ≡ put_some (all_plain es) ss
 others_are_some comma (one_at h) = refl
@@ -149,4 +150,4 @@ mutual
       ∙ ap (more_of (e, sign signs.Comma comma ∷ middle)) (others_are_some (sign signs.Comma comma) k ∙ some_put k)
 
 pub one_placing : OnePlacing
-one_placing e f ss rest rest' h g same = ap (λ (x : Put). x.0) (sym (puts h) ∙ ap (λ (t : Term). put t ss) same ∙ puts g)
+one_placing e f ss rest rest' h g same = ap (λ (x : Put). x.0) (sym (puts h) ∙ ap (λ (t : bare.Expression). put t ss) same ∙ puts g)

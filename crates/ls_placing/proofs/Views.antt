@@ -25,7 +25,7 @@ use Rattle.ls_tree.specs.PlacedTrees as Trees
 use Rattle.ls_tree.specs.Placed.{placed, placed_row, placed_name}
 use Rattle.ls_tree.specs.PlacedStatements.{placed_type, placed_declarator, placed_declaration, placed_statement, placed_row as placed_items_row, placed_items, placed_parameter, placed_member, placed_class, placed_file}
 use Rattle.ls_placing.specs.Unplaced.{nowhere, unplaced, all_unplaced, unplaced_name, unplaced_type, unplaced_declarator, unplaced_declaration, unplaced_statement, unplaced_items, unplaced_parameter, unplaced_member, unplaced_class, unplaced_file}
-use Rattle.ls_placing.specs.Outlines.{name_tree, term_tree, terms_tree, type_tree, declarator_tree, declaration_tree, action_tree, items_tree, parameter_tree, member_tree, class_tree, file_tree}
+use Rattle.ls_placing.specs.Outlines.{name_tree, expression_tree, expressions_tree, type_tree, declarator_tree, declaration_tree, statement_tree, items_tree, parameter_tree, member_tree, class_tree, file_tree}
 use Rattle.ls_spelling.specs.Spells.{TextSpells}
 use Rattle.ls_spelling.specs.FilePlaces.{PlacedIn}
 use Rattle.ls_placing.specs.Files.{IsFileOf}
@@ -41,7 +41,7 @@ options_same f g h k None e = refl
 options_same f g h k (Some x) e = ap Some (e x)
 
 mutual
-  expr_same : (e : Expr) → unplaced (placed e) ≡ term_tree (bare e)
+  expr_same : (e : Expr) → unplaced (placed e) ≡ expression_tree (bare e)
   expr_same (exprs.Number text span) = refl
   expr_same (exprs.True span) = refl
   expr_same (exprs.False span) = refl
@@ -59,7 +59,7 @@ mutual
   expr_same (exprs.NewMarkable' n shape es span) = λ i. Trees.NewMarkable (name_tree (name_text n)) (row_same _ es i) nowhere
   expr_same (exprs.NewArray' p length span) = λ i. Trees.NewArray (expr_same length i) nowhere
 
-  row_same : (m : _) (row : Row_of-Expr m) → all_unplaced (placed_row row) ≡ terms_tree (bare_row row)
+  row_same : (m : _) (row : Row_of-Expr m) → all_unplaced (placed_row row) ≡ expressions_tree (bare_row row)
   row_same m end_of-Expr = refl
   row_same m (more_of-Expr e rest) = λ i. Trees.More (expr_same e i) (row_same _ rest i)
 
@@ -71,7 +71,7 @@ type_same (types.Class n) = refl
 type_same (types.Markable n) = refl
 
 declarator_same : (d : Declarator) → unplaced_declarator (placed_declarator d) ≡ declarator_tree (bare_declarator d)
-declarator_same d = λ i. record { name = name_tree (name_text d.name); value = options_same unplaced placed term_tree bare d.value expr_same i }
+declarator_same d = λ i. record { name = name_tree (name_text d.name); value = options_same unplaced placed expression_tree bare d.value expr_same i }
 
 declaration_same : (d : Declaration) → unplaced_declaration (placed_declaration d) ≡ declaration_tree (bare_declaration d)
 declaration_same d = λ i. record {
@@ -83,11 +83,11 @@ declaration_same d = λ i. record {
 label_same : (label : Option Name) → option_map unplaced_name (option_map placed_name label) ≡ option_map name_tree (option_map name_text label)
 label_same label = options_same unplaced_name placed_name name_tree name_text label (λ n. refl)
 
-value_same : (value : Option Expr) → option_map unplaced (option_map placed value) ≡ option_map term_tree (option_map bare value)
-value_same value = options_same unplaced placed term_tree bare value expr_same
+value_same : (value : Option Expr) → option_map unplaced (option_map placed value) ≡ option_map expression_tree (option_map bare value)
+value_same value = options_same unplaced placed expression_tree bare value expr_same
 
 mutual
-  statement_same : (s : Statement) → unplaced_statement (placed_statement s) ≡ action_tree (bare_statement s)
+  statement_same : (s : Statement) → unplaced_statement (placed_statement s) ≡ statement_tree (bare_statement s)
   statement_same (statements.Block' shape row span) = ap Trees.Block (block_same _ row)
   statement_same (statements.Empty span) = refl
   statement_same (statements.If' c p s statement_parts.None' span) = λ i. Trees.If (expr_same c i) (statement_same s i)

@@ -2,10 +2,10 @@
 use Rattle.std.specs.Prelude.{◌≡◌, List, ◌∷◌, ◌++◌}
 use Rattle.ls_lexer.specs.declared.token.Span.{Span}
 use Rattle.ls_tree.specs.Trees as bare
-use Rattle.ls_tree.specs.Trees.{Term, Terms, NoTerm, MoreTerms}
+use Rattle.ls_tree.specs.Trees as bare
 use Rattle.ls_tree.specs.PlacedTrees as trees
 use Rattle.ls_tree.specs.PlacedTrees.{Expression, Expressions, End, More, span_of}
-use Rattle.ls_spelling.specs.Spelling.{spell_term}
+use Rattle.ls_spelling.specs.Spelling.{spell_expression}
 use Rattle.ls_spelling.specs.Places.{Spot, forgotten, At}
 
 -- from the beginning of the first token to the end of the last one before the rest
@@ -25,7 +25,7 @@ SpansAreWhole = (e : Expression) (ss rest : List Spot) → At e ss rest → Whol
 
 abbrev mutual
   -- the expression without its places
-  pub plain : Expression → Term
+  pub plain : Expression → bare.Expression
   plain (trees.Number text span) = bare.Number text
   plain (trees.True span) = bare.True
   plain (trees.False span) = bare.False
@@ -43,13 +43,13 @@ abbrev mutual
   plain (trees.NewMarkable class arguments span) = bare.NewMarkable class.text (all_plain arguments)
   plain (trees.NewArray length span) = bare.NewArray (plain length)
 
-  pub all_plain : Expressions → Terms
-  all_plain End = NoTerm
-  all_plain (More e es) = MoreTerms (plain e) (all_plain es)
+  pub all_plain : Expressions → bare.Expressions
+  all_plain End = bare.NoExpression
+  all_plain (More e es) = bare.MoreExpressions (plain e) (all_plain es)
 
 -- without the places the tokens are those that spell the expression
 abbrev pub PlacesForgotten : Type 0
-PlacesForgotten = (e : Expression) (ss rest : List Spot) → At e ss rest → forgotten ss ≡ spell_term (plain e) ++ forgotten rest
+PlacesForgotten = (e : Expression) (ss rest : List Spot) → At e ss rest → forgotten ss ≡ spell_expression (plain e) ++ forgotten rest
 
 -- tokens give the expression one way of standing in them
 abbrev pub OnePlacing : Type 0

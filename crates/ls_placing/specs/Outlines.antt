@@ -9,27 +9,27 @@ abbrev pub name_tree : Text → Name
 name_tree text = record { text = text; span = nowhere }
 
 abbrev mutual
-  pub term_tree : bare.Term → Expression
-  term_tree (bare.Number text) = Trees.Number text nowhere
-  term_tree bare.True = Trees.True nowhere
-  term_tree bare.False = Trees.False nowhere
-  term_tree bare.Null = Trees.Null nowhere
-  term_tree bare.This = Trees.This nowhere
-  term_tree (bare.Name n) = Trees.Named (name_tree n)
-  term_tree (bare.Paren inner) = Trees.Paren (term_tree inner) nowhere
-  term_tree (bare.Unary op operand) = Trees.Unary op (term_tree operand) nowhere
-  term_tree (bare.Binary op left right) = Trees.Binary op (term_tree left) (term_tree right) nowhere
-  term_tree (bare.Field target n) = Trees.Field (term_tree target) (name_tree n) nowhere
-  term_tree (bare.Call n es) = Trees.Call (name_tree n) (terms_tree es) nowhere
-  term_tree (bare.CallOn target n es) = Trees.CallOn (term_tree target) (name_tree n) (terms_tree es) nowhere
-  term_tree (bare.Item array index) = Trees.Item (term_tree array) (term_tree index) nowhere
-  term_tree (bare.New n es) = Trees.New (name_tree n) (terms_tree es) nowhere
-  term_tree (bare.NewMarkable n es) = Trees.NewMarkable (name_tree n) (terms_tree es) nowhere
-  term_tree (bare.NewArray length) = Trees.NewArray (term_tree length) nowhere
+  pub expression_tree : bare.Expression → Expression
+  expression_tree (bare.Number text) = Trees.Number text nowhere
+  expression_tree bare.True = Trees.True nowhere
+  expression_tree bare.False = Trees.False nowhere
+  expression_tree bare.Null = Trees.Null nowhere
+  expression_tree bare.This = Trees.This nowhere
+  expression_tree (bare.Name n) = Trees.Named (name_tree n)
+  expression_tree (bare.Paren inner) = Trees.Paren (expression_tree inner) nowhere
+  expression_tree (bare.Unary op operand) = Trees.Unary op (expression_tree operand) nowhere
+  expression_tree (bare.Binary op left right) = Trees.Binary op (expression_tree left) (expression_tree right) nowhere
+  expression_tree (bare.Field target n) = Trees.Field (expression_tree target) (name_tree n) nowhere
+  expression_tree (bare.Call n es) = Trees.Call (name_tree n) (expressions_tree es) nowhere
+  expression_tree (bare.CallOn target n es) = Trees.CallOn (expression_tree target) (name_tree n) (expressions_tree es) nowhere
+  expression_tree (bare.Item array index) = Trees.Item (expression_tree array) (expression_tree index) nowhere
+  expression_tree (bare.New n es) = Trees.New (name_tree n) (expressions_tree es) nowhere
+  expression_tree (bare.NewMarkable n es) = Trees.NewMarkable (name_tree n) (expressions_tree es) nowhere
+  expression_tree (bare.NewArray length) = Trees.NewArray (expression_tree length) nowhere
 
-  pub terms_tree : bare.Terms → Expressions
-  terms_tree bare.NoTerm = Trees.End
-  terms_tree (bare.MoreTerms e es) = Trees.More (term_tree e) (terms_tree es)
+  pub expressions_tree : bare.Expressions → Expressions
+  expressions_tree bare.NoExpression = Trees.End
+  expressions_tree (bare.MoreExpressions e es) = Trees.More (expression_tree e) (expressions_tree es)
 
 abbrev pub type_tree : bare.TypeName → TypeName
 type_tree bare.Int = Trees.Int
@@ -39,7 +39,7 @@ type_tree (bare.Class n) = Trees.Class (name_tree n)
 type_tree (bare.Markable n) = Trees.Markable (name_tree n)
 
 abbrev pub declarator_tree : bare.Declarator → Declarator
-declarator_tree d = record { name = name_tree d.name; value = option_map term_tree d.value }
+declarator_tree d = record { name = name_tree d.name; value = option_map expression_tree d.value }
 
 abbrev pub declaration_tree : bare.Declaration → Declaration
 declaration_tree d = record {
@@ -49,22 +49,22 @@ declaration_tree d = record {
 }
 
 abbrev mutual
-  pub action_tree : bare.Action → Statement
-  action_tree (bare.Block is) = Trees.Block (items_tree is)
-  action_tree bare.Empty = Trees.Empty
-  action_tree (bare.If c s) = Trees.If (term_tree c) (action_tree s)
-  action_tree (bare.IfElse c s t) = Trees.IfElse (term_tree c) (action_tree s) (action_tree t)
-  action_tree (bare.While label c s) = Trees.While (option_map name_tree label) (term_tree c) (action_tree s)
-  action_tree (bare.Break label) = Trees.Break (option_map name_tree label) nowhere
-  action_tree (bare.Continue label) = Trees.Continue (option_map name_tree label) nowhere
-  action_tree (bare.Return value) = Trees.Return (option_map term_tree value) nowhere
-  action_tree (bare.Try b f) = Trees.Try (items_tree b) (items_tree f)
-  action_tree (bare.Assign target value) = Trees.Assign (term_tree target) (term_tree value)
-  action_tree (bare.Evaluate e) = Trees.Evaluate (term_tree e)
+  pub statement_tree : bare.Statement → Statement
+  statement_tree (bare.Block is) = Trees.Block (items_tree is)
+  statement_tree bare.Empty = Trees.Empty
+  statement_tree (bare.If c s) = Trees.If (expression_tree c) (statement_tree s)
+  statement_tree (bare.IfElse c s t) = Trees.IfElse (expression_tree c) (statement_tree s) (statement_tree t)
+  statement_tree (bare.While label c s) = Trees.While (option_map name_tree label) (expression_tree c) (statement_tree s)
+  statement_tree (bare.Break label) = Trees.Break (option_map name_tree label) nowhere
+  statement_tree (bare.Continue label) = Trees.Continue (option_map name_tree label) nowhere
+  statement_tree (bare.Return value) = Trees.Return (option_map expression_tree value) nowhere
+  statement_tree (bare.Try b f) = Trees.Try (items_tree b) (items_tree f)
+  statement_tree (bare.Assign target value) = Trees.Assign (expression_tree target) (expression_tree value)
+  statement_tree (bare.Evaluate e) = Trees.Evaluate (expression_tree e)
 
   pub items_tree : bare.Items → Items
   items_tree bare.NoItem = Trees.NoItem
-  items_tree (bare.Do s rest) = Trees.Do (action_tree s) (items_tree rest)
+  items_tree (bare.Do s rest) = Trees.Do (statement_tree s) (items_tree rest)
   items_tree (bare.Declare d rest) = Trees.Declare (declaration_tree d) (items_tree rest)
 
 abbrev pub parameter_tree : bare.Parameter → Parameter

@@ -1,5 +1,4 @@
-pub mod Division
-pub mod Items
+pub mod Digits
 pub mod Named
 pub mod RoundTrip
 pub mod Runs

@@ -10,7 +10,7 @@ use Rattle.std.proofs.lemmas.Option.{slice_get-get_or}
 use Rattle.std.proofs.lemmas.Slice.Eq.{bytes_eq-Decides}
 use Rattle.ls_lexer.specs.Names.{is_name}
 use Rattle.ls_schedule.specs.declared.fault.ScheduleFault.TheVariants as fault
-use Rattle.ls_schedule.specs.Items.{is_gap, items}
+use Rattle.ls_items.specs.Items.{is_gap, items}
 use Rattle.ls_schedule.specs.Reading.{Turns, counted, each, known, parts_of, repeated, steps_of, threads_named, turns_of, within, ◌>>=◌}
 use Rattle.ls_schedule.specs.Printing.{Run, item_text, items_text, more_text, name_of, runs_of, times, with_step}
 use Rattle.ls_schedule.specs.RoundTrip.{AreThreadNames, ReadsBack}

@@ -6,7 +6,7 @@ use Rattle.std.proofs.lemmas.List.{length-append}
 use Rattle.ls_schedule.specs.declared.fault.ScheduleFault.{ScheduleFault}
 use Rattle.ls_schedule.specs.declared.fault.ScheduleFault.TheVariants as fault
 use Rattle.ls_schedule.specs.Answers.{capped, capped_schedule, more_steps}
-use Rattle.ls_schedule.specs.Items.{Item, items}
+use Rattle.ls_items.specs.Items.{Item, items}
 use Rattle.ls_schedule.specs.Reading.{Turns, each, repeated, schedule_of, steps_of, turns_of, within, ◌>>=◌}
 
 -- ---- one more turn, and too many

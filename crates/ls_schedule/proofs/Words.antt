@@ -11,9 +11,9 @@ use Rattle.std.proofs.lemmas.List.Folds.{list_all-append}
 use Rattle.ls_lexer.specs.Characters.{is_letter, is_part, run}
 use Rattle.ls_lexer.specs.Names.{is_identifier, is_name}
 use Rattle.ls_lexer.specs.Words.{reserved_word}
-use Rattle.ls_schedule.specs.Items.{Item, is_gap, items, joined, with_byte}
+use Rattle.ls_items.specs.Items.{Item, is_gap, items, joined, with_byte}
 use Rattle.ls_schedule.specs.Reading.{count_of, is_count, is_digit, parts_of}
-use Rattle.ls_schedule.proofs.Items.{digit_range}
+use Rattle.ls_schedule.proofs.Digits.{digit_range}
 
 -- ---- the bytes of a name
 

@@ -6,7 +6,7 @@ use Rattle.ls_schedule.specs.declared.fault.ScheduleFault.TheVariants as fault
 use Rattle.ls_schedule.specs.declared.reading.Who.{Who}
 use Rattle.ls_schedule.specs.declared.reading.Who.TheVariants as who
 use Rattle.ls_schedule.specs.declared.reading.Said.{Said}
-use Rattle.ls_schedule.specs.Items.{Item, items}
+use Rattle.ls_items.specs.Items.{Item, items}
 use Rattle.ls_schedule.specs.Reading.{Turns, each, repeated, steps_of, turns_of, within, ◌>>=◌}
 
 -- what a function returned, seen by view, is what reading gives, unless memory ran out

@@ -1,5 +1,4 @@
 pub mod Answers
-pub mod Items
 pub mod Printing
 pub mod Reading
 pub mod Records

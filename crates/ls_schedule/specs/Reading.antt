@@ -9,7 +9,7 @@ use Rattle.ls_checked.specs.declared.program.ThreadProgram.{ThreadProgram}
 use Rattle.ls_lexer.specs.Names.{is_name}
 use Rattle.ls_schedule.specs.declared.fault.ScheduleFault.{ScheduleFault}
 use Rattle.ls_schedule.specs.declared.fault.ScheduleFault.TheVariants as fault
-use Rattle.ls_schedule.specs.Items.{Item, items}
+use Rattle.ls_items.specs.Items.{Item, items}
 
 abbrev pub thread_name : ThreadProgram → List ℕ
 thread_name t = string_bytes t.name

@@ -2,7 +2,7 @@
 
 ghost use Rattle.ls_lexer.specs.Names.{is_name};
 ghost use Rattle.ls_schedule.specs.Answers.{Gives, capped_schedule, capped_turns, more_steps, so_far, threads_of, view};
-ghost use Rattle.ls_schedule.specs.Items.{is_gap, items};
+ghost use Rattle.ls_items.specs.Items.{items};
 ghost use Rattle.ls_schedule.specs.Reading.{
   count_of,
   each,
@@ -45,6 +45,7 @@ ghost use Rattle.std.specs.Str.{bytes_eq};
 use crate::fault::ScheduleFault;
 use ls_checked::program::{Program, ThreadProgram};
 use ls_events::schedule::{MOST_STEPS, Schedule};
+use ls_items::item_len;
 use ls_lexer::names::is_name_bytes;
 use std::alloc::{AllocError, Global};
 
@@ -76,12 +77,6 @@ impl Clone for Said {
     }
 }
 
-fn is_gap(b: u8) -> bool
-    ensures { result ≡ is_gap b }
-{
-    b == b' ' || b == b'\t' || b == b'\r' || b == b'\n'
-}
-
 fn is_digit(b: u8) -> bool
     ensures { result ≡ is_digit b }
 {
@@ -100,22 +95,6 @@ fn is_count(text: &[u8]) -> bool
     match text {
         [] => false,
         [first, ..] => *first != b'0' && has_digits(text),
-    }
-}
-
-fn gap_at(text: &[u8]) -> Option<usize>
-    ensures { result ≡ position is_gap text.now }
-{
-    text.iter().position(|b| is_gap(*b))
-}
-
-// How many bytes stand before the first gap.
-fn item_len(text: &[u8]) -> usize
-    ensures { result ≡ unwrap_or (position is_gap text.now) (length text.now) }
-{
-    match gap_at(text) {
-        Some(i) => i,
-        None => text.len(),
     }
 }
 

@@ -125,4 +125,4 @@ no_arguments = (λ h. too_great h.0, λ h. h.0, λ h. h.0, λ h. h.1)
     too_great h = omega (arith, fits_in, h)
 
 pub pairs : Pairs
-pairs = (tt, λ h. h)
+pairs = (refl, λ h. h)

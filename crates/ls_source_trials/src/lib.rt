@@ -2,7 +2,6 @@
 #![tactic(auto)]
 
 #[cfg(test)]
-mod classes;
 #[cfg(test)]
 mod lists;
 #[cfg(test)]

@@ -1,7 +1,7 @@
 // Runs of concurrent sets over lists.
 
-use crate::classes::{COARSE, FINE, LAZY, LOCK_FREE, OPTIMISTIC};
 use crate::runs::{comes_to, holds};
+use ls_stored_classes::{COARSE, FINE, LAZY, LOCK_FREE, OPTIMISTIC};
 use std::test::Fail;
 
 const LISTS: [(&str, &str); 5] = [

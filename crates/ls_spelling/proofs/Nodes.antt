@@ -1,10 +1,10 @@
 -- How many nodes a tree has: the measure of the recursion on expressions and statements.
 use Rattle.std.proofs.Common.{◌≡◌, ℕ, ◌+◌, Option, Some, None, refl}
-use Rattle.ls_tree.specs.Trees.{Text, Term, Number, True, False, Null, This, Name, Paren, Unary, Binary, Field, Call, CallOn, Item, New, NewMarkable, NewArray, Terms, NoTerm, MoreTerms, Action, Block, Empty, If, IfElse, While, Break, Continue, Return, Try, Assign, Evaluate, Items, NoItem, Do, Declare}
+use Rattle.ls_tree.specs.Trees.{Text, Expression, Number, True, False, Null, This, Name, Paren, Unary, Binary, Field, Call, CallOn, Item, New, NewMarkable, NewArray, Expressions, NoExpression, MoreExpressions, Statement, Block, Empty, If, IfElse, While, Break, Continue, Return, Try, Assign, Evaluate, Items, NoItem, Do, Declare}
 use Rattle.ls_tree.specs.Views.{call_of}
 
 abbrev mutual
-  pub nodes : Term → ℕ
+  pub nodes : Expression → ℕ
   nodes (Number text) = 1
   nodes True = 1
   nodes False = 1
@@ -22,38 +22,38 @@ abbrev mutual
   nodes (NewMarkable class arguments) = all_nodes arguments + 1
   nodes (NewArray length) = nodes length + 1
 
-  pub all_nodes : Terms → ℕ
-  all_nodes NoTerm = 0
-  all_nodes (MoreTerms first others) = nodes first + all_nodes others + 1
+  pub all_nodes : Expressions → ℕ
+  all_nodes NoExpression = 0
+  all_nodes (MoreExpressions first others) = nodes first + all_nodes others + 1
 
 -- of a call with a target or none
-abbrev pub call_nodes : Option Term → Terms → ℕ
+abbrev pub call_nodes : Option Expression → Expressions → ℕ
 call_nodes None arguments = all_nodes arguments
 call_nodes (Some target) arguments = nodes target + all_nodes arguments
 
-pub nodes-call_of : (target : Option Term) (name : Text) (arguments : Terms) → nodes (call_of target name arguments) ≡ call_nodes target arguments + 1
+pub nodes-call_of : (target : Option Expression) (name : Text) (arguments : Expressions) → nodes (call_of target name arguments) ≡ call_nodes target arguments + 1
 nodes-call_of None name arguments = refl
 nodes-call_of (Some target) name arguments = refl
 
 abbrev mutual
-  pub action_nodes : Action → ℕ
-  action_nodes (Block items) = items_nodes items + 1
-  action_nodes Empty = 1
-  action_nodes (If condition first) = action_nodes first + 1
-  action_nodes (IfElse condition first second) = action_nodes first + action_nodes second + 1
-  action_nodes (While label condition body) = action_nodes body + 1
-  action_nodes (Break label) = 1
-  action_nodes (Continue label) = 1
-  action_nodes (Return value) = 1
-  action_nodes (Try body finally) = items_nodes body + items_nodes finally + 1
-  action_nodes (Assign target value) = 1
-  action_nodes (Evaluate value) = 1
+  pub statement_nodes : Statement → ℕ
+  statement_nodes (Block items) = items_nodes items + 1
+  statement_nodes Empty = 1
+  statement_nodes (If condition first) = statement_nodes first + 1
+  statement_nodes (IfElse condition first second) = statement_nodes first + statement_nodes second + 1
+  statement_nodes (While label condition body) = statement_nodes body + 1
+  statement_nodes (Break label) = 1
+  statement_nodes (Continue label) = 1
+  statement_nodes (Return value) = 1
+  statement_nodes (Try body finally) = items_nodes body + items_nodes finally + 1
+  statement_nodes (Assign target value) = 1
+  statement_nodes (Evaluate value) = 1
 
   pub items_nodes : Items → ℕ
   items_nodes NoItem = 0
-  items_nodes (Do first others) = action_nodes first + items_nodes others + 1
+  items_nodes (Do first others) = statement_nodes first + items_nodes others + 1
   items_nodes (Declare first others) = items_nodes others + 1
 
-abbrev pub other_nodes : Option Action → ℕ
+abbrev pub other_nodes : Option Statement → ℕ
 other_nodes None = 0
-other_nodes (Some other) = action_nodes other
+other_nodes (Some other) = statement_nodes other

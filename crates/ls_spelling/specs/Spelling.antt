@@ -9,7 +9,7 @@ use Rattle.ls_tree.specs.declared.tree.UnaryOp.{UnaryOp}
 use Rattle.ls_tree.specs.declared.tree.UnaryOp.TheVariants as unary
 use Rattle.ls_tree.specs.declared.tree.BinaryOp.{BinaryOp}
 use Rattle.ls_tree.specs.declared.tree.BinaryOp.TheVariants as binary
-use Rattle.ls_tree.specs.Trees.{Text, Term, Number, True, False, Null, This, Name, Paren, Unary, Binary, Field, Call, CallOn, Item, New, NewMarkable, NewArray, Terms, NoTerm, MoreTerms, Modifier, Public, Protected, Private, Final, Volatile, Annotation, TypeName, Int, Boolean, BooleanArray, Class, Markable, Declarator, Declaration, Action, Block, Empty, If, IfElse, While, Break, Continue, Return, Try, Assign, Evaluate, Items, NoItem, Do, Declare, Piece, Doing, Declaring, Parameter, Member, Fields, Method, Constructor, ClassTree, Dotted, Import, File}
+use Rattle.ls_tree.specs.Trees.{Text, Expression, Number, True, False, Null, This, Name, Paren, Unary, Binary, Field, Call, CallOn, Item, New, NewMarkable, NewArray, Expressions, NoExpression, MoreExpressions, Modifier, Public, Protected, Private, Final, Volatile, Annotation, TypeName, Int, Boolean, BooleanArray, Class, Markable, Declarator, Declaration, Statement, Block, Empty, If, IfElse, While, Break, Continue, Return, Try, Assign, Evaluate, Items, NoItem, Do, Declare, Piece, Doing, Declaring, Parameter, Member, Fields, Method, Constructor, ClassTree, Dotted, Import, File}
 
 abbrev pub sign_of_unary : UnaryOp → Sign
 sign_of_unary unary.Minus = signs.Minus
@@ -42,32 +42,32 @@ abbrev pub markable : Text → List Lexeme
 markable name = Named (codes "AtomicMarkableReference") ∷ Marked signs.Less ∷ Named name ∷ Marked signs.Greater ∷ []
 
 abbrev mutual
-  pub spell_term : Term → List Lexeme
-  spell_term (Number text) = Numeral text ∷ []
-  spell_term True = Reserved words.True ∷ []
-  spell_term False = Reserved words.False ∷ []
-  spell_term Null = Reserved words.Null ∷ []
-  spell_term This = Reserved words.This ∷ []
-  spell_term (Name text) = Named text ∷ []
-  spell_term (Paren inner) = in_parens (spell_term inner)
-  spell_term (Unary op operand) = Marked (sign_of_unary op) ∷ spell_term operand
-  spell_term (Binary op left right) = spell_term left ++ Marked (sign_of op) ∷ spell_term right
-  spell_term (Field target name) = spell_term target ++ Marked signs.Dot ∷ Named name ∷ []
-  spell_term (Call name arguments) = Named name ∷ in_parens (spell_terms arguments)
-  spell_term (CallOn target name arguments) = spell_term target ++ Marked signs.Dot ∷ Named name ∷ in_parens (spell_terms arguments)
-  spell_term (Item array index) = spell_term array ++ Marked signs.OpenBracket ∷ (spell_term index ++ Marked signs.CloseBracket ∷ [])
-  spell_term (New class arguments) = Reserved words.New ∷ Named class ∷ in_parens (spell_terms arguments)
-  spell_term (NewMarkable class arguments) = Reserved words.New ∷ (markable class ++ in_parens (spell_terms arguments))
-  spell_term (NewArray length) = Reserved words.New ∷ Reserved words.Boolean ∷ Marked signs.OpenBracket ∷ (spell_term length ++ Marked signs.CloseBracket ∷ [])
+  pub spell_expression : Expression → List Lexeme
+  spell_expression (Number text) = Numeral text ∷ []
+  spell_expression True = Reserved words.True ∷ []
+  spell_expression False = Reserved words.False ∷ []
+  spell_expression Null = Reserved words.Null ∷ []
+  spell_expression This = Reserved words.This ∷ []
+  spell_expression (Name text) = Named text ∷ []
+  spell_expression (Paren inner) = in_parens (spell_expression inner)
+  spell_expression (Unary op operand) = Marked (sign_of_unary op) ∷ spell_expression operand
+  spell_expression (Binary op left right) = spell_expression left ++ Marked (sign_of op) ∷ spell_expression right
+  spell_expression (Field target name) = spell_expression target ++ Marked signs.Dot ∷ Named name ∷ []
+  spell_expression (Call name arguments) = Named name ∷ in_parens (spell_expressions arguments)
+  spell_expression (CallOn target name arguments) = spell_expression target ++ Marked signs.Dot ∷ Named name ∷ in_parens (spell_expressions arguments)
+  spell_expression (Item array index) = spell_expression array ++ Marked signs.OpenBracket ∷ (spell_expression index ++ Marked signs.CloseBracket ∷ [])
+  spell_expression (New class arguments) = Reserved words.New ∷ Named class ∷ in_parens (spell_expressions arguments)
+  spell_expression (NewMarkable class arguments) = Reserved words.New ∷ (markable class ++ in_parens (spell_expressions arguments))
+  spell_expression (NewArray length) = Reserved words.New ∷ Reserved words.Boolean ∷ Marked signs.OpenBracket ∷ (spell_expression length ++ Marked signs.CloseBracket ∷ [])
 
-  pub spell_terms : Terms → List Lexeme
-  spell_terms NoTerm = []
-  spell_terms (MoreTerms first others) = spell_term first ++ spell_others others
+  pub spell_expressions : Expressions → List Lexeme
+  spell_expressions NoExpression = []
+  spell_expressions (MoreExpressions first others) = spell_expression first ++ spell_others others
 
   -- those behind the first, each behind a comma
-  pub spell_others : Terms → List Lexeme
-  spell_others NoTerm = []
-  spell_others (MoreTerms first others) = Marked signs.Comma ∷ (spell_term first ++ spell_others others)
+  pub spell_others : Expressions → List Lexeme
+  spell_others NoExpression = []
+  spell_others (MoreExpressions first others) = Marked signs.Comma ∷ (spell_expression first ++ spell_others others)
 
 abbrev pub spell_modifier : Modifier → List Lexeme
 spell_modifier Public = Reserved words.Public ∷ []
@@ -84,9 +84,9 @@ spell_type BooleanArray = Reserved words.Boolean ∷ Marked signs.OpenBracket �
 spell_type (Class name) = Named name ∷ []
 spell_type (Markable name) = markable name
 
-abbrev pub spell_initial : Option Term → List Lexeme
+abbrev pub spell_initial : Option Expression → List Lexeme
 spell_initial None = []
-spell_initial (Some value) = Marked signs.Assign ∷ spell_term value
+spell_initial (Some value) = Marked signs.Assign ∷ spell_expression value
 
 abbrev pub spell_declarator : Declarator → List Lexeme
 spell_declarator d = Named d.name ∷ spell_initial d.value
@@ -104,31 +104,31 @@ abbrev pub spell_label_before : Option Text → List Lexeme
 spell_label_before None = []
 spell_label_before (Some name) = Named name ∷ Marked signs.Colon ∷ []
 
-abbrev pub spell_value : Option Term → List Lexeme
+abbrev pub spell_value : Option Expression → List Lexeme
 spell_value None = []
-spell_value (Some value) = spell_term value
+spell_value (Some value) = spell_expression value
 
 abbrev mutual
-  pub spell_action : Action → List Lexeme
-  spell_action (Block items) = in_braces (spell_items items)
-  spell_action Empty = Marked signs.Semicolon ∷ []
-  spell_action (If condition first) = Reserved words.If ∷ (in_parens (spell_term condition) ++ spell_action first)
-  spell_action (IfElse condition first second) = Reserved words.If ∷ (in_parens (spell_term condition) ++ spell_action first ++ Reserved words.Else ∷ spell_action second)
-  spell_action (While label condition body) = spell_label_before label ++ Reserved words.While ∷ (in_parens (spell_term condition) ++ spell_action body)
-  spell_action (Break label) = Reserved words.Break ∷ (spell_label label ++ Marked signs.Semicolon ∷ [])
-  spell_action (Continue label) = Reserved words.Continue ∷ (spell_label label ++ Marked signs.Semicolon ∷ [])
-  spell_action (Return value) = Reserved words.Return ∷ (spell_value value ++ Marked signs.Semicolon ∷ [])
-  spell_action (Try body finally) = Reserved words.Try ∷ (in_braces (spell_items body) ++ Reserved words.Finally ∷ in_braces (spell_items finally))
-  spell_action (Assign target value) = spell_term target ++ Marked signs.Assign ∷ (spell_term value ++ Marked signs.Semicolon ∷ [])
-  spell_action (Evaluate value) = spell_term value ++ Marked signs.Semicolon ∷ []
+  pub spell_statement : Statement → List Lexeme
+  spell_statement (Block items) = in_braces (spell_items items)
+  spell_statement Empty = Marked signs.Semicolon ∷ []
+  spell_statement (If condition first) = Reserved words.If ∷ (in_parens (spell_expression condition) ++ spell_statement first)
+  spell_statement (IfElse condition first second) = Reserved words.If ∷ (in_parens (spell_expression condition) ++ spell_statement first ++ Reserved words.Else ∷ spell_statement second)
+  spell_statement (While label condition body) = spell_label_before label ++ Reserved words.While ∷ (in_parens (spell_expression condition) ++ spell_statement body)
+  spell_statement (Break label) = Reserved words.Break ∷ (spell_label label ++ Marked signs.Semicolon ∷ [])
+  spell_statement (Continue label) = Reserved words.Continue ∷ (spell_label label ++ Marked signs.Semicolon ∷ [])
+  spell_statement (Return value) = Reserved words.Return ∷ (spell_value value ++ Marked signs.Semicolon ∷ [])
+  spell_statement (Try body finally) = Reserved words.Try ∷ (in_braces (spell_items body) ++ Reserved words.Finally ∷ in_braces (spell_items finally))
+  spell_statement (Assign target value) = spell_expression target ++ Marked signs.Assign ∷ (spell_expression value ++ Marked signs.Semicolon ∷ [])
+  spell_statement (Evaluate value) = spell_expression value ++ Marked signs.Semicolon ∷ []
 
   pub spell_items : Items → List Lexeme
   spell_items NoItem = []
-  spell_items (Do first others) = spell_action first ++ spell_items others
+  spell_items (Do first others) = spell_statement first ++ spell_items others
   spell_items (Declare first others) = spell_declaration first ++ spell_items others
 
 abbrev pub spell_piece : Piece → List Lexeme
-spell_piece (Doing action) = spell_action action
+spell_piece (Doing statement) = spell_statement statement
 spell_piece (Declaring declaration) = spell_declaration declaration
 
 abbrev pub spell_parameter : Parameter → List Lexeme

@@ -8,8 +8,8 @@ ghost use Rattle.ls_spelling.specs.Kinds.{lexemes_of};
 ghost use Rattle.ls_tree.specs.Views.{bare, bare_modifier, bare_type, bare_declarator, bare_declaration};
 ghost use Rattle.ls_spelling.specs.Spelling.{spell_modifier, spell_type, spell_initial, spell_declarator, spell_declaration};
 
+use crate::expressions::{put_expression, put_markable};
 use crate::kinds::{put_name, put_sign, put_word};
-use crate::terms::{put_markable, put_term};
 use ls_lexer::sign::Sign;
 use ls_lexer::token::TokenKind;
 use ls_lexer::word::Word;
@@ -66,7 +66,7 @@ fn put_initial<'a>(out: &mut Vec<TokenKind<'a>>, value: &'a Option<Expr>) -> Res
     match value {
         Some(value) => {
             put_sign(out, Sign::Assign)?;
-            put_term(out, value)
+            put_expression(out, value)
         }
         None => Ok(()),
     }

@@ -3,9 +3,9 @@
 
 mod classes;
 mod declarations;
+mod expressions;
 mod kinds;
 pub mod spelling;
 mod statements;
-mod terms;
 
 pub use crate::spelling::spell;

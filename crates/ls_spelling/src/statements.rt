@@ -7,11 +7,11 @@ ghost use Rattle.ls_lexer.specs.declared.word.Word.TheVariants as words;
 ghost use Rattle.ls_spelling.specs.Kinds.{lexemes_of};
 ghost use Rattle.ls_tree.specs.Trees.{While as while_loop, Try as try_finally};
 ghost use Rattle.ls_tree.specs.Views.{name_text, bare, bare_statement, bare_other, bare_piece, if_of, items_of};
-ghost use Rattle.ls_spelling.specs.Spelling.{in_parens, in_braces, spell_term, spell_label, spell_label_before, spell_value, spell_action, spell_items, spell_piece};
+ghost use Rattle.ls_spelling.specs.Spelling.{in_parens, in_braces, spell_expression, spell_label, spell_label_before, spell_value, spell_statement, spell_items, spell_piece};
 
 use crate::declarations::put_declaration;
+use crate::expressions::{put_expression, put_value};
 use crate::kinds::{put_name, put_sign, put_word};
-use crate::terms::{put_term, put_value};
 use ls_lexer::sign::Sign;
 use ls_lexer::token::TokenKind;
 use ls_lexer::word::Word;
@@ -19,10 +19,10 @@ use ls_tree::tree::{BlockItem, Expr, Name, Statement};
 use std::alloc::AllocError;
 
 fn put_condition<'a>(out: &mut Vec<TokenKind<'a>>, condition: &'a Expr) -> Result<(), AllocError>
-    ensures { OnOk result (lexemes_of out.new.items ≡ lexemes_of out.old.items ++ in_parens (spell_term (bare condition.now))) }
+    ensures { OnOk result (lexemes_of out.new.items ≡ lexemes_of out.old.items ++ in_parens (spell_expression (bare condition.now))) }
 {
     put_sign(out, Sign::OpenParen)?;
-    put_term(out, condition)?;
+    put_expression(out, condition)?;
     put_sign(out, Sign::CloseParen)
 }
 
@@ -76,17 +76,17 @@ fn put_assignment<'a>(
     target: &'a Expr,
     value: &'a Expr,
 ) -> Result<(), AllocError>
-    ensures { OnOk result (lexemes_of out.new.items ≡ lexemes_of out.old.items ++ (spell_term (bare target.now) ++ Marked signs.Assign ∷ (spell_term (bare value.now) ++ Marked signs.Semicolon ∷ []))) }
+    ensures { OnOk result (lexemes_of out.new.items ≡ lexemes_of out.old.items ++ (spell_expression (bare target.now) ++ Marked signs.Assign ∷ (spell_expression (bare value.now) ++ Marked signs.Semicolon ∷ []))) }
 {
-    put_term(out, target)?;
+    put_expression(out, target)?;
     put_sign(out, Sign::Assign)?;
-    put_term(out, value)?;
+    put_expression(out, value)?;
     put_sign(out, Sign::Semicolon)
 }
 
 #[cycle(statements)]
 fn put_statement<'a>(out: &mut Vec<TokenKind<'a>>, s: &'a Statement) -> Result<(), AllocError>
-    ensures { OnOk result (lexemes_of out.new.items ≡ lexemes_of out.old.items ++ spell_action (bare_statement s.now)) }
+    ensures { OnOk result (lexemes_of out.new.items ≡ lexemes_of out.old.items ++ spell_statement (bare_statement s.now)) }
 {
     match s {
         Statement::Block(block) => {
@@ -118,7 +118,7 @@ fn put_statement<'a>(out: &mut Vec<TokenKind<'a>>, s: &'a Statement) -> Result<(
         }
         Statement::Assign { target, value, .. } => put_assignment(out, target, value),
         Statement::Expression { value, .. } => {
-            put_term(out, value)?;
+            put_expression(out, value)?;
             put_sign(out, Sign::Semicolon)
         }
     }
@@ -131,7 +131,7 @@ fn put_if<'a>(
     then: &'a Statement,
     otherwise: &'a Option<Box<Statement>>,
 ) -> Result<(), AllocError>
-    ensures { OnOk result (lexemes_of out.new.items ≡ lexemes_of out.old.items ++ spell_action (if_of (bare condition.now) (bare_statement then.now) (bare_other otherwise.now))) }
+    ensures { OnOk result (lexemes_of out.new.items ≡ lexemes_of out.old.items ++ spell_statement (if_of (bare condition.now) (bare_statement then.now) (bare_other otherwise.now))) }
 {
     put_word(out, Word::If)?;
     put_condition(out, condition)?;
@@ -150,7 +150,7 @@ fn put_while<'a>(
     condition: &'a Expr,
     body: &'a Statement,
 ) -> Result<(), AllocError>
-    ensures { OnOk result (lexemes_of out.new.items ≡ lexemes_of out.old.items ++ spell_action (while_loop (option_map name_text label.now) (bare condition.now) (bare_statement body.now))) }
+    ensures { OnOk result (lexemes_of out.new.items ≡ lexemes_of out.old.items ++ spell_statement (while_loop (option_map name_text label.now) (bare condition.now) (bare_statement body.now))) }
 {
     put_label_before(out, label)?;
     put_word(out, Word::While)?;
@@ -164,7 +164,7 @@ fn put_try<'a>(
     body: &'a [BlockItem],
     finally: &'a [BlockItem],
 ) -> Result<(), AllocError>
-    ensures { OnOk result (lexemes_of out.new.items ≡ lexemes_of out.old.items ++ spell_action (try_finally (items_of body.now) (items_of finally.now))) }
+    ensures { OnOk result (lexemes_of out.new.items ≡ lexemes_of out.old.items ++ spell_statement (try_finally (items_of body.now) (items_of finally.now))) }
 {
     put_word(out, Word::Try)?;
     put_block(out, body)?;

@@ -1,8 +1,8 @@
-pub mod OntoActions
+pub mod OntoStatements
 pub mod StatementRows
 pub mod StatementSteps
-pub mod ActionsRead
-pub mod ActionsAgain
+pub mod StatementsRead
+pub mod StatementsAgain
 pub mod Steps
 pub mod PlacedRows
 pub mod Places

@@ -1,1 +1,1 @@
-pub mod ReadingActions
+pub mod ReadingStatements

@@ -14,15 +14,15 @@ ghost use Rattle.ls_spelling.specs.Places.{Spot, spot, spots};
 ghost use Rattle.ls_spelling.specs.StatementPlaces.{word, ManyAt, BehindComma, ModifierAt, TypeAt, DeclaratorAt, DeclaratorsAt, DeclarationAt};
 ghost use Rattle.ls_terms.specs.Answers.{Gives, Finds};
 ghost use Rattle.ls_terms.specs.Reading.{one_more, behind_comma, many_at, not_yet};
-ghost use Rattle.ls_terms.specs.ReadingTerms.{term_at};
-ghost use Rattle.ls_statements.specs.ReadingActions.{modifier_of_word, modifier_word_at, starts_modifier, modifier_at, modifiers_at, boolean_at, named_type_at, type_at, declarator_at, more_declarators_at, declarator_list_at, declarators_at, declaration_at, starts_type, named_declaration, starts_declaration};
+ghost use Rattle.ls_terms.specs.ReadingExpressions.{expression_at};
+ghost use Rattle.ls_statements.specs.ReadingStatements.{modifier_of_word, modifier_word_at, starts_modifier, modifier_at, modifiers_at, boolean_at, named_type_at, type_at, declarator_at, more_declarators_at, declarator_list_at, declarators_at, declaration_at, starts_type, named_declaration, starts_declaration};
 
 use ls_lexer::fault::TextFault;
 use ls_lexer::sign::Sign;
 use ls_lexer::token::{Span, Token, TokenKind};
 use ls_lexer::word::Word;
+use ls_terms::expressions::binary;
 use ls_terms::primaries::{class_name, is_markable};
-use ls_terms::terms::binary;
 use ls_terms::tokens::{
     Context, NamePart, Part, Read, closed_part, expect, expect_word, make_name, name, name_part,
     push, sign_part, span_to, starts_with, word_part,
@@ -190,7 +190,7 @@ fn declarator<'t, 'a>(
     tokens: &'t [Token<'a>],
     limit: usize,
 ) -> Result<Part<'t, 'a, Declarator>, TextFault>
-    ensures read { Gives (λ d. (bare_declarator d.tree, lexemes d.rest.now)) result (declarator_at (term_at limit) (lexemes tokens.now)) }
+    ensures read { Gives (λ d. (bare_declarator d.tree, lexemes d.rest.now)) result (declarator_at (expression_at limit) (lexemes tokens.now)) }
     ensures places { IfOk result (λ d. DeclaratorAt (placed_declarator d.tree) (spots tokens.now) (spots d.rest.now)) }
     ensures height { IfOk result (λ d. (d.height ≡ value_height ((bare_declarator d.tree).value)) × (d.height ≤ limit)) }
 {
@@ -224,7 +224,7 @@ fn more_declarators<'t, 'a>(
     tokens: &'t [Token<'a>],
     limit: usize,
 ) -> Result<Part<'t, 'a, Vec<Declarator>>, TextFault>
-    ensures read { Gives (λ d. (map bare_declarator d.tree.items, lexemes d.rest.now)) result (many_at (not_yet signs.Semicolon) (behind_comma (declarator_at (term_at limit))) (lexemes tokens.now)) }
+    ensures read { Gives (λ d. (map bare_declarator d.tree.items, lexemes d.rest.now)) result (many_at (not_yet signs.Semicolon) (behind_comma (declarator_at (expression_at limit))) (lexemes tokens.now)) }
     ensures places { IfOk result (λ d. ManyAt (BehindComma DeclaratorAt) (map placed_declarator d.tree.items) (spots tokens.now) (spots d.rest.now)) }
     ensures height { IfOk result (λ d. (d.height ≡ declarators_height (map bare_declarator d.tree.items)) × (d.height ≤ limit)) }
 {
@@ -246,7 +246,7 @@ fn one_declarator<'t, 'a>(
     limit: usize,
 ) -> Result<Part<'t, 'a, Vec<Declarator>>, TextFault>
     requires height { (before.height ≡ declarators_height (map bare_declarator before.tree.items)) × (before.height ≤ limit) }
-    ensures read { Gives (λ d. (map bare_declarator d.tree.items, lexemes d.rest.now)) result (one_more (behind_comma (declarator_at (term_at limit))) (map bare_declarator before.entry.tree.items) (lexemes before.entry.rest.now)) }
+    ensures read { Gives (λ d. (map bare_declarator d.tree.items, lexemes d.rest.now)) result (one_more (behind_comma (declarator_at (expression_at limit))) (map bare_declarator before.entry.tree.items) (lexemes before.entry.rest.now)) }
     ensures places { IfOk result (λ d. (ss : List Spot) → ManyAt (BehindComma DeclaratorAt) (map placed_declarator before.entry.tree.items) ss (spots before.entry.rest.now) → ManyAt (BehindComma DeclaratorAt) (map placed_declarator d.tree.items) ss (spots d.rest.now)) }
     ensures height { IfOk result (λ d. (d.height ≡ declarators_height (map bare_declarator d.tree.items)) × (d.height ≤ limit)) }
 {
@@ -268,7 +268,7 @@ fn with_declarators<'t, 'a, T: Drop>(
     limit: usize,
 ) -> Result<Part<'t, 'a, (T, Vec<Declarator>)>, TextFault>
     requires { held.height ≤ limit }
-    ensures read { Gives (λ d. (map bare_declarator d.tree.1.items, lexemes d.rest.now)) result (more_declarators_at (term_at limit) (lexemes held.entry.rest.now)) }
+    ensures read { Gives (λ d. (map bare_declarator d.tree.1.items, lexemes d.rest.now)) result (more_declarators_at (expression_at limit) (lexemes held.entry.rest.now)) }
     ensures places { IfOk result (λ d. (first : placed_trees.Declarator) (ss : List Spot) → DeclaratorAt first ss (spots held.entry.rest.now) → DeclaratorsAt first (map placed_declarator d.tree.1.items) ss (spots d.rest.now)) }
     ensures held { IfOk result (λ d. d.tree.0 ≡ held.entry.tree) }
     ensures height { IfOk result (λ d. (d.height ≡ max held.entry.height (declarators_height (map bare_declarator d.tree.1.items))) × (d.height ≤ limit)) }
@@ -288,7 +288,7 @@ fn declarator_list<'t, 'a>(
     tokens: &'t [Token<'a>],
     limit: usize,
 ) -> Result<Part<'t, 'a, (Declarator, Vec<Declarator>)>, TextFault>
-    ensures read { Gives (λ d. ((bare_declarator d.tree.0, map bare_declarator d.tree.1.items), lexemes d.rest.now)) result (declarator_list_at (term_at limit) (lexemes tokens.now)) }
+    ensures read { Gives (λ d. ((bare_declarator d.tree.0, map bare_declarator d.tree.1.items), lexemes d.rest.now)) result (declarator_list_at (expression_at limit) (lexemes tokens.now)) }
     ensures places { IfOk result (λ d. DeclaratorsAt (placed_declarator d.tree.0) (map placed_declarator d.tree.1.items) (spots tokens.now) (spots d.rest.now)) }
     ensures height { IfOk result (λ d. (d.height ≡ max (value_height ((bare_declarator d.tree.0).value)) (declarators_height (map bare_declarator d.tree.1.items))) × (d.height ≤ limit)) }
 {
@@ -307,7 +307,7 @@ pub fn declarators<'t, 'a>(
     tokens: &'t [Token<'a>],
     limit: usize,
 ) -> Result<Part<'t, 'a, Declaration>, TextFault>
-    ensures read { Gives (λ d. (bare_declaration d.tree, lexemes d.rest.now)) result (declarators_at (term_at limit) (map bare_modifier modifiers.items) (bare_type type_name) (lexemes tokens.now)) }
+    ensures read { Gives (λ d. (bare_declaration d.tree, lexemes d.rest.now)) result (declarators_at (expression_at limit) (map bare_modifier modifiers.items) (bare_type type_name) (lexemes tokens.now)) }
     ensures places { IfOk result (λ d. (ms : List trees.Modifier) (ss middle : List Spot) → ManyAt ModifierAt ms ss middle → TypeAt (placed_type type_name) middle (spots tokens.now) → DeclarationAt (placed_declaration d.tree) ss (spots d.rest.now)) }
     ensures height { IfOk result (λ d. (d.height ≡ max (value_height ((bare_declaration d.tree).first.value)) (declarators_height ((bare_declaration d.tree).more))) × (d.height ≤ limit)) }
 {
@@ -330,7 +330,7 @@ pub fn declaration<'t, 'a>(
     tokens: &'t [Token<'a>],
     limit: usize,
 ) -> Result<Part<'t, 'a, Declaration>, TextFault>
-    ensures read { Gives (λ d. (bare_declaration d.tree, lexemes d.rest.now)) result (declaration_at (term_at limit) (lexemes tokens.now)) }
+    ensures read { Gives (λ d. (bare_declaration d.tree, lexemes d.rest.now)) result (declaration_at (expression_at limit) (lexemes tokens.now)) }
     ensures places { IfOk result (λ d. DeclarationAt (placed_declaration d.tree) (spots tokens.now) (spots d.rest.now)) }
     ensures height { IfOk result (λ d. (d.height ≡ max (value_height ((bare_declaration d.tree).first.value)) (declarators_height ((bare_declaration d.tree).more))) × (d.height ≤ limit)) }
 {

@@ -6,7 +6,7 @@ ghost use Rattle.ls_lexer.specs.declared.word.Word.TheVariants as words;
 ghost use Rattle.ls_lexer.specs.Lexemes.{lexemes};
 ghost use Rattle.ls_lexer.specs.declared.sign.Sign.TheVariants as signs;
 ghost use Rattle.ls_tree.specs.Trees as trees;
-ghost use Rattle.ls_tree.specs.WellFormed.{term_height, action_height, piece_height, is_call};
+ghost use Rattle.ls_tree.specs.WellFormed.{expression_height, statement_height, piece_height, is_call};
 ghost use Rattle.ls_tree.specs.Views.{name_text, bare, bare_statement, bare_piece, bare_block};
 ghost use Rattle.ls_tree.specs.PlacedTrees as placed_trees;
 ghost use Rattle.ls_tree.specs.Placed.{placed, placed_name};
@@ -14,15 +14,15 @@ ghost use Rattle.ls_tree.specs.PlacedStatements.{placed_statement, placed_before
 ghost use Rattle.ls_spelling.specs.Places.{Spot, spot, sign, spots, At};
 ghost use Rattle.ls_spelling.specs.StatementPlaces.{word, ConditionAt, JumpAt, StatementAt, ItemsAt};
 ghost use Rattle.ls_terms.specs.Answers.{Gives, Finds};
-ghost use Rattle.ls_terms.specs.ReadingTerms.{term_at};
-ghost use Rattle.ls_statements.specs.ReadingActions.{local_at, condition_at, jump_at, ended_at, label_at, used_at, declared_at, break_at, continue_at, return_at};
+ghost use Rattle.ls_terms.specs.ReadingExpressions.{expression_at};
+ghost use Rattle.ls_statements.specs.ReadingStatements.{local_at, condition_at, jump_at, ended_at, label_at, used_at, declared_at, break_at, continue_at, return_at};
 
 use crate::declarations::declaration;
 use ls_lexer::fault::TextFault;
 use ls_lexer::sign::Sign;
 use ls_lexer::token::{Span, Token};
 use ls_lexer::word::Word;
-use ls_terms::terms::binary;
+use ls_terms::expressions::binary;
 use ls_terms::tokens::{
     Context, Enclosed, NamePart, Part, closed_part, expect, make_name, name_part, sign_part,
     syntax, too_deep, upto,
@@ -57,9 +57,9 @@ pub fn condition<'t, 'a>(
     tokens: &'t [Token<'a>],
     limit: usize,
 ) -> Result<Enclosed<'t, 'a, Expr>, TextFault>
-    ensures read { Gives (λ p. (bare p.tree, lexemes p.rest.now)) result (condition_at (term_at limit) (lexemes tokens.now)) }
+    ensures read { Gives (λ p. (bare p.tree, lexemes p.rest.now)) result (condition_at (expression_at limit) (lexemes tokens.now)) }
     ensures places { IfOk result (λ p. ConditionAt (placed p.tree) (spots tokens.now) (spots p.rest.now)) }
-    ensures height { IfOk result (λ p. (p.height ≡ term_height (bare p.tree)) × (p.height ≤ limit)) }
+    ensures height { IfOk result (λ p. (p.height ≡ expression_height (bare p.tree)) × (p.height ≤ limit)) }
 {
     let open = expect(context, tokens, Sign::OpenParen)?;
     let condition = binary(context, open.rest, 6, limit)?;
@@ -112,7 +112,7 @@ pub fn break_statement<'t, 'a>(
 ) -> Result<Part<'t, 'a, Statement>, TextFault>
     ensures read { Gives (λ p. (bare_statement p.tree, lexemes p.rest.now)) result (break_at (lexemes tokens.now)) }
     ensures places { IfOk result (λ p. StatementAt (placed_statement p.tree) (word words.Break start ∷ spots tokens.now) (spots p.rest.now)) }
-    ensures height { IfOk result (λ p. (p.height ≡ action_height (bare_statement p.tree)) × (p.height ≡ 1)) }
+    ensures height { IfOk result (λ p. (p.height ≡ statement_height (bare_statement p.tree)) × (p.height ≡ 1)) }
 {
     let jump = jump_part(context, tokens)?;
     Ok(Part {
@@ -133,7 +133,7 @@ pub fn continue_statement<'t, 'a>(
 ) -> Result<Part<'t, 'a, Statement>, TextFault>
     ensures read { Gives (λ p. (bare_statement p.tree, lexemes p.rest.now)) result (continue_at (lexemes tokens.now)) }
     ensures places { IfOk result (λ p. StatementAt (placed_statement p.tree) (word words.Continue start ∷ spots tokens.now) (spots p.rest.now)) }
-    ensures height { IfOk result (λ p. (p.height ≡ action_height (bare_statement p.tree)) × (p.height ≡ 1)) }
+    ensures height { IfOk result (λ p. (p.height ≡ statement_height (bare_statement p.tree)) × (p.height ≡ 1)) }
 {
     let jump = jump_part(context, tokens)?;
     Ok(Part {
@@ -152,9 +152,9 @@ fn ended<'t, 'a>(
     tokens: &'t [Token<'a>],
     limit: usize,
 ) -> Result<Enclosed<'t, 'a, Expr>, TextFault>
-    ensures read { Gives (λ p. (bare p.tree, lexemes p.rest.now)) result (ended_at (term_at limit) (lexemes tokens.now)) }
+    ensures read { Gives (λ p. (bare p.tree, lexemes p.rest.now)) result (ended_at (expression_at limit) (lexemes tokens.now)) }
     ensures places { IfOk result (λ p. At (placed p.tree) (spots tokens.now) (sign signs.Semicolon p.end ∷ spots p.rest.now)) }
-    ensures height { IfOk result (λ p. (p.height ≡ term_height (bare p.tree)) × (p.height ≤ limit)) }
+    ensures height { IfOk result (λ p. (p.height ≡ expression_height (bare p.tree)) × (p.height ≤ limit)) }
 {
     let value = binary(context, tokens, 6, limit)?;
     closed_part(context, value, Sign::Semicolon)
@@ -168,9 +168,9 @@ pub fn return_statement<'t, 'a>(
     limit: usize,
 ) -> Result<Part<'t, 'a, Statement>, TextFault>
     requires { limit + 1 < 2 ^ 64 }
-    ensures read { Gives (λ p. (bare_statement p.tree, lexemes p.rest.now)) result (return_at (term_at limit) (lexemes tokens.now)) }
+    ensures read { Gives (λ p. (bare_statement p.tree, lexemes p.rest.now)) result (return_at (expression_at limit) (lexemes tokens.now)) }
     ensures places { IfOk result (λ p. StatementAt (placed_statement p.tree) (word words.Return start ∷ spots tokens.now) (spots p.rest.now)) }
-    ensures height { IfOk result (λ p. (p.height ≡ action_height (bare_statement p.tree)) × (p.height ≤ limit + 1)) }
+    ensures height { IfOk result (λ p. (p.height ≡ statement_height (bare_statement p.tree)) × (p.height ≤ limit + 1)) }
 {
     if let Some(end) = sign_part(tokens, Sign::Semicolon) {
         return Ok(Part {
@@ -242,10 +242,10 @@ pub fn used<'t, 'a>(
     limit: usize,
 ) -> Result<Part<'t, 'a, Statement>, TextFault>
     requires limit { limit + 1 < 2 ^ 64 }
-    requires height { (target.height ≡ term_height (bare target.tree)) × (target.height ≤ limit) }
-    ensures read { Gives (λ p. (bare_statement p.tree, lexemes p.rest.now)) result (used_at (term_at limit) (bare target.entry.tree) (lexemes target.entry.rest.now)) }
+    requires height { (target.height ≡ expression_height (bare target.tree)) × (target.height ≤ limit) }
+    ensures read { Gives (λ p. (bare_statement p.tree, lexemes p.rest.now)) result (used_at (expression_at limit) (bare target.entry.tree) (lexemes target.entry.rest.now)) }
     ensures places { IfOk result (λ p. (ss : List Spot) → At (placed target.entry.tree) ss (spots target.entry.rest.now) → StatementAt (placed_statement p.tree) ss (spots p.rest.now)) }
-    ensures height { IfOk result (λ p. (p.height ≡ action_height (bare_statement p.tree)) × (p.height ≤ limit + 1)) }
+    ensures height { IfOk result (λ p. (p.height ≡ statement_height (bare_statement p.tree)) × (p.height ≤ limit + 1)) }
 {
     let start = target.tree.span();
     if let Some(assign) = sign_part(target.rest, Sign::Assign) {

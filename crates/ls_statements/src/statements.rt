@@ -5,7 +5,7 @@ ghost use Rattle.ls_lexer.specs.declared.word.Word.TheVariants as words;
 ghost use Rattle.ls_lexer.specs.Lexemes.{lexeme_of, lexemes};
 ghost use Rattle.ls_lexer.specs.declared.sign.Sign.TheVariants as signs;
 ghost use Rattle.ls_tree.specs.Trees as trees;
-ghost use Rattle.ls_tree.specs.WellFormed.{action_height, items_height, piece_height};
+ghost use Rattle.ls_tree.specs.WellFormed.{statement_height, items_height, piece_height};
 ghost use Rattle.ls_tree.specs.Views.{name_text, bare_statement, bare_piece, items_of, bare_block};
 ghost use Rattle.ls_tree.specs.PlacedTrees as placed_trees;
 ghost use Rattle.ls_tree.specs.Placed.{placed_name};
@@ -14,8 +14,8 @@ ghost use Rattle.ls_spelling.specs.Places.{Spot, spot, spots};
 ghost use Rattle.ls_spelling.specs.StatementPlaces.{word, LabelAt, StatementAt, BlockAt, ItemsAt};
 ghost use Rattle.ls_terms.specs.Answers.{Gives};
 ghost use Rattle.ls_terms.specs.Reading.{one_more, many_at, not_yet};
-ghost use Rattle.ls_terms.specs.ReadingTerms.{term_at, post_at};
-ghost use Rattle.ls_statements.specs.ReadingActions.{piece_at, local_at, if_at, while_at, try_at, other_at, first_of, begun_at, action_at, block_at, block_in};
+ghost use Rattle.ls_terms.specs.ReadingExpressions.{expression_at, post_at};
+ghost use Rattle.ls_statements.specs.ReadingStatements.{piece_at, local_at, if_at, while_at, try_at, other_at, first_of, begun_at, statement_at, block_at, block_in};
 
 use crate::declarations::starts_declaration;
 use crate::simple_statements::{
@@ -26,7 +26,7 @@ use ls_lexer::fault::TextFault;
 use ls_lexer::sign::Sign;
 use ls_lexer::token::{Span, Token, TokenKind};
 use ls_lexer::word::Word;
-use ls_terms::terms::post;
+use ls_terms::expressions::post;
 use ls_terms::tokens::{
     Context, Part, boxed_part, closed_part, expect, expect_word, make_name, push, span_to,
     starts_with, syntax, too_deep, word_part,
@@ -35,15 +35,15 @@ use ls_tree::tree::{Block, BlockItem, Name, Statement};
 use std::alloc::AllocError;
 
 #[cycle(statements)]
-#[tactic(auto, using(crate::proofs::StatementSteps::action_step, crate::proofs::StatementSteps::action_nothing, crate::proofs::StatementSteps::action_zero))]
+#[tactic(auto, using(crate::proofs::StatementSteps::statement_step, crate::proofs::StatementSteps::statement_nothing, crate::proofs::StatementSteps::statement_zero))]
 fn statement<'t, 'a>(
     context: Context,
     tokens: &'t [Token<'a>],
     limit: usize,
 ) -> Result<Part<'t, 'a, Statement>, TextFault>
-    ensures read { Gives (λ p. (bare_statement p.tree, lexemes p.rest.now)) result (action_at limit (lexemes tokens.now)) }
+    ensures read { Gives (λ p. (bare_statement p.tree, lexemes p.rest.now)) result (statement_at limit (lexemes tokens.now)) }
     ensures places { IfOk result (λ p. StatementAt (placed_statement p.tree) (spots tokens.now) (spots p.rest.now)) }
-    ensures height { IfOk result (λ p. (p.height ≡ action_height (bare_statement p.tree)) × (p.height ≤ limit)) }
+    ensures height { IfOk result (λ p. (p.height ≡ statement_height (bare_statement p.tree)) × (p.height ≤ limit)) }
 {
     if limit == 0 {
         return Err(too_deep(context, tokens));
@@ -68,7 +68,7 @@ fn begun<'t, 'a>(
     requires begins { spots all.now ≡ spot (lexeme_of token.now.kind) token.now.span ∷ spots rest.now }
     ensures read { Gives (λ p. (bare_statement p.tree, lexemes p.rest.now)) result (begun_at limit (first_of (lexeme_of token.now.kind)) (lexemes all.now) (lexemes rest.now)) }
     ensures places { IfOk result (λ p. StatementAt (placed_statement p.tree) (spots all.now) (spots p.rest.now)) }
-    ensures height { IfOk result (λ p. (p.height ≡ action_height (bare_statement p.tree)) × (p.height ≤ limit + 1)) }
+    ensures height { IfOk result (λ p. (p.height ≡ statement_height (bare_statement p.tree)) × (p.height ≤ limit + 1)) }
 {
     match token.kind {
         TokenKind::Sign(Sign::Semicolon) => Ok(Part {
@@ -97,7 +97,7 @@ fn block_statement<'t, 'a>(
     requires { 0 < limit }
     ensures read { Gives (λ p. (bare_statement p.tree, lexemes p.rest.now)) result (block_in (block_at limit) (lexemes tokens.now)) }
     ensures places { IfOk result (λ p. StatementAt (placed_statement p.tree) (spots tokens.now) (spots p.rest.now)) }
-    ensures height { IfOk result (λ p. (p.height ≡ action_height (bare_statement p.tree)) × (p.height ≤ limit)) }
+    ensures height { IfOk result (λ p. (p.height ≡ statement_height (bare_statement p.tree)) × (p.height ≤ limit)) }
 {
     let block = block(context, tokens, limit)?;
     Ok(Part {
@@ -142,7 +142,7 @@ fn block_items<'t, 'a>(
     tokens: &'t [Token<'a>],
     limit: usize,
 ) -> Result<Part<'t, 'a, Vec<BlockItem>>, TextFault>
-    ensures read { Gives (λ p. (map bare_piece p.tree.items, lexemes p.rest.now)) result (many_at (not_yet signs.CloseBrace) (piece_at (local_at limit) (action_at limit)) (lexemes tokens.now)) }
+    ensures read { Gives (λ p. (map bare_piece p.tree.items, lexemes p.rest.now)) result (many_at (not_yet signs.CloseBrace) (piece_at (local_at limit) (statement_at limit)) (lexemes tokens.now)) }
     ensures places { IfOk result (λ p. ItemsAt (placed_items p.tree.items) (spots tokens.now) (spots p.rest.now)) }
     ensures height { IfOk result (λ p. (p.height ≡ items_height (items_of p.tree.items)) × (p.height ≤ limit)) }
 {
@@ -165,7 +165,7 @@ fn one_item<'t, 'a>(
     limit: usize,
 ) -> Result<Part<'t, 'a, Vec<BlockItem>>, TextFault>
     requires height { (before.height ≡ items_height (items_of before.tree.items)) × (before.height ≤ limit) }
-    ensures read { Gives (λ p. (map bare_piece p.tree.items, lexemes p.rest.now)) result (one_more (piece_at (local_at limit) (action_at limit)) (map bare_piece before.entry.tree.items) (lexemes before.entry.rest.now)) }
+    ensures read { Gives (λ p. (map bare_piece p.tree.items, lexemes p.rest.now)) result (one_more (piece_at (local_at limit) (statement_at limit)) (map bare_piece before.entry.tree.items) (lexemes before.entry.rest.now)) }
     ensures places { IfOk result (λ p. (ss : List Spot) → ItemsAt (placed_items before.entry.tree.items) ss (spots before.entry.rest.now) → ItemsAt (placed_items p.tree.items) ss (spots p.rest.now)) }
     ensures height { IfOk result (λ p. (p.height ≡ items_height (items_of p.tree.items)) × (p.height ≤ limit)) }
 {
@@ -184,7 +184,7 @@ fn block_item<'t, 'a>(
     tokens: &'t [Token<'a>],
     limit: usize,
 ) -> Result<Part<'t, 'a, BlockItem>, TextFault>
-    ensures read { Gives (λ p. (bare_piece p.tree, lexemes p.rest.now)) result (piece_at (local_at limit) (action_at limit) (lexemes tokens.now)) }
+    ensures read { Gives (λ p. (bare_piece p.tree, lexemes p.rest.now)) result (piece_at (local_at limit) (statement_at limit) (lexemes tokens.now)) }
     ensures places { IfOk result (λ p. ItemsAt (placed_before p.tree placed_trees.NoItem) (spots tokens.now) (spots p.rest.now)) }
     ensures height { IfOk result (λ p. (p.height ≡ piece_height (bare_piece p.tree)) × (p.height ≤ limit)) }
 {
@@ -205,9 +205,9 @@ fn boxed_statement<'t, 'a>(
     tokens: &'t [Token<'a>],
     limit: usize,
 ) -> Result<Part<'t, 'a, Box<Statement>>, TextFault>
-    ensures read { Gives (λ p. (bare_statement p.tree.value, lexemes p.rest.now)) result (action_at limit (lexemes tokens.now)) }
+    ensures read { Gives (λ p. (bare_statement p.tree.value, lexemes p.rest.now)) result (statement_at limit (lexemes tokens.now)) }
     ensures places { IfOk result (λ p. StatementAt (placed_statement p.tree.value) (spots tokens.now) (spots p.rest.now)) }
-    ensures height { IfOk result (λ p. (p.height ≡ action_height (bare_statement p.tree.value)) × (p.height ≤ limit)) }
+    ensures height { IfOk result (λ p. (p.height ≡ statement_height (bare_statement p.tree.value)) × (p.height ≤ limit)) }
 {
     let found = statement(context, tokens, limit)?;
     Ok(boxed_part(context.alloc, found)?)
@@ -222,9 +222,9 @@ fn if_statement<'t, 'a>(
     limit: usize,
 ) -> Result<Part<'t, 'a, Statement>, TextFault>
     requires { limit + 1 < 2 ^ 64 }
-    ensures read { Gives (λ p. (bare_statement p.tree, lexemes p.rest.now)) result (if_at (term_at limit) (action_at limit) (lexemes tokens.now)) }
+    ensures read { Gives (λ p. (bare_statement p.tree, lexemes p.rest.now)) result (if_at (expression_at limit) (statement_at limit) (lexemes tokens.now)) }
     ensures places { IfOk result (λ p. (s : Span) → StatementAt (placed_statement p.tree) (word words.If s ∷ spots tokens.now) (spots p.rest.now)) }
-    ensures height { IfOk result (λ p. (p.height ≡ action_height (bare_statement p.tree)) × (p.height ≤ limit + 1)) }
+    ensures height { IfOk result (λ p. (p.height ≡ statement_height (bare_statement p.tree)) × (p.height ≤ limit + 1)) }
 {
     let condition = condition(context, tokens, limit)?;
     let first = boxed_statement(context, condition.rest, limit)?;
@@ -265,9 +265,9 @@ fn while_statement<'t, 'a>(
     limit: usize,
 ) -> Result<Part<'t, 'a, Statement>, TextFault>
     requires { limit + 1 < 2 ^ 64 }
-    ensures read { Gives (λ p. (bare_statement p.tree, lexemes p.rest.now)) result (while_at (term_at limit) (action_at limit) (option_map name_text label) (lexemes tokens.now)) }
+    ensures read { Gives (λ p. (bare_statement p.tree, lexemes p.rest.now)) result (while_at (expression_at limit) (statement_at limit) (option_map name_text label) (lexemes tokens.now)) }
     ensures places { IfOk result (λ p. (ss : List Spot) (s : Span) → LabelAt (option_map placed_name label) ss (word words.While s ∷ spots tokens.now) → StatementAt (placed_statement p.tree) ss (spots p.rest.now)) }
-    ensures height { IfOk result (λ p. (p.height ≡ action_height (bare_statement p.tree)) × (p.height ≤ limit + 1)) }
+    ensures height { IfOk result (λ p. (p.height ≡ statement_height (bare_statement p.tree)) × (p.height ≤ limit + 1)) }
 {
     let condition = condition(context, tokens, limit)?;
     let body = boxed_statement(context, condition.rest, limit)?;
@@ -294,7 +294,7 @@ fn try_statement<'t, 'a>(
     requires { limit + 1 < 2 ^ 64 }
     ensures read { Gives (λ p. (bare_statement p.tree, lexemes p.rest.now)) result (try_at (block_at limit) (lexemes tokens.now)) }
     ensures places { IfOk result (λ p. (s : Span) → StatementAt (placed_statement p.tree) (word words.Try s ∷ spots tokens.now) (spots p.rest.now)) }
-    ensures height { IfOk result (λ p. (p.height ≡ action_height (bare_statement p.tree)) × (p.height ≤ limit + 1)) }
+    ensures height { IfOk result (λ p. (p.height ≡ statement_height (bare_statement p.tree)) × (p.height ≤ limit + 1)) }
 {
     let body = block(context, tokens, limit)?;
     let word = expect_word(context, body.rest, Word::Finally)?;
@@ -316,9 +316,9 @@ fn other_statement<'t, 'a>(
     limit: usize,
 ) -> Result<Part<'t, 'a, Statement>, TextFault>
     requires { limit + 1 < 2 ^ 64 }
-    ensures read { Gives (λ p. (bare_statement p.tree, lexemes p.rest.now)) result (other_at (post_at limit false) (term_at limit) (action_at limit) (lexemes tokens.now)) }
+    ensures read { Gives (λ p. (bare_statement p.tree, lexemes p.rest.now)) result (other_at (post_at limit false) (expression_at limit) (statement_at limit) (lexemes tokens.now)) }
     ensures places { IfOk result (λ p. StatementAt (placed_statement p.tree) (spots tokens.now) (spots p.rest.now)) }
-    ensures height { IfOk result (λ p. (p.height ≡ action_height (bare_statement p.tree)) × (p.height ≤ limit + 1)) }
+    ensures height { IfOk result (λ p. (p.height ≡ statement_height (bare_statement p.tree)) × (p.height ≤ limit + 1)) }
 {
     match label_part(tokens) {
         Some(found) => {

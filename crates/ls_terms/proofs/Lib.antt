@@ -8,5 +8,5 @@ pub mod Posts
 pub mod Rows
 pub mod PlacedRows
 pub mod Places
-pub mod TermsRead
-pub mod TermsAgain
+pub mod ExpressionsRead
+pub mod ExpressionsAgain

@@ -1,3 +1,3 @@
 pub mod Answers
 pub mod Reading
-pub mod ReadingTerms
+pub mod ReadingExpressions

@@ -1,7 +1,7 @@
 //! Reading of tokens and of expressions: the lower half of the parser.
 #![tactic(auto)]
 
+pub mod expressions;
 pub mod operators;
 pub mod primaries;
-pub mod terms;
 pub mod tokens;

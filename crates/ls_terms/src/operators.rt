@@ -10,7 +10,7 @@ ghost use Rattle.ls_tree.specs.Trees.{Binary};
 ghost use Rattle.ls_tree.specs.WellFormed.{rank_of};
 ghost use Rattle.ls_tree.specs.Views.{bare};
 ghost use Rattle.ls_terms.specs.Answers.{Finds};
-ghost use Rattle.ls_terms.specs.ReadingTerms.{operator_of_sign, operator_at, has_operator, unary_of};
+ghost use Rattle.ls_terms.specs.ReadingExpressions.{operator_of_sign, operator_at, has_operator, unary_of};
 
 use crate::tokens::{Context, two_boxed, upto};
 use ls_lexer::fault::TextFault;

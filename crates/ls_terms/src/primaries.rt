@@ -7,11 +7,11 @@ ghost use Rattle.ls_tree.specs.PlacedTrees as trees;
 ghost use Rattle.ls_tree.specs.Placed as views;
 ghost use Rattle.ls_tree.specs.Placed.{placed, placed_name, placed_target, placed_all};
 ghost use Rattle.ls_tree.specs.Trees.{NewArray, New, NewMarkable};
-ghost use Rattle.ls_tree.specs.WellFormed.{term_height, is_new_array};
-ghost use Rattle.ls_tree.specs.Views.{name_text, bare, bare_target, call_of, terms_of};
+ghost use Rattle.ls_tree.specs.WellFormed.{expression_height, is_new_array};
+ghost use Rattle.ls_tree.specs.Views.{name_text, bare, bare_target, call_of, expressions_of};
 ghost use Rattle.ls_terms.specs.Answers.{Gives};
 ghost use Rattle.ls_terms.specs.Reading.{is_markable};
-ghost use Rattle.ls_terms.specs.ReadingTerms.{has_suffix, is_largest, number_here, class_at};
+ghost use Rattle.ls_terms.specs.ReadingExpressions.{has_suffix, is_largest, number_here, class_at};
 
 use crate::tokens::{Context, Part, Read, closed, expect, name, starts_with};
 use ls_lexer::fault::TextFault;
@@ -36,7 +36,7 @@ pub fn is_new_array(tree: &Expr) -> bool
 }
 
 pub fn called(target: Option<Box<Expr>>, name: Name, arguments: Vec<Expr>, span: Span) -> Expr
-    ensures read { bare result ≡ call_of (bare_target target) (name_text name) (terms_of arguments.items) }
+    ensures read { bare result ≡ call_of (bare_target target) (name_text name) (expressions_of arguments.items) }
     ensures placed { placed result ≡ views.call_of (placed_target target) (placed_name name) (placed_all arguments.items) span }
 {
     Expr::Call {
@@ -71,7 +71,7 @@ pub fn number<'t, 'a>(
 ) -> Result<Part<'t, 'a, Expr>, TextFault>
     ensures read { Gives (λ p. (bare p.tree, lexemes p.rest.now)) result (number_here after_minus text.now (lexemes rest.now)) }
     ensures placed { IfOk result (λ p. At (placed p.tree) (spot (Numeral text.now) span ∷ spots rest.now) (spots p.rest.now)) }
-    ensures height { IfOk result (λ p. (p.height ≡ term_height (bare p.tree)) × (p.height ≡ 1)) }
+    ensures height { IfOk result (λ p. (p.height ≡ expression_height (bare p.tree)) × (p.height ≡ 1)) }
 {
     if !after_minus && is_largest(text) {
         return Err(TextFault::BadNumber { at: span.start });
@@ -99,7 +99,7 @@ pub fn class_name<'t, 'a>(
 }
 
 pub fn new_object(class: Name, arguments: Vec<Expr>, span: Span) -> Expr
-    ensures read { bare result ≡ New (name_text class) (terms_of arguments.items) }
+    ensures read { bare result ≡ New (name_text class) (expressions_of arguments.items) }
     ensures placed { placed result ≡ trees.New (placed_name class) (placed_all arguments.items) span }
 {
     Expr::New {
@@ -110,7 +110,7 @@ pub fn new_object(class: Name, arguments: Vec<Expr>, span: Span) -> Expr
 }
 
 pub fn new_markable(class: Name, arguments: Vec<Expr>, span: Span) -> Expr
-    ensures read { bare result ≡ NewMarkable (name_text class) (terms_of arguments.items) }
+    ensures read { bare result ≡ NewMarkable (name_text class) (expressions_of arguments.items) }
     ensures placed { placed result ≡ trees.NewMarkable (placed_name class) (placed_all arguments.items) span }
 {
     Expr::NewMarkable {

@@ -11,7 +11,7 @@ use Rattle.ls_checked.specs.declared.program.ThreadProgram.{ThreadProgram}
 use Rattle.ls_programs.proofs.Pieces.{some_none, same_some}
 use Rattle.ls_schedule.specs.declared.fault.ScheduleFault.{ScheduleFault}
 use Rattle.ls_schedule.specs.declared.fault.ScheduleFault.TheVariants as fault
-use Rattle.ls_schedule.specs.Items.{Item, items}
+use Rattle.ls_items.specs.Items.{Item, items}
 use Rattle.ls_schedule.specs.Reading.{Turns, counted, each, known, parts_of, repeated, schedule_of, steps_of, thread_name, thread_names, threads_named, turns_of, within, ◌>>=◌}
 use Rattle.ls_schedule.proofs.RoundTrip.{reads_back}
 use Rattle.ls_text_laws.specs.Schedules.{NamesAreRead, SchedulesReadBack, WhatIsReadIsASchedule, IsReadAgain}

@@ -1,8 +1,8 @@
 // Beginnings of texts that are accepted.
 
-use crate::stored_classes::{COARSE, FINE, LAZY, LOCK_FREE, OPTIMISTIC};
 use ls_lexer::fault::TextFault;
 use ls_parser::parse::parse_text;
+use ls_stored_classes::{COARSE, FINE, LAZY, LOCK_FREE, OPTIMISTIC};
 use std::alloc::Global;
 use std::test::Fail;
 

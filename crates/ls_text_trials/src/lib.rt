@@ -17,6 +17,5 @@ mod orders;
 #[cfg(test)]
 mod parsing;
 #[cfg(test)]
-mod stored_classes;
 #[cfg(test)]
 mod trees;

@@ -7,31 +7,31 @@ abbrev pub Text : Type 0
 Text = List ℕ
 
 mutual
-  pub data Term : Type 0 where
-    Number : (text : Text) → Term
-    True : Term
-    False : Term
-    Null : Term
-    This : Term
-    Name : (text : Text) → Term
-    Paren : (inner : Term) → Term
-    Unary : (op : UnaryOp) → (operand : Term) → Term
-    Binary : (op : BinaryOp) → (left right : Term) → Term
-    Field : (target : Term) → (name : Text) → Term
-    Call : (name : Text) → (arguments : Terms) → Term
-    CallOn : (target : Term) → (name : Text) → (arguments : Terms) → Term
-    Item : (array index : Term) → Term
-    New : (class : Text) → (arguments : Terms) → Term
-    NewMarkable : (class : Text) → (arguments : Terms) → Term
-    NewArray : (length : Term) → Term
+  pub data Expression : Type 0 where
+    Number : (text : Text) → Expression
+    True : Expression
+    False : Expression
+    Null : Expression
+    This : Expression
+    Name : (text : Text) → Expression
+    Paren : (inner : Expression) → Expression
+    Unary : (op : UnaryOp) → (operand : Expression) → Expression
+    Binary : (op : BinaryOp) → (left right : Expression) → Expression
+    Field : (target : Expression) → (name : Text) → Expression
+    Call : (name : Text) → (arguments : Expressions) → Expression
+    CallOn : (target : Expression) → (name : Text) → (arguments : Expressions) → Expression
+    Item : (array index : Expression) → Expression
+    New : (class : Text) → (arguments : Expressions) → Expression
+    NewMarkable : (class : Text) → (arguments : Expressions) → Expression
+    NewArray : (length : Expression) → Expression
 
-  pub data Terms : Type 0 where
-    NoTerm : Terms
-    MoreTerms : (first : Term) → (others : Terms) → Terms
+  pub data Expressions : Type 0 where
+    NoExpression : Expressions
+    MoreExpressions : (first : Expression) → (others : Expressions) → Expressions
 
-abbrev pub listed : List Term → Terms
-listed [] = NoTerm
-listed (t ∷ ts) = MoreTerms t (listed ts)
+abbrev pub listed : List Expression → Expressions
+listed [] = NoExpression
+listed (t ∷ ts) = MoreExpressions t (listed ts)
 
 pub data Modifier : Type 0 where
   Public : Modifier
@@ -50,7 +50,7 @@ pub data TypeName : Type 0 where
 
 pub record Declarator : Type 0 where
   pub name : Text
-  pub value : Option Term
+  pub value : Option Expression
 
 pub record Declaration : Type 0 where
   pub modifiers : List Modifier
@@ -59,31 +59,31 @@ pub record Declaration : Type 0 where
   pub more : List Declarator
 
 mutual
-  pub data Action : Type 0 where
-    Block : (items : Items) → Action
-    Empty : Action
-    If : (condition : Term) → (first : Action) → Action
-    IfElse : (condition : Term) → (first second : Action) → Action
-    While : (label : Option Text) → (condition : Term) → (body : Action) → Action
-    Break : (label : Option Text) → Action
-    Continue : (label : Option Text) → Action
-    Return : (value : Option Term) → Action
-    Try : (body finally : Items) → Action
-    Assign : (target value : Term) → Action
-    Evaluate : (value : Term) → Action
+  pub data Statement : Type 0 where
+    Block : (items : Items) → Statement
+    Empty : Statement
+    If : (condition : Expression) → (first : Statement) → Statement
+    IfElse : (condition : Expression) → (first second : Statement) → Statement
+    While : (label : Option Text) → (condition : Expression) → (body : Statement) → Statement
+    Break : (label : Option Text) → Statement
+    Continue : (label : Option Text) → Statement
+    Return : (value : Option Expression) → Statement
+    Try : (body finally : Items) → Statement
+    Assign : (target value : Expression) → Statement
+    Evaluate : (value : Expression) → Statement
 
   pub data Items : Type 0 where
     NoItem : Items
-    Do : (first : Action) → (others : Items) → Items
+    Do : (first : Statement) → (others : Items) → Items
     Declare : (first : Declaration) → (others : Items) → Items
 
 -- one statement or declaration of a block
 pub data Piece : Type 0 where
-  Doing : (action : Action) → Piece
+  Doing : (statement : Statement) → Piece
   Declaring : (declaration : Declaration) → Piece
 
 abbrev pub put_before : Piece → Items → Items
-put_before (Doing action) items = Do action items
+put_before (Doing statement) items = Do statement items
 put_before (Declaring declaration) items = Declare declaration items
 
 abbrev pub collected : List Piece → Items

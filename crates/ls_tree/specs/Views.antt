@@ -23,19 +23,19 @@ use Rattle.ls_tree.specs.declared.tree.Class.{Class}
 use Rattle.ls_tree.specs.declared.tree.Dotted.{Dotted}
 use Rattle.ls_tree.specs.declared.tree.Import.{Import}
 use Rattle.ls_tree.specs.Trees as trees
-use Rattle.ls_tree.specs.Trees.{Text, Term, Terms, NoTerm, MoreTerms, Action, Items, NoItem, Do, Declare, listed, Piece, Doing, Declaring, collected}
+use Rattle.ls_tree.specs.Trees.{Text, Expression, Expressions, NoExpression, MoreExpressions, Items, NoItem, Do, Declare, listed, Piece, Doing, Declaring, collected}
 
 abbrev pub name_text : Name → Text
 name_text name = string_bytes name.text
 
 -- ---- expressions
 
-abbrev pub call_of : Option Term → Text → Terms → Term
+abbrev pub call_of : Option Expression → Text → Expressions → Expression
 call_of None name arguments = trees.Call name arguments
 call_of (Some target) name arguments = trees.CallOn target name arguments
 
 abbrev mutual
-  pub bare : Expr → Term
+  pub bare : Expr → Expression
   bare (exprs.Number text span) = trees.Number (string_bytes text)
   bare (exprs.True span) = trees.True
   bare (exprs.False span) = trees.False
@@ -52,21 +52,21 @@ abbrev mutual
   bare (exprs.NewMarkable' class shape arguments span) = trees.NewMarkable (name_text class) (bare_row arguments)
   bare (exprs.NewArray' p length span) = trees.NewArray (bare length)
 
-  pub bare_row : {m : _} → Row_of-Expr m → Terms
-  bare_row end_of-Expr = NoTerm
-  bare_row (more_of-Expr e rest) = MoreTerms (bare e) (bare_row rest)
+  pub bare_row : {m : _} → Row_of-Expr m → Expressions
+  bare_row end_of-Expr = NoExpression
+  bare_row (more_of-Expr e rest) = MoreExpressions (bare e) (bare_row rest)
 
-  pub bare_held : Held-Expr-Call-0 → Option Term
+  pub bare_held : Held-Expr-Call-0 → Option Expression
   bare_held None' = None
   bare_held (Some' p e) = Some (bare e)
 
 -- the same of what a variable holds
-abbrev pub bare_target : Option (Box Expr) → Option Term
+abbrev pub bare_target : Option (Box Expr) → Option Expression
 bare_target None = None
 bare_target (Some b) = Some (bare b.value)
 
-abbrev pub terms_of : List Expr → Terms
-terms_of es = listed (map bare es)
+abbrev pub expressions_of : List Expr → Expressions
+expressions_of es = listed (map bare es)
 
 -- ---- declarations
 
@@ -98,12 +98,12 @@ bare_declaration d = record {
 
 -- ---- statements
 
-abbrev pub if_of : Term → Action → Option Action → Action
+abbrev pub if_of : Expression → trees.Statement → Option trees.Statement → trees.Statement
 if_of condition first None = trees.If condition first
 if_of condition first (Some second) = trees.IfElse condition first second
 
 abbrev mutual
-  pub bare_statement : Statement → Action
+  pub bare_statement : Statement → trees.Statement
   bare_statement (statements.Block' shape items span) = trees.Block (bare_items items)
   bare_statement (statements.Empty span) = trees.Empty
   bare_statement (statements.If' condition p first otherwise span) = if_of (bare condition) (bare_statement first) (bare_otherwise otherwise)
@@ -123,12 +123,12 @@ abbrev mutual
   bare_item_before (block_items.Statement s) rest = Do (bare_statement s) rest
   bare_item_before (block_items.Declaration d) rest = Declare (bare_declaration d) rest
 
-  pub bare_otherwise : Held-Statement-If-2 → Option Action
+  pub bare_otherwise : Held-Statement-If-2 → Option trees.Statement
   bare_otherwise statement_parts.None' = None
   bare_otherwise (statement_parts.Some' p s) = Some (bare_statement s)
 
 -- the same of what a variable holds
-abbrev pub bare_other : Option (Box Statement) → Option Action
+abbrev pub bare_other : Option (Box Statement) → Option trees.Statement
 bare_other None = None
 bare_other (Some b) = Some (bare_statement b.value)
 

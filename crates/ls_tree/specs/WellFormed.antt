@@ -5,7 +5,7 @@ use Rattle.ls_tree.specs.declared.tree.UnaryOp.{UnaryOp}
 use Rattle.ls_tree.specs.declared.tree.UnaryOp.TheVariants as unary
 use Rattle.ls_tree.specs.declared.tree.BinaryOp.{BinaryOp}
 use Rattle.ls_tree.specs.declared.tree.BinaryOp.TheVariants as binary
-use Rattle.ls_tree.specs.Trees.{Text, Term, Number, True, False, Null, This, Name, Paren, Unary, Binary, Field, Call, CallOn, Item, New, NewMarkable, NewArray, Terms, NoTerm, MoreTerms, Declarator, Declaration, Action, Block, Empty, If, IfElse, While, Break, Continue, Return, Try, Assign, Evaluate, Items, NoItem, Do, Declare, Piece, Doing, Declaring, Member, Fields, Method, Constructor, ClassTree, File}
+use Rattle.ls_tree.specs.Trees.{Text, Expression, Number, True, False, Null, This, Name, Paren, Unary, Binary, Field, Call, CallOn, Item, New, NewMarkable, NewArray, Expressions, NoExpression, MoreExpressions, Declarator, Declaration, Statement, Block, Empty, If, IfElse, While, Break, Continue, Return, Try, Assign, Evaluate, Items, NoItem, Do, Declare, Piece, Doing, Declaring, Member, Fields, Method, Constructor, ClassTree, File}
 
 -- how loosely an operator binds
 abbrev pub rank_of : BinaryOp → ℕ
@@ -24,22 +24,22 @@ rank_of binary.Divide = 1
 rank_of binary.Remainder = 1
 
 -- what stands without a binary operator has rank 0
-abbrev pub rank : Term → ℕ
+abbrev pub rank : Expression → ℕ
 rank (Binary op left right) = rank_of op
 rank _ = 0
 
 -- without an operator
-abbrev pub is_post : Term → Bool
+abbrev pub is_post : Expression → Bool
 is_post (Binary op left right) = false
 is_post (Unary op operand) = false
 is_post _ = true
 
-abbrev pub is_new_array : Term → Bool
+abbrev pub is_new_array : Expression → Bool
 is_new_array (NewArray length) = true
 is_new_array _ = false
 
 -- what may stand as a statement
-abbrev pub is_call : Term → Bool
+abbrev pub is_call : Expression → Bool
 is_call (Call name arguments) = true
 is_call (CallOn target name arguments) = true
 is_call (New class arguments) = true
@@ -52,7 +52,7 @@ is_minus unary.Not = false
 
 abbrev mutual
   -- whether it stands directly after a unary minus
-  pub WellFormed : Bool → Term → Type 0
+  pub WellFormed : Bool → Expression → Type 0
   WellFormed after_minus (Number text) = after_minus ≡ false → text ≢ codes "2147483648"
   WellFormed after_minus True = ⊤
   WellFormed after_minus False = ⊤
@@ -70,32 +70,32 @@ abbrev mutual
   WellFormed after_minus (NewMarkable class arguments) = AreWellFormed arguments
   WellFormed after_minus (NewArray length) = WellFormed false length
 
-  pub AreWellFormed : Terms → Type 0
-  AreWellFormed NoTerm = ⊤
-  AreWellFormed (MoreTerms first others) = WellFormed false first × AreWellFormed others
+  pub AreWellFormed : Expressions → Type 0
+  AreWellFormed NoExpression = ⊤
+  AreWellFormed (MoreExpressions first others) = WellFormed false first × AreWellFormed others
 
 -- Height in nodes: each block, statement, local declaration, expression and pair of parentheses is one.
 abbrev mutual
-  pub term_height : Term → ℕ
-  term_height (Paren inner) = term_height inner + 1
-  term_height (Unary op operand) = term_height operand + 1
-  term_height (Binary op left right) = max (term_height left) (term_height right) + 1
-  term_height (Field target name) = term_height target + 1
-  term_height (Call name arguments) = terms_height arguments + 1
-  term_height (CallOn target name arguments) = max (term_height target) (terms_height arguments) + 1
-  term_height (Item array index) = max (term_height array) (term_height index) + 1
-  term_height (New class arguments) = terms_height arguments + 1
-  term_height (NewMarkable class arguments) = terms_height arguments + 1
-  term_height (NewArray length) = term_height length + 1
-  term_height _ = 1
+  pub expression_height : Expression → ℕ
+  expression_height (Paren inner) = expression_height inner + 1
+  expression_height (Unary op operand) = expression_height operand + 1
+  expression_height (Binary op left right) = max (expression_height left) (expression_height right) + 1
+  expression_height (Field target name) = expression_height target + 1
+  expression_height (Call name arguments) = expressions_height arguments + 1
+  expression_height (CallOn target name arguments) = max (expression_height target) (expressions_height arguments) + 1
+  expression_height (Item array index) = max (expression_height array) (expression_height index) + 1
+  expression_height (New class arguments) = expressions_height arguments + 1
+  expression_height (NewMarkable class arguments) = expressions_height arguments + 1
+  expression_height (NewArray length) = expression_height length + 1
+  expression_height _ = 1
 
-  pub terms_height : Terms → ℕ
-  terms_height NoTerm = 0
-  terms_height (MoreTerms first others) = max (term_height first) (terms_height others)
+  pub expressions_height : Expressions → ℕ
+  expressions_height NoExpression = 0
+  expressions_height (MoreExpressions first others) = max (expression_height first) (expressions_height others)
 
-abbrev pub value_height : Option Term → ℕ
+abbrev pub value_height : Option Expression → ℕ
 value_height None = 0
-value_height (Some value) = term_height value
+value_height (Some value) = expression_height value
 
 abbrev pub declarators_height : List Declarator → ℕ
 declarators_height [] = 0
@@ -105,56 +105,56 @@ abbrev pub declaration_height : Declaration → ℕ
 declaration_height d = declarators_height (d.first ∷ d.more) + 1
 
 abbrev mutual
-  pub action_height : Action → ℕ
-  action_height (Block items) = items_height items + 1
-  action_height (If condition first) = max (term_height condition) (action_height first) + 1
-  action_height (IfElse condition first second) = max (term_height condition) (max (action_height first) (action_height second)) + 1
-  action_height (While label condition body) = max (term_height condition) (action_height body) + 1
-  action_height (Return value) = value_height value + 1
-  action_height (Try body finally) = max (items_height body) (items_height finally) + 2
-  action_height (Assign target value) = max (term_height target) (term_height value) + 1
-  action_height (Evaluate value) = term_height value + 1
-  action_height _ = 1
+  pub statement_height : Statement → ℕ
+  statement_height (Block items) = items_height items + 1
+  statement_height (If condition first) = max (expression_height condition) (statement_height first) + 1
+  statement_height (IfElse condition first second) = max (expression_height condition) (max (statement_height first) (statement_height second)) + 1
+  statement_height (While label condition body) = max (expression_height condition) (statement_height body) + 1
+  statement_height (Return value) = value_height value + 1
+  statement_height (Try body finally) = max (items_height body) (items_height finally) + 2
+  statement_height (Assign target value) = max (expression_height target) (expression_height value) + 1
+  statement_height (Evaluate value) = expression_height value + 1
+  statement_height _ = 1
 
   pub items_height : Items → ℕ
   items_height NoItem = 0
-  items_height (Do first others) = max (action_height first) (items_height others)
+  items_height (Do first others) = max (statement_height first) (items_height others)
   items_height (Declare first others) = max (declaration_height first) (items_height others)
 
 abbrev pub piece_height : Piece → ℕ
-piece_height (Doing action) = action_height action
+piece_height (Doing statement) = statement_height statement
 piece_height (Declaring declaration) = declaration_height declaration
 
 -- an `else` behind it would belong to an `if` in it
-abbrev pub ends_open : Action → Bool
+abbrev pub ends_open : Statement → Bool
 ends_open (If condition first) = true
 ends_open (IfElse condition first second) = ends_open second
 ends_open (While label condition body) = ends_open body
 ends_open _ = false
 
-abbrev pub WellFormedValue : Option Term → Type 0
+abbrev pub WellFormedValue : Option Expression → Type 0
 WellFormedValue value = IfSome value (WellFormed false)
 
 abbrev pub WellFormedDeclaration : Declaration → Type 0
 WellFormedDeclaration d = AllByRecursion (λ (m : Declarator). WellFormedValue m.value) (d.first ∷ d.more)
 
 abbrev mutual
-  pub WellFormedAction : Action → Type 0
-  WellFormedAction (Block items) = WellFormedItems items
-  WellFormedAction Empty = ⊤
-  WellFormedAction (If condition first) = WellFormed false condition × WellFormedAction first
-  WellFormedAction (IfElse condition first second) = WellFormed false condition × WellFormedAction first × (ends_open first ≡ false) × WellFormedAction second
-  WellFormedAction (While label condition body) = WellFormed false condition × WellFormedAction body
-  WellFormedAction (Break label) = ⊤
-  WellFormedAction (Continue label) = ⊤
-  WellFormedAction (Return value) = WellFormedValue value
-  WellFormedAction (Try body finally) = WellFormedItems body × WellFormedItems finally
-  WellFormedAction (Assign target value) = (is_post target ≡ true) × WellFormed false target × WellFormed false value
-  WellFormedAction (Evaluate value) = (is_call value ≡ true) × WellFormed false value
+  pub WellFormedStatement : Statement → Type 0
+  WellFormedStatement (Block items) = WellFormedItems items
+  WellFormedStatement Empty = ⊤
+  WellFormedStatement (If condition first) = WellFormed false condition × WellFormedStatement first
+  WellFormedStatement (IfElse condition first second) = WellFormed false condition × WellFormedStatement first × (ends_open first ≡ false) × WellFormedStatement second
+  WellFormedStatement (While label condition body) = WellFormed false condition × WellFormedStatement body
+  WellFormedStatement (Break label) = ⊤
+  WellFormedStatement (Continue label) = ⊤
+  WellFormedStatement (Return value) = WellFormedValue value
+  WellFormedStatement (Try body finally) = WellFormedItems body × WellFormedItems finally
+  WellFormedStatement (Assign target value) = (is_post target ≡ true) × WellFormed false target × WellFormed false value
+  WellFormedStatement (Evaluate value) = (is_call value ≡ true) × WellFormed false value
 
   pub WellFormedItems : Items → Type 0
   WellFormedItems NoItem = ⊤
-  WellFormedItems (Do first others) = WellFormedAction first × WellFormedItems others
+  WellFormedItems (Do first others) = WellFormedStatement first × WellFormedItems others
   WellFormedItems (Declare first others) = WellFormedDeclaration first × WellFormedItems others
 
 abbrev pub most_nodes : ℕ

@@ -9,48 +9,7 @@ use indexmap::IndexSet;
 use ls_checked::tree::File;
 use ls_elaboration::known::ClassSign;
 use ls_elaboration::outcome::Outcome;
-use ls_lexer::token::Span;
-use std::alloc::AllocError;
-use thiserror::Error;
-
-/// Why a class text's tree is refused: memory ran out, or a rule is broken at a name, expression or statement.
-#[derive(Clone, Copy, Debug, PartialEq, Eq, Error)]
-pub enum CheckFault {
-    #[error("memory ran out")]
-    Memory,
-    #[error("a name that is no local in scope, field or method there")]
-    UnknownName(Span),
-    #[error("a name that is declared twice")]
-    TwiceDeclared(Span),
-    #[error("a type or made class that isn't there, or a constructor that isn't named as its class")]
-    UnknownType(Span),
-    #[error("a value of another type than is wanted")]
-    WrongType(Span),
-    #[error("another number of arguments than is wanted")]
-    WrongArguments(Span),
-    #[error("a left side that is no local, field or element")]
-    NotAssignable(Span),
-    #[error("a jump outside of any loop")]
-    NoLoop(Span),
-    #[error("a label of no enclosing loop")]
-    UnknownLabel(Span),
-    #[error("a method that answers a value and can complete without one")]
-    MissingReturn(Span),
-    #[error("a class with the name of one that is there already")]
-    ReservedClass(Span),
-    #[error("more classes, fields, methods or locals than are allowed")]
-    Limit(Span),
-}
-
-impl From<AllocError> for CheckFault {
-    ghost use Rattle.ls_types.specs.declared.check.CheckFault.TheVariants.{Memory};
-
-    ghost from_gives = { λ _ e. e ≡ Memory };
-
-    fn from(_e: AllocError) -> CheckFault {
-        CheckFault::Memory
-    }
-}
+pub use ls_elaboration::rule::CheckFault;
 
 /// The checked file of a class text that keeps every rule.
 #[derive(Drop)]

@@ -5,6 +5,7 @@ mod calls;
 pub mod check;
 pub mod checking;
 pub mod fault;
+pub mod laws;
 pub mod program;
 mod reading;
 mod steps;

@@ -9,13 +9,11 @@ ghost use Rattle.ls_programs.specs.ThreadPrograms.{program_of};
 ghost use Rattle.ls_typing.specs.WellTyped.{IsWellTyped, IsWellTypedProgram};
 
 /// The elaboration of a class text's tree is well typed: so the lowerings take each file that is checked.
-#[tactic(auto, using(crate::proofs::WellTyped::well_typed))]
 pub fn elaborates_well_typed()
     ensures { (f : File) (o : Outcome) → elaborated f ≡ Ok o → IsWellTyped o.file }
 {}
 
 /// A thread program that is read for a checked file is a well typed program of it.
-#[tactic(auto, using(crate::proofs::WellTyped::well_typed_program))]
 pub fn reads_well_typed()
     ensures { (f : File) (o : Outcome) (text : Text) (p : Program) → elaborated f ≡ Ok o → program_of o text ≡ Some p → IsWellTypedProgram o.file p }
 {}

@@ -1,7 +1,7 @@
 // What no clause says: that the rules are those of the language. Each row is a text on one side of a rule. Where a text is
 // refused, `^` stands before and behind the place that the refusal names.
 
-use ls_elaboration::rule::Rule;
+use ls_elaboration::rule::{Broken, Rule};
 use ls_lexer::fault::TextFault;
 use ls_lexer::token::Span;
 use ls_parser::parse::parse_text;
@@ -36,22 +36,6 @@ fn found_of(alloc: Global, text: &str) -> Outcome {
     }
 }
 
-fn fault_of(rule: Rule, span: Span) -> CheckFault {
-    match rule {
-        Rule::UnknownName => CheckFault::UnknownName(span),
-        Rule::TwiceDeclared => CheckFault::TwiceDeclared(span),
-        Rule::UnknownType => CheckFault::UnknownType(span),
-        Rule::WrongType => CheckFault::WrongType(span),
-        Rule::WrongArguments => CheckFault::WrongArguments(span),
-        Rule::NotAssignable => CheckFault::NotAssignable(span),
-        Rule::NoLoop => CheckFault::NoLoop(span),
-        Rule::UnknownLabel => CheckFault::UnknownLabel(span),
-        Rule::MissingReturn => CheckFault::MissingReturn(span),
-        Rule::ReservedClass => CheckFault::ReservedClass(span),
-        Rule::Limit => CheckFault::Limit(span),
-    }
-}
-
 /// A text without its marks, and where they stood.
 fn unmarked(alloc: Global, marked: &str) -> Result<(String, Vec<usize>), AllocError> {
     let mut text = String::new(alloc);
@@ -73,13 +57,13 @@ fn not_refused(alloc: Global, rule: Rule, rows: &[&str]) -> Result<String, Fail>
         let (text, marks) = unmarked(alloc, row)?;
         let found = found_of(alloc, &text);
         let wanted = match marks.as_slice() {
-            [start, end] => Some(Outcome::Refused(fault_of(
+            [start, end] => Some(Outcome::Refused(CheckFault::Broken(Broken {
                 rule,
-                Span {
+                span: Span {
                     start: *start,
                     end: *end,
                 },
-            ))),
+            }))),
             _ => None,
         };
         if wanted != Some(found) {

@@ -4,7 +4,7 @@ use Rattle.std.specs.HashMap.{get_by_text}
 use Rattle.std.proofs.lemmas.Result.{IfOk-weaker}
 use Rattle.ls_report.specs.Events.{Text}
 use Rattle.ls_report.specs.Plain.{plain_event}
-use Rattle.ls_orders.specs.Items.{each}
+use Rattle.ls_orders.specs.Each.{each}
 use Rattle.ls_orders.specs.Named.{plain_named}
 use Rattle.ls_orders.specs.declared.calls.SetCall.{SetCall}
 use Rattle.ls_orders.proofs.JudgingLemmas.{judged_so}

@@ -4,7 +4,7 @@ use Rattle.std.specs.HashMap.{get_by_text}
 use Rattle.std.proofs.lemmas.List.{drop_more}
 use Rattle.ls_report.specs.Events.{Text}
 use Rattle.ls_orders.specs.declared.calls.SetCall.{SetCall}
-use Rattle.ls_orders.specs.Items.{each}
+use Rattle.ls_orders.specs.Each.{each}
 use Rattle.ls_orders.proofs.ItemLemmas.{ends, goes_on, with_front}
 use Rattle.ls_orders.proofs.naming.calls_of.Goals as goal
 

@@ -1,7 +1,7 @@
 use Rattle.std.proofs.Common.{◌≡◌, drop, map}
 use Rattle.std.specs.Prelude.{ok_or, string_bytes}
 use Rattle.std.specs.HashMap.{get_by_text}
-use Rattle.ls_orders.specs.Items.{each}
+use Rattle.ls_orders.specs.Each.{each}
 use Rattle.ls_orders.proofs.ItemLemmas.{with_front}
 use Rattle.ls_orders.proofs.naming.calls_of.Given as goal
 

@@ -2,9 +2,11 @@ use Rattle.std.proofs.Common.{◌∙◌, ◌+◌, ap, sym, arith, map}
 use Rattle.std.specs.Prelude.{string_bytes}
 use Rattle.std.proofs.lemmas.List.{map_push}
 use Rattle.std.proofs.lemmas.Result.{err_from_is_err_and}
-use Rattle.ls_orders.specs.Items.{Item, each, items}
+use Rattle.ls_orders.specs.Each.{each}
+use Rattle.ls_items.specs.Items.{Item, items}
 use Rattle.ls_orders.specs.Orders.{call_at}
-use Rattle.ls_orders.proofs.ItemLemmas.{ends, fails_ends, goes_on, items_split, with_front}
+use Rattle.ls_orders.proofs.ItemLemmas.{ends, fails_ends, goes_on, with_front}
+use Rattle.ls_items.proofs.Items.{items_split}
 use Rattle.ls_orders.proofs.reading.read_order.Goals as goal
 
 pub returns-in_err-call : goal.returns-in_err-call

@@ -1,6 +1,7 @@
 use Rattle.std.proofs.Common.{◌≡◌, ◌+◌, length, map}
 use Rattle.std.specs.Prelude.{string_bytes}
-use Rattle.ls_orders.specs.Items.{each, items}
+use Rattle.ls_orders.specs.Each.{each}
+use Rattle.ls_items.specs.Items.{items}
 use Rattle.ls_orders.specs.Orders.{call_at}
 use Rattle.ls_orders.proofs.ItemLemmas.{with_front}
 use Rattle.ls_orders.proofs.reading.read_order.Given as goal

@@ -1,9 +1,10 @@
 use Rattle.std.proofs.Common.{◌∙◌, ◌+◌, ap, sym, arith, map, length}
 use Rattle.std.proofs.lemmas.Result.{err_from_is_err_and}
 use Rattle.ls_schedule.specs.Answers.{capped_turns, so_far}
-use Rattle.ls_schedule.specs.Items.{Item, items}
+use Rattle.ls_items.specs.Items.{Item, items}
 use Rattle.ls_schedule.specs.Reading.{each, thread_name}
-use Rattle.ls_schedule.proofs.Items.{fails_ends, items_split}
+use Rattle.ls_schedule.proofs.Digits.{fails_ends}
+use Rattle.ls_items.proofs.Items.{items_split}
 use Rattle.ls_schedule.proofs.Steps.{ends_with, goes_on_to, goes_to}
 use Rattle.ls_schedule.proofs.reading.read_steps.Goals as goal
 

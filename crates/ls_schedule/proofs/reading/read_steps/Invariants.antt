@@ -1,6 +1,6 @@
 use Rattle.std.proofs.Common.{◌≡◌, ◌+◌, ◌≤◌, length, map}
 use Rattle.ls_schedule.specs.Answers.{capped_schedule, capped_turns, so_far}
-use Rattle.ls_schedule.specs.Items.{items}
+use Rattle.ls_items.specs.Items.{items}
 use Rattle.ls_schedule.specs.Reading.{each, thread_name}
 use Rattle.ls_schedule.proofs.Steps.{goes_to}
 use Rattle.ls_schedule.proofs.reading.read_steps.Given as goal

@@ -1,4 +1,4 @@
-use Rattle.ls_schedule.proofs.Items.{value_more}
+use Rattle.ls_schedule.proofs.Digits.{value_more}
 use Rattle.ls_schedule.proofs.reading.value.Goals as goal
 
 pub loop-digit-preserved : goal.loop-digit-preserved

@@ -3,17 +3,17 @@ use Rattle.ls_tree.specs.Trees.{NoItem, put_before}
 use Rattle.ls_spelling.specs.Kinds.{lexemes_of}
 use Rattle.ls_spelling.specs.Spelling.{spell_items}
 use Rattle.ls_tree.specs.Views.{bare_statement, bare_other, bare_piece, items_of}
-use Rattle.ls_spelling.proofs.Nodes.{action_nodes, items_nodes, other_nodes}
+use Rattle.ls_spelling.proofs.Nodes.{statement_nodes, items_nodes, other_nodes}
 use Rattle.ls_spelling.proofs.statements.+statements.Given as goal
 
 abbrev pub decreases-put_statement : goal.decreases-put_statement
-decreases-put_statement l = 4 * action_nodes (bare_statement l.s.now)
+decreases-put_statement l = 4 * statement_nodes (bare_statement l.s.now)
 
 abbrev pub decreases-put_if : goal.decreases-put_if
-decreases-put_if l = 4 * (action_nodes (bare_statement l.then.now) + other_nodes (bare_other l.otherwise.now)) + 1
+decreases-put_if l = 4 * (statement_nodes (bare_statement l.then.now) + other_nodes (bare_other l.otherwise.now)) + 1
 
 abbrev pub decreases-put_while : goal.decreases-put_while
-decreases-put_while l = 4 * action_nodes (bare_statement l.body.now) + 1
+decreases-put_while l = 4 * statement_nodes (bare_statement l.body.now) + 1
 
 abbrev pub decreases-put_try : goal.decreases-put_try
 decreases-put_try l = 4 * (items_nodes (items_of l.body.now) + items_nodes (items_of l.finally.now)) + 3

@@ -2,7 +2,7 @@ use Rattle.std.proofs.lemmas.Result.{err_from_is_err_and}
 use Rattle.ls_spelling.specs.Places.{spots}
 use Rattle.ls_terms.proofs.Repeats.{repeat_ends, repeat_fails, list_goes_on}
 use Rattle.ls_terms.proofs.Shrinks.{one_more_shrinks, tokens_shrink}
-use Rattle.ls_statements.proofs.ActionsRead.{modifier_shrinks}
+use Rattle.ls_statements.proofs.StatementsRead.{modifier_shrinks}
 use Rattle.ls_statements.proofs.declarations.modifiers.Goals as goal
 
 pub returns-in_err-all-clause-read : goal.returns-in_err-all-clause-read

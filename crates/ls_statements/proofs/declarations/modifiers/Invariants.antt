@@ -4,7 +4,7 @@ use Rattle.ls_terms.specs.Reading.{one_more, many_at}
 use Rattle.ls_tree.specs.Views.{bare_modifier}
 use Rattle.ls_spelling.specs.Places.{spots}
 use Rattle.ls_spelling.specs.StatementPlaces.{ManyAt, ModifierAt}
-use Rattle.ls_statements.specs.ReadingActions.{modifier_at, starts_modifier}
+use Rattle.ls_statements.specs.ReadingStatements.{modifier_at, starts_modifier}
 use Rattle.ls_terms.proofs.Repeats.{InRepeat}
 use Rattle.ls_statements.proofs.declarations.modifiers.Given as goal
 

@@ -6,15 +6,15 @@ use Rattle.ls_tree.specs.Views.{bare_declarator}
 use Rattle.ls_tree.specs.PlacedStatements.{placed_declarator}
 use Rattle.ls_spelling.specs.Places.{spots}
 use Rattle.ls_spelling.specs.StatementPlaces.{ManyAt, BehindComma, DeclaratorAt}
-use Rattle.ls_statements.specs.ReadingActions.{declarator_at}
-use Rattle.ls_terms.specs.ReadingTerms.{term_at}
+use Rattle.ls_statements.specs.ReadingStatements.{declarator_at}
+use Rattle.ls_terms.specs.ReadingExpressions.{expression_at}
 use Rattle.ls_tree.specs.WellFormed.{declarators_height}
 use Rattle.ls_terms.proofs.Repeats.{InRepeat}
 use Rattle.ls_statements.proofs.declarations.more_declarators.Given as goal
 
 abbrev pub invariant-loop-context : goal.invariant-loop-context
 invariant-loop-context l = record {
-  list : InRepeat (not_yet signs.Semicolon) (one_more (behind_comma (declarator_at (term_at l.limit)))) (length (lexemes l.all.rest.now)) (map bare_declarator l.all.tree.items) (lexemes l.all.rest.now) (many_at (not_yet signs.Semicolon) (behind_comma (declarator_at (term_at l.limit))) (lexemes l.fn.tokens));
+  list : InRepeat (not_yet signs.Semicolon) (one_more (behind_comma (declarator_at (expression_at l.limit)))) (length (lexemes l.all.rest.now)) (map bare_declarator l.all.tree.items) (lexemes l.all.rest.now) (many_at (not_yet signs.Semicolon) (behind_comma (declarator_at (expression_at l.limit))) (lexemes l.fn.tokens));
   places : ManyAt (BehindComma DeclaratorAt) (map placed_declarator l.all.tree.items) (spots l.fn.tokens) (spots l.all.rest.now);
   height : l.all.height ≡ declarators_height (map bare_declarator l.all.tree.items);
   low : l.all.height ≤ l.limit;

@@ -2,7 +2,7 @@ use Rattle.std.proofs.lemmas.Result.{err_from_is_err_and}
 use Rattle.ls_spelling.specs.Places.{spots}
 use Rattle.ls_terms.proofs.Repeats.{repeat_ends, repeat_fails, list_goes_on}
 use Rattle.ls_terms.proofs.Shrinks.{one_more_shrinks, tokens_shrink}
-use Rattle.ls_statements.proofs.ActionsRead.{piece_shrinks}
+use Rattle.ls_statements.proofs.StatementsRead.{piece_shrinks}
 use Rattle.ls_statements.proofs.Places.{if_else_is, try_is, labelled, behind_label}
 use Rattle.ls_statements.proofs.statements.+statements.Goals as goal
 

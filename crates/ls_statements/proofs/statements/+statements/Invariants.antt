@@ -7,7 +7,7 @@ use Rattle.ls_tree.specs.PlacedStatements.{placed_items}
 use Rattle.ls_spelling.specs.Places.{spots}
 use Rattle.ls_spelling.specs.StatementPlaces.{ItemsAt}
 use Rattle.ls_terms.specs.Reading.{one_more, many_at, not_yet}
-use Rattle.ls_statements.specs.ReadingActions.{piece_at, local_at, action_at}
+use Rattle.ls_statements.specs.ReadingStatements.{piece_at, local_at, statement_at}
 use Rattle.ls_terms.proofs.Repeats.{InRepeat}
 use Rattle.ls_statements.proofs.statements.+statements.Given as goal
 
@@ -49,7 +49,7 @@ decreases-other_statement l = l.limit * 20 + 16
 
 abbrev pub invariant-block_items-loop-context : goal.invariant-block_items-loop-context
 invariant-block_items-loop-context l = record {
-  list : InRepeat (not_yet signs.CloseBrace) (one_more (piece_at (local_at l.limit) (action_at l.limit))) (length (lexemes l.all.rest.now)) (map bare_piece l.all.tree.items) (lexemes l.all.rest.now) (many_at (not_yet signs.CloseBrace) (piece_at (local_at l.limit) (action_at l.limit)) (lexemes l.fn.tokens));
+  list : InRepeat (not_yet signs.CloseBrace) (one_more (piece_at (local_at l.limit) (statement_at l.limit))) (length (lexemes l.all.rest.now)) (map bare_piece l.all.tree.items) (lexemes l.all.rest.now) (many_at (not_yet signs.CloseBrace) (piece_at (local_at l.limit) (statement_at l.limit)) (lexemes l.fn.tokens));
   places : ItemsAt (placed_items l.all.tree.items) (spots l.fn.tokens) (spots l.all.rest.now);
   height : l.all.height ≡ items_height (items_of l.all.tree.items);
   low : l.all.height ≤ l.limit;
