@@ -1,5 +1,5 @@
 -- What follows each way in which a statement may complete.
-use Rattle.std.proofs.Common.{◌≡◌, ℕ, zero, suc, ◌+◌, ◌-◌, ◌<◌, ◌≤◌, List, [], ◌∷◌, ◌++◌, length, Option, Some, None, Bool, refl, ap, ◌∙◌, subst, arith, append_assoc, nat_lt, if◌then◌else◌}
+use Rattle.std.proofs.Common.{◌≡◌, ℕ, ◌+◌, ◌-◌, ◌<◌, ◌≤◌, List, [], ◌∷◌, ◌++◌, length, Option, Some, None, Bool, refl, ap, ◌∙◌, subst, arith, append_assoc, nat_lt, if◌then◌else◌}
 use Rattle.std.proofs.lemmas.Bool.{lt-ltb}
 use Rattle.std.proofs.lemmas.List.{drop_all}
 use Rattle.ls_events.specs.declared.kind.Kind.{Kind}
@@ -11,9 +11,9 @@ use Rattle.ls_code.specs.Frame.{Frame, led_to}
 use Rattle.ls_code.specs.Thread.{Thread}
 use Rattle.ls_code.specs.declared.code.HandlerRow.{HandlerRow}
 use Rattle.ls_lowered.specs.Course.{Answers}
-use Rattle.ls_lowered.specs.Statements.{Normal, Broke, Continued, Returned, Threw, Left}
-use Rattle.ls_emission.specs.Statements.{Targets, in_loop, in_region, stop_of, turn_of, exit_of, row_of}
-use Rattle.ls_emission.proofs.Told.{Go, After, if_normal, if_thrown, if_left, in_body}
+use Rattle.ls_lowered.specs.Statements.{Normal, Returned, Threw, Left}
+use Rattle.ls_emission.specs.Statements.{Targets, target_of, row_of}
+use Rattle.ls_emission.proofs.Told.{Go, After, if_normal, if_thrown, if_left}
 use Rattle.ls_emission.proofs.Steps.{Setting, frame, here, raised, Reaches, later}
 use Rattle.ls_emission.proofs.Runs.{Catches}
 use Rattle.ls_emission.proofs.StatementPlaces.{NoRow, row_in, row_behind}
@@ -21,9 +21,7 @@ use Rattle.ls_emission.proofs.StatementPlaces.{NoRow, row_in, row_behind}
 module _ (s : Setting) where
   -- what follows code from p to p' with rows of its own, but where it ends normally; q has the answers so far
   pub record Others (p p' : ℕ) (own : List HandlerRow) (t : Targets) (q : Answers) (g : Go) : Type 0 where
-    pub broke : (n : ℕ) (ls : List ℕ) (rest : Answers) → n < length t.loops → length ls ≡ s.wide → length rest ≤ length q → Reaches s p' (Some (here s (stop_of t n) ls [])) rest (g (Broke n) ls rest)
-    pub continued : (n : ℕ) (ls : List ℕ) (rest : Answers) → n < length t.loops → length ls ≡ s.wide → length rest ≤ length q → Reaches s p' (Some (here s (turn_of t n) ls [])) rest (g (Continued n) ls rest)
-    pub left : (n : ℕ) (ls : List ℕ) (rest : Answers) → n < length t.exits → length ls ≡ s.wide → length rest ≤ length q → Reaches s p' (Some (here s (exit_of t n) ls [])) rest (g (Left n) ls rest)
+    pub left : (n : ℕ) (ls : List ℕ) (rest : Answers) → n < length t → length ls ≡ s.wide → length rest ≤ length q → Reaches s p' (Some (here s (target_of t n) ls [])) rest (g (Left n) ls rest)
     pub returned : (w c : ℕ) (ls ops : List ℕ) (rest : Answers) → p ≤ c → c < p' → length ls ≡ s.wide → length rest ≤ length q → Reaches s (c + 1) (left_with (here s c ls ops) s.base.below w) rest (g (Returned w) ls rest)
     pub threw : (kind : Kind) (c : ℕ) (ls ops : List ℕ) (rest : Answers) → p ≤ c → c < p' → NoRow c own → length ls ≡ s.wide → length rest ≤ length q → Reaches s (c + 1) (raised s kind c ls ops) rest (g (Threw kind) ls rest)
 
@@ -41,40 +39,22 @@ module _ (s : Setting) where
   -- of an inner part
   pub narrowed : (p p' p1 p1' : ℕ) (own own1 : List HandlerRow) (t : Targets) (q q1 : Answers) (g : Go) → p ≤ p1 → p1' ≤ p' → length q1 ≤ length q → ((c : ℕ) → p1 ≤ c → c < p1' → NoRow c own1 → NoRow c own) → Others p p' own t q g → Others p1 p1' own1 t q1 g
   narrowed p p' p1 p1' own own1 t q q1 g lp lp' lq rows x = record {
-    broke = λ n ls rest a b c. later s p' p1' (Some (here s (stop_of t n) ls [])) rest _ lp' (x.broke n ls rest a b (omega arith));
-    continued = λ n ls rest a b c. later s p' p1' (Some (here s (turn_of t n) ls [])) rest _ lp' (x.continued n ls rest a b (omega arith));
-    left = λ n ls rest a b c. later s p' p1' (Some (here s (exit_of t n) ls [])) rest _ lp' (x.left n ls rest a b (omega arith));
+    left = λ n ls rest a b c. later s p' p1' (Some (here s (target_of t n) ls [])) rest _ lp' (x.left n ls rest a b (omega arith));
     returned = λ w c ls ops rest l1 l2 a b. x.returned w c ls ops rest (omega arith) (omega arith) a (omega arith);
     threw = λ kind c ls ops rest l1 l2 free a b. x.threw kind c ls ops rest (omega arith) (omega arith) (rows c l1 l2 free) a (omega arith);
   }
 
   -- of a part before others
   pub others_normal : (p p' : ℕ) (own : List HandlerRow) (t : Targets) (q : Answers) (g : Go) (f : List ℕ → Answers → Fed) → Others p p' own t q g → Others p p' own t q (if_normal g f)
-  others_normal p p' own t q g f x = record { broke = x.broke; continued = x.continued; left = x.left; returned = x.returned; threw = x.threw }
+  others_normal p p' own t q g f x = record { left = x.left; returned = x.returned; threw = x.threw }
 
   -- of a guarded body
   pub others_thrown : (p p' : ℕ) (own own1 : List HandlerRow) (t : Targets) (q : Answers) (g : Go) (f : After Kind) → Others p p' own t q g → ((kind : Kind) (c : ℕ) (ls ops : List ℕ) (rest : Answers) → p ≤ c → c < p' → NoRow c own1 → length ls ≡ s.wide → length rest ≤ length q → Reaches s (c + 1) (raised s kind c ls ops) rest (f kind ls rest)) → Others p p' own1 t q (if_thrown g f)
-  others_thrown p p' own own1 t q g f x r = record { broke = x.broke; continued = x.continued; left = x.left; returned = x.returned; threw = r }
+  others_thrown p p' own own1 t q g f x r = record { left = x.left; returned = x.returned; threw = r }
 
   -- of a leavable body
-  left_by : (p p' : ℕ) (own : List HandlerRow) (t : Targets) (q : Answers) (g : Go) (f : List ℕ → Answers → Fed) (exit : ℕ) → Others p p' own t q g → ((ls : List ℕ) (rest : Answers) → length ls ≡ s.wide → length rest ≤ length q → Reaches s p' (Some (here s exit ls [])) rest (f ls rest)) → (n : ℕ) (ls : List ℕ) (rest : Answers) → n < suc (length t.exits) → length ls ≡ s.wide → length rest ≤ length q → Reaches s p' (Some (here s (exit_of (in_region exit t) n) ls [])) rest (if_left g f (Left n) ls rest)
-  left_by p p' own t q g f exit x r zero ls rest a b c = r ls rest b c
-  left_by p p' own t q g f exit x r (suc n) ls rest a b c = x.left n ls rest (omega arith) b c
-
-  pub others_left : (p p' : ℕ) (own : List HandlerRow) (t : Targets) (q : Answers) (g : Go) (f : List ℕ → Answers → Fed) (exit : ℕ) → Others p p' own t q g → ((ls : List ℕ) (rest : Answers) → length ls ≡ s.wide → length rest ≤ length q → Reaches s p' (Some (here s exit ls [])) rest (f ls rest)) → Others p p' own (in_region exit t) q (if_left g f)
-  others_left p p' own t q g f exit x r = record { broke = x.broke; continued = x.continued; left = left_by p p' own t q g f exit x r; returned = x.returned; threw = x.threw }
-
-  -- of a loop's body
-  broke_by : (p p' : ℕ) (own : List HandlerRow) (t : Targets) (q : Answers) (g : Go) (f : List ℕ → Answers → Fed) (turn stop : ℕ) → Others p p' own t q g → ((ls : List ℕ) (rest : Answers) → length ls ≡ s.wide → length rest ≤ length q → Reaches s p' (Some (here s stop ls [])) rest (g Normal ls rest)) → (n : ℕ) (ls : List ℕ) (rest : Answers) → n < suc (length t.loops) → length ls ≡ s.wide → length rest ≤ length q → Reaches s p' (Some (here s (stop_of (in_loop turn stop t) n) ls [])) rest (in_body g f (Broke n) ls rest)
-  broke_by p p' own t q g f turn stop x r zero ls rest a b c = r ls rest b c
-  broke_by p p' own t q g f turn stop x r (suc n) ls rest a b c = x.broke n ls rest (omega arith) b c
-
-  continued_by : (p p' : ℕ) (own : List HandlerRow) (t : Targets) (q : Answers) (g : Go) (f : List ℕ → Answers → Fed) (turn stop : ℕ) → Others p p' own t q g → ((ls : List ℕ) (rest : Answers) → length ls ≡ s.wide → length rest ≤ length q → Reaches s p' (Some (here s turn ls [])) rest (f ls rest)) → (n : ℕ) (ls : List ℕ) (rest : Answers) → n < suc (length t.loops) → length ls ≡ s.wide → length rest ≤ length q → Reaches s p' (Some (here s (turn_of (in_loop turn stop t) n) ls [])) rest (in_body g f (Continued n) ls rest)
-  continued_by p p' own t q g f turn stop x r zero ls rest a b c = r ls rest b c
-  continued_by p p' own t q g f turn stop x r (suc n) ls rest a b c = x.continued n ls rest (omega arith) b c
-
-  pub others_body : (p p' : ℕ) (own : List HandlerRow) (t : Targets) (q : Answers) (g : Go) (f : List ℕ → Answers → Fed) (turn stop : ℕ) → Others p p' own t q g → ((ls : List ℕ) (rest : Answers) → length ls ≡ s.wide → length rest ≤ length q → Reaches s p' (Some (here s stop ls [])) rest (g Normal ls rest)) → ((ls : List ℕ) (rest : Answers) → length ls ≡ s.wide → length rest ≤ length q → Reaches s p' (Some (here s turn ls [])) rest (f ls rest)) → Others p p' own (in_loop turn stop t) q (in_body g f)
-  others_body p p' own t q g f turn stop x stops turns = record { broke = broke_by p p' own t q g f turn stop x stops; continued = continued_by p p' own t q g f turn stop x turns; left = x.left; returned = x.returned; threw = x.threw }
+  pub others_left : (p p' : ℕ) (own : List HandlerRow) (t t' : Targets) (q : Answers) (g : Go) (f : After ℕ) → Others p p' own t q g → ((n : ℕ) (ls : List ℕ) (rest : Answers) → n < length t' → length ls ≡ s.wide → length rest ≤ length q → Reaches s p' (Some (here s (target_of t' n) ls [])) rest (f n ls rest)) → Others p p' own t' q (if_left g f)
+  others_left p p' own t t' q g f x r = record { left = r; returned = x.returned; threw = x.threw }
 
   -- a throw in code that no row of the statement holds
   pub catches_by : (p p' p1 p1' : ℕ) (own : List HandlerRow) (t : Targets) (q q1 : Answers) (g : Go) → p ≤ p1 → p1' ≤ p' → length q1 ≤ length q → ((c : ℕ) → p1 ≤ c → c < p1' → NoRow c own) → Others p p' own t q g → Catches s p1 p1' q1 (λ kind ls q. g (Threw kind) ls q)

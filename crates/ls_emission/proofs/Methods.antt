@@ -24,7 +24,7 @@ use Rattle.ls_lowered.specs.Course.{Answers, Course, Asks, Ends, Stuck, Throws, 
 use Rattle.ls_lowered.specs.Statements.{Completion, execute}
 use Rattle.ls_lowered.specs.Methods.{given, told, run_body, invoke}
 use Rattle.ls_emission.specs.Needs.{statement_need}
-use Rattle.ls_emission.specs.Statements.{no_targets, statement_size, statement_code, statement_rows}
+use Rattle.ls_emission.specs.Statements.{statement_size, statement_code, statement_rows}
 use Rattle.ls_emission.specs.Units.{method_need, units_of, LieIn}
 use Rattle.ls_emission.specs.Emittable.{IsEmittableFile}
 use Rattle.ls_emission.specs.Entering.{told_by, fed_from, given_back, TakesAll, UnitsAsk}
@@ -130,18 +130,16 @@ module _ (file : File) (emittable : IsEmittableFile file) (c : Code) (words : �
       let locals = values ++ replicate g.locals 0 in
       let el : length locals ≡ wide = omega (arith, length-append values (replicate g.locals 0), length-replicate {A = ℕ} g.locals 0, at.takes) in
       let within : start + (size + 2) ≤ words = at.within in
-      let code = statement_code no_targets start g.body in
+      let code = statement_code [] start g.body in
       let enough : statement_need g.body ≤ method_need g = omega arith in
-      let tail : HasAt c.instructions (start + size) (op.Push 0 ∷ op.LeaveWith ∷ []) = has_after c.instructions start size code (op.Push 0 ∷ op.LeaveWith ∷ []) (statement_size_is g.body no_targets start) at.has in
+      let tail : HasAt c.instructions (start + size) (op.Push 0 ∷ op.LeaveWith ∷ []) = has_after c.instructions start size code (op.Push 0 ∷ op.LeaveWith ∷ []) (statement_size_is g.body [] start) at.has in
       let leaves = λ (w c1 : ℕ) (ls1 ops : List ℕ) (rest : Answers) (l1 : c1 < words) (l2 : length rest ≤ length q) (n : ℕ) (le : budget ≤ n + (c1 + 1)).
       ap (λ b. fed_from c number bound n (if b then Some (standing t (p + 1) ls (w ∷ stack)) else None) rest) (lt-ltb (length stack) t.top.need room)
       ∙ returns n w rest l2 (omega arith) in
-      let x : Exits s start (start + size) (statement_rows start g.body) no_targets q (given_on go h) = record {
+      let x : Exits s start (start + size) (statement_rows start g.body) [] q (given_on go h) = record {
         normal = λ ls1 rest e1 l1. push_run s (start + size) 0 ls1 [] rest (go 0 rest) tail.0 (omega arith) (omega arith)
             (leave_run s (start + size + 1) 0 ls1 [] rest (go 0 rest) tail.1.0 (omega arith) (leaves 0 (start + size + 1) ls1 (0 ∷ []) rest (omega arith) l1));
         others = record {
-          broke = λ n ls1 rest a b d1. absurd (let f : ⊥ = omega arith in f);
-          continued = λ n ls1 rest a b d1. absurd (let f : ⊥ = omega arith in f);
           left = λ n ls1 rest a b d1. absurd (let f : ⊥ = omega arith in f);
           returned = λ w c1 ls1 ops rest l1 l2 a b. leaves w c1 ls1 ops rest (omega arith) b;
           threw = λ kind c1 ls1 ops rest l1 l2 free a b n le.
@@ -152,7 +150,7 @@ module _ (file : File) (emittable : IsEmittableFile file) (c : Code) (words : �
               ∙ raises n stack kind rest b (omega arith);
         };
       } in
-      executes s (enter_runs d entered number bound budget wide base inside (omega arith) all) g.body no_targets start locals q (given_on go h) (has_front c.instructions start code _ at.has) at.fits.body enough (omega arith)
+      executes s (enter_runs d entered number bound budget wide base inside (omega arith) all) g.body [] start locals q (given_on go h) (has_front c.instructions start code _ at.has) at.fits.body enough (omega arith)
       (λ c1 l1 l2. ([], at.guards c1 l1 (omega arith) ∙ ap (λ l. find_row l c1) (sym (append-nil (statement_rows start g.body))))) el x bound (omega arith)
       ∙ told_given (execute (invoke file d) g.body locals q) go h
       ∙ ap (λ o. told_by (run_body (invoke file d) o values q) go h) (sym at.is)

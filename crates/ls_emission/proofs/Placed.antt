@@ -7,7 +7,7 @@ use Rattle.ls_code.specs.declared.code.HandlerRow.{HandlerRow}
 use Rattle.ls_code.specs.declared.code.Method.{Method as MethodRow}
 use Rattle.ls_code.specs.declared.instruction.Instruction.TheVariants as op
 use Rattle.ls_lowered.specs.LoweredTree.{Method, File}
-use Rattle.ls_emission.specs.Statements.{no_targets, statement_code}
+use Rattle.ls_emission.specs.Statements.{statement_code}
 use Rattle.ls_emission.specs.Units.{method_size, method_code, method_rows, method_need, unit_of, units_of, LiesAt, LieIn}
 use Rattle.ls_emission.specs.Emittable.{IsEmittableMethod, AllEmittable, IsEmittableFile}
 use Rattle.ls_emission.specs.Entering.{TakesAll}
@@ -39,7 +39,7 @@ pub no_row : (c : ℕ) (rows : List HandlerRow) → NoRow c rows → find_row ro
 no_row c rows free = ap (λ l. find_row l c) (sym (append-nil rows)) ∙ row_behind c rows [] free
 
 code_size : (g : Method) → length (method_code 0 g) ≡ method_size g
-code_size g = omega (arith, length-append (statement_code no_targets 0 g.body) (op.Push 0 ∷ op.LeaveWith ∷ []), statement_size_is g.body no_targets 0)
+code_size g = omega (arith, length-append (statement_code [] 0 g.body) (op.Push 0 ∷ op.LeaveWith ∷ []), statement_size_is g.body [] 0)
 
 module _ (file : File) (emittable : IsEmittableFile file) (c : Code) (words : ℕ) (lies : LieIn c words (units_of file)) where
   placed_by : (o : Option Method) (m : ℕ) (values : List ℕ) → slice_get file m ≡ o → TakesAll o values → Placed file c words m values

@@ -1,10 +1,10 @@
 -- What a course comes to as a fed thread tells it, where what follows goes on: one equation for each way to put courses together.
-use Rattle.std.proofs.Common.{◌≡◌, ℕ, zero, suc, List, refl}
+use Rattle.std.proofs.Common.{◌≡◌, ℕ, List, refl}
 use Rattle.ls_events.specs.declared.kind.Kind.{Kind}
 use Rattle.ls_code.specs.Fed.{Fed}
 use Rattle.ls_code.specs.Fed as fed
 use Rattle.ls_lowered.specs.Course.{Answers, Course, Asks, Ends, Stuck, Outcome, Results, Throws, finish, and_then, Told, Asked, Gave, Raised, Lost, returned}
-use Rattle.ls_lowered.specs.Statements.{Completion, Normal, Broke, Continued, Returned, Threw, Left, on_word, on_normal, on_throw, on_leave, on_body, turn_back}
+use Rattle.ls_lowered.specs.Statements.{Completion, Normal, Returned, Threw, Left, on_word, on_normal, on_throw, on_leave, on_body, turn_back}
 use Rattle.ls_emission.specs.Entering.{told_by}
 
 -- what follows a value and a throw of an expression
@@ -44,47 +44,28 @@ end_word (Ends (Results x) ls q) f g = refl
 end_word (Ends (Throws kind) ls q) f g = refl
 end_word Stuck f g = refl
 
--- the same but for a normal end, a throw, a leave, and for a body within its loop
+-- the same but for a normal end, a throw, a leave
 abbrev pub if_normal : Go → (List ℕ → Answers → Fed) → Go
 if_normal g f Normal ls q = f ls q
-if_normal g f (Broke n) ls q = g (Broke n) ls q
-if_normal g f (Continued n) ls q = g (Continued n) ls q
 if_normal g f (Returned w) ls q = g (Returned w) ls q
 if_normal g f (Threw kind) ls q = g (Threw kind) ls q
 if_normal g f (Left n) ls q = g (Left n) ls q
 
 abbrev pub if_thrown : Go → After Kind → Go
 if_thrown g f Normal ls q = g Normal ls q
-if_thrown g f (Broke n) ls q = g (Broke n) ls q
-if_thrown g f (Continued n) ls q = g (Continued n) ls q
 if_thrown g f (Returned w) ls q = g (Returned w) ls q
 if_thrown g f (Threw kind) ls q = f kind ls q
 if_thrown g f (Left n) ls q = g (Left n) ls q
 
-abbrev pub if_left : Go → (List ℕ → Answers → Fed) → Go
+abbrev pub if_left : Go → After ℕ → Go
 if_left g f Normal ls q = g Normal ls q
-if_left g f (Broke n) ls q = g (Broke n) ls q
-if_left g f (Continued n) ls q = g (Continued n) ls q
 if_left g f (Returned w) ls q = g (Returned w) ls q
 if_left g f (Threw kind) ls q = g (Threw kind) ls q
-if_left g f (Left zero) ls q = f ls q
-if_left g f (Left (suc n)) ls q = g (Left n) ls q
-
-abbrev pub in_body : Go → (List ℕ → Answers → Fed) → Go
-in_body g f Normal ls q = f ls q
-in_body g f (Broke zero) ls q = g Normal ls q
-in_body g f (Broke (suc n)) ls q = g (Broke n) ls q
-in_body g f (Continued zero) ls q = f ls q
-in_body g f (Continued (suc n)) ls q = g (Continued n) ls q
-in_body g f (Returned w) ls q = g (Returned w) ls q
-in_body g f (Threw kind) ls q = g (Threw kind) ls q
-in_body g f (Left n) ls q = g (Left n) ls q
+if_left g f (Left n) ls q = f n ls q
 
 pub end_normal : (x : Course Completion) (f : List ℕ → Answers → Course Completion) (g : Go) → end (finish x (on_normal f)) g ≡ end x (if_normal g (λ ls q. end (f ls q) g))
 end_normal (Asks action) f g = refl
 end_normal (Ends Normal ls q) f g = refl
-end_normal (Ends (Broke n) ls q) f g = refl
-end_normal (Ends (Continued n) ls q) f g = refl
 end_normal (Ends (Returned w) ls q) f g = refl
 end_normal (Ends (Threw kind) ls q) f g = refl
 end_normal (Ends (Left n) ls q) f g = refl
@@ -93,31 +74,22 @@ end_normal Stuck f g = refl
 pub end_thrown : (x : Course Completion) (f : Kind → List ℕ → Answers → Course Completion) (g : Go) → end (finish x (on_throw f)) g ≡ end x (if_thrown g (λ kind ls q. end (f kind ls q) g))
 end_thrown (Asks action) f g = refl
 end_thrown (Ends Normal ls q) f g = refl
-end_thrown (Ends (Broke n) ls q) f g = refl
-end_thrown (Ends (Continued n) ls q) f g = refl
 end_thrown (Ends (Returned w) ls q) f g = refl
 end_thrown (Ends (Threw kind) ls q) f g = refl
 end_thrown (Ends (Left n) ls q) f g = refl
 end_thrown Stuck f g = refl
 
-pub end_left : (x : Course Completion) (f : List ℕ → Answers → Course Completion) (g : Go) → end (finish x (on_leave f)) g ≡ end x (if_left g (λ ls q. end (f ls q) g))
+pub end_left : (x : Course Completion) (f : ℕ → List ℕ → Answers → Course Completion) (g : Go) → end (finish x (on_leave f)) g ≡ end x (if_left g (λ n ls q. end (f n ls q) g))
 end_left (Asks action) f g = refl
 end_left (Ends Normal ls q) f g = refl
-end_left (Ends (Broke n) ls q) f g = refl
-end_left (Ends (Continued n) ls q) f g = refl
 end_left (Ends (Returned w) ls q) f g = refl
 end_left (Ends (Threw kind) ls q) f g = refl
-end_left (Ends (Left zero) ls q) f g = refl
-end_left (Ends (Left (suc n)) ls q) f g = refl
+end_left (Ends (Left n) ls q) f g = refl
 end_left Stuck f g = refl
 
-pub end_body : (x : Course Completion) (again : List ℕ → Answers → Course Completion) (g : Go) → end (finish x (on_body again)) g ≡ end x (in_body g (λ ls q. end (turn_back again ls q) g))
+pub end_body : (x : Course Completion) (again : List ℕ → Answers → Course Completion) (g : Go) → end (finish x (on_body again)) g ≡ end x (if_normal g (λ ls q. end (turn_back again ls q) g))
 end_body (Asks action) again g = refl
 end_body (Ends Normal ls q) again g = refl
-end_body (Ends (Broke zero) ls q) again g = refl
-end_body (Ends (Broke (suc n)) ls q) again g = refl
-end_body (Ends (Continued zero) ls q) again g = refl
-end_body (Ends (Continued (suc n)) ls q) again g = refl
 end_body (Ends (Returned w) ls q) again g = refl
 end_body (Ends (Threw kind) ls q) again g = refl
 end_body (Ends (Left n) ls q) again g = refl

@@ -1,10 +1,14 @@
 -- The trees that have code: each number of a tree is there, and no `try` is left.
 use Rattle.std.specs.Prelude.{◌≡◌, ◌<◌, ◌≤◌, ℕ, suc, ◌+◌, ◌^◌, List, [], ◌∷◌, Option, Some, None, slice_get}
-use Rattle.ls_lowered.specs.LoweredTree.{Expression, Word, Local, Unary, Binary, And, Or, Hold, Keep, After, Field, Item, SetFirst, ReadPair, SetPair, SwapPair, AttemptMark, OnLock, Call, MakeObject, MakeLock, MakeMarkable, MakeArray, Expressions, End, More, Statement, Block, SetLocal, SetField, SetItem, Evaluate, If, While, Break, Continue, Return, Try, Guarded, Throw, Leavable, Leave, Statements, Done, Then, Method, File}
+use Rattle.ls_lowered.specs.LoweredTree.{Expression, Word, Local, Unary, Binary, And, Or, Hold, Keep, After, Field, Item, SetFirst, ReadPair, SetPair, SwapPair, AttemptMark, OnLock, Call, MakeObject, MakeLock, MakeMarkable, MakeArray, Expressions, End, More, Statement, Block, SetLocal, SetField, SetItem, Evaluate, If, While, Return, Try, Guarded, Throw, Leavable, Leave, Statements, Done, Then, Method, File}
 
 abbrev pub count : Expressions → ℕ
 count End = 0
 count (More e es) = suc (count es)
+
+abbrev pub statement_count : Statements → ℕ
+statement_count Done = 0
+statement_count (Then s ss) = suc (statement_count ss)
 
 -- method number m is there and takes so many arguments, `this` among them
 abbrev pub TakesIn : Option Method → ℕ → Type 0
@@ -45,33 +49,31 @@ abbrev mutual
   AreEmittable ms k (More e es) = IsEmittable ms k e × AreEmittable ms k es
 
 abbrev mutual
-  -- a statement within so many loops and so many leavable regions
-  pub IsEmittableStatement : File → ℕ → ℕ → ℕ → Statement → Type 0
-  IsEmittableStatement ms k loops regions (Block ss) = AreEmittableStatements ms k loops regions ss
-  IsEmittableStatement ms k loops regions (SetLocal n e) = (n < k) × IsEmittable ms k e
-  IsEmittableStatement ms k loops regions (SetField e f a) = (f < 2 ^ 32) × IsEmittable ms k e × IsEmittable ms k a
-  IsEmittableStatement ms k loops regions (SetItem a i e) = IsEmittable ms k a × IsEmittable ms k i × IsEmittable ms k e
-  IsEmittableStatement ms k loops regions (Evaluate e) = IsEmittable ms k e
-  IsEmittableStatement ms k loops regions (If e a b) = IsEmittable ms k e × IsEmittableStatement ms k loops regions a × IsEmittableStatement ms k loops regions b
-  IsEmittableStatement ms k loops regions (While e s) = IsEmittable ms k e × IsEmittableStatement ms k (suc loops) regions s
-  IsEmittableStatement ms k loops regions (Break n) = n < loops
-  IsEmittableStatement ms k loops regions (Continue n) = n < loops
-  IsEmittableStatement ms k loops regions (Return e) = IsEmittable ms k e
-  IsEmittableStatement ms k loops regions (Try b f) = ⊥
-  IsEmittableStatement ms k loops regions (Guarded b n h) = (n < k) × IsEmittableStatement ms k loops regions b × IsEmittableStatement ms k loops regions h
-  IsEmittableStatement ms k loops regions (Throw n) = n < k
-  IsEmittableStatement ms k loops regions (Leavable b x) = IsEmittableStatement ms k loops (suc regions) b × IsEmittableStatement ms k loops regions x
-  IsEmittableStatement ms k loops regions (Leave n) = n < regions
+  -- a statement round which so many numbers can be left
+  pub IsEmittableStatement : File → ℕ → ℕ → Statement → Type 0
+  IsEmittableStatement ms k exits (Block ss) = AreEmittableStatements ms k exits ss
+  IsEmittableStatement ms k exits (SetLocal n e) = (n < k) × IsEmittable ms k e
+  IsEmittableStatement ms k exits (SetField e f a) = (f < 2 ^ 32) × IsEmittable ms k e × IsEmittable ms k a
+  IsEmittableStatement ms k exits (SetItem a i e) = IsEmittable ms k a × IsEmittable ms k i × IsEmittable ms k e
+  IsEmittableStatement ms k exits (Evaluate e) = IsEmittable ms k e
+  IsEmittableStatement ms k exits (If e a b) = IsEmittable ms k e × IsEmittableStatement ms k exits a × IsEmittableStatement ms k exits b
+  IsEmittableStatement ms k exits (While e s) = IsEmittable ms k e × IsEmittableStatement ms k exits s
+  IsEmittableStatement ms k exits (Return e) = IsEmittable ms k e
+  IsEmittableStatement ms k exits (Try b f) = ⊥
+  IsEmittableStatement ms k exits (Guarded b n h) = (n < k) × IsEmittableStatement ms k exits b × IsEmittableStatement ms k exits h
+  IsEmittableStatement ms k exits (Throw n) = n < k
+  IsEmittableStatement ms k exits (Leavable b xs) = IsEmittableStatement ms k (suc (statement_count xs) + exits) b × AreEmittableStatements ms k exits xs
+  IsEmittableStatement ms k exits (Leave n) = n < exits
 
-  pub AreEmittableStatements : File → ℕ → ℕ → ℕ → Statements → Type 0
-  AreEmittableStatements ms k loops regions Done = Unit {0}
-  AreEmittableStatements ms k loops regions (Then s ss) = IsEmittableStatement ms k loops regions s × AreEmittableStatements ms k loops regions ss
+  pub AreEmittableStatements : File → ℕ → ℕ → Statements → Type 0
+  AreEmittableStatements ms k exits Done = Unit {0}
+  AreEmittableStatements ms k exits (Then s ss) = IsEmittableStatement ms k exits s × AreEmittableStatements ms k exits ss
 
 -- each method has at least its `this`, at most 2 ^ 16 locals, and a body that has code
 pub record IsEmittableMethod (ms : File) (m : Method) : Type 0 where
   pub this : 1 ≤ m.arguments
   pub locals : m.arguments + m.locals ≤ 65536
-  pub body : IsEmittableStatement ms (m.arguments + m.locals) 0 0 m.body
+  pub body : IsEmittableStatement ms (m.arguments + m.locals) 0 m.body
 
 abbrev pub AllEmittable : File → List Method → Type 0
 AllEmittable ms [] = Unit {0}

@@ -1,6 +1,6 @@
 -- How many operands a tree's code has at most at one time.
 use Rattle.std.specs.Prelude.{ℕ, ◌+◌, max}
-use Rattle.ls_lowered.specs.LoweredTree.{Expression, Word, Local, Unary, Binary, And, Or, Hold, Keep, After, Field, Item, SetFirst, ReadPair, SetPair, SwapPair, AttemptMark, OnLock, Call, MakeObject, MakeLock, MakeMarkable, MakeArray, Expressions, End, More, Statement, Block, SetLocal, SetField, SetItem, Evaluate, If, While, Break, Continue, Return, Try, Guarded, Throw, Leavable, Leave, Statements, Done, Then}
+use Rattle.ls_lowered.specs.LoweredTree.{Expression, Word, Local, Unary, Binary, And, Or, Hold, Keep, After, Field, Item, SetFirst, ReadPair, SetPair, SwapPair, AttemptMark, OnLock, Call, MakeObject, MakeLock, MakeMarkable, MakeArray, Expressions, End, More, Statement, Block, SetLocal, SetField, SetItem, Evaluate, If, While, Return, Try, Guarded, Throw, Leavable, Leave, Statements, Done, Then}
 
 abbrev mutual
   pub need : Expression → ℕ
@@ -40,13 +40,11 @@ abbrev mutual
   statement_need (Evaluate e) = need e
   statement_need (If e a b) = max (need e) (max (statement_need a) (statement_need b))
   statement_need (While e s) = max (need e) (statement_need s)
-  statement_need (Break n) = 0
-  statement_need (Continue n) = 0
   statement_need (Return e) = need e
   statement_need (Try b f) = 0
   statement_need (Guarded b n h) = max 1 (max (statement_need b) (statement_need h))
   statement_need (Throw n) = 1
-  statement_need (Leavable b x) = max (statement_need b) (statement_need x)
+  statement_need (Leavable b xs) = max (statement_need b) (statements_need xs)
   statement_need (Leave n) = 0
 
   pub statements_need : Statements → ℕ

@@ -12,7 +12,7 @@ use Rattle.ls_code.specs.declared.code.HandlerRow.{HandlerRow}
 use Rattle.ls_code.specs.declared.instruction.Instruction.{Instruction}
 use Rattle.ls_code.specs.declared.instruction.Instruction.TheVariants as op
 use Rattle.ls_code.specs.declared.step.Mode.TheVariants as mode
-use Rattle.ls_lowered.specs.LoweredTree.{Word, Local, And, Or, Field, Call, MakeObject, End, More, Statement, Block, Evaluate, If, While, Continue, Break, Return, Guarded, Throw, Leavable, Leave, Done, Then, Method}
+use Rattle.ls_lowered.specs.LoweredTree.{Word, Local, And, Or, Field, Call, MakeObject, End, More, Statement, Block, Evaluate, If, While, Return, Guarded, Throw, Leavable, Leave, Done, Then, Method}
 use Rattle.ls_lowered.specs.Course.{Answers, Told}
 use Rattle.ls_lowered.specs.Course as course
 use Rattle.ls_lowered.specs.Methods.{invoke}
@@ -37,18 +37,18 @@ Shortcuts =
     unit_of (method 2 0 (Return (And (Local 0) (Or (Local 1) (Word 0)))))
     ≡ unit (op.Load 0 ∷ op.JumpIfFalse 8 ∷ op.Load 1 ∷ op.JumpIfFalse 6 ∷ op.Push 1 ∷ op.Jump 7 ∷ op.Push 0 ∷ op.Jump 9 ∷ op.Push 0 ∷ op.LeaveWith ∷ op.Push 0 ∷ op.LeaveWith ∷ []) [] 2 0 1
 
--- a loop: its body leaves a guarded region by `continue`, and the handler throws on
+-- a loop: its body leaves a guarded region to go on, and the handler throws on
 abbrev pub Loops : Type 0
 Loops =
-    unit_of (method 1 1 (While (Local 0) (Guarded (Continue 0) 1 (Throw 1))))
+    unit_of (method 1 1 (While (Local 0) (Leavable (Guarded (Leave 0) 1 (Throw 1)) Done)))
     ≡ unit (op.Load 0 ∷ op.JumpIfFalse 8 ∷ op.Jump 7 ∷ op.Jump 7 ∷ op.Store 1 ∷ op.Load 1 ∷ op.Throw ∷ op.Turn 0 ∷ op.Push 0 ∷ op.LeaveWith ∷ [])
     (record { from = 2; to = 3; handler = 4; depth = 0 } ∷ []) 1 1 1
 
--- a leavable region, left, and a loop that is broken off in a region within it
+-- a leavable statement with an exit, and a loop that is left from the body of another and from its exit
 abbrev pub Leaves : Type 0
 Leaves =
-    unit_of (method 1 0 (Block (Then (Leavable (Leave 0) (Evaluate (Word 5))) (Then (While (Word 1) (Leavable (Break 0) (Continue 0))) Done))))
-    ≡ unit (op.Jump 2 ∷ op.Jump 4 ∷ op.Push 5 ∷ op.Pop ∷ op.Push 1 ∷ op.JumpIfFalse 10 ∷ op.Jump 10 ∷ op.Jump 9 ∷ op.Jump 9 ∷ op.Turn 4 ∷ op.Push 0 ∷ op.LeaveWith ∷ []) [] 1 0 1
+    unit_of (method 1 0 (Block (Then (Leavable (Leave 0) (Then (Evaluate (Word 5)) Done)) (Then (Leavable (While (Word 1) (Leavable (Leave 2) (Then (Leave 0) Done))) Done) Done))))
+    ≡ unit (op.Jump 2 ∷ op.Jump 4 ∷ op.Push 5 ∷ op.Pop ∷ op.Push 1 ∷ op.JumpIfFalse 10 ∷ op.Jump 10 ∷ op.Jump 9 ∷ op.Jump 10 ∷ op.Turn 4 ∷ op.Push 0 ∷ op.LeaveWith ∷ []) [] 1 0 1
 
 -- a call whose argument is a new object
 abbrev pub Calls : Type 0

@@ -7,7 +7,7 @@ use Rattle.ls_code.specs.declared.instruction.Instruction.TheVariants as op
 use Rattle.ls_code.specs.declared.code.HandlerRow.{HandlerRow}
 use Rattle.ls_lowered.specs.LoweredTree.{Method, File}
 use Rattle.ls_emission.specs.Needs.{statement_need}
-use Rattle.ls_emission.specs.Statements.{no_targets, statement_size, statement_code, statement_rows}
+use Rattle.ls_emission.specs.Statements.{statement_size, statement_code, statement_rows}
 
 -- a method's code as if it stood at place 0, its handler rows, its arguments (`this` among them), its further locals,
 -- and how many operands it needs
@@ -23,7 +23,7 @@ abbrev pub method_size : Method → ℕ
 method_size m = statement_size m.body + 2
 
 abbrev pub method_code : ℕ → Method → List Instruction
-method_code p m = statement_code no_targets p m.body ++ op.Push 0 ∷ op.LeaveWith ∷ []
+method_code p m = statement_code [] p m.body ++ op.Push 0 ∷ op.LeaveWith ∷ []
 
 abbrev pub method_rows : ℕ → Method → List HandlerRow
 method_rows p m = statement_rows p m.body

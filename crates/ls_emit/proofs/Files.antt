@@ -22,7 +22,7 @@ pub all_small_bodies : (ms : lowered.File) (xs : List Method) → AllEmittable m
 all_small_bodies ms [] h = λ k d l. absurd (let f : ⊥ = omega arith in f)
 all_small_bodies ms (x ∷ xs) h =
     all_cons (λ m. IsSmallStatement (plain_method m).body) x xs
-    (small_statement ms (x.arguments + x.locals) h.0.locals (plain_method x).body 0 0 h.0.body)
+    (small_statement ms (x.arguments + x.locals) h.0.locals (plain_method x).body 0 h.0.body)
     (all_small_bodies ms xs h.1)
 
 pub all_of_map : {X Y : Type 0} (P : Y → Type 0) (f : X → Y) (xs : List X) → All P (map f xs) → All (λ x. P (f x)) xs

@@ -1,4 +1,5 @@
 pub mod Blocks
 pub mod Files
 pub mod Smalls
+pub mod Leaves
 pub mod Weights

@@ -1,7 +1,7 @@
 -- The numbers of an emittable tree are operands.
-use Rattle.std.proofs.Common.{ℕ, suc, ◌<◌, ◌≤◌, ◌^◌, arith}
-use Rattle.ls_lowered.specs.LoweredTree.{Expression, Word, Local, Unary, Binary, And, Or, Hold, Keep, After, Field, Item, SetFirst, ReadPair, SetPair, SwapPair, AttemptMark, OnLock, Call, MakeObject, MakeLock, MakeMarkable, MakeArray, Expressions, End, More, Statement, Block, SetLocal, SetField, SetItem, Evaluate, If, While, Break, Continue, Return, Try, Guarded, Throw, Leavable, Leave, Statements, Done, Then, File}
-use Rattle.ls_emission.specs.Emittable.{IsEmittable, AreEmittable, IsEmittableStatement, AreEmittableStatements}
+use Rattle.std.proofs.Common.{ℕ, suc, ◌+◌, ◌<◌, ◌≤◌, ◌^◌, arith}
+use Rattle.ls_lowered.specs.LoweredTree.{Expression, Word, Local, Unary, Binary, And, Or, Hold, Keep, After, Field, Item, SetFirst, ReadPair, SetPair, SwapPair, AttemptMark, OnLock, Call, MakeObject, MakeLock, MakeMarkable, MakeArray, Expressions, End, More, Statement, Block, SetLocal, SetField, SetItem, Evaluate, If, While, Return, Try, Guarded, Throw, Leavable, Leave, Statements, Done, Then, File}
+use Rattle.ls_emission.specs.Emittable.{statement_count, IsEmittable, AreEmittable, IsEmittableStatement, AreEmittableStatements}
 use Rattle.ls_emit.specs.Small.{IsSmall, AreSmall, IsSmallStatement, AreSmallStatements}
 
 below : (k n : ℕ) → k ≤ 65536 → n < k → n < 2 ^ 32
@@ -38,23 +38,21 @@ module _ (ms : File) (k : ℕ) (few : k ≤ 65536) where
     all_small (More e es) h = (small e h.0, all_small es h.1)
 
   mutual
-    pub small_statement : (s : Statement) (loops regions : ℕ) → IsEmittableStatement ms k loops regions s → IsSmallStatement s
-    small_statement (Block ss) loops regions h = all_small_statements ss loops regions h
-    small_statement (SetLocal n e) loops regions h = (below k n few h.0, small e h.1)
-    small_statement (SetField e f a) loops regions h = (h.0, small e h.1, small a h.2)
-    small_statement (SetItem a i e) loops regions h = (small a h.0, small i h.1, small e h.2)
-    small_statement (Evaluate e) loops regions h = small e h
-    small_statement (If e a b) loops regions h = (small e h.0, small_statement a loops regions h.1, small_statement b loops regions h.2)
-    small_statement (While e s) loops regions h = (small e h.0, small_statement s (suc loops) regions h.1)
-    small_statement (Break n) loops regions h = tt
-    small_statement (Continue n) loops regions h = tt
-    small_statement (Return e) loops regions h = small e h
-    small_statement (Try b f) loops regions h = tt
-    small_statement (Guarded b n x) loops regions h = (below k n few h.0, small_statement b loops regions h.1, small_statement x loops regions h.2)
-    small_statement (Throw n) loops regions h = below k n few h
-    small_statement (Leavable b x) loops regions h = (small_statement b loops (suc regions) h.0, small_statement x loops regions h.1)
-    small_statement (Leave n) loops regions h = tt
+    pub small_statement : (s : Statement) (exits : ℕ) → IsEmittableStatement ms k exits s → IsSmallStatement s
+    small_statement (Block ss) exits h = all_small_statements ss exits h
+    small_statement (SetLocal n e) exits h = (below k n few h.0, small e h.1)
+    small_statement (SetField e f a) exits h = (h.0, small e h.1, small a h.2)
+    small_statement (SetItem a i e) exits h = (small a h.0, small i h.1, small e h.2)
+    small_statement (Evaluate e) exits h = small e h
+    small_statement (If e a b) exits h = (small e h.0, small_statement a exits h.1, small_statement b exits h.2)
+    small_statement (While e s) exits h = (small e h.0, small_statement s exits h.1)
+    small_statement (Return e) exits h = small e h
+    small_statement (Try b f) exits h = tt
+    small_statement (Guarded b n x) exits h = (below k n few h.0, small_statement b exits h.1, small_statement x exits h.2)
+    small_statement (Throw n) exits h = below k n few h
+    small_statement (Leavable b xs) exits h = (small_statement b (suc (statement_count xs) + exits) h.0, all_small_statements xs exits h.1)
+    small_statement (Leave n) exits h = tt
 
-    pub all_small_statements : (ss : Statements) (loops regions : ℕ) → AreEmittableStatements ms k loops regions ss → AreSmallStatements ss
-    all_small_statements Done loops regions h = tt
-    all_small_statements (Then s ss) loops regions h = (small_statement s loops regions h.0, all_small_statements ss loops regions h.1)
+    pub all_small_statements : (ss : Statements) (exits : ℕ) → AreEmittableStatements ms k exits ss → AreSmallStatements ss
+    all_small_statements Done exits h = tt
+    all_small_statements (Then s ss) exits h = (small_statement s exits h.0, all_small_statements ss exits h.1)

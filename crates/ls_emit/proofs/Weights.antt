@@ -1,6 +1,7 @@
 -- How much there is to do at a statement.
-use Rattle.std.proofs.Common.{ℕ, ◌+◌}
-use Rattle.ls_lowered.specs.LoweredTree.{Statement, Block, SetLocal, SetField, SetItem, Evaluate, If, While, Break, Continue, Return, Try, Guarded, Throw, Leavable, Leave, Statements, Done, Then}
+use Rattle.std.proofs.Common.{ℕ, ◌+◌, ◌≤◌, arith}
+use Rattle.ls_lowered.specs.LoweredTree.{Statement, Block, SetLocal, SetField, SetItem, Evaluate, If, While, Return, Try, Guarded, Throw, Leavable, Leave, Statements, Done, Then}
+use Rattle.ls_emission.specs.Statements.{statements_size, exits_size}
 
 abbrev mutual
   pub weight : Statement → ℕ
@@ -11,15 +12,18 @@ abbrev mutual
   weight (Evaluate e) = 0
   weight (If e a b) = weight a + weight b + 1
   weight (While e s) = weight s + 1
-  weight (Break n) = 0
-  weight (Continue n) = 0
   weight (Return e) = 0
   weight (Try b f) = 0
   weight (Guarded b n h) = weight b + weight h + 1
   weight (Throw n) = 0
-  weight (Leavable b x) = weight b + weight x + 1
+  weight (Leavable b xs) = weight b + weights xs + 2
   weight (Leave n) = 0
 
   pub weights : Statements → ℕ
   weights Done = 0
   weights (Then s ss) = weight s + weights ss
+
+-- exits have no fewer instructions than the statements alone
+pub exits_hold : (xs : Statements) → statements_size xs ≤ exits_size xs
+exits_hold Done = omega arith
+exits_hold (Then x xs) = omega (arith, exits_hold xs)

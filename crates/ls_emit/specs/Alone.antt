@@ -1,5 +1,5 @@
 -- The statements without others in them.
-use Rattle.ls_lowered.specs.LoweredTree.{Statement, Block, SetLocal, SetField, SetItem, Evaluate, If, While, Break, Continue, Return, Try, Guarded, Throw, Leavable, Leave}
+use Rattle.ls_lowered.specs.LoweredTree.{Statement, Block, SetLocal, SetField, SetItem, Evaluate, If, While, Return, Try, Guarded, Throw, Leavable, Leave}
 
 -- a `try` has no code, and so nothing in it counts
 abbrev pub IsAlone : Statement → Type 0
@@ -10,11 +10,9 @@ IsAlone (SetItem a i e) = Unit {0}
 IsAlone (Evaluate e) = Unit {0}
 IsAlone (If e a b) = ⊥
 IsAlone (While e s) = ⊥
-IsAlone (Break n) = Unit {0}
-IsAlone (Continue n) = Unit {0}
 IsAlone (Return e) = Unit {0}
 IsAlone (Try b f) = Unit {0}
 IsAlone (Guarded b n h) = ⊥
 IsAlone (Throw n) = Unit {0}
-IsAlone (Leavable b x) = ⊥
+IsAlone (Leavable b xs) = ⊥
 IsAlone (Leave n) = Unit {0}

@@ -1,9 +1,18 @@
--- Where jumps out of a statement lead, as the emission has it.
-use Rattle.ls_emission.specs.Statements.{Targets, no_targets, in_loop, in_region}
+-- Where leaves out of a statement lead, as the emission has it.
+use Rattle.std.specs.Prelude.{ℕ, ◌+◌, List, [], ◌∷◌, ◌++◌}
+use Rattle.ls_emission.specs.Statements.{Targets}
 use Rattle.ls_emit.specs.declared.targets.Around.{Around}
-use Rattle.ls_emit.specs.declared.targets.Around.TheVariants.{Nothing, Loop', Region'}
+use Rattle.ls_emit.specs.declared.targets.Around.TheVariants.{Nothing, Leavable'}
 
 abbrev pub targets_of : Around → Targets
-targets_of Nothing = no_targets
-targets_of (Loop' turn stop p outer) = in_loop turn stop (targets_of outer)
-targets_of (Region' exit p outer) = in_region exit (targets_of outer)
+targets_of Nothing = []
+targets_of (Leavable' exits stop p outer) = (exits.now ++ stop ∷ []) ++ targets_of outer
+
+-- how many instructions exits of these sizes have, each behind a jump; where they begin, and behind them the end
+abbrev pub room : List ℕ → ℕ
+room [] = 0
+room (n ∷ ns) = 1 + n + room ns
+
+abbrev pub places_by : ℕ → List ℕ → Targets
+places_by p [] = p ∷ []
+places_by p (n ∷ ns) = (p + 1) ∷ places_by (p + 1 + n) ns

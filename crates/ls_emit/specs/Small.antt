@@ -1,6 +1,6 @@
 -- The trees whose numbers are operands: each is below 2 ^ 32.
 use Rattle.std.specs.Prelude.{◌<◌, ◌^◌}
-use Rattle.ls_lowered.specs.LoweredTree.{Expression, Word, Local, Unary, Binary, And, Or, Hold, Keep, After, Field, Item, SetFirst, ReadPair, SetPair, SwapPair, AttemptMark, OnLock, Call, MakeObject, MakeLock, MakeMarkable, MakeArray, Expressions, End, More, Statement, Block, SetLocal, SetField, SetItem, Evaluate, If, While, Break, Continue, Return, Try, Guarded, Throw, Leavable, Leave, Statements, Done, Then}
+use Rattle.ls_lowered.specs.LoweredTree.{Expression, Word, Local, Unary, Binary, And, Or, Hold, Keep, After, Field, Item, SetFirst, ReadPair, SetPair, SwapPair, AttemptMark, OnLock, Call, MakeObject, MakeLock, MakeMarkable, MakeArray, Expressions, End, More, Statement, Block, SetLocal, SetField, SetItem, Evaluate, If, While, Return, Try, Guarded, Throw, Leavable, Leave, Statements, Done, Then}
 
 abbrev mutual
   pub IsSmall : Expression → Type 0
@@ -40,13 +40,11 @@ abbrev mutual
   IsSmallStatement (Evaluate e) = IsSmall e
   IsSmallStatement (If e a b) = IsSmall e × IsSmallStatement a × IsSmallStatement b
   IsSmallStatement (While e s) = IsSmall e × IsSmallStatement s
-  IsSmallStatement (Break n) = Unit {0}
-  IsSmallStatement (Continue n) = Unit {0}
   IsSmallStatement (Return e) = IsSmall e
   IsSmallStatement (Try b f) = Unit {0}
   IsSmallStatement (Guarded b n h) = (n < 2 ^ 32) × IsSmallStatement b × IsSmallStatement h
   IsSmallStatement (Throw n) = n < 2 ^ 32
-  IsSmallStatement (Leavable b x) = IsSmallStatement b × IsSmallStatement x
+  IsSmallStatement (Leavable b xs) = IsSmallStatement b × AreSmallStatements xs
   IsSmallStatement (Leave n) = Unit {0}
 
   pub AreSmallStatements : Statements → Type 0

@@ -28,6 +28,7 @@ fn emit_unit(alloc: Global, method: &Method) -> Result<CodeUnit, AllocError>
     let mut handlers = Vec::new(alloc);
     let end = size_of_statement(&method.body);
     emit_statement(
+        alloc,
         &mut instructions,
         &mut handlers,
         &Around::Nothing,

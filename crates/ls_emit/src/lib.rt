@@ -5,6 +5,7 @@ pub mod code_unit;
 pub mod emit;
 pub mod expressions;
 pub mod fault;
+pub mod layout;
 pub mod needs;
 pub mod sizes;
 pub mod statements;

@@ -1,10 +1,10 @@
 // How many operands a tree's code has at most at one time.
 
 ghost use Rattle.std.specs.Prelude.{◌≡◌, ◌≤◌, max};
-ghost use Rattle.ls_lowered.specs.Plain.{plain, all_plain, plain_statement};
+ghost use Rattle.ls_lowered.specs.Plain.{plain, all_plain, plain_statement, statements_of};
 ghost use Rattle.ls_emission.specs.Expressions.{size, all_size};
-ghost use Rattle.ls_emission.specs.Statements.{statement_size};
-ghost use Rattle.ls_emission.specs.Needs.{need as need_of, all_need as all_need_of, statement_need as statement_need_of};
+ghost use Rattle.ls_emission.specs.Statements.{statement_size, statements_size};
+ghost use Rattle.ls_emission.specs.Needs.{need as need_of, all_need as all_need_of, statement_need as statement_need_of, statements_need as statements_need_of};
 
 use ls_lowered::tree::{Expression, Expressions, Statement};
 
@@ -61,20 +61,15 @@ fn all_need(es: &Expressions) -> usize
 }
 
 /// The need of a statement whose code isn't too long.
-#[tactic(auto, using(crate::proofs::Blocks::block_read))]
+#[cycle(statements)]
+#[tactic(auto, using(crate::proofs::Blocks::block_read, crate::proofs::Weights::exits_hold))]
 pub fn statement_need(s: &Statement) -> usize
     requires { statement_size (plain_statement s.now) ≤ 65536 }
     ensures need { result ≡ statement_need_of (plain_statement s.now) }
     ensures few { result ≤ statement_size (plain_statement s.now) }
 {
     match s {
-        Statement::Block(statements) => {
-            let mut most = 0;
-            for s in statements {
-                most = larger(most, statement_need(s));
-            }
-            most
-        }
+        Statement::Block(statements) => statements_need(statements),
         Statement::SetLocal(_, e) | Statement::Evaluate(e) | Statement::Return(e) => need(e),
         Statement::SetField(object, _, value) => larger(need(object), 1 + need(value)),
         Statement::SetItem(array, index, value) => {
@@ -87,12 +82,24 @@ pub fn statement_need(s: &Statement) -> usize
             )
         }
         Statement::While(condition, body) => larger(need(condition), statement_need(body)),
-        Statement::Break(_) | Statement::Continue(_) | Statement::Try(_, _) | Statement::Leave(_) =>
-            0,
+        Statement::Try(_, _) | Statement::Leave(_) => 0,
         Statement::Guarded(body, _, handler) => {
             larger(1, larger(statement_need(body), statement_need(handler)))
         }
         Statement::Throw(_) => 1,
-        Statement::Leavable(body, exit) => larger(statement_need(body), statement_need(exit)),
+        Statement::Leavable(body, exits) => larger(statement_need(body), statements_need(exits)),
     }
+}
+
+#[cycle(statements)]
+fn statements_need(statements: &[Statement]) -> usize
+    requires { statements_size (statements_of statements.now) ≤ 65536 }
+    ensures need { result ≡ statements_need_of (statements_of statements.now) }
+    ensures few { result ≤ statements_size (statements_of statements.now) }
+{
+    let mut most = 0;
+    for s in statements {
+        most = larger(most, statement_need(s));
+    }
+    most
 }

@@ -3,7 +3,7 @@
 ghost use Rattle.std.specs.Prelude.{◌≡◌, ◌+◌, ◌≤◌, ◌↔◌, All, IsTrue, min};
 ghost use Rattle.ls_lowered.specs.Plain.{plain, all_plain, plain_statement, statements_of, plain_method};
 ghost use Rattle.ls_emission.specs.Expressions.{size, all_size};
-ghost use Rattle.ls_emission.specs.Statements.{statement_size, statements_size};
+ghost use Rattle.ls_emission.specs.Statements.{statement_size, statements_size, exits_size};
 ghost use Rattle.ls_emission.specs.Units.{method_size};
 
 use ls_locks::lower::lock_size;
@@ -108,15 +108,13 @@ fn count_statement(so_far: usize, s: &Statement) -> usize
                 2,
             )
         }
-        Statement::Break(_) | Statement::Continue(_) | Statement::Leave(_) => more(so_far, 1),
+        Statement::Leave(_) => more(so_far, 1),
         Statement::Try(_, _) => so_far,
         Statement::Guarded(body, _, handler) => {
             more(count_statement(count_statement(so_far, body), handler), 2)
         }
         Statement::Throw(_) => more(so_far, 2),
-        Statement::Leavable(body, exit) => {
-            more(count_statement(count_statement(so_far, body), exit), 1)
-        }
+        Statement::Leavable(body, exits) => count_exits(count_statement(so_far, body), exits),
     }
 }
 
@@ -128,6 +126,19 @@ fn count_statements(so_far: usize, statements: &[Statement]) -> usize
     let mut count = so_far;
     for s in statements {
         count = count_statement(count, s);
+    }
+    count
+}
+
+// So many instructions, and those of exits, each behind a jump, or too many.
+#[cycle(statements)]
+fn count_exits(so_far: usize, exits: &[Statement]) -> usize
+    requires { so_far ≤ 65537 }
+    ensures { result ≡ min (so_far + exits_size (statements_of exits.now)) 65537 }
+{
+    let mut count = so_far;
+    for x in exits {
+        count = count_statement(more(count, 1), x);
     }
     count
 }

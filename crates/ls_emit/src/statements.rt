@@ -1,27 +1,29 @@
 // The code of statements.
 
-ghost use Rattle.std.specs.Prelude.{◌≡◌, ◌+◌, ◌≤◌, ◌++◌, [], ◌∷◌, OnOk};
+ghost use Rattle.std.specs.Prelude.{◌≡◌, ◌+◌, ◌≤◌, ◌++◌, [], ◌∷◌, OnOk, map};
 ghost use Rattle.ls_code.specs.declared.instruction.Instruction.TheVariants as op;
 ghost use Rattle.ls_lowered.specs.LoweredTree.{If, While, Guarded, Leavable};
 ghost use Rattle.ls_lowered.specs.Plain.{plain, plain_statement, statements_of};
 ghost use Rattle.ls_emission.specs.Expressions.{size, code};
-ghost use Rattle.ls_emission.specs.Statements.{statement_size, statements_size, statement_code, statements_code, statement_rows, statements_rows};
+ghost use Rattle.ls_emission.specs.Statements.{statement_size, statements_size, exits_size, statement_code, statements_code, exits_code, statement_rows, statements_rows, exits_rows};
 ghost use Rattle.ls_emit.specs.Alone.{IsAlone};
 ghost use Rattle.ls_emit.specs.Places.{targets_of};
 ghost use Rattle.ls_emit.specs.Small.{IsSmall, IsSmallStatement, AreSmallStatements};
 
 use crate::expressions::{emit_expression, emit_on, emit_on_three, emit_on_two, put};
+use crate::layout::lay_out;
 use crate::sizes::size_of_statement;
-use crate::targets::{Around, find_exit, find_stop, find_turn};
+use crate::targets::{Around, find_target};
 use ls_code::code::HandlerRow;
 use ls_code::instruction::Instruction;
 use ls_lowered::tree::{Expression, Statement};
-use std::alloc::AllocError;
+use std::alloc::{AllocError, Global};
 
 /// The code of a statement that stands from `place` to below `end`, and its handler rows, behind those that are there.
 #[cycle(statements)]
 #[tactic(auto, using(crate::proofs::Blocks::block_read))]
 pub fn emit_statement(
+    alloc: Global,
     out: &mut Vec<Instruction>,
     rows: &mut Vec<HandlerRow>,
     around: &Around,
@@ -36,15 +38,18 @@ pub fn emit_statement(
     ensures rows { OnOk result (rows.new.items ≡ rows.old.items ++ statement_rows place (plain_statement s.now)) }
 {
     match s {
-        Statement::Block(statements) => emit_block(out, rows, &*around, place, statements),
+        Statement::Block(statements) => emit_block(alloc, out, rows, &*around, place, statements),
         Statement::If(condition, first, second) => {
-            emit_if(out, rows, &*around, place, end, condition, first, second)
+            emit_if(
+                alloc, out, rows, &*around, place, end, condition, first, second,
+            )
         }
         Statement::While(condition, body) => {
-            emit_while(out, rows, &*around, place, end, condition, body)
+            emit_while(alloc, out, rows, &*around, place, end, condition, body)
         }
         Statement::Guarded(body, number, handler) => {
             emit_guarded(
+                alloc,
                 out,
                 rows,
                 &*around,
@@ -55,15 +60,13 @@ pub fn emit_statement(
                 handler,
             )
         }
-        Statement::Leavable(body, exit) => {
-            emit_leavable(out, rows, &*around, place, end, body, exit)
+        Statement::Leavable(body, exits) => {
+            emit_leavable(alloc, out, rows, &*around, place, end, body, exits)
         }
         Statement::SetLocal(_, _)
         | Statement::SetField(_, _, _)
         | Statement::SetItem(_, _, _)
         | Statement::Evaluate(_)
-        | Statement::Break(_)
-        | Statement::Continue(_)
         | Statement::Return(_)
         | Statement::Try(_, _)
         | Statement::Throw(_)
@@ -104,10 +107,8 @@ fn emit_alone(
         }
         Statement::Evaluate(e) => emit_value(out, place, e, Instruction::Pop),
         Statement::Return(e) => emit_value(out, place, e, Instruction::LeaveWith),
-        Statement::Break(number) => put(out, Instruction::Jump(find_stop(around, *number))),
-        Statement::Continue(number) => put(out, Instruction::Jump(find_turn(around, *number))),
         Statement::Throw(number) => emit_throw(out, *number as u32),
-        Statement::Leave(number) => put(out, Instruction::Jump(find_exit(around, *number))),
+        Statement::Leave(number) => put(out, Instruction::Jump(find_target(around, *number))),
         Statement::Try(_, _) => Ok(()),
         Statement::Block(_)
         | Statement::If(_, _, _)
@@ -141,6 +142,7 @@ fn emit_throw(out: &mut Vec<Instruction>, number: u32) -> Result<(), AllocError>
 
 #[cycle(statements)]
 fn emit_block(
+    alloc: Global,
     out: &mut Vec<Instruction>,
     rows: &mut Vec<HandlerRow>,
     around: &Around,
@@ -155,7 +157,7 @@ fn emit_block(
     let mut next = place;
     for s in statements {
         let end = next + size_of_statement(s);
-        emit_statement(out, rows, &*around, next, end, s)?;
+        emit_statement(alloc, out, rows, &*around, next, end, s)?;
         next = end;
     }
     Ok(())
@@ -163,6 +165,7 @@ fn emit_block(
 
 #[cycle(statements)]
 fn emit_if(
+    alloc: Global,
     out: &mut Vec<Instruction>,
     rows: &mut Vec<HandlerRow>,
     around: &Around,
@@ -181,13 +184,14 @@ fn emit_if(
     let next = emit_expression(out, place, condition)?;
     let other = end - size_of_statement(second);
     put(out, Instruction::JumpIfFalse(other as u32))?;
-    emit_statement(out, rows, &*around, next + 1, other - 1, first)?;
+    emit_statement(alloc, out, rows, &*around, next + 1, other - 1, first)?;
     put(out, Instruction::Jump(end as u32))?;
-    emit_statement(out, rows, &*around, other, end, second)
+    emit_statement(alloc, out, rows, &*around, other, end, second)
 }
 
 #[cycle(statements)]
 fn emit_while(
+    alloc: Global,
     out: &mut Vec<Instruction>,
     rows: &mut Vec<HandlerRow>,
     around: &Around,
@@ -204,14 +208,14 @@ fn emit_while(
 {
     let next = emit_expression(out, place, condition)?;
     put(out, Instruction::JumpIfFalse(end as u32))?;
-    let inner = Around::Loop((end - 1) as u32, end as u32, &*around);
-    emit_statement(out, rows, &inner, next + 1, end - 1, body)?;
+    emit_statement(alloc, out, rows, &*around, next + 1, end - 1, body)?;
     put(out, Instruction::Turn(place as u32))
 }
 
 // A throw from the body goes on behind the jump over the handler.
 #[cycle(statements)]
 fn emit_guarded(
+    alloc: Global,
     out: &mut Vec<Instruction>,
     rows: &mut Vec<HandlerRow>,
     around: &Around,
@@ -228,7 +232,7 @@ fn emit_guarded(
     ensures rows { OnOk result (rows.new.items ≡ rows.old.items ++ statement_rows place (Guarded (plain_statement body.now) number (plain_statement handler.now))) }
 {
     let after = end - size_of_statement(handler);
-    emit_statement(out, rows, &*around, place, after - 2, body)?;
+    emit_statement(alloc, out, rows, &*around, place, after - 2, body)?;
     put(out, Instruction::Jump(end as u32))?;
     rows.push(HandlerRow {
         from: place,
@@ -237,28 +241,69 @@ fn emit_guarded(
         depth: 0,
     })?;
     put(out, Instruction::Store(number))?;
-    emit_statement(out, rows, &*around, after, end, handler)
+    emit_statement(alloc, out, rows, &*around, after, end, handler)
 }
 
+// The exits stand behind the body.
 #[cycle(statements)]
 fn emit_leavable(
+    alloc: Global,
     out: &mut Vec<Instruction>,
     rows: &mut Vec<HandlerRow>,
     around: &Around,
     place: usize,
     end: usize,
     body: &Statement,
-    exit: &Statement,
+    exits: &[Statement],
 ) -> Result<(), AllocError>
-    requires ends { end ≡ place + (statement_size (plain_statement body.now) + statement_size (plain_statement exit.now) + 1) }
+    requires ends { end ≡ place + (statement_size (plain_statement body.now) + exits_size (statements_of exits.now)) }
     requires room { end ≤ 65536 }
-    requires small { IsSmallStatement (plain_statement body.now) × IsSmallStatement (plain_statement exit.now) }
-    ensures code { OnOk result (out.new.items ≡ out.old.items ++ statement_code (targets_of around.now) place (Leavable (plain_statement body.now) (plain_statement exit.now))) }
-    ensures rows { OnOk result (rows.new.items ≡ rows.old.items ++ statement_rows place (Leavable (plain_statement body.now) (plain_statement exit.now))) }
+    requires small { IsSmallStatement (plain_statement body.now) × AreSmallStatements (statements_of exits.now) }
+    ensures code { OnOk result (out.new.items ≡ out.old.items ++ statement_code (targets_of around.now) place (Leavable (plain_statement body.now) (statements_of exits.now))) }
+    ensures rows { OnOk result (rows.new.items ≡ rows.old.items ++ statement_rows place (Leavable (plain_statement body.now) (statements_of exits.now))) }
 {
-    let after = end - size_of_statement(exit);
-    let inner = Around::Region(after as u32, &*around);
-    emit_statement(out, rows, &inner, place, after - 1, body)?;
-    put(out, Instruction::Jump(end as u32))?;
-    emit_statement(out, rows, &*around, after, end, exit)
+    let layout = lay_out(alloc, end, exits)?;
+    let inner = Around::Leavable(&layout.begins, end as u32, &*around);
+    emit_statement(alloc, out, rows, &inner, place, layout.place, body)?;
+    emit_exits(
+        alloc,
+        out,
+        rows,
+        &*around,
+        layout.place,
+        end,
+        exits,
+        &layout.sizes,
+    )
+}
+
+// Each exit stands behind a jump over it and what follows.
+#[cycle(statements)]
+fn emit_exits(
+    alloc: Global,
+    out: &mut Vec<Instruction>,
+    rows: &mut Vec<HandlerRow>,
+    around: &Around,
+    place: usize,
+    end: usize,
+    exits: &[Statement],
+    sizes: &[usize],
+) -> Result<(), AllocError>
+    requires ends { end ≡ place + exits_size (statements_of exits.now) }
+    requires room { end ≤ 65536 }
+    requires sizes { sizes.now ≡ map (λ s. statement_size (plain_statement s)) exits.now }
+    requires small { AreSmallStatements (statements_of exits.now) }
+    ensures code { OnOk result (out.new.items ≡ out.old.items ++ exits_code (targets_of around.now) end place (statements_of exits.now)) }
+    ensures rows { OnOk result (rows.new.items ≡ rows.old.items ++ exits_rows place (statements_of exits.now)) }
+{
+    let mut next = place;
+    let mut number = 0;
+    for x in exits {
+        put(out, Instruction::Jump(end as u32))?;
+        let stop = next + 1 + sizes[number];
+        emit_statement(alloc, out, rows, &*around, next + 1, stop, x)?;
+        next = stop;
+        number += 1;
+    }
+    Ok(())
 }

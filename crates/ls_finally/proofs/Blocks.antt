@@ -4,14 +4,13 @@ use Rattle.ls_lowered.specs.declared.tree.Statement.{Statement}
 use Rattle.ls_lowered.specs.LoweredTree.{Then}
 use Rattle.ls_lowered.specs.Plain.{plain_statement, in_front, statements_of}
 use Rattle.ls_finally.specs.Exits.{exits, all_exits, replaced, all_replaced}
-use Rattle.ls_finally.specs.Counts.{regions, all_regions}
 use Rattle.ls_finally.proofs.Fronts.{one_made}
 
 -- what is done of a block, and what is left
 pub record Going (r l first : ℕ) (whole done : List Statement) (next : ℕ) (rest : List Statement) : Type 0 where
   pub tree : in_front done (all_replaced r l next (statements_of rest)) ≡ all_replaced r l first (statements_of whole)
   pub count : next + length (all_exits l (statements_of rest)) ≡ first + length (all_exits l (statements_of whole))
-  pub room : next + length (all_exits l (statements_of rest)) + all_regions (statements_of rest) ≤ 10000
+  pub room : next + length (all_exits l (statements_of rest)) ≤ 10000
 
 -- the exits of a block are those of its first statement and the others'
 exits_split : (l : ℕ) (items rest : List Statement) (s : Statement) → items ≡ s ∷ rest →
@@ -19,16 +18,11 @@ exits_split : (l : ℕ) (items rest : List Statement) (s : Statement) → items 
 exits_split l items rest s split =
     ap (λ (xs : List Statement). length (all_exits l (statements_of xs))) split ∙ length-append (exits l (plain_statement s)) (all_exits l (statements_of rest))
 
-regions_split : (items rest : List Statement) (s : Statement) → items ≡ s ∷ rest →
-    all_regions (statements_of items) ≡ regions (plain_statement s) + all_regions (statements_of rest)
-regions_split items rest s split = ap (λ (xs : List Statement). all_regions (statements_of xs)) split
-
 pub goes_on : (r l first : ℕ) (whole done new : List Statement) (next after : ℕ) (items rest : List Statement) (s t : Statement) → items ≡ s ∷ rest →
     new ≡ done ++ t ∷ [] → plain_statement t ≡ replaced r l next (plain_statement s) → after ≡ next + length (exits l (plain_statement s)) →
     Going r l first whole done next items → Going r l first whole new after rest
 goes_on r l first whole done new next after items rest s t split pushed is ends g =
     let e = exits_split l items rest s split in
-    let f = regions_split items rest s split in
     let c = g.count in
     let h = g.room in record {
       tree =
@@ -37,14 +31,13 @@ goes_on r l first whole done new next after items rest s t split pushed is ends 
           ∙ ap (λ (xs : List Statement). in_front done (all_replaced r l next (statements_of xs))) (sym split)
           ∙ g.tree;
       count = omega (arith, e, c, ends);
-      room = omega (arith, e, f, h, ends);
+      room = omega (arith, e, h, ends);
     }
 
 -- a statement of a block has room
 pub one_fits : (r l first : ℕ) (whole done : List Statement) (next : ℕ) (items rest : List Statement) (s : Statement) → items ≡ s ∷ rest → Going r l first whole done next items →
-    next + length (exits l (plain_statement s)) + regions (plain_statement s) ≤ 10000
+    next + length (exits l (plain_statement s)) ≤ 10000
 one_fits r l first whole done next items rest s split g =
     let e = exits_split l items rest s split in
-    let f = regions_split items rest s split in
     let h = g.room in
-    omega (arith, e, f, h)
+    omega (arith, e, h)

@@ -1,13 +1,13 @@
 -- Trees whose calls have as many arguments as their methods don't see what calls do with other numbers of arguments.
-use Rattle.std.proofs.Common.{◌≡◌, ℕ, suc, List, [], ◌∷◌, length, refl, sym, ap, ap₂, subst, ◌∙◌, nat_eq, if◌then◌else◌, pos}
+use Rattle.std.proofs.Common.{◌≡◌, ℕ, zero, suc, List, [], ◌∷◌, length, refl, sym, ap, ap₂, subst, ◌∙◌, nat_eq, if◌then◌else◌, pos}
 use Rattle.std.proofs.Math.Path.{fun_ext}
 use Rattle.std.specs.Prelude.{slice_set}
 use Rattle.ls_events.specs.declared.action.Action.TheVariants as act
-use Rattle.ls_lowered.specs.LoweredTree.{Expression, Word, Local, Unary, Binary, And, Or, Hold, Keep, After, Field, Item, SetFirst, ReadPair, SetPair, SwapPair, AttemptMark, OnLock, Call, MakeObject, MakeLock, MakeMarkable, MakeArray, Expressions, End, More, Statement, Block, SetLocal, SetField, SetItem, Evaluate, If, While, Break, Continue, Return, Try, Guarded, Throw, Leavable, Leave, Statements, Done, Then, File}
+use Rattle.ls_lowered.specs.LoweredTree.{Expression, Word, Local, Unary, Binary, And, Or, Hold, Keep, After, Field, Item, SetFirst, ReadPair, SetPair, SwapPair, AttemptMark, OnLock, Call, MakeObject, MakeLock, MakeMarkable, MakeArray, Expressions, End, More, Statement, Block, SetLocal, SetField, SetItem, Evaluate, If, While, Return, Try, Guarded, Throw, Leavable, Leave, Statements, Done, Then, File}
 use Rattle.ls_lowered.specs.Words.{int_of, bool_of}
 use Rattle.ls_lowered.specs.Course.{Answers, Course, Ends, Outcome, Results, Throws, Calls, finish, on_result, and_then, ask, perform, unless_null, returned}
 use Rattle.ls_lowered.specs.Expressions.{find, find_all, unary_word, operate, operate_lock, make_array}
-use Rattle.ls_lowered.specs.Statements.{Completion, Normal, Returned, on_word, on_normal, on_any, turns, and_normal, execute, execute_all}
+use Rattle.ls_lowered.specs.Statements.{Completion, Normal, Returned, on_word, on_normal, on_any, on_leave, turns, and_normal, execute, execute_all, leave_to}
 use Rattle.ls_finally.specs.Placed.{count, Takes, CallsWell, AllCallWell, IsPlacedStatement, ArePlaced}
 use Rattle.ls_finally.proofs.Agreeing.{finish_finish}
 
@@ -101,15 +101,19 @@ module _ (ms : File) (calls calls' : Calls) (agree : (m : ℕ) (ws : List ℕ) (
           ap (λ (f : Finds). λ ls q. finish (f ls q) (on_word (λ w ls q. if nat_eq w 0 then execute calls' b ls q else execute calls' a ls q))) (found e t.0.1)
           ∙ ap₂ (λ (f g : Runs). λ ls q. finish (find calls e ls q) (on_word (λ w ls q. if nat_eq w 0 then g ls q else f ls q))) (runs a t.1) (runs b t.2)
       runs (While e s) t = ap₂ (λ (f : Finds) (g : Runs). λ ls q. turns (length q) f g ls q) (found e t.0.1) (runs s t.1)
-      runs (Break n) t = refl
-      runs (Continue n) t = refl
       runs (Return e) t = ap (λ (f : Finds). λ ls q. finish (f ls q) (on_word (λ w ls q. Ends (Returned w) ls q))) (found e t.1)
       runs (Try a b) t = ap₂ (λ (f g : Runs). λ ls q. finish (f ls q) (on_any g)) (runs a t.0) (runs b t.1)
       runs (Guarded a n b) t = absurd t
       runs (Throw n) t = absurd t
-      runs (Leavable a b) t = absurd t
-      runs (Leave n) t = absurd t
+      runs (Leavable a xs) t = ap₂ (λ (f : Runs) (g : ℕ → Runs). λ ls q. finish (f ls q) (on_leave g)) (runs a t.0) (fun_ext (λ n. leaves xs n t.1))
+      runs (Leave n) t = refl
 
       all_run : (ss : Statements) → ArePlaced ms k ss → execute_all calls' ss ≡ execute_all calls ss
       all_run Done t = refl
       all_run (Then s ss) t = ap₂ (λ (f g : Runs). λ ls q. finish (f ls q) (on_normal g)) (runs s t.0) (all_run ss t.1)
+
+      leaves : (xs : Statements) (n : ℕ) → ArePlaced ms k xs → leave_to calls' xs n ≡ leave_to calls xs n
+      leaves Done zero t = refl
+      leaves Done (suc n) t = refl
+      leaves (Then x xs) zero t = runs x t.0
+      leaves (Then x xs) (suc n) t = leaves xs n t.1

@@ -3,14 +3,12 @@ use Rattle.std.proofs.Common.{◌≡◌, ℕ, ◌+◌, ◌*◌, ◌≤◌, ap, s
 use Rattle.ls_lowered.specs.declared.tree.Statement.{Statement}
 use Rattle.ls_lowered.specs.declared.fault.LowerFault.{LowerFault}
 use Rattle.ls_lowered.specs.declared.fault.LowerFault.TheVariants.{Memory, TooManyLocals, TooManyCopies}
-use Rattle.ls_lowered.specs.LoweredTree as lowered
 use Rattle.ls_lowered.specs.LoweredTree.{Then}
 use Rattle.ls_lowered.specs.Plain.{plain_statement, in_front, statements_of}
 use Rattle.ls_finally.specs.Flat.{tries, all_tries, flat, all_flat}
 use Rattle.ls_finally.specs.Code.{TooMany}
-use Rattle.ls_finally.specs.Counts.{copies, all_copies, regions}
+use Rattle.ls_finally.specs.Counts.{copies, all_copies}
 use Rattle.ls_finally.proofs.Fronts.{one_made}
-use Rattle.ls_finally.proofs.Regions.{few_regions}
 
 -- what is done of a block, and what is left
 pub record Flattening (first so_far : ℕ) (whole : List Statement) (done : List Statement) (free count : ℕ) (rest : List Statement) : Type 0 where
@@ -58,7 +56,3 @@ one_fits first so_far whole done free count items rest s split g h =
     let e = tries_split items rest s split in
     let l = g.locals in
     omega (arith, e, l, h)
-
--- a body has no more regions than copies
-pub few_in_body : (so_far k p : ℕ) (b x : lowered.Statement) → x ≡ flat k b → p ≡ so_far + copies k b → p ≤ 4096 → regions x ≤ 4096
-few_in_body so_far k p b x is counts few = let e : regions x ≡ regions (flat k b) = ap regions is in let h = few_regions k b in omega (arith, e, h, counts, few)

@@ -1,14 +1,16 @@
 -- Statements in front of others, one more behind them.
-use Rattle.std.proofs.Common.{◌≡◌, ℕ, suc, ◌+◌, ◌<◌, add-one, length, drop, refl, ap, sym, ◌∙◌, List, [], ◌∷◌, ◌++◌}
-use Rattle.std.specs.Global.{Vec}
+use Rattle.std.proofs.Common.{◌≡◌, ℕ, suc, ◌+◌, ◌<◌, add-one, length, drop, refl, ap, ap₂, sym, ◌∙◌, List, [], ◌∷◌, ◌++◌}
+use Rattle.std.specs.Global.{Vec, Box}
 use Rattle.std.specs.Prelude.{slice_index_or}
 use Rattle.std.proofs.Math.Seq.{drop-cons}
+use Rattle.ls_lowered.specs.declared.tree.Statement as code
 use Rattle.ls_lowered.specs.declared.tree.Statement.{Statement, items_hidden-the_row-Statement-0}
 use Rattle.ls_lowered.specs.declared.tree.Statement.TheBlock.{hidden-the_row-Statement-0, shape-the_row-Statement-0}
 use Rattle.ls_lowered.specs.declared.tree.Statement.TheVariants.{Block'}
 use Rattle.ls_lowered.specs.LoweredTree as lowered
-use Rattle.ls_lowered.specs.LoweredTree.{Statements, Block, Then}
+use Rattle.ls_lowered.specs.LoweredTree.{Statements, Block, Leavable, Then}
 use Rattle.ls_lowered.specs.Plain.{plain_statement, row_statements, in_front, statements_of}
+use Rattle.ls_finally.specs.Exits.{count}
 use Rattle.ls_lowered.proofs.Rows.{row_is_list}
 
 pub push_front : (ss : List Statement) (s : Statement) (rest : Statements) → in_front (ss ++ s ∷ []) rest ≡ in_front ss (Then (plain_statement s) rest)
@@ -32,3 +34,13 @@ block_read v = row_is_list _ (hidden-the_row-Statement-0 v) ∙ ap statements_of
 pub block_plain : (s : Statement) (v : Vec Statement) (items : List Statement) → items ≡ v.items → s ≡ Block' (shape-the_row-Statement-0 v) (hidden-the_row-Statement-0 v) →
     plain_statement s ≡ Block (statements_of items)
 block_plain s v items e is = ap plain_statement is ∙ ap Block (block_read v ∙ sym (ap statements_of e))
+
+-- a leavable statement that is read
+pub leavable_read : (s : Statement) (b : Box Statement) (v : Vec Statement) (body : Statement) (own : List Statement) → body ≡ b.value → own ≡ v.items → s ≡ code.Leavable b v →
+    plain_statement s ≡ Leavable (plain_statement body) (statements_of own)
+leavable_read s b v body own e f is = ap plain_statement is ∙ ap₂ Leavable (sym (ap plain_statement e)) (block_read v ∙ sym (ap statements_of f))
+
+-- how many there are
+pub counted : (ss : List Statement) → count (statements_of ss) ≡ length ss
+counted [] = refl
+counted (s ∷ ss) = ap suc (counted ss)

@@ -1,7 +1,7 @@
 pub mod Fronts
+pub mod Numbers
 pub mod Blocks
 pub mod Whole
-pub mod Regions
 pub mod Flattening
 pub mod Agreeing
 pub mod Alike

@@ -56,7 +56,7 @@ module _ (methods : File) (calls calls' : Calls) (agree : (m : ℕ) (ws : List �
       let short : length (ws ++ replicate g.locals 0) ≡ length ws + g.locals = length-append ws (replicate g.locals 0) ∙ ap (λ i. length ws + i) (length-replicate g.locals 0) in
       let long : length (ws ++ replicate (g.locals + 2 * tries g.body) 0) ≡ length ws + (g.locals + 2 * tries g.body) = length-append ws (replicate (g.locals + 2 * tries g.body) 0) ∙ ap (λ i. length ws + i) (length-replicate (g.locals + 2 * tries g.body) 0) in
       sym (forgets (execute calls' (flat (g.arguments + g.locals) g.body) (ws ++ replicate (g.locals + 2 * tries g.body) 0) q))
-      ∙ ap (λ x. told x (λ c ls q. given c q)) (flat_ok (g.arguments + g.locals) (g.arguments + g.locals + 2 * tries g.body) calls' methods g.body (g.arguments + g.locals) (λ c ls q. Ends c [] q) (λ c ls q. Ends c [] q) t (omega arith) (omega arith) (λ c ls new q i e a. refl)
+      ∙ ap (λ x. told x (λ c ls q. given c q)) (flat_ok (g.arguments + g.locals) (g.arguments + g.locals + 2 * tries g.body) calls' methods g.body (g.arguments + g.locals) (λ c ls q. Ends c [] q) (λ c ls q. Ends c [] q) t (omega arith) (omega arith) (λ c ls new q e a. refl)
       (ws ++ replicate g.locals 0) (ws ++ replicate (g.locals + 2 * tries g.body) 0) q (omega (arith, long, n))
       (record { short = omega (arith, short, n); long = omega (arith, long, n); at = λ i l. padded ws (g.locals + 2 * tries g.body) i ∙ sym (padded ws g.locals i) }))
       ∙ forgets (execute calls' g.body (ws ++ replicate g.locals 0) q)

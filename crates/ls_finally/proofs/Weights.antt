@@ -40,7 +40,7 @@ abbrev mutual
   size (While e s) = 1 + size s
   size (Try b f) = 1 + size b + size f
   size (Guarded b n h) = 1 + size b + size h
-  size (Leavable b x) = 1 + size b + size x
+  size (Leavable b xs) = 1 + size b + sizes xs
   size _ = 1
 
   pub sizes : Statements → ℕ

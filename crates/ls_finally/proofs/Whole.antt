@@ -1,10 +1,8 @@
 -- The methods of a file.
-use Rattle.std.proofs.Common.{◌≡◌, ℕ, ◌+◌, ◌<◌, ◌≤◌, add-one, length, take, map, refl, sym, ap, ◌∙◌, subst, arith, Result, Ok, Err, List, [], ◌∷◌, ◌++◌, Option, Some, None, true, false}
-use Rattle.std.specs.Prelude.{All, slice_index_or, is_some, IfErr}
-use Rattle.std.specs.Option.{SomeIff}
-use Rattle.std.proofs.Math.Seq.{take-suc}
-use Rattle.std.proofs.lemmas.List.{take_all, get_or-map, length-map, map-append}
-use Rattle.std.proofs.lemmas.List.Elements.{All-push, All-map}
+use Rattle.std.proofs.Common.{◌≡◌, ℕ, ◌+◌, ◌<◌, ◌≤◌, length, take, map, refl, sym, ap, ◌∙◌, subst, arith, Result, Ok, Err, List, [], ◌∷◌, ◌++◌}
+use Rattle.std.specs.Prelude.{All, slice_index_or, IfErr}
+use Rattle.std.proofs.lemmas.List.{take_all}
+use Rattle.std.proofs.lemmas.List.Elements.{All-map}
 use Rattle.std.proofs.lemmas.Simd.{map-map}
 use Rattle.ls_lowered.specs.declared.tree.Method.{Method}
 use Rattle.ls_lowered.specs.declared.fault.LowerFault.{LowerFault}
@@ -13,26 +11,7 @@ use Rattle.ls_lowered.specs.Plain.{plain_method}
 use Rattle.ls_finally.specs.Flat.{flat_method, flat_file}
 use Rattle.ls_finally.specs.Code.{TooMany}
 use Rattle.ls_finally.specs.Counts.{locals_of, copies_of, FewLocals, FewCopies, Refused}
-
--- what is done so far, and one more
-pub taken_at : {X : Type 0} (xs : List X) (i : ℕ) (x : X) → i < length xs → x ≡ slice_index_or xs i x → take (i + 1) xs ≡ take i xs ++ x ∷ []
-taken_at xs i x l e = ap (λ n. take n xs) (add-one i) ∙ take-suc xs i x l ∙ ap (λ z. take i xs ++ z ∷ []) (sym e)
-
-pub all_more : {X : Type 0} (P : X → Type 0) (xs : List X) (i : ℕ) (x : X) → i < length xs → x ≡ slice_index_or xs i x → All P (take i xs) → P x → All P (take (i + 1) xs)
-all_more P xs i x l e h p = subst (λ ys. All P ys) (sym (taken_at xs i x l e)) (All-push P (take i xs) x h p)
-
-pub all_done : {X : Type 0} (P : X → Type 0) (xs : List X) (i : ℕ) → length xs ≤ i → All P (take i xs) → All P xs
-all_done P xs i l h = subst (λ ys. All P ys) (take_all i xs l) h
-
-pub all_of_map : {X Y : Type 0} (P : Y → Type 0) (f : X → Y) (xs : List X) → All P (map f xs) → All (λ x. P (f x)) xs
-all_of_map P f xs h = λ k d l. subst P (get_or-map f xs k d (f d) l) (h k (f d) (let e = length-map xs f in omega (arith, e, l)))
-
-pub counted : (o : Option ℕ) (P : Type 0) (v : ℕ) → SomeIff o P v → is_some o ≡ true → P
-counted (Some x) P v s e = s.0
-counted None P v s e = absurd (different e)
-  where
-    different : false ≡ true → ⊥
-    different e = cc
+use Rattle.ls_lowered.proofs.Taken.{all_of_map, mapped_more}
 
 -- the methods that the code sees and those of the file
 pub few_locals : (methods items : List Method) → methods ≡ items → All (λ m. locals_of (plain_method m) ≤ 128) methods → FewLocals (map plain_method items)
@@ -78,9 +57,4 @@ all_lowered_so file methods i l h =
 pub one_lowered_more : (old new : List Method) (x : Method) (methods : List Method) (i : ℕ) (m : Method) → i < length methods → m ≡ slice_index_or methods i m →
     new ≡ old ++ x ∷ [] → plain_method x ≡ flat_method (plain_method m) → map plain_method old ≡ map (λ m. flat_method (plain_method m)) (take i methods) →
     map plain_method new ≡ map (λ m. flat_method (plain_method m)) (take (i + 1) methods)
-one_lowered_more old new x methods i m l e pushed is h =
-    ap (map plain_method) pushed ∙ map-append plain_method old (x ∷ []) ∙ ap (λ ys. ys ++ plain_method x ∷ []) h ∙ ap (λ z. map (λ m. flat_method (plain_method m)) (take i methods) ++ z ∷ []) is
-    ∙ sym (ap (map (λ m. flat_method (plain_method m))) (taken_at methods i m l e) ∙ map-append (λ m. flat_method (plain_method m)) (take i methods) (m ∷ []))
-
-pub no_truth : false ≡ true → ⊥
-no_truth e = cc
+one_lowered_more old new x methods i m l e pushed is h = mapped_more plain_method (λ m. flat_method (plain_method m)) old new x methods i m l e pushed is h

@@ -1,6 +1,6 @@
 -- Locals that agree, and statements that speak of low locals alone.
-use Rattle.std.specs.Prelude.{◌≡◌, ℕ, suc, ◌<◌, ◌≤◌, List, length, slice_index}
-use Rattle.ls_lowered.specs.LoweredTree.{Expression, Word, Local, Unary, Binary, And, Or, Hold, Keep, After, Field, Item, SetFirst, ReadPair, SetPair, SwapPair, AttemptMark, OnLock, Call, MakeObject, MakeLock, MakeMarkable, MakeArray, Expressions, End, More, Statement, Block, SetLocal, SetField, SetItem, Evaluate, If, While, Break, Continue, Return, Try, Guarded, Throw, Leavable, Leave, Statements, Done, Then}
+use Rattle.std.specs.Prelude.{◌≡◌, ℕ, ◌<◌, ◌≤◌, List, length, slice_index}
+use Rattle.ls_lowered.specs.LoweredTree.{Expression, Word, Local, Unary, Binary, And, Or, Hold, Keep, After, Field, Item, SetFirst, ReadPair, SetPair, SwapPair, AttemptMark, OnLock, Call, MakeObject, MakeLock, MakeMarkable, MakeArray, Expressions, End, More, Statement, Block, SetLocal, SetField, SetItem, Evaluate, If, While, Return, Try, Guarded, Throw, Leavable, Leave, Statements, Done, Then}
 
 -- the locals below k are there and the same
 pub record Agree (k : ℕ) (ls new : List ℕ) : Type 0 where
@@ -38,25 +38,23 @@ abbrev mutual
   AreBelow k End = Unit {0}
   AreBelow k (More e es) = IsBelow k e × AreBelow k es
 
--- a statement on locals below k alone, which leaves no region beyond d of its own
+-- a statement on locals below k alone, without `try`
 abbrev mutual
-  pub Fits : ℕ → ℕ → Statement → Type 0
-  Fits k d (Block ss) = AllFit k d ss
-  Fits k d (SetLocal n e) = (n < k) × IsBelow k e
-  Fits k d (SetField e f a) = IsBelow k e × IsBelow k a
-  Fits k d (SetItem a i e) = IsBelow k a × IsBelow k i × IsBelow k e
-  Fits k d (Evaluate e) = IsBelow k e
-  Fits k d (If e a b) = IsBelow k e × Fits k d a × Fits k d b
-  Fits k d (While e s) = IsBelow k e × Fits k d s
-  Fits k d (Break n) = Unit {0}
-  Fits k d (Continue n) = Unit {0}
-  Fits k d (Return e) = IsBelow k e
-  Fits k d (Try b f) = ⊥
-  Fits k d (Guarded b n h) = (n < k) × Fits k d b × Fits k d h
-  Fits k d (Throw n) = n < k
-  Fits k d (Leavable b x) = Fits k (suc d) b × Fits k d x
-  Fits k d (Leave n) = n < d
+  pub Fits : ℕ → Statement → Type 0
+  Fits k (Block ss) = AllFit k ss
+  Fits k (SetLocal n e) = (n < k) × IsBelow k e
+  Fits k (SetField e f a) = IsBelow k e × IsBelow k a
+  Fits k (SetItem a i e) = IsBelow k a × IsBelow k i × IsBelow k e
+  Fits k (Evaluate e) = IsBelow k e
+  Fits k (If e a b) = IsBelow k e × Fits k a × Fits k b
+  Fits k (While e s) = IsBelow k e × Fits k s
+  Fits k (Return e) = IsBelow k e
+  Fits k (Try b f) = ⊥
+  Fits k (Guarded b n h) = (n < k) × Fits k b × Fits k h
+  Fits k (Throw n) = n < k
+  Fits k (Leavable b xs) = Fits k b × AllFit k xs
+  Fits k (Leave n) = Unit {0}
 
-  pub AllFit : ℕ → ℕ → Statements → Type 0
-  AllFit k d Done = Unit {0}
-  AllFit k d (Then s ss) = Fits k d s × AllFit k d ss
+  pub AllFit : ℕ → Statements → Type 0
+  AllFit k Done = Unit {0}
+  AllFit k (Then s ss) = Fits k s × AllFit k ss

@@ -2,7 +2,7 @@
 use Rattle.std.specs.Prelude.{◌≡◌, [], ◌∷◌}
 use Rattle.ls_events.specs.declared.kind.Kind.TheVariants.{Arithmetic}
 use Rattle.ls_lowered.specs.declared.tree.BinaryOperator.TheVariants as op
-use Rattle.ls_lowered.specs.LoweredTree.{Statement, Block, SetLocal, Evaluate, While, Break, Return, Try, Done, Then, Word, Local, Binary}
+use Rattle.ls_lowered.specs.LoweredTree.{Statement, Block, SetLocal, Evaluate, While, Return, Try, Leavable, Leave, Done, Then, Word, Local, Binary}
 use Rattle.ls_lowered.specs.Course.{Course, Ends, Calls, Lost}
 use Rattle.ls_lowered.specs.Statements.{Completion, Normal, Returned, Threw, execute}
 use Rattle.ls_finally.specs.Flat.{flat}
@@ -31,7 +31,7 @@ ReturnReplaces = does (Try (Evaluate (Binary op.Divide (Word 1) (Word 0))) (Retu
 
 -- `while (true) { try { x = x + 1; break; } finally { x = x + 1; } }` sees what the block assigned, and runs it once
 abbrev pub BreaksThrough : Type 0
-BreaksThrough = does (While (Word 1) (Try (Block (Then more (Then (Break 0) Done))) more)) ≡ Ends Normal (7 ∷ 3 ∷ 0 ∷ 0 ∷ 0 ∷ 0 ∷ []) []
+BreaksThrough = does (Leavable (While (Word 1) (Try (Block (Then more (Then (Leave 0) Done))) more)) Done) ≡ Ends Normal (7 ∷ 3 ∷ 0 ∷ 0 ∷ 0 ∷ 0 ∷ []) []
 
 -- a block that throws itself is not run again, and its reason replaces the first
 abbrev pub ThrowReplaces : Type 0

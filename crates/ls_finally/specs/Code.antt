@@ -1,21 +1,13 @@
 -- What the types of the code stand for.
-use Rattle.std.specs.Prelude.{ℕ, zero, suc, ◌<◌, ◌≤◌, List, map, Result, Ok, Err}
+use Rattle.std.specs.Prelude.{ℕ, ◌<◌, ◌≤◌, List, map, Result, Ok, Err}
 use Rattle.ls_lowered.specs.declared.fault.LowerFault.{LowerFault}
 use Rattle.ls_lowered.specs.declared.fault.LowerFault.TheVariants.{Memory, TooManyLocals, TooManyCopies}
-use Rattle.ls_finally.specs.declared.exits.Loops.{Loops}
-use Rattle.ls_finally.specs.declared.exits.Loops.TheVariants.{Outermost, Inside'}
 use Rattle.ls_finally.specs.declared.exits.Exit.{Exit}
-use Rattle.ls_finally.specs.declared.exits.Exit.TheVariants.{Break, Continue, Return}
+use Rattle.ls_finally.specs.declared.exits.Exit.TheVariants.{Leave, Return}
 use Rattle.ls_finally.specs.Exits as specs
 
--- how many loops there are around
-abbrev pub how_many : Loops → ℕ
-how_many Outermost = zero
-how_many (Inside' p outer) = suc (how_many outer)
-
 abbrev pub plain_exit : Exit → specs.Exit
-plain_exit (Break n) = specs.BreakOut n
-plain_exit (Continue n) = specs.ContinueOut n
+plain_exit (Leave n) = specs.LeaveOut n
 plain_exit Return = specs.ReturnOut
 
 abbrev pub plain_exits : List Exit → List specs.Exit

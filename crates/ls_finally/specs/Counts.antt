@@ -3,12 +3,12 @@ use Rattle.std.specs.Prelude.{ℕ, ◌+◌, ◌*◌, ◌≤◌, length, All}
 use Rattle.ls_lowered.specs.declared.fault.LowerFault.{LowerFault}
 use Rattle.ls_lowered.specs.declared.fault.LowerFault.TheVariants.{Memory, TooManyLocals, TooManyCopies}
 use Rattle.ls_lowered.specs.LoweredTree.{Statement, Block, If, While, Try, Guarded, Leavable, Statements, Done, Then, Method, File}
-use Rattle.ls_finally.specs.Exits.{exits}
+use Rattle.ls_finally.specs.Exits.{exits, count}
 use Rattle.ls_finally.specs.Flat.{tries, flat}
 
 -- The copies in a statement, whose tries' locals begin at k. Inner statements are lowered first. For `try b finally f`
 -- there are two copies of lowered f, and one for each exit of lowered b out of the `try`; each has the copies in f with it.
--- What is to be lowered has no region yet; where it has, each leavable region counts as a copy.
+-- What is to be lowered has no exits of leavable statements yet; where it has, each counts as a copy.
 abbrev mutual
   pub copies : ℕ → Statement → ℕ
   copies k (Block ss) = all_copies k ss
@@ -16,27 +16,12 @@ abbrev mutual
   copies k (While e s) = copies k s
   copies k (Try b f) = copies k b + (2 + length (exits 0 (flat k b))) * (1 + copies (k + 2 * tries b) f)
   copies k (Guarded b n h) = copies k b + copies (k + 2 * tries b) h
-  copies k (Leavable b x) = 1 + copies k b + copies (k + 2 * tries b) x
+  copies k (Leavable b xs) = count xs + copies k b + all_copies (k + 2 * tries b) xs
   copies k _ = 0
 
   pub all_copies : ℕ → Statements → ℕ
   all_copies k Done = 0
   all_copies k (Then s ss) = copies k s + all_copies (k + 2 * tries s) ss
-
--- the leavable regions of a statement
-abbrev mutual
-  pub regions : Statement → ℕ
-  regions (Block ss) = all_regions ss
-  regions (If e a b) = regions a + regions b
-  regions (While e s) = regions s
-  regions (Try b f) = regions b + regions f
-  regions (Guarded b n h) = regions b + regions h
-  regions (Leavable b x) = 1 + regions b + regions x
-  regions _ = 0
-
-  pub all_regions : Statements → ℕ
-  all_regions Done = 0
-  all_regions (Then s ss) = regions s + all_regions ss
 
 abbrev pub copies_of : Method → ℕ
 copies_of m = copies (m.arguments + m.locals) m.body

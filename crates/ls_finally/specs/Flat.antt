@@ -1,6 +1,6 @@
 -- The tree without `try`. Inner statements are lowered first.
 use Rattle.std.specs.Prelude.{ℕ, ◌+◌, ◌*◌, map}
-use Rattle.ls_lowered.specs.LoweredTree.{Statement, Block, SetLocal, SetField, SetItem, Evaluate, If, While, Break, Continue, Return, Try, Guarded, Throw, Leavable, Leave, Statements, Done, Then, Method, File}
+use Rattle.ls_lowered.specs.LoweredTree.{Statement, Block, SetLocal, SetField, SetItem, Evaluate, If, While, Return, Try, Guarded, Throw, Leavable, Leave, Statements, Done, Then, Method, File}
 use Rattle.ls_finally.specs.Exits.{finally_of}
 
 -- the try statements
@@ -11,7 +11,7 @@ abbrev mutual
   tries (While e s) = tries s
   tries (Try b f) = tries b + tries f + 1
   tries (Guarded b n h) = tries b + tries h
-  tries (Leavable b x) = tries b + tries x
+  tries (Leavable b xs) = tries b + all_tries xs
   tries _ = 0
 
   pub all_tries : Statements → ℕ
@@ -28,13 +28,11 @@ abbrev mutual
   flat k (Evaluate e) = Evaluate e
   flat k (If e a b) = If e (flat k a) (flat (k + 2 * tries a) b)
   flat k (While e s) = While e (flat k s)
-  flat k (Break n) = Break n
-  flat k (Continue n) = Continue n
   flat k (Return e) = Return e
   flat k (Try b f) = finally_of (k + 2 * tries b + 2 * tries f) (flat k b) (flat (k + 2 * tries b) f)
   flat k (Guarded b n h) = Guarded (flat k b) n (flat (k + 2 * tries b) h)
   flat k (Throw n) = Throw n
-  flat k (Leavable b x) = Leavable (flat k b) (flat (k + 2 * tries b) x)
+  flat k (Leavable b xs) = Leavable (flat k b) (all_flat (k + 2 * tries b) xs)
   flat k (Leave n) = Leave n
 
   pub all_flat : ℕ → Statements → Statements

@@ -1,7 +1,6 @@
--- What lowering asks of a tree: each local is there, each call has as many arguments as its method, and there are no
--- regions yet.
+-- What lowering asks of a tree: each local is there, each call has as many arguments as its method, and nothing is guarded yet.
 use Rattle.std.specs.Prelude.{◌≡◌, ℕ, suc, ◌+◌, ◌<◌, List, [], ◌∷◌, Option, Some, None, slice_get}
-use Rattle.ls_lowered.specs.LoweredTree.{Expression, Word, Local, Unary, Binary, And, Or, Hold, Keep, After, Field, Item, SetFirst, ReadPair, SetPair, SwapPair, AttemptMark, OnLock, Call, MakeObject, MakeLock, MakeMarkable, MakeArray, Expressions, End, More, Statement, Block, SetLocal, SetField, SetItem, Evaluate, If, While, Break, Continue, Return, Try, Guarded, Throw, Leavable, Leave, Statements, Done, Then, Method, File}
+use Rattle.ls_lowered.specs.LoweredTree.{Expression, Word, Local, Unary, Binary, And, Or, Hold, Keep, After, Field, Item, SetFirst, ReadPair, SetPair, SwapPair, AttemptMark, OnLock, Call, MakeObject, MakeLock, MakeMarkable, MakeArray, Expressions, End, More, Statement, Block, SetLocal, SetField, SetItem, Evaluate, If, While, Return, Try, Guarded, Throw, Leavable, Leave, Statements, Done, Then, Method, File}
 use Rattle.ls_finally.specs.Agreement.{IsBelow}
 
 abbrev pub count : Expressions → ℕ
@@ -58,14 +57,12 @@ abbrev mutual
   IsPlacedStatement ms k (Evaluate e) = IsPlaced ms k e
   IsPlacedStatement ms k (If e a b) = IsPlaced ms k e × IsPlacedStatement ms k a × IsPlacedStatement ms k b
   IsPlacedStatement ms k (While e s) = IsPlaced ms k e × IsPlacedStatement ms k s
-  IsPlacedStatement ms k (Break n) = Unit {0}
-  IsPlacedStatement ms k (Continue n) = Unit {0}
   IsPlacedStatement ms k (Return e) = IsPlaced ms k e
   IsPlacedStatement ms k (Try b f) = IsPlacedStatement ms k b × IsPlacedStatement ms k f
   IsPlacedStatement ms k (Guarded b n h) = ⊥
   IsPlacedStatement ms k (Throw n) = ⊥
-  IsPlacedStatement ms k (Leavable b x) = ⊥
-  IsPlacedStatement ms k (Leave n) = ⊥
+  IsPlacedStatement ms k (Leavable b xs) = IsPlacedStatement ms k b × ArePlaced ms k xs
+  IsPlacedStatement ms k (Leave n) = Unit {0}
 
   pub ArePlaced : File → ℕ → Statements → Type 0
   ArePlaced ms k Done = Unit {0}

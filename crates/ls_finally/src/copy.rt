@@ -1,7 +1,7 @@
 // Copies of trees.
 
 ghost use Rattle.std.specs.Prelude.{◌≡◌, IfOk};
-ghost use Rattle.ls_lowered.specs.LoweredTree.{Block};
+ghost use Rattle.ls_lowered.specs.LoweredTree.{Block, Leavable};
 ghost use Rattle.ls_lowered.specs.Plain.{plain, all_plain, plain_statement, statements_of};
 
 use crate::together::{in_box, put};
@@ -177,9 +177,17 @@ pub fn block_of(statements: Vec<Statement>) -> Statement
     Statement::Block(statements)
 }
 
+/// A leavable statement.
+#[tactic(auto, using(crate::proofs::Fronts::block_read))]
+pub fn leavable_of(body: Box<Statement>, own: Vec<Statement>) -> Statement
+    ensures { plain_statement result ≡ Leavable (plain_statement body.value) (statements_of own.items) }
+{
+    Statement::Leavable(body, own)
+}
+
 /// The same statement once more.
 #[cycle(statements)]
-#[tactic(auto, using(ls_lowered::proofs::Rows::block_made))]
+#[tactic(auto, using(ls_lowered::proofs::Rows::block_made, crate::proofs::Fronts::block_read))]
 pub fn copy_statement(alloc: Global, s: &Statement) -> Result<Statement, AllocError>
     ensures { IfOk result (λ t. plain_statement t ≡ plain_statement s.now) }
 {
@@ -208,8 +216,6 @@ pub fn copy_statement(alloc: Global, s: &Statement) -> Result<Statement, AllocEr
             let (body, e) = also(body, copy_expression(alloc, e))?;
             Ok(Statement::While(e, body))
         }
-        Statement::Break(loops) => Ok(Statement::Break(*loops)),
-        Statement::Continue(loops) => Ok(Statement::Continue(*loops)),
         Statement::Return(e) => Ok(Statement::Return(copy_expression(alloc, e)?)),
         Statement::Try(body, last) => {
             let (body, last) = two_parts(alloc, body, last)?;
@@ -220,11 +226,11 @@ pub fn copy_statement(alloc: Global, s: &Statement) -> Result<Statement, AllocEr
             Ok(Statement::Guarded(body, *number, handler))
         }
         Statement::Throw(number) => Ok(Statement::Throw(*number)),
-        Statement::Leavable(body, exit) => {
-            let (body, exit) = two_parts(alloc, body, exit)?;
-            Ok(Statement::Leavable(body, exit))
+        Statement::Leavable(body, own) => {
+            let (body, own) = part_and_exits(alloc, body, own)?;
+            Ok(leavable_of(body, own))
         }
-        Statement::Leave(regions) => Ok(Statement::Leave(*regions)),
+        Statement::Leave(number) => Ok(Statement::Leave(*number)),
     }
 }
 
@@ -250,6 +256,21 @@ fn two_parts(
 {
     let first = part(alloc, first)?;
     also(first, part(alloc, second))
+}
+
+// The body and the exits of a leavable statement.
+#[cycle(statements)]
+#[inline(never)]
+fn part_and_exits(
+    alloc: Global,
+    body: &Statement,
+    own: &[Statement],
+) -> Result<(Box<Statement>, Vec<Statement>), AllocError>
+    ensures body { IfOk result (λ p. plain_statement p.0.value ≡ plain_statement body.now) }
+    ensures own { IfOk result (λ p. statements_of p.1.items ≡ statements_of own.now) }
+{
+    let body = part(alloc, body)?;
+    also(body, copy_block(alloc, own))
 }
 
 #[cycle(statements)]

@@ -32,9 +32,10 @@ fn count_tries(s: &Statement, so_far: usize) -> Option<usize>
 {
     match s {
         Statement::Block(statements) => count_in_block(statements, so_far),
-        Statement::If(_, first, second)
-        | Statement::Guarded(first, _, second)
-        | Statement::Leavable(first, second) => count_tries(second, count_tries(first, so_far)?),
+        Statement::If(_, first, second) | Statement::Guarded(first, _, second) => {
+            count_tries(second, count_tries(first, so_far)?)
+        }
+        Statement::Leavable(body, own) => count_in_block(own, count_tries(body, so_far)?),
         Statement::While(_, body) => count_tries(body, so_far),
         Statement::Try(body, finally) => {
             let so_far = more(so_far, 2)?;
@@ -44,8 +45,6 @@ fn count_tries(s: &Statement, so_far: usize) -> Option<usize>
         | Statement::SetField(_, _, _)
         | Statement::SetItem(_, _, _)
         | Statement::Evaluate(_)
-        | Statement::Break(_)
-        | Statement::Continue(_)
         | Statement::Return(_)
         | Statement::Throw(_)
         | Statement::Leave(_) => Some(so_far),

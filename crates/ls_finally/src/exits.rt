@@ -1,26 +1,20 @@
 // The exits of a statement without `try`.
 
-ghost use Rattle.std.specs.Prelude.{◌≡◌, ◌++◌, IfOk};
+ghost use Rattle.std.specs.Prelude.{◌≡◌, ℕ, suc, ◌+◌, ◌≤◌, ◌++◌, IfOk};
 ghost use Rattle.ls_lowered.specs.Plain.{plain_statement, statements_of};
-ghost use Rattle.ls_finally.specs.Exits.{outward, exits, all_exits};
-ghost use Rattle.ls_finally.specs.Code.{how_many, plain_exits};
+ghost use Rattle.ls_finally.specs.Exits.{outward, count, exits, all_exits};
+ghost use Rattle.ls_finally.specs.Code.{plain_exits};
 
 use ls_lowered::tree::Statement;
 use std::alloc::AllocError;
 
-/// The loops around a statement.
-#[derive(Clone, Copy)]
-pub enum Loops<'a> {
-    Outermost,
-    /// In a loop, around which are these.
-    Inside(&'a Loops<'a>),
-}
+/// The most numbers that may be left inside of a body.
+pub const MOST_NUMBERS: usize = 1_000_000_000;
 
-/// A jump out of a statement, past so many loops outside of it, or a return.
+/// A leave out of a statement, so many numbers beyond it, or a return.
 #[derive(Copy)]
 pub enum Exit {
-    Break(usize),
-    Continue(usize),
+    Leave(usize),
     Return,
 }
 
@@ -30,45 +24,54 @@ impl Clone for Exit {
     }
 }
 
-/// How far a jump that leaves so many loops behind goes beyond these; none where its target is one of them.
-pub fn beyond(loops: &Loops, number: usize) -> Option<usize>
-    ensures { result ≡ outward (how_many loops.now) number }
+/// How far a leave goes beyond so many numbers; none where its target is one of them.
+#[tactic(auto, using(crate::proofs::Numbers::is_inside, crate::proofs::Numbers::is_beyond))]
+pub fn beyond(inside: usize, number: usize) -> Option<usize>
+    ensures { result ≡ outward inside number }
 {
-    match loops {
-        Loops::Outermost => Some(number),
-        Loops::Inside(outer) => if number == 0 {
-            None
-        } else {
-            beyond(outer, number - 1)
-        },
+    if number < inside {
+        None
+    } else {
+        Some(number - inside)
     }
 }
 
-/// Puts the exits of a statement that lies in these loops behind those that are there, in text order.
+/// How many numbers there are inside of a leavable statement's body, where there are so many round it. More than memory has
+/// room for are answered as want of memory.
+#[tactic(auto, using(crate::proofs::Fronts::counted))]
+pub fn within(inside: usize, own: &[Statement]) -> Result<usize, AllocError>
+    ensures numbers { IfOk result (λ n. n ≡ suc (count (statements_of own.now)) + inside) }
+    ensures few { IfOk result (λ n. n ≤ 1000000000) }
+{
+    if inside < MOST_NUMBERS && own.len() < MOST_NUMBERS - inside {
+        Ok(own.len() + 1 + inside)
+    } else {
+        Err(AllocError)
+    }
+}
+
+/// Puts the exits of a statement, inside so many numbers, behind those that are there, in text order.
 #[cycle(statements)]
 #[tactic(auto, using(crate::proofs::Fronts::block_read))]
-pub fn collect_exits(s: &Statement, loops: &Loops, out: &mut Vec<Exit>) -> Result<(), AllocError>
-    ensures { IfOk result (λ _. plain_exits out.new.items ≡ plain_exits out.old.items ++ exits (how_many loops.now) (plain_statement s.now)) }
+pub fn collect_exits(s: &Statement, inside: usize, out: &mut Vec<Exit>) -> Result<(), AllocError>
+    ensures { IfOk result (λ _. plain_exits out.new.items ≡ plain_exits out.old.items ++ exits inside (plain_statement s.now)) }
 {
     match s {
-        Statement::Block(statements) => collect_block(statements, &*loops, out),
-        Statement::While(_, body) => collect_exits(body, &Loops::Inside(&*loops), out),
+        Statement::Block(statements) => collect_block(statements, inside, out),
+        Statement::While(_, body) => collect_exits(body, inside, out),
         Statement::If(_, first, second)
         | Statement::Try(first, second)
-        | Statement::Guarded(first, _, second)
-        | Statement::Leavable(first, second) => {
-            collect_exits(first, &*loops, out)?;
-            collect_exits(second, &*loops, out)
+        | Statement::Guarded(first, _, second) => {
+            collect_exits(first, inside, out)?;
+            collect_exits(second, inside, out)
         }
-        Statement::Break(number) => {
-            if let Some(number) = beyond(loops, *number) {
-                out.push(Exit::Break(number))?;
-            }
-            Ok(())
+        Statement::Leavable(body, own) => {
+            collect_exits(body, within(inside, own)?, out)?;
+            collect_block(own, inside, out)
         }
-        Statement::Continue(number) => {
-            if let Some(number) = beyond(loops, *number) {
-                out.push(Exit::Continue(number))?;
+        Statement::Leave(number) => {
+            if let Some(number) = beyond(inside, *number) {
+                out.push(Exit::Leave(number))?;
             }
             Ok(())
         }
@@ -80,21 +83,20 @@ pub fn collect_exits(s: &Statement, loops: &Loops, out: &mut Vec<Exit>) -> Resul
         | Statement::SetField(_, _, _)
         | Statement::SetItem(_, _, _)
         | Statement::Evaluate(_)
-        | Statement::Throw(_)
-        | Statement::Leave(_) => Ok(()),
+        | Statement::Throw(_) => Ok(()),
     }
 }
 
 #[cycle(statements)]
 fn collect_block(
     statements: &[Statement],
-    loops: &Loops,
+    inside: usize,
     out: &mut Vec<Exit>,
 ) -> Result<(), AllocError>
-    ensures { IfOk result (λ _. plain_exits out.new.items ≡ plain_exits out.old.items ++ all_exits (how_many loops.now) (statements_of statements.now)) }
+    ensures { IfOk result (λ _. plain_exits out.new.items ≡ plain_exits out.old.items ++ all_exits inside (statements_of statements.now)) }
 {
     for s in statements {
-        collect_exits(s, &*loops, out)?;
+        collect_exits(s, inside, out)?;
     }
     Ok(())
 }

@@ -2,15 +2,15 @@
 
 ghost use Rattle.std.specs.Prelude.{◌≡◌, ℕ, ◌+◌, ◌*◌, ◌≤◌, length, IfOk, IfErr, OnOk, Ok, Err};
 ghost use Rattle.std.specs.Option.{SomeIff};
-ghost use Rattle.ls_lowered.specs.LoweredTree.{Block, Try, Leavable};
+ghost use Rattle.ls_lowered.specs.LoweredTree.{Try, Leavable};
 ghost use Rattle.ls_lowered.specs.Plain.{plain_statement, statements_of};
 ghost use Rattle.ls_finally.specs.Exits.{exits, finally_of};
 ghost use Rattle.ls_finally.specs.Flat.{tries, all_tries, flat, all_flat};
-ghost use Rattle.ls_finally.specs.Counts.{copies, all_copies, regions};
+ghost use Rattle.ls_finally.specs.Counts.{copies, all_copies};
 ghost use Rattle.ls_finally.specs.Code.{Fits};
 
-use crate::copy::{block_of, copy_expression, copy_statement};
-use crate::exits::{Loops, collect_exits};
+use crate::copy::{block_of, copy_expression, copy_statement, leavable_of};
+use crate::exits::collect_exits;
 use crate::replace::by_copies;
 use crate::together::{in_box, put};
 use ls_lowered::fault::LowerFault;
@@ -69,7 +69,7 @@ impl Lowering {
         ensures few { Fits result (self.old.count + copies self.old.free (plain_statement s.now)) }
     {
         match s {
-            Statement::Block(statements) => self.flat_block(alloc, statements),
+            Statement::Block(statements) => Ok(block_of(self.flat_all(alloc, statements)?)),
             Statement::If(e, first, second) => {
                 let parts = self.flat_two(alloc, first, second)?;
                 let ((first, second), e) = also(parts, copy_expression(alloc, e))?;
@@ -85,13 +85,11 @@ impl Lowering {
                 let (body, handler) = self.flat_two(alloc, body, handler)?;
                 Ok(Statement::Guarded(body, *number, handler))
             }
-            Statement::Leavable(body, exit) => self.flat_leavable(alloc, body, exit),
+            Statement::Leavable(body, own) => self.flat_leavable(alloc, body, own),
             Statement::SetLocal(_, _)
             | Statement::SetField(_, _, _)
             | Statement::SetItem(_, _, _)
             | Statement::Evaluate(_)
-            | Statement::Break(_)
-            | Statement::Continue(_)
             | Statement::Return(_)
             | Statement::Throw(_)
             | Statement::Leave(_) => Ok(copy_statement(alloc, s)?),
@@ -101,14 +99,14 @@ impl Lowering {
     #[cycle(flatten)]
     #[inline(never)]
     #[tactic(auto, using(crate::proofs::Flattening::too_many_more))]
-    fn flat_block(
+    fn flat_all(
         &mut self,
         alloc: Global,
         statements: &[Statement],
-    ) -> Result<Statement, LowerFault>
+    ) -> Result<Vec<Statement>, LowerFault>
         requires room { self.old.free + 2 * all_tries (statements_of statements.now) ≤ 128 }
         requires few { self.old.count ≤ 4096 }
-        ensures tree { IfOk result (λ t. plain_statement t ≡ Block (all_flat self.old.free (statements_of statements.now))) }
+        ensures tree { IfOk result (λ v. statements_of v.items ≡ all_flat self.old.free (statements_of statements.now)) }
         ensures free { OnOk result (self.new.free ≡ self.old.free + 2 * all_tries (statements_of statements.now)) }
         ensures count { OnOk result (self.new.count ≡ self.old.count + all_copies self.old.free (statements_of statements.now)) }
         ensures few { Fits result (self.old.count + all_copies self.old.free (statements_of statements.now)) }
@@ -117,7 +115,7 @@ impl Lowering {
         for s in statements {
             put(&mut out, self.flatten(alloc, s)?)?;
         }
-        Ok(block_of(out))
+        Ok(out)
     }
 
     // A part of a statement.
@@ -158,26 +156,27 @@ impl Lowering {
 
     #[cycle(flatten)]
     #[inline(never)]
-    #[tactic(auto, using(crate::proofs::Flattening::too_many_more))]
+    #[tactic(auto, using(crate::proofs::Flattening::too_many_more, crate::proofs::Fronts::counted))]
     fn flat_leavable(
         &mut self,
         alloc: Global,
         body: &Statement,
-        exit: &Statement,
+        own: &[Statement],
     ) -> Result<Statement, LowerFault>
-        requires room { self.old.free + 2 * (tries (plain_statement body.now) + tries (plain_statement exit.now)) ≤ 128 }
+        requires room { self.old.free + 2 * (tries (plain_statement body.now) + all_tries (statements_of own.now)) ≤ 128 }
         requires few { self.old.count ≤ 4096 }
-        ensures tree { IfOk result (λ t. plain_statement t ≡ flat self.old.free (Leavable (plain_statement body.now) (plain_statement exit.now))) }
-        ensures free { OnOk result (self.new.free ≡ self.old.free + 2 * (tries (plain_statement body.now) + tries (plain_statement exit.now))) }
-        ensures count { OnOk result (self.new.count ≡ self.old.count + copies self.old.free (Leavable (plain_statement body.now) (plain_statement exit.now))) }
-        ensures few { Fits result (self.old.count + copies self.old.free (Leavable (plain_statement body.now) (plain_statement exit.now))) }
+        ensures tree { IfOk result (λ t. plain_statement t ≡ flat self.old.free (Leavable (plain_statement body.now) (statements_of own.now))) }
+        ensures free { OnOk result (self.new.free ≡ self.old.free + 2 * (tries (plain_statement body.now) + all_tries (statements_of own.now))) }
+        ensures count { OnOk result (self.new.count ≡ self.old.count + copies self.old.free (Leavable (plain_statement body.now) (statements_of own.now))) }
+        ensures few { Fits result (self.old.count + copies self.old.free (Leavable (plain_statement body.now) (statements_of own.now))) }
     {
-        if self.count == MOST_COPIES {
+        if own.len() > MOST_COPIES - self.count {
             return Err(LowerFault::TooManyCopies);
         }
-        self.count += 1;
-        let (body, exit) = self.flat_two(alloc, body, exit)?;
-        Ok(Statement::Leavable(body, exit))
+        self.count += own.len();
+        let body = self.flat_part(alloc, body)?;
+        let (body, own) = beside(body, self.flat_all(alloc, own))?;
+        Ok(leavable_of(body, own))
     }
 
     #[cycle(flatten)]
@@ -215,8 +214,7 @@ impl Lowering {
         finally: &Statement,
         within: usize,
     ) -> Result<Statement, LowerFault>
-        requires few { regions (plain_statement body.now) ≤ 4096 }
-        requires fine { within ≤ 4096 }
+        requires few { within ≤ 4096 }
         requires room { self.old.free ≤ 128 }
         ensures tree { IfOk result (λ t. plain_statement t ≡ finally_of self.old.free (plain_statement body.now) (plain_statement finally.now)) }
         ensures free { OnOk result (self.new.free ≡ self.old.free + 2) }
@@ -224,7 +222,7 @@ impl Lowering {
         ensures few { Fits result (self.old.count + (2 + length (exits 0 (plain_statement body.now))) * (1 + within)) }
     {
         let mut ways = Vec::new(alloc);
-        collect_exits(body, &Loops::Outermost, &mut ways)?;
+        collect_exits(body, 0, &mut ways)?;
         let Some(count) = total(self.count, ways.len(), within) else {
             return Err(LowerFault::TooManyCopies);
         };

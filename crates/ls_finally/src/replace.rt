@@ -1,19 +1,18 @@
 // A statement without `try` inside copies of a finally block.
 //
-// Each exit of a body puts one region more around it, so a tree can be thousands of levels high: what isn't recursive is
-// kept out of the recursive functions, whose frames have to be small.
+// A tree can be thousands of levels high: what isn't recursive is kept out of the recursive functions, whose frames have to be
+// small.
 
-ghost use Rattle.std.specs.Prelude.{◌≡◌, ℕ, ◌+◌, ◌<◌, ◌≤◌, ◌++◌, length, IfOk, OnOk};
-ghost use Rattle.ls_lowered.specs.LoweredTree.{Block, SetLocal, Leavable, Leave};
-ghost use Rattle.ls_lowered.specs.Plain.{plain, plain_statement, statements_of};
-ghost use Rattle.ls_finally.specs.Exits.{exits, all_exits, both, exit_of, replaced, all_replaced, wrapped, finally_of};
-ghost use Rattle.ls_finally.specs.Counts.{regions, all_regions};
-ghost use Rattle.ls_finally.specs.Code.{how_many, plain_exit, plain_exits};
+ghost use Rattle.std.specs.Prelude.{◌≡◌, ℕ, suc, ◌+◌, ◌<◌, ◌≤◌, ◌++◌, length, IfOk, OnOk};
+ghost use Rattle.ls_lowered.specs.LoweredTree.{Statements, SetLocal, Guarded, Throw, Leavable, Leave, Then};
+ghost use Rattle.ls_lowered.specs.Plain.{plain, plain_statement, in_front, statements_of};
+ghost use Rattle.ls_finally.specs.Exits.{count, exits, all_exits, both, exit_of, replaced, all_replaced, ways, finally_of};
+ghost use Rattle.ls_finally.specs.Code.{plain_exit, plain_exits};
 
-use crate::copy::{block_of, copy_expression, copy_statement};
-use crate::exits::{Exit, Loops, beyond, collect_exits};
-use crate::together::{in_box, in_boxes, put};
-use ls_lowered::together::{also, pair};
+use crate::copy::{block_of, copy_expression, copy_statement, leavable_of};
+use crate::exits::{Exit, beyond, collect_exits, within};
+use crate::together::{in_box, put};
+use ls_lowered::together::{also, pair, two};
 use ls_lowered::tree::{Expression, Statement};
 use std::alloc::{AllocError, Global};
 
@@ -25,12 +24,13 @@ fn in_turn(alloc: Global, first: Statement, second: Statement) -> Result<Stateme
 }
 
 // A leave in place of an exit.
-fn leave(next: &mut usize) -> Statement
-    requires { next.old < 10000 }
-    ensures tree { plain_statement result ≡ Leave next.old }
+fn leave(inside: usize, next: &mut usize) -> Statement
+    requires few { next.old < 10000 }
+    requires low { inside ≤ 1000000000 }
+    ensures tree { plain_statement result ≡ Leave (inside + next.old) }
     ensures next { next.new ≡ next.old + 1 }
 {
-    let number = *next;
+    let number = inside + *next;
     *next += 1;
     Statement::Leave(number)
 }
@@ -40,15 +40,17 @@ fn leave(next: &mut usize) -> Statement
 fn leave_with(
     alloc: Global,
     e: &Expression,
+    inside: usize,
     kept: usize,
     next: &mut usize,
 ) -> Result<Statement, AllocError>
-    requires { next.old < 10000 }
-    ensures tree { IfOk result (λ t. plain_statement t ≡ both (SetLocal kept (plain e.now)) (Leave next.old)) }
+    requires few { next.old < 10000 }
+    requires low { inside ≤ 1000000000 }
+    ensures tree { IfOk result (λ t. plain_statement t ≡ both (SetLocal kept (plain e.now)) (Leave (inside + next.old))) }
     ensures next { OnOk result (next.new ≡ next.old + 1) }
 {
     let keep = Statement::SetLocal(kept, copy_expression(alloc, e)?);
-    in_turn(alloc, keep, leave(next))
+    in_turn(alloc, keep, leave(inside, next))
 }
 
 // A statement that keeps its exits.
@@ -56,16 +58,16 @@ fn leave_with(
 fn keeping(
     alloc: Global,
     s: &Statement,
-    loops: &Loops,
+    inside: usize,
     next: &mut usize,
 ) -> Result<Statement, AllocError>
-    requires { next.old + length (exits (how_many loops.now) (plain_statement s.now)) ≤ 10000 }
+    requires { next.old + length (exits inside (plain_statement s.now)) ≤ 10000 }
     ensures tree { IfOk result (λ t. plain_statement t ≡ plain_statement s.now) }
-    ensures next { OnOk result (next.new ≡ next.old + length (exits (how_many loops.now) (plain_statement s.now))) }
+    ensures next { OnOk result (next.new ≡ next.old + length (exits inside (plain_statement s.now))) }
 {
-    let mut inside = Vec::new(alloc);
-    collect_exits(s, loops, &mut inside)?;
-    *next += inside.len();
+    let mut found = Vec::new(alloc);
+    collect_exits(s, inside, &mut found)?;
+    *next += found.len();
     copy_statement(alloc, s)
 }
 
@@ -75,15 +77,16 @@ fn keeping(
 fn replace_in_part(
     alloc: Global,
     s: &Statement,
-    loops: &Loops,
+    inside: usize,
     kept: usize,
     next: &mut usize,
 ) -> Result<Box<Statement>, AllocError>
-    requires { next.old + length (exits (how_many loops.now) (plain_statement s.now)) + regions (plain_statement s.now) ≤ 10000 }
-    ensures tree { IfOk result (λ t. plain_statement t.value ≡ replaced kept (how_many loops.now) next.old (plain_statement s.now)) }
-    ensures next { OnOk result (next.new ≡ next.old + length (exits (how_many loops.now) (plain_statement s.now))) }
+    requires few { next.old + length (exits inside (plain_statement s.now)) ≤ 10000 }
+    requires low { inside ≤ 1000000000 }
+    ensures tree { IfOk result (λ t. plain_statement t.value ≡ replaced kept inside next.old (plain_statement s.now)) }
+    ensures next { OnOk result (next.new ≡ next.old + length (exits inside (plain_statement s.now))) }
 {
-    in_box(alloc, replace_exits(alloc, s, &*loops, kept, next)?)
+    in_box(alloc, replace_exits(alloc, s, inside, kept, next)?)
 }
 
 // Two parts of a statement.
@@ -93,107 +96,110 @@ fn replace_in_two(
     alloc: Global,
     first: &Statement,
     second: &Statement,
-    loops: &Loops,
+    inside: usize,
     kept: usize,
     next: &mut usize,
 ) -> Result<(Box<Statement>, Box<Statement>), AllocError>
-    requires { next.old + length (exits (how_many loops.now) (plain_statement first.now) ++ exits (how_many loops.now) (plain_statement second.now)) + (regions (plain_statement first.now) + regions (plain_statement second.now)) ≤ 10000 }
-    ensures first { IfOk result (λ p. plain_statement p.0.value ≡ replaced kept (how_many loops.now) next.old (plain_statement first.now)) }
-    ensures second { IfOk result (λ p. plain_statement p.1.value ≡ replaced kept (how_many loops.now) (next.old + length (exits (how_many loops.now) (plain_statement first.now))) (plain_statement second.now)) }
-    ensures next { OnOk result (next.new ≡ next.old + length (exits (how_many loops.now) (plain_statement first.now) ++ exits (how_many loops.now) (plain_statement second.now))) }
+    requires few { next.old + length (exits inside (plain_statement first.now) ++ exits inside (plain_statement second.now)) ≤ 10000 }
+    requires low { inside ≤ 1000000000 }
+    ensures first { IfOk result (λ p. plain_statement p.0.value ≡ replaced kept inside next.old (plain_statement first.now)) }
+    ensures second { IfOk result (λ p. plain_statement p.1.value ≡ replaced kept inside (next.old + length (exits inside (plain_statement first.now))) (plain_statement second.now)) }
+    ensures next { OnOk result (next.new ≡ next.old + length (exits inside (plain_statement first.now) ++ exits inside (plain_statement second.now))) }
 {
-    let first = replace_in_part(alloc, first, &*loops, kept, next)?;
-    also(first, replace_in_part(alloc, second, &*loops, kept, next))
+    let first = replace_in_part(alloc, first, inside, kept, next)?;
+    also(first, replace_in_part(alloc, second, inside, kept, next))
 }
 
-// A region, whose leaves are one further inside of it.
+// A leavable statement, whose own exits stand outside of its body.
 #[cycle(replace)]
-fn replace_in_region(
+#[inline(never)]
+fn replace_in_leavable(
     alloc: Global,
     body: &Statement,
-    exit: &Statement,
-    loops: &Loops,
+    own: &[Statement],
+    inside: usize,
     kept: usize,
     next: &mut usize,
 ) -> Result<Statement, AllocError>
-    requires { next.old + length (exits (how_many loops.now) (plain_statement body.now) ++ exits (how_many loops.now) (plain_statement exit.now)) + (1 + regions (plain_statement body.now) + regions (plain_statement exit.now)) ≤ 10000 }
-    ensures tree { IfOk result (λ t. plain_statement t ≡ replaced kept (how_many loops.now) next.old (Leavable (plain_statement body.now) (plain_statement exit.now))) }
-    ensures next { OnOk result (next.new ≡ next.old + length (exits (how_many loops.now) (plain_statement body.now) ++ exits (how_many loops.now) (plain_statement exit.now))) }
+    requires few { next.old + length (exits (suc (count (statements_of own.now)) + inside) (plain_statement body.now) ++ all_exits inside (statements_of own.now)) ≤ 10000 }
+    requires low { inside ≤ 1000000000 }
+    ensures tree { IfOk result (λ t. plain_statement t ≡ replaced kept inside next.old (Leavable (plain_statement body.now) (statements_of own.now))) }
+    ensures next { OnOk result (next.new ≡ next.old + length (exits (suc (count (statements_of own.now)) + inside) (plain_statement body.now) ++ all_exits inside (statements_of own.now))) }
 {
-    *next += 1;
-    let body = replace_in_part(alloc, body, &*loops, kept, next)?;
-    *next -= 1;
-    let exit = replace_in_part(alloc, exit, &*loops, kept, next);
-    let (body, exit) = also(body, exit)?;
-    Ok(Statement::Leavable(body, exit))
+    let body = replace_in_part(alloc, body, within(inside, own)?, kept, next)?;
+    let (body, own) = also(body, replace_in_all(alloc, own, inside, kept, next))?;
+    Ok(leavable_of(body, own))
 }
 
 #[cycle(replace)]
 #[inline(never)]
-fn replace_in_block(
+fn replace_in_all(
     alloc: Global,
     statements: &[Statement],
-    loops: &Loops,
+    inside: usize,
     kept: usize,
     next: &mut usize,
-) -> Result<Statement, AllocError>
-    requires { next.old + length (all_exits (how_many loops.now) (statements_of statements.now)) + all_regions (statements_of statements.now) ≤ 10000 }
-    ensures tree { IfOk result (λ t. plain_statement t ≡ Block (all_replaced kept (how_many loops.now) next.old (statements_of statements.now))) }
-    ensures next { OnOk result (next.new ≡ next.old + length (all_exits (how_many loops.now) (statements_of statements.now))) }
+) -> Result<Vec<Statement>, AllocError>
+    requires few { next.old + length (all_exits inside (statements_of statements.now)) ≤ 10000 }
+    requires low { inside ≤ 1000000000 }
+    ensures tree { IfOk result (λ v. statements_of v.items ≡ all_replaced kept inside next.old (statements_of statements.now)) }
+    ensures next { OnOk result (next.new ≡ next.old + length (all_exits inside (statements_of statements.now))) }
 {
     let mut out = Vec::new(alloc);
     for s in statements {
-        put(&mut out, replace_exits(alloc, s, &*loops, kept, next)?)?;
+        put(&mut out, replace_exits(alloc, s, inside, kept, next)?)?;
     }
-    Ok(block_of(out))
+    Ok(out)
 }
 
-// A statement that lies in these loops, with leaves in place of its exits, the first of them number `next`.
+// A statement inside so many numbers, with leaves in place of its exits, the first of them number `next` beyond these.
 #[cycle(replace)]
 #[tactic(auto, using(crate::proofs::Fronts::block_read))]
 fn replace_exits(
     alloc: Global,
     s: &Statement,
-    loops: &Loops,
+    inside: usize,
     kept: usize,
     next: &mut usize,
 ) -> Result<Statement, AllocError>
-    requires { next.old + length (exits (how_many loops.now) (plain_statement s.now)) + regions (plain_statement s.now) ≤ 10000 }
-    ensures tree { IfOk result (λ t. plain_statement t ≡ replaced kept (how_many loops.now) next.old (plain_statement s.now)) }
-    ensures next { OnOk result (next.new ≡ next.old + length (exits (how_many loops.now) (plain_statement s.now))) }
+    requires few { next.old + length (exits inside (plain_statement s.now)) ≤ 10000 }
+    requires low { inside ≤ 1000000000 }
+    ensures tree { IfOk result (λ t. plain_statement t ≡ replaced kept inside next.old (plain_statement s.now)) }
+    ensures next { OnOk result (next.new ≡ next.old + length (exits inside (plain_statement s.now))) }
 {
     match s {
-        Statement::Block(statements) => replace_in_block(alloc, statements, &*loops, kept, next),
+        Statement::Block(statements) => {
+            Ok(block_of(replace_in_all(alloc, statements, inside, kept, next)?))
+        }
         Statement::If(e, first, second) => {
-            let parts = replace_in_two(alloc, first, second, &*loops, kept, next)?;
+            let parts = replace_in_two(alloc, first, second, inside, kept, next)?;
             let ((first, second), e) = also(parts, copy_expression(alloc, e))?;
             Ok(Statement::If(e, first, second))
         }
         Statement::While(e, body) => {
-            let body = replace_in_part(alloc, body, &Loops::Inside(&*loops), kept, next)?;
+            let body = replace_in_part(alloc, body, inside, kept, next)?;
             let (body, e) = also(body, copy_expression(alloc, e))?;
             Ok(Statement::While(e, body))
         }
-        Statement::Break(number) | Statement::Continue(number) => match beyond(loops, *number) {
-            None => copy_statement(alloc, s),
-            Some(_) => Ok(leave(next)),
-        },
-        Statement::Return(e) => leave_with(alloc, e, kept, next),
+        Statement::Return(e) => leave_with(alloc, e, inside, kept, next),
         // What is lowered has no `try`; one that has keeps it.
-        Statement::Try(_, _) => keeping(alloc, s, loops, next),
+        Statement::Try(_, _) => keeping(alloc, s, inside, next),
         Statement::Guarded(body, number, handler) => {
-            let (body, handler) = replace_in_two(alloc, body, handler, &*loops, kept, next)?;
+            let (body, handler) = replace_in_two(alloc, body, handler, inside, kept, next)?;
             Ok(Statement::Guarded(body, *number, handler))
         }
-        Statement::Leavable(body, exit) => {
-            replace_in_region(alloc, body, exit, &*loops, kept, next)
+        Statement::Leavable(body, own) => {
+            replace_in_leavable(alloc, body, own, inside, kept, next)
         }
+        Statement::Leave(number) => match beyond(inside, *number) {
+            None => Ok(Statement::Leave(*number)),
+            Some(_) => Ok(leave(inside, next)),
+        },
         Statement::SetLocal(_, _)
         | Statement::SetField(_, _, _)
         | Statement::SetItem(_, _, _)
         | Statement::Evaluate(_)
-        | Statement::Throw(_)
-        | Statement::Leave(_) => copy_statement(alloc, s),
+        | Statement::Throw(_) => copy_statement(alloc, s),
     }
 }
 
@@ -202,8 +208,7 @@ fn exit_statement(kept: usize, exit: Exit) -> Statement
     ensures { plain_statement result ≡ exit_of kept (plain_exit exit) }
 {
     match exit {
-        Exit::Break(number) => Statement::Break(number),
-        Exit::Continue(number) => Statement::Continue(number),
+        Exit::Leave(number) => Statement::Leave(number),
         Exit::Return => Statement::Return(Expression::Local(kept)),
     }
 }
@@ -220,44 +225,61 @@ fn copied_before(
     in_turn(alloc, copy, last)
 }
 
-// Each exit with its own copy of the finally block.
-fn wrap(
-    alloc: Global,
-    tree: Statement,
-    finally: &Statement,
-    ways: &[Exit],
-    kept: usize,
-) -> Result<Statement, AllocError>
-    ensures { IfOk result (λ t. plain_statement t ≡ wrapped kept (plain_statement finally.now) (plain_exits ways.now) (plain_statement tree)) }
+// The body, which leaves for exit 0 where it ends and for exit 1 where it throws.
+fn guarded(alloc: Global, body: Statement, free: usize) -> Result<Box<Statement>, AllocError>
+    ensures { IfOk result (λ t. plain_statement t.value ≡ both (Guarded (plain_statement body) free (Leave 1)) (Leave 0)) }
 {
-    let mut whole = tree;
-    for way in ways {
-        let last = copied_before(alloc, finally, exit_statement(kept, *way));
-        let (before, last) = in_boxes(alloc, whole, last)?;
-        whole = Statement::Leavable(before, last);
-    }
-    Ok(whole)
+    let (body, handler) = two(alloc, body, Statement::Leave(1))?;
+    let guarded = Statement::Guarded(body, free, handler);
+    in_box(alloc, in_turn(alloc, guarded, Statement::Leave(0))?)
 }
 
-/// `try body finally ..` by copies, where `ways` are the exits of the body. The locals `free` and the next one are its own.
+// The first two exits: the finally block where the body completes normally, and where it throws.
+fn first_ways(alloc: Global, finally: &Statement, free: usize) -> Result<Vec<Statement>, AllocError>
+    ensures { IfOk result (λ v. (rest : Statements) → in_front v.items rest ≡ Then (plain_statement finally.now) (Then (both (plain_statement finally.now) (Throw free)) rest)) }
+{
+    let normally = copy_statement(alloc, finally)?;
+    let thrown = copied_before(alloc, finally, Statement::Throw(free));
+    let (normally, thrown) = also(normally, thrown)?;
+    pair(alloc, normally, thrown)
+}
+
+// All exits: behind the first two, each of the body's behind its own copy of the finally block.
+fn all_ways(
+    alloc: Global,
+    finally: &Statement,
+    found: &[Exit],
+    free: usize,
+) -> Result<Vec<Statement>, AllocError>
+    requires { free ≤ 128 }
+    ensures { IfOk result (λ v. statements_of v.items ≡ Then (plain_statement finally.now) (Then (both (plain_statement finally.now) (Throw free)) (ways (free + 1) (plain_statement finally.now) (plain_exits found.now)))) }
+{
+    let mut out = first_ways(alloc, finally, free)?;
+    for exit in found {
+        put(
+            &mut out,
+            copied_before(alloc, finally, exit_statement(free + 1, *exit))?,
+        )?;
+    }
+    Ok(out)
+}
+
+/// `try body finally ..` by copies, where `found` are the exits of the body. The locals `free` and the next one are its own.
 pub fn by_copies(
     alloc: Global,
     body: &Statement,
     finally: &Statement,
-    ways: &[Exit],
+    found: &[Exit],
     free: usize,
 ) -> Result<Statement, AllocError>
-    requires those { plain_exits ways.now ≡ exits 0 (plain_statement body.now) }
-    requires few { length (exits 0 (plain_statement body.now)) + regions (plain_statement body.now) ≤ 10000 }
+    requires those { plain_exits found.now ≡ exits 0 (plain_statement body.now) }
+    requires few { length (exits 0 (plain_statement body.now)) ≤ 4096 }
     requires room { free ≤ 128 }
     ensures { IfOk result (λ t. plain_statement t ≡ finally_of free (plain_statement body.now) (plain_statement finally.now)) }
 {
-    let mut next = 0;
-    let inside = replace_exits(alloc, body, &Loops::Outermost, free + 1, &mut next)?;
-    let on_throw = copied_before(alloc, finally, Statement::Throw(free));
-    let (inside, on_throw) = in_boxes(alloc, inside, on_throw)?;
-    let guarded = Statement::Guarded(inside, free, on_throw);
-    let (guarded, last) = also(guarded, copy_statement(alloc, finally))?;
-    let normally = in_turn(alloc, guarded, last)?;
-    wrap(alloc, normally, finally, ways, free + 1)
+    let mut next = 2;
+    let inside = replace_exits(alloc, body, 0, free + 1, &mut next)?;
+    let inside = guarded(alloc, inside, free)?;
+    let (inside, own) = also(inside, all_ways(alloc, finally, found, free))?;
+    Ok(leavable_of(inside, own))
 }

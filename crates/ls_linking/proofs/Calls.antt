@@ -30,7 +30,7 @@ use Rattle.ls_headline.specs.Threads.{told, result_type}
 use Rattle.ls_linking.specs.Threads.{pushes, result_code, call_code}
 use Rattle.ls_soundness.specs.InCall.{then_next}
 use Rattle.ls_typing.specs.Programs.{IsPlainResult, IsTypedMaking, IsTypedCalling}
-use Rattle.ls_linking.proofs.Places.{HasAt, has_front, has_after}
+use Rattle.ls_emission.proofs.Places.{HasAt, has_front, has_after}
 use Rattle.ls_linking.proofs.SameWords.{value_is}
 use Rattle.ls_linking.proofs.InKind.{suited_same}
 use Rattle.ls_linking.proofs.Running.{Setting, here, feeds, goes_on, returned, begins, pushes_run, reads, makes, doubles, drops, names, ends_plain, ends}

@@ -16,10 +16,10 @@ use Rattle.ls_lowered.specs.declared.tree.BinaryOperator.{BinaryOperator}
 use Rattle.ls_lowered.specs.declared.tree.BinaryOperator.TheVariants as binary
 use Rattle.ls_lowered.specs.declared.tree.LockOperation.{LockOperation}
 use Rattle.ls_lowered.specs.declared.tree.LockOperation.TheVariants.{Lock, Unlock, TryLock, IsHeld}
-use Rattle.ls_lowered.specs.LoweredTree.{Expression, Word, Local, Unary, Binary, And, Or, Hold, Keep, After, Field, Item, SetFirst, ReadPair, SetPair, SwapPair, AttemptMark, OnLock, Call, MakeObject, MakeLock, MakeMarkable, MakeArray, Expressions, End, More, Statement, Block, SetLocal, SetField, SetItem, Evaluate, If, While, Break, Continue, Return, Try, Guarded, Throw, Leavable, Leave, Statements, Done, Then, Method, File}
+use Rattle.ls_lowered.specs.LoweredTree.{Expression, Word, Local, Unary, Binary, And, Or, Hold, Keep, After, Field, Item, SetFirst, ReadPair, SetPair, SwapPair, AttemptMark, OnLock, Call, MakeObject, MakeLock, MakeMarkable, MakeArray, Expressions, End, More, Statement, Block, SetLocal, SetField, SetItem, Evaluate, If, While, Return, Try, Guarded, Throw, Leavable, Leave, Statements, Done, Then, Method, File}
 use Rattle.ls_locks.specs.LockCode.{lock_code}
 use Rattle.ls_emission.specs.Expressions.{unary_code, binary_code, size, code, all_code}
-use Rattle.ls_emission.specs.Statements.{Targets, no_targets, in_loop, in_region, statement_size, statement_code, statements_code}
+use Rattle.ls_emission.specs.Statements.{Targets, places, statement_size, exits_size, statement_code, statements_code, exits_code}
 use Rattle.ls_emission.specs.Units.{moved, method_code, units_of}
 use Rattle.ls_headline.specs.ByWords.{IsExchanged}
 use Rattle.ls_headline.specs.Threads.{result_type}
@@ -99,22 +99,23 @@ mutual
   statement_exchanges (If e a b) t p =
       both _ _ (both _ (op.JumpIfFalse (p + size e + statement_size a + 2) ∷ statement_code t (p + size e + 1) a) (exchanges e p) (tt, statement_exchanges a t (p + size e + 1))) (tt, statement_exchanges b t (p + size e + statement_size a + 2))
   statement_exchanges (While e s) t p =
-      let inner = in_loop (p + size e + statement_size s + 1) (p + size e + statement_size s + 2) t in
-      both _ _ (both _ (op.JumpIfFalse (p + size e + statement_size s + 2) ∷ statement_code inner (p + size e + 1) s) (exchanges e p) (tt, statement_exchanges s inner (p + size e + 1))) (tt, tt)
-  statement_exchanges (Break n) t p = (tt, tt)
-  statement_exchanges (Continue n) t p = (tt, tt)
+      both _ _ (both _ (op.JumpIfFalse (p + size e + statement_size s + 2) ∷ statement_code t (p + size e + 1) s) (exchanges e p) (tt, statement_exchanges s t (p + size e + 1))) (tt, tt)
   statement_exchanges (Return e) t p = both (code p e) _ (exchanges e p) (tt, tt)
   statement_exchanges (Try b f) t p = tt
   statement_exchanges (Guarded b n h) t p = both (statement_code t p b) _ (statement_exchanges b t p) (tt, (tt, statement_exchanges h t (p + statement_size b + 2)))
   statement_exchanges (Throw n) t p = (tt, (tt, tt))
-  statement_exchanges (Leavable b x) t p =
-      let inner = in_region (p + statement_size b + 1) t in
-      both (statement_code inner p b) _ (statement_exchanges b inner p) (tt, statement_exchanges x t (p + statement_size b + 1))
+  statement_exchanges (Leavable b xs) t p =
+      let q = p + statement_size b in
+      both (statement_code (places q xs ++ t) p b) _ (statement_exchanges b (places q xs ++ t) p) (exits_exchange xs t (q + exits_size xs) q)
   statement_exchanges (Leave n) t p = (tt, tt)
 
   statements_exchange : (ss : Statements) (t : Targets) (p : ℕ) → Exchanges (statements_code t p ss)
   statements_exchange Done t p = tt
   statements_exchange (Then s ss) t p = both (statement_code t p s) _ (statement_exchanges s t p) (statements_exchange ss t (p + statement_size s))
+
+  exits_exchange : (xs : Statements) (t : Targets) (end p : ℕ) → Exchanges (exits_code t end p xs)
+  exits_exchange Done t end p = tt
+  exits_exchange (Then x xs) t end p = both (op.Jump end ∷ statement_code t (p + 1) x) _ (tt, statement_exchanges x t (p + 1)) (exits_exchange xs t end (p + 1 + statement_size x))
 
 moved_exchanges : (p : ℕ) (i : Instruction) → IsExchanged i → IsExchanged (moved p i)
 moved_exchanges p (op.Jump x) h = tt
@@ -128,7 +129,7 @@ all_moved p [] h = tt
 all_moved p (i ∷ is) h = (moved_exchanges p i h.0, all_moved p is h.1)
 
 unit_exchanges : (m : Method) → Exchanges (method_code 0 m)
-unit_exchanges m = both (statement_code no_targets 0 m.body) _ (statement_exchanges m.body no_targets 0) (tt, (tt, tt))
+unit_exchanges m = both (statement_code [] 0 m.body) _ (statement_exchanges m.body [] 0) (tt, (tt, tt))
 
 pub units_exchange : (file : File) (p : ℕ) → Exchanges (units_code p (units_of file))
 units_exchange [] p = tt

@@ -1,5 +1,4 @@
 pub mod Lists
-pub mod Places
 pub mod Units
 pub mod Threads
 pub mod SameWords

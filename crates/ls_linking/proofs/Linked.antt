@@ -29,7 +29,7 @@ use Rattle.ls_linking.specs.Linked.{words_of, units_code, units_rows, threads_co
 use Rattle.ls_linking.specs.Laws.{LoweredAsks}
 use Rattle.ls_typing.specs.Programs.{IsTypedCall, IsTypedProgram}
 use Rattle.ls_linking.proofs.Lists.{RowsEnd, get_map}
-use Rattle.ls_linking.proofs.Places.{HasAt, has_front, has_after}
+use Rattle.ls_emission.proofs.Places.{HasAt, has_front, has_after}
 use Rattle.ls_linking.proofs.Units.{all_within, units_end, units_long, lie_in}
 use Rattle.ls_linking.proofs.Threads.{Thread, threads_from, threads_lie, started_as}
 use Rattle.ls_linking.proofs.SameWords.{answers_are}

@@ -32,7 +32,7 @@ use Rattle.ls_emission.specs.Entering.{fed_from, thrown_in}
 use Rattle.ls_headline.specs.InWords.{word_of}
 use Rattle.ls_linking.specs.Threads.{pushes, result_code}
 use Rattle.ls_linking.proofs.Lists.{laid}
-use Rattle.ls_linking.proofs.Places.{HasAt}
+use Rattle.ls_emission.proofs.Places.{HasAt}
 
 -- Where a thread runs: the code, its number, the bound on silent steps, the table of its calls, its need of operands, and
 -- its first and last place.

@@ -10,7 +10,7 @@ use Rattle.ls_headline.specs.Threads.{calls_of}
 use Rattle.ls_linking.specs.Threads.{thread_code, thread_size, thread_row, start_of}
 use Rattle.ls_linking.specs.Linked.{threads_code, threads_rows, starts}
 use Rattle.ls_linking.proofs.Lists.{behind, RowsEnd, RowsFrom, end_append, end_more, from_less, rows_behind, this_row}
-use Rattle.ls_linking.proofs.Places.{HasAt}
+use Rattle.ls_emission.proofs.Places.{HasAt}
 
 -- the code of a thread, and the row that counts in it
 pub record ThreadLies (c : Code) (classes : List Class) (t : ThreadProgram) (from place : ℕ) : Type 0 where

@@ -7,13 +7,13 @@ use Rattle.ls_code.specs.declared.instruction.Instruction.{Instruction}
 use Rattle.ls_code.specs.declared.instruction.Instruction.TheVariants as op
 use Rattle.ls_code.specs.declared.code.HandlerRow.{HandlerRow}
 use Rattle.ls_code.specs.declared.code.Method.{Method as MethodRow}
-use Rattle.ls_lowered.specs.LoweredTree.{Statement, Block, SetLocal, SetField, SetItem, Evaluate, If, While, Break, Continue, Return, Try, Guarded, Throw, Leavable, Leave, Statements, Done, Then, Method, File}
+use Rattle.ls_lowered.specs.LoweredTree.{Statement, Block, SetLocal, SetField, SetItem, Evaluate, If, While, Return, Try, Guarded, Throw, Leavable, Leave, Statements, Done, Then, Method, File}
 use Rattle.ls_emission.specs.Expressions.{size}
-use Rattle.ls_emission.specs.Statements.{no_targets, row_of, statement_size, statements_size, statement_code, statement_rows, statements_rows}
+use Rattle.ls_emission.specs.Statements.{row_of, statement_size, statements_size, exits_size, statement_code, statement_rows, statements_rows, exits_rows}
 use Rattle.ls_emission.specs.Units.{CodeUnit, moved, moved_row, method_code, units_of, LiesAt, LieIn}
 use Rattle.ls_linking.specs.Linked.{words_of, units_code, units_rows, method_rows}
 use Rattle.ls_linking.proofs.Lists.{behind, in_front, get_map, RowsEnd, RowsFrom, end_append, end_more, from_append, from_less, rows_behind, rows_front}
-use Rattle.ls_linking.proofs.Places.{statement_size_is}
+use Rattle.ls_emission.proofs.StatementPlaces.{statement_size_is}
 
 -- the rows of a statement end where it ends
 mutual
@@ -28,8 +28,6 @@ mutual
       (end_more (p + size e + 1 + statement_size a) (p + statement_size (If e a b)) _ (omega arith) (rows_end a (p + size e + 1)))
       (end_more (p + size e + statement_size a + 2 + statement_size b) (p + statement_size (If e a b)) _ (omega arith) (rows_end b (p + size e + statement_size a + 2)))
   rows_end (While e s) p = end_more (p + size e + 1 + statement_size s) (p + statement_size (While e s)) _ (omega arith) (rows_end s (p + size e + 1))
-  rows_end (Break n) p = tt
-  rows_end (Continue n) p = tt
   rows_end (Return e) p = tt
   rows_end (Try b f) p = tt
   rows_end (Guarded b n h) p =
@@ -37,10 +35,10 @@ mutual
       (end_more (p + statement_size b) (p + statement_size (Guarded b n h)) _ (omega arith) (rows_end b p))
       (omega arith, end_more (p + statement_size b + 2 + statement_size h) (p + statement_size (Guarded b n h)) _ (omega arith) (rows_end h (p + statement_size b + 2)))
   rows_end (Throw n) p = tt
-  rows_end (Leavable b x) p =
-      end_append (p + statement_size (Leavable b x)) (statement_rows p b) (statement_rows (p + statement_size b + 1) x)
-      (end_more (p + statement_size b) (p + statement_size (Leavable b x)) _ (omega arith) (rows_end b p))
-      (end_more (p + statement_size b + 1 + statement_size x) (p + statement_size (Leavable b x)) _ (omega arith) (rows_end x (p + statement_size b + 1)))
+  rows_end (Leavable b xs) p =
+      end_append (p + statement_size (Leavable b xs)) (statement_rows p b) (exits_rows (p + statement_size b) xs)
+      (end_more (p + statement_size b) (p + statement_size (Leavable b xs)) _ (omega arith) (rows_end b p))
+      (end_more (p + statement_size b + exits_size xs) (p + statement_size (Leavable b xs)) _ (omega arith) (exit_rows_end xs (p + statement_size b)))
   rows_end (Leave n) p = tt
 
   all_rows_end : (ss : Statements) (p : ℕ) → RowsEnd (p + statements_size ss) (statements_rows p ss)
@@ -50,13 +48,20 @@ mutual
       (end_more (p + statement_size s) (p + statements_size (Then s ss)) _ (omega arith) (rows_end s p))
       (end_more (p + statement_size s + statements_size ss) (p + statements_size (Then s ss)) _ (omega arith) (all_rows_end ss (p + statement_size s)))
 
+  exit_rows_end : (xs : Statements) (p : ℕ) → RowsEnd (p + exits_size xs) (exits_rows p xs)
+  exit_rows_end Done p = tt
+  exit_rows_end (Then x xs) p =
+      end_append (p + exits_size (Then x xs)) (statement_rows (p + 1) x) (exits_rows (p + 1 + statement_size x) xs)
+      (end_more (p + 1 + statement_size x) (p + exits_size (Then x xs)) _ (omega arith) (rows_end x (p + 1)))
+      (end_more (p + 1 + statement_size x + exits_size xs) (p + exits_size (Then x xs)) _ (omega arith) (exit_rows_end xs (p + 1 + statement_size x)))
+
 -- the rows of each unit end within it
 abbrev pub AllWithin : List CodeUnit → Type 0
 AllWithin [] = Unit {0}
 AllWithin (u ∷ us) = RowsEnd (length u.instructions) u.handlers × AllWithin us
 
 method_size_is : (m : Method) → length (method_code 0 m) ≡ statement_size m.body + 2
-method_size_is m = omega (arith, length-append (statement_code no_targets 0 m.body) (op.Push 0 ∷ op.LeaveWith ∷ []), statement_size_is m.body no_targets 0)
+method_size_is m = omega (arith, length-append (statement_code [] 0 m.body) (op.Push 0 ∷ op.LeaveWith ∷ []), statement_size_is m.body [] 0)
 
 pub all_within : (ms : File) → AllWithin (units_of ms)
 all_within [] = tt

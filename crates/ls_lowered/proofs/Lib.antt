@@ -1,3 +1,4 @@
 pub mod Rows
 pub mod ExpressionCases
 pub mod StatementCases
+pub mod Taken

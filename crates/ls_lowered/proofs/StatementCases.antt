@@ -5,9 +5,9 @@ use Rattle.ls_events.specs.declared.kind.Kind.TheVariants.{Arithmetic, NullPoint
 use Rattle.ls_events.specs.declared.action.Action.TheVariants as act
 use Rattle.ls_events.specs.declared.action.Answer.TheVariants as answer
 use Rattle.ls_lowered.specs.declared.tree.BinaryOperator.TheVariants as op
-use Rattle.ls_lowered.specs.LoweredTree.{Word, Local, Binary, Call, End, MakeLock, Statement, Block, SetLocal, SetField, SetItem, Evaluate, If, While, Break, Continue, Return, Try, Guarded, Throw, Leavable, Leave, Done, Then, Method}
+use Rattle.ls_lowered.specs.LoweredTree.{Word, Local, Binary, Call, End, MakeLock, Statement, Block, SetLocal, SetField, SetItem, Evaluate, If, While, Return, Try, Guarded, Throw, Leavable, Leave, Statements, Done, Then, Method}
 use Rattle.ls_lowered.specs.Course.{Answers, Course, Asks, Ends, Stuck, Told, Asked, Gave, Raised, Lost}
-use Rattle.ls_lowered.specs.Statements.{Completion, Normal, Broke, Continued, Returned, Threw, Left, execute}
+use Rattle.ls_lowered.specs.Statements.{Completion, Normal, Returned, Threw, Left, execute}
 use Rattle.ls_lowered.specs.Methods.{invoke}
 
 abbrev calls : ℕ → List ℕ → Answers → Told
@@ -30,7 +30,7 @@ division = Evaluate (Binary op.Divide (Word 1) (Word 0))
 block : at (both (SetLocal 1 (Word 5)) (SetLocal 2 (Local 1))) [] ≡ ends Normal 5 5
 block = refl
 
-block_left : at (both (Break 2) (SetLocal 2 (Local 1))) [] ≡ ends (Broke 2) 0 4
+block_left : at (both (Leave 2) (SetLocal 2 (Local 1))) [] ≡ ends (Left 2) 0 4
 block_left = refl
 
 field_set : at (SetField (Local 0) 3 (Word 5)) [] ≡ Asks (act.WriteField 7 3 5)
@@ -58,24 +58,22 @@ first_branch = refl
 second_branch : at (If (Word 0) (SetLocal 1 (Word 1)) (SetLocal 1 (Word 2))) [] ≡ ends Normal 2 4
 second_branch = refl
 
--- a turn at the end of a body, and by `Continue 0`
+-- a turn at the end of a body
 loop_turns : at (While (Word 1) (Block Done)) [] ≡ Asks act.Turn
 loop_turns = refl
 
-loop_continued : at (While (Word 1) (both (Continue 0) division)) (answer.Done ∷ []) ≡ Asks act.Turn
-loop_continued = refl
+-- a leave of a body with no exits ends the body: so a loop goes on, or ends, by a leave
+loop_goes_on : at (While (Word 1) (Leavable (both (Leave 0) division) Done)) (answer.Done ∷ []) ≡ Asks act.Turn
+loop_goes_on = refl
 
 loop_ends : at (While (Binary op.Less (Local 1) (Word 2)) (SetLocal 1 (Binary op.Add (Local 1) (Word 1)))) (answer.Done ∷ answer.Done ∷ []) ≡ ends Normal 2 4
 loop_ends = refl
 
-loop_broken : at (While (Word 1) (Break 0)) [] ≡ ends Normal 0 4
-loop_broken = refl
+loop_ended : at (Leavable (While (Word 1) (Leavable (Leave 1) Done)) Done) [] ≡ ends Normal 0 4
+loop_ended = refl
 
-outer_broken : at (While (Word 1) (Break 1)) [] ≡ ends (Broke 0) 0 4
-outer_broken = refl
-
-outer_continued : at (While (Word 1) (Continue 2)) [] ≡ ends (Continued 1) 0 4
-outer_continued = refl
+loop_left : at (While (Word 1) (Leave 1)) [] ≡ ends (Left 1) 0 4
+loop_left = refl
 
 given_back : at (Return (Local 2)) [] ≡ ends (Returned 4) 0 4
 given_back = refl
@@ -90,14 +88,14 @@ try_throws = refl
 finally_returns : at (Try division (Return (Word 3))) [] ≡ ends (Returned 3) 0 4
 finally_returns = refl
 
-finally_throws : at (Try (Break 0) division) [] ≡ ends (Threw Arithmetic) 0 4
+finally_throws : at (Try (Leave 0) division) [] ≡ ends (Threw Arithmetic) 0 4
 finally_throws = refl
 
 -- the handler has the locals of the throw, and the kind
 guarded : at (Guarded (both (SetLocal 2 (Word 9)) division) 1 (Block Done)) [] ≡ ends Normal 1 9
 guarded = refl
 
-guarded_passes : at (Guarded (Break 1) 1 division) [] ≡ ends (Broke 1) 0 4
+guarded_passes : at (Guarded (Leave 1) 1 division) [] ≡ ends (Left 1) 0 4
 guarded_passes = refl
 
 thrown_on : at (Guarded division 1 (Throw 1)) [] ≡ ends (Threw Arithmetic) 1 4
@@ -106,13 +104,23 @@ thrown_on = refl
 no_kind : at (Throw 1) [] ≡ Stuck
 no_kind = refl
 
-left : at (Leavable (both (Leave 0) division) (SetLocal 1 (Word 5))) [] ≡ ends Normal 5 4
-left = refl
+-- two exits
+abbrev exits : Statements
+exits = Then (SetLocal 1 (Word 5)) (Then (SetLocal 2 (Word 6)) Done)
 
-left_further : at (Leavable (Leave 1) division) [] ≡ ends (Left 0) 0 4
+first_exit : at (Leavable (both (Leave 0) division) exits) [] ≡ ends Normal 5 4
+first_exit = refl
+
+second_exit : at (Leavable (both (Leave 1) division) exits) [] ≡ ends Normal 0 6
+second_exit = refl
+
+left_to_the_end : at (Leavable (both (Leave 2) division) exits) [] ≡ ends Normal 0 4
+left_to_the_end = refl
+
+left_further : at (Leavable (Leave 4) exits) [] ≡ ends (Left 1) 0 4
 left_further = refl
 
-leavable_passes : at (Leavable (SetLocal 1 (Word 5)) division) [] ≡ ends Normal 5 4
+leavable_passes : at (Leavable (SetLocal 1 (Word 5)) (Then division Done)) [] ≡ ends Normal 5 4
 leavable_passes = refl
 
 -- f(x) = x + 1, and g calls itself for ever

@@ -38,8 +38,8 @@ mutual
     End : Expressions
     More : (first : Expression) → (others : Expressions) → Expressions
 
--- `Break n` and `Continue n` belong to the n-th enclosing loop, `Leave n` to the n-th leavable region that it stands in,
--- counted outward from 0
+-- `Leave n` in the body of a leavable statement goes on at the exit of that number, counted from 0. The number behind the last
+-- exit is the end of the statement; further numbers, counted on, are those of the leavable statement round it
 mutual
   pub data Statement : Type 0 where
     Block : (body : Statements) → Statement
@@ -49,16 +49,13 @@ mutual
     Evaluate : (value : Expression) → Statement
     If : (condition : Expression) → (first second : Statement) → Statement
     While : (condition : Expression) → (body : Statement) → Statement
-    Break : (loop : ℕ) → Statement
-    Continue : (loop : ℕ) → Statement
     Return : (value : Expression) → Statement
     Try : (body finally : Statement) → Statement
     -- a throw of the body goes on at the handler, with its kind in the local
     Guarded : (body : Statement) → (number : ℕ) → (handler : Statement) → Statement
     Throw : (number : ℕ) → Statement
-    -- a leave of the body goes on at the exit
-    Leavable : (body exit : Statement) → Statement
-    Leave : (region : ℕ) → Statement
+    Leavable : (body : Statement) → (exits : Statements) → Statement
+    Leave : (exit : ℕ) → Statement
 
   pub data Statements : Type 0 where
     Done : Statements

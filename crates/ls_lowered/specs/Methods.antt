@@ -5,13 +5,11 @@ use Rattle.ls_events.specs.declared.action.Action.{Action}
 use Rattle.ls_events.specs.declared.action.Action.TheVariants.{Enter}
 use Rattle.ls_lowered.specs.LoweredTree.{Method, File}
 use Rattle.ls_lowered.specs.Course.{Answers, Course, Asks, Ends, Stuck, Told, Asked, Gave, Raised, Lost, Calls}
-use Rattle.ls_lowered.specs.Statements.{Completion, Normal, Broke, Continued, Returned, Threw, Left, execute}
+use Rattle.ls_lowered.specs.Statements.{Completion, Normal, Returned, Threw, Left, execute}
 
 -- what a body's completion gives its caller; a body without a value gives word 0
 abbrev pub given : Completion → Answers → Told
 given Normal q = Gave 0 q
-given (Broke n) q = Gave 0 q
-given (Continued n) q = Gave 0 q
 given (Returned w) q = Gave w q
 given (Threw kind) q = Raised kind q
 given (Left n) q = Gave 0 q

@@ -48,13 +48,11 @@ abbrev mutual
   plain_statement (statements.Evaluate e) = lowered.Evaluate (plain e)
   plain_statement (statements.If' e p a q b) = lowered.If (plain e) (plain_statement a) (plain_statement b)
   plain_statement (statements.While' e p s) = lowered.While (plain e) (plain_statement s)
-  plain_statement (statements.Break n) = lowered.Break n
-  plain_statement (statements.Continue n) = lowered.Continue n
   plain_statement (statements.Return e) = lowered.Return (plain e)
   plain_statement (statements.Try' p a q b) = lowered.Try (plain_statement a) (plain_statement b)
   plain_statement (statements.Guarded' p a n q b) = lowered.Guarded (plain_statement a) n (plain_statement b)
   plain_statement (statements.Throw n) = lowered.Throw n
-  plain_statement (statements.Leavable' p a q b) = lowered.Leavable (plain_statement a) (plain_statement b)
+  plain_statement (statements.Leavable' p a shape row) = lowered.Leavable (plain_statement a) (row_statements row)
   plain_statement (statements.Leave n) = lowered.Leave n
 
   pub row_statements : {m : _} → Row_of-Statement m → lowered.Statements

@@ -3,19 +3,17 @@ use Rattle.std.specs.Prelude.{ℕ, zero, suc, List, [], ◌∷◌, length, nat_e
 use Rattle.ls_events.specs.declared.kind.Kind.{Kind}
 use Rattle.ls_events.specs.declared.action.Action.TheVariants as act
 use Rattle.ls_events.specs.declared.action.Answer.TheVariants.{Done as Answered, Gives, Fails}
-use Rattle.ls_lowered.specs.LoweredTree.{Statement, Block, SetLocal, SetField, SetItem, Evaluate, If, While, Break, Continue, Return, Try, Guarded, Throw, Leavable, Leave, Statements, Done, Then}
+use Rattle.ls_lowered.specs.LoweredTree.{Statement, Block, SetLocal, SetField, SetItem, Evaluate, If, While, Return, Try, Guarded, Throw, Leavable, Leave, Statements, Done, Then}
 use Rattle.ls_lowered.specs.Words.{int_of, kind_word, kind_of}
 use Rattle.ls_lowered.specs.Course.{Answers, Course, Asks, Ends, Stuck, Outcome, Results, Throws, Calls, finish, and_then, perform, unless_null}
 use Rattle.ls_lowered.specs.Expressions.{find}
 
--- how a statement completes; `Broke n` and `Continued n` leave n loops behind, `Left n` n leavable regions
+-- how a statement completes; `Left n` goes on at exit n of the leavable statement round it, or further out
 pub data Completion : Type 0 where
   Normal : Completion
-  Broke : (loops : ℕ) → Completion
-  Continued : (loops : ℕ) → Completion
   Returned : (word : ℕ) → Completion
   Threw : (kind : Kind) → Completion
-  Left : (regions : ℕ) → Completion
+  Left : (exit : ℕ) → Completion
 
 -- what follows a statement
 abbrev pub Go : Type 0
@@ -29,8 +27,6 @@ on_word go (Throws kind) ls q = Ends (Threw kind) ls q
 -- what each construct makes of the completion of its part: a statement before others
 abbrev pub on_normal : (List ℕ → Answers → Course Completion) → Go
 on_normal go Normal ls q = go ls q
-on_normal go (Broke n) ls q = Ends (Broke n) ls q
-on_normal go (Continued n) ls q = Ends (Continued n) ls q
 on_normal go (Returned w) ls q = Ends (Returned w) ls q
 on_normal go (Threw kind) ls q = Ends (Threw kind) ls q
 on_normal go (Left n) ls q = Ends (Left n) ls q
@@ -42,21 +38,16 @@ on_any go reason ls q = finish (go ls q) (on_normal (λ ls q. Ends reason ls q))
 -- a guarded region
 abbrev pub on_throw : (Kind → List ℕ → Answers → Course Completion) → Go
 on_throw go Normal ls q = Ends Normal ls q
-on_throw go (Broke n) ls q = Ends (Broke n) ls q
-on_throw go (Continued n) ls q = Ends (Continued n) ls q
 on_throw go (Returned w) ls q = Ends (Returned w) ls q
 on_throw go (Threw kind) ls q = go kind ls q
 on_throw go (Left n) ls q = Ends (Left n) ls q
 
--- a leavable region
-abbrev pub on_leave : (List ℕ → Answers → Course Completion) → Go
+-- the body of a leavable statement
+abbrev pub on_leave : (ℕ → List ℕ → Answers → Course Completion) → Go
 on_leave go Normal ls q = Ends Normal ls q
-on_leave go (Broke n) ls q = Ends (Broke n) ls q
-on_leave go (Continued n) ls q = Ends (Continued n) ls q
 on_leave go (Returned w) ls q = Ends (Returned w) ls q
 on_leave go (Threw kind) ls q = Ends (Threw kind) ls q
-on_leave go (Left zero) ls q = go ls q
-on_leave go (Left (suc n)) ls q = Ends (Left n) ls q
+on_leave go (Left n) ls q = go n ls q
 
 -- back to a loop's condition, in a step of its own; no run answers it by an exception, but a list of answers may
 abbrev pub turn_back : (List ℕ → Answers → Course Completion) → List ℕ → Answers → Course Completion
@@ -68,10 +59,6 @@ turn_back again ls (Fails kind ∷ q) = Ends (Threw kind) ls q
 -- a loop's body
 abbrev pub on_body : (List ℕ → Answers → Course Completion) → Go
 on_body again Normal ls q = turn_back again ls q
-on_body again (Broke zero) ls q = Ends Normal ls q
-on_body again (Broke (suc n)) ls q = Ends (Broke n) ls q
-on_body again (Continued zero) ls q = turn_back again ls q
-on_body again (Continued (suc n)) ls q = Ends (Continued n) ls q
 on_body again (Returned w) ls q = Ends (Returned w) ls q
 on_body again (Threw kind) ls q = Ends (Threw kind) ls q
 on_body again (Left n) ls q = Ends (Left n) ls q
@@ -108,16 +95,21 @@ abbrev mutual
   execute calls (If e a b) ls q =
       finish (find calls e ls q) (on_word (λ w ls q. if nat_eq w 0 then execute calls b ls q else execute calls a ls q))
   execute calls (While e s) ls q = turns (length q) (find calls e) (execute calls s) ls q
-  execute calls (Break n) ls q = Ends (Broke n) ls q
-  execute calls (Continue n) ls q = Ends (Continued n) ls q
   execute calls (Return e) ls q = finish (find calls e ls q) (on_word (λ w ls q. Ends (Returned w) ls q))
   execute calls (Try b f) ls q = finish (execute calls b ls q) (on_any (execute calls f))
   execute calls (Guarded b n h) ls q =
       finish (execute calls b ls q) (on_throw (λ kind ls q. execute calls h (slice_set ls n (kind_word kind)) q))
   execute calls (Throw n) ls q = throw (kind_of (slice_index ls n)) ls q
-  execute calls (Leavable b x) ls q = finish (execute calls b ls q) (on_leave (execute calls x))
+  execute calls (Leavable b xs) ls q = finish (execute calls b ls q) (on_leave (leave_to calls xs))
   execute calls (Leave n) ls q = Ends (Left n) ls q
 
   pub execute_all : Calls → Statements → List ℕ → Answers → Course Completion
   execute_all calls Done ls q = Ends Normal ls q
   execute_all calls (Then s ss) ls q = finish (execute calls s ls q) (on_normal (execute_all calls ss))
+
+  -- a leave of a statement with these exits: at one of them, at its end, or further out
+  pub leave_to : Calls → Statements → ℕ → List ℕ → Answers → Course Completion
+  leave_to calls Done zero ls q = Ends Normal ls q
+  leave_to calls Done (suc n) ls q = Ends (Left n) ls q
+  leave_to calls (Then x xs) zero ls q = execute calls x ls q
+  leave_to calls (Then x xs) (suc n) ls q = leave_to calls xs n ls q

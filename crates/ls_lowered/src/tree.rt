@@ -107,7 +107,9 @@ pub enum Expressions {
     More(Box<Expression>, Box<Expressions>),
 }
 
-/// `Break` and `Continue` say how many loops they leave behind: 0 is the innermost. So does `Leave` of leavable regions.
+/// A leavable statement is a body and its exits. A leave of the body goes on at the exit of its number, counted from 0; the
+/// number behind the last exit is the end of the statement, and further numbers, counted on, are those of the leavable
+/// statement round it.
 #[derive(Drop)]
 #[cycle(statements)]
 pub enum Statement {
@@ -118,8 +120,6 @@ pub enum Statement {
     Evaluate(Expression),
     If(Expression, Box<Statement>, Box<Statement>),
     While(Expression, Box<Statement>),
-    Break(usize),
-    Continue(usize),
     Return(Expression),
     /// A try block and its finally block.
     Try(Box<Statement>, Box<Statement>),
@@ -127,8 +127,8 @@ pub enum Statement {
     Guarded(Box<Statement>, usize, Box<Statement>),
     /// Throws the kind in the local.
     Throw(usize),
-    /// A leave of the first goes on at the second.
-    Leavable(Box<Statement>, Box<Statement>),
+    /// A body and its exits.
+    Leavable(Box<Statement>, Vec<Statement>),
     Leave(usize),
 }
 

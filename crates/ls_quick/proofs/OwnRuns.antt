@@ -1,5 +1,5 @@
 -- In its own code a thread is silent for few steps in a row.
-use Rattle.std.proofs.Common.{◌≡◌, ℕ, zero, suc, ◌+◌, ◌-◌, ◌≤◌, ◌<◌, List, [], ◌∷◌, ◌++◌, length, map, max, Option, Some, None, refl, sym, ap, ◌∙◌, subst, arith, append_assoc, slice_get, ◌⊎◌, inl, inr}
+use Rattle.std.proofs.Common.{◌≡◌, ℕ, zero, suc, ◌+◌, ◌-◌, ◌≤◌, ◌<◌, List, [], ◌∷◌, ◌++◌, length, Some, refl, sym, ap, ◌∙◌, subst, arith, append_assoc, slice_get, ◌⊎◌, inl, inr}
 use Rattle.std.proofs.lemmas.Option.{same_Some}
 use Rattle.ls_events.specs.declared.value.Value.{Value}
 use Rattle.ls_checked.specs.CheckedTree.{Class, File}
@@ -8,21 +8,19 @@ use Rattle.ls_meaning.specs.Expressions.{constructor_of}
 use Rattle.ls_code.specs.Code.{Code, Start}
 use Rattle.ls_code.specs.Thread.{Thread}
 use Rattle.ls_code.specs.Throws.{find_row}
-use Rattle.ls_code.specs.Steps.{Silent, thread_move}
 use Rattle.ls_code.specs.declared.code.CallResult.{CallResult}
 use Rattle.ls_code.specs.declared.code.CallResult.TheVariants as result
 use Rattle.ls_code.specs.declared.code.HandlerRow.{HandlerRow}
 use Rattle.ls_code.specs.declared.instruction.Instruction.{Instruction}
 use Rattle.ls_code.specs.declared.instruction.Instruction.TheVariants as op
 use Rattle.ls_code.specs.declared.step.Mode.TheVariants as mode
-use Rattle.ls_headline.specs.InWords.{word_of}
 use Rattle.ls_headline.specs.Threads.{result_type}
 use Rattle.ls_lowered.specs.LoweredTree as low
 use Rattle.ls_emission.specs.Units.{units_of}
-use Rattle.ls_linking.specs.Threads.{pushes, result_code, call_code, calls_code, thread_code, thread_size, thread_row, start_of}
+use Rattle.ls_linking.specs.Threads.{pushes, result_code, call_code, calls_code, thread_code, thread_size, thread_row}
 use Rattle.ls_linking.specs.Linked.{linked, words_of, units_code, units_rows}
 use Rattle.ls_linking.proofs.Lists.{RowsEnd}
-use Rattle.ls_linking.proofs.Places.{HasAt}
+use Rattle.ls_emission.proofs.Places.{HasAt}
 use Rattle.ls_linking.proofs.Units.{all_within, units_end, units_long}
 use Rattle.ls_linking.proofs.Threads.{ThreadLies, Thread as LyingThread, threads_lie}
 use Rattle.ls_linking.proofs.Linked.{last_traps}

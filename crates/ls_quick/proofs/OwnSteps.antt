@@ -1,5 +1,5 @@
 -- The silent steps of a thread's own code, one by one.
-use Rattle.std.proofs.Common.{◌≡◌, ℕ, suc, ◌+◌, List, [], ◌∷◌, length, Option, Some, None, Bool, true, false, not, ◌&&◌, ◌==◌, nat_lt, nat_le, refl, sym, ap, ◌∙◌, subst, arith, slice_get, if◌then◌else◌}
+use Rattle.std.proofs.Common.{◌≡◌, ℕ, ◌+◌, List, length, Option, Some, None, Bool, true, false, not, ◌&&◌, ◌==◌, nat_lt, nat_le, refl, sym, ap, ◌∙◌, subst, slice_get, if◌then◌else◌}
 use Rattle.std.proofs.lemmas.Option.{none-some, same_Some}
 use Rattle.ls_events.specs.declared.kind.Kind.{Kind}
 use Rattle.ls_code.specs.Code.{Code}
@@ -15,7 +15,6 @@ use Rattle.ls_code.specs.declared.code.CallResult.{CallResult}
 use Rattle.ls_code.specs.declared.code.CallResult.TheVariants as result
 use Rattle.ls_code.specs.declared.code.Method.{Method as MethodRow}
 use Rattle.ls_code.specs.declared.code.HandlerRow.{HandlerRow}
-use Rattle.ls_code.specs.declared.instruction.ThreadInstruction.TheVariants as wide
 use Rattle.ls_code.specs.declared.instruction.Instruction.{Instruction}
 use Rattle.ls_code.specs.declared.instruction.Instruction.TheVariants as op
 use Rattle.ls_code.specs.declared.step.Mode.TheVariants as mode

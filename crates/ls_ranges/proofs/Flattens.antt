@@ -1,27 +1,25 @@
--- The trees whose form without `try` has code: each number is there, and no region is there yet.
-use Rattle.std.specs.Prelude.{ℕ, suc, ◌<◌, ◌^◌}
-use Rattle.ls_lowered.specs.LoweredTree.{Statement, Block, SetLocal, SetField, SetItem, Evaluate, If, While, Break, Continue, Return, Try, Guarded, Throw, Leavable, Leave, Statements, Done, Then, File}
-use Rattle.ls_emission.specs.Emittable.{IsEmittable}
+-- The trees whose form without `try` has code: each number is there, and nothing is guarded yet.
+use Rattle.std.specs.Prelude.{ℕ, suc, ◌+◌, ◌<◌, ◌^◌}
+use Rattle.ls_lowered.specs.LoweredTree.{Statement, Block, SetLocal, SetField, SetItem, Evaluate, If, While, Return, Try, Guarded, Throw, Leavable, Leave, Statements, Done, Then, File}
+use Rattle.ls_emission.specs.Emittable.{statement_count, IsEmittable}
 
--- a statement of a method with k locals, within so many loops; the calls are to methods of the first
+-- a statement of a method with k locals, round which so many numbers can be left; the calls are to methods of the first
 abbrev mutual
   pub Flattens : File → ℕ → ℕ → Statement → Type 0
-  Flattens ms k loops (Block ss) = AllFlatten ms k loops ss
-  Flattens ms k loops (SetLocal n e) = (n < k) × IsEmittable ms k e
-  Flattens ms k loops (SetField e f a) = (f < 2 ^ 32) × IsEmittable ms k e × IsEmittable ms k a
-  Flattens ms k loops (SetItem a i e) = IsEmittable ms k a × IsEmittable ms k i × IsEmittable ms k e
-  Flattens ms k loops (Evaluate e) = IsEmittable ms k e
-  Flattens ms k loops (If e a b) = IsEmittable ms k e × Flattens ms k loops a × Flattens ms k loops b
-  Flattens ms k loops (While e s) = IsEmittable ms k e × Flattens ms k (suc loops) s
-  Flattens ms k loops (Break n) = n < loops
-  Flattens ms k loops (Continue n) = n < loops
-  Flattens ms k loops (Return e) = IsEmittable ms k e
-  Flattens ms k loops (Try b f) = Flattens ms k loops b × Flattens ms k loops f
-  Flattens ms k loops (Guarded b n h) = ⊥
-  Flattens ms k loops (Throw n) = ⊥
-  Flattens ms k loops (Leavable b x) = ⊥
-  Flattens ms k loops (Leave n) = ⊥
+  Flattens ms k around (Block ss) = AllFlatten ms k around ss
+  Flattens ms k around (SetLocal n e) = (n < k) × IsEmittable ms k e
+  Flattens ms k around (SetField e f a) = (f < 2 ^ 32) × IsEmittable ms k e × IsEmittable ms k a
+  Flattens ms k around (SetItem a i e) = IsEmittable ms k a × IsEmittable ms k i × IsEmittable ms k e
+  Flattens ms k around (Evaluate e) = IsEmittable ms k e
+  Flattens ms k around (If e a b) = IsEmittable ms k e × Flattens ms k around a × Flattens ms k around b
+  Flattens ms k around (While e s) = IsEmittable ms k e × Flattens ms k around s
+  Flattens ms k around (Return e) = IsEmittable ms k e
+  Flattens ms k around (Try b f) = Flattens ms k around b × Flattens ms k around f
+  Flattens ms k around (Guarded b n h) = ⊥
+  Flattens ms k around (Throw n) = ⊥
+  Flattens ms k around (Leavable b xs) = Flattens ms k (suc (statement_count xs) + around) b × AllFlatten ms k around xs
+  Flattens ms k around (Leave n) = n < around
 
   pub AllFlatten : File → ℕ → ℕ → Statements → Type 0
-  AllFlatten ms k loops Done = Unit {0}
-  AllFlatten ms k loops (Then s ss) = Flattens ms k loops s × AllFlatten ms k loops ss
+  AllFlatten ms k around Done = Unit {0}
+  AllFlatten ms k around (Then s ss) = Flattens ms k around s × AllFlatten ms k around ss

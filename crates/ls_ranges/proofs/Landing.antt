@@ -11,10 +11,10 @@ use Rattle.ls_lowered.specs.declared.tree.BinaryOperator.{BinaryOperator}
 use Rattle.ls_lowered.specs.declared.tree.BinaryOperator.TheVariants as binary
 use Rattle.ls_lowered.specs.declared.tree.LockOperation.{LockOperation}
 use Rattle.ls_lowered.specs.declared.tree.LockOperation.TheVariants as lock
-use Rattle.ls_lowered.specs.LoweredTree.{Expression, Word, Local, Unary, Binary, And, Or, Hold, Keep, After, Field, Item, SetFirst, ReadPair, SetPair, SwapPair, AttemptMark, OnLock, Call, MakeObject, MakeLock, MakeMarkable, MakeArray, Expressions, End, More, Statement, Block, SetLocal, SetField, SetItem, Evaluate, If, While, Break, Continue, Return, Try, Guarded, Throw, Leavable, Leave, Statements, Done, Then, Method, File}
+use Rattle.ls_lowered.specs.LoweredTree.{Expression, Word, Local, Unary, Binary, And, Or, Hold, Keep, After, Field, Item, SetFirst, ReadPair, SetPair, SwapPair, AttemptMark, OnLock, Call, MakeObject, MakeLock, MakeMarkable, MakeArray, Expressions, End, More, Statement, Block, SetLocal, SetField, SetItem, Evaluate, If, While, Return, Try, Guarded, Throw, Leavable, Leave, Statements, Done, Then, Method, File}
 use Rattle.ls_locks.specs.LockCode.{lock_code}
 use Rattle.ls_emission.specs.Expressions.{unary_code, binary_code, size, all_size, code, all_code}
-use Rattle.ls_emission.specs.Statements.{Targets, no_targets, in_loop, in_region, stop_of, turn_of, exit_of, statement_size, statements_size, statement_code, statements_code, row_of, statement_rows, statements_rows}
+use Rattle.ls_emission.specs.Statements.{Targets, target_of, places, statement_size, statements_size, exits_size, statement_code, statements_code, exits_code, row_of, statement_rows, statements_rows, exits_rows}
 use Rattle.ls_emission.specs.Units.{method_size, method_code, method_rows, unit_of, units_of}
 use Rattle.ls_emission.specs.Emittable.{IsEmittableMethod, AllEmittable, IsEmittableFile}
 use Rattle.ls_emission.proofs.StatementPlaces.{statement_size_is}
@@ -101,31 +101,20 @@ module _ (n : ℕ) where
     all_lands p (More e es) room = joined (code p e) (all_code (p + size e) es) (code_lands p e (omega (arith, room))) (all_lands (p + size e) es (omega (arith, room)))
 
   -- where jumps out of a statement lead
-  record AllLead (t : Targets) : Type 0 where
-    turns : (i : ℕ) → turn_of t i ≤ n
-    stops : (i : ℕ) → stop_of t i ≤ n
-    exits : (i : ℕ) → exit_of t i ≤ n
+  abbrev AllLead : Targets → Type 0
+  AllLead t = (i : ℕ) → target_of t i ≤ n
 
-  lead_nowhere : AllLead no_targets
-  lead_nowhere = record { turns = λ i. omega arith; stops = λ i. omega arith; exits = λ i. omega arith }
+  lead_nowhere : AllLead []
+  lead_nowhere i = omega arith
 
-  lead_in_loop : (turn stop : ℕ) (t : Targets) → turn ≤ n → stop ≤ n → AllLead t → AllLead (in_loop turn stop t)
-  lead_in_loop turn stop t a b h = record { turns = λ i. turns i; stops = λ i. stops i; exits = h.exits }
-    where
-      turns : (i : ℕ) → turn_of (in_loop turn stop t) i ≤ n
-      turns zero = a
-      turns (suc i) = h.turns i
+  lead_more : (place : ℕ) (t : Targets) → place ≤ n → AllLead t → AllLead (place ∷ t)
+  lead_more place t a h zero = a
+  lead_more place t a h (suc i) = h i
 
-      stops : (i : ℕ) → stop_of (in_loop turn stop t) i ≤ n
-      stops zero = b
-      stops (suc i) = h.stops i
-
-  lead_in_region : (exit : ℕ) (t : Targets) → exit ≤ n → AllLead t → AllLead (in_region exit t)
-  lead_in_region exit t a h = record { turns = h.turns; stops = h.stops; exits = λ i. exits i }
-    where
-      exits : (i : ℕ) → exit_of (in_region exit t) i ≤ n
-      exits zero = a
-      exits (suc i) = h.exits i
+  lead_places : (p : ℕ) (xs : Statements) (t : Targets) → p + exits_size xs ≤ n → AllLead t → AllLead (places p xs ++ t)
+  lead_places p Done t room h = lead_more p t (omega (arith, room)) h
+  lead_places p (Then x xs) t room h =
+      lead_more (p + 1) (places (p + 1 + statement_size x) xs ++ t) (omega (arith, room)) (lead_places (p + 1 + statement_size x) xs t (omega (arith, room)) h)
 
   mutual
     statement_lands : (t : Targets) (p : ℕ) (s : Statement) → AllLead t → p + statement_size s ≤ n → AllLand (statement_code t p s)
@@ -135,19 +124,23 @@ module _ (n : ℕ) where
     statement_lands t p (SetItem a i e) lead room = joined (code p a ++ code (p + size a) i ++ code (p + size a + size i) e) (op.PutItem ∷ []) (joined (code p a ++ code (p + size a) i) (code (p + size a + size i) e) (joined (code p a) (code (p + size a) i) (code_lands p a (omega (arith, room))) (code_lands (p + size a) i (omega (arith, room)))) (code_lands (p + size a + size i) e (omega (arith, room)))) ((tt, tt))
     statement_lands t p (Evaluate e) lead room = joined (code p e) (op.Pop ∷ []) (code_lands p e (omega (arith, room))) ((tt, tt))
     statement_lands t p (If e a b) lead room = joined (code p e ++ op.JumpIfFalse (p + size e + statement_size a + 2) ∷ statement_code t (p + size e + 1) a) (op.Jump (p + size e + statement_size a + statement_size b + 2) ∷ statement_code t (p + size e + statement_size a + 2) b) (joined (code p e) (op.JumpIfFalse (p + size e + statement_size a + 2) ∷ statement_code t (p + size e + 1) a) (code_lands p e (omega (arith, room))) ((jump_if_false (p + size e + statement_size a + 2) (omega (arith, room)), statement_lands t (p + size e + 1) a lead (omega (arith, room))))) ((jump (p + size e + statement_size a + statement_size b + 2) (omega (arith, room)), statement_lands t (p + size e + statement_size a + 2) b lead (omega (arith, room))))
-    statement_lands t p (While e s) lead room = joined (code p e ++ op.JumpIfFalse (p + size e + statement_size s + 2) ∷ statement_code (in_loop (p + size e + statement_size s + 1) (p + size e + statement_size s + 2) t) (p + size e + 1) s) (op.Turn p ∷ []) (joined (code p e) (op.JumpIfFalse (p + size e + statement_size s + 2) ∷ statement_code (in_loop (p + size e + statement_size s + 1) (p + size e + statement_size s + 2) t) (p + size e + 1) s) (code_lands p e (omega (arith, room))) ((jump_if_false (p + size e + statement_size s + 2) (omega (arith, room)), statement_lands (in_loop (p + size e + statement_size s + 1) (p + size e + statement_size s + 2) t) (p + size e + 1) s (lead_in_loop (p + size e + statement_size s + 1) (p + size e + statement_size s + 2) t (omega (arith, room)) (omega (arith, room)) lead) (omega (arith, room))))) ((turn p (omega (arith, room)), tt))
-    statement_lands t p (Break n) lead room = (lead.stops n, tt)
-    statement_lands t p (Continue n) lead room = (lead.turns n, tt)
+    statement_lands t p (While e s) lead room = joined (code p e ++ op.JumpIfFalse (p + size e + statement_size s + 2) ∷ statement_code t (p + size e + 1) s) (op.Turn p ∷ []) (joined (code p e) (op.JumpIfFalse (p + size e + statement_size s + 2) ∷ statement_code t (p + size e + 1) s) (code_lands p e (omega (arith, room))) ((jump_if_false (p + size e + statement_size s + 2) (omega (arith, room)), statement_lands t (p + size e + 1) s lead (omega (arith, room))))) ((turn p (omega (arith, room)), tt))
     statement_lands t p (Return e) lead room = joined (code p e) (op.LeaveWith ∷ []) (code_lands p e (omega (arith, room))) ((tt, tt))
     statement_lands t p (Try b f) lead room = tt
     statement_lands t p (Guarded b n h) lead room = joined (statement_code t p b) (op.Jump (p + statement_size b + statement_size h + 2) ∷ op.Store n ∷ statement_code t (p + statement_size b + 2) h) (statement_lands t p b lead (omega (arith, room))) ((jump (p + statement_size b + statement_size h + 2) (omega (arith, room)), (tt, statement_lands t (p + statement_size b + 2) h lead (omega (arith, room)))))
     statement_lands t p (Throw n) lead room = (tt, (tt, tt))
-    statement_lands t p (Leavable b x) lead room = joined (statement_code (in_region (p + statement_size b + 1) t) p b) (op.Jump (p + statement_size b + statement_size x + 1) ∷ statement_code t (p + statement_size b + 1) x) (statement_lands (in_region (p + statement_size b + 1) t) p b (lead_in_region (p + statement_size b + 1) t (omega (arith, room)) lead) (omega (arith, room))) ((jump (p + statement_size b + statement_size x + 1) (omega (arith, room)), statement_lands t (p + statement_size b + 1) x lead (omega (arith, room))))
-    statement_lands t p (Leave n) lead room = (lead.exits n, tt)
+    statement_lands t p (Leavable b xs) lead room =
+        let q : ℕ = p + statement_size b in
+        joined (statement_code (places q xs ++ t) p b) (exits_code t (q + exits_size xs) q xs) (statement_lands (places q xs ++ t) p b (lead_places q xs t (omega (arith, room)) lead) (omega (arith, room))) (exits_land t (q + exits_size xs) q xs lead (omega (arith, room)) (omega (arith, room)))
+    statement_lands t p (Leave n) lead room = (lead n, tt)
 
     statements_land : (t : Targets) (p : ℕ) (ss : Statements) → AllLead t → p + statements_size ss ≤ n → AllLand (statements_code t p ss)
     statements_land t p Done lead room = tt
     statements_land t p (Then s ss) lead room = joined (statement_code t p s) (statements_code t (p + statement_size s) ss) (statement_lands t p s lead (omega (arith, room))) (statements_land t (p + statement_size s) ss lead (omega (arith, room)))
+
+    exits_land : (t : Targets) (end p : ℕ) (xs : Statements) → AllLead t → end ≤ n → p + exits_size xs ≤ n → AllLand (exits_code t end p xs)
+    exits_land t end p Done lead ends room = tt
+    exits_land t end p (Then x xs) lead ends room = joined (op.Jump end ∷ statement_code t (p + 1) x) (exits_code t end (p + 1 + statement_size x) xs) ((jump end ends, statement_lands t (p + 1) x lead (omega (arith, room)))) (exits_land t end (p + 1 + statement_size x) xs lead ends (omega (arith, room)))
 
   -- the rows of a statement
   rows_both : (xs ys : List HandlerRow) → Each (RowLands n) xs → Each (RowLands n) ys → Each (RowLands n) (xs ++ ys)
@@ -163,21 +156,24 @@ module _ (n : ℕ) where
     rows_land p (If e a b) room =
         rows_both (statement_rows (p + size e + 1) a) (statement_rows (p + size e + statement_size a + 2) b) (rows_land (p + size e + 1) a (omega (arith, room))) (rows_land (p + size e + statement_size a + 2) b (omega (arith, room)))
     rows_land p (While e s) room = rows_land (p + size e + 1) s (omega (arith, room))
-    rows_land p (Break i) room = tt
-    rows_land p (Continue i) room = tt
     rows_land p (Return e) room = tt
     rows_land p (Try b f) room = tt
     rows_land p (Guarded b i h) room =
         let row : RowLands n (row_of p (statement_size b)) = record { from = omega (arith, room); to = omega (arith, room); handler = omega (arith, room) } in
         rows_both (statement_rows p b) (row_of p (statement_size b) ∷ statement_rows (p + statement_size b + 2) h) (rows_land p b (omega (arith, room))) (row, rows_land (p + statement_size b + 2) h (omega (arith, room)))
     rows_land p (Throw i) room = tt
-    rows_land p (Leavable b x) room = rows_both (statement_rows p b) (statement_rows (p + statement_size b + 1) x) (rows_land p b (omega (arith, room))) (rows_land (p + statement_size b + 1) x (omega (arith, room)))
+    rows_land p (Leavable b xs) room = rows_both (statement_rows p b) (exits_rows (p + statement_size b) xs) (rows_land p b (omega (arith, room))) (exit_rows_land (p + statement_size b) xs (omega (arith, room)))
     rows_land p (Leave i) room = tt
 
     all_rows_land : (p : ℕ) (ss : Statements) → p + statements_size ss ≤ n → Each (RowLands n) (statements_rows p ss)
     all_rows_land p Done room = tt
     all_rows_land p (Then s ss) room =
         rows_both (statement_rows p s) (statements_rows (p + statement_size s) ss) (rows_land p s (omega (arith, room))) (all_rows_land (p + statement_size s) ss (omega (arith, room)))
+
+    exit_rows_land : (p : ℕ) (xs : Statements) → p + exits_size xs ≤ n → Each (RowLands n) (exits_rows p xs)
+    exit_rows_land p Done room = tt
+    exit_rows_land p (Then x xs) room =
+        rows_both (statement_rows (p + 1) x) (exits_rows (p + 1 + statement_size x) xs) (rows_land (p + 1) x (omega (arith, room))) (exit_rows_land (p + 1 + statement_size x) xs (omega (arith, room)))
 
 -- what holds of each, by places
 pub each_all : {A : Type 0} (P : A → Type 0) (xs : List A) → Each P xs → All P xs
@@ -187,13 +183,13 @@ each_all P (x ∷ xs) h (suc k) d below = each_all P xs h.1 k d (omega (arith, b
 
 unit_lands : (ms : File) (m : Method) → IsEmittableMethod ms m → method_size m ≤ 65536 → UnitLands (unit_of m)
 unit_lands ms m e short =
-    let length_is = statement_size_is m.body no_targets 0 in
-    let many = length-append (statement_code no_targets 0 m.body) (op.Push 0 ∷ op.LeaveWith ∷ []) in
+    let length_is = statement_size_is m.body [] 0 in
+    let many = length-append (statement_code [] 0 m.body) (op.Push 0 ∷ op.LeaveWith ∷ []) in
     let locals = e.locals in
     record {
       short = omega (arith, length_is, many, short);
       jumps = each_all (Lands 65536) (method_code 0 m)
-          (joined 65536 (statement_code no_targets 0 m.body) (op.Push 0 ∷ op.LeaveWith ∷ []) (statement_lands 65536 no_targets 0 m.body (lead_nowhere 65536) (omega (arith, short))) (tt, (tt, tt)));
+          (joined 65536 (statement_code [] 0 m.body) (op.Push 0 ∷ op.LeaveWith ∷ []) (statement_lands 65536 [] 0 m.body (lead_nowhere 65536) (omega (arith, short))) (tt, (tt, tt)));
       rows = each_all (RowLands 65536) (method_rows 0 m) (rows_land 65536 0 m.body (omega (arith, short)));
       arguments = omega (arith, locals);
       more = omega (arith, locals);

@@ -18,6 +18,7 @@ use Rattle.ls_emission.specs.Units.{unit_of, units_of}
 use Rattle.ls_emit.specs.Short.{AllShort}
 use Rattle.ls_typing.specs.Classes.{HasItsClasses}
 use Rattle.ls_typing.specs.Programs.{IsArgument, AreArguments, IsTypedCall, IsTypedProgram}
+use Rattle.ls_typing.specs.Jumps.{HasItsLoops}
 use Rattle.ls_typing.specs.Limits.{IsRanged, IsRangedProgram}
 use Rattle.ls_ranges.specs.Links.{IsWritten, CallLinks, ThreadLinks, Links}
 use Rattle.ls_ranges.proofs.Lists.{in_range}
@@ -77,14 +78,14 @@ module _ (file : File) (program : Program) (ranged : IsRanged file) (typed : IsT
   threads_link : All (ThreadLinks file.classes) program.threads
   threads_link = λ k t below. thread_links k (slice_index_or program.threads k t) (slice_get-get_or program.threads k t below)
 
-  pub all_link : IsTypedFile file → HasItsClasses file → AllFit file.methods → AllShort (flat_file (lowered_file file)) → Links file program (units_of (flat_file (lowered_file file)))
-  all_link well its fit short =
+  pub all_link : IsTypedFile file → HasItsClasses file → HasItsLoops file → AllFit file.methods → AllShort (flat_file (lowered_file file)) → Links file program (units_of (flat_file (lowered_file file)))
+  all_link well its loops fit short =
       let methods = ranged.methods in
       let many : length (units_of (flat_file (lowered_file file))) ≡ length file.methods =
       length-map (flat_file (lowered_file file)) unit_of ∙ length-map (lowered_file file) flat_method ∙ length-map file.methods (lowered_method file.classes) in
       record {
         few = omega (arith, methods, many);
-        all = units_land (flat_file (lowered_file file)) (file_emittable file well its ranged fit) short;
+        all = units_land (flat_file (lowered_file file)) (file_emittable file well its ranged loops fit) short;
         few_threads = room.threads;
         threads = threads_link;
       }

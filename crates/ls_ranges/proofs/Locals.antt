@@ -18,7 +18,9 @@ mutual
   tries_same classes free (SetItem a i v) = refl
   tries_same classes free (Evaluate e) = refl
   tries_same classes free (If e a b) = ap₂ (λ x y. x + y) (tries_same classes _ a) (tries_same classes _ b)
-  tries_same classes free (While e s) = tries_same classes _ s
+  tries_same classes free (While e s) =
+      let x = tries_same classes (free + refs.temporaries e) s in
+      omega (arith, x)
   tries_same classes free (Break n) = refl
   tries_same classes free (Continue n) = refl
   tries_same classes free ReturnNothing = refl

@@ -37,7 +37,7 @@ module _ (file : File) (typed : IsTypedFile file) (slots : List ValueType) (r : 
       placed_statement (free + temporaries e + statement_temporaries a) b (omega (arith, fits)) (omega (arith, room)) h.2,
     )
     placed_statement free (While e s) fits room h =
-        (placed free _ e fits (omega (arith, room)) h.0, placed_statement (free + temporaries e) s (omega (arith, fits)) (omega (arith, room)) h.1)
+        ((placed free _ e fits (omega (arith, room)) h.0, (placed_statement (free + temporaries e) s (omega (arith, fits)) (omega (arith, room)) h.1, tt)), tt)
     placed_statement free (Break n) fits room h = tt
     placed_statement free (Continue n) fits room h = tt
     placed_statement free ReturnNothing fits room h = (tt, tt)

@@ -12,13 +12,11 @@ ghost use Rattle.ls_finally.specs.Flat.{flat_file};
 ghost use Rattle.ls_emission.specs.Emittable.{IsEmittableFile};
 ghost use Rattle.ls_emission.specs.Units.{units_of};
 ghost use Rattle.ls_emit.specs.Short.{AllShort};
-ghost use Rattle.ls_typing.specs.Classes.{HasItsClasses};
-ghost use Rattle.ls_typing.specs.Programs.{IsTypedProgram};
+ghost use Rattle.ls_typing.specs.WellTyped.{IsWellTyped, IsWellTypedProgram};
 ghost use Rattle.ls_ranges.specs.Links.{Links};
-ghost use Rattle.ls_typing.specs.Limits.{IsRanged, IsRangedProgram};
 
-/// In the tree over words of a typed file each local is there, each call has as many arguments as its method, and there
-/// are no regions: so `finally` can be lowered in it.
+/// In the tree over words of a typed file each local is there, each call has as many arguments as its method, and nothing is
+/// guarded yet: so `finally` can be lowered in it.
 #[tactic(auto, using(crate::proofs::Placed::file_placed))]
 pub fn typed_is_placed()
     ensures { (file : File) → IsTypedFile file → AllPlaced (lowered_file file) (lowered_file file) }
@@ -30,14 +28,13 @@ pub fn fits_lowered()
     ensures { (file : File) → AllSlotted file.methods → AllFit file.methods → FewLocals (lowered_file file) }
 {}
 
-/// The tree without `try` of a typed file in range, where no method has too many locals, has code.
-#[tactic(auto, using(crate::proofs::Ranges::file_emittable))]
+/// The tree without `try` of a well typed file, where no method has too many locals, has code.
 pub fn ranged_is_emittable()
-    ensures { (file : File) → IsTypedFile file → HasItsClasses file → IsRanged file → AllFit file.methods → IsEmittableFile (flat_file (lowered_file file)) }
+    ensures { (file : File) → IsWellTyped file → AllFit file.methods → IsEmittableFile (flat_file (lowered_file file)) }
 {}
 
-/// The units of a typed file in range, where none is too long, and the threads of a typed program in range can be linked:
-/// each place, number and value of them is an operand.
+/// The units of a well typed file, where none is too long, and the threads of a well typed program of it can be linked: each
+/// place, number and value of them is an operand.
 pub fn ranged_links()
-    ensures { (file : File) (program : Program) → IsRanged file → IsTypedProgram file program → IsRangedProgram program → IsTypedFile file → HasItsClasses file → AllFit file.methods → AllShort (flat_file (lowered_file file)) → Links file program (units_of (flat_file (lowered_file file))) }
+    ensures { (file : File) (program : Program) → IsWellTyped file → IsWellTypedProgram file program → AllFit file.methods → AllShort (flat_file (lowered_file file)) → Links file program (units_of (flat_file (lowered_file file))) }
 {}

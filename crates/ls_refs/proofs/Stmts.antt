@@ -1,5 +1,5 @@
 -- The words of each typed statement ask what it asks.
-use Rattle.std.proofs.Common.{◌≡◌, ◌≢◌, ℕ, zero, suc, ◌+◌, ◌<◌, ◌≤◌, ◌^◌, Bool, true, false, cond, ⊎_elim, List, [], ◌∷◌, length, Option, Some, None, refl, sym, ap, ◌∙◌, subst, arith}
+use Rattle.std.proofs.Common.{◌≡◌, ◌≢◌, ℕ, zero, suc, ◌+◌, ◌*◌, ◌<◌, ◌≤◌, ◌^◌, Bool, true, false, cond, ⊎_elim, List, [], ◌∷◌, length, Option, Some, None, refl, sym, ap, ◌∙◌, subst, arith}
 use Rattle.std.specs.Prelude.{slice_index, slice_index_or, slice_set, slice_get, nat_eq}
 use Rattle.std.proofs.lemmas.List.{length-set, get_or-set_same, get_or-set_other, length-map}
 use Rattle.std.proofs.lemmas.Bool.{cases_lt}
@@ -18,6 +18,7 @@ use Rattle.ls_events.specs.declared.action.Answer.TheVariants as answers
 use Rattle.ls_meaning.specs.Course.{Answers, Evaluated, Asks, Results, Throws}
 use Rattle.ls_meaning.specs.Expressions.{Calls, evaluate}
 use Rattle.ls_meaning.specs.Statements.{Executed, AsksFor, Completes, on_value, then_do, finally_do, turn_back, after_body, one_turn, turns, execute, execute_all}
+use Rattle.ls_lowered.specs.LoweredTree as tree
 use Rattle.ls_lowered.specs.Words as words
 use Rattle.ls_lowered.specs.Course as low
 use Rattle.ls_lowered.specs.Expressions.{find}
@@ -46,15 +47,15 @@ abbrev pub finish_by : Executed → Go → Evaluated Value
 finish_by (AsksFor a s) g = Asks a s
 finish_by (Completes c ls rest) g = g c ls rest
 
--- the word that is returned, and the completion in words
+-- the word that is returned, and the completion in words: two numbers are each loop's
 abbrev pub returned_word : Option Value → ℕ
 returned_word None = 0
 returned_word (Some v) = value_word v
 
 abbrev pub completion_word : Completion Value → does.Completion
 completion_word Normal = does.Normal
-completion_word (Broke n) = does.Broke n
-completion_word (Continued n) = does.Continued n
+completion_word (Broke n) = does.Left (2 * n + 1)
+completion_word (Continued n) = does.Left (2 * n)
 completion_word (Returned v) = does.Returned (returned_word v)
 completion_word (Threw k) = does.Threw k
 
@@ -113,6 +114,37 @@ body_by (Completes (Continued zero) ls r) b g = refl
 body_by (Completes (Continued (suc n)) ls r) b g = refl
 body_by (Completes (Returned n) ls r) b g = refl
 body_by (Completes (Threw n) ls r) b g = refl
+
+-- a course that a leave of it ends
+abbrev ended : low.Calls → low.Course does.Completion → low.Course does.Completion
+ended calls' x = low.finish x (does.on_leave (does.leave_to calls' tree.Done))
+
+-- what a loop makes of the completion of its body, where a leave ends both
+abbrev round : low.Calls → (List ℕ → low.Answers → low.Course does.Completion) → does.Go
+round calls' b' c l q = ended calls' (low.finish (ended calls' (low.Ends c l q)) (does.on_body b'))
+
+round_told : (calls' : low.Calls) (x : low.Course does.Completion) (b' : List ℕ → low.Answers → low.Course does.Completion) (g : GoWord) →
+    told (ended calls' (low.finish (ended calls' x) (does.on_body b'))) g ≡ told x (λ c l r. told (round calls' b' c l r) g)
+round_told calls' (low.Asks a) b' g = refl
+round_told calls' (low.Ends c l r) b' g = refl
+round_told calls' low.Stuck b' g = refl
+
+back_ended : (calls' : low.Calls) (b' : List ℕ → low.Answers → low.Course does.Completion) (l : List ℕ) (q : low.Answers) → ended calls' (does.turn_back b' l q) ≡ does.turn_back (λ l q. ended calls' (b' l q)) l q
+back_ended calls' b' l [] = refl
+back_ended calls' b' l (answers.Done ∷ q) = refl
+back_ended calls' b' l (answers.Gives w ∷ q) = refl
+back_ended calls' b' l (answers.Fails k ∷ q) = refl
+
+-- a loop's condition, and what follows it
+tested_ended : (calls' : low.Calls) (x : low.Course (low.Outcome ℕ)) (k : ℕ → List ℕ → low.Answers → low.Course does.Completion) → ended calls' (low.finish x (does.on_word k)) ≡ low.finish x (does.on_word (λ w l q. ended calls' (k w l q)))
+tested_ended calls' (low.Asks a) k = refl
+tested_ended calls' (low.Ends (low.Results w) l r) k = refl
+tested_ended calls' (low.Ends (low.Throws n) l r) k = refl
+tested_ended calls' low.Stuck k = refl
+
+choose_ended : (calls' : low.Calls) (t : Bool) (x y : low.Course does.Completion) → ended calls' (cond t x y) ≡ cond t (ended calls' x) (ended calls' y)
+choose_ended calls' true x y = refl
+choose_ended calls' false x y = refl
 
 -- a value that is returned has the type that the method answers
 abbrev pub ReturnedHas : (ℕ → ValueType → Type 0) → Option ValueType → Option Value → Type 0
@@ -179,18 +211,31 @@ module _ (P : ℕ → ValueType → Type 0) (slots : List ValueType) (r : Option
       goes g g' kg (answers.Gives v ∷ rest) u = ((f ls l h e).sim g g' kg).is rest u.1
       goes g g' kg (answers.Fails k ∷ rest) u = absurd u.0
 
-  body_agree : (x : Answers → Executed) (x' : low.Answers → low.Course does.Completion) (b : List Value → Answers → Executed) (b' : List ℕ → low.Answers → low.Course does.Completion) → AgreesBy P slots r room x x' → Follows b b' →
-      AgreesBy P slots r room (λ q. after_body (x q) b) (λ q. low.finish (x' q) (does.on_body b'))
-  body_agree x x' b b' a f = record {
-    sim = λ g g' kg. sim_eq P _ _ _ _ (λ q. body_by (x q) b g) (λ q. finish_told (x' q) (does.on_body b') g') (a.sim (on_body b g) (λ c l r. told (does.on_body b' c l r) g') (goes g g' kg));
+  -- the same words, said otherwise
+  words_same : (x : Answers → Executed) (x' y' : low.Answers → low.Course does.Completion) → ((q : low.Answers) → x' q ≡ y' q) → AgreesBy P slots r room x y' → AgreesBy P slots r room x x'
+  words_same x x' y' e a = record { sim = λ g g' kg. sim_eq P _ _ _ _ (λ q. refl) (λ q. ap (λ z. told z g') (e q)) (a.sim g g' kg) }
+
+  -- a loop's body, which a leave ends, in a loop that a leave ends
+  body_agree : (calls' : low.Calls) (x : Answers → Executed) (x' : low.Answers → low.Course does.Completion) (b : List Value → Answers → Executed) (b' : List ℕ → low.Answers → low.Course does.Completion) → AgreesBy P slots r room x x' → Follows b (λ l q. ended calls' (b' l q)) →
+      AgreesBy P slots r room (λ q. after_body (x q) b) (λ q. ended calls' (low.finish (ended calls' (x' q)) (does.on_body b')))
+  body_agree calls' x x' b b' a f = record {
+    sim = λ g g' kg. sim_eq P _ _ _ _ (λ q. body_by (x q) b g) (λ q. round_told calls' (x' q) b' g') (a.sim (on_body b g) (λ c l r. told (round calls' b' c l r) g') (goes g g' kg));
   }
     where
-      goes : (g : Go) (g' : GoWord) → Rest g g' → Rest (on_body b g) (λ c l r. told (does.on_body b' c l r) g')
-      goes g g' kg Normal ls l hc h e = (back_agree b b' ls l h e f).sim g g' kg
+      back : (g : Go) (g' : GoWord) → Rest g g' → (ls : List Value) (l : List ℕ) → Holds P slots ls l → length l ≡ room → Sim P (λ q. finish_by (turn_back b ls q) g) (λ q. told (ended calls' (does.turn_back b' l q)) g')
+      back g g' kg ls l h e = (words_same (λ q. turn_back b ls q) (λ q. ended calls' (does.turn_back b' l q)) (λ q. does.turn_back (λ l q. ended calls' (b' l q)) l q) (back_ended calls' b' l)
+          (back_agree b (λ l q. ended calls' (b' l q)) ls l h e f)).sim g g' kg
+
+      goes : (g : Go) (g' : GoWord) → Rest g g' → Rest (on_body b g) (λ c l r. told (round calls' b' c l r) g')
+      goes g g' kg Normal ls l hc h e = back g g' kg ls l h e
       goes g g' kg (Broke zero) ls l hc h e = kg Normal ls l tt h e
-      goes g g' kg (Broke (suc n)) ls l hc h e = kg (Broke n) ls l tt h e
-      goes g g' kg (Continued zero) ls l hc h e = (back_agree b b' ls l h e f).sim g g' kg
-      goes g g' kg (Continued (suc n)) ls l hc h e = kg (Continued n) ls l tt h e
+      goes g g' kg (Broke (suc n)) ls l hc h e =
+          let further : suc (suc (2 * n + 1)) ≡ 2 * suc n + 1 = omega arith in
+          subst (λ m. Sim P (g (Broke n) ls) (λ q. told (round calls' b' (does.Left m) l q) g')) further (kg (Broke n) ls l tt h e)
+      goes g g' kg (Continued zero) ls l hc h e = back g g' kg ls l h e
+      goes g g' kg (Continued (suc n)) ls l hc h e =
+          let further : suc (suc (2 * n)) ≡ 2 * suc n = omega arith in
+          subst (λ m. Sim P (g (Continued n) ls) (λ q. told (round calls' b' (does.Left m) l q) g')) further (kg (Continued n) ls l tt h e)
       goes g g' kg (Returned n) ls l hc h e = kg (Returned n) ls l hc h e
       goes g g' kg (Threw n) ls l hc h e = kg (Threw n) ls l hc h e
 
@@ -202,15 +247,19 @@ module _ (P : ℕ → ValueType → Type 0) (slots : List ValueType) (r : Option
       by_case true = a
       by_case false = b
 
-  module _ (base : ℕ) (le : length slots ≤ base) (c : List Value → Answers → Evaluated Value) (b : List Value → Answers → Executed) (c' : List ℕ → low.Answers → low.Course (low.Outcome ℕ)) (b' : List ℕ → low.Answers → low.Course does.Completion)
+  module _ (calls' : low.Calls) (base : ℕ) (le : length slots ≤ base) (c : List Value → Answers → Evaluated Value) (b : List Value → Answers → Executed) (c' : List ℕ → low.Answers → low.Course (low.Outcome ℕ)) (b' : List ℕ → low.Answers → low.Course does.Completion)
       (tested : (ls : List Value) (l : List ℕ) → Holds P slots ls l → length l ≡ room → Agrees P (HasSort P (ValueOf types.Boolean)) value_word base l (λ q. c ls q) (λ q. c' l q)) (done : Follows b b') where
-    turn_agrees : (f : List Value → Answers → Executed) (f' : List ℕ → low.Answers → low.Course does.Completion) → Follows f f' → Follows (one_turn c b f) (does.one_turn c' b' f')
-    turn_agrees f f' k ls l h e = value_agrees base l (ValueOf types.Boolean) ls _ _ _ _ le e h (tested ls l h e) (λ v l2 hv h2 e2.
-        choose_agree v (λ q. after_body (b ls q) f) (λ q. Completes Normal ls q) (λ q. low.finish (b' l2 q) (does.on_body f')) (λ q. low.Ends does.Normal l2 q) hv (body_agree _ _ f f' (done ls l2 h2 e2) k) (ends_agrees Normal ls l2 tt h2 e2))
+    turn_agrees : (f : List Value → Answers → Executed) (f' : List ℕ → low.Answers → low.Course does.Completion) → Follows f (λ l q. ended calls' (f' l q)) → Follows (one_turn c b f) (λ l q. ended calls' (does.one_turn c' (λ l q. ended calls' (b' l q)) f' l q))
+    turn_agrees f f' k ls l h e =
+        let after = λ (w : ℕ) (l : List ℕ) (q : low.Answers). cond (nat_eq w 0) (low.Ends does.Normal l q) (low.finish (ended calls' (b' l q)) (does.on_body f')) in
+        words_same (λ q. one_turn c b f ls q) _ (λ q. low.finish (c' l q) (does.on_word (λ w l q. ended calls' (after w l q)))) (λ q. tested_ended calls' (c' l q) after)
+        (value_agrees base l (ValueOf types.Boolean) ls _ _ _ _ le e h (tested ls l h e) (λ v l2 hv h2 e2.
+        words_same _ (λ q. ended calls' (after (value_word v) l2 q)) (λ q. cond (nat_eq (value_word v) 0) (low.Ends does.Normal l2 q) (ended calls' (low.finish (ended calls' (b' l2 q)) (does.on_body f')))) (λ q. choose_ended calls' (nat_eq (value_word v) 0) _ _)
+        (choose_agree v (λ q. after_body (b ls q) f) (λ q. Completes Normal ls q) (λ q. ended calls' (low.finish (ended calls' (b' l2 q)) (does.on_body f'))) (λ q. low.Ends does.Normal l2 q) hv (body_agree calls' _ _ f f' (done ls l2 h2 e2) k) (ends_agrees Normal ls l2 tt h2 e2))))
 
-    turns_agree : (n : ℕ) → Follows (turns n c b) (does.turns n c' b')
+    turns_agree : (n : ℕ) → Follows (turns n c b) (λ l q. ended calls' (does.turns n c' (λ l q. ended calls' (b' l q)) l q))
     turns_agree zero ls l h e = turn_agrees (λ ls rest. AsksFor act.Turn NoValue) (λ l rest. low.Asks act.Turn) (λ ls l h e. record { sim = λ g g' kg. record { is = λ qs s. refl } }) ls l h e
-    turns_agree (suc n) ls l h e = turn_agrees (turns n c b) (does.turns n c' b') (turns_agree n) ls l h e
+    turns_agree (suc n) ls l h e = turn_agrees (turns n c b) (does.turns n c' (λ l q. ended calls' (b' l q))) (turns_agree n) ls l h e
 
 at_or : (Q : ℕ → Type 0) (i j : ℕ) → Q i → (i ≢ j → Q j) → Q j
 at_or Q i j a b = ⊎_elim (λ l. b (λ e. omega arith)) (λ l. ⊎_elim (λ k. b (λ e. omega arith)) (λ k. let e : i ≡ j = omega arith in subst Q e a) (cases_lt i j)) (cases_lt j i)
@@ -268,7 +317,7 @@ module _ (P : ℕ → ValueType → Type 0) (null : (n : ℕ) (t : ValueType) �
           let b = execute file.classes calls s in
           let c' = find calls' (lowered file.classes base x) in
           let b' = does.execute calls' (lowered_statement file.classes (base + temporaries x) s) in
-          let all = λ (n : ℕ). (turns_agree P slots r room base le c b c' b'
+          let all = λ (n : ℕ). (turns_agree P slots r room calls' base le c b c' b'
           (λ ls2 l2 h2 e2. part x (ValueOf types.Boolean) base ls2 l2 t.0 h2 le (omega arith))
           (λ ls2 l2 h2 e2. agrees_by s (base + temporaries x) ls2 l2 t.1 h2 e2 (omega arith) (omega arith))
           n ls l h e).sim g g' kg in
@@ -276,7 +325,7 @@ module _ (P : ℕ → ValueType → Type 0) (null : (n : ℕ) (t : ValueType) �
           suited_eq P (λ q. finish_by (turns (length q) c b ls q) g) (λ q. finish_by (turns (length qs) c b ls q) g) qs
           (λ q less. ap (λ z. finish_by z g) (turns_eq c b (λ n. evaluate_within calls within n file.classes x) (execute_within file.classes calls within s) (length q) (length qs) ls q (omega arith) less)) u in
           record {
-            is = λ qs u. ap (λ n. told (does.turns n c' b' l (answer_words qs)) g') (length-map qs answer_word) ∙ (all (length qs)).is qs (enough qs u);
+            is = λ qs u. ap (λ n. told (ended calls' (does.turns n c' (λ l q. ended calls' (b' l q)) l (answer_words qs))) g') (length-map qs answer_word) ∙ (all (length qs)).is qs (enough qs u);
           };
     }
     agrees_by (Break n) base ls l t h e le big = ends_agrees P slots r room (Broke n) ls l tt h e

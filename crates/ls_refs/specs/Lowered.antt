@@ -1,5 +1,5 @@
 -- The lowered tree of a checked tree. Temporaries are numbered in text order, from the first local that is free.
-use Rattle.std.specs.Prelude.{ℕ, ◌+◌, ◌-◌, List, length, map}
+use Rattle.std.specs.Prelude.{ℕ, ◌+◌, ◌-◌, ◌*◌, List, length, map}
 use Rattle.ls_checked.specs.declared.tree.Operator.{Operator}
 use Rattle.ls_checked.specs.declared.tree.Operator.TheVariants as written
 use Rattle.ls_checked.specs.declared.tree.Called.{Called}
@@ -9,7 +9,7 @@ use Rattle.ls_lowered.specs.declared.tree.UnaryOperator.TheVariants as unary
 use Rattle.ls_lowered.specs.declared.tree.BinaryOperator.{BinaryOperator}
 use Rattle.ls_lowered.specs.declared.tree.BinaryOperator.TheVariants as binary
 use Rattle.ls_lowered.specs.declared.tree.LockOperation.TheVariants as lock
-use Rattle.ls_lowered.specs.LoweredTree.{Expression, Word, Local, Unary, Binary, And, Or, Hold, Keep, After, Field, Item, SetFirst, ReadPair, SetPair, SwapPair, AttemptMark, OnLock, Call, MakeObject, MakeLock, MakeMarkable, MakeArray, Expressions, End, More, Statement, Block, SetLocal, SetField, SetItem, Evaluate, If, While, Break, Continue, Return, Try, Statements, Done, Then, Method, File}
+use Rattle.ls_lowered.specs.LoweredTree.{Expression, Word, Local, Unary, Binary, And, Or, Hold, Keep, After, Field, Item, SetFirst, ReadPair, SetPair, SwapPair, AttemptMark, OnLock, Call, MakeObject, MakeLock, MakeMarkable, MakeArray, Expressions, End, More, Statement, Block, SetLocal, SetField, SetItem, Evaluate, If, While, Return, Try, Leavable, Leave, Statements, Done, Then, Method, File}
 use Rattle.ls_meaning.specs.Expressions.{constructor_of}
 use Rattle.ls_refs.specs.ValueWords.{value_word}
 use Rattle.ls_refs.specs.Temporaries.{own_temporaries, temporaries, statement_temporaries}
@@ -99,6 +99,12 @@ abbrev mutual
   all_lowered classes free checked.End = End
   all_lowered classes free (checked.More e es) = More (lowered classes free e) (all_lowered classes (free + temporaries e) es)
 
+-- a statement that a leave ends
+abbrev pub leavable : Statement → Statement
+leavable s = Leavable s Done
+
+-- A loop is leavable, and so is its body: to continue the n-th loop round a statement is to leave its body, and to break it is to
+-- leave the loop itself. So two numbers are each loop's
 abbrev mutual
   pub lowered_statement : List checked.Class → ℕ → checked.Statement → Statement
   lowered_statement classes free (checked.Block ss) = Block (lowered_block classes free ss)
@@ -109,9 +115,10 @@ abbrev mutual
   lowered_statement classes free (checked.Evaluate e) = Evaluate (lowered classes free e)
   lowered_statement classes free (checked.If e a b) =
       If (lowered classes free e) (lowered_statement classes (free + temporaries e) a) (lowered_statement classes (free + temporaries e + statement_temporaries a) b)
-  lowered_statement classes free (checked.While e s) = While (lowered classes free e) (lowered_statement classes (free + temporaries e) s)
-  lowered_statement classes free (checked.Break n) = Break n
-  lowered_statement classes free (checked.Continue n) = Continue n
+  lowered_statement classes free (checked.While e s) =
+      leavable (While (lowered classes free e) (leavable (lowered_statement classes (free + temporaries e) s)))
+  lowered_statement classes free (checked.Break n) = Leave (2 * n + 1)
+  lowered_statement classes free (checked.Continue n) = Leave (2 * n)
   lowered_statement classes free checked.ReturnNothing = Return (Word 0)
   lowered_statement classes free (checked.ReturnValue e) = Return (lowered classes free e)
   lowered_statement classes free (checked.Try b f) =

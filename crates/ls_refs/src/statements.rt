@@ -1,11 +1,11 @@
 // Statements.
 
-ghost use Rattle.std.specs.Prelude.{◌≡◌, ℕ, ◌+◌, ◌≤◌, IfOk, map};
+ghost use Rattle.std.specs.Prelude.{◌≡◌, ℕ, ◌+◌, ◌*◌, ◌≤◌, IfOk, map};
 ghost use Rattle.ls_checked.specs.Plain.{plain as checked, plain_statement as checked_statement, statements_of as checked_statements, plain_class};
-ghost use Rattle.ls_lowered.specs.LoweredTree.{Block};
+ghost use Rattle.ls_lowered.specs.LoweredTree.{Block, While, Leave};
 ghost use Rattle.ls_lowered.specs.Plain.{plain, plain_statement, statements_of};
 ghost use Rattle.ls_refs.specs.Temporaries.{statement_temporaries, block_temporaries};
-ghost use Rattle.ls_refs.specs.Lowered.{lowered_statement, lowered_block};
+ghost use Rattle.ls_refs.specs.Lowered.{leavable as ended_by_leave, lowered_statement, lowered_block};
 
 use crate::expressions::{Placed, lower_expression};
 use ls_checked::tree::{Class, Statement};
@@ -18,6 +18,41 @@ fn block_of(statements: Vec<Tree>) -> Tree
     ensures { plain_statement result ≡ Block (statements_of statements.items) }
 {
     Tree::Block(statements)
+}
+
+// A statement that a leave ends.
+fn leavable(alloc: Global, body: Box<Tree>) -> Tree
+    ensures { plain_statement result ≡ ended_by_leave (plain_statement body.value) }
+{
+    Tree::Leavable(body, Vec::new(alloc))
+}
+
+// A loop, that a leave ends, whose body a leave ends.
+fn loop_of(alloc: Global, condition: Value, body: Box<Tree>) -> Result<Tree, AllocError>
+    ensures { IfOk result (λ t. plain_statement t ≡ ended_by_leave (While (plain condition) (ended_by_leave (plain_statement body.value)))) }
+{
+    let body = boxed(alloc, leavable(alloc, body));
+    let (condition, body) = also(condition, body)?;
+    let turns = boxed(alloc, Tree::While(condition, body))?;
+    Ok(leavable(alloc, turns))
+}
+
+fn boxed(alloc: Global, s: Tree) -> Result<Box<Tree>, AllocError>
+    ensures { IfOk result (λ b. b.value ≡ s) }
+{
+    Ok(Box::new(alloc, s)?)
+}
+
+// The leave that a jump is: of two numbers to a loop. No memory has a statement with so many loops round it that they
+// aren't numbers.
+fn leave(loops: usize, more: usize) -> Result<Tree, AllocError>
+    requires { more ≤ 1 }
+    ensures { IfOk result (λ t. plain_statement t ≡ Leave (2 * loops + more)) }
+{
+    if loops >= 1 << 62 {
+        return Err(AllocError);
+    }
+    Ok(Tree::Leave(2 * loops + more))
 }
 
 /// A statement, with its temporaries from `free` on.
@@ -105,16 +140,16 @@ pub fn lower_statement(
             let body = lower_part(alloc, classes, condition.free, body);
             let (condition, body) = also(condition, body)?;
             Ok(Placed {
-                tree: Tree::While(condition.tree, body.tree),
+                tree: loop_of(alloc, condition.tree, body.tree)?,
                 free: body.free,
             })
         }
         Statement::Break(n) => Ok(Placed {
-            tree: Tree::Break(*n),
+            tree: leave(*n, 1)?,
             free,
         }),
         Statement::Continue(n) => Ok(Placed {
-            tree: Tree::Continue(*n),
+            tree: leave(*n, 0)?,
             free,
         }),
         Statement::ReturnNothing => Ok(Placed {

@@ -60,7 +60,7 @@ fn refuses_too_long_a_code(rt: HostRuntime) -> Result<(), Fail> {
     Ok(())
 }
 
-// Copies of a finally block at their limit: the method that is accepted has 4,094 regions, one in the other.
+// Copies of a finally block at their limit: the method that is accepted has one leavable statement with 4,096 exits.
 #[test]
 fn counts_copies(rt: HostRuntime) -> Result<(), Fail> {
     let alloc = rt.alloc();

@@ -90,13 +90,25 @@ fn fault_of(fault: TextFault) -> ProgramFault
     }
 }
 
+#[tactic(auto, using(crate::proofs::Standing::program_stands, crate::proofs::Standing::program_spelled))]
+fn read(alloc: Global, text: &str, checked: &Checked) -> Result<Program, ProgramFault>
+    ensures read { IfOk result (λ p. program_of (outcome_of checked.now) text.now ≡ Some (plain_program p)) }
+    ensures spelled { IfOk result (λ p. IsTextOf (outcome_of checked.now) (plain_program p) text.now) }
+    ensures refused { IfErr result (λ e. Refuses e (program_of (outcome_of checked.now) text.now)) }
+    ensures stands { IfErr result (λ e. Stands (outcome_of checked.now) text.now e) }
+{
+    match lex(alloc, text) {
+        Ok(tokens) => whole(alloc, checked, &tokens, text.len()),
+        Err(fault) => Err(fault_of(fault)),
+    }
+}
+
 /// The thread program that a text is for a checked file: the one that its tokens spell, a well typed program of the file. A fault other than want of memory
 /// says that it is none, and stands there: `BadProgram` at the first token with which no program of any file is spelled (or
 /// the end, or where no token begins), a making in a thread or of a name that is given, and a thread named `all` or as
 /// another; `UnknownThing` at a class, setup name or method that isn't there, a class or method with too few or too many
 /// arguments, and the first argument of another type; `ReferenceResult` at a method that answers a reference;
 /// `ProgramLimit` for more than 262,144 bytes, a seventeenth thread beside the setup, or a call of a thread behind 256.
-#[tactic(auto, using(crate::proofs::Standing::program_stands, crate::proofs::Standing::program_spelled))]
 pub fn read_program(alloc: Global, text: &str, checked: &Checked) -> Result<Program, ProgramFault>
     ensures read { IfOk result (λ p. program_of (outcome_of checked.now) text.now ≡ Some (plain_program p)) }
     ensures typed { IfOk result (λ p. (f : File) → elaborated f ≡ Ok (outcome_of checked.now) → IsWellTypedProgram (outcome_of checked.now).file (plain_program p)) }
@@ -105,8 +117,6 @@ pub fn read_program(alloc: Global, text: &str, checked: &Checked) -> Result<Prog
     ensures stands { IfErr result (λ e. Stands (outcome_of checked.now) text.now e) }
 {
     reads_well_typed();
-    match lex(alloc, text) {
-        Ok(tokens) => whole(alloc, checked, &tokens, text.len()),
-        Err(fault) => Err(fault_of(fault)),
-    }
+    let program = read(alloc, text, checked)?;
+    Ok(program)
 }

@@ -1,9 +1,12 @@
-use Rattle.std.proofs.Common.{◌≡◌, ◌+◌, ◌≤◌, ap, arith, subst}
-use Rattle.ls_lowered.specs.LoweredTree.{Block}
+use Rattle.std.proofs.Common.{◌≡◌, ◌+◌, ◌≤◌, ◌++◌, ap, sym, arith, subst}
+use Rattle.std.specs.Prelude.{OnOk}
+use Rattle.ls_lowered.specs.LoweredTree as lowered
+use Rattle.ls_lowered.specs.LoweredTree.{Block, Leavable}
 use Rattle.ls_lowered.specs.Plain.{plain_statement, statements_of}
-use Rattle.ls_emission.specs.Statements.{statement_size, statements_size}
+use Rattle.ls_emission.specs.Statements.{statement_size, statements_size, exits_size, statement_code, statement_rows}
 use Rattle.ls_emit.specs.Small.{IsSmallStatement, AreSmallStatements}
-use Rattle.ls_emit.proofs.Blocks.{block_plain}
+use Rattle.ls_emit.specs.Places.{targets_of}
+use Rattle.ls_emit.proofs.Blocks.{block_plain, leavable_plain}
 use Rattle.ls_emit.proofs.Weights.{weight}
 use Rattle.ls_emit.proofs.statements.+statements.Goals as goal
 
@@ -15,3 +18,32 @@ emit_statement-emit_block-requires t c =
     let room : c.args.place + statements_size (statements_of c.deref.result.now) ≤ 65536 = omega (arith, same, c.requires.ends, c.requires.room) in
     let small : AreSmallStatements (statements_of c.deref.result.now) = subst IsSmallStatement block c.requires.small in
     (omega (arith, work, c.decreases), (room, small))
+
+pub emit_statement-emit_leavable-requires : goal.emit_statement-emit_leavable-requires
+emit_statement-emit_leavable-requires t c =
+    let body = c.deref-in-Leavable.result.now in
+    let exits = c.deref-in-Leavable-2.result.now in
+    let is : plain_statement c.args.s.now ≡ Leavable (plain_statement body) (statements_of exits) =
+    leavable_plain c.args.s.now c.in-Leavable.body c.in-Leavable.exits body exits c.deref-in-Leavable.ensures c.deref-in-Leavable-2.ensures.value c.in-Leavable.is in
+    let work = ap weight is in
+    let ends : c.args.end ≡ c.args.place + (statement_size (plain_statement body) + exits_size (statements_of exits)) = omega (arith, ap statement_size is, c.requires.ends) in
+    let small = subst IsSmallStatement is c.requires.small in
+    (omega (arith, work, c.decreases), (ends, (c.requires.room, (small.0, small.1))))
+
+pub emit_statement-returns-in-Leavable-clause-code : goal.emit_statement-returns-in-Leavable-clause-code
+emit_statement-returns-in-Leavable-clause-code t c =
+    let body = c.deref-in-Leavable.result.now in
+    let exits = c.deref-in-Leavable-2.result.now in
+    let is : plain_statement c.args.s.now ≡ Leavable (plain_statement body) (statements_of exits) =
+    leavable_plain c.args.s.now c.in-Leavable.body c.in-Leavable.exits body exits c.deref-in-Leavable.ensures c.deref-in-Leavable-2.ensures.value c.in-Leavable.is in
+    let Puts = λ (s : lowered.Statement). OnOk c.emit_leavable.result (c.emit_leavable.new.out.items ≡ c.args.out.now.items ++ statement_code (targets_of c.args.around.now) c.args.place s) in
+    subst Puts (sym is) c.emit_leavable.ensures.code
+
+pub emit_statement-returns-in-Leavable-clause-rows : goal.emit_statement-returns-in-Leavable-clause-rows
+emit_statement-returns-in-Leavable-clause-rows t c =
+    let body = c.deref-in-Leavable.result.now in
+    let exits = c.deref-in-Leavable-2.result.now in
+    let is : plain_statement c.args.s.now ≡ Leavable (plain_statement body) (statements_of exits) =
+    leavable_plain c.args.s.now c.in-Leavable.body c.in-Leavable.exits body exits c.deref-in-Leavable.ensures c.deref-in-Leavable-2.ensures.value c.in-Leavable.is in
+    let Puts = λ (s : lowered.Statement). OnOk c.emit_leavable.result (c.emit_leavable.new.rows.items ≡ c.args.rows.now.items ++ statement_rows c.args.place s) in
+    subst Puts (sym is) c.emit_leavable.ensures.rows

@@ -1,6 +1,6 @@
 use Rattle.std.proofs.Common.{◌≡◌, ◌+◌, ◌*◌, ◌≤◌, ◌++◌, drop}
 use Rattle.ls_lowered.specs.Plain.{plain_statement, statements_of}
-use Rattle.ls_emission.specs.Statements.{statements_size, statements_code, statements_rows}
+use Rattle.ls_emission.specs.Statements.{statements_size, exits_size, statements_code, exits_code, statements_rows, exits_rows}
 use Rattle.ls_emit.specs.Places.{targets_of}
 use Rattle.ls_emit.specs.Small.{AreSmallStatements}
 use Rattle.ls_emit.proofs.Weights.{weight, weights}
@@ -13,6 +13,15 @@ invariant-emit_block-loop-s l =
     × (l.next + statements_size (statements_of (drop l.s-index l.statements)) ≡ l.place + statements_size (statements_of l.statements))
     × AreSmallStatements (statements_of (drop l.s-index l.statements))
     × (weights (statements_of (drop l.s-index l.statements)) ≤ weights (statements_of l.statements))
+
+abbrev pub invariant-emit_exits-loop-x : goal.invariant-emit_exits-loop-x
+invariant-emit_exits-loop-x l =
+    (l.out.items ++ exits_code (targets_of l.around) l.end l.next (statements_of (drop l.x-index l.exits)) ≡ l.initial.out.items ++ exits_code (targets_of l.around) l.end l.place (statements_of l.exits))
+    × (l.rows.items ++ exits_rows l.next (statements_of (drop l.x-index l.exits)) ≡ l.initial.rows.items ++ exits_rows l.place (statements_of l.exits))
+    × (l.next + exits_size (statements_of (drop l.x-index l.exits)) ≡ l.place + exits_size (statements_of l.exits))
+    × AreSmallStatements (statements_of (drop l.x-index l.exits))
+    × (weights (statements_of (drop l.x-index l.exits)) ≤ weights (statements_of l.exits))
+    × (l.number ≡ l.x-index)
 
 abbrev pub decreases-emit_statement : goal.decreases-emit_statement
 decreases-emit_statement l = 2 * weight (plain_statement l.s.now)
@@ -30,4 +39,7 @@ abbrev pub decreases-emit_guarded : goal.decreases-emit_guarded
 decreases-emit_guarded l = 2 * (weight (plain_statement l.body.now) + weight (plain_statement l.handler.now)) + 1
 
 abbrev pub decreases-emit_leavable : goal.decreases-emit_leavable
-decreases-emit_leavable l = 2 * (weight (plain_statement l.body.now) + weight (plain_statement l.exit.now)) + 1
+decreases-emit_leavable l = 2 * (weight (plain_statement l.body.now) + weights (statements_of l.exits.now)) + 3
+
+abbrev pub decreases-emit_exits : goal.decreases-emit_exits
+decreases-emit_exits l = 2 * weights (statements_of l.exits.now) + 1

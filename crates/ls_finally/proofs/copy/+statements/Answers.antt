@@ -1,8 +1,9 @@
-use Rattle.std.proofs.Common.{◌≡◌, ◌∷◌, ◌+◌, ◌∙◌, sym, ap, drop, rules, arith, List}
+use Rattle.std.proofs.Common.{◌≡◌, ◌∷◌, ◌+◌, ◌∙◌, sym, ap, ap₂, drop, rules, arith, List}
 use Rattle.ls_lowered.specs.declared.tree.Statement.{Statement}
+use Rattle.ls_lowered.specs.LoweredTree.{Leavable}
 use Rattle.ls_lowered.specs.Plain.{plain_statement, in_front, statements_of}
-use Rattle.ls_finally.proofs.Fronts.{left_at, one_made}
-use Rattle.ls_finally.proofs.Weights.{size_at}
+use Rattle.ls_finally.proofs.Fronts.{left_at, one_made, leavable_read}
+use Rattle.ls_finally.proofs.Weights.{size, size_at}
 use Rattle.ls_finally.proofs.copy.+statements.Goals as goal
 
 pub copy_block-copy_statement-requires : goal.copy_block-copy_statement-requires
@@ -21,3 +22,17 @@ copy_block-loop-s-preserved t c =
     one_made c.loop-s.out.items c.put.new.items.items c.in_ok-copy_statement.field-0 (plain_statement c.s-item.result) (statements_of (drop (i + 1) xs)) c.in_ok-put.ensures c.in_ok-copy_statement.ensures
     ∙ ap (λ (ys : List Statement). in_front c.loop-s.out.items (statements_of ys)) (sym split)
     ∙ c.loop-s.invariant
+
+pub copy_statement-part_and_exits-requires : goal.copy_statement-part_and_exits-requires
+copy_statement-part_and_exits-requires t c =
+    let body = c.deref-in-Leavable.result.now in
+    let own = c.deref-in-Leavable-2.result.now in
+    let e : plain_statement c.args.s.now ≡ Leavable (plain_statement body) (statements_of own) = leavable_read c.args.s.now c.in-Leavable.body c.in-Leavable.own body own c.deref-in-Leavable.ensures c.deref-in-Leavable-2.ensures.value c.in-Leavable.is in
+    (omega (arith, ap size e), tt)
+
+pub copy_statement-returns-in_ok-body-in-Leavable : goal.copy_statement-returns-in_ok-body-in-Leavable
+copy_statement-returns-in_ok-body-in-Leavable t c =
+    let body = c.deref-in-Leavable.result.now in
+    let own = c.deref-in-Leavable-2.result.now in
+    let e : plain_statement c.args.s.now ≡ Leavable (plain_statement body) (statements_of own) = leavable_read c.args.s.now c.in-Leavable.body c.in-Leavable.own body own c.deref-in-Leavable.ensures c.deref-in-Leavable-2.ensures.value c.in-Leavable.is in
+    c.leavable_of.ensures ∙ ap₂ Leavable c.in_ok-body-in-Leavable.ensures.body c.in_ok-body-in-Leavable.ensures.own ∙ sym e

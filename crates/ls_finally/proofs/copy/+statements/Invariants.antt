@@ -12,6 +12,9 @@ decreases-part l = 4 * size (plain_statement l.s.now) + 1
 abbrev pub decreases-two_parts : goal.decreases-two_parts
 decreases-two_parts l = 4 * (size (plain_statement l.first.now) + size (plain_statement l.second.now)) + 2
 
+abbrev pub decreases-part_and_exits : goal.decreases-part_and_exits
+decreases-part_and_exits l = 4 * (size (plain_statement l.body.now) + sizes (statements_of l.own.now)) + 2
+
 abbrev pub decreases-copy_block : goal.decreases-copy_block
 decreases-copy_block l = 4 * sizes (statements_of l.statements.now) + 1
 

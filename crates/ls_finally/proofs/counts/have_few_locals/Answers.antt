@@ -1,7 +1,7 @@
 use Rattle.std.proofs.Common.{rules, ◌≤◌}
 use Rattle.ls_lowered.specs.Plain.{plain_method}
 use Rattle.ls_finally.specs.Counts.{locals_of}
-use Rattle.ls_finally.proofs.Whole.{all_more, all_done, counted}
+use Rattle.ls_lowered.proofs.Taken.{all_more, all_done, counted}
 use Rattle.ls_finally.proofs.counts.have_few_locals.Goals as goal
 
 pub loop-method-preserved : goal.loop-method-preserved

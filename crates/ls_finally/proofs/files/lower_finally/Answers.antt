@@ -4,7 +4,8 @@ use Rattle.ls_lowered.specs.Plain.{plain_method, plain_file}
 use Rattle.ls_lowered.specs.Methods.{invoke}
 use Rattle.ls_finally.specs.Flat.{flat_file}
 use Rattle.ls_finally.proofs.Methods.{keeps}
-use Rattle.ls_finally.proofs.Whole.{not_few_locals, no_truth}
+use Rattle.ls_finally.proofs.Whole.{not_few_locals}
+use Rattle.ls_lowered.proofs.Taken.{no_truth}
 use Rattle.ls_finally.proofs.files.lower_finally.Goals as goal
 
 pub returns-then-not-have_few_locals-clause-refused : goal.returns-then-not-have_few_locals-clause-refused

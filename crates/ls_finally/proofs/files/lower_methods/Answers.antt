@@ -1,7 +1,8 @@
 use Rattle.std.proofs.Common.{rules, refl, ◌≤◌}
 use Rattle.ls_lowered.specs.Plain.{plain_method}
 use Rattle.ls_finally.specs.Counts.{copies_of}
-use Rattle.ls_finally.proofs.Whole.{all_more, all_done, few_copies, all_lowered_so, one_lowered_more, wants_memory, passes_on}
+use Rattle.ls_finally.proofs.Whole.{few_copies, all_lowered_so, one_lowered_more, wants_memory, passes_on}
+use Rattle.ls_lowered.proofs.Taken.{all_more, all_done}
 use Rattle.ls_finally.proofs.files.lower_methods.Goals as goal
 
 pub loop-method-preserved : goal.loop-method-preserved

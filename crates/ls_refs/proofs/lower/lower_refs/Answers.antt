@@ -1,7 +1,8 @@
 use Rattle.std.proofs.Common.{rules, ◌≤◌, ◌<◌, refl, subst, map, length}
 use Rattle.std.specs.Prelude.{All}
 use Rattle.ls_checked.specs.Plain.{plain_method as checked_method, plain_class, plain_file as checked_file}
-use Rattle.ls_refs.proofs.Files.{all_of_map, fitting, not_fitting, wants_memory, all_lowered_so, no_truth, found_at}
+use Rattle.ls_refs.proofs.Files.{fitting, not_fitting, wants_memory, all_lowered_so, found_at}
+use Rattle.ls_lowered.proofs.Taken.{all_of_map, no_truth}
 use Rattle.ls_refs.proofs.lower.lower_refs.Goals as goal
 
 pub returns-then-not-all_fit-clause-refused : goal.returns-then-not-all_fit-clause-refused

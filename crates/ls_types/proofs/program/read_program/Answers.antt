@@ -1,5 +1,7 @@
+use Rattle.ls_checked.specs.PlainProgram.{plain_program}
 use Rattle.ls_types.specs.CheckedFile.{outcome_of}
 use Rattle.ls_types.proofs.program.read_program.Goals as goal
 
-pub returns-in-Err-clause-stands : goal.returns-in-Err-clause-stands
-returns-in-Err-clause-stands c = c.fault_of.ensures.stands c.args.text.now c.in-Err.ensures.refused (outcome_of c.args.checked.now)
+pub returns-clause-typed : goal.returns-clause-typed
+returns-clause-typed c = λ f is.
+    c.reads_well_typed.ensures f (outcome_of c.args.checked.now) c.args.text.now (plain_program c.in_ok-program.program) is c.in_ok-program.ensures.read
