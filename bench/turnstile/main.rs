@@ -5,7 +5,7 @@ mod images;
 mod ls_code;
 mod ls_events;
 mod ls_machine;
-mod ls_moves;
+mod ls_machine_moves;
 use images::{Part, image};
 use ls_code::code::Code;
 use ls_machine::Machine;

@@ -3,14 +3,14 @@
 
 mod indexmap;
 mod ls_checked;
-mod ls_elaborate;
-mod ls_elaboration;
+mod ls_types_statements;
+mod ls_types_elaboration;
 mod ls_events;
-mod ls_expressions;
+mod ls_types_expressions;
 mod ls_lexer;
 mod ls_parser;
-mod ls_statements;
-mod ls_terms;
+mod ls_parser_statements;
+mod ls_parser_expressions;
 mod ls_tree;
 mod ls_types;
 mod memory;

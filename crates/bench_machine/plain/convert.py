@@ -40,7 +40,7 @@ def plain(text, crate):
 
 
 def main():
-    for crate in ("ls_events", "ls_code", "ls_moves", "ls_machine"):
+    for crate in ("ls_events", "ls_code", "ls_machine_moves", "ls_machine"):
         for file in sorted((CRATES / crate / "src").glob("*.rt")):
             if file.stem == "tests":
                 continue
@@ -61,7 +61,7 @@ mod images;
 mod ls_code;
 mod ls_events;
 mod ls_machine;
-mod ls_moves;
+mod ls_machine_moves;
 use images::{Part, SHORT_STEPS, image};
 use ls_code::code::Code;
 use ls_code::step::Did;

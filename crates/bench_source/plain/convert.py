@@ -18,8 +18,8 @@ FILES = {
     "ls_events": ("action", "event", "kind", "value"),
     "ls_checked": ("program", "tree"),
     "ls_meaning": ("completion", "sort", "step"),
-    "ls_values": ("lookups", "value"),
-    "ls_pending": ("calls", "expressions", "moves", "operands", "pending", "stack", "statements", "tables", "work"),
+    "ls_source_values": ("lookups", "value"),
+    "ls_source_pending": ("calls", "expressions", "moves", "operands", "pending", "stack", "statements", "tables", "work"),
     "ls_source": ("next", "run", "stage", "store", "thing", "thread"),
 }
 

@@ -3,9 +3,9 @@
 mod ls_checked;
 mod ls_events;
 mod ls_meaning;
-mod ls_pending;
+mod ls_source_pending;
 mod ls_source;
-mod ls_values;
+mod ls_source_values;
 mod timing;
 mod trees;
 

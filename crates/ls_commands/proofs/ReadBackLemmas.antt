@@ -3,9 +3,9 @@ use Rattle.std.proofs.Common.{◌≡◌, ◌<◌, ◌^◌, ℕ, List, Result, Ok
 use Rattle.std.specs.Prelude.{String}
 use Rattle.std.specs.Global.{Global}
 use Rattle.ls_checked.specs.CheckedProgram.{Program}
-use Rattle.ls_elaboration.specs.Elaboration.{Outcome, elaborated}
-use Rattle.ls_elaboration.specs.Trees.{File}
-use Rattle.ls_programs.specs.Programs.{IsTextOf}
+use Rattle.ls_types_elaboration.specs.Elaboration.{Outcome, elaborated}
+use Rattle.ls_types_elaboration.specs.Trees.{File}
+use Rattle.ls_types_programs.specs.Programs.{IsTextOf}
 use Rattle.ls_code.specs.Code.{Code}
 use Rattle.ls_code.specs.Machine.{machine_history}
 use Rattle.ls_headline.specs.Same.{IsCells}

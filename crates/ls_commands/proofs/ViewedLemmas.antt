@@ -5,21 +5,21 @@ use Rattle.std.specs.Global.{Global}
 use Rattle.ls_lexer.specs.declared.fault.TextFault.{TextFault}
 use Rattle.ls_lexer.specs.declared.fault.TextFault.TheVariants as text
 use Rattle.ls_tree.specs.Trees.{File as ParsedFile}
-use Rattle.ls_spelling.specs.Spells.{TextSpells}
-use Rattle.ls_terms.specs.Answers.{Refuses}
+use Rattle.ls_parser_spelling.specs.Spells.{TextSpells}
+use Rattle.ls_parser_expressions.specs.Answers.{Refuses}
 use Rattle.ls_parser.specs.Comes.{Comes}
 use Rattle.ls_checked.specs.CheckedProgram.{Program}
 use Rattle.ls_checked.specs.PlainProgram.{plain_thread, plain_program}
 use Rattle.ls_checked.specs.declared.program.ThreadProgram.{ThreadProgram}
 use Rattle.ls_checked.specs.declared.program.Program as code
-use Rattle.ls_elaboration.specs.Elaboration.{Outcome, elaborated}
-use Rattle.ls_elaboration.specs.Trees.{File}
-use Rattle.ls_placing.specs.Files.{IsFileOf}
-use Rattle.ls_elaboration.specs.Refused as typing
+use Rattle.ls_types_elaboration.specs.Elaboration.{Outcome, elaborated}
+use Rattle.ls_types_elaboration.specs.Trees.{File}
+use Rattle.ls_parser_placing.specs.Files.{IsFileOf}
+use Rattle.ls_types_elaboration.specs.Refused as typing
 use Rattle.ls_types.specs.ProgramRefusals.{IsNoProgram}
-use Rattle.ls_programs.specs.Programs.{IsTextOf}
-use Rattle.ls_elaboration.specs.declared.rule.CheckFault.{CheckFault}
-use Rattle.ls_elaboration.specs.declared.rule.CheckFault.TheVariants as rule
+use Rattle.ls_types_programs.specs.Programs.{IsTextOf}
+use Rattle.ls_types_elaboration.specs.declared.rule.CheckFault.{CheckFault}
+use Rattle.ls_types_elaboration.specs.declared.rule.CheckFault.TheVariants as rule
 use Rattle.ls_types.specs.declared.fault.ProgramFault.{ProgramFault}
 use Rattle.ls_types.specs.declared.fault.ProgramFault.TheVariants as program
 use Rattle.ls_schedule.specs.Answers.{Fails}

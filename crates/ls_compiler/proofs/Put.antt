@@ -1,19 +1,19 @@
 -- What an image of these parts is.
 use Rattle.std.proofs.Common.{◌≡◌, sym, subst, Some, Ok, Err}
 use Rattle.std.specs.Prelude.{IsErrOf}
-use Rattle.ls_placing.specs.Files.{IsFileOf}
+use Rattle.ls_parser_placing.specs.Files.{IsFileOf}
 use Rattle.ls_lexer.specs.declared.fault.TextFault.{TextFault}
 use Rattle.ls_lexer.specs.declared.fault.TextFault.TheVariants as text
 use Rattle.ls_checked.specs.PlainProgram.{plain_program}
 use Rattle.ls_checked.specs.declared.program.Program.{Program}
 use Rattle.ls_code.specs.Code.{Code}
-use Rattle.ls_elaboration.specs.Trees.{Text, File}
-use Rattle.ls_elaboration.specs.Elaboration.{elaborated}
+use Rattle.ls_types_elaboration.specs.Trees.{Text, File}
+use Rattle.ls_types_elaboration.specs.Elaboration.{elaborated}
 use Rattle.ls_types.specs.CheckedFile.{outcome_of}
-use Rattle.ls_programs.specs.Programs.{IsTextOf}
+use Rattle.ls_types_programs.specs.Programs.{IsTextOf}
 use Rattle.ls_types.specs.declared.check.Checked.{Checked}
 use Rattle.ls_linker.specs.Limits.{KeepsLimits}
-use Rattle.ls_linking.specs.Runs.{Runs}
+use Rattle.ls_linker_laws.specs.Runs.{Runs}
 use Rattle.ls_image.specs.Images.{Compiles, checked_of, program_of_image, code_of_image}
 use Rattle.ls_compiler.specs.Answers.{IsWithinLimits}
 use Rattle.ls_image.specs.declared.image.Image.{Image}

@@ -1,20 +1,20 @@
 -- What `compile` answers of two texts.
 use Rattle.std.specs.Prelude.{◌≡◌, Result, Ok, Err}
 use Rattle.ls_lexer.specs.declared.fault.TextFault.{TextFault}
-use Rattle.ls_terms.specs.Answers.{Refuses}
+use Rattle.ls_parser_expressions.specs.Answers.{Refuses}
 use Rattle.ls_tree.specs.Trees.{File as ParsedFile}
-use Rattle.ls_spelling.specs.Spells.{TextSpells}
-use Rattle.ls_placing.specs.Files.{IsFileOf}
+use Rattle.ls_parser_spelling.specs.Spells.{TextSpells}
+use Rattle.ls_parser_placing.specs.Files.{IsFileOf}
 use Rattle.ls_parser.specs.Comes.{Comes}
 use Rattle.ls_checked.specs.CheckedProgram.{Program as PlainProgram}
 use Rattle.ls_checked.specs.PlainProgram.{plain_program}
-use Rattle.ls_elaboration.specs.Trees.{Text, File}
-use Rattle.ls_elaboration.specs.Refused.{Fails}
-use Rattle.ls_elaboration.specs.Elaboration.{Outcome, elaborated}
+use Rattle.ls_types_elaboration.specs.Trees.{Text, File}
+use Rattle.ls_types_elaboration.specs.Refused.{Fails}
+use Rattle.ls_types_elaboration.specs.Elaboration.{Outcome, elaborated}
 use Rattle.ls_types.specs.CheckedFile.{outcome_of}
 use Rattle.ls_types.specs.ProgramRefusals.{IsNoProgram}
-use Rattle.ls_programs.specs.Programs.{IsTextOf}
-use Rattle.ls_elaboration.specs.declared.rule.CheckFault.{CheckFault}
+use Rattle.ls_types_programs.specs.Programs.{IsTextOf}
+use Rattle.ls_types_elaboration.specs.declared.rule.CheckFault.{CheckFault}
 use Rattle.ls_types.specs.declared.fault.ProgramFault.{ProgramFault}
 use Rattle.ls_linker.specs.Limits.{KeepsLimits, GoesPast}
 use Rattle.ls_linker.specs.declared.fault.BuildFault.{BuildFault}

@@ -14,10 +14,10 @@ use ls_events::value::Value;
 use ls_labels::names::Names;
 use ls_labels::objects::{push_object, push_value};
 use ls_source::Thing;
+use ls_source_values::value::{mark_of, reference_of};
 use ls_state::array::push_array;
 use ls_state::objects::{field_name_of, push_held};
 use ls_state::scene::Scene;
-use ls_values::value::{mark_of, reference_of};
 use std::alloc::{AllocError, Global};
 use std::fmt::Write;
 

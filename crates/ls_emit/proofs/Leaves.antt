@@ -2,7 +2,7 @@
 use Rattle.std.proofs.Common.{◌≡◌, ℕ, zero, suc, ◌+◌, ◌-◌, ◌<◌, List, [], ◌∷◌, ◌++◌, length, map, get_or, refl, ap, ◌∙◌, arith}
 use Rattle.ls_lowered.specs.declared.tree.Statement.{Statement}
 use Rattle.ls_lowered.specs.Plain.{plain_statement, statements_of}
-use Rattle.ls_emission.specs.Statements.{Targets, target_of, statement_size, exits_size, places}
+use Rattle.ls_emit_laws.specs.Statements.{Targets, target_of, statement_size, exits_size, places}
 use Rattle.ls_emit.specs.Places.{room, places_by}
 
 -- to an exit of the innermost leavable statement, to its end, and beyond it

@@ -1,7 +1,7 @@
 -- The numbers of an emittable tree are operands.
 use Rattle.std.proofs.Common.{ℕ, suc, ◌+◌, ◌<◌, ◌≤◌, ◌^◌, arith}
 use Rattle.ls_lowered.specs.LoweredTree.{Expression, Word, Local, Unary, Binary, And, Or, Hold, Keep, After, Field, Item, SetFirst, ReadPair, SetPair, SwapPair, AttemptMark, OnLock, Call, MakeObject, MakeLock, MakeMarkable, MakeArray, Expressions, End, More, Statement, Block, SetLocal, SetField, SetItem, Evaluate, If, While, Return, Try, Guarded, Throw, Leavable, Leave, Statements, Done, Then, File}
-use Rattle.ls_emission.specs.Emittable.{statement_count, IsEmittable, AreEmittable, IsEmittableStatement, AreEmittableStatements}
+use Rattle.ls_emit_laws.specs.Emittable.{statement_count, IsEmittable, AreEmittable, IsEmittableStatement, AreEmittableStatements}
 use Rattle.ls_emit.specs.Small.{IsSmall, AreSmall, IsSmallStatement, AreSmallStatements}
 
 below : (k n : ℕ) → k ≤ 65536 → n < k → n < 2 ^ 32

@@ -2,8 +2,8 @@
 
 ghost use Rattle.std.specs.Prelude.{◌≡◌, ◌≤◌, ◌↔◌, All, IfOk, OnOk, map};
 ghost use Rattle.ls_lowered.specs.Plain.{plain_method, plain_file};
-ghost use Rattle.ls_emission.specs.Emittable.{IsEmittableFile};
-ghost use Rattle.ls_emission.specs.Units.{method_size, unit_of, units_of};
+ghost use Rattle.ls_emit_laws.specs.Emittable.{IsEmittableFile};
+ghost use Rattle.ls_emit_laws.specs.Units.{method_size, unit_of, units_of};
 ghost use Rattle.ls_emit.specs.Small.{IsSmallStatement};
 ghost use Rattle.ls_emit.specs.Short.{AllShort};
 

@@ -3,7 +3,7 @@
 ghost use Rattle.std.specs.Prelude.{◌≡◌, ◌+◌, ◌<◌, ◌≤◌, ◌^◌, ◌++◌, [], ◌∷◌, IfOk, OnOk};
 ghost use Rattle.ls_code.specs.declared.instruction.Instruction.TheVariants as op;
 ghost use Rattle.ls_lowered.specs.Plain.{plain, all_plain};
-ghost use Rattle.ls_emission.specs.Expressions.{unary_code, binary_code, size, all_size, code, all_code};
+ghost use Rattle.ls_emit_laws.specs.Expressions.{unary_code, binary_code, size, all_size, code, all_code};
 ghost use Rattle.ls_emit.specs.Small.{IsSmall, AreSmall};
 
 use crate::sizes::size_of;

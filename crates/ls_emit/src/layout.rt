@@ -2,7 +2,7 @@
 
 ghost use Rattle.std.specs.Prelude.{◌≡◌, ◌+◌, ◌≤◌, ◌++◌, [], ◌∷◌, IfOk, map};
 ghost use Rattle.ls_lowered.specs.Plain.{plain_statement, statements_of};
-ghost use Rattle.ls_emission.specs.Statements.{statement_size, statements_size, exits_size, places};
+ghost use Rattle.ls_emit_laws.specs.Statements.{statement_size, statements_size, exits_size, places};
 ghost use Rattle.ls_emit.specs.Places.{room, places_by};
 
 use crate::sizes::size_of_statement;

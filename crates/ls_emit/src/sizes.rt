@@ -2,9 +2,9 @@
 
 ghost use Rattle.std.specs.Prelude.{◌≡◌, ◌+◌, ◌≤◌, ◌↔◌, All, IsTrue, min};
 ghost use Rattle.ls_lowered.specs.Plain.{plain, all_plain, plain_statement, statements_of, plain_method};
-ghost use Rattle.ls_emission.specs.Expressions.{size, all_size};
-ghost use Rattle.ls_emission.specs.Statements.{statement_size, statements_size, exits_size};
-ghost use Rattle.ls_emission.specs.Units.{method_size};
+ghost use Rattle.ls_emit_laws.specs.Expressions.{size, all_size};
+ghost use Rattle.ls_emit_laws.specs.Statements.{statement_size, statements_size, exits_size};
+ghost use Rattle.ls_emit_laws.specs.Units.{method_size};
 
 use ls_locks::lower::lock_size;
 use ls_lowered::tree::{Expression, Expressions, Method, Statement};

@@ -4,8 +4,8 @@ ghost use Rattle.std.specs.Prelude.{◌≡◌, ◌+◌, ◌≤◌, ◌++◌, [],
 ghost use Rattle.ls_code.specs.declared.instruction.Instruction.TheVariants as op;
 ghost use Rattle.ls_lowered.specs.LoweredTree.{If, While, Guarded, Leavable};
 ghost use Rattle.ls_lowered.specs.Plain.{plain, plain_statement, statements_of};
-ghost use Rattle.ls_emission.specs.Expressions.{size, code};
-ghost use Rattle.ls_emission.specs.Statements.{statement_size, statements_size, exits_size, statement_code, statements_code, exits_code, statement_rows, statements_rows, exits_rows};
+ghost use Rattle.ls_emit_laws.specs.Expressions.{size, code};
+ghost use Rattle.ls_emit_laws.specs.Statements.{statement_size, statements_size, exits_size, statement_code, statements_code, exits_code, statement_rows, statements_rows, exits_rows};
 ghost use Rattle.ls_emit.specs.Alone.{IsAlone};
 ghost use Rattle.ls_emit.specs.Places.{targets_of};
 ghost use Rattle.ls_emit.specs.Small.{IsSmall, IsSmallStatement, AreSmallStatements};

@@ -3,8 +3,8 @@ use Rattle.std.specs.Prelude.{ℕ, Option, Some, None}
 use Rattle.ls_lexer.specs.declared.token.Span.{Span}
 use Rattle.ls_lexer.specs.declared.fault.TextFault.{TextFault}
 use Rattle.ls_lexer.specs.declared.fault.TextFault.TheVariants as text
-use Rattle.ls_elaboration.specs.declared.rule.CheckFault.{CheckFault}
-use Rattle.ls_elaboration.specs.declared.rule.CheckFault.TheVariants as rule
+use Rattle.ls_types_elaboration.specs.declared.rule.CheckFault.{CheckFault}
+use Rattle.ls_types_elaboration.specs.declared.rule.CheckFault.TheVariants as rule
 use Rattle.ls_types.specs.declared.fault.ProgramFault.{ProgramFault}
 use Rattle.ls_types.specs.declared.fault.ProgramFault.TheVariants as program
 use Rattle.ls_schedule.specs.declared.fault.ScheduleFault.{ScheduleFault}

@@ -8,10 +8,10 @@ use Rattle.ls_orders.specs.declared.fault.OrderFault.TheVariants as order
 use Rattle.ls_lexer.specs.declared.token.Span.{Span}
 use Rattle.ls_lexer.specs.declared.fault.TextFault.{TextFault}
 use Rattle.ls_lexer.specs.declared.fault.TextFault.TheVariants as text
-use Rattle.ls_elaboration.specs.declared.rule.CheckFault.{CheckFault}
-use Rattle.ls_elaboration.specs.declared.rule.CheckFault.TheVariants as rule
-use Rattle.ls_elaboration.specs.declared.rule.Rule.{Rule}
-use Rattle.ls_elaboration.specs.declared.rule.Rule.TheVariants as rules
+use Rattle.ls_types_elaboration.specs.declared.rule.CheckFault.{CheckFault}
+use Rattle.ls_types_elaboration.specs.declared.rule.CheckFault.TheVariants as rule
+use Rattle.ls_types_elaboration.specs.declared.rule.Rule.{Rule}
+use Rattle.ls_types_elaboration.specs.declared.rule.Rule.TheVariants as rules
 use Rattle.ls_types.specs.declared.fault.ProgramFault.{ProgramFault}
 use Rattle.ls_types.specs.declared.fault.ProgramFault.TheVariants as program
 use Rattle.ls_lowered.specs.declared.fault.LowerFault.TheVariants as lower

@@ -5,7 +5,6 @@ ghost use Rattle.ls_faults.specs.Faults.{batch_line, build_line, cells_line, che
 
 use crate::fault::ToolFault;
 use ls_batch::BatchFault;
-use ls_elaboration::rule::Rule;
 use ls_emit::fault::EmitFault;
 use ls_lexer::fault::TextFault;
 use ls_lexer::token::Span;
@@ -20,6 +19,7 @@ use ls_translation::fault::TranslationFault;
 use ls_turnstile::{FollowFault, PlayFault as TurnsPlayFault};
 use ls_types::check::CheckFault;
 use ls_types::fault::ProgramFault;
+use ls_types_elaboration::rule::Rule;
 use std::marker::Model;
 
 /// The most bytes of a line.

@@ -1,16 +1,16 @@
 -- What an image shows, and what it owes the two texts that it is of.
 use Rattle.std.specs.Prelude.{◌≡◌, Ok}
-use Rattle.ls_placing.specs.Files.{IsFileOf}
+use Rattle.ls_parser_placing.specs.Files.{IsFileOf}
 use Rattle.ls_checked.specs.CheckedProgram.{Program as PlainProgram}
 use Rattle.ls_checked.specs.PlainProgram.{plain_program}
 use Rattle.ls_checked.specs.declared.program.Program.{Program}
 use Rattle.ls_code.specs.Code.{Code}
-use Rattle.ls_elaboration.specs.Trees.{Text, File}
-use Rattle.ls_elaboration.specs.Elaboration.{elaborated}
+use Rattle.ls_types_elaboration.specs.Trees.{Text, File}
+use Rattle.ls_types_elaboration.specs.Elaboration.{elaborated}
 use Rattle.ls_types.specs.CheckedFile.{outcome_of}
-use Rattle.ls_programs.specs.Programs.{IsTextOf}
+use Rattle.ls_types_programs.specs.Programs.{IsTextOf}
 use Rattle.ls_types.specs.declared.check.Checked.{Checked}
-use Rattle.ls_linking.specs.Runs.{Runs}
+use Rattle.ls_linker_laws.specs.Runs.{Runs}
 use Rattle.ls_image.specs.declared.image.Image.{Image}
 
 abbrev pub checked_of : Image → Checked

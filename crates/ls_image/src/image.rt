@@ -2,7 +2,7 @@
 
 ghost use Rattle.std.specs.Prelude.{◌≡◌};
 ghost use Rattle.ls_checked.specs.PlainProgram.{plain_program};
-ghost use Rattle.ls_linking.specs.Runs.{Runs};
+ghost use Rattle.ls_linker_laws.specs.Runs.{Runs};
 ghost use Rattle.ls_types.specs.CheckedFile.{outcome_of};
 
 use ls_checked::program::Program;

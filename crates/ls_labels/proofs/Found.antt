@@ -3,7 +3,7 @@ use Rattle.std.proofs.Common.{◌≡◌, ◌≢◌, ℕ, suc, ◌+◌, List, ◌
 use Rattle.std.specs.Prelude.{slice_get, map, option_map, nat_eq}
 use Rattle.std.proofs.lemmas.Bool.Decides.{nat_tests}
 use Rattle.std.proofs.lemmas.Option.{slice_get_within, get_or_from_slice_get, slice_get-map}
-use Rattle.ls_elaboration.specs.Known.{MethodSign}
+use Rattle.ls_types_elaboration.specs.Known.{MethodSign}
 use Rattle.ls_labels.specs.Names.{method_found}
 
 -- a list from a place on, where an element stands

@@ -5,8 +5,8 @@ use Rattle.ls_checked.specs.CheckedTree.{File}
 use Rattle.ls_checked.specs.CheckedProgram.{Program}
 use Rattle.ls_checked.specs.Plain.{plain_file}
 use Rattle.ls_checked.specs.PlainProgram.{plain_program}
-use Rattle.ls_elaboration.specs.Known.{ClassSign, MethodSign}
-use Rattle.ls_elaboration.specs.Tables.{texts_of, class_sign_of}
+use Rattle.ls_types_elaboration.specs.Known.{ClassSign, MethodSign}
+use Rattle.ls_types_elaboration.specs.Tables.{texts_of, class_sign_of}
 use Rattle.ls_report.specs.Events.{Text}
 use Rattle.ls_labels.specs.declared.names.Names.{Names as GivenNames}
 

@@ -2,14 +2,14 @@
 
 ghost use Rattle.std.specs.Prelude.{◌≡◌, ◌++◌, OnOk, [], option_map, slice_get, string_bytes};
 ghost use Rattle.std.specs.Option.{option_map_or};
-ghost use Rattle.ls_elaboration.specs.Tables.{field_signs_of, method_signs_of};
+ghost use Rattle.ls_types_elaboration.specs.Tables.{field_signs_of, method_signs_of};
 ghost use Rattle.ls_labels.specs.Names.{class_name, field_name, method_found, method_name, names_of};
 
 use indexmap::{IndexMap, IndexSet};
 use ls_checked::program::Program;
 use ls_checked::tree::File;
-use ls_elaboration::known::{ClassSign, MethodSign};
 use ls_events::value::ValueType;
+use ls_types_elaboration::known::{ClassSign, MethodSign};
 use std::alloc::AllocError;
 use std::fmt::Write;
 

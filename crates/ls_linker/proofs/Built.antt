@@ -7,12 +7,12 @@ use Rattle.ls_lowered.specs.LoweredTree as low
 use Rattle.ls_refs.specs.Lowered.{lowered_file}
 use Rattle.ls_finally.specs.Flat.{flat_file}
 use Rattle.ls_finally.specs.Placed.{AllPlaced}
-use Rattle.ls_emission.specs.Units.{CodeUnit, units_of}
-use Rattle.ls_emission.specs.Emittable.{IsEmittableFile}
+use Rattle.ls_emit_laws.specs.Units.{CodeUnit, units_of}
+use Rattle.ls_emit_laws.specs.Emittable.{IsEmittableFile}
 use Rattle.ls_emit.specs.Short.{AllShort}
-use Rattle.ls_linking.specs.Linked.{linked}
-use Rattle.ls_ranges.specs.Links.{Links}
-use Rattle.ls_linking.specs.Compiled.{flat_of, code_of}
+use Rattle.ls_linker_laws.specs.Linked.{linked}
+use Rattle.ls_linker_ranges.specs.Links.{Links}
+use Rattle.ls_linker_laws.specs.Compiled.{flat_of, code_of}
 use Rattle.std.specs.Prelude.{List}
 
 pub placed_here : (file : File) (refs : low.File) → refs ≡ lowered_file file → AllPlaced (lowered_file file) (lowered_file file) → AllPlaced refs refs

@@ -5,16 +5,16 @@ use Rattle.ls_events.specs.declared.value.Value.{Value}
 use Rattle.ls_events.specs.declared.value.ValueType.{ValueType}
 use Rattle.ls_checked.specs.CheckedTree.{File, Method}
 use Rattle.ls_refs.specs.ValueWords.{value_word, IsSmall}
-use Rattle.ls_typing.specs.Sorts.{HaveTypes}
-use Rattle.ls_typing.specs.Typing.{IsTypedFile, parameters_of}
+use Rattle.ls_types_judgement.specs.Sorts.{HaveTypes}
+use Rattle.ls_types_judgement.specs.Typing.{IsTypedFile, parameters_of}
 use Rattle.ls_refs.specs.Lowered.{lowered_method, lowered_file}
 use Rattle.ls_refs.specs.Laws.{answer_words}
 use Rattle.ls_finally.specs.Flat.{flat_method}
 use Rattle.ls_finally.specs.Placed.{AllPlaced, Takes, TakesIn}
 use Rattle.ls_finally.specs.Laws.{KeepsCourses}
 use Rattle.ls_soundness.specs.InCall.{SuitedInCall}
-use Rattle.ls_linking.specs.Laws.{LoweredAsks}
-use Rattle.ls_linking.specs.Compiled.{flat_of}
+use Rattle.ls_linker_laws.specs.Laws.{LoweredAsks}
+use Rattle.ls_linker_laws.specs.Compiled.{flat_of}
 
 got : {A B : Type 0} (f : A → B) (xs : List A) (n : ℕ) (x : A) → slice_get xs n ≡ Some x → slice_get (map f xs) n ≡ Some (f x)
 got f [] n x e = absurd (none e)

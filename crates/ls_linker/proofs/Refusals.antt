@@ -12,13 +12,13 @@ use Rattle.ls_finally.specs.Counts.{FewLocals, FewCopies, Refused}
 use Rattle.ls_emit.specs.Short.{AllShort}
 use Rattle.ls_emit.specs.declared.fault.EmitFault.{EmitFault}
 use Rattle.ls_emit.specs.declared.fault.EmitFault.TheVariants as emit
-use Rattle.ls_emission.specs.Units.{CodeUnit, units_of}
-use Rattle.ls_linking.specs.Linked.{linked}
-use Rattle.ls_sizes.specs.Floor.{KeepsFloor}
+use Rattle.ls_emit_laws.specs.Units.{CodeUnit, units_of}
+use Rattle.ls_linker_laws.specs.Linked.{linked}
+use Rattle.ls_linker_sizes.specs.Floor.{KeepsFloor}
 use Rattle.ls_linker.specs.declared.fault.LinkFault.{LinkFault}
 use Rattle.ls_linker.specs.declared.fault.LinkFault.TheVariants as link
 use Rattle.ls_linker.specs.declared.fault.BuildFault.TheVariants.{Lower, Emit, Link}
-use Rattle.ls_linking.specs.Compiled.{flat_of, code_of, count}
+use Rattle.ls_linker_laws.specs.Compiled.{flat_of, code_of, count}
 use Rattle.ls_linker.specs.Limits.{GoesPast}
 
 -- code that is too long has a count over 4,096

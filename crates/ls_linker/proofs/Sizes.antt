@@ -5,7 +5,7 @@ use Rattle.ls_checked.specs.CheckedTree.{Class}
 use Rattle.ls_checked.specs.CheckedProgram.{ProgramCall}
 use Rattle.ls_code.specs.declared.instruction.Instruction.{Instruction}
 use Rattle.ls_code.specs.declared.code.HandlerRow.{HandlerRow}
-use Rattle.ls_linking.specs.Threads.{call_code, calls_code}
+use Rattle.ls_linker_laws.specs.Threads.{call_code, calls_code}
 use Rattle.ls_linker.specs.Added.{Adds, PushesThread}
 
 pub calls_some : (classes : List Class) (n : ℕ) (calls : List ProgramCall) → 2 ≤ length (calls_code classes n calls)

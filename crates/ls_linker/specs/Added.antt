@@ -4,10 +4,10 @@ use Rattle.ls_checked.specs.CheckedTree.{Class, File}
 use Rattle.ls_checked.specs.CheckedProgram.{ProgramCall, ThreadProgram, Program}
 use Rattle.ls_code.specs.Code.{Code}
 use Rattle.ls_code.specs.declared.instruction.Instruction.{Instruction}
-use Rattle.ls_emission.specs.Units.{CodeUnit}
+use Rattle.ls_emit_laws.specs.Units.{CodeUnit}
 use Rattle.ls_code.specs.declared.code.HandlerRow.{HandlerRow}
-use Rattle.ls_linking.specs.Threads.{calls_code, thread_row}
-use Rattle.ls_linking.specs.Linked.{units_code, units_rows, method_rows, threads_code, threads_rows, starts, class_size}
+use Rattle.ls_linker_laws.specs.Threads.{calls_code, thread_row}
+use Rattle.ls_linker_laws.specs.Linked.{units_code, units_rows, method_rows, threads_code, threads_rows, starts, class_size}
 
 -- instructions behind others
 pub record Adds (old added new : List Instruction) : Type 0 where

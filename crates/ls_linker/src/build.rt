@@ -3,10 +3,10 @@
 ghost use Rattle.std.specs.Prelude.{◌≡◌, IfOk, IfErr, OnOk};
 ghost use Rattle.ls_checked.specs.Plain.{plain_file};
 ghost use Rattle.ls_checked.specs.PlainProgram.{plain_program};
-ghost use Rattle.ls_typing.specs.WellTyped.{IsWellTyped, IsWellTypedProgram};
-ghost use Rattle.ls_linking.specs.Compiled.{code_of};
+ghost use Rattle.ls_types_judgement.specs.WellTyped.{IsWellTyped, IsWellTypedProgram};
+ghost use Rattle.ls_linker_laws.specs.Compiled.{code_of};
 ghost use Rattle.ls_linker.specs.Limits.{KeepsLimits, GoesPast};
-ghost use Rattle.ls_linking.specs.Runs.{Runs};
+ghost use Rattle.ls_linker_laws.specs.Runs.{Runs};
 
 use crate::fault::BuildFault;
 use crate::laws::compiled_runs;
@@ -16,10 +16,10 @@ use ls_checked::tree::File;
 use ls_code::code::Code;
 use ls_emit::emit::emit;
 use ls_finally::files::lower_finally;
-use ls_ranges::{fits_lowered, ranged_is_emittable, ranged_links, typed_is_placed};
+use ls_linker_ranges::{fits_lowered, ranged_is_emittable, ranged_links, typed_is_placed};
+use ls_linker_sizes::laws::sizes;
 use ls_refs::laws::has_slots;
 use ls_refs::lower::lower_refs;
-use ls_sizes::laws::sizes;
 use std::alloc::Global;
 
 /// The whole code of a checked file and a thread program for it, which runs as the two: it has the same histories, both ways,

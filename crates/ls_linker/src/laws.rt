@@ -3,20 +3,20 @@
 ghost use Rattle.std.specs.Prelude.{◌≤◌, length};
 ghost use Rattle.ls_checked.specs.CheckedTree.{File};
 ghost use Rattle.ls_checked.specs.CheckedProgram.{Program};
-ghost use Rattle.ls_typing.specs.WellTyped.{IsWellTyped, IsWellTypedProgram};
+ghost use Rattle.ls_types_judgement.specs.WellTyped.{IsWellTyped, IsWellTypedProgram};
 ghost use Rattle.ls_refs.specs.Lowered.{lowered_file};
 ghost use Rattle.ls_finally.specs.Placed.{AllPlaced};
-ghost use Rattle.ls_emission.specs.Emittable.{IsEmittableFile};
-ghost use Rattle.ls_linking.specs.Compiled.{flat_of, code_of};
-ghost use Rattle.ls_linking.specs.Runs.{Runs};
+ghost use Rattle.ls_emit_laws.specs.Emittable.{IsEmittableFile};
+ghost use Rattle.ls_linker_laws.specs.Compiled.{flat_of, code_of};
+ghost use Rattle.ls_linker_laws.specs.Runs.{Runs};
 
-use ls_emission::laws::units_ask;
+use ls_emit_laws::laws::units_ask;
 use ls_ends::laws::{acts_in_time, ends_in_time};
 use ls_finally::laws::keeps_courses;
 use ls_headline::laws::{asks_by_words, same_traces};
-use ls_linking::laws::{linked_asks, linked_exchanges};
-use ls_quick::laws::{frames_are_quick, threads_are_quick};
-use ls_sizes::laws::sizes;
+use ls_linker_laws::laws::{linked_asks, linked_exchanges};
+use ls_linker_quick::laws::{frames_are_quick, threads_are_quick};
+use ls_linker_sizes::laws::sizes;
 use ls_soundness::laws::{is_sound, suited_in_call};
 
 /// The code of a well typed file and a well typed program of it runs as the two, where it isn't too long.

@@ -6,9 +6,9 @@ ghost use Rattle.ls_checked.specs.PlainProgram.{plain_call, plain_thread};
 ghost use Rattle.ls_headline.specs.InWords.{word_of as the_word};
 ghost use Rattle.ls_headline.specs.Threads.{call_result as the_result, result_type as the_result_type};
 ghost use Rattle.ls_meaning.specs.Expressions.{constructor_of as the_constructor};
-ghost use Rattle.ls_linking.specs.Threads.{pushes, result_code, call_code, calls_code, call_need as the_need, calls_need as the_needs};
+ghost use Rattle.ls_linker_laws.specs.Threads.{pushes, result_code, call_code, calls_code, call_need as the_need, calls_need as the_needs};
 ghost use Rattle.ls_code.specs.declared.instruction.Instruction.TheVariants as op;
-ghost use Rattle.ls_ranges.specs.Links.{IsWritten, CallLinks, ThreadLinks};
+ghost use Rattle.ls_linker_ranges.specs.Links.{IsWritten, CallLinks, ThreadLinks};
 ghost use Rattle.ls_linker.specs.Added.{Adds, AddsThreads, PushesThread};
 
 use ls_checked::program::{ProgramCall, ThreadProgram};

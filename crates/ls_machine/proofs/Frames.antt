@@ -1,7 +1,7 @@
 -- The frames of a thread from one of them on.
 use Rattle.std.proofs.Common.{◌≡◌, ℕ, ◌+◌, ◌-◌, ◌<◌, List, ◌∷◌, ◌++◌, length, drop, set, map, get_or, ap, ◌∙◌, arith, refl, sym}
 use Rattle.std.proofs.lemmas.List.{drop_more, set-append_right, set-append_left, get_or_default, get_or_append_left, get_or-append_right, length-set, length-append}
-use Rattle.ls_moves.specs.Frames.{Kept, no_frame}
+use Rattle.ls_machine_moves.specs.Frames.{Kept, no_frame}
 
 pub frames_split : (ks : List Kept) (i : ℕ) → i < length ks → map (λ k. k.frame) (drop i ks) ≡ (get_or ks i no_frame).frame ∷ map (λ k. k.frame) (drop (i + 1) ks)
 frames_split ks i h = ap (map (λ (k : Kept). k.frame)) (drop_more ks i no_frame h)

@@ -7,7 +7,7 @@ use Rattle.ls_code.specs.Machine.{started}
 use Rattle.ls_code.specs.declared.code.Method.{Method}
 use Rattle.ls_code.specs.declared.code.CallResult.{CallResult}
 use Rattle.ls_code.specs.declared.step.Mode.TheVariants.{Ended}
-use Rattle.ls_moves.specs.Frames.{Kept, no_frame}
+use Rattle.ls_machine_moves.specs.Frames.{Kept, no_frame}
 
 -- a thread with the memory that each of its frames has
 pub record KeptThread : Type 0 where

@@ -3,10 +3,10 @@ use Rattle.std.specs.Prelude.{◌≡◌}
 use Rattle.ls_code.specs.Moves.{FrameMove, Next, Throws, Stuck}
 use Rattle.ls_code.specs.Thread.{Thread, with_top}
 use Rattle.ls_code.specs.Calls.{CallMove, Calls, CallThrows, CallStuck}
-use Rattle.ls_moves.specs.Flows.{frame_after}
+use Rattle.ls_machine_moves.specs.Flows.{frame_after}
 use Rattle.ls_machine.specs.Memory.{KeptThread, keeping_thread}
-use Rattle.ls_moves.specs.declared.flow.Quick.{Quick}
-use Rattle.ls_moves.specs.declared.flow.Quick.TheVariants as quick
+use Rattle.ls_machine_moves.specs.declared.flow.Quick.{Quick}
+use Rattle.ls_machine_moves.specs.declared.flow.Quick.TheVariants as quick
 use Rattle.ls_code.specs.declared.instruction.Instruction.{Instruction}
 use Rattle.ls_code.specs.declared.instruction.Instruction.TheVariants as op
 use Rattle.ls_machine.specs.declared.flow.Acting.{Acting}

@@ -6,7 +6,7 @@ ghost use Rattle.ls_code.specs.Frame.{top_one, top_two};
 ghost use Rattle.ls_code.specs.Locks.{taken_of};
 ghost use Rattle.ls_code.specs.Steps.{seen_outcome, planned};
 ghost use Rattle.ls_machine.specs.Outcomes.{Came};
-ghost use Rattle.ls_moves.specs.Flows.{IsQuiet};
+ghost use Rattle.ls_machine_moves.specs.Flows.{IsQuiet};
 ghost use Rattle.ls_machine.specs.Takes.{IsUnseen, TakesEvents};
 
 use crate::thread::Thread;
@@ -16,9 +16,9 @@ use ls_code::lock_word::{Left, Taken};
 use ls_code::step::Did;
 use ls_events::action::{Action, Answer};
 use ls_events::kind::Kind;
-use ls_moves::cells::Cells;
-use ls_moves::flow::Reply;
-use ls_moves::lock_words::{is_own_word, lock_word, unlock_word};
+use ls_machine_moves::cells::Cells;
+use ls_machine_moves::flow::Reply;
+use ls_machine_moves::lock_words::{is_own_word, lock_word, unlock_word};
 
 /// An operation that fails is over, where the thread's throw is caught.
 fn fail(

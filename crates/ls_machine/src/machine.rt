@@ -17,8 +17,8 @@ use ls_events::action::Action;
 use ls_events::event::{Event, Happening};
 use ls_events::schedule::Schedule;
 use ls_events::value::Value;
-use ls_moves::cells::Cells;
-use ls_moves::words;
+use ls_machine_moves::cells::Cells;
+use ls_machine_moves::words;
 use std::alloc::{AllocError, Global};
 use std::marker::Model;
 

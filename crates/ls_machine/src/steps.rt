@@ -4,7 +4,7 @@ ghost use Rattle.std.specs.Prelude.{◌≡◌, ℕ, ◌+◌, ◌*◌, ◌<◌, �
 ghost use Rattle.ls_code.specs.Cells.{effect};
 ghost use Rattle.ls_code.specs.Moves.{frame_move};
 ghost use Rattle.ls_code.specs.Steps.{answered, settled, performed, thread_move, wide_move, enters_move, throw_move, leaves_with_move, throws_move, begin_move, gives_move, result_move, trap_move, of_frame};
-ghost use Rattle.ls_moves.specs.Flows.{CanResume, IsQuiet, is_silent};
+ghost use Rattle.ls_machine_moves.specs.Flows.{CanResume, IsQuiet, is_silent};
 ghost use Rattle.ls_machine.specs.Memory.{MethodsFit, events_left};
 ghost use Rattle.ls_machine.specs.Outcomes.{Came, IsSilentMove};
 ghost use Rattle.ls_machine.specs.Takes.{IsUnseen, TakesEvents};
@@ -18,9 +18,9 @@ use ls_code::instruction::{Instruction, Resume, ThreadInstruction};
 use ls_code::step::Did;
 use ls_events::action::{Action, Answer};
 use ls_events::kind::Kind;
-use ls_moves::cells::Cells;
-use ls_moves::flow::{Flow, Quick, Reply};
-use ls_moves::words;
+use ls_machine_moves::cells::Cells;
+use ls_machine_moves::flow::{Flow, Quick, Reply};
+use ls_machine_moves::words;
 
 /// The innermost frame asks the cells, and goes on with their answer.
 #[inline]

@@ -6,9 +6,9 @@ ghost use Rattle.ls_code.specs.Frame.{top_one, top_two};
 ghost use Rattle.ls_code.specs.Throws.{thrown, onto, caught, find_row as row_at};
 ghost use Rattle.ls_code.specs.Calls.{left_frame, left_with, halted, call_begun, call_ended, call_trapped, with_callee, enter_move, entered, calling};
 ghost use Rattle.ls_events.specs.declared.kind.Kind.{Kind};
-ghost use Rattle.ls_moves.specs.Frames.{keeping, no_frame};
+ghost use Rattle.ls_machine_moves.specs.Frames.{keeping, no_frame};
 ghost use Rattle.ls_machine.specs.Memory.{keeping_thread, HaveRooms, started_kept};
-ghost use Rattle.ls_moves.specs.Flows.{IsFlow, IsReady, CanResume, LeavesOthers, is_silent};
+ghost use Rattle.ls_machine_moves.specs.Flows.{IsFlow, IsReady, CanResume, LeavesOthers, is_silent};
 ghost use Rattle.ls_machine.specs.Back.{back_at};
 ghost use Rattle.ls_machine.specs.Threads.{IsQuickThread, thread_after, call_flow};
 
@@ -17,9 +17,9 @@ use ls_code::code::{CallResult, HandlerRow, Method, Start};
 use ls_code::instruction::{Instruction, Resume};
 use ls_code::step::Mode;
 use ls_events::kind::Kind;
-use ls_moves::flow::{Flow, Quick};
-use ls_moves::frame::Frame;
-use ls_moves::{acting, silent};
+use ls_machine_moves::flow::{Flow, Quick};
+use ls_machine_moves::frame::Frame;
+use ls_machine_moves::{acting, silent};
 use std::alloc::{AllocError, Global};
 use std::marker::Model;
 
@@ -42,7 +42,7 @@ pub struct Thread {
 impl Model for Thread {
     ghost use Rattle.std.specs.Prelude.{◌≡◌, ℕ, ◌+◌, ◌<◌, length, drop, map, slice_index_or};
     ghost use Rattle.std.specs.List.{All};
-    ghost use Rattle.ls_moves.specs.Frames.{no_frame};
+    ghost use Rattle.ls_machine_moves.specs.Frames.{no_frame};
     ghost use Rattle.ls_machine.specs.Memory.{KeptThread, IsThread, AreCalls};
 
     ghost Value = { KeptThread };

@@ -7,19 +7,19 @@ use Rattle.ls_lexer.specs.Tokens.{tokens_of}
 use Rattle.ls_lexer.specs.Places.{InOrder}
 use Rattle.ls_tree.specs.Trees.{Dotted, Import}
 use Rattle.ls_tree.specs.PlacedTrees.{ClassTree, File}
-use Rattle.ls_spelling.specs.Spelling.{spell_import, spell_package}
-use Rattle.ls_spelling.specs.Places.{Spot, spots, forgotten}
-use Rattle.ls_spelling.specs.StatementPlaces.{ManyAt}
-use Rattle.ls_spelling.specs.FilePlaces.{ClassAt, FileAt, file_at, StandIn, PlacedIn}
-use Rattle.ls_spelling.specs.Spells.{TextSpells}
+use Rattle.ls_parser_spelling.specs.Spelling.{spell_import, spell_package}
+use Rattle.ls_parser_spelling.specs.Places.{Spot, spots, forgotten}
+use Rattle.ls_parser_spelling.specs.StatementPlaces.{ManyAt}
+use Rattle.ls_parser_spelling.specs.FilePlaces.{ClassAt, FileAt, file_at, StandIn, PlacedIn}
+use Rattle.ls_parser_spelling.specs.Spells.{TextSpells}
 use Rattle.ls_tree.specs.FileView.{bare_file}
 use Rattle.ls_tree.specs.PlacedStatements.{placed_file}
 use Rattle.ls_tree.specs.declared.tree.ClassFile.{ClassFile}
-use Rattle.ls_placing.specs.Files.{IsFileOf}
-use Rattle.ls_placing.proofs.Views.{is_file_of}
-use Rattle.ls_terms.specs.Reading.{many_at}
-use Rattle.ls_terms.proofs.Lists.{many_sound, onto_all_spells}
-use Rattle.ls_statements.proofs.StatementsRead.{Anything}
+use Rattle.ls_parser_placing.specs.Files.{IsFileOf}
+use Rattle.ls_parser_placing.proofs.Views.{is_file_of}
+use Rattle.ls_parser_expressions.specs.Reading.{many_at}
+use Rattle.ls_parser_expressions.proofs.Lists.{many_sound, onto_all_spells}
+use Rattle.ls_parser_statements.proofs.StatementsRead.{Anything}
 use Rattle.ls_parser.specs.ReadingClasses.{header_at, import_at, starts_import}
 use Rattle.ls_parser.specs.Leaves.{Leaves}
 use Rattle.ls_parser.proofs.OntoClasses.{onto_import}

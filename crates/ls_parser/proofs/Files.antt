@@ -4,15 +4,15 @@ use Rattle.ls_lexer.specs.declared.fault.TextFault.{TextFault}
 use Rattle.ls_lexer.specs.Lexemes.{Lexeme}
 use Rattle.ls_lexer.specs.Tokens.{tokens_of}
 use Rattle.ls_tree.specs.Trees.{File}
-use Rattle.ls_spelling.specs.Spelling.{spell}
+use Rattle.ls_parser_spelling.specs.Spelling.{spell}
 use Rattle.ls_tree.specs.WellFormed.{WellFormedFile}
-use Rattle.ls_spelling.specs.Spells.{Spells, TextSpells}
-use Rattle.ls_terms.specs.Answers.{Refuses, RefusesTokens, MayCome, Fails}
+use Rattle.ls_parser_spelling.specs.Spells.{Spells, TextSpells}
+use Rattle.ls_parser_expressions.specs.Answers.{Refuses, RefusesTokens, MayCome, Fails}
 use Rattle.ls_lexer.specs.Places.{Refused, text_limit}
 use Rattle.ls_lexer.specs.declared.fault.TextFault.TheVariants as faults
 use Rattle.ls_parser.specs.ReadingClasses.{file_at}
 use Rattle.std.proofs.lemmas.Bool.{cases_lt}
-use Rattle.ls_terms.proofs.Repeats.{some_is, means_map}
+use Rattle.ls_parser_expressions.proofs.Repeats.{some_is, means_map}
 use Rattle.ls_parser.proofs.Spelled.{file_spells}
 use Rattle.ls_parser.proofs.ClassesRead.{file_sound}
 use Rattle.ls_parser.proofs.ClassesAgain.{file_complete}

@@ -4,8 +4,8 @@ use Rattle.ls_lexer.specs.declared.token.Span.{Span}
 use Rattle.ls_lexer.specs.declared.token.Token.{Token}
 use Rattle.ls_lexer.specs.declared.sign.Sign.{Sign}
 use Rattle.ls_lexer.specs.Lexemes.{Lexeme, lexeme_of, lexemes}
-use Rattle.ls_spelling.specs.Places.{Spot, spot, spots, forgotten, sign}
-use Rattle.ls_spelling.specs.StatementPlaces.{Anywhere, nothing_more, one_token}
+use Rattle.ls_parser_spelling.specs.Places.{Spot, spot, spots, forgotten, sign}
+use Rattle.ls_parser_spelling.specs.StatementPlaces.{Anywhere, nothing_more, one_token}
 use Rattle.ls_parser.specs.Leaves.{Leaves, all_left, one_less}
 
 pub all_kept : {ss : List Spot} → Leaves ss ss

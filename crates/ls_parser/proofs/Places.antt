@@ -13,11 +13,11 @@ use Rattle.ls_tree.specs.Trees as bare
 use Rattle.ls_tree.specs.PlacedTrees as trees
 use Rattle.ls_tree.specs.PlacedTrees.{TypeName, Declaration, Items}
 use Rattle.ls_tree.specs.PlacedStatements.{placed_parameter, placed_member, placed_class}
-use Rattle.ls_spelling.specs.Places.{Spot, spots, sign, named}
-use Rattle.ls_spelling.specs.StatementPlaces.{word, ManyAt, none_left, BehindComma, behind_comma_at, ModifierAt, TypeAt, DeclarationAt, BlockAt}
-use Rattle.ls_spelling.specs.FilePlaces.{ParameterAt, parameter_at, SomeParametersAt, some_parameters_at, ParametersAt, no_parameter_at, parameters_at, CallableAt, callable_at, ResultAt, void_at, result_at, MemberAt, fields_at, method_at, constructor_at, BodyAt, body_at, ClassAt, class_at}
-use Rattle.ls_terms.proofs.Rows.{map_push}
-use Rattle.ls_statements.proofs.Places.{many_push, many_pushed, many_none}
+use Rattle.ls_parser_spelling.specs.Places.{Spot, spots, sign, named}
+use Rattle.ls_parser_spelling.specs.StatementPlaces.{word, ManyAt, none_left, BehindComma, behind_comma_at, ModifierAt, TypeAt, DeclarationAt, BlockAt}
+use Rattle.ls_parser_spelling.specs.FilePlaces.{ParameterAt, parameter_at, SomeParametersAt, some_parameters_at, ParametersAt, no_parameter_at, parameters_at, CallableAt, callable_at, ResultAt, void_at, result_at, MemberAt, fields_at, method_at, constructor_at, BodyAt, body_at, ClassAt, class_at}
+use Rattle.ls_parser_expressions.proofs.Rows.{map_push}
+use Rattle.ls_parser_statements.proofs.Places.{many_push, many_pushed, many_none}
 use Rattle.ls_parser.specs.ReadingClasses.{is_left}
 
 -- ---- parameters

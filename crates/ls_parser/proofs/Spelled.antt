@@ -6,10 +6,10 @@ use Rattle.ls_lexer.specs.declared.sign.Sign.TheVariants as signs
 use Rattle.ls_lexer.specs.declared.word.Word.TheVariants as words
 use Rattle.ls_lexer.specs.Lexemes.{Lexeme, Named, Reserved, Marked}
 use Rattle.ls_tree.specs.Trees.{Text, Expression, Modifier, Public, Protected, Private, Final, Volatile, Annotation, TypeName, Int, Boolean, BooleanArray, Class, Markable, Declarator, Declaration, Statement, Block, Empty, If, IfElse, While, Break, Continue, Return, Try, Assign, Evaluate, Items, NoItem, Do, Declare, Parameter, Member, Fields, Method, Constructor, ClassTree, Dotted, Import, File}
-use Rattle.ls_spelling.specs.Spelling.{spell_expression, spell_modifier, spell_type, spell_initial, spell_declarator, spell_declaration, spell_label, spell_label_before, spell_value, spell_statement, spell_items, in_parens, in_braces, spell_parameter, spell_parameters, spell_result, spell_member, spell_class, spell_dotted, spell_all, spell_import, spell_package, spell}
-use Rattle.ls_terms.proofs.Onto.{onto, onto_spells}
-use Rattle.ls_terms.proofs.Lists.{onto_all, onto_all_spells}
-use Rattle.ls_statements.proofs.OntoStatements.{onto_modifier, onto_type, onto_initial, onto_declarator, onto_next_declarator, onto_declaration, onto_label, onto_label_before, onto_value, onto_condition, onto_statement, onto_items, onto_block}
+use Rattle.ls_parser_spelling.specs.Spelling.{spell_expression, spell_modifier, spell_type, spell_initial, spell_declarator, spell_declaration, spell_label, spell_label_before, spell_value, spell_statement, spell_items, in_parens, in_braces, spell_parameter, spell_parameters, spell_result, spell_member, spell_class, spell_dotted, spell_all, spell_import, spell_package, spell}
+use Rattle.ls_parser_expressions.proofs.Onto.{onto, onto_spells}
+use Rattle.ls_parser_expressions.proofs.Lists.{onto_all, onto_all_spells}
+use Rattle.ls_parser_statements.proofs.OntoStatements.{onto_modifier, onto_type, onto_initial, onto_declarator, onto_next_declarator, onto_declaration, onto_label, onto_label_before, onto_value, onto_condition, onto_statement, onto_items, onto_block}
 use Rattle.ls_parser.proofs.OntoClasses.{onto_parameter, onto_next_parameter, onto_group, onto_parameters, onto_result, onto_member, onto_class_tree, onto_part, onto_dotted, onto_star, onto_import, onto_header, onto_file}
 
 modifier_spells : (m : Modifier) (rest : List Lexeme) → onto_modifier m rest ≡ spell_modifier m ++ rest

@@ -1,9 +1,9 @@
 -- The laws of the grammar.
 use Rattle.std.specs.Prelude.{◌≡◌, ℕ, List}
 use Rattle.ls_tree.specs.Trees.{File}
-use Rattle.ls_spelling.specs.Spelling.{spell}
+use Rattle.ls_parser_spelling.specs.Spelling.{spell}
 use Rattle.ls_tree.specs.WellFormed.{WellFormedFile}
-use Rattle.ls_spelling.specs.Spells.{TextSpells}
+use Rattle.ls_parser_spelling.specs.Spells.{TextSpells}
 
 -- no list of tokens spells two files
 abbrev pub OneTree : Type 0

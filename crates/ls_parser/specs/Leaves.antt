@@ -1,6 +1,6 @@
 -- Tokens that begin others.
 use Rattle.std.specs.Prelude.{List, ◌∷◌}
-use Rattle.ls_spelling.specs.Places.{Spot}
+use Rattle.ls_parser_spelling.specs.Places.{Spot}
 
 -- behind some tokens the rest is left
 pub data Leaves : List Spot → List Spot → Type 0 where

@@ -2,10 +2,10 @@ pub mod ReadingClasses
 pub mod Laws
 pub mod Comes
 pub mod Leaves
-pub use Rattle.ls_spelling.specs.Spelling
-pub use Rattle.ls_spelling.specs.Spells
-pub use Rattle.ls_spelling.specs.Kinds
-pub use Rattle.ls_terms.specs.Answers
-pub use Rattle.ls_terms.specs.Reading
-pub use Rattle.ls_terms.specs.ReadingExpressions
-pub use Rattle.ls_statements.specs.ReadingStatements
+pub use Rattle.ls_parser_spelling.specs.Spelling
+pub use Rattle.ls_parser_spelling.specs.Spells
+pub use Rattle.ls_parser_spelling.specs.Kinds
+pub use Rattle.ls_parser_expressions.specs.Answers
+pub use Rattle.ls_parser_expressions.specs.Reading
+pub use Rattle.ls_parser_expressions.specs.ReadingExpressions
+pub use Rattle.ls_parser_statements.specs.ReadingStatements

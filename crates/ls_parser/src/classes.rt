@@ -7,23 +7,23 @@ ghost use Rattle.ls_tree.specs.Views.{name_text, bare_modifier, bare_type, bare_
 ghost use Rattle.ls_tree.specs.Trees as trees;
 ghost use Rattle.ls_tree.specs.Placed.{placed_name};
 ghost use Rattle.ls_tree.specs.PlacedStatements.{placed_type, placed_items, placed_parameter, placed_member, placed_class};
-ghost use Rattle.ls_spelling.specs.Places.{Spot, sign, spots};
-ghost use Rattle.ls_spelling.specs.StatementPlaces.{ManyAt, ModifierAt, TypeAt};
-ghost use Rattle.ls_spelling.specs.FilePlaces.{ParameterAt, SomeParametersAt, ParametersAt, CallableAt, ResultAt, MemberAt, BodyAt, ClassAt};
-ghost use Rattle.ls_terms.specs.Answers.{Gives, Finds};
-ghost use Rattle.ls_terms.specs.Reading.{one_more, behind_comma, many_at, not_yet, group_at};
+ghost use Rattle.ls_parser_spelling.specs.Places.{Spot, sign, spots};
+ghost use Rattle.ls_parser_spelling.specs.StatementPlaces.{ManyAt, ModifierAt, TypeAt};
+ghost use Rattle.ls_parser_spelling.specs.FilePlaces.{ParameterAt, SomeParametersAt, ParametersAt, CallableAt, ResultAt, MemberAt, BodyAt, ClassAt};
+ghost use Rattle.ls_parser_expressions.specs.Answers.{Gives, Finds};
+ghost use Rattle.ls_parser_expressions.specs.Reading.{one_more, behind_comma, many_at, not_yet, group_at};
 ghost use Rattle.ls_parser.specs.ReadingClasses.{parameter_at, parameters_at, starts_call, callable_at, constructor_at, method_at, typed_at, unmodified_at, member_at, class_body_at, class_at, is_left};
 
 use ls_lexer::fault::TextFault;
 use ls_lexer::sign::Sign;
 use ls_lexer::token::{Span, Token};
 use ls_lexer::word::Word;
-use ls_statements::declarations::{declarators, modifiers, type_name};
-use ls_statements::statements::block;
-use ls_terms::tokens::{
+use ls_parser_expressions::tokens::{
     Context, Read, closed, expect, expect_word, name, name_part, push, sign_part, starts_with,
     word_part,
 };
+use ls_parser_statements::declarations::{declarators, modifiers, type_name};
+use ls_parser_statements::statements::block;
 use ls_tree::tree::{Block, Class, Constructor, Member, Method, Modifier, Name, Parameter, Type};
 
 /// The greatest height of a body or of a field's initialiser.
@@ -53,7 +53,7 @@ fn parameter<'t, 'a>(
 }
 
 // What stands behind an opening parenthesis.
-#[tactic(auto, using(ls_terms::proofs::Repeats::group_none, ls_terms::proofs::Repeats::group_begins, ls_terms::proofs::Repeats::group_ends, ls_terms::proofs::Repeats::group_goes_on, crate::proofs::Places::no_parameter, crate::proofs::Places::first_parameter, crate::proofs::Places::group_is))]
+#[tactic(auto, using(ls_parser_expressions::proofs::Repeats::group_none, ls_parser_expressions::proofs::Repeats::group_begins, ls_parser_expressions::proofs::Repeats::group_ends, ls_parser_expressions::proofs::Repeats::group_goes_on, crate::proofs::Places::no_parameter, crate::proofs::Places::first_parameter, crate::proofs::Places::group_is))]
 fn parameter_group<'t, 'a>(
     context: Context,
     tokens: &'t [Token<'a>],
@@ -82,7 +82,7 @@ fn parameter_group<'t, 'a>(
     })
 }
 
-#[tactic(auto, using(ls_terms::proofs::Rows::map_push, crate::proofs::Places::parameter_pushed))]
+#[tactic(auto, using(ls_parser_expressions::proofs::Rows::map_push, crate::proofs::Places::parameter_pushed))]
 fn one_parameter<'t, 'a>(
     context: Context,
     before: Read<'t, 'a, Vec<Parameter>>,
@@ -255,7 +255,7 @@ fn members<'t, 'a>(
     Ok(all)
 }
 
-#[tactic(auto, using(ls_terms::proofs::Rows::map_push, crate::proofs::Places::members_pushed))]
+#[tactic(auto, using(ls_parser_expressions::proofs::Rows::map_push, crate::proofs::Places::members_pushed))]
 fn one_member<'t, 'a>(
     context: Context,
     before: Read<'t, 'a, Vec<Member>>,
@@ -334,7 +334,7 @@ pub fn classes<'t, 'a>(
     Ok(all)
 }
 
-#[tactic(auto, using(ls_terms::proofs::Rows::map_push, crate::proofs::Places::classes_pushed))]
+#[tactic(auto, using(ls_parser_expressions::proofs::Rows::map_push, crate::proofs::Places::classes_pushed))]
 fn one_class<'t, 'a>(
     context: Context,
     before: Read<'t, 'a, Vec<Class>>,

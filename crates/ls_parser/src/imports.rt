@@ -4,17 +4,17 @@ ghost use Rattle.std.specs.Prelude.{◌≡◌, ◌++◌, ◌∷◌, [], IfOk, If
 ghost use Rattle.ls_lexer.specs.Lexemes.{lexemes};
 ghost use Rattle.ls_lexer.specs.declared.sign.Sign.TheVariants as signs;
 ghost use Rattle.ls_tree.specs.Views.{name_text, bare_dotted, bare_import};
-ghost use Rattle.ls_spelling.specs.Places.{spots};
+ghost use Rattle.ls_parser_spelling.specs.Places.{spots};
 ghost use Rattle.ls_parser.specs.Leaves.{Leaves};
-ghost use Rattle.ls_terms.specs.Answers.{Gives, Finds};
-ghost use Rattle.ls_terms.specs.Reading.{after_sign, one_more, many_at, not_yet};
+ghost use Rattle.ls_parser_expressions.specs.Answers.{Gives, Finds};
+ghost use Rattle.ls_parser_expressions.specs.Reading.{after_sign, one_more, many_at, not_yet};
 ghost use Rattle.ls_parser.specs.ReadingClasses.{part_at, dotted_at, after_star, more_path, import_of, import_at, package_at, header_at, starts_import};
 
 use ls_lexer::fault::TextFault;
 use ls_lexer::sign::Sign;
 use ls_lexer::token::Token;
 use ls_lexer::word::Word;
-use ls_terms::tokens::{
+use ls_parser_expressions::tokens::{
     Context, Read, closed, expect, expect_word, name, push, sign_part, starts_with, word_part,
 };
 use ls_tree::tree::{Dotted, Import, Name};
@@ -57,7 +57,7 @@ fn import_parts<'t, 'a>(
     Ok(all)
 }
 
-#[tactic(auto, using(ls_terms::proofs::Rows::map_push, crate::proofs::Leaving::two_taken))]
+#[tactic(auto, using(ls_parser_expressions::proofs::Rows::map_push, crate::proofs::Leaving::two_taken))]
 fn one_part<'t, 'a>(
     context: Context,
     before: Read<'t, 'a, Vec<Name>>,
@@ -169,7 +169,7 @@ pub fn imports<'t, 'a>(
     Ok(all)
 }
 
-#[tactic(auto, using(ls_terms::proofs::Rows::map_push))]
+#[tactic(auto, using(ls_parser_expressions::proofs::Rows::map_push))]
 fn one_import<'t, 'a>(
     context: Context,
     before: Read<'t, 'a, Vec<Import>>,

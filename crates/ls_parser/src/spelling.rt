@@ -1,3 +1,3 @@
 //! The tokens that spell a tree.
 
-pub use ls_spelling::spelling::spell;
+pub use ls_parser_spelling::spelling::spell;

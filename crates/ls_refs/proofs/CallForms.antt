@@ -20,8 +20,8 @@ use Rattle.ls_lowered.specs.LoweredTree as trees
 use Rattle.ls_lowered.specs.Course as low
 use Rattle.ls_lowered.specs.Expressions.{find, flag_word}
 use Rattle.ls_refs.specs.ValueWords.{value_word}
-use Rattle.ls_typing.specs.Sorts.{HasType, HasSort}
-use Rattle.ls_typing.specs.Typing.{answer_sort, parameters_of}
+use Rattle.ls_types_judgement.specs.Sorts.{HasType, HasSort}
+use Rattle.ls_types_judgement.specs.Typing.{answer_sort, parameters_of}
 use Rattle.ls_refs.specs.Temporaries.{temporaries}
 use Rattle.ls_refs.specs.Lowered.{lowered, pack}
 use Rattle.ls_refs.proofs.Values.{reference_word, truth_word, packed, half_word, odd_word, pair_has}

@@ -8,7 +8,7 @@ use Rattle.ls_checked.specs.CheckedTree.{File, Method, Evaluate, MakeObject, End
 use Rattle.ls_meaning.specs.declared.sort.Sort.TheVariants.{ValueOf}
 use Rattle.ls_lowered.specs.Course as low
 use Rattle.ls_lowered.specs.Methods.{invoke}
-use Rattle.ls_typing.specs.Typing.{IsTypedMethod, IsTypedFile}
+use Rattle.ls_types_judgement.specs.Typing.{IsTypedMethod, IsTypedFile}
 use Rattle.ls_refs.specs.Lowered.{lowered_file}
 
 -- class C { C() { new C(); } }

@@ -20,8 +20,8 @@ use Rattle.ls_lowered.specs.Statements as does
 use Rattle.ls_lowered.specs.Methods as courses
 use Rattle.ls_lowered.specs.Methods.{invoke as word_invoke}
 use Rattle.ls_refs.specs.ValueWords.{value_word, IsSmall}
-use Rattle.ls_typing.specs.Sorts.{HasType, HasSort, HaveTypes}
-use Rattle.ls_typing.specs.Typing.{IsTypedMethod, IsTypedFile, answer_sort, parameters_of}
+use Rattle.ls_types_judgement.specs.Sorts.{HasType, HasSort, HaveTypes}
+use Rattle.ls_types_judgement.specs.Typing.{IsTypedMethod, IsTypedFile, answer_sort, parameters_of}
 use Rattle.ls_refs.specs.Temporaries.{statement_temporaries}
 use Rattle.ls_refs.specs.Lowered.{lowered_statement, lowered_method, lowered_file}
 use Rattle.ls_refs.specs.Laws.{AsksAsFile, answer_words, in_words, Suited}

@@ -19,8 +19,8 @@ use Rattle.ls_lowered.specs.Words as words
 use Rattle.ls_lowered.specs.Course as low
 use Rattle.ls_lowered.specs.Expressions as courses
 use Rattle.ls_refs.specs.ValueWords.{value_word}
-use Rattle.ls_typing.specs.Sorts.{HasType, HasSort}
-use Rattle.ls_typing.specs.Typing.{result_type, IsOperand}
+use Rattle.ls_types_judgement.specs.Sorts.{HasType, HasSort}
+use Rattle.ls_types_judgement.specs.Typing.{result_type, IsOperand}
 use Rattle.ls_refs.specs.Lowered.{lowered_operator}
 use Rattle.ls_refs.proofs.Numbers.{sum_is, difference_is, product_is, quotient_is, remainder_is, negative_is, less_is, at_most_is, zero_is, div_fits}
 use Rattle.ls_refs.proofs.Values.{int_word, int_fits, truth_word, same_values}

@@ -4,7 +4,7 @@ use Rattle.std.specs.Prelude.{slice_index_or}
 use Rattle.std.proofs.lemmas.Option.{slice_get-get_or}
 use Rattle.ls_checked.specs.CheckedTree.{Method, File}
 use Rattle.ls_refs.specs.Refused.{AllSlotted}
-use Rattle.ls_typing.specs.Typing.{IsTypedMethod, IsTypedFile}
+use Rattle.ls_types_judgement.specs.Typing.{IsTypedMethod, IsTypedFile}
 
 in_slots : (file : File) (m : Method) → IsTypedMethod file m → m.parameters < length m.slots
 in_slots file m h = let e = ap length h.this in let p = h.parameters in omega (arith, e, p)

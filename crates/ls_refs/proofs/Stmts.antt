@@ -25,8 +25,8 @@ use Rattle.ls_lowered.specs.Expressions.{find}
 use Rattle.ls_lowered.specs.Statements as does
 use Rattle.ls_lowered.specs.Methods.{told}
 use Rattle.ls_refs.specs.ValueWords.{value_word}
-use Rattle.ls_typing.specs.Sorts.{HasType, HasSort}
-use Rattle.ls_typing.specs.Typing.{IsTyped, IsTypedStatement, AreTypedStatements}
+use Rattle.ls_types_judgement.specs.Sorts.{HasType, HasSort}
+use Rattle.ls_types_judgement.specs.Typing.{IsTyped, IsTypedStatement, AreTypedStatements}
 use Rattle.ls_refs.specs.Temporaries.{temporaries, statement_temporaries, block_temporaries}
 use Rattle.ls_refs.specs.Lowered.{lowered, lowered_statement, lowered_block}
 use Rattle.ls_refs.specs.Laws.{answer_word, answer_words, in_words, Suited}

@@ -14,8 +14,8 @@ use Rattle.ls_meaning.specs.Methods.{invoke}
 use Rattle.ls_lowered.specs.Course as lowered
 use Rattle.ls_lowered.specs.Methods as courses
 use Rattle.ls_refs.specs.ValueWords.{value_word, IsSmall}
-use Rattle.ls_typing.specs.Sorts.{HasSort, HaveTypes}
-use Rattle.ls_typing.specs.Typing.{parameters_of}
+use Rattle.ls_types_judgement.specs.Sorts.{HasSort, HaveTypes}
+use Rattle.ls_types_judgement.specs.Typing.{parameters_of}
 use Rattle.ls_refs.specs.Lowered.{lowered_file}
 
 -- an action and an answer in words; objects keep their names

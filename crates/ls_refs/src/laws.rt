@@ -1,7 +1,7 @@
 // The law of the lowering, over pure trees.
 
 ghost use Rattle.ls_checked.specs.CheckedTree.{File as CheckedFile};
-ghost use Rattle.ls_typing.specs.Typing.{IsTypedFile};
+ghost use Rattle.ls_types_judgement.specs.Typing.{IsTypedFile};
 ghost use Rattle.ls_refs.specs.Laws.{AsksAsFile};
 ghost use Rattle.ls_refs.specs.Refused.{AllSlotted};
 

@@ -17,8 +17,8 @@ use Rattle.ls_meaning.specs.declared.sort.Sort.TheVariants.{NoValue, ValueOf, Ne
 use Rattle.ls_meaning.specs.Values.{int_of, truth_of, reference_of, mark_of, pair_of, operated, divides_by_zero}
 use Rattle.ls_meaning.specs.Course.{Answers, Evaluated, Results, Throws, ask}
 use Rattle.ls_meaning.specs.Expressions.{Calls, operate, value_in, field_in, field_of, call, argument}
-use Rattle.ls_typing.specs.Sorts.{HasType, HasSort, HaveTypes}
-use Rattle.ls_typing.specs.Typing.{result_type}
+use Rattle.ls_types_judgement.specs.Sorts.{HasType, HasSort, HaveTypes}
+use Rattle.ls_types_judgement.specs.Typing.{result_type}
 use Rattle.ls_headline.specs.Sorts.{fields_by, fields_of}
 use Rattle.ls_soundness.proofs.Values.{div_fits, reference_has, pair_reference, value_at}
 use Rattle.ls_soundness.proofs.Ways.{Way, Good, results_good, throws_good, then_good, weaken, ask_good, either_good, null_good}

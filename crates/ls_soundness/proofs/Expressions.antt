@@ -15,8 +15,8 @@ use Rattle.ls_meaning.specs.declared.sort.Sort.{Sort}
 use Rattle.ls_meaning.specs.declared.sort.Sort.TheVariants.{NoValue, ValueOf, NewOf}
 use Rattle.ls_meaning.specs.Values.{int_of, truth_of, reference_of, wrapped, nothing}
 use Rattle.ls_meaning.specs.Expressions.{Calls, call, evaluate, arguments, constructor_of}
-use Rattle.ls_typing.specs.Sorts.{HasType, HasSort, HaveTypes}
-use Rattle.ls_typing.specs.Typing.{IsTyped, AreTyped, result_type, answer_sort, parameters_of}
+use Rattle.ls_types_judgement.specs.Sorts.{HasType, HasSort, HaveTypes}
+use Rattle.ls_types_judgement.specs.Typing.{IsTyped, AreTyped, result_type, answer_sort, parameters_of}
 use Rattle.ls_soundness.proofs.Values.{reference_has, literal_sort}
 use Rattle.ls_soundness.proofs.Ways.{Way, Good, results_good, then_good, weaken, ask_good, either_good, null_good, resort}
 use Rattle.ls_soundness.proofs.Calls.{operate_good, array_good, field_good, lock_good, unlock_good, try_good, held_good, reference_good, marked_good, both_good, set_good, swap_good, attempt_good, markable_good}

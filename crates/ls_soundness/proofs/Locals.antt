@@ -7,7 +7,7 @@ use Rattle.ls_events.specs.declared.value.Value.{Value}
 use Rattle.ls_events.specs.declared.value.ValueType.{ValueType}
 use Rattle.ls_meaning.specs.Values.{start_of, nothing}
 use Rattle.ls_meaning.specs.Methods.{frame}
-use Rattle.ls_typing.specs.Sorts.{HasType, HaveTypes}
+use Rattle.ls_types_judgement.specs.Sorts.{HasType, HaveTypes}
 use Rattle.ls_soundness.proofs.Values.{start_has}
 
 pub record Locals (P : ℕ → ValueType → Type 0) (slots : List ValueType) (ls : List Value) : Type 0 where

@@ -16,8 +16,8 @@ use Rattle.ls_meaning.specs.Course.{Answers}
 use Rattle.ls_meaning.specs.Expressions.{Calls}
 use Rattle.ls_meaning.specs.Statements.{Executed, AsksFor, Completes, execute}
 use Rattle.ls_meaning.specs.Methods.{frame, answer_without, leave, run_body, invoke}
-use Rattle.ls_typing.specs.Sorts.{HasType, HasSort, HaveTypes}
-use Rattle.ls_typing.specs.Typing.{IsTypedMethod, IsTypedFile, answer_sort, parameters_of}
+use Rattle.ls_types_judgement.specs.Sorts.{HasType, HasSort, HaveTypes}
+use Rattle.ls_types_judgement.specs.Typing.{IsTypedMethod, IsTypedFile, answer_sort, parameters_of}
 use Rattle.ls_meaning.proofs.Shorter.{CallsWithin, invoke_within}
 use Rattle.ls_soundness.proofs.Values.{start_has}
 use Rattle.ls_soundness.proofs.Ways.{Way, ends, Sure, sure_same, Good, throws_good, then_good, tell_fits}

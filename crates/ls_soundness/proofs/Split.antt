@@ -15,8 +15,8 @@ use Rattle.ls_meaning.specs.declared.sort.Sort.{Sort}
 use Rattle.ls_meaning.specs.Course.{Answers, Evaluated, Asks, Results, Throws}
 use Rattle.ls_meaning.specs.Methods.{invoke}
 use Rattle.ls_meaning.specs.Threads.{Next, Goes}
-use Rattle.ls_typing.specs.Sorts.{HasType, HasSort, HaveTypes}
-use Rattle.ls_typing.specs.Typing.{IsTypedFile, answer_sort, parameters_of}
+use Rattle.ls_types_judgement.specs.Sorts.{HasType, HasSort, HaveTypes}
+use Rattle.ls_types_judgement.specs.Typing.{IsTypedFile, answer_sort, parameters_of}
 use Rattle.ls_refs.specs.Laws as refs
 use Rattle.ls_headline.specs.Sorts.{CanFail, Suits, Suited}
 use Rattle.ls_soundness.specs.InCall.{then_next}

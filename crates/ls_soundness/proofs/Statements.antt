@@ -16,8 +16,8 @@ use Rattle.ls_meaning.specs.Values.{int_of, truth_of, reference_of}
 use Rattle.ls_meaning.specs.Course.{Answers, Evaluated, Asks, Results, Throws}
 use Rattle.ls_meaning.specs.Expressions.{Calls, evaluate}
 use Rattle.ls_meaning.specs.Statements.{Executed, AsksFor, Completes, on_value, then_do, finally_do, turn_back, after_body, one_turn, turns, execute, execute_all}
-use Rattle.ls_typing.specs.Sorts.{HasType, HasSort}
-use Rattle.ls_typing.specs.Typing.{IsTyped, IsTypedStatement, AreTypedStatements}
+use Rattle.ls_types_judgement.specs.Sorts.{HasType, HasSort}
+use Rattle.ls_types_judgement.specs.Typing.{IsTyped, IsTypedStatement, AreTypedStatements}
 use Rattle.ls_meaning.proofs.Shorter.{CallsWithin, evaluate_within, execute_within, turns_eq}
 use Rattle.ls_soundness.proofs.Values.{reference_has}
 use Rattle.ls_soundness.proofs.Ways.{Way, ends, Sure, sure_same, Good, then_good, ask_good, null_good}

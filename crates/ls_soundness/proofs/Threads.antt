@@ -16,12 +16,12 @@ use Rattle.ls_meaning.specs.Course.{Answers, Evaluated, Asks, Results, Throws}
 use Rattle.ls_meaning.specs.Expressions.{constructor_of}
 use Rattle.ls_meaning.specs.Methods.{depth_limit}
 use Rattle.ls_meaning.specs.Threads.{Next, Goes, Ended, Trapped, result_by, result_in, result_of, class_in, named, one_call, event, after_call, all_calls, calls_in}
-use Rattle.ls_typing.specs.Sorts.{HasType, HasSort, HaveTypes}
-use Rattle.ls_typing.specs.Typing.{IsTypedFile, answer_sort}
+use Rattle.ls_types_judgement.specs.Sorts.{HasType, HasSort, HaveTypes}
+use Rattle.ls_types_judgement.specs.Typing.{IsTypedFile, answer_sort}
 use Rattle.ls_headline.specs.Sorts.{Refers, Names, NameHas, call_at, Returns, ActionHas, Suits, Suited}
 use Rattle.ls_headline.specs.Threads.{IsSound}
-use Rattle.ls_typing.specs.Classes.{HasItsClasses}
-use Rattle.ls_typing.specs.Programs.{IsArgument, AreArguments, IsPlainResult, IsTypedMaking, IsTypedCalling, IsTypedCall, IsTypedProgram}
+use Rattle.ls_types_judgement.specs.Classes.{HasItsClasses}
+use Rattle.ls_types_judgement.specs.Programs.{IsArgument, AreArguments, IsPlainResult, IsTypedMaking, IsTypedCalling, IsTypedCall, IsTypedProgram}
 use Rattle.ls_soundness.proofs.Ways.{HasAction, Way, ends, Sure, sure_same, Good, results_good, then_good, ask_fits, ask_good, tell_fits, null_good}
 use Rattle.ls_soundness.proofs.Methods.{calls_good}
 

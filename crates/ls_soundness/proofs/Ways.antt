@@ -17,7 +17,7 @@ use Rattle.ls_meaning.specs.declared.sort.Sort.TheVariants.{NoValue, ValueOf, Ne
 use Rattle.ls_meaning.specs.Values.{nothing}
 use Rattle.ls_meaning.specs.Course.{Answers, Evaluated, Asks, Results, Throws, ask, tell, with_value, unless_null}
 use Rattle.ls_meaning.specs.Threads.{Goes}
-use Rattle.ls_typing.specs.Sorts.{HasType, HasSort}
+use Rattle.ls_types_judgement.specs.Sorts.{HasType, HasSort}
 use Rattle.ls_headline.specs.Sorts.{HasSortBy, Suits, fields_of}
 use Rattle.ls_soundness.proofs.Values.{Makes, sort_of_answer}
 

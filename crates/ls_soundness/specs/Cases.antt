@@ -7,7 +7,7 @@ use Rattle.ls_events.specs.declared.value.Value.TheVariants.{Int, Boolean, Refer
 use Rattle.ls_events.specs.declared.value.ValueType.TheVariants as types
 use Rattle.ls_checked.specs.CheckedTree.{Literal, Evaluate}
 use Rattle.ls_checked.specs.CheckedProgram.{Program, ProgramCall, Making, Calling}
-use Rattle.ls_typing.specs.Programs.{AreArguments}
+use Rattle.ls_types_judgement.specs.Programs.{AreArguments}
 use Rattle.ls_meaning.specs.Constants.{UsesConstants}
 
 abbrev pub with_call : ProgramCall → Program

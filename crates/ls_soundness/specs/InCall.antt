@@ -17,12 +17,12 @@ use Rattle.ls_meaning.specs.Methods.{invoke, depth_limit}
 use Rattle.ls_meaning.specs.Threads.{Next, Goes, Trapped, result_of, event, after_call, all_calls}
 use Rattle.ls_lowered.specs.Methods as courses
 use Rattle.ls_refs.specs.ValueWords.{value_word, IsSmall}
-use Rattle.ls_typing.specs.Sorts.{HasType, HasSort, HaveTypes}
-use Rattle.ls_typing.specs.Typing.{answer_sort, parameters_of}
+use Rattle.ls_types_judgement.specs.Sorts.{HasType, HasSort, HaveTypes}
+use Rattle.ls_types_judgement.specs.Typing.{answer_sort, parameters_of}
 use Rattle.ls_refs.specs.Lowered.{lowered_file}
 use Rattle.ls_refs.specs.Laws.{answer_words, in_words}
 use Rattle.ls_headline.specs.Sorts.{Suited}
-use Rattle.ls_typing.specs.Programs.{IsTypedMaking, IsTypedCalling}
+use Rattle.ls_types_judgement.specs.Programs.{IsTypedMaking, IsTypedCalling}
 
 -- what a thread does next: what a call asks for, or what comes after its result or its exception
 abbrev pub then_next : Evaluated Value → (Value → Answers → Next) → (Kind → Answers → Next) → Next

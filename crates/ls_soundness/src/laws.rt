@@ -4,10 +4,10 @@ ghost use Rattle.ls_checked.specs.CheckedTree.{File};
 ghost use Rattle.ls_checked.specs.CheckedProgram.{Program};
 ghost use Rattle.ls_headline.specs.Threads.{IsSound};
 ghost use Rattle.ls_headline.specs.Example;
-ghost use Rattle.ls_typing.specs.Typing.{IsTypedFile};
-ghost use Rattle.ls_typing.specs.Classes.{HasItsClasses};
-ghost use Rattle.ls_typing.specs.WellTyped.{IsWellTyped, IsWellTypedProgram};
-ghost use Rattle.ls_typing.specs.Programs.{IsTypedProgram};
+ghost use Rattle.ls_types_judgement.specs.Typing.{IsTypedFile};
+ghost use Rattle.ls_types_judgement.specs.Classes.{HasItsClasses};
+ghost use Rattle.ls_types_judgement.specs.WellTyped.{IsWellTyped, IsWellTypedProgram};
+ghost use Rattle.ls_types_judgement.specs.Programs.{IsTypedProgram};
 ghost use Rattle.ls_soundness.specs.InCall.{SuitedInCall, SuitedInMaking, SuitedInCalling, NextInMaking, NextInCalling, NextOnNull};
 ghost use Rattle.ls_soundness.specs.Cases;
 

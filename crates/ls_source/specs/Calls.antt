@@ -16,8 +16,8 @@ use Rattle.ls_meaning.specs.Course.{Answers, Evaluated, Results, Throws, ask, te
 use Rattle.ls_meaning.specs.Expressions.{constructor_of}
 use Rattle.ls_meaning.specs.Methods.{invoke, depth_limit}
 use Rattle.ls_meaning.specs.Threads.{Next, Goes, Ended, Trapped, result_of, named, one_call, after_call, all_calls}
-use Rattle.ls_pending.specs.Pending.{State, Control, Invokes, Gives, Ends, Asks, Enters, Turns}
-use Rattle.ls_pending.specs.Machine.{OfValue, OfEnd, Rest, at, meaning, is_left, taken}
+use Rattle.ls_source_pending.specs.Pending.{State, Control, Invokes, Gives, Ends, Asks, Enters, Turns}
+use Rattle.ls_source_pending.specs.Machine.{OfValue, OfEnd, Rest, at, meaning, is_left, taken}
 
 -- what a body was entered for
 pub data Bottom : Type 0 where

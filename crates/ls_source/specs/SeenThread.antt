@@ -3,9 +3,9 @@ use Rattle.std.specs.Prelude.{◌∷◌, [], drop, map}
 use Rattle.ls_checked.specs.PlainProgram.{plain_call}
 use Rattle.ls_meaning.specs.Methods.{depth_limit}
 use Rattle.ls_meaning.specs.Threads.{Next, Goes, Ended, Trapped}
-use Rattle.ls_pending.specs.Pending.{State, Invokes}
-use Rattle.ls_pending.specs.Machine.{at}
-use Rattle.ls_pending.specs.SeenPending.{state_of}
+use Rattle.ls_source_pending.specs.Pending.{State, Invokes}
+use Rattle.ls_source_pending.specs.Machine.{at}
+use Rattle.ls_source_pending.specs.SeenPending.{state_of}
 use Rattle.ls_source.specs.Calls as calls
 use Rattle.ls_source.specs.declared.next.Next.{Next as Outcome}
 use Rattle.ls_source.specs.declared.next.Next.TheVariants.{Goes as DoesGo, Ended as HasEnded, Trapped as HasTrapped}

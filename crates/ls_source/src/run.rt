@@ -20,7 +20,7 @@ use ls_events::event::Event;
 use ls_events::value::Value;
 use ls_meaning::sort::Sort;
 use ls_meaning::step::{Asked, Did};
-use ls_pending::work::Control;
+use ls_source_pending::work::Control;
 use std::alloc::{AllocError, Global};
 
 /// A run of a program of a file: each thread with its pending work, up to its next question. The answers that it has had are
@@ -68,7 +68,7 @@ impl<'a> SourceRun<'a> {
     ghost use Rattle.ls_meaning.specs.Threads.{next};
     ghost use Rattle.ls_meaning.specs.Runs.{asked, has_ended, has_started, step, answers_of, performed};
     ghost use Rattle.ls_meaning.specs.Effect.{effect};
-    ghost use Rattle.ls_pending.specs.Seen.{control_of};
+    ghost use Rattle.ls_source_pending.specs.Seen.{control_of};
     ghost use Rattle.ls_source.specs.Calls.{asked_by};
     ghost use Rattle.ls_source.specs.Ends.{has_trapped};
     ghost use Rattle.ls_source.specs.SeenThing.{thing_of};

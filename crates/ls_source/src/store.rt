@@ -11,7 +11,7 @@ use crate::thing::{Effect, Thing, change, done, gives};
 use ls_checked::tree::Class;
 use ls_events::action::{Action, Answer};
 use ls_events::value::Value;
-use ls_values::value::starts_of;
+use ls_source_values::value::starts_of;
 use std::alloc::{AllocError, Global};
 use std::collections::BTreeMap;
 

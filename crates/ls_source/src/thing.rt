@@ -7,7 +7,7 @@ ghost use Rattle.ls_source.specs.SeenThing.{items_of, thing_of, seen_change};
 use ls_events::action::{Action, Answer};
 use ls_events::kind::Kind;
 use ls_events::value::Value;
-use ls_values::value::{mark_of, reference_of};
+use ls_source_values::value::{mark_of, reference_of};
 use std::alloc::AllocError;
 use std::collections::BTreeMap;
 

@@ -5,7 +5,7 @@ ghost use Rattle.ls_checked.specs.Plain.{plain_file};
 ghost use Rattle.ls_checked.specs.PlainProgram.{plain_program};
 ghost use Rattle.ls_meaning.specs.Methods.{depth_limit};
 ghost use Rattle.ls_meaning.specs.Threads.{result_of, named};
-ghost use Rattle.ls_pending.specs.Seen.{control_of};
+ghost use Rattle.ls_source_pending.specs.Seen.{control_of};
 ghost use Rattle.ls_source.specs.Calls.{asked_by};
 ghost use Rattle.ls_source.specs.SeenThread.{seen_next};
 
@@ -17,10 +17,10 @@ use ls_events::kind::Kind;
 use ls_events::value::{Value, ValueType};
 use ls_meaning::completion::Completion;
 use ls_meaning::sort::Sort;
-use ls_pending::pending::Pending;
-use ls_pending::work::Control;
-use ls_values::lookups::{constructor_of, method_at};
-use ls_values::value::reference_of;
+use ls_source_pending::pending::Pending;
+use ls_source_pending::work::Control;
+use ls_source_values::lookups::{constructor_of, method_at};
+use ls_source_values::value::reference_of;
 use std::alloc::{AllocError, Global};
 
 /// What a body was entered for: a setup name and its new object, or a method.
@@ -115,7 +115,7 @@ impl<'a> Thread<'a> {
     ghost use Rattle.ls_checked.specs.CheckedProgram.{Program as PlainProgram};
     ghost use Rattle.ls_checked.specs.PlainProgram.{plain_call};
     ghost use Rattle.ls_meaning.specs.Course.{Answers};
-    ghost use Rattle.ls_pending.specs.SeenPending.{state_of};
+    ghost use Rattle.ls_source_pending.specs.SeenPending.{state_of};
     ghost use Rattle.ls_source.specs.Calls.{Starts, begun, finished, answered, object_made, object_fetched, announced, asked_now, thread_meaning};
     ghost use Rattle.ls_source.specs.SeenThread.{bottom_of, phase_of, thread_of};
 
@@ -157,7 +157,7 @@ impl<'a> Thread<'a> {
     }
 
     // A body's work is made, where it is still to begin. A refusal changes nothing.
-    #[tactic(auto, using(ls_pending::proofs::Stacks::none_left))]
+    #[tactic(auto, using(ls_source_pending::proofs::Stacks::none_left))]
     #[inline(never)]
     fn make_body(&mut self, alloc: Global) -> Result<(), AllocError>
         ensures { thread_of self.new ≡ thread_of self.old }

@@ -13,7 +13,7 @@ use Rattle.ls_checked.specs.CheckedTree.{File, Block, Done, Then, SetField, Eval
 use Rattle.ls_checked.specs.CheckedProgram.{Program, Making, Calling}
 use Rattle.ls_meaning.specs.Store.{Object, FreeLock, HeldLock, Markable, Array}
 use Rattle.ls_report.specs.Events.{Text}
-use Rattle.ls_elaboration.specs.Known.{ClassSign}
+use Rattle.ls_types_elaboration.specs.Known.{ClassSign}
 use Rattle.ls_labels.specs.declared.label.Label.TheVariants as labels
 use Rattle.ls_labels.specs.Names.{Names}
 use Rattle.ls_state.specs.Scene.{Scene, scene_of}

@@ -8,14 +8,14 @@ use Rattle.ls_lexer.specs.Formed.{IsFormed}
 use Rattle.ls_lexer.proofs.FormedLaws.{tokens_are_formed}
 use Rattle.ls_events.specs.declared.value.Value.{Value}
 use Rattle.ls_checked.specs.CheckedProgram.{SetupName, ProgramCall, Making, Calling, ThreadProgram, Program}
-use Rattle.ls_elaboration.specs.Trees.{Text}
-use Rattle.ls_elaboration.specs.Elaboration.{Outcome}
-use Rattle.ls_programs.specs.Spelled as spelled
-use Rattle.ls_programs.specs.Spelled.{Argument, Others, Arguments, Call, Calls, Threads, Spells}
-use Rattle.ls_programs.specs.Programs as programs
-use Rattle.ls_programs.specs.Programs.{IsNewThread, AreCallsOf, AreThreadsOf, IsProgramOf, IsTextOf}
-use Rattle.ls_programs.proofs.Pieces.{some_none, same_some}
-use Rattle.ls_programs.proofs.Names.{threads_are_named}
+use Rattle.ls_types_elaboration.specs.Trees.{Text}
+use Rattle.ls_types_elaboration.specs.Elaboration.{Outcome}
+use Rattle.ls_types_programs.specs.Spelled as spelled
+use Rattle.ls_types_programs.specs.Spelled.{Argument, Others, Arguments, Call, Calls, Threads, Spells}
+use Rattle.ls_types_programs.specs.Programs as programs
+use Rattle.ls_types_programs.specs.Programs.{IsNewThread, AreCallsOf, AreThreadsOf, IsProgramOf, IsTextOf}
+use Rattle.ls_types_programs.proofs.Pieces.{some_none, same_some}
+use Rattle.ls_types_programs.proofs.Names.{threads_are_named}
 use Rattle.ls_headline.proofs.Lists.{get_left, get_end, get_within}
 
 -- ---- distinct names

@@ -19,10 +19,10 @@ use Rattle.ls_meaning.specs.Expressions.{constructor_of}
 use Rattle.ls_meaning.specs.Methods.{invoke, depth_limit}
 use Rattle.ls_meaning.specs.Runs.{event_of}
 use Rattle.ls_meaning.specs.Threads.{Next, Goes, Ended, Trapped, result_of, class_in, named, one_call, after_call, all_calls, calls_in, next}
-use Rattle.ls_typing.specs.Sorts.{HasType}
-use Rattle.ls_typing.specs.Typing.{IsTypedFile}
+use Rattle.ls_types_judgement.specs.Sorts.{HasType}
+use Rattle.ls_types_judgement.specs.Typing.{IsTypedFile}
 use Rattle.ls_headline.specs.Sorts.{Suits, Suited, call_at}
-use Rattle.ls_typing.specs.Programs.{IsTypedMaking, IsTypedCalling, IsTypedCall}
+use Rattle.ls_types_judgement.specs.Programs.{IsTypedMaking, IsTypedCalling, IsTypedCall}
 use Rattle.ls_soundness.proofs.Ways.{HasAction, Way, ends, Sure, Good, results_good, then_good, ask_fits, ask_good, tell_fits, null_good}
 use Rattle.ls_soundness.proofs.Methods.{calls_good}
 use Rattle.ls_soundness.proofs.Threads.{suited_same, arguments_have}

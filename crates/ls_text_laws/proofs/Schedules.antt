@@ -8,7 +8,7 @@ use Rattle.ls_lexer.specs.Names.{IsName, is_name}
 use Rattle.ls_checked.specs.CheckedProgram as checked
 use Rattle.ls_checked.specs.PlainProgram.{plain_program, plain_thread}
 use Rattle.ls_checked.specs.declared.program.ThreadProgram.{ThreadProgram}
-use Rattle.ls_programs.proofs.Pieces.{some_none, same_some}
+use Rattle.ls_types_programs.proofs.Pieces.{some_none, same_some}
 use Rattle.ls_schedule.specs.declared.fault.ScheduleFault.{ScheduleFault}
 use Rattle.ls_schedule.specs.declared.fault.ScheduleFault.TheVariants as fault
 use Rattle.ls_items.specs.Items.{Item, items}

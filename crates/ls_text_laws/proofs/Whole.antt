@@ -6,14 +6,14 @@ use Rattle.ls_code.specs.Code.{Code}
 use Rattle.ls_code.specs.Machine.{machine_history}
 use Rattle.ls_headline.specs.Same.{IsCells, Same}
 use Rattle.ls_headline.specs.Translations.{to_source}
-use Rattle.ls_elaboration.specs.Trees.{File, Text}
-use Rattle.ls_elaboration.specs.Elaboration.{Outcome, elaborated}
-use Rattle.ls_programs.specs.Programs.{IsTextOf}
-use Rattle.ls_programs.proofs.Whole.{reads_what_is_spelled}
-use Rattle.ls_typing.specs.Programs.{IsTypedProgram}
+use Rattle.ls_types_elaboration.specs.Trees.{File, Text}
+use Rattle.ls_types_elaboration.specs.Elaboration.{Outcome, elaborated}
+use Rattle.ls_types_programs.specs.Programs.{IsTextOf}
+use Rattle.ls_types_programs.proofs.Whole.{reads_what_is_spelled}
+use Rattle.ls_types_judgement.specs.Programs.{IsTypedProgram}
 use Rattle.ls_soundness.proofs.Threads.{is_sound}
-use Rattle.ls_typing_laws.proofs.Whole.{typed_when}
-use Rattle.ls_typing_laws.proofs.ProgramSteps.{program_reads}
+use Rattle.ls_types_laws.proofs.Whole.{typed_when}
+use Rattle.ls_types_laws.proofs.ProgramSteps.{program_reads}
 use Rattle.ls_image.specs.Images.{code_of_image, program_of_image}
 use Rattle.ls_text_laws.specs.Histories.{IsReadable, CompiledIsReadable, SourceIsReadable}
 use Rattle.ls_text_laws.proofs.Names.{program_names}

@@ -6,9 +6,9 @@ use Rattle.ls_checked.specs.PlainProgram.{plain_program}
 use Rattle.ls_meaning.specs.Runs.{source_history}
 use Rattle.ls_code.specs.Machine.{machine_history}
 use Rattle.ls_headline.specs.Same.{IsCells}
-use Rattle.ls_elaboration.specs.Trees.{File, Text}
-use Rattle.ls_elaboration.specs.Elaboration.{Outcome, elaborated}
-use Rattle.ls_programs.specs.Programs.{IsTextOf}
+use Rattle.ls_types_elaboration.specs.Trees.{File, Text}
+use Rattle.ls_types_elaboration.specs.Elaboration.{Outcome, elaborated}
+use Rattle.ls_types_programs.specs.Programs.{IsTextOf}
 use Rattle.ls_image.specs.declared.image.Image.{Image}
 use Rattle.ls_image.specs.Images.{Compiles, code_of_image, program_of_image}
 use Rattle.ls_report.specs.Events.{Event}

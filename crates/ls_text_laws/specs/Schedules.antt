@@ -2,9 +2,9 @@
 use Rattle.std.specs.Prelude.{◌≡◌, ◌<◌, ◌≤◌, ℕ, List, length, Ok, All}
 use Rattle.ls_checked.specs.PlainProgram.{plain_program}
 use Rattle.ls_checked.specs.declared.program.Program.{Program}
-use Rattle.ls_elaboration.specs.Trees.{Text}
-use Rattle.ls_elaboration.specs.Elaboration.{Outcome}
-use Rattle.ls_programs.specs.Programs.{IsTextOf}
+use Rattle.ls_types_elaboration.specs.Trees.{Text}
+use Rattle.ls_types_elaboration.specs.Elaboration.{Outcome}
+use Rattle.ls_types_programs.specs.Programs.{IsTextOf}
 use Rattle.ls_schedule.specs.Printing.{schedule_text}
 use Rattle.ls_schedule.specs.Reading.{schedule_of, thread_names}
 use Rattle.ls_schedule.specs.RoundTrip.{AreThreadNames}

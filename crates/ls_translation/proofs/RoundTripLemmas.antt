@@ -11,7 +11,7 @@ use Rattle.ls_code.specs.Machine.{Entry}
 use Rattle.ls_headline.specs.InWords.{Agree, births, in_words, numbered}
 use Rattle.ls_headline.specs.Same.{Fits, IsCells, Same}
 use Rattle.ls_headline.specs.Translations.{to_source, to_machine}
-use Rattle.ls_linking.specs.Runs.{Runs}
+use Rattle.ls_linker_laws.specs.Runs.{Runs}
 use Rattle.ls_translation.specs.RoundTrips.{TranslatesBack, acting_steps}
 use Rattle.ls_translation.proofs.Promises.{events_prop}
 

@@ -6,16 +6,16 @@ use Rattle.ls_lexer.specs.Places.{InOrder, Refused}
 use Rattle.ls_lexer.specs.Tokens.{tokens_of}
 use Rattle.ls_lexer.specs.declared.token.Token.{Token}
 use Rattle.ls_lexer.specs.declared.fault.TextFault.TheVariants as texts
-use Rattle.ls_elaboration.specs.Trees.{Text}
-use Rattle.ls_elaboration.specs.Elaboration.{Outcome}
+use Rattle.ls_types_elaboration.specs.Trees.{Text}
+use Rattle.ls_types_elaboration.specs.Elaboration.{Outcome}
 use Rattle.ls_checked.specs.CheckedProgram.{Program}
-use Rattle.ls_programs.specs.Programs.{IsTextOf}
-use Rattle.ls_programs.specs.ThreadPrograms.{beginning, program_of}
-use Rattle.ls_programs.proofs.Whole.{reads_what_is_spelled}
-use Rattle.ls_programs.specs.Stops.{Fault, Bad, Unknown, References, Past, stops, unmarked}
-use Rattle.ls_programs.specs.Refusals.{IsBadAt, NoToken, PassesLimit, Bytes}
-use Rattle.ls_programs.proofs.Pieces.{some_none, same_some}
-use Rattle.ls_programs.proofs.Stopping.{Shown, stops_show}
+use Rattle.ls_types_programs.specs.Programs.{IsTextOf}
+use Rattle.ls_types_programs.specs.ThreadPrograms.{beginning, program_of}
+use Rattle.ls_types_programs.proofs.Whole.{reads_what_is_spelled}
+use Rattle.ls_types_programs.specs.Stops.{Fault, Bad, Unknown, References, Past, stops, unmarked}
+use Rattle.ls_types_programs.specs.Refusals.{IsBadAt, NoToken, PassesLimit, Bytes}
+use Rattle.ls_types_programs.proofs.Pieces.{some_none, same_some}
+use Rattle.ls_types_programs.proofs.Stopping.{Shown, stops_show}
 use Rattle.ls_types.specs.declared.fault.ProgramFault.{ProgramFault}
 use Rattle.ls_types.specs.declared.fault.ProgramFault.TheVariants as faults
 use Rattle.ls_types.specs.ProgramViews.{fault_seen, Refuses}

@@ -2,10 +2,10 @@
 use Rattle.std.specs.Prelude.{List, map}
 use Rattle.ls_checked.specs.Plain.{plain_file}
 use Rattle.ls_checked.specs.declared.tree.File.{File}
-use Rattle.ls_elaboration.specs.Trees.{Text}
-use Rattle.ls_elaboration.specs.Known.{ClassSign}
-use Rattle.ls_elaboration.specs.Elaboration.{Outcome}
-use Rattle.ls_elaboration.specs.Tables.{texts_of, class_sign_of}
+use Rattle.ls_types_elaboration.specs.Trees.{Text}
+use Rattle.ls_types_elaboration.specs.Known.{ClassSign}
+use Rattle.ls_types_elaboration.specs.Elaboration.{Outcome}
+use Rattle.ls_types_elaboration.specs.Tables.{texts_of, class_sign_of}
 use Rattle.ls_types.specs.declared.check.Checked.{Checked}
 
 abbrev pub file_of : Checked → File

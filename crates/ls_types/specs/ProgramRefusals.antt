@@ -1,10 +1,10 @@
 -- What a fault says of a text that is no program of a file, and where it stands.
 use Rattle.ls_checked.specs.CheckedProgram.{Program}
-use Rattle.ls_elaboration.specs.Trees.{Text}
-use Rattle.ls_elaboration.specs.Elaboration.{Outcome}
-use Rattle.ls_programs.specs.Faults.{IsUnknown, IsReference}
-use Rattle.ls_programs.specs.Programs.{IsTextOf}
-use Rattle.ls_programs.specs.Refusals.{ShowsAt, IsBadAt, PassesLimit}
+use Rattle.ls_types_elaboration.specs.Trees.{Text}
+use Rattle.ls_types_elaboration.specs.Elaboration.{Outcome}
+use Rattle.ls_types_programs.specs.Faults.{IsUnknown, IsReference}
+use Rattle.ls_types_programs.specs.Programs.{IsTextOf}
+use Rattle.ls_types_programs.specs.Refusals.{ShowsAt, IsBadAt, PassesLimit}
 use Rattle.ls_types.specs.declared.fault.ProgramFault.{ProgramFault}
 use Rattle.ls_types.specs.declared.fault.ProgramFault.TheVariants as faults
 

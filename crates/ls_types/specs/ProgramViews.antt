@@ -9,10 +9,10 @@ use Rattle.ls_types.specs.declared.calls.Pending.{Pending}
 use Rattle.ls_types.specs.declared.reading.Stage.{Stage}
 use Rattle.ls_types.specs.declared.reading.Stage.TheVariants as stages
 use Rattle.ls_types.specs.declared.reading.Parts.{Parts}
-use Rattle.ls_programs.specs.ProgramCalls as calls
-use Rattle.ls_programs.specs.ThreadPrograms as programs
+use Rattle.ls_types_programs.specs.ProgramCalls as calls
+use Rattle.ls_types_programs.specs.ThreadPrograms as programs
 use Rattle.ls_types.specs.ProgramRefusals.{Says}
-use Rattle.ls_programs.specs.Stops.{Marks, unmarked, name_mark, callee_mark, minus_mark, marked, Why, Fault, Bad, Unknown, References, Past, fault_for, fault_at_end}
+use Rattle.ls_types_programs.specs.Stops.{Marks, unmarked, name_mark, callee_mark, minus_mark, marked, Why, Fault, Bad, Unknown, References, Past, fault_for, fault_at_end}
 
 abbrev pub callee_of : Callee → calls.Callee
 callee_of (callees.Maker name class class_name) = calls.Maker name.now class class_name.now

@@ -2,19 +2,19 @@
 
 ghost use Rattle.std.specs.Prelude.{◌≡◌, ◌<◌, [], IfOk, IfSome, length, map, option_map, slice_get, Some};
 ghost use Rattle.ls_checked.specs.PlainProgram.{plain_name, plain_call};
-ghost use Rattle.ls_elaboration.specs.Known.{number_of};
-ghost use Rattle.ls_elaboration.specs.Tables.{method_sign_of};
+ghost use Rattle.ls_types_elaboration.specs.Known.{number_of};
+ghost use Rattle.ls_types_elaboration.specs.Tables.{method_sign_of};
 ghost use Rattle.ls_types.specs.CheckedFile.{outcome_of, names_of};
-ghost use Rattle.ls_programs.specs.ProgramCalls.{setup_named as the_setup_named, maker as the_maker, is_plain as the_plain, method_on as the_method_on, called_on as the_called_on, fits as the_fits, with_argument as the_with_argument, is_full as the_full, plain_number as the_plain_number, minus_number as the_minus_number, call_of as the_call_of, names_after as the_names_after};
-ghost use Rattle.ls_programs.specs.Stops.{Unknown, unmarked, callee_mark, fault_for, why_method, why_value};
+ghost use Rattle.ls_types_programs.specs.ProgramCalls.{setup_named as the_setup_named, maker as the_maker, is_plain as the_plain, method_on as the_method_on, called_on as the_called_on, fits as the_fits, with_argument as the_with_argument, is_full as the_full, plain_number as the_plain_number, minus_number as the_minus_number, call_of as the_call_of, names_after as the_names_after};
+ghost use Rattle.ls_types_programs.specs.Stops.{Unknown, unmarked, callee_mark, fault_for, why_method, why_value};
 ghost use Rattle.ls_types.specs.ProgramViews.{callee_of, pending_of, Gives, Called};
 
 use crate::check::Checked;
 use crate::fault::ProgramFault;
 use ls_checked::program::{ProgramCall, SetupName};
-use ls_elaboration::known::{MethodSign, method_named, number_of as class_number};
-use ls_elaboration::numbers::digits_of;
 use ls_events::value::{Value, ValueType};
+use ls_types_elaboration::known::{MethodSign, method_named, number_of as class_number};
+use ls_types_elaboration::numbers::digits_of;
 use std::alloc::{AllocError, Global};
 
 /// What is called: a class's constructor for a new setup name, or a method of what a setup name holds.

@@ -2,14 +2,14 @@
 
 ghost use Rattle.std.specs.Prelude.{◌≡◌, map};
 ghost use Rattle.ls_checked.specs.Plain.{plain_file};
-ghost use Rattle.ls_elaboration.specs.Tables.{texts_of, class_sign_of};
+ghost use Rattle.ls_types_elaboration.specs.Tables.{texts_of, class_sign_of};
 ghost use Rattle.ls_types.specs.Kept.{IsElaborated};
 
 use indexmap::IndexSet;
 use ls_checked::tree::File;
-use ls_elaboration::known::ClassSign;
-use ls_elaboration::outcome::Outcome;
-pub use ls_elaboration::rule::CheckFault;
+use ls_types_elaboration::known::ClassSign;
+use ls_types_elaboration::outcome::Outcome;
+pub use ls_types_elaboration::rule::CheckFault;
 
 /// The checked file of a class text that keeps every rule.
 #[derive(Drop)]
@@ -23,7 +23,7 @@ pub struct Checked {
 
 impl Checked {
     ghost use Rattle.ls_types.specs.CheckedFile.{file_of, names_of, signs_of};
-    ghost use Rattle.ls_elaboration.specs.Outcomes.{outcome_of as outcome_seen};
+    ghost use Rattle.ls_types_elaboration.specs.Outcomes.{outcome_of as outcome_seen};
 
     pub(crate) fn new(outcome: Outcome) -> Checked
         requires { IsElaborated (outcome_seen outcome) }

@@ -1,16 +1,16 @@
 // The check of a class text's tree.
 
 ghost use Rattle.std.specs.Prelude.{◌≡◌, IfOk, IfErr};
-ghost use Rattle.ls_elaboration.specs.Refused.{Fails};
-ghost use Rattle.ls_elaboration.specs.Elaboration.{elaborated};
-ghost use Rattle.ls_elaboration.specs.PlacedStatements.{placed_file};
-ghost use Rattle.ls_typing.specs.WellTyped.{IsWellTyped};
+ghost use Rattle.ls_types_elaboration.specs.Refused.{Fails};
+ghost use Rattle.ls_types_elaboration.specs.Elaboration.{elaborated};
+ghost use Rattle.ls_types_elaboration.specs.PlacedStatements.{placed_file};
+ghost use Rattle.ls_types_judgement.specs.WellTyped.{IsWellTyped};
 ghost use Rattle.ls_types.specs.CheckedFile.{outcome_of};
 
 use crate::check::{CheckFault, Checked};
-use ls_elaborate::elaboration::elaborate;
 use ls_tree::tree::ClassFile;
-use ls_typing_laws::elaborates_well_typed;
+use ls_types_laws::elaborates_well_typed;
+use ls_types_statements::elaboration::elaborate;
 use std::alloc::Global;
 
 /// Checks a class text's tree: the checked file, which is well typed, or a rule that is broken and where.

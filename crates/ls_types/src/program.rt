@@ -3,14 +3,14 @@
 ghost use Rattle.std.specs.Prelude.{◌≡◌, ℕ, IfOk, IfErr, Ok, Some};
 ghost use Rattle.ls_lexer.specs.Lexemes.{lexemes};
 ghost use Rattle.ls_lexer.specs.Places.{Refused};
-ghost use Rattle.ls_elaboration.specs.Trees.{File, Text};
-ghost use Rattle.ls_elaboration.specs.Elaboration.{Outcome, elaborated};
+ghost use Rattle.ls_types_elaboration.specs.Trees.{File, Text};
+ghost use Rattle.ls_types_elaboration.specs.Elaboration.{Outcome, elaborated};
 ghost use Rattle.ls_checked.specs.PlainProgram.{plain_program};
-ghost use Rattle.ls_typing.specs.WellTyped.{IsWellTypedProgram};
+ghost use Rattle.ls_types_judgement.specs.WellTyped.{IsWellTypedProgram};
 ghost use Rattle.ls_types.specs.CheckedFile.{outcome_of};
-ghost use Rattle.ls_programs.specs.ThreadPrograms.{after, beginning as the_beginning, program_of, program_of_tokens};
-ghost use Rattle.ls_programs.specs.Programs.{IsTextOf};
-ghost use Rattle.ls_programs.specs.Stops.{stops, unmarked};
+ghost use Rattle.ls_types_programs.specs.ThreadPrograms.{after, beginning as the_beginning, program_of, program_of_tokens};
+ghost use Rattle.ls_types_programs.specs.Programs.{IsTextOf};
+ghost use Rattle.ls_types_programs.specs.Stops.{stops, unmarked};
 ghost use Rattle.ls_types.specs.ProgramViews.{parts_of, reading_of, Gives, StopsAt, StopsWith, Refuses};
 ghost use Rattle.ls_types.specs.ProgramRefusals.{Stands};
 
@@ -21,7 +21,7 @@ use ls_checked::program::Program;
 use ls_lexer::fault::TextFault;
 use ls_lexer::lexing::lex;
 use ls_lexer::token::Token;
-use ls_typing_laws::reads_well_typed;
+use ls_types_laws::reads_well_typed;
 use std::alloc::{AllocError, Global};
 
 fn beginning(alloc: Global) -> Result<Parts, AllocError>

@@ -4,10 +4,10 @@ ghost use Rattle.std.specs.Prelude.{◌≡◌, IfErr, IfOk, map, option_copied};
 ghost use Rattle.ls_lexer.specs.Lexemes.{lexeme_of};
 ghost use Rattle.ls_checked.specs.PlainProgram.{plain_thread};
 ghost use Rattle.ls_types.specs.CheckedFile.{outcome_of};
-ghost use Rattle.ls_programs.specs.ThreadPrograms.{is_sign as the_sign, is_word as the_word, name_in as the_name_in, number_in as the_number_in, stepped as the_stepped, at_call as the_at_call, after_name as the_after_name, after_new as the_after_new, after_dot as the_after_dot, argument as the_argument, after_minus as the_after_minus, at_first as the_at_first, after_argument as the_after_argument, at_semicolon as the_at_semicolon, at_thread_name as the_at_thread_name, arguments_end as the_arguments_end, thread_named as the_thread_named, closed as the_closed, with_finished as the_with_finished, with_call as the_with_call, is_text as the_is_text, at_thread as the_at_thread};
-ghost use Rattle.ls_programs.specs.ThreadPrograms.{AfterArgument as after_argument_stage};
-ghost use Rattle.ls_programs.specs.ProgramCalls.{with_argument as the_with_argument};
-ghost use Rattle.ls_programs.specs.Stops.{fault_for, Form, TooFew, unmarked, name_mark, callee_mark, minus_mark, why, why_name, why_new, why_dot, why_value, why_argument, why_minus, why_first, why_after, why_semicolon, why_thread, why_thread_name};
+ghost use Rattle.ls_types_programs.specs.ThreadPrograms.{is_sign as the_sign, is_word as the_word, name_in as the_name_in, number_in as the_number_in, stepped as the_stepped, at_call as the_at_call, after_name as the_after_name, after_new as the_after_new, after_dot as the_after_dot, argument as the_argument, after_minus as the_after_minus, at_first as the_at_first, after_argument as the_after_argument, at_semicolon as the_at_semicolon, at_thread_name as the_at_thread_name, arguments_end as the_arguments_end, thread_named as the_thread_named, closed as the_closed, with_finished as the_with_finished, with_call as the_with_call, is_text as the_is_text, at_thread as the_at_thread};
+ghost use Rattle.ls_types_programs.specs.ThreadPrograms.{AfterArgument as after_argument_stage};
+ghost use Rattle.ls_types_programs.specs.ProgramCalls.{with_argument as the_with_argument};
+ghost use Rattle.ls_types_programs.specs.Stops.{fault_for, Form, TooFew, unmarked, name_mark, callee_mark, minus_mark, why, why_name, why_new, why_dot, why_value, why_argument, why_minus, why_first, why_after, why_semicolon, why_thread, why_thread_name};
 ghost use Rattle.ls_types.specs.ProgramViews.{pending_of, parts_of, stage_of, reading_of, marks_of, fault_seen, Gives, Goes};
 ghost use Rattle.ls_types.specs.declared.reading.Stage.TheVariants.{AtSemicolon as at_semicolon_stage};
 

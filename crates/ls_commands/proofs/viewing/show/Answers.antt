@@ -1,6 +1,6 @@
 use Rattle.std.proofs.lemmas.Result.{err_from_is_err_and}
 use Rattle.ls_types.specs.CheckedFile.{outcome_of}
-use Rattle.ls_elaboration.specs.PlacedStatements.{placed_file}
+use Rattle.ls_types_elaboration.specs.PlacedStatements.{placed_file}
 use Rattle.ls_commands.proofs.ViewedLemmas.{check_fails, checked_runs, text_fails, err_of}
 use Rattle.ls_commands.proofs.viewing.show.Goals as goal
 

@@ -1,10 +1,10 @@
 use Rattle.std.proofs.Common.{◌≡◌, sym, subst}
 use Rattle.ls_checked.specs.Plain.{plain_file}
 use Rattle.ls_checked.specs.PlainProgram.{plain_program}
-use Rattle.ls_elaboration.specs.PlacedStatements.{placed_file}
+use Rattle.ls_types_elaboration.specs.PlacedStatements.{placed_file}
 use Rattle.ls_types.specs.CheckedFile.{outcome_of}
-use Rattle.ls_typing.specs.WellTyped.{IsWellTyped, IsWellTypedProgram}
-use Rattle.ls_linking.specs.Runs.{Runs}
+use Rattle.ls_types_judgement.specs.WellTyped.{IsWellTyped, IsWellTypedProgram}
+use Rattle.ls_linker_laws.specs.Runs.{Runs}
 use Rattle.std.proofs.lemmas.Result.{err_from_is_err_and}
 use Rattle.ls_linker.specs.Limits.{KeepsLimits, GoesPast}
 use Rattle.ls_types.proofs.Standing.{no_program}

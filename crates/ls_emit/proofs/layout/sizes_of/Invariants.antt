@@ -1,6 +1,6 @@
 use Rattle.std.proofs.Common.{◌≡◌, ◌≤◌, map, take, drop}
 use Rattle.ls_lowered.specs.Plain.{plain_statement, statements_of}
-use Rattle.ls_emission.specs.Statements.{statement_size, statements_size}
+use Rattle.ls_emit_laws.specs.Statements.{statement_size, statements_size}
 use Rattle.ls_emit.proofs.layout.sizes_of.Given as goal
 
 abbrev pub invariant-loop-s : goal.invariant-loop-s

@@ -1,8 +1,8 @@
 use Rattle.std.proofs.Common.{◌≡◌, ap, arith}
 use Rattle.ls_lowered.specs.LoweredTree.{Block, Leavable}
 use Rattle.ls_lowered.specs.Plain.{plain_statement, statements_of}
-use Rattle.ls_emission.specs.Needs.{statement_need}
-use Rattle.ls_emission.specs.Statements.{statement_size}
+use Rattle.ls_emit_laws.specs.Needs.{statement_need}
+use Rattle.ls_emit_laws.specs.Statements.{statement_size}
 use Rattle.ls_emit.proofs.Blocks.{block_plain, leavable_plain}
 use Rattle.ls_emit.proofs.Weights.{weight, exits_hold}
 use Rattle.ls_emit.proofs.needs.+statements.Goals as goal

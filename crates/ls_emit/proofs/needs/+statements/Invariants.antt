@@ -1,8 +1,8 @@
 use Rattle.std.proofs.Common.{◌≡◌, ◌+◌, ◌*◌, ◌≤◌, drop}
 use Rattle.std.specs.Prelude.{max}
 use Rattle.ls_lowered.specs.Plain.{plain_statement, statements_of}
-use Rattle.ls_emission.specs.Needs.{statements_need}
-use Rattle.ls_emission.specs.Statements.{statements_size}
+use Rattle.ls_emit_laws.specs.Needs.{statements_need}
+use Rattle.ls_emit_laws.specs.Statements.{statements_size}
 use Rattle.ls_emit.proofs.Weights.{weight, weights}
 use Rattle.ls_emit.proofs.needs.+statements.Given as goal
 

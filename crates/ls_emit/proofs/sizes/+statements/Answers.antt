@@ -1,7 +1,7 @@
 use Rattle.std.proofs.Common.{◌≡◌, ap, arith}
 use Rattle.ls_lowered.specs.LoweredTree.{Leavable}
 use Rattle.ls_lowered.specs.Plain.{plain_statement, statements_of}
-use Rattle.ls_emission.specs.Statements.{statement_size}
+use Rattle.ls_emit_laws.specs.Statements.{statement_size}
 use Rattle.ls_emit.proofs.Blocks.{leavable_plain}
 use Rattle.ls_emit.proofs.sizes.+statements.Goals as goal
 

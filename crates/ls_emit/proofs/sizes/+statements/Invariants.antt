@@ -1,7 +1,7 @@
 use Rattle.std.proofs.Common.{◌≡◌, ◌+◌, ◌≤◌, drop}
 use Rattle.std.specs.Prelude.{min}
 use Rattle.ls_lowered.specs.Plain.{statements_of}
-use Rattle.ls_emission.specs.Statements.{statements_size, exits_size}
+use Rattle.ls_emit_laws.specs.Statements.{statements_size, exits_size}
 use Rattle.ls_emit.proofs.sizes.+statements.Given as goal
 
 abbrev pub invariant-count_statements-loop-s : goal.invariant-count_statements-loop-s

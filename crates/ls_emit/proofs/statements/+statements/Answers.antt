@@ -3,7 +3,7 @@ use Rattle.std.specs.Prelude.{OnOk}
 use Rattle.ls_lowered.specs.LoweredTree as lowered
 use Rattle.ls_lowered.specs.LoweredTree.{Block, Leavable}
 use Rattle.ls_lowered.specs.Plain.{plain_statement, statements_of}
-use Rattle.ls_emission.specs.Statements.{statement_size, statements_size, exits_size, statement_code, statement_rows}
+use Rattle.ls_emit_laws.specs.Statements.{statement_size, statements_size, exits_size, statement_code, statement_rows}
 use Rattle.ls_emit.specs.Small.{IsSmallStatement, AreSmallStatements}
 use Rattle.ls_emit.specs.Places.{targets_of}
 use Rattle.ls_emit.proofs.Blocks.{block_plain, leavable_plain}

@@ -1,5 +1,5 @@
 use Rattle.std.proofs.Common.{sym, ap, subst, ◌∙◌, ◌<◌, Some}
-use Rattle.ls_elaboration.specs.Tables.{method_sign_of, method_signs_of}
+use Rattle.ls_types_elaboration.specs.Tables.{method_sign_of, method_signs_of}
 use Rattle.std.specs.Prelude.{string_bytes}
 use Rattle.ls_labels.proofs.Found.{seen_at, found_at, passed_at}
 use Rattle.ls_labels.proofs.names.method_found.Goals as goal

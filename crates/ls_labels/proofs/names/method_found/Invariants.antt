@@ -1,5 +1,5 @@
 use Rattle.std.proofs.Common.{◌≡◌, drop}
-use Rattle.ls_elaboration.specs.Tables.{method_signs_of}
+use Rattle.ls_types_elaboration.specs.Tables.{method_signs_of}
 use Rattle.ls_labels.specs.Names.{method_found}
 use Rattle.ls_labels.proofs.names.method_found.Given as goal
 

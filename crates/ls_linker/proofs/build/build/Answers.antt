@@ -3,7 +3,7 @@ use Rattle.ls_checked.specs.Plain.{plain_file}
 use Rattle.ls_checked.specs.PlainProgram.{plain_program}
 use Rattle.ls_lowered.specs.Plain as lowered
 use Rattle.ls_code.specs.Code.{Code}
-use Rattle.ls_linking.specs.Runs.{Runs}
+use Rattle.ls_linker_laws.specs.Runs.{Runs}
 use Rattle.std.proofs.lemmas.Result.{err_from_is_err_and}
 use Rattle.ls_linker.proofs.Refusals.{finally_past, units_past, link_past}
 use Rattle.ls_linker.proofs.Built.{placed_here, emittable_here, code_here, short_here, links_here}

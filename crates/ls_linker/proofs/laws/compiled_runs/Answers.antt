@@ -1,9 +1,9 @@
 use Rattle.std.proofs.Common.{refl}
-use Rattle.ls_emission.specs.Units.{units_of}
-use Rattle.ls_linking.specs.Linked.{words_of, threads_code, threads_rows}
-use Rattle.ls_linking.proofs.Threads.{threads_from}
-use Rattle.ls_linking.proofs.Units.{lie_in}
-use Rattle.ls_linking.specs.Compiled.{flat_of, code_of}
+use Rattle.ls_emit_laws.specs.Units.{units_of}
+use Rattle.ls_linker_laws.specs.Linked.{words_of, threads_code, threads_rows}
+use Rattle.ls_linker_laws.proofs.Threads.{threads_from}
+use Rattle.ls_linker_laws.proofs.Units.{lie_in}
+use Rattle.ls_linker_laws.specs.Compiled.{flat_of, code_of}
 use Rattle.ls_linker.proofs.Composed.{lowered_asks}
 use Rattle.ls_linker.proofs.laws.compiled_runs.Goals as goal
 

@@ -1,5 +1,5 @@
 use Rattle.std.proofs.Common.{◌<◌, ◌++◌, length}
-use Rattle.ls_moves.specs.Frames.{no_frame}
+use Rattle.ls_machine_moves.specs.Frames.{no_frame}
 use Rattle.ls_machine.proofs.Frames.{set_both, callee_is, caller_is}
 use Rattle.ls_machine.proofs.thread.enter_above.Goals as goal
 

@@ -1,7 +1,7 @@
 use Rattle.std.proofs.lemmas.Result.{err_from_is_err_and}
-use Rattle.ls_spelling.specs.Places.{spots}
-use Rattle.ls_terms.proofs.Repeats.{repeat_ends, repeat_fails, list_goes_on}
-use Rattle.ls_terms.proofs.Shrinks.{one_more_shrinks, tokens_shrink}
+use Rattle.ls_parser_spelling.specs.Places.{spots}
+use Rattle.ls_parser_expressions.proofs.Repeats.{repeat_ends, repeat_fails, list_goes_on}
+use Rattle.ls_parser_expressions.proofs.Shrinks.{one_more_shrinks, tokens_shrink}
 use Rattle.ls_parser.proofs.ClassesRead.{class_shrinks}
 use Rattle.ls_parser.proofs.Places.{to_the_end}
 use Rattle.ls_parser.proofs.classes.classes.Goals as goal

@@ -1,13 +1,13 @@
 use Rattle.std.proofs.Common.{length, map}
 use Rattle.ls_lexer.specs.Lexemes.{lexemes}
-use Rattle.ls_terms.specs.Reading.{one_more, many_at}
+use Rattle.ls_parser_expressions.specs.Reading.{one_more, many_at}
 use Rattle.ls_tree.specs.Views.{bare_class}
 use Rattle.ls_tree.specs.PlacedStatements.{placed_class}
-use Rattle.ls_spelling.specs.Places.{spots}
-use Rattle.ls_spelling.specs.StatementPlaces.{ManyAt}
-use Rattle.ls_spelling.specs.FilePlaces.{ClassAt}
+use Rattle.ls_parser_spelling.specs.Places.{spots}
+use Rattle.ls_parser_spelling.specs.StatementPlaces.{ManyAt}
+use Rattle.ls_parser_spelling.specs.FilePlaces.{ClassAt}
 use Rattle.ls_parser.specs.ReadingClasses.{class_at, is_left}
-use Rattle.ls_terms.proofs.Repeats.{InRepeat}
+use Rattle.ls_parser_expressions.proofs.Repeats.{InRepeat}
 use Rattle.ls_parser.proofs.classes.classes.Given as goal
 
 abbrev pub invariant-loop-context : goal.invariant-loop-context

@@ -1,7 +1,7 @@
 use Rattle.std.proofs.lemmas.Result.{err_from_is_err_and}
-use Rattle.ls_spelling.specs.Places.{spots}
-use Rattle.ls_terms.proofs.Repeats.{group_ends, group_fails, group_goes_on}
-use Rattle.ls_terms.proofs.Shrinks.{one_more_shrinks, tokens_shrink, comma_shrinks}
+use Rattle.ls_parser_spelling.specs.Places.{spots}
+use Rattle.ls_parser_expressions.proofs.Repeats.{group_ends, group_fails, group_goes_on}
+use Rattle.ls_parser_expressions.proofs.Shrinks.{one_more_shrinks, tokens_shrink, comma_shrinks}
 use Rattle.ls_parser.proofs.ClassesRead.{parameter_shrinks}
 use Rattle.ls_parser.proofs.Places.{no_parameter, group_is}
 use Rattle.ls_parser.proofs.classes.parameter_group.Goals as goal

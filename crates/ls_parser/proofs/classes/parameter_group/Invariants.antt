@@ -1,12 +1,12 @@
 use Rattle.std.proofs.Common.{length, map}
 use Rattle.ls_lexer.specs.Lexemes.{lexemes}
 use Rattle.ls_tree.specs.Views.{bare_parameter}
-use Rattle.ls_terms.specs.Reading.{group_at}
+use Rattle.ls_parser_expressions.specs.Reading.{group_at}
 use Rattle.ls_tree.specs.PlacedStatements.{placed_parameter}
-use Rattle.ls_spelling.specs.Places.{spots}
-use Rattle.ls_spelling.specs.FilePlaces.{SomeParametersAt}
+use Rattle.ls_parser_spelling.specs.Places.{spots}
+use Rattle.ls_parser_spelling.specs.FilePlaces.{SomeParametersAt}
 use Rattle.ls_parser.specs.ReadingClasses.{parameter_at}
-use Rattle.ls_terms.proofs.Repeats.{InGroup}
+use Rattle.ls_parser_expressions.proofs.Repeats.{InGroup}
 use Rattle.ls_parser.proofs.classes.parameter_group.Given as goal
 
 abbrev pub invariant-loop-context : goal.invariant-loop-context

@@ -1,5 +1,5 @@
 use Rattle.ls_tree.specs.PlacedStatements.{placed_type}
-use Rattle.ls_spelling.specs.Places.{spots}
+use Rattle.ls_parser_spelling.specs.Places.{spots}
 use Rattle.ls_parser.proofs.Places.{with_result}
 use Rattle.ls_parser.proofs.classes.typed.Goals as goal
 

@@ -1,6 +1,6 @@
 use Rattle.std.proofs.lemmas.Result.{err_from_is_err_and}
-use Rattle.ls_terms.proofs.Repeats.{repeat_ends, repeat_fails, list_goes_on}
-use Rattle.ls_terms.proofs.Shrinks.{one_more_shrinks, tokens_shrink}
+use Rattle.ls_parser_expressions.proofs.Repeats.{repeat_ends, repeat_fails, list_goes_on}
+use Rattle.ls_parser_expressions.proofs.Shrinks.{one_more_shrinks, tokens_shrink}
 use Rattle.ls_parser.proofs.Leaving.{leaves_then}
 use Rattle.ls_parser.proofs.ClassesRead.{part_shrinks}
 use Rattle.ls_parser.proofs.imports.package_parts.Goals as goal

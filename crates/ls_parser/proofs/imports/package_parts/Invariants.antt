@@ -1,12 +1,12 @@
 use Rattle.std.proofs.Common.{length, map}
 use Rattle.ls_lexer.specs.Lexemes.{lexemes}
 use Rattle.ls_lexer.specs.declared.sign.Sign.TheVariants as signs
-use Rattle.ls_terms.specs.Reading.{one_more, many_at, not_yet}
+use Rattle.ls_parser_expressions.specs.Reading.{one_more, many_at, not_yet}
 use Rattle.ls_tree.specs.Views.{name_text}
-use Rattle.ls_spelling.specs.Places.{spots}
+use Rattle.ls_parser_spelling.specs.Places.{spots}
 use Rattle.ls_parser.specs.Leaves.{Leaves}
 use Rattle.ls_parser.specs.ReadingClasses.{part_at}
-use Rattle.ls_terms.proofs.Repeats.{InRepeat}
+use Rattle.ls_parser_expressions.proofs.Repeats.{InRepeat}
 use Rattle.ls_parser.proofs.imports.package_parts.Given as goal
 
 abbrev pub invariant-loop-context : goal.invariant-loop-context

@@ -3,12 +3,12 @@ use Rattle.ls_lexer.specs.Lexemes.{lexemes}
 use Rattle.ls_tree.specs.Trees.{File}
 use Rattle.ls_tree.specs.Views.{file_of}
 use Rattle.ls_tree.specs.FileView.{bare_file}
-use Rattle.ls_spelling.specs.Spells.{Spells}
+use Rattle.ls_parser_spelling.specs.Spells.{Spells}
 use Rattle.ls_tree.specs.declared.tree.Class.{Class}
 use Rattle.ls_tree.specs.PlacedStatements.{placed_class}
 use Rattle.std.specs.Global.{Vec}
-use Rattle.ls_spelling.specs.Places.{spots}
-use Rattle.ls_spelling.specs.FilePlaces.{FileAt}
+use Rattle.ls_parser_spelling.specs.Places.{spots}
+use Rattle.ls_parser_spelling.specs.FilePlaces.{FileAt}
 use Rattle.ls_parser.proofs.Files.{found_is}
 use Rattle.ls_parser.proofs.parse.parse.Goals as goal
 

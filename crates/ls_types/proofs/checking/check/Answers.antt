@@ -1,8 +1,8 @@
 use Rattle.std.proofs.Common.{sym, subst}
 use Rattle.ls_checked.specs.Plain.{plain_file}
-use Rattle.ls_typing.specs.WellTyped.{IsWellTyped}
-use Rattle.ls_elaboration.specs.Outcomes.{outcome_of}
-use Rattle.ls_elaboration.specs.PlacedStatements.{placed_file}
+use Rattle.ls_types_judgement.specs.WellTyped.{IsWellTyped}
+use Rattle.ls_types_elaboration.specs.Outcomes.{outcome_of}
+use Rattle.ls_types_elaboration.specs.PlacedStatements.{placed_file}
 use Rattle.ls_types.proofs.checking.check.Goals as goal
 
 pub returns-clause-typed : goal.returns-clause-typed

@@ -1,8 +1,8 @@
 use Rattle.std.proofs.Common.{◌≡◌, ℕ, drop, Some}
 use Rattle.ls_lexer.specs.Lexemes.{lexemes}
 use Rattle.ls_types.specs.CheckedFile.{outcome_of}
-use Rattle.ls_programs.specs.ThreadPrograms.{after, beginning}
-use Rattle.ls_programs.specs.Stops.{stops, unmarked}
+use Rattle.ls_types_programs.specs.ThreadPrograms.{after, beginning}
+use Rattle.ls_types_programs.specs.Stops.{stops, unmarked}
 use Rattle.ls_types.specs.ProgramViews.{reading_of, marks_of}
 use Rattle.ls_types.proofs.program.read_tokens.Given as goal
 

@@ -1,6 +1,6 @@
 use Rattle.std.proofs.Common.{◌≡◌, ◌++◌, ◌∷◌, [], List, length, drop, get_or, refl, arith}
 use Rattle.std.proofs.lemmas.List.{get_or_push, drop_all, length_push}
-use Rattle.ls_moves.specs.Frames.{Kept, no_frame}
+use Rattle.ls_machine_moves.specs.Frames.{Kept, no_frame}
 use Rattle.ls_machine.proofs.thread.Thread.new.Goals as goal
 
 lowest : (fs : List Kept) (f : Kept) → length fs ≡ 64 → get_or (fs ++ f ∷ []) 64 no_frame ≡ f

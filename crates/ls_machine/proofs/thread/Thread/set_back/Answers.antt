@@ -3,7 +3,7 @@ use Rattle.std.proofs.lemmas.List.{drop-set-lt, drop_all, get_or-set_same}
 use Rattle.std.specs.Vec.{with_item}
 use Rattle.ls_code.specs.declared.step.Mode.TheVariants.{Running}
 use Rattle.ls_machine.specs.Back.{back_at}
-use Rattle.ls_moves.specs.Frames.{no_frame}
+use Rattle.ls_machine_moves.specs.Frames.{no_frame}
 use Rattle.ls_machine.specs.Memory.{KeptThread}
 use Rattle.ls_machine.specs.contracts.thread.Thread.{the_view}
 use Rattle.ls_machine.proofs.thread.Thread.set_back.Goals as goal

@@ -5,7 +5,7 @@ use Rattle.ls_checked.specs.Plain.{plain_file}
 use Rattle.ls_checked.specs.PlainProgram.{plain_program}
 use Rattle.ls_meaning.specs.Threads.{Goes}
 use Rattle.ls_meaning.specs.declared.sort.Sort.TheVariants.{NoValue}
-use Rattle.ls_pending.specs.Seen.{control_of}
+use Rattle.ls_source_pending.specs.Seen.{control_of}
 use Rattle.ls_source.specs.Calls.{asked_by}
 use Rattle.ls_source.specs.SeenThread.{thread_of}
 use Rattle.ls_source.specs.SeenRun.{lists_of}

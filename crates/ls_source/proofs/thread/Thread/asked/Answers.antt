@@ -1,6 +1,6 @@
 use Rattle.std.proofs.Common.{◌<◌, drop, map, length, rules, sym, ap, ◌∙◌}
 use Rattle.ls_checked.specs.PlainProgram.{plain_program, plain_call}
-use Rattle.ls_pending.specs.SeenPending.{state_of}
+use Rattle.ls_source_pending.specs.SeenPending.{state_of}
 use Rattle.ls_source.specs.Calls.{asked_in}
 use Rattle.ls_source.specs.SeenThread.{phase_of}
 use Rattle.ls_source.proofs.Lefts.{some_left}

@@ -1,6 +1,0 @@
-use Rattle.std.proofs.Common.{◌≡◌, drop}
-use Rattle.ls_elaborate.specs.Left.{has}
-use Rattle.ls_elaborate.proofs.completion.has_innermost.Given as goal
-
-abbrev pub invariant-loop-n : goal.invariant-loop-n
-invariant-loop-n l = has 0 (drop l.n-index l.left) ≡ has 0 l.left

@@ -1,0 +1,17 @@
+// Laws of the emission, each as the contract of a function that computes nothing.
+
+ghost use Rattle.ls_lowered.specs.LoweredTree.{File};
+ghost use Rattle.ls_emit_laws.specs.Units.{units_of};
+ghost use Rattle.ls_emit_laws.specs.Emittable.{IsEmittableFile};
+ghost use Rattle.ls_emit_laws.specs.Entering.{UnitsAsk};
+ghost use Rattle.ls_emit_laws.specs.Rows.{Rows};
+
+/// The units of a file, in whatever code they lie, ask what the file's methods ask.
+pub fn units_ask()
+    ensures { (file : File) → IsEmittableFile file → UnitsAsk file (units_of file) }
+{}
+
+/// The code of some small methods, and a thread that runs one of them.
+pub fn rows()
+    ensures { Rows }
+{}

@@ -1,0 +1,33 @@
+-- What the code of a file and a program promises of its runs.
+use Rattle.std.specs.Prelude.{◌*◌, ◌≤◌, length}
+use Rattle.ls_checked.specs.CheckedTree.{File}
+use Rattle.ls_checked.specs.CheckedProgram.{Program}
+use Rattle.ls_code.specs.Code.{Code}
+use Rattle.ls_headline.specs.Same.{Same}
+use Rattle.ls_headline.specs.Threads.{Asks}
+use Rattle.ls_headline.specs.ByWords.{AsksByWords}
+use Rattle.ls_ends.specs.InTime.{EndsInTime}
+use Rattle.ls_ends.specs.Acting.{ActsInTime}
+use Rattle.ls_emit_laws.specs.Units.{units_of}
+use Rattle.ls_linker_laws.specs.Quick.{KeepsFrames}
+use Rattle.ls_linker_laws.specs.Own.{ThreadsAreQuick}
+use Rattle.ls_linker_laws.specs.Compiled.{flat_of, count}
+
+pub record Runs (file : File) (program : Program) (code : Code) : Type 0 where
+  -- For each number of cells, each schedule of instructions has a schedule of source steps with the same trace and history, and each schedule of
+  -- source steps that fits has a schedule of instructions.
+  pub same : Same file program code
+  -- Each thread, fed with answers in kind, asks what the source asks next, and ends as it ends: it is never stuck, nor silent for too long.
+  pub asks : Asks file program code
+  -- So it does by its own instructions, fed with the words of locks and the outcomes of exchanges that these answers come from.
+  pub words : AsksByWords file program code
+  -- In the machine, a thread whose source acts next acts in time, and one whose source has ended is so itself in time.
+  pub acts : ActsInTime file program code
+  pub ends : EndsInTime file program code
+  -- In one frame of a method a thread makes fewer silent steps in a row than the method has instructions.
+  pub frames : KeepsFrames (units_of (flat_of file)) code
+  -- In its own code it makes three more than its calls pass values at most.
+  pub threads : ThreadsAreQuick file program code
+  -- The code has at most 65,536 instructions, and at most 16 for each thing counted.
+  pub short : length code.instructions ≤ 65536
+  pub lean : length code.instructions ≤ 16 * count file program

@@ -1,0 +1,31 @@
+// The laws, each as the contract of a function that computes nothing.
+
+ghost use Rattle.ls_checked.specs.CheckedTree.{File};
+ghost use Rattle.ls_checked.specs.CheckedProgram.{Program};
+ghost use Rattle.ls_lowered.specs.LoweredTree as low;
+ghost use Rattle.ls_emit_laws.specs.Emittable.{IsEmittableFile};
+ghost use Rattle.ls_emit_laws.specs.Units.{units_of};
+ghost use Rattle.ls_headline.specs.Example;
+ghost use Rattle.ls_linker_laws.specs.Linked.{linked};
+ghost use Rattle.ls_linker_laws.specs.Quick.{FramesAreQuick};
+ghost use Rattle.ls_linker_laws.specs.Own.{ThreadsAreQuick};
+ghost use Rattle.ls_linker_quick.specs.Idling.{idles};
+
+/// In one frame of a unit a thread makes fewer silent steps in a row than the unit has instructions, and a throw that the
+/// frame catches goes on ahead in the unit.
+pub fn frames_are_quick()
+    ensures { (file : low.File) → IsEmittableFile file → FramesAreQuick file }
+{}
+
+/// In its own code, outside the methods that it calls, a thread makes at most three silent steps in a row more than its calls
+/// pass values at most.
+#[tactic(auto, using(crate::proofs::OwnRuns::threads_quick))]
+pub fn threads_are_quick()
+    ensures { (file : File) (program : Program) (lowered : low.File) → ThreadsAreQuick file program (linked file program (units_of lowered)) }
+{}
+
+/// So an image is refused that makes 30 jumps before its setup's first call.
+#[tactic(auto, using(crate::proofs::Idles::idles_not))]
+pub fn idling_is_refused()
+    ensures { ThreadsAreQuick Example.file Example.program idles → ⊥ }
+{}

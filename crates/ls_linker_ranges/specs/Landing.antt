@@ -1,0 +1,28 @@
+-- Units whose jumps and rows name no place beyond the greatest length of a unit.
+use Rattle.std.specs.Prelude.{ℕ, ◌≤◌, length}
+use Rattle.std.specs.List.{All}
+use Rattle.ls_code.specs.declared.instruction.Instruction.{Instruction}
+use Rattle.ls_code.specs.declared.instruction.Instruction.TheVariants as op
+use Rattle.ls_code.specs.declared.code.HandlerRow.{HandlerRow}
+use Rattle.ls_emit_laws.specs.Units.{CodeUnit}
+
+-- a jump, if it is one, to a place up to n
+abbrev pub Lands : ℕ → Instruction → Type 0
+Lands n (op.Jump place) = place ≤ n
+Lands n (op.JumpIfFalse place) = place ≤ n
+Lands n (op.JumpIfTrue place) = place ≤ n
+Lands n (op.Turn place) = place ≤ n
+Lands n _ = Unit {0}
+
+pub record RowLands (n : ℕ) (row : HandlerRow) : Type 0 where
+  pub from : row.from ≤ n
+  pub to : row.to ≤ n
+  pub handler : row.handler ≤ n
+
+-- at most 65,536 instructions, arguments and further locals, and places within them
+pub record UnitLands (u : CodeUnit) : Type 0 where
+  pub short : length u.instructions ≤ 65536
+  pub jumps : All (Lands 65536) u.instructions
+  pub rows : All (RowLands 65536) u.handlers
+  pub arguments : u.arguments ≤ 65536
+  pub more : u.more ≤ 65536

@@ -1,0 +1,52 @@
+-- How long code may be, by the counts of its tree and its program.
+use Rattle.std.specs.Prelude.{ℕ, ◌+◌, ◌*◌, ◌≤◌, List, [], ◌∷◌, length}
+use Rattle.std.specs.List.{All}
+use Rattle.ls_checked.specs.CheckedTree as checked
+use Rattle.ls_checked.specs.CheckedProgram.{Program}
+use Rattle.ls_lowered.specs.LoweredTree.{Method, File}
+use Rattle.ls_refs.specs.Lowered.{lowered_method, lowered_file}
+use Rattle.ls_finally.specs.Flat.{flat_method, flat_file}
+use Rattle.ls_finally.specs.Counts.{copies_of, FewLocals}
+use Rattle.ls_emit_laws.specs.Units.{method_size, units_of}
+use Rattle.ls_linker_laws.specs.Linked.{linked}
+use Rattle.ls_linker_laws.specs.Counts.{method_count, file_count, program_count, written_nodes, statement_nodes}
+
+-- a method has at most 16 instructions for each node and each declared name
+abbrev pub UnitsAreFew : Type 0
+UnitsAreFew = (m : Method) → method_size m ≤ 16 * method_count m
+
+-- and the whole code at most 16 for each of these, and for each thread, call and argument
+abbrev pub CodeIsShort : Type 0
+CodeIsShort =
+    (file : checked.File) (program : Program) (flat : File) →
+    length (linked file program (units_of flat)).instructions ≤ 16 * (file_count flat + program_count program)
+
+-- Where all these are together at most 4,096, neither a method nor the whole code has over 65,536.
+abbrev pub KeepsFloor : Type 0
+KeepsFloor =
+    (file : checked.File) (program : Program) (flat : File) → file_count flat + program_count program ≤ 4096 →
+    All (λ m. method_size m ≤ 65536) flat × length (linked file program (units_of flat)).instructions ≤ 65536
+
+-- The lowering makes at most 16 nodes of one, and then each copy of a finally block adds at most 6 and the nodes of the body in which the block stands.
+abbrev pub LowersFew : Type 0
+LowersFew =
+    (classes : List checked.Class) (m : checked.Method) →
+    let words = lowered_method classes m in
+    let most = 16 * written_nodes m.body in
+    statement_nodes (flat_method words).body ≤ most + copies_of words * (most + 6)
+
+-- what a checked method comes to at most: 16 for each node of its body, as many and 6 for each copy of a finally block, and 128 for its names
+abbrev pub written_method : List checked.Class → checked.Method → ℕ
+written_method classes m =
+    let most = 16 * written_nodes m.body in
+    most + copies_of (lowered_method classes m) * (most + 6) + 128
+
+abbrev pub written_count : List checked.Class → List checked.Method → ℕ
+written_count classes [] = 0
+written_count classes (m ∷ ms) = written_method classes m + written_count classes ms
+
+-- The count of the lowered tree, by what was written; no method has more than 128 locals.
+abbrev pub CountsWritten : Type 0
+CountsWritten =
+    (file : checked.File) → FewLocals (lowered_file file) →
+    file_count (flat_file (lowered_file file)) ≤ written_count file.classes file.methods

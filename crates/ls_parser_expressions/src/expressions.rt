@@ -1,0 +1,516 @@
+// Expressions.
+
+ghost use Rattle.std.specs.Prelude.{◌≡◌, ◌+◌, ◌-◌, ◌<◌, ◌≤◌, ◌^◌, ◌∷◌, List, IfOk, Some, false, length, map};
+ghost use Rattle.ls_lexer.specs.Lexemes.{Named, Reserved, lexemes};
+ghost use Rattle.ls_lexer.specs.declared.sign.Sign.TheVariants as signs;
+ghost use Rattle.ls_lexer.specs.declared.word.Word.TheVariants as words;
+ghost use Rattle.ls_tree.specs.Trees.{Unary, Binary, Paren, Field, Item, NewArray, New};
+ghost use Rattle.ls_tree.specs.WellFormed.{expression_height, expressions_height, is_new_array, is_minus};
+ghost use Rattle.ls_tree.specs.Views.{bare, expressions_of};
+ghost use Rattle.ls_tree.specs.Placed.{placed, placed_all};
+ghost use Rattle.ls_parser_spelling.specs.Spelling.{sign_of_unary};
+ghost use Rattle.ls_parser_spelling.specs.Places.{Spot, spot, sign, spots, At, OperandAt, IndexAt, ArgumentsAt, SomeAt};
+ghost use Rattle.ls_parser_expressions.specs.Answers.{Gives};
+ghost use Rattle.ls_parser_expressions.specs.Reading.{one_more, behind_comma, is_markable};
+ghost use Rattle.ls_parser_expressions.specs.ReadingExpressions.{has_operator, joined_at, binary_at, signed_at, unary_at, expression_at, post_at, has_suffix, suffix_at, member_at, index_at, item_at, arguments_at, primary_at, named_at, object_at, new_at, paren_at};
+
+use crate::operators::{has_operator, join, operator_part, unary_op};
+use crate::primaries::{
+    called, class_name, has_suffix, is_markable, is_new_array, new_markable, new_object, number,
+};
+use crate::tokens::{
+    Context, Enclosed, NamePart, Part, boxed_part, closed_part, expect, expect_word, make_name,
+    name, name_part, push, sign_part, starts_with, syntax, too_deep, upto,
+};
+use ls_lexer::fault::TextFault;
+use ls_lexer::sign::Sign;
+use ls_lexer::token::{Span, Token, TokenKind};
+use ls_lexer::word::Word;
+use ls_tree::tree::{BinaryOp, Expr, Name, UnaryOp};
+use std::alloc::AllocError;
+
+// A chain of each rank in turn, from those that bind most tightly: what is read of one rank is the first operand of the next.
+#[cycle(expressions)]
+#[tactic(auto, using(crate::proofs::Chains::chain_starts, crate::proofs::Chains::operand_alone, crate::proofs::Chains::fails_starts, crate::proofs::Chains::chain_goes_on))]
+pub fn binary<'t, 'a>(
+    context: Context,
+    tokens: &'t [Token<'a>],
+    wanted: usize,
+    limit: usize,
+) -> Result<Part<'t, 'a, Expr>, TextFault>
+    requires { wanted ≤ 6 }
+    ensures read { Gives (λ p. (bare p.tree, lexemes p.rest.now)) result (binary_at wanted limit (unary_at limit false) (lexemes tokens.now)) }
+    ensures places { IfOk result (λ p. At (placed p.tree) (spots tokens.now) (spots p.rest.now)) }
+    ensures height { IfOk result (λ p. (p.height ≡ expression_height (bare p.tree)) × (p.height ≤ limit)) }
+{
+    let mut left = unary(context, tokens, limit, false)?;
+    let mut rank = 1;
+    while rank <= wanted {
+        if has_operator(left.rest, rank) {
+            left = joined(context, left, rank, limit)?;
+        } else {
+            rank += 1;
+        }
+    }
+    Ok(left)
+}
+
+// An operator and a right operand, under it with what stands on the left.
+#[cycle(expressions)]
+#[tactic(auto, using(crate::proofs::Places::binary_is))]
+fn joined<'t, 'a>(
+    context: Context,
+    left: Part<'t, 'a, Expr>,
+    wanted: usize,
+    limit: usize,
+) -> Result<Part<'t, 'a, Expr>, TextFault>
+    requires rank { (0 < wanted) × (wanted ≤ 6) }
+    requires height { left.height ≡ expression_height (bare left.tree) }
+    ensures read { Gives (λ p. (bare p.tree, lexemes p.rest.now)) result (joined_at wanted limit (binary_at (wanted - 1) limit (unary_at limit false)) (bare left.entry.tree) (lexemes left.entry.rest.now)) }
+    ensures places { IfOk result (λ p. (ss : List Spot) → At (placed left.entry.tree) ss (spots left.entry.rest.now) → At (placed p.tree) ss (spots p.rest.now)) }
+    ensures height { IfOk result (λ p. (p.height ≡ expression_height (bare p.tree)) × (p.height ≤ limit) × (left.entry.height < p.height)) }
+{
+    let right = operand(context, &left, wanted, limit)?;
+    let (op, operand) = right.tree;
+    Ok(Part {
+        tree: join(context, op, left.tree, operand)?,
+        height: left.height.max(right.height) + 1,
+        rest: right.rest,
+    })
+}
+
+// The operator and the right operand of what stands on the left.
+#[cycle(expressions)]
+#[tactic(auto, using(crate::proofs::Chains::joined_is, crate::proofs::Chains::left_too_high, crate::proofs::Chains::right_too_high, crate::proofs::Places::operand_is))]
+fn operand<'t, 'a>(
+    context: Context,
+    left: &Part<'t, 'a, Expr>,
+    wanted: usize,
+    limit: usize,
+) -> Result<Part<'t, 'a, (BinaryOp, Expr)>, TextFault>
+    requires rank { (0 < wanted) × (wanted ≤ 6) }
+    requires height { left.now.height ≡ expression_height (bare left.now.tree) }
+    ensures read { Gives (λ p. (Binary p.tree.0 (bare left.now.tree) (bare p.tree.1), lexemes p.rest.now)) result (joined_at wanted limit (binary_at (wanted - 1) limit (unary_at limit false)) (bare left.now.tree) (lexemes left.now.rest.now)) }
+    ensures places { IfOk result (λ p. OperandAt p.tree.0 (placed p.tree.1) (spots left.now.rest.now) (spots p.rest.now)) }
+    ensures height { IfOk result (λ p. (p.height ≡ expression_height (bare p.tree.1)) × (p.height < limit) × (left.now.height < limit)) }
+{
+    let Some(operator) = operator_part(left.rest, wanted) else {
+        return Err(syntax(context, left.rest));
+    };
+    if left.height >= limit {
+        return Err(too_deep(context, left.rest));
+    }
+    let right = binary(context, operator.rest, wanted - 1, limit)?;
+    if right.height >= limit {
+        return Err(too_deep(context, operator.rest));
+    }
+    Ok(Part {
+        tree: (operator.op, right.tree),
+        height: right.height,
+        rest: right.rest,
+    })
+}
+
+#[cycle(expressions)]
+#[tactic(auto, using(crate::proofs::Chains::unary_step, crate::proofs::Chains::unary_nothing, crate::proofs::Chains::unary_zero))]
+fn unary<'t, 'a>(
+    context: Context,
+    tokens: &'t [Token<'a>],
+    limit: usize,
+    after_minus: bool,
+) -> Result<Part<'t, 'a, Expr>, TextFault>
+    ensures read { Gives (λ p. (bare p.tree, lexemes p.rest.now)) result (unary_at limit after_minus (lexemes tokens.now)) }
+    ensures places { IfOk result (λ p. At (placed p.tree) (spots tokens.now) (spots p.rest.now)) }
+    ensures height { IfOk result (λ p. (p.height ≡ expression_height (bare p.tree)) × (p.height ≤ limit)) }
+{
+    if limit == 0 {
+        return Err(too_deep(context, tokens));
+    }
+    let Some((token, rest)) = tokens.split_first() else {
+        return Err(syntax(context, tokens));
+    };
+    match unary_op(token.kind) {
+        Some(op) => signed(context, rest, limit - 1, op, token.span),
+        None => post(context, tokens, limit, after_minus),
+    }
+}
+
+// What stands behind the sign of a unary operator, under it.
+#[cycle(expressions)]
+#[tactic(auto, using(crate::proofs::Places::unary_is))]
+fn signed<'t, 'a>(
+    context: Context,
+    tokens: &'t [Token<'a>],
+    limit: usize,
+    op: UnaryOp,
+    start: Span,
+) -> Result<Part<'t, 'a, Expr>, TextFault>
+    requires { limit + 1 < 2 ^ 64 }
+    ensures read { Gives (λ p. (bare p.tree, lexemes p.rest.now)) result (signed_at op (unary_at limit (is_minus op)) (lexemes tokens.now)) }
+    ensures places { IfOk result (λ p. At (placed p.tree) (sign (sign_of_unary op) start ∷ spots tokens.now) (spots p.rest.now)) }
+    ensures height { IfOk result (λ p. (p.height ≡ expression_height (bare p.tree)) × (p.height ≤ limit + 1)) }
+{
+    let operand = unary(context, tokens, limit, matches!(&op, UnaryOp::Minus))?;
+    let span = upto(start, operand.tree.span());
+    let operand = boxed_part(context.alloc, operand)?;
+    Ok(Part {
+        tree: Expr::Unary {
+            op,
+            operand: operand.tree,
+            span,
+        },
+        height: operand.height + 1,
+        rest: operand.rest,
+    })
+}
+
+/// A primary and its suffixes.
+#[cycle(expressions)]
+#[tactic(auto, using(crate::proofs::Posts::post_begins, crate::proofs::Posts::post_nothing, crate::proofs::Posts::post_zero, crate::proofs::Repeats::repeat_ends, crate::proofs::Chains::chain_goes_on))]
+pub fn post<'t, 'a>(
+    context: Context,
+    tokens: &'t [Token<'a>],
+    limit: usize,
+    after_minus: bool,
+) -> Result<Part<'t, 'a, Expr>, TextFault>
+    ensures read { Gives (λ p. (bare p.tree, lexemes p.rest.now)) result (post_at limit after_minus (lexemes tokens.now)) }
+    ensures places { IfOk result (λ p. At (placed p.tree) (spots tokens.now) (spots p.rest.now)) }
+    ensures height { IfOk result (λ p. (p.height ≡ expression_height (bare p.tree)) × (p.height ≤ limit)) }
+{
+    if limit == 0 {
+        return Err(too_deep(context, tokens));
+    }
+    let mut left = primary(context, tokens, limit - 1, after_minus)?;
+    while has_suffix(left.rest) {
+        left = suffix(context, left, limit)?;
+    }
+    Ok(left)
+}
+
+// One suffix, with what stands on its left.
+#[cycle(expressions)]
+#[tactic(auto, using(crate::proofs::Posts::suffix_too_high, crate::proofs::Posts::suffix_fits, crate::proofs::Places::dotted))]
+fn suffix<'t, 'a>(
+    context: Context,
+    left: Part<'t, 'a, Expr>,
+    limit: usize,
+) -> Result<Part<'t, 'a, Expr>, TextFault>
+    requires limit { 0 < limit }
+    requires height { left.height ≡ expression_height (bare left.tree) }
+    ensures read { Gives (λ p. (bare p.tree, lexemes p.rest.now)) result (suffix_at limit (expression_at (limit - 1)) (bare left.entry.tree) (lexemes left.entry.rest.now)) }
+    ensures places { IfOk result (λ p. (ss : List Spot) → At (placed left.entry.tree) ss (spots left.entry.rest.now) → At (placed p.tree) ss (spots p.rest.now)) }
+    ensures height { IfOk result (λ p. (p.height ≡ expression_height (bare p.tree)) × (p.height ≤ limit) × (left.entry.height < p.height)) }
+{
+    if left.height >= limit {
+        return Err(too_deep(context, left.rest));
+    }
+    let left = boxed_part(context.alloc, left)?;
+    match sign_part(left.rest, Sign::Dot) {
+        Some(dot) => member(context, left, dot.rest, limit - 1),
+        None => item(context, left, limit - 1),
+    }
+}
+
+// What stands behind a dot.
+#[cycle(expressions)]
+#[tactic(auto, using(crate::proofs::Places::field_is, crate::proofs::Places::call_on_is))]
+fn member<'t, 'a>(
+    context: Context,
+    left: Part<'t, 'a, Box<Expr>>,
+    tokens: &'t [Token<'a>],
+    limit: usize,
+) -> Result<Part<'t, 'a, Expr>, TextFault>
+    requires limit { limit + 1 < 2 ^ 64 }
+    requires height { (left.height ≡ expression_height (bare left.tree.value)) × (left.height ≤ limit) }
+    ensures read { Gives (λ p. (bare p.tree, lexemes p.rest.now)) result (member_at (expression_at limit) (bare left.entry.tree.value) (lexemes tokens.now)) }
+    ensures places { IfOk result (λ p. (ss : List Spot) (dot : Span) → At (placed left.entry.tree.value) ss (sign signs.Dot dot ∷ spots tokens.now) → At (placed p.tree) ss (spots p.rest.now)) }
+    ensures height { IfOk result (λ p. (p.height ≡ expression_height (bare p.tree)) × (p.height ≤ limit + 1) × (left.entry.height < p.height)) }
+{
+    let name = name(context, tokens)?;
+    match sign_part(name.rest, Sign::OpenParen) {
+        Some(open) => {
+            let arguments = arguments(context, open.rest, limit)?;
+            let span = upto(left.tree.span(), arguments.end);
+            Ok(Part {
+                tree: called(Some(left.tree), name.tree, arguments.tree, span),
+                height: left.height.max(arguments.height) + 1,
+                rest: arguments.rest,
+            })
+        }
+        None => {
+            let span = upto(left.tree.span(), name.tree.span);
+            Ok(Part {
+                tree: Expr::Field {
+                    target: left.tree,
+                    name: name.tree,
+                    span,
+                },
+                height: left.height + 1,
+                rest: name.rest,
+            })
+        }
+    }
+}
+
+// An index in brackets.
+#[cycle(expressions)]
+#[tactic(auto, using(crate::proofs::Places::item_is))]
+fn item<'t, 'a>(
+    context: Context,
+    left: Part<'t, 'a, Box<Expr>>,
+    limit: usize,
+) -> Result<Part<'t, 'a, Expr>, TextFault>
+    requires limit { limit + 1 < 2 ^ 64 }
+    requires height { (left.height ≡ expression_height (bare left.tree.value)) × (left.height ≤ limit) }
+    ensures read { Gives (λ p. (bare p.tree, lexemes p.rest.now)) result (item_at (expression_at limit) (bare left.entry.tree.value) (lexemes left.entry.rest.now)) }
+    ensures places { IfOk result (λ p. (ss : List Spot) → At (placed left.entry.tree.value) ss (spots left.entry.rest.now) → At (placed p.tree) ss (spots p.rest.now)) }
+    ensures height { IfOk result (λ p. (p.height ≡ expression_height (bare p.tree)) × (p.height ≤ limit + 1) × (left.entry.height < p.height)) }
+{
+    if is_new_array(&left.tree) {
+        return Err(syntax(context, left.rest));
+    }
+    let index = index(context, left.rest, limit)?;
+    let span = upto(left.tree.span(), index.end);
+    Ok(Part {
+        tree: Expr::Item {
+            array: left.tree,
+            index: index.tree,
+            span,
+        },
+        height: left.height.max(index.height) + 1,
+        rest: index.rest,
+    })
+}
+
+#[cycle(expressions)]
+#[tactic(auto, using(crate::proofs::Places::index_is))]
+fn index<'t, 'a>(
+    context: Context,
+    tokens: &'t [Token<'a>],
+    limit: usize,
+) -> Result<Enclosed<'t, 'a, Box<Expr>>, TextFault>
+    ensures read { Gives (λ p. (bare p.tree.value, lexemes p.rest.now)) result (index_at (expression_at limit) (lexemes tokens.now)) }
+    ensures places { IfOk result (λ p. IndexAt (placed p.tree.value) p.end (spots tokens.now) (spots p.rest.now)) }
+    ensures height { IfOk result (λ p. (p.height ≡ expression_height (bare p.tree.value)) × (p.height ≤ limit)) }
+{
+    let open = expect(context, tokens, Sign::OpenBracket)?;
+    let index = binary(context, open.rest, 6, limit)?;
+    let index = boxed_part(context.alloc, index)?;
+    let index = closed_part(context, index, Sign::CloseBracket)?;
+    Ok(index)
+}
+
+#[cycle(expressions)]
+#[tactic(auto, using(crate::proofs::Repeats::group_none, crate::proofs::Repeats::group_begins, crate::proofs::Repeats::group_ends, crate::proofs::Repeats::group_goes_on, crate::proofs::Places::none_is, crate::proofs::Places::first_is, crate::proofs::Places::some_is))]
+fn arguments<'t, 'a>(
+    context: Context,
+    tokens: &'t [Token<'a>],
+    limit: usize,
+) -> Result<Enclosed<'t, 'a, Vec<Expr>>, TextFault>
+    ensures read { Gives (λ p. (expressions_of p.tree.items, lexemes p.rest.now)) result (arguments_at (expression_at limit) (lexemes tokens.now)) }
+    ensures places { IfOk result (λ p. ArgumentsAt (placed_all p.tree.items) p.end (spots tokens.now) (spots p.rest.now)) }
+    ensures height { IfOk result (λ p. (p.height ≡ expressions_height (expressions_of p.tree.items)) × (p.height ≤ limit)) }
+{
+    if let Some(close) = sign_part(tokens, Sign::CloseParen) {
+        return Ok(Enclosed {
+            tree: Vec::new(context.alloc),
+            height: 0,
+            end: close.span,
+            rest: close.rest,
+        });
+    }
+    let first = binary(context, tokens, 6, limit)?;
+    let mut all = Part {
+        tree: push(Vec::new(context.alloc), first.tree)?,
+        height: first.height,
+        rest: first.rest,
+    };
+    while !starts_with(all.rest, Sign::CloseParen) {
+        all = one_argument(context, all, limit)?;
+    }
+    let all = closed_part(context, all, Sign::CloseParen)?;
+    Ok(all)
+}
+
+// One more argument, behind a comma.
+#[cycle(expressions)]
+#[tactic(auto, using(crate::proofs::Rows::expressions_height_push, crate::proofs::Rows::map_push, crate::proofs::Places::pushed_is))]
+fn one_argument<'t, 'a>(
+    context: Context,
+    before: Part<'t, 'a, Vec<Expr>>,
+    limit: usize,
+) -> Result<Part<'t, 'a, Vec<Expr>>, TextFault>
+    requires height { (before.height ≡ expressions_height (expressions_of before.tree.items)) × (before.height ≤ limit) }
+    ensures read { Gives (λ p. (map bare p.tree.items, lexemes p.rest.now)) result (one_more (behind_comma (expression_at limit)) (map bare before.entry.tree.items) (lexemes before.entry.rest.now)) }
+    ensures places { IfOk result (λ p. (ss : List Spot) → SomeAt (placed_all before.entry.tree.items) ss (spots before.entry.rest.now) → SomeAt (placed_all p.tree.items) ss (spots p.rest.now)) }
+    ensures height { IfOk result (λ p. (p.height ≡ expressions_height (expressions_of p.tree.items)) × (p.height ≤ limit)) }
+{
+    let comma = expect(context, before.rest, Sign::Comma)?;
+    let argument = binary(context, comma.rest, 6, limit)?;
+    Ok(Part {
+        tree: push(before.tree, argument.tree)?,
+        height: before.height.max(argument.height),
+        rest: argument.rest,
+    })
+}
+
+#[cycle(expressions)]
+#[tactic(auto, using(ls_parser_spelling::specs::Places::true_at, ls_parser_spelling::specs::Places::false_at, ls_parser_spelling::specs::Places::null_at, ls_parser_spelling::specs::Places::this_at))]
+fn primary<'t, 'a>(
+    context: Context,
+    tokens: &'t [Token<'a>],
+    limit: usize,
+    after_minus: bool,
+) -> Result<Part<'t, 'a, Expr>, TextFault>
+    requires { limit + 1 < 2 ^ 64 }
+    ensures read { Gives (λ p. (bare p.tree, lexemes p.rest.now)) result (primary_at after_minus (expression_at limit) (lexemes tokens.now)) }
+    ensures places { IfOk result (λ p. At (placed p.tree) (spots tokens.now) (spots p.rest.now)) }
+    ensures height { IfOk result (λ p. (p.height ≡ expression_height (bare p.tree)) × (p.height ≤ limit + 1)) }
+{
+    let Some((token, rest)) = tokens.split_first() else {
+        return Err(syntax(context, tokens));
+    };
+    let span = token.span;
+    let tree = match token.kind {
+        TokenKind::Name(text) => return named(context, text, span, rest, limit),
+        TokenKind::Number(text) => return number(context, text, span, rest, after_minus),
+        TokenKind::Word(Word::New) => return made(context, rest, limit, span),
+        TokenKind::Sign(Sign::OpenParen) => return paren(context, rest, limit, span),
+        TokenKind::Word(Word::True) => Expr::True(span),
+        TokenKind::Word(Word::False) => Expr::False(span),
+        TokenKind::Word(Word::Null) => Expr::Null(span),
+        TokenKind::Word(Word::This) => Expr::This(span),
+        _ => return Err(syntax(context, tokens)),
+    };
+    Ok(Part {
+        tree,
+        height: 1,
+        rest,
+    })
+}
+
+// What begins by a name: the name or a call.
+#[cycle(expressions)]
+#[tactic(auto, using(crate::proofs::Places::name_is, crate::proofs::Places::call_is))]
+fn named<'t, 'a>(
+    context: Context,
+    text: &'a str,
+    span: Span,
+    tokens: &'t [Token<'a>],
+    limit: usize,
+) -> Result<Part<'t, 'a, Expr>, TextFault>
+    requires { limit + 1 < 2 ^ 64 }
+    ensures read { Gives (λ p. (bare p.tree, lexemes p.rest.now)) result (named_at (expression_at limit) text.now (lexemes tokens.now)) }
+    ensures places { IfOk result (λ p. At (placed p.tree) (spot (Named text.now) span ∷ spots tokens.now) (spots p.rest.now)) }
+    ensures height { IfOk result (λ p. (p.height ≡ expression_height (bare p.tree)) × (p.height ≤ limit + 1)) }
+{
+    let name = make_name(context, text, span)?;
+    match sign_part(tokens, Sign::OpenParen) {
+        Some(open) => {
+            let arguments = arguments(context, open.rest, limit)?;
+            let span = upto(span, arguments.end);
+            Ok(Part {
+                tree: called(None, name, arguments.tree, span),
+                height: arguments.height + 1,
+                rest: arguments.rest,
+            })
+        }
+        None => Ok(Part {
+            tree: Expr::Name(name),
+            height: 1,
+            rest: tokens,
+        }),
+    }
+}
+
+#[cycle(expressions)]
+#[tactic(auto, using(crate::proofs::Places::paren_is))]
+fn paren<'t, 'a>(
+    context: Context,
+    tokens: &'t [Token<'a>],
+    limit: usize,
+    start: Span,
+) -> Result<Part<'t, 'a, Expr>, TextFault>
+    requires { limit + 1 < 2 ^ 64 }
+    ensures read { Gives (λ p. (bare p.tree, lexemes p.rest.now)) result (paren_at (expression_at limit) (lexemes tokens.now)) }
+    ensures places { IfOk result (λ p. At (placed p.tree) (sign signs.OpenParen start ∷ spots tokens.now) (spots p.rest.now)) }
+    ensures height { IfOk result (λ p. (p.height ≡ expression_height (bare p.tree)) × (p.height ≤ limit + 1)) }
+{
+    let inner = binary(context, tokens, 6, limit)?;
+    let inner = boxed_part(context.alloc, inner)?;
+    let inner = closed_part(context, inner, Sign::CloseParen)?;
+    Ok(Part {
+        tree: Expr::Paren {
+            inner: inner.tree,
+            span: upto(start, inner.end),
+        },
+        height: inner.height + 1,
+        rest: inner.rest,
+    })
+}
+
+// What stands behind `new`.
+#[cycle(expressions)]
+#[tactic(auto, using(crate::proofs::Places::new_array_is))]
+fn made<'t, 'a>(
+    context: Context,
+    tokens: &'t [Token<'a>],
+    limit: usize,
+    start: Span,
+) -> Result<Part<'t, 'a, Expr>, TextFault>
+    requires { limit + 1 < 2 ^ 64 }
+    ensures read { Gives (λ p. (bare p.tree, lexemes p.rest.now)) result (new_at (expression_at limit) (lexemes tokens.now)) }
+    ensures places { IfOk result (λ p. At (placed p.tree) (spot (Reserved words.New) start ∷ spots tokens.now) (spots p.rest.now)) }
+    ensures height { IfOk result (λ p. (p.height ≡ expression_height (bare p.tree)) × (p.height ≤ limit + 1)) }
+{
+    if let Some(class) = name_part(tokens) {
+        return object(context, class, limit, start);
+    }
+    let word = expect_word(context, tokens, Word::Boolean)?;
+    let length = index(context, word.rest, limit)?;
+    Ok(Part {
+        tree: Expr::NewArray {
+            length: length.tree,
+            span: upto(start, length.end),
+        },
+        height: length.height + 1,
+        rest: length.rest,
+    })
+}
+
+// A class's name behind `new`, and what stands behind it.
+#[cycle(expressions)]
+#[tactic(auto, using(crate::proofs::Places::new_is, crate::proofs::Places::new_markable_is))]
+fn object<'t, 'a>(
+    context: Context,
+    class: NamePart<'t, 'a>,
+    limit: usize,
+    start: Span,
+) -> Result<Part<'t, 'a, Expr>, TextFault>
+    requires { limit + 1 < 2 ^ 64 }
+    ensures read { Gives (λ p. (bare p.tree, lexemes p.rest.now)) result (object_at (expression_at limit) class.entry.text.now (lexemes class.entry.rest.now)) }
+    ensures places { IfOk result (λ p. At (placed p.tree) (spot (Reserved words.New) start ∷ spot (Named class.entry.text.now) class.entry.span ∷ spots class.entry.rest.now) (spots p.rest.now)) }
+    ensures height { IfOk result (λ p. (p.height ≡ expression_height (bare p.tree)) × (p.height ≤ limit + 1)) }
+{
+    if is_markable(class.text) && starts_with(class.rest, Sign::Less) {
+        let class = class_name(context, class.rest)?;
+        let open = expect(context, class.rest, Sign::OpenParen)?;
+        let arguments = arguments(context, open.rest, limit)?;
+        let span = upto(start, arguments.end);
+        Ok(Part {
+            tree: new_markable(class.tree, arguments.tree, span),
+            height: arguments.height + 1,
+            rest: arguments.rest,
+        })
+    } else {
+        let open = expect(context, class.rest, Sign::OpenParen)?;
+        let arguments = arguments(context, open.rest, limit)?;
+        let name = make_name(context, class.text, class.span)?;
+        let span = upto(start, arguments.end);
+        Ok(Part {
+            tree: new_object(name, arguments.tree, span),
+            height: arguments.height + 1,
+            rest: arguments.rest,
+        })
+    }
+}

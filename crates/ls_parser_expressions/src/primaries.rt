@@ -1,0 +1,121 @@
+// What an expression begins by, and its suffixes, as far as no expression stands in it.
+
+ghost use Rattle.std.specs.Prelude.{◌≡◌, ◌∷◌, ◌-◌, ◌<◌, IfOk};
+ghost use Rattle.ls_lexer.specs.Lexemes.{Numeral, lexemes};
+ghost use Rattle.ls_parser_spelling.specs.Places.{spot, spots, ClassNameAt, At};
+ghost use Rattle.ls_tree.specs.PlacedTrees as trees;
+ghost use Rattle.ls_tree.specs.Placed as views;
+ghost use Rattle.ls_tree.specs.Placed.{placed, placed_name, placed_target, placed_all};
+ghost use Rattle.ls_tree.specs.Trees.{NewArray, New, NewMarkable};
+ghost use Rattle.ls_tree.specs.WellFormed.{expression_height, is_new_array};
+ghost use Rattle.ls_tree.specs.Views.{name_text, bare, bare_target, call_of, expressions_of};
+ghost use Rattle.ls_parser_expressions.specs.Answers.{Gives};
+ghost use Rattle.ls_parser_expressions.specs.Reading.{is_markable};
+ghost use Rattle.ls_parser_expressions.specs.ReadingExpressions.{has_suffix, is_largest, number_here, class_at};
+
+use crate::tokens::{Context, Part, Read, closed, expect, name, starts_with};
+use ls_lexer::fault::TextFault;
+use ls_lexer::sign::Sign;
+use ls_lexer::token::{Span, Token};
+use ls_lexer::word::Word;
+use ls_tree::tree::{Expr, Name};
+use std::alloc::AllocError;
+
+// ---- what stands behind a primary
+
+pub fn has_suffix(tokens: &[Token]) -> bool
+    ensures { result ≡ has_suffix (lexemes tokens.now) }
+{
+    starts_with(tokens, Sign::Dot) || starts_with(tokens, Sign::OpenBracket)
+}
+
+pub fn is_new_array(tree: &Expr) -> bool
+    ensures { result ≡ is_new_array (bare tree.now) }
+{
+    matches!(tree, Expr::NewArray { .. })
+}
+
+pub fn called(target: Option<Box<Expr>>, name: Name, arguments: Vec<Expr>, span: Span) -> Expr
+    ensures read { bare result ≡ call_of (bare_target target) (name_text name) (expressions_of arguments.items) }
+    ensures placed { placed result ≡ views.call_of (placed_target target) (placed_name name) (placed_all arguments.items) span }
+{
+    Expr::Call {
+        target,
+        name,
+        arguments,
+        span,
+    }
+}
+
+// ---- primaries
+
+pub fn is_largest(text: &str) -> bool
+    ensures { result ≡ is_largest text.now }
+{
+    text == "2147483648"
+}
+
+pub fn is_markable(text: &str) -> bool
+    ensures { result ≡ is_markable text.now }
+{
+    text == "AtomicMarkableReference"
+}
+
+#[tactic(auto, using(ls_parser_spelling::specs::Places::number_at))]
+pub fn number<'t, 'a>(
+    context: Context,
+    text: &'a str,
+    span: Span,
+    rest: &'t [Token<'a>],
+    after_minus: bool,
+) -> Result<Part<'t, 'a, Expr>, TextFault>
+    ensures read { Gives (λ p. (bare p.tree, lexemes p.rest.now)) result (number_here after_minus text.now (lexemes rest.now)) }
+    ensures placed { IfOk result (λ p. At (placed p.tree) (spot (Numeral text.now) span ∷ spots rest.now) (spots p.rest.now)) }
+    ensures height { IfOk result (λ p. (p.height ≡ expression_height (bare p.tree)) × (p.height ≡ 1)) }
+{
+    if !after_minus && is_largest(text) {
+        return Err(TextFault::BadNumber { at: span.start });
+    }
+    let text = String::from_str(context.alloc, text)?;
+    Ok(Part {
+        tree: Expr::Number { text, span },
+        height: 1,
+        rest,
+    })
+}
+
+/// A name between `<` and `>`.
+#[tactic(auto, using(crate::proofs::Places::class_name_is))]
+pub fn class_name<'t, 'a>(
+    context: Context,
+    tokens: &'t [Token<'a>],
+) -> Result<Read<'t, 'a, Name>, TextFault>
+    ensures read { Gives (λ n. (name_text n.tree, lexemes n.rest.now)) result (class_at (lexemes tokens.now)) }
+    ensures placed { IfOk result (λ n. ClassNameAt (placed_name n.tree) (spots tokens.now) (spots n.rest.now)) }
+{
+    let open = expect(context, tokens, Sign::Less)?;
+    let name = name(context, open.rest)?;
+    closed(context, name, Sign::Greater)
+}
+
+pub fn new_object(class: Name, arguments: Vec<Expr>, span: Span) -> Expr
+    ensures read { bare result ≡ New (name_text class) (expressions_of arguments.items) }
+    ensures placed { placed result ≡ trees.New (placed_name class) (placed_all arguments.items) span }
+{
+    Expr::New {
+        class,
+        arguments,
+        span,
+    }
+}
+
+pub fn new_markable(class: Name, arguments: Vec<Expr>, span: Span) -> Expr
+    ensures read { bare result ≡ NewMarkable (name_text class) (expressions_of arguments.items) }
+    ensures placed { placed result ≡ trees.NewMarkable (placed_name class) (placed_all arguments.items) span }
+{
+    Expr::NewMarkable {
+        class,
+        arguments,
+        span,
+    }
+}

@@ -1,0 +1,203 @@
+// The tokens of statements and blocks.
+
+ghost use Rattle.std.specs.Prelude.{◌≡◌, ◌++◌, ◌∷◌, [], OnOk, option_map};
+ghost use Rattle.ls_lexer.specs.Lexemes.{Reserved, Marked};
+ghost use Rattle.ls_lexer.specs.declared.sign.Sign.TheVariants as signs;
+ghost use Rattle.ls_lexer.specs.declared.word.Word.TheVariants as words;
+ghost use Rattle.ls_parser_spelling.specs.Kinds.{lexemes_of};
+ghost use Rattle.ls_tree.specs.Trees.{While as while_loop, Try as try_finally};
+ghost use Rattle.ls_tree.specs.Views.{name_text, bare, bare_statement, bare_other, bare_piece, if_of, items_of};
+ghost use Rattle.ls_parser_spelling.specs.Spelling.{in_parens, in_braces, spell_expression, spell_label, spell_label_before, spell_value, spell_statement, spell_items, spell_piece};
+
+use crate::declarations::put_declaration;
+use crate::expressions::{put_expression, put_value};
+use crate::kinds::{put_name, put_sign, put_word};
+use ls_lexer::sign::Sign;
+use ls_lexer::token::TokenKind;
+use ls_lexer::word::Word;
+use ls_tree::tree::{BlockItem, Expr, Name, Statement};
+use std::alloc::AllocError;
+
+fn put_condition<'a>(out: &mut Vec<TokenKind<'a>>, condition: &'a Expr) -> Result<(), AllocError>
+    ensures { OnOk result (lexemes_of out.new.items ≡ lexemes_of out.old.items ++ in_parens (spell_expression (bare condition.now))) }
+{
+    put_sign(out, Sign::OpenParen)?;
+    put_expression(out, condition)?;
+    put_sign(out, Sign::CloseParen)
+}
+
+fn put_label<'a>(out: &mut Vec<TokenKind<'a>>, label: &'a Option<Name>) -> Result<(), AllocError>
+    ensures { OnOk result (lexemes_of out.new.items ≡ lexemes_of out.old.items ++ spell_label (option_map name_text label.now)) }
+{
+    match label {
+        Some(name) => put_name(out, name),
+        None => Ok(()),
+    }
+}
+
+// The label in front of a loop, with its colon.
+fn put_label_before<'a>(
+    out: &mut Vec<TokenKind<'a>>,
+    label: &'a Option<Name>,
+) -> Result<(), AllocError>
+    ensures { OnOk result (lexemes_of out.new.items ≡ lexemes_of out.old.items ++ spell_label_before (option_map name_text label.now)) }
+{
+    match label {
+        Some(name) => {
+            put_name(out, name)?;
+            put_sign(out, Sign::Colon)
+        }
+        None => Ok(()),
+    }
+}
+
+fn put_jump<'a>(
+    out: &mut Vec<TokenKind<'a>>,
+    word: Word,
+    label: &'a Option<Name>,
+) -> Result<(), AllocError>
+    ensures { OnOk result (lexemes_of out.new.items ≡ lexemes_of out.old.items ++ Reserved word ∷ (spell_label (option_map name_text label.now) ++ Marked signs.Semicolon ∷ [])) }
+{
+    put_word(out, word)?;
+    put_label(out, label)?;
+    put_sign(out, Sign::Semicolon)
+}
+
+fn put_return<'a>(out: &mut Vec<TokenKind<'a>>, value: &'a Option<Expr>) -> Result<(), AllocError>
+    ensures { OnOk result (lexemes_of out.new.items ≡ lexemes_of out.old.items ++ Reserved words.Return ∷ (spell_value (option_map bare value.now) ++ Marked signs.Semicolon ∷ [])) }
+{
+    put_word(out, Word::Return)?;
+    put_value(out, value)?;
+    put_sign(out, Sign::Semicolon)
+}
+
+fn put_assignment<'a>(
+    out: &mut Vec<TokenKind<'a>>,
+    target: &'a Expr,
+    value: &'a Expr,
+) -> Result<(), AllocError>
+    ensures { OnOk result (lexemes_of out.new.items ≡ lexemes_of out.old.items ++ (spell_expression (bare target.now) ++ Marked signs.Assign ∷ (spell_expression (bare value.now) ++ Marked signs.Semicolon ∷ []))) }
+{
+    put_expression(out, target)?;
+    put_sign(out, Sign::Assign)?;
+    put_expression(out, value)?;
+    put_sign(out, Sign::Semicolon)
+}
+
+#[cycle(statements)]
+fn put_statement<'a>(out: &mut Vec<TokenKind<'a>>, s: &'a Statement) -> Result<(), AllocError>
+    ensures { OnOk result (lexemes_of out.new.items ≡ lexemes_of out.old.items ++ spell_statement (bare_statement s.now)) }
+{
+    match s {
+        Statement::Block(block) => {
+            put_block(out, &block.items)?;
+            Ok(())
+        }
+        Statement::Empty(_) => put_sign(out, Sign::Semicolon),
+        Statement::If {
+            condition,
+            then,
+            otherwise,
+            ..
+        } => {
+            put_if(out, condition, then, otherwise)?;
+            Ok(())
+        }
+        Statement::While {
+            label,
+            condition,
+            body,
+            ..
+        } => put_while(out, label, condition, body),
+        Statement::Break { label, .. } => put_jump(out, Word::Break, label),
+        Statement::Continue { label, .. } => put_jump(out, Word::Continue, label),
+        Statement::Return { value, .. } => put_return(out, value),
+        Statement::Try { body, finally, .. } => {
+            put_try(out, &body.items, &finally.items)?;
+            Ok(())
+        }
+        Statement::Assign { target, value, .. } => put_assignment(out, target, value),
+        Statement::Expression { value, .. } => {
+            put_expression(out, value)?;
+            put_sign(out, Sign::Semicolon)
+        }
+    }
+}
+
+#[cycle(statements)]
+fn put_if<'a>(
+    out: &mut Vec<TokenKind<'a>>,
+    condition: &'a Expr,
+    then: &'a Statement,
+    otherwise: &'a Option<Box<Statement>>,
+) -> Result<(), AllocError>
+    ensures { OnOk result (lexemes_of out.new.items ≡ lexemes_of out.old.items ++ spell_statement (if_of (bare condition.now) (bare_statement then.now) (bare_other otherwise.now))) }
+{
+    put_word(out, Word::If)?;
+    put_condition(out, condition)?;
+    put_statement(out, then)?;
+    if let Some(other) = otherwise {
+        put_word(out, Word::Else)?;
+        put_statement(out, other)?;
+    }
+    Ok(())
+}
+
+#[cycle(statements)]
+fn put_while<'a>(
+    out: &mut Vec<TokenKind<'a>>,
+    label: &'a Option<Name>,
+    condition: &'a Expr,
+    body: &'a Statement,
+) -> Result<(), AllocError>
+    ensures { OnOk result (lexemes_of out.new.items ≡ lexemes_of out.old.items ++ spell_statement (while_loop (option_map name_text label.now) (bare condition.now) (bare_statement body.now))) }
+{
+    put_label_before(out, label)?;
+    put_word(out, Word::While)?;
+    put_condition(out, condition)?;
+    put_statement(out, body)
+}
+
+#[cycle(statements)]
+fn put_try<'a>(
+    out: &mut Vec<TokenKind<'a>>,
+    body: &'a [BlockItem],
+    finally: &'a [BlockItem],
+) -> Result<(), AllocError>
+    ensures { OnOk result (lexemes_of out.new.items ≡ lexemes_of out.old.items ++ spell_statement (try_finally (items_of body.now) (items_of finally.now))) }
+{
+    put_word(out, Word::Try)?;
+    put_block(out, body)?;
+    put_word(out, Word::Finally)?;
+    put_block(out, finally)
+}
+
+/// Statements and declarations in braces.
+#[cycle(statements)]
+pub fn put_block<'a>(out: &mut Vec<TokenKind<'a>>, items: &'a [BlockItem]) -> Result<(), AllocError>
+    ensures { OnOk result (lexemes_of out.new.items ≡ lexemes_of out.old.items ++ in_braces (spell_items (items_of items.now))) }
+{
+    put_sign(out, Sign::OpenBrace)?;
+    put_items(out, items)?;
+    put_sign(out, Sign::CloseBrace)
+}
+
+#[cycle(statements)]
+fn put_items<'a>(out: &mut Vec<TokenKind<'a>>, items: &'a [BlockItem]) -> Result<(), AllocError>
+    ensures { OnOk result (lexemes_of out.new.items ≡ lexemes_of out.old.items ++ spell_items (items_of items.now)) }
+{
+    for item in items {
+        put_item(out, item)?;
+    }
+    Ok(())
+}
+
+#[cycle(statements)]
+fn put_item<'a>(out: &mut Vec<TokenKind<'a>>, item: &'a BlockItem) -> Result<(), AllocError>
+    ensures { OnOk result (lexemes_of out.new.items ≡ lexemes_of out.old.items ++ spell_piece (bare_piece item.now)) }
+{
+    match item {
+        BlockItem::Statement(s) => put_statement(out, s),
+        BlockItem::Declaration(declaration) => put_declaration(out, declaration),
+    }
+}

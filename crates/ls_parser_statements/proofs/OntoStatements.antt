@@ -1,0 +1,156 @@
+-- The tokens of declarations and statements, and then the rest.
+use Rattle.std.proofs.Common.{◌≡◌, ◌<◌, ◌≤◌, length, List, [], ◌∷◌, Option, Some, None, refl, ap, arith}
+use Rattle.ls_lexer.specs.Lexemes.{Lexeme, Named, Reserved, Marked}
+use Rattle.ls_lexer.specs.declared.sign.Sign.TheVariants as signs
+use Rattle.ls_lexer.specs.declared.word.Word.TheVariants as words
+use Rattle.ls_tree.specs.Trees.{Text, Expression, Modifier, Public, Protected, Private, Final, Volatile, Annotation, TypeName, Int, Boolean, BooleanArray, Class, Markable, Declarator, Declaration, Statement, Block, Empty, If, IfElse, While, Break, Continue, Return, Try, Assign, Evaluate, Items, NoItem, Do, Declare, Piece, Doing, Declaring, collected}
+use Rattle.ls_parser_expressions.specs.Reading.{markable_name}
+use Rattle.ls_parser_expressions.proofs.Onto.{onto, onto_class, onto_longer}
+use Rattle.ls_parser_expressions.proofs.Lists.{onto_all, onto_all_longer}
+
+abbrev pub onto_modifier : Modifier → List Lexeme → List Lexeme
+onto_modifier Public rest = Reserved words.Public ∷ rest
+onto_modifier Protected rest = Reserved words.Protected ∷ rest
+onto_modifier Private rest = Reserved words.Private ∷ rest
+onto_modifier Final rest = Reserved words.Final ∷ rest
+onto_modifier Volatile rest = Reserved words.Volatile ∷ rest
+onto_modifier (Annotation name) rest = Marked signs.At ∷ Named name ∷ rest
+
+abbrev pub onto_type : TypeName → List Lexeme → List Lexeme
+onto_type Int rest = Reserved words.Int ∷ rest
+onto_type Boolean rest = Reserved words.Boolean ∷ rest
+onto_type BooleanArray rest = Reserved words.Boolean ∷ Marked signs.OpenBracket ∷ Marked signs.CloseBracket ∷ rest
+onto_type (Class name) rest = Named name ∷ rest
+onto_type (Markable name) rest = Named markable_name ∷ onto_class name rest
+
+abbrev pub onto_initial : Option Expression → List Lexeme → List Lexeme
+onto_initial None rest = rest
+onto_initial (Some value) rest = Marked signs.Assign ∷ onto value rest
+
+abbrev pub onto_declarator : Declarator → List Lexeme → List Lexeme
+onto_declarator d rest = Named d.name ∷ onto_initial d.value rest
+
+abbrev pub onto_next_declarator : Declarator → List Lexeme → List Lexeme
+onto_next_declarator d rest = Marked signs.Comma ∷ onto_declarator d rest
+
+abbrev pub onto_declaration : Declaration → List Lexeme → List Lexeme
+onto_declaration d rest = onto_all onto_modifier d.modifiers (onto_type d.type_name (onto_declarator d.first (onto_all onto_next_declarator d.more (Marked signs.Semicolon ∷ rest))))
+
+abbrev pub onto_label : Option Text → List Lexeme → List Lexeme
+onto_label None rest = rest
+onto_label (Some name) rest = Named name ∷ rest
+
+abbrev pub onto_label_before : Option Text → List Lexeme → List Lexeme
+onto_label_before None rest = rest
+onto_label_before (Some name) rest = Named name ∷ Marked signs.Colon ∷ rest
+
+abbrev pub onto_value : Option Expression → List Lexeme → List Lexeme
+onto_value None rest = rest
+onto_value (Some value) rest = onto value rest
+
+abbrev pub onto_condition : Expression → List Lexeme → List Lexeme
+onto_condition condition rest = Marked signs.OpenParen ∷ onto condition (Marked signs.CloseParen ∷ rest)
+
+abbrev mutual
+  pub onto_statement : Statement → List Lexeme → List Lexeme
+  onto_statement (Block items) rest = Marked signs.OpenBrace ∷ onto_items items (Marked signs.CloseBrace ∷ rest)
+  onto_statement Empty rest = Marked signs.Semicolon ∷ rest
+  onto_statement (If condition first) rest = Reserved words.If ∷ onto_condition condition (onto_statement first rest)
+  onto_statement (IfElse condition first second) rest = Reserved words.If ∷ onto_condition condition (onto_statement first (Reserved words.Else ∷ onto_statement second rest))
+  onto_statement (While label condition body) rest = onto_label_before label (Reserved words.While ∷ onto_condition condition (onto_statement body rest))
+  onto_statement (Break label) rest = Reserved words.Break ∷ onto_label label (Marked signs.Semicolon ∷ rest)
+  onto_statement (Continue label) rest = Reserved words.Continue ∷ onto_label label (Marked signs.Semicolon ∷ rest)
+  onto_statement (Return value) rest = Reserved words.Return ∷ onto_value value (Marked signs.Semicolon ∷ rest)
+  onto_statement (Try body finally) rest =
+      Reserved words.Try ∷ Marked signs.OpenBrace ∷ onto_items body (Marked signs.CloseBrace ∷ Reserved words.Finally ∷ Marked signs.OpenBrace ∷ onto_items finally (Marked signs.CloseBrace ∷ rest))
+  onto_statement (Assign target value) rest = onto target (Marked signs.Assign ∷ onto value (Marked signs.Semicolon ∷ rest))
+  onto_statement (Evaluate value) rest = onto value (Marked signs.Semicolon ∷ rest)
+
+  pub onto_items : Items → List Lexeme → List Lexeme
+  onto_items NoItem rest = rest
+  onto_items (Do first others) rest = onto_statement first (onto_items others rest)
+  onto_items (Declare first others) rest = onto_declaration first (onto_items others rest)
+
+abbrev pub onto_block : Items → List Lexeme → List Lexeme
+onto_block items rest = Marked signs.OpenBrace ∷ onto_items items (Marked signs.CloseBrace ∷ rest)
+
+abbrev pub onto_piece : Piece → List Lexeme → List Lexeme
+onto_piece (Doing statement) rest = onto_statement statement rest
+onto_piece (Declaring declaration) rest = onto_declaration declaration rest
+
+pub onto_collected : (ps : List Piece) (rest : List Lexeme) → onto_items (collected ps) rest ≡ onto_all onto_piece ps rest
+onto_collected [] rest = refl
+onto_collected (Doing a ∷ ps) rest = ap (onto_statement a) (onto_collected ps rest)
+onto_collected (Declaring d ∷ ps) rest = ap (onto_declaration d) (onto_collected ps rest)
+
+-- ---- lengths
+
+pub modifier_longer : (m : Modifier) (rest : List Lexeme) → length rest < length (onto_modifier m rest)
+modifier_longer (Annotation name) rest = omega arith
+modifier_longer Public rest = omega arith
+modifier_longer Protected rest = omega arith
+modifier_longer Private rest = omega arith
+modifier_longer Final rest = omega arith
+modifier_longer Volatile rest = omega arith
+
+type_longer : (t : TypeName) (rest : List Lexeme) → length rest < length (onto_type t rest)
+type_longer Int rest = omega arith
+type_longer Boolean rest = omega arith
+type_longer BooleanArray rest = omega arith
+type_longer (Class name) rest = omega arith
+type_longer (Markable name) rest = omega arith
+
+initial_longer : (value : Option Expression) (rest : List Lexeme) → length rest ≤ length (onto_initial value rest)
+initial_longer None rest = omega arith
+initial_longer (Some value) rest = omega (arith, onto_longer value rest)
+
+pub declarator_longer : (d : Declarator) (rest : List Lexeme) → length rest < length (onto_declarator d rest)
+declarator_longer d rest = omega (arith, initial_longer d.value rest)
+
+pub next_declarator_longer : (d : Declarator) (rest : List Lexeme) → length rest < length (onto_next_declarator d rest)
+next_declarator_longer d rest = omega (arith, declarator_longer d rest)
+
+pub declaration_longer : (d : Declaration) (rest : List Lexeme) → length rest < length (onto_declaration d rest)
+declaration_longer d rest =
+    let ks1 : List Lexeme = onto_all onto_next_declarator d.more (Marked signs.Semicolon ∷ rest) in
+    let ks2 : List Lexeme = onto_declarator d.first ks1 in
+    let ks3 : List Lexeme = onto_type d.type_name ks2 in
+    omega (arith, onto_all_longer onto_modifier modifier_longer d.modifiers ks3, type_longer d.type_name ks2, declarator_longer d.first ks1, onto_all_longer onto_next_declarator next_declarator_longer d.more (Marked signs.Semicolon ∷ rest))
+
+label_longer : (label : Option Text) (rest : List Lexeme) → length rest ≤ length (onto_label label rest)
+label_longer None rest = omega arith
+label_longer (Some name) rest = omega arith
+
+label_before_longer : (label : Option Text) (rest : List Lexeme) → length rest ≤ length (onto_label_before label rest)
+label_before_longer None rest = omega arith
+label_before_longer (Some name) rest = omega arith
+
+value_longer : (value : Option Expression) (rest : List Lexeme) → length rest ≤ length (onto_value value rest)
+value_longer None rest = omega arith
+value_longer (Some value) rest = omega (arith, onto_longer value rest)
+
+mutual
+  pub statement_longer : (t : Statement) (rest : List Lexeme) → length rest < length (onto_statement t rest)
+  statement_longer (Block items) rest = omega (arith, items_longer items (Marked signs.CloseBrace ∷ rest))
+  statement_longer Empty rest = omega arith
+  statement_longer (If condition first) rest = omega (arith, onto_longer condition (Marked signs.CloseParen ∷ onto_statement first rest), statement_longer first rest)
+  statement_longer (IfElse condition first second) rest =
+      omega (arith, onto_longer condition (Marked signs.CloseParen ∷ onto_statement first (Reserved words.Else ∷ onto_statement second rest)), statement_longer first (Reserved words.Else ∷ onto_statement second rest), statement_longer second rest)
+  statement_longer (While label condition body) rest =
+      omega (arith, label_before_longer label (Reserved words.While ∷ onto_condition condition (onto_statement body rest)), onto_longer condition (Marked signs.CloseParen ∷ onto_statement body rest), statement_longer body rest)
+  statement_longer (Break label) rest = omega (arith, label_longer label (Marked signs.Semicolon ∷ rest))
+  statement_longer (Continue label) rest = omega (arith, label_longer label (Marked signs.Semicolon ∷ rest))
+  statement_longer (Return value) rest = omega (arith, value_longer value (Marked signs.Semicolon ∷ rest))
+  statement_longer (Try body finally) rest =
+      omega (arith, items_longer body (Marked signs.CloseBrace ∷ Reserved words.Finally ∷ Marked signs.OpenBrace ∷ onto_items finally (Marked signs.CloseBrace ∷ rest)), items_longer finally (Marked signs.CloseBrace ∷ rest))
+  statement_longer (Assign target value) rest = omega (arith, onto_longer target (Marked signs.Assign ∷ onto value (Marked signs.Semicolon ∷ rest)), onto_longer value (Marked signs.Semicolon ∷ rest))
+  statement_longer (Evaluate value) rest = omega (arith, onto_longer value (Marked signs.Semicolon ∷ rest))
+
+  pub items_longer : (ts : Items) (rest : List Lexeme) → length rest ≤ length (onto_items ts rest)
+  items_longer NoItem rest = omega arith
+  items_longer (Do first others) rest = omega (arith, statement_longer first (onto_items others rest), items_longer others rest)
+  items_longer (Declare first others) rest = omega (arith, declaration_longer first (onto_items others rest), items_longer others rest)
+
+pub piece_longer : (p : Piece) (rest : List Lexeme) → length rest < length (onto_piece p rest)
+piece_longer (Doing statement) rest = statement_longer statement rest
+piece_longer (Declaring declaration) rest = declaration_longer declaration rest

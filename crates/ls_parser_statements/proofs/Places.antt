@@ -1,0 +1,221 @@
+-- The places of declarations and statements, from what the parser's functions answer.
+use Rattle.std.proofs.Common.{◌≡◌, ℕ, ◌-◌, ◌≤◌, Bool, true, List, [], ◌∷◌, ◌++◌, length, take, drop, slice_index_or, Option, Some, None, Result, Ok, Err, IfOk, refl, sym, ap, subst, ◌∙◌, map}
+use Rattle.std.specs.Global.{Vec}
+use Rattle.ls_lexer.specs.declared.token.Span.{Span}
+use Rattle.ls_lexer.specs.declared.token.Token.{Token}
+use Rattle.ls_lexer.specs.declared.word.Word.{Word}
+use Rattle.ls_lexer.specs.declared.word.Word.TheVariants as words
+use Rattle.ls_lexer.specs.declared.sign.Sign.TheVariants as signs
+use Rattle.ls_lexer.specs.Lexemes.{Lexeme, Named, Reserved, Marked, lexeme_of}
+use Rattle.ls_tree.specs.declared.tree.Expr.{Expr}
+use Rattle.ls_tree.specs.declared.tree.Name.{Name}
+use Rattle.ls_tree.specs.declared.tree.Modifier.{Modifier}
+use Rattle.ls_tree.specs.declared.tree.Declarator.{Declarator}
+use Rattle.ls_tree.specs.declared.tree.BlockItem.{BlockItem}
+use Rattle.ls_tree.specs.declared.tree.BlockItem.TheVariants as rows
+use Rattle.ls_tree.specs.Trees as bare
+use Rattle.ls_tree.specs.Views.{name_text, bare_modifier}
+use Rattle.ls_tree.specs.PlacedTrees as trees
+use Rattle.ls_tree.specs.PlacedTrees.{Expression, TypeName, Declaration, Statement, Items, NoItem, Do, Declare}
+use Rattle.ls_tree.specs.Placed.{placed, placed_name}
+use Rattle.ls_tree.specs.PlacedStatements.{placed_declarator, placed_declaration, placed_statement, placed_before, placed_items}
+use Rattle.ls_parser_spelling.specs.Spelling.{spell_modifier}
+use Rattle.ls_parser_spelling.specs.Places.{Spot, spot, spots, sign, named, upto, At, ClassNameAt}
+use Rattle.ls_parser_spelling.specs.StatementPlaces.{word, Begins, Anywhere, nothing_more, one_token, ManyAt, none_left, next_one, BehindComma, behind_comma_at, ModifierAt, TypeAt, int_at, boolean_at, boolean_array_at, class_type_at, markable_at, DeclaratorAt, no_value_at, value_at, DeclaratorsAt, declarators_at, DeclarationAt, declaration_at, ConditionAt, condition_at, LabelAt, no_label_at, label_at, JumpAt, bare_jump_at, jump_to_at, ReturnedAt, nothing_at, returned_at, StatementAt, block_statement_at, empty_at, if_at, if_else_at, while_at, break_at, continue_at, return_at, try_at, assign_at, evaluate_at, BlockAt, block_at, ItemsAt, no_item_at, do_at, declare_at}
+use Rattle.ls_parser_expressions.specs.Reading.{is_markable}
+use Rattle.ls_parser_expressions.proofs.Rows.{map_push}
+use Rattle.ls_parser_expressions.proofs.Places.{first_spot, name_spot, is_markable_text}
+
+-- what is answered begins the same tokens, however they are written
+pub of_tokens : {R E : Type 0} (r : Result R E) (P : R → List Spot → Type 0) {ss same : List Spot} → ss ≡ same → IfOk r (λ x. P x same) → IfOk r (λ x. P x ss)
+of_tokens r P is h = subst (λ (xs : List Spot). IfOk r (λ x. P x xs)) (sym is) h
+
+-- ---- lists
+
+pub many_push : {A : Type 0} (one : Begins A) {xs : List A} {x : A} {ss middle rest : List Spot} → ManyAt one xs ss middle → one x middle rest → ManyAt one (xs ++ x ∷ []) ss rest
+many_push one none_left g = next_one g none_left
+many_push one (next_one h k) g = next_one h (many_push one k g)
+
+pub many_pushed : {A B : Type 0} (one : Begins B) (f : A → B) (xs : List A) (x : A) {all : List A} {middle rest : List Spot} → all ≡ xs ++ x ∷ [] → one (f x) middle rest →
+    (ss : List Spot) → ManyAt one (map f xs) ss middle → ManyAt one (map f all) ss rest
+many_pushed {A} {B} one f xs x {rest = rest} is g ss h =
+    subst (λ (ys : List B). ManyAt one ys ss rest) (sym (ap (map f) is ∙ map_push f xs x)) (many_push one h g)
+
+pub many_none : {A B : Type 0} (one : Begins B) (f : A → B) {xs : List A} {ss : List Spot} → xs ≡ [] → ManyAt one (map f xs) ss ss
+many_none {A} {B} one f {ss = ss} is = subst (λ (ys : List A). ManyAt one (map f ys) ss ss) (sym is) none_left
+
+-- ---- modifiers
+
+pub modifier_is : (m : bare.Modifier) {w : Word} {s : Span} {rest : List Spot} → spell_modifier m ≡ Reserved w ∷ [] → ModifierAt m (word w s ∷ rest) rest
+modifier_is m {w} {s} {rest} is = subst (λ (ks : List Lexeme). Anywhere ks (word w s ∷ rest) rest) (sym is) (one_token nothing_more)
+
+pub annotation_is : (n : Name) {at : Span} {ss middle rest : List Spot} → ss ≡ sign signs.At at ∷ middle → middle ≡ named (placed_name n) ∷ rest → ModifierAt (bare.Annotation (name_text n)) ss rest
+annotation_is n {at} {rest = rest} a b =
+    subst (λ (xs : List Spot). ModifierAt (bare.Annotation (name_text n)) xs rest) (sym (a ∙ ap (λ (xs : List Spot). sign signs.At at ∷ xs) b)) (one_token (one_token nothing_more))
+
+pub modifiers_none : {ms : List Modifier} {ss : List Spot} → ms ≡ [] → ManyAt ModifierAt (map bare_modifier ms) ss ss
+modifiers_none is = many_none ModifierAt bare_modifier is
+
+pub modifiers_pushed : (ms : List Modifier) (m : Modifier) {all : List Modifier} {middle rest : List Spot} → all ≡ ms ++ m ∷ [] → ModifierAt (bare_modifier m) middle rest →
+    (ss : List Spot) → ManyAt ModifierAt (map bare_modifier ms) ss middle → ManyAt ModifierAt (map bare_modifier all) ss rest
+modifiers_pushed ms m is g ss h = many_pushed ModifierAt bare_modifier ms m is g ss h
+
+pub modifier_first : (m : bare.Modifier) (ts : List Token) (d : Token) {w : Word} → spell_modifier m ≡ Reserved w ∷ [] → 1 ≤ length ts → lexeme_of (slice_index_or ts 0 d).kind ≡ Reserved w →
+    ModifierAt m (spots ts) (spots (take (length ts - 1) (drop 1 ts)))
+modifier_first m ts d {w} spelled le e =
+    subst (λ (xs : List Spot). ModifierAt m xs (spots (take (length ts - 1) (drop 1 ts)))) (sym (first_spot ts d (Reserved w) le e)) (modifier_is m spelled)
+
+-- ---- types
+
+pub boolean_is : {rest : List Spot} → (s : Span) → TypeAt trees.Boolean (word words.Boolean s ∷ rest) rest
+boolean_is s = boolean_at
+
+pub array_is : {opening last : Span} {ss middle rest : List Spot} → ss ≡ sign signs.OpenBracket opening ∷ middle → middle ≡ sign signs.CloseBracket last ∷ rest → (s : Span) → TypeAt trees.BooleanArray (word words.Boolean s ∷ ss) rest
+array_is {opening} {rest = rest} a b s =
+    subst (λ (xs : List Spot). TypeAt trees.BooleanArray (word words.Boolean s ∷ xs) rest) (sym (a ∙ ap (λ (xs : List Spot). sign signs.OpenBracket opening ∷ xs) b)) boolean_array_at
+
+pub int_is : {s : Span} {ss rest : List Spot} → ss ≡ word words.Int s ∷ rest → TypeAt trees.Int ss rest
+int_is {rest = rest} is = subst (λ (xs : List Spot). TypeAt trees.Int xs rest) (sym is) int_at
+
+pub class_type_is : (n : Name) {text : trees.Text} {span : Span} {rest : List Spot} → name_text n ≡ text → n.span ≡ span → TypeAt (trees.Class (placed_name n)) (spot (Named text) span ∷ rest) rest
+class_type_is n {rest = rest} a b = subst (λ (x : Spot). TypeAt (trees.Class (placed_name n)) (x ∷ rest) rest) (name_spot n a b) class_type_at
+
+pub markable_is : {name : trees.Name} {text : trees.Text} {span : Span} {ss rest : List Spot} → is_markable text ≡ true → ClassNameAt name ss rest → TypeAt (trees.Markable name) (spot (Named text) span ∷ ss) rest
+markable_is {name} {text} {span} {ss} {rest} is h =
+    subst (λ (x : trees.Text). TypeAt (trees.Markable name) (spot (Named x) span ∷ ss) rest) (sym (is_markable_text text is)) (markable_at h)
+
+-- ---- declarators
+
+pub no_value_is : {name : trees.Name} {ss rest : List Spot} → ss ≡ named name ∷ rest → DeclaratorAt (record { name = name; value = None }) ss rest
+no_value_is {name} {rest = rest} is = subst (λ (xs : List Spot). DeclaratorAt (record { name = name; value = None }) xs rest) (sym is) no_value_at
+
+pub value_is : {name : trees.Name} {value : Expression} {assign : Span} {ss middle inner rest : List Spot} → ss ≡ named name ∷ middle → middle ≡ sign signs.Assign assign ∷ inner → At value inner rest →
+    DeclaratorAt (record { name = name; value = Some value }) ss rest
+value_is {name} {value} {rest = rest} a b h =
+    subst (λ (xs : List Spot). DeclaratorAt (record { name = name; value = Some value }) xs rest) (sym (a ∙ ap (λ (xs : List Spot). named name ∷ xs) b)) (value_at h)
+
+pub declarators_none : {ds : List Declarator} {ss : List Spot} → ds ≡ [] → ManyAt (BehindComma DeclaratorAt) (map placed_declarator ds) ss ss
+declarators_none is = many_none (BehindComma DeclaratorAt) placed_declarator is
+
+behind_comma_is : {A : Type 0} (one : Begins A) {x : A} {comma : Span} {ss middle rest : List Spot} → ss ≡ sign signs.Comma comma ∷ middle → one x middle rest → BehindComma one x ss rest
+behind_comma_is one {x} {rest = rest} is h = subst (λ (xs : List Spot). BehindComma one x xs rest) (sym is) (behind_comma_at h)
+
+pub declarators_pushed : (ds : List Declarator) (d : Declarator) {all : List Declarator} {comma : Span} {middle inner rest : List Spot} → all ≡ ds ++ d ∷ [] → middle ≡ sign signs.Comma comma ∷ inner → DeclaratorAt (placed_declarator d) inner rest →
+    (ss : List Spot) → ManyAt (BehindComma DeclaratorAt) (map placed_declarator ds) ss middle → ManyAt (BehindComma DeclaratorAt) (map placed_declarator all) ss rest
+declarators_pushed ds d is a g ss h = many_pushed (BehindComma DeclaratorAt) placed_declarator ds d is (behind_comma_is DeclaratorAt a g) ss h
+
+pub list_is : {v w : Vec Declarator} {last : Span} {middle end rest : List Spot} → w ≡ v → ManyAt (BehindComma DeclaratorAt) (map placed_declarator v.items) middle end → end ≡ sign signs.Semicolon last ∷ rest →
+    (first : trees.Declarator) (ss : List Spot) → DeclaratorAt first ss middle → DeclaratorsAt first (map placed_declarator w.items) ss rest
+list_is {v} {middle = middle} {rest = rest} same h is first ss g =
+    subst (λ (x : Vec Declarator). DeclaratorsAt first (map placed_declarator x.items) ss rest) (sym same)
+    (declarators_at g (subst (ManyAt (BehindComma DeclaratorAt) (map placed_declarator v.items) middle) is h))
+
+pub declaration_is : {d : Declaration} {behind rest : List Spot} → DeclaratorsAt d.first d.more behind rest →
+    (ms : List bare.Modifier) (ss middle : List Spot) → ManyAt ModifierAt ms ss middle → TypeAt d.type_name middle behind → DeclarationAt d ss rest
+declaration_is g ms ss middle h k = declaration_at h k g
+
+-- ---- simple statements
+
+pub condition_is : {e f : Expr} {opening last : Span} {ss middle end rest : List Spot} → f ≡ e → ss ≡ sign signs.OpenParen opening ∷ middle → At (placed e) middle end → end ≡ sign signs.CloseParen last ∷ rest → ConditionAt (placed f) ss rest
+condition_is {e} {ss = ss} {middle} {rest = rest} same a h b =
+    subst (λ (x : Expr). ConditionAt (placed x) ss rest) (sym same)
+    (subst (λ (xs : List Spot). ConditionAt (placed e) xs rest) (sym a) (condition_at (subst (At (placed e) middle) b h)))
+
+pub ended_is : {e f : Expr} {last : Span} {ss end rest : List Spot} → f ≡ e → At (placed e) ss end → end ≡ sign signs.Semicolon last ∷ rest → At (placed f) ss (sign signs.Semicolon last ∷ rest)
+ended_is {e} {last = last} {ss} {rest = rest} same h is = subst (λ (x : Expr). At (placed x) ss (sign signs.Semicolon last ∷ rest)) (sym same) (subst (At (placed e) ss) is h)
+
+pub bare_jump_is : {last : Span} {ss rest : List Spot} → ss ≡ sign signs.Semicolon last ∷ rest → JumpAt None last ss rest
+bare_jump_is {last} {rest = rest} is = subst (λ (xs : List Spot). JumpAt None last xs rest) (sym is) bare_jump_at
+
+pub jump_is : (n : Name) {text : trees.Text} {span last : Span} {ss middle rest : List Spot} → name_text n ≡ text → n.span ≡ span → ss ≡ spot (Named text) span ∷ middle → middle ≡ sign signs.Semicolon last ∷ rest →
+    JumpAt (Some (placed_name n)) last ss rest
+jump_is n {last = last} {ss} {middle} {rest} a b is end =
+    subst (λ (xs : List Spot). JumpAt (Some (placed_name n)) last xs rest)
+    (sym (is ∙ (λ i. sym (name_spot n a b) i ∷ end i))) jump_to_at
+
+pub nothing_is : {from last : Span} {ss rest : List Spot} → ss ≡ sign signs.Semicolon last ∷ rest → StatementAt (trees.Return None (upto from last)) (word words.Return from ∷ ss) rest
+nothing_is {from} {last} {rest = rest} is = subst (λ (xs : List Spot). StatementAt (trees.Return None (upto from last)) (word words.Return from ∷ xs) rest) (sym is) (return_at nothing_at)
+
+pub returned_is : {e : Expression} {from last : Span} {ss rest : List Spot} → At e ss (sign signs.Semicolon last ∷ rest) → StatementAt (trees.Return (Some e) (upto from last)) (word words.Return from ∷ ss) rest
+returned_is h = return_at (returned_at h)
+
+pub assign_is : {target value : Expression} {assign last : Span} {middle inner rest : List Spot} → middle ≡ sign signs.Assign assign ∷ inner → At value inner (sign signs.Semicolon last ∷ rest) →
+    (ss : List Spot) → At target ss middle → StatementAt (trees.Assign target value) ss rest
+assign_is {target} a g ss h = assign_at (subst (At target ss) a h) g
+
+pub evaluate_is : {value : Expression} {last : Span} {middle rest : List Spot} → middle ≡ sign signs.Semicolon last ∷ rest → (ss : List Spot) → At value ss middle → StatementAt (trees.Evaluate value) ss rest
+evaluate_is {value} is ss h = evaluate_at (subst (At value ss) is h)
+
+-- ---- statements
+
+pub block_is : {items : Items} {opening last : Span} {ss middle end rest : List Spot} → ss ≡ sign signs.OpenBrace opening ∷ middle → ItemsAt items middle end → end ≡ sign signs.CloseBrace last ∷ rest → BlockAt items ss rest
+block_is {items} {middle = middle} {rest = rest} a h b = subst (λ (xs : List Spot). BlockAt items xs rest) (sym a) (block_at (subst (ItemsAt items middle) b h))
+
+-- the items of both, one behind the other
+abbrev pub joined : Items → Items → Items
+joined NoItem others = others
+joined (Do s xs) others = Do s (joined xs others)
+joined (Declare d xs) others = Declare d (joined xs others)
+
+items_join : {xs ys : Items} {ss middle rest : List Spot} → ItemsAt xs ss middle → ItemsAt ys middle rest → ItemsAt (joined xs ys) ss rest
+items_join no_item_at g = g
+items_join (do_at h k) g = do_at h (items_join k g)
+items_join (declare_at h k) g = declare_at h (items_join k g)
+
+items_push : (items : List BlockItem) (item : BlockItem) → placed_items (items ++ item ∷ []) ≡ joined (placed_items items) (placed_before item NoItem)
+items_push [] (rows.Statement s) = refl
+items_push [] (rows.Declaration d) = refl
+items_push (rows.Statement s ∷ items) item = ap (Do (placed_statement s)) (items_push items item)
+items_push (rows.Declaration d ∷ items) item = ap (Declare (placed_declaration d)) (items_push items item)
+
+pub items_none : {items : List BlockItem} {ss : List Spot} → items ≡ [] → ItemsAt (placed_items items) ss ss
+items_none {ss = ss} is = subst (λ (xs : List BlockItem). ItemsAt (placed_items xs) ss ss) (sym is) no_item_at
+
+pub items_pushed : (items : List BlockItem) (item : BlockItem) {all : List BlockItem} {middle rest : List Spot} → all ≡ items ++ item ∷ [] → ItemsAt (placed_before item NoItem) middle rest →
+    (ss : List Spot) → ItemsAt (placed_items items) ss middle → ItemsAt (placed_items all) ss rest
+items_pushed items item {rest = rest} is g ss h = subst (λ (xs : Items). ItemsAt xs ss rest) (sym (ap placed_items is ∙ items_push items item)) (items_join h g)
+
+pub one_statement : {s : Statement} {ss rest : List Spot} → StatementAt s ss rest → ItemsAt (Do s NoItem) ss rest
+one_statement h = do_at h no_item_at
+
+pub one_declaration : {d : Declaration} {ss rest : List Spot} → DeclarationAt d ss rest → ItemsAt (Declare d NoItem) ss rest
+one_declaration h = declare_at h no_item_at
+
+pub block_statement_is : {t : Statement} {items : Items} {ss rest : List Spot} → t ≡ trees.Block items → BlockAt items ss rest → StatementAt t ss rest
+block_statement_is {ss = ss} {rest} is h = subst (λ (x : Statement). StatementAt x ss rest) (sym is) (block_statement_at h)
+
+pub empty_is : {s : Span} {ss rest : List Spot} → ss ≡ sign signs.Semicolon s ∷ rest → StatementAt trees.Empty ss rest
+empty_is {rest = rest} is = subst (λ (xs : List Spot). StatementAt trees.Empty xs rest) (sym is) empty_at
+
+pub if_is : {condition : Expression} {first : Statement} {ss middle rest : List Spot} → ConditionAt condition ss middle → StatementAt first middle rest →
+    (s : Span) → StatementAt (trees.If condition first) (word words.If s ∷ ss) rest
+if_is h g s = if_at h g
+
+pub if_else_is : {condition : Expression} {first second : Statement} {other : Span} {ss middle end behind rest : List Spot} → ConditionAt condition ss middle → StatementAt first middle end → end ≡ word words.Else other ∷ behind → StatementAt second behind rest →
+    (s : Span) → StatementAt (trees.IfElse condition first second) (word words.If s ∷ ss) rest
+if_else_is {first = first} {middle = middle} h g is k s = if_else_at h (subst (StatementAt first middle) is g) k
+
+pub while_is : {label : Option trees.Name} {condition : Expression} {body : Statement} {behind middle rest : List Spot} → ConditionAt condition behind middle → StatementAt body middle rest →
+    (ss : List Spot) (s : Span) → LabelAt label ss (word words.While s ∷ behind) → StatementAt (trees.While label condition body) ss rest
+while_is h g ss s l = while_at l h g
+
+pub try_is : {t : Statement} {body finally : Items} {other : Span} {ss middle inner rest : List Spot} → t ≡ trees.Try body finally → BlockAt body ss middle → middle ≡ word words.Finally other ∷ inner → BlockAt finally inner rest →
+    (s : Span) → StatementAt t (word words.Try s ∷ ss) rest
+try_is {body = body} {ss = ss} {rest = rest} same h is g s = subst (λ (x : Statement). StatementAt x (word words.Try s ∷ ss) rest) (sym same) (try_at (subst (BlockAt body ss) is h) g)
+
+pub labelled : (n : Name) {text : trees.Text} {span colon s : Span} {ss middle behind : List Spot} → name_text n ≡ text → n.span ≡ span → ss ≡ spot (Named text) span ∷ sign signs.Colon colon ∷ middle → middle ≡ word words.While s ∷ behind →
+    LabelAt (Some (placed_name n)) ss (word words.While s ∷ behind)
+labelled n {colon = colon} {s} {behind = behind} a b is end =
+    subst (λ (xs : List Spot). LabelAt (Some (placed_name n)) xs (word words.While s ∷ behind))
+    (sym (is ∙ (λ i. sym (name_spot n a b) i ∷ sign signs.Colon colon ∷ end i))) label_at
+
+-- a loop without a label
+pub loop_is : {t : Statement} {s : Span} {ss inner rest : List Spot} → ((xs : List Spot) (at : Span) → LabelAt None xs (word words.While at ∷ inner) → StatementAt t xs rest) → ss ≡ word words.While s ∷ inner →
+    StatementAt t ss rest
+loop_is {s = s} {ss} f is = f ss s (subst (LabelAt None ss) is no_label_at)
+
+-- the loop that stands behind a label
+pub behind_label : {R E : Type 0} (r : Result R E) (P : R → List Spot → Type 0) {label : Option trees.Name} {s : Span} {ss rest : List Spot} →
+    IfOk r (λ x. (xs : List Spot) (at : Span) → LabelAt label xs (word words.While at ∷ rest) → P x xs) → LabelAt label ss (word words.While s ∷ rest) → IfOk r (λ x. P x ss)
+behind_label (Ok x) P {s = s} {ss} f l = f ss s l
+behind_label (Err e) P f l = tt

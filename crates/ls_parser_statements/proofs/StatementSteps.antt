@@ -1,0 +1,51 @@
+-- The first token of a statement and of a block.
+use Rattle.std.proofs.Common.{◌≡◌, ℕ, zero, suc, ◌+◌, ◌-◌, ◌<◌, length, List, [], ◌∷◌, None, refl, ap, ◌∙◌, arith}
+use Rattle.ls_lexer.specs.declared.token.Token.{Token}
+use Rattle.ls_lexer.specs.Lexemes.{Lexeme, lexemes}
+use Rattle.ls_parser_expressions.specs.ReadingExpressions.{expression_at}
+use Rattle.ls_parser_statements.specs.ReadingStatements.{statement_at, block_at, nested_at, begun_at, first_of, braces_at, piece_at, local_at, declaration_at}
+
+pub statement_step : (limit : ℕ) (k : Lexeme) (ks : List Lexeme) → 0 < limit → statement_at limit (k ∷ ks) ≡ begun_at (limit - 1) (first_of k) (k ∷ ks) ks
+unfolding nested_at
+statement_step zero k ks lt = absurd (omega arith)
+statement_step (suc limit) k ks lt =
+    let is : suc limit - 1 ≡ limit = omega arith in
+    rw is refl
+
+pub statement_nothing : (limit : ℕ) (tokens : List Token) → length tokens ≡ 0 → statement_at limit (lexemes tokens) ≡ None
+unfolding nested_at
+statement_nothing zero tokens h = refl
+statement_nothing (suc limit) [] h = refl
+statement_nothing (suc limit) (t ∷ ts) h = absurd (omega arith)
+
+pub statement_zero : (limit : ℕ) (ks : List Lexeme) → limit ≡ 0 → statement_at limit ks ≡ None
+unfolding nested_at
+statement_zero zero ks e = refl
+statement_zero (suc limit) ks e = absurd (omega arith)
+
+pub block_zero : (limit : ℕ) (ks : List Lexeme) → limit ≡ 0 → block_at limit ks ≡ None
+unfolding nested_at
+block_zero zero ks e = refl
+block_zero (suc limit) ks e = absurd (omega arith)
+
+pub block_step : (limit : ℕ) (ks : List Lexeme) → 0 < limit → block_at limit ks ≡ braces_at (piece_at (local_at (limit - 1)) (statement_at (limit - 1))) ks
+unfolding nested_at
+block_step zero ks lt = absurd (omega arith)
+block_step (suc limit) ks lt =
+    let is : suc limit - 1 ≡ limit = omega arith in
+    rw is refl
+
+pub block_next : (limit : ℕ) (ks : List Lexeme) → block_at (limit + 1) ks ≡ braces_at (piece_at (local_at limit) (statement_at limit)) ks
+block_next limit ks =
+    let is : limit + 1 - 1 ≡ limit = omega arith in
+    block_step (limit + 1) ks (omega arith) ∙ ap (λ (n : ℕ). braces_at (piece_at (local_at n) (statement_at n)) ks) is
+
+pub local_zero : (limit : ℕ) (ks : List Lexeme) → limit ≡ 0 → local_at limit ks ≡ None
+local_zero zero ks e = refl
+local_zero (suc limit) ks e = absurd (omega arith)
+
+pub local_step : (limit : ℕ) (ks : List Lexeme) → 0 < limit → local_at limit ks ≡ declaration_at (expression_at (limit - 1)) ks
+local_step zero ks lt = absurd (omega arith)
+local_step (suc limit) ks lt =
+    let is : suc limit - 1 ≡ limit = omega arith in
+    rw is refl

@@ -1,0 +1,389 @@
+-- Declarations and statements: what is well-formed is read again.
+use Rattle.std.proofs.Common.{◌≡◌, ℕ, zero, suc, ◌+◌, ◌≤◌, Bool, true, false, List, [], ◌∷◌, Option, Some, None, refl, sym, ap, ◌∙◌, arith}
+use Rattle.std.specs.List.{AllByRecursion}
+use Rattle.std.specs.Prelude.{◌&&◌, ◌||◌}
+use Rattle.ls_lexer.specs.declared.sign.Sign.TheVariants as signs
+use Rattle.ls_lexer.specs.declared.word.Word.TheVariants as words
+use Rattle.ls_lexer.specs.Lexemes.{Lexeme, Named, Reserved, Marked}
+use Rattle.ls_tree.specs.Trees.{Text, Expression, Number, True, False, Null, This, Name, Paren, Unary, Binary, Field, Call, CallOn, Item, New, NewMarkable, NewArray, Modifier, Public, Protected, Private, Final, Volatile, Annotation, TypeName, Int, Boolean, BooleanArray, Class, Markable, Declarator, Declaration, Statement, Block, Empty, If, IfElse, While, Break, Continue, Return, Try, Assign, Evaluate, Items, NoItem, Do, Declare, Piece, Doing, Declaring, collected}
+use Rattle.ls_tree.specs.WellFormed.{WellFormed, is_post, is_call, expression_height, value_height, declarators_height, declaration_height, statement_height, items_height, ends_open, WellFormedValue, WellFormedDeclaration, WellFormedStatement, WellFormedItems}
+use Rattle.ls_parser_expressions.specs.Reading.{Reader, after_sign, after_word, name_at, not_yet, many_at, behind_comma, is_markable}
+use Rattle.ls_parser_expressions.specs.ReadingExpressions.{expression_at, post_at}
+use Rattle.ls_parser_statements.specs.ReadingStatements.{starts_modifier, modifier_at, modifiers_at, type_at, declarator_at, declarators_at, declaration_at, starts_type, named_declaration, starts_declaration, piece_at, braces_at, condition_at, jump_at, value_at, label_at, other_at, FirstOther, first_of, local_at, statement_of, nested_at, statement_at, block_at}
+use Rattle.ls_parser_expressions.proofs.Onto.{onto, onto_expressions}
+use Rattle.ls_parser_expressions.proofs.Lists.{onto_all, many_from_complete}
+use Rattle.ls_parser_statements.proofs.OntoStatements.{onto_modifier, modifier_longer, onto_type, onto_initial, onto_declarator, onto_next_declarator, next_declarator_longer, onto_declaration, onto_label, onto_label_before, onto_value, onto_condition, onto_statement, onto_items, onto_block, onto_piece, onto_collected, piece_longer}
+use Rattle.ls_parser_statements.proofs.StatementsRead.{Anything, FormedDeclarator, FormedPiece}
+use Rattle.ls_parser_expressions.proofs.ExpressionsAgain.{Follow, follow_close, follow_comma, follow_semicolon, follow_assign, post_head, no_semicolon, expression_complete, post_complete}
+
+-- ---- modifiers and types
+
+modifier_again : (m : Modifier) (rest : List Lexeme) → modifier_at (onto_modifier m rest) ≡ Some (m, rest)
+modifier_again Public rest = refl
+modifier_again Protected rest = refl
+modifier_again Private rest = refl
+modifier_again Final rest = refl
+modifier_again Volatile rest = refl
+modifier_again (Annotation name) rest = refl
+
+pub modifier_first : (m : Modifier) (rest : List Lexeme) → starts_modifier (onto_modifier m rest) ≡ true
+modifier_first Public rest = refl
+modifier_first Protected rest = refl
+modifier_first Private rest = refl
+modifier_first Final rest = refl
+modifier_first Volatile rest = refl
+modifier_first (Annotation name) rest = refl
+
+pub anything : {A : Type 0} (xs : List A) → AllByRecursion Anything xs
+anything [] = tt
+anything (x ∷ xs) = (tt, anything xs)
+
+pub modifiers_complete : (ms : List Modifier) (rest : List Lexeme) → starts_modifier rest ≡ false → modifiers_at (onto_all onto_modifier ms rest) ≡ Some (ms, rest)
+modifiers_complete ms rest stop =
+    many_from_complete onto_modifier Anything starts_modifier modifier_at (λ ks. Unit {0}) (λ m rest' p follow. modifier_again m rest') (λ m rest' p. (modifier_first m rest', tt)) modifier_longer
+    [] ms rest (anything ms) stop tt
+
+and_false : (b : Bool) → (b && false) ≡ false
+and_false true = refl
+and_false false = refl
+
+-- a type before a name
+pub type_complete : (t : TypeName) (name : Text) (rest : List Lexeme) → type_at (onto_type t (Named name ∷ rest)) ≡ Some (t, Named name ∷ rest)
+type_complete Int name rest = refl
+type_complete Boolean name rest = refl
+type_complete BooleanArray name rest = refl
+type_complete (Class text) name rest = rw (and_false (is_markable text)) refl
+type_complete (Markable text) name rest = refl
+
+pub type_no_modifier : (t : TypeName) (rest : List Lexeme) → starts_modifier (onto_type t rest) ≡ false
+type_no_modifier Int rest = refl
+type_no_modifier Boolean rest = refl
+type_no_modifier BooleanArray rest = refl
+type_no_modifier (Class text) rest = refl
+type_no_modifier (Markable text) rest = refl
+
+-- ---- declarations
+
+-- nothing that goes on with a declarator
+record FollowDeclarator (ks : List Lexeme) : Type 0 where
+  follow : Follow 6 ks
+  assign : after_sign signs.Assign ks ≡ None
+
+of_value : (limit : ℕ) (name : Text) (value : Option Expression) (rest : List Lexeme) → WellFormedValue value → value_height value ≤ limit → FollowDeclarator rest
+    → declarator_at (expression_at limit) (Named name ∷ onto_initial value rest) ≡ Some (record { name = name; value = value }, rest)
+of_value limit name None rest formed fits f = rw f.assign refl
+of_value limit name (Some value) rest formed fits f = rw (expression_complete limit value rest formed fits f.follow) refl
+
+declarator_complete : (limit : ℕ) (d : Declarator) (rest : List Lexeme) → FormedDeclarator limit d → FollowDeclarator rest → declarator_at (expression_at limit) (onto_declarator d rest) ≡ Some (d, rest)
+declarator_complete limit d rest formed f = of_value limit d.name d.value rest formed.0 formed.1 f
+
+more_formed : (limit : ℕ) (ds : List Declarator) → AllByRecursion (λ (m : Declarator). WellFormedValue m.value) ds → declarators_height ds ≤ limit → AllByRecursion (FormedDeclarator limit) ds
+more_formed limit [] formed fits = tt
+more_formed limit (d ∷ ds) formed fits = ((formed.0, omega arith), more_formed limit ds formed.1 (omega arith))
+
+declarators_follow : (ds : List Declarator) (rest : List Lexeme) → FollowDeclarator (onto_all onto_next_declarator ds (Marked signs.Semicolon ∷ rest))
+declarators_follow [] rest = record { follow = follow_semicolon 6 rest; assign = refl }
+declarators_follow (d ∷ ds) rest = record { follow = follow_comma 6 (onto_declarator d (onto_all onto_next_declarator ds (Marked signs.Semicolon ∷ rest))); assign = refl }
+
+pub declarators_complete : (limit : ℕ) (d : Declaration) (rest : List Lexeme) → WellFormedDeclaration d → declarators_height (d.first ∷ d.more) ≤ limit
+    → declarators_at (expression_at limit) d.modifiers d.type_name (onto_declarator d.first (onto_all onto_next_declarator d.more (Marked signs.Semicolon ∷ rest))) ≡ Some (d, rest)
+declarators_complete limit d rest formed fits =
+    let all : AllByRecursion (FormedDeclarator limit) (d.first ∷ d.more) = more_formed limit (d.first ∷ d.more) formed fits in
+    rw (
+      declarator_complete limit d.first (onto_all onto_next_declarator d.more (Marked signs.Semicolon ∷ rest)) all.0 (declarators_follow d.more rest),
+      many_from_complete onto_next_declarator (FormedDeclarator limit) (not_yet signs.Semicolon) (behind_comma (declarator_at (expression_at limit))) FollowDeclarator
+          (λ m rest' p follow. declarator_complete limit m rest' p follow)
+          (λ m rest' p. (refl, record { follow = follow_comma 6 (onto_declarator m rest'); assign = refl })) next_declarator_longer
+          [] d.more (Marked signs.Semicolon ∷ rest) all.1 refl (record { follow = follow_semicolon 6 rest; assign = refl }),
+    ) refl
+
+pub declaration_complete : (limit : ℕ) (d : Declaration) (rest : List Lexeme) → WellFormedDeclaration d → declarators_height (d.first ∷ d.more) ≤ limit → declaration_at (expression_at limit) (onto_declaration d rest) ≡ Some (d, rest)
+declaration_complete limit d rest formed fits =
+    let ks : List Lexeme = onto_declarator d.first (onto_all onto_next_declarator d.more (Marked signs.Semicolon ∷ rest)) in
+    rw (
+      modifiers_complete d.modifiers (onto_type d.type_name ks) (type_no_modifier d.type_name ks),
+      type_complete d.type_name d.first.name (onto_initial d.first.value (onto_all onto_next_declarator d.more (Marked signs.Semicolon ∷ rest))),
+      declarators_complete limit d rest formed fits,
+    ) refl
+
+or_false : (a b : Bool) → a ≡ false → b ≡ false → (a || b) ≡ false
+or_false true b h h' = absurd cc
+or_false false b h h' = h'
+
+or_true : (a : Bool) → (a || true) ≡ true
+or_true true = refl
+or_true false = refl
+
+type_first : (t : TypeName) (name : Text) (rest : List Lexeme) → (starts_type (onto_type t (Named name ∷ rest)) || named_declaration (onto_type t (Named name ∷ rest))) ≡ true
+type_first Int name rest = refl
+type_first Boolean name rest = refl
+type_first BooleanArray name rest = refl
+type_first (Class text) name rest = refl
+type_first (Markable text) name rest = refl
+
+modifiers_first : (ms : List Modifier) (t : TypeName) (name : Text) (rest : List Lexeme) → starts_declaration (onto_all onto_modifier ms (onto_type t (Named name ∷ rest))) ≡ true
+modifiers_first [] t name rest = rw (type_no_modifier t (Named name ∷ rest)) (type_first t name rest)
+modifiers_first (m ∷ ms) t name rest = rw (modifier_first m (onto_all onto_modifier ms (onto_type t (Named name ∷ rest)))) refl
+
+pub declaration_first : (d : Declaration) (rest : List Lexeme) → starts_declaration (onto_declaration d rest) ≡ true
+declaration_first d rest = modifiers_first d.modifiers d.type_name d.first.name (onto_initial d.first.value (onto_all onto_next_declarator d.more (Marked signs.Semicolon ∷ rest)))
+
+-- ---- how a statement begins
+
+-- what no statement begins by, and what each says of a declaration
+pub record Opens (ks : List Lexeme) : Type 0 where
+  pub declares : starts_declaration ks ≡ false
+  pub brace : after_sign signs.CloseBrace ks ≡ None
+
+-- an expression that a statement begins by doesn't begin a declaration
+post_opens : (t : Expression) (rest : List Lexeme) → is_post t ≡ true → WellFormed false t → name_at rest ≡ None → after_sign signs.Less rest ≡ None → Opens (onto t rest)
+post_opens (Number text) rest post formed name less = record { declares = refl; brace = refl }
+post_opens True rest post formed name less = record { declares = refl; brace = refl }
+post_opens False rest post formed name less = record { declares = refl; brace = refl }
+post_opens Null rest post formed name less = record { declares = refl; brace = refl }
+post_opens This rest post formed name less = record { declares = refl; brace = refl }
+post_opens (Name text) rest post formed name less = record { declares = rw (name, less) refl; brace = refl }
+post_opens (Paren inner) rest post formed name less = record { declares = refl; brace = refl }
+post_opens (Unary op operand) rest post formed name less = absurd cc
+post_opens (Binary op left right) rest post formed name less = absurd cc
+post_opens (Field target name') rest post formed name less = post_opens target (Marked signs.Dot ∷ Named name' ∷ rest) formed.0 formed.1 refl refl
+post_opens (Call name' arguments) rest post formed name less = record { declares = refl; brace = refl }
+post_opens (CallOn target name' arguments) rest post formed name less = post_opens target (Marked signs.Dot ∷ Named name' ∷ Marked signs.OpenParen ∷ onto_expressions arguments rest) formed.0 formed.1 refl refl
+post_opens (Item array index) rest post formed name less = post_opens array (Marked signs.OpenBracket ∷ onto index (Marked signs.CloseBracket ∷ rest)) formed.0 formed.2 refl refl
+post_opens (New class arguments) rest post formed name less = record { declares = refl; brace = refl }
+post_opens (NewMarkable class arguments) rest post formed name less = record { declares = refl; brace = refl }
+post_opens (NewArray length') rest post formed name less = record { declares = refl; brace = refl }
+
+-- nor is it a label
+no_label : (t : Expression) (rest : List Lexeme) → is_post t ≡ true → WellFormed false t → after_sign signs.Colon rest ≡ None → label_at (onto t rest) ≡ None
+no_label (Number text) rest post formed colon = refl
+no_label True rest post formed colon = refl
+no_label False rest post formed colon = refl
+no_label Null rest post formed colon = refl
+no_label This rest post formed colon = refl
+no_label (Name text) rest post formed colon = rw colon refl
+no_label (Paren inner) rest post formed colon = refl
+no_label (Unary op operand) rest post formed colon = absurd cc
+no_label (Binary op left right) rest post formed colon = absurd cc
+no_label (Field target name') rest post formed colon = no_label target (Marked signs.Dot ∷ Named name' ∷ rest) formed.0 formed.1 refl
+no_label (Call name' arguments) rest post formed colon = refl
+no_label (CallOn target name' arguments) rest post formed colon = no_label target (Marked signs.Dot ∷ Named name' ∷ Marked signs.OpenParen ∷ onto_expressions arguments rest) formed.0 formed.1 refl
+no_label (Item array index) rest post formed colon = no_label array (Marked signs.OpenBracket ∷ onto index (Marked signs.CloseBracket ∷ rest)) formed.0 formed.2 refl
+no_label (New class arguments) rest post formed colon = refl
+no_label (NewMarkable class arguments) rest post formed colon = refl
+no_label (NewArray length') rest post formed colon = refl
+
+called : (t : Expression) → is_call t ≡ true → is_post t ≡ true
+called (Unary op operand) h = absurd cc
+called (Binary op left right) h = absurd cc
+called _ h = refl
+
+while_opens : (label : Option Text) (ks : List Lexeme) → Opens (onto_label_before label (Reserved words.While ∷ ks))
+while_opens None ks = record { declares = refl; brace = refl }
+while_opens (Some name) ks = record { declares = refl; brace = refl }
+
+pub statement_opens : (t : Statement) (rest : List Lexeme) → WellFormedStatement t → Opens (onto_statement t rest)
+statement_opens (Block items) rest formed = record { declares = refl; brace = refl }
+statement_opens Empty rest formed = record { declares = refl; brace = refl }
+statement_opens (If condition first) rest formed = record { declares = refl; brace = refl }
+statement_opens (IfElse condition first second) rest formed = record { declares = refl; brace = refl }
+statement_opens (While label condition body) rest formed = while_opens label (onto_condition condition (onto_statement body rest))
+statement_opens (Break label) rest formed = record { declares = refl; brace = refl }
+statement_opens (Continue label) rest formed = record { declares = refl; brace = refl }
+statement_opens (Return value) rest formed = record { declares = refl; brace = refl }
+statement_opens (Try body finally) rest formed = record { declares = refl; brace = refl }
+statement_opens (Assign target value) rest formed = post_opens target (Marked signs.Assign ∷ onto value (Marked signs.Semicolon ∷ rest)) formed.0 formed.1 refl refl
+statement_opens (Evaluate value) rest formed = post_opens value (Marked signs.Semicolon ∷ rest) (called value formed.0) formed.1 refl refl
+
+-- a closing brace doesn't begin a declaration either, and a declaration is not a closing brace
+pub modifiers_brace : (ms : List Modifier) (t : TypeName) (rest : List Lexeme) → after_sign signs.CloseBrace (onto_all onto_modifier ms (onto_type t rest)) ≡ None
+modifiers_brace [] Int rest = refl
+modifiers_brace [] Boolean rest = refl
+modifiers_brace [] BooleanArray rest = refl
+modifiers_brace [] (Class text) rest = refl
+modifiers_brace [] (Markable text) rest = refl
+modifiers_brace (Public ∷ ms) t rest = refl
+modifiers_brace (Protected ∷ ms) t rest = refl
+modifiers_brace (Private ∷ ms) t rest = refl
+modifiers_brace (Final ∷ ms) t rest = refl
+modifiers_brace (Volatile ∷ ms) t rest = refl
+modifiers_brace (Annotation name ∷ ms) t rest = refl
+
+-- no `else` begins a statement or a declaration
+post_else : (t : Expression) (rest : List Lexeme) → is_post t ≡ true → WellFormed false t → after_word words.Else (onto t rest) ≡ None
+post_else t rest post formed =
+    let h = post_head (λ k. (ks : List Lexeme) → after_word words.Else (k ∷ ks) ≡ None)
+    (record { number = λ text ks. refl; name = λ text ks. refl; yes' = λ ks. refl; no' = λ ks. refl; null = λ ks. refl; this = λ ks. refl; new = λ ks. refl; paren = λ ks. refl }) false t rest post formed in
+    ap (after_word words.Else) h.2 ∙ h.3 h.1
+
+while_else : (label : Option Text) (ks : List Lexeme) → after_word words.Else (onto_label_before label (Reserved words.While ∷ ks)) ≡ None
+while_else None ks = refl
+while_else (Some name) ks = refl
+
+statement_else : (t : Statement) (rest : List Lexeme) → WellFormedStatement t → after_word words.Else (onto_statement t rest) ≡ None
+statement_else (While label condition body) rest formed = while_else label (onto_condition condition (onto_statement body rest))
+statement_else (Assign target value) rest formed = post_else target (Marked signs.Assign ∷ onto value (Marked signs.Semicolon ∷ rest)) formed.0 formed.1
+statement_else (Evaluate value) rest formed = post_else value (Marked signs.Semicolon ∷ rest) (called value formed.0) formed.1
+statement_else (Block items) rest formed = refl
+statement_else Empty rest formed = refl
+statement_else (If condition first) rest formed = refl
+statement_else (IfElse condition first second) rest formed = refl
+statement_else (Break label) rest formed = refl
+statement_else (Continue label) rest formed = refl
+statement_else (Return value) rest formed = refl
+statement_else (Try body finally) rest formed = refl
+
+modifiers_else : (ms : List Modifier) (t : TypeName) (rest : List Lexeme) → after_word words.Else (onto_all onto_modifier ms (onto_type t rest)) ≡ None
+modifiers_else [] Int rest = refl
+modifiers_else [] Boolean rest = refl
+modifiers_else [] BooleanArray rest = refl
+modifiers_else [] (Class text) rest = refl
+modifiers_else [] (Markable text) rest = refl
+modifiers_else (Public ∷ ms) t rest = refl
+modifiers_else (Protected ∷ ms) t rest = refl
+modifiers_else (Private ∷ ms) t rest = refl
+modifiers_else (Final ∷ ms) t rest = refl
+modifiers_else (Volatile ∷ ms) t rest = refl
+modifiers_else (Annotation name ∷ ms) t rest = refl
+
+-- ---- statements
+
+abbrev pub CompleteStatement : Reader Statement → ℕ → Type 0
+CompleteStatement reader limit = (t : Statement) (rest : List Lexeme) → WellFormedStatement t → statement_height t ≤ limit → (ends_open t ≡ true → after_word words.Else rest ≡ None) → reader (onto_statement t rest) ≡ Some (t, rest)
+
+abbrev pub CompleteBlock : Reader Items → ℕ → Type 0
+CompleteBlock reader limit = (items : Items) (rest : List Lexeme) → WellFormedItems items → items_height items + 1 ≤ limit → reader (onto_block items rest) ≡ Some (items, rest)
+
+abbrev uncollected : Items → List Piece
+uncollected NoItem = []
+uncollected (Do a items) = Doing a ∷ uncollected items
+uncollected (Declare d items) = Declaring d ∷ uncollected items
+
+collected_again : (items : Items) → collected (uncollected items) ≡ items
+collected_again NoItem = refl
+collected_again (Do a items) = ap (Do a) (collected_again items)
+collected_again (Declare d items) = ap (Declare d) (collected_again items)
+
+pieces_formed : (limit : ℕ) (items : Items) → WellFormedItems items → items_height items ≤ limit → AllByRecursion (FormedPiece limit) (uncollected items)
+pieces_formed limit NoItem formed fits = tt
+pieces_formed limit (Do a items) formed fits = ((formed.0, omega arith), pieces_formed limit items formed.1 (omega arith))
+pieces_formed limit (Declare d items) formed fits = ((formed.0, omega arith), pieces_formed limit items formed.1 (omega arith))
+
+local_complete : (limit : ℕ) (d : Declaration) (rest : List Lexeme) → WellFormedDeclaration d → declaration_height d ≤ limit → local_at limit (onto_declaration d rest) ≡ Some (d, rest)
+local_complete zero d rest formed fits = absurd (omega arith)
+local_complete (suc limit) d rest formed fits = declaration_complete limit d rest formed (omega arith)
+
+module _ (limit : ℕ) (statement : Reader Statement) (complete : CompleteStatement statement limit) where
+  abbrev NoElse : List Lexeme → Type 0
+  NoElse ks = after_word words.Else ks ≡ None
+
+  piece_complete : (p : Piece) (rest : List Lexeme) → FormedPiece limit p → NoElse rest → piece_at (local_at limit) statement (onto_piece p rest) ≡ Some (p, rest)
+  piece_complete (Doing a) rest formed no_else =
+      let o = statement_opens a rest formed.0 in
+      rw (o.declares, complete a rest formed.0 formed.1 (λ h. no_else)) refl
+  piece_complete (Declaring d) rest formed no_else = rw (declaration_first d rest, local_complete limit d rest formed.0 formed.1) refl
+
+  piece_first : (p : Piece) (rest : List Lexeme) → FormedPiece limit p → (not_yet signs.CloseBrace (onto_piece p rest) ≡ true) × NoElse (onto_piece p rest)
+  piece_first (Doing a) rest formed =
+      let o = statement_opens a rest formed.0 in
+      (rw o.brace refl, statement_else a rest formed.0)
+  piece_first (Declaring d) rest formed =
+      let ks : List Lexeme = onto_declarator d.first (onto_all onto_next_declarator d.more (Marked signs.Semicolon ∷ rest)) in
+      (rw (modifiers_brace d.modifiers d.type_name ks) refl, modifiers_else d.modifiers d.type_name ks)
+
+  braces_complete : (items : Items) (rest : List Lexeme) → WellFormedItems items → items_height items ≤ limit → braces_at (piece_at (local_at limit) statement) (onto_block items rest) ≡ Some (items, rest)
+  braces_complete items rest formed fits =
+      let is : onto_items items (Marked signs.CloseBrace ∷ rest) ≡ onto_all onto_piece (uncollected items) (Marked signs.CloseBrace ∷ rest) =
+      ap (λ (i : Items). onto_items i (Marked signs.CloseBrace ∷ rest)) (sym (collected_again items)) ∙ onto_collected (uncollected items) (Marked signs.CloseBrace ∷ rest) in
+      let all : many_at (not_yet signs.CloseBrace) (piece_at (local_at limit) statement) (onto_items items (Marked signs.CloseBrace ∷ rest)) ≡ Some (uncollected items, Marked signs.CloseBrace ∷ rest) =
+      ap (many_at (not_yet signs.CloseBrace) (piece_at (local_at limit) statement)) is
+      ∙ many_from_complete onto_piece (FormedPiece limit) (not_yet signs.CloseBrace) (piece_at (local_at limit) statement) NoElse piece_complete piece_first piece_longer
+      [] (uncollected items) (Marked signs.CloseBrace ∷ rest) (pieces_formed limit items formed fits) refl refl in
+      rw all (ap (λ (i : Items). Some (i, rest)) (collected_again items))
+
+  condition_again : (condition : Expression) (rest : List Lexeme) → WellFormed false condition → expression_height condition ≤ limit → condition_at (expression_at limit) (onto_condition condition rest) ≡ Some (condition, rest)
+  condition_again condition rest formed fits = rw (expression_complete limit condition (Marked signs.CloseParen ∷ rest) formed fits (follow_close 6 rest)) refl
+
+  jump_again : (label : Option Text) (rest : List Lexeme) → jump_at (onto_label label (Marked signs.Semicolon ∷ rest)) ≡ Some (label, rest)
+  jump_again None rest = refl
+  jump_again (Some name) rest = refl
+
+  value_again : (value : Option Expression) (rest : List Lexeme) → WellFormedValue value → value_height value ≤ limit → value_at (expression_at limit) (onto_value value (Marked signs.Semicolon ∷ rest)) ≡ Some (value, rest)
+  value_again None rest formed fits = refl
+  value_again (Some value) rest formed fits =
+      rw (no_semicolon value (Marked signs.Semicolon ∷ rest), expression_complete limit value (Marked signs.Semicolon ∷ rest) formed fits (follow_semicolon 6 rest)) refl
+
+  -- a statement that begins by an expression
+  module _ (block : Reader Items) where
+    by_expression : (t : Expression) (rest : List Lexeme) → is_post t ≡ true → WellFormed false t → statement_of limit statement block (onto t rest) ≡ other_at (post_at limit false) (expression_at limit) statement (onto t rest)
+    by_expression t rest post formed =
+        let h = post_head (λ k. first_of k ≡ FirstOther)
+        (record { number = λ text. refl; name = λ text. refl; yes' = refl; no' = refl; null = refl; this = refl; new = refl; paren = refl }) false t rest post formed in
+        ap (statement_of limit statement block) h.2 ∙ rw h.3 refl ∙ ap (other_at (post_at limit false) (expression_at limit) statement) (sym h.2)
+
+    assign_again : (target value : Expression) (rest : List Lexeme) → is_post target ≡ true → WellFormed false target → WellFormed false value → expression_height target ≤ limit → expression_height value ≤ limit
+        → statement_of limit statement block (onto_statement (Assign target value) rest) ≡ Some (Assign target value, rest)
+    assign_again target value rest post formed formed' fits fits' =
+        let ks : List Lexeme = Marked signs.Assign ∷ onto value (Marked signs.Semicolon ∷ rest) in
+        by_expression target ks post formed
+        ∙ rw (
+          no_label target ks post formed refl,
+          post_complete limit target ks post formed fits (follow_assign 0 (onto value (Marked signs.Semicolon ∷ rest))),
+          expression_complete limit value (Marked signs.Semicolon ∷ rest) formed' fits' (follow_semicolon 6 rest),
+        ) refl
+
+    evaluate_again : (value : Expression) (rest : List Lexeme) → is_call value ≡ true → WellFormed false value → expression_height value ≤ limit → statement_of limit statement block (onto_statement (Evaluate value) rest) ≡ Some (Evaluate value, rest)
+    evaluate_again value rest call formed fits =
+        let ks : List Lexeme = Marked signs.Semicolon ∷ rest in
+        by_expression value ks (called value call) formed
+        ∙ rw (no_label value ks (called value call) formed refl, post_complete limit value ks (called value call) formed fits (follow_semicolon 0 rest), call) refl
+
+    while_again : (label : Option Text) (condition : Expression) (body : Statement) (rest : List Lexeme) → WellFormed false condition → WellFormedStatement body → expression_height condition ≤ limit → statement_height body ≤ limit → (ends_open body ≡ true → after_word words.Else rest ≡ None)
+        → statement_of limit statement block (onto_statement (While label condition body) rest) ≡ Some (While label condition body, rest)
+    while_again None condition body rest formed formed' fits fits' stops =
+        rw (condition_again condition (onto_statement body rest) formed fits, complete body rest formed' fits' stops) refl
+    while_again (Some name) condition body rest formed formed' fits fits' stops =
+        rw (condition_again condition (onto_statement body rest) formed fits, complete body rest formed' fits' stops) refl
+
+    statement_of_complete : CompleteBlock block limit → CompleteStatement (statement_of limit statement block) (suc limit)
+    statement_of_complete blocks (Block items) rest formed fits stops = rw (braces_complete items rest formed (omega arith)) refl
+    statement_of_complete blocks Empty rest formed fits stops = refl
+    statement_of_complete blocks (If condition first) rest formed fits stops =
+        rw (condition_again condition (onto_statement first rest) formed.0 (omega arith), complete first rest formed.1 (omega arith) (λ h. stops refl), stops refl) refl
+    statement_of_complete blocks (IfElse condition first second) rest formed fits stops =
+        rw (
+          condition_again condition (onto_statement first (Reserved words.Else ∷ onto_statement second rest)) formed.0 (omega arith),
+          complete first (Reserved words.Else ∷ onto_statement second rest) formed.1 (omega arith) (λ h. absurd (let closed = formed.2 in cc (h, closed))),
+          complete second rest formed.3 (omega arith) stops,
+        ) refl
+    statement_of_complete blocks (While label condition body) rest formed fits stops = while_again label condition body rest formed.0 formed.1 (omega arith) (omega arith) stops
+    statement_of_complete blocks (Break label) rest formed fits stops = rw (jump_again label rest) refl
+    statement_of_complete blocks (Continue label) rest formed fits stops = rw (jump_again label rest) refl
+    statement_of_complete blocks (Return value) rest formed fits stops = rw (value_again value rest formed (omega arith)) refl
+    statement_of_complete blocks (Try body finally) rest formed fits stops =
+        rw (blocks body (Reserved words.Finally ∷ onto_block finally rest) formed.0 (omega arith), blocks finally rest formed.1 (omega arith)) refl
+    statement_of_complete blocks (Assign target value) rest formed fits stops = assign_again target value rest formed.0 formed.1 formed.2 (omega arith) (omega arith)
+    statement_of_complete blocks (Evaluate value) rest formed fits stops = evaluate_again value rest formed.0 formed.1 (omega arith)
+
+statement_pos : (t : Statement) → 1 ≤ statement_height t
+statement_pos (Block items) = omega arith
+statement_pos Empty = omega arith
+statement_pos (If condition first) = omega arith
+statement_pos (IfElse condition first second) = omega arith
+statement_pos (While label condition body) = omega arith
+statement_pos (Break label) = omega arith
+statement_pos (Continue label) = omega arith
+statement_pos (Return value) = omega arith
+statement_pos (Try body finally) = omega arith
+statement_pos (Assign target value) = omega arith
+statement_pos (Evaluate value) = omega arith
+
+pub nested_complete : (limit : ℕ) → CompleteStatement (statement_at limit) limit × CompleteBlock (block_at limit) limit
+unfolding nested_at
+nested_complete zero = (λ t rest formed fits stops. absurd (omega (arith, statement_pos t)), λ items rest formed fits. absurd (omega arith))
+nested_complete (suc limit) =
+    let inner = nested_complete limit in
+    (statement_of_complete limit (statement_at limit) inner.0 (block_at limit) inner.1, λ items rest formed fits. braces_complete limit (statement_at limit) inner.0 items rest formed (omega arith))
+
+pub block_complete : (limit : ℕ) → CompleteBlock (block_at limit) limit
+block_complete limit = (nested_complete limit).1

@@ -1,0 +1,418 @@
+-- Declarations and statements: what is read is spelled so and well-formed.
+use Rattle.std.proofs.Common.{◌≡◌, ℕ, zero, suc, ◌+◌, ◌≤◌, true, false, List, [], ◌∷◌, length, Option, Some, None, refl, sym, ap, subst, ◌∙◌, inl, inr, arith}
+use Rattle.std.proofs.lemmas.Bool.{cases_Bool}
+use Rattle.std.specs.List.{AllByRecursion}
+use Rattle.std.specs.Prelude.{◌&&◌}
+use Rattle.std.specs.Cmp.Lexicographic.{same_text}
+use Rattle.ls_lexer.specs.declared.sign.Sign.{Sign}
+use Rattle.ls_lexer.specs.declared.sign.Sign.TheVariants as signs
+use Rattle.ls_lexer.specs.declared.word.Word.{Word}
+use Rattle.ls_lexer.specs.declared.word.Word.TheVariants as words
+use Rattle.ls_lexer.specs.Lexemes.{Lexeme, Named, Numeral, Reserved, Marked}
+use Rattle.ls_tree.specs.Trees.{Text, Expression, Modifier, Public, Protected, Private, Final, Volatile, Annotation, TypeName, Int, Boolean, BooleanArray, Class, Markable, Declarator, Declaration, Statement, Block, Empty, If, IfElse, While, Break, Continue, Return, Try, Assign, Evaluate, Items, Piece, Doing, Declaring, collected}
+use Rattle.ls_tree.specs.WellFormed.{WellFormed, is_post, is_call, expression_height, value_height, declarators_height, declaration_height, statement_height, items_height, ends_open, WellFormedValue, WellFormedDeclaration, WellFormedStatement, WellFormedItems}
+use Rattle.ls_parser_expressions.specs.Reading.{◌>>=◌, Reader, given, after_sign, after_word, name_at, starts, not_yet, many_at, behind_comma, markable_name, is_markable}
+use Rattle.ls_parser_expressions.specs.ReadingExpressions.{class_at, expression_at, post_at}
+use Rattle.ls_parser_statements.specs.ReadingStatements.{modifier_of_word, modifier_word_at, starts_modifier, annotation_at, modifier_at, modifiers_at, boolean_at, named_type_at, type_at, declarator_of, declarator_at, declaration_of, declarators_at, declaration_at, starts_declaration, declared_at, piece_at, braces_at, block_in, condition_at, if_at, while_at, jump_at, value_at, break_at, continue_at, return_at, try_at, label_at, used_at, other_at, first_of_sign, first_of_word, statement_from, local_at, statement_of, nested_at, statement_at, block_at}
+use Rattle.ls_parser_expressions.proofs.Repeats.{bind_some, some_is}
+use Rattle.ls_parser_expressions.proofs.Signs.{guarded, both_true, either, given_cases, sign_reads, word_reads, name_reads}
+use Rattle.ls_parser_expressions.proofs.Shrinks.{Shrinks}
+use Rattle.ls_parser_expressions.proofs.Onto.{onto}
+use Rattle.ls_parser_expressions.proofs.Lists.{onto_all, SoundItem, many_sound}
+use Rattle.ls_parser_statements.proofs.OntoStatements.{onto_modifier, modifier_longer, onto_type, onto_declarator, declarator_longer, onto_next_declarator, onto_declaration, onto_label, onto_label_before, onto_condition, onto_statement, onto_block, onto_piece, onto_collected, piece_longer}
+use Rattle.ls_parser_expressions.proofs.ExpressionsRead.{expression_sound, post_sound, class_reads}
+
+abbrev cons : Lexeme → List Lexeme → List Lexeme
+cons k ks = k ∷ ks
+
+-- ---- modifiers and types
+
+abbrev pub Anything : {A : Type 0} → A → Type 0
+Anything x = Unit {0}
+
+modifier_word_reads : (word : Word) (ks : List Lexeme) (m : Modifier) → modifier_of_word word ≡ Some m → Reserved word ∷ ks ≡ onto_modifier m ks
+modifier_word_reads words.Public ks m e = ap (λ (n : Modifier). onto_modifier n ks) (some_is Public m e)
+modifier_word_reads words.Protected ks m e = ap (λ (n : Modifier). onto_modifier n ks) (some_is Protected m e)
+modifier_word_reads words.Private ks m e = ap (λ (n : Modifier). onto_modifier n ks) (some_is Private m e)
+modifier_word_reads words.Final ks m e = ap (λ (n : Modifier). onto_modifier n ks) (some_is Final m e)
+modifier_word_reads words.Volatile ks m e = ap (λ (n : Modifier). onto_modifier n ks) (some_is Volatile m e)
+modifier_word_reads _ ks m e = absurd cc
+
+modifier_word_sound : (ks : List Lexeme) (x : Modifier × List Lexeme) → modifier_word_at ks ≡ Some x → ks ≡ onto_modifier x.0 x.1
+modifier_word_sound [] x e = absurd cc
+modifier_word_sound (Named text ∷ ks) x e = absurd cc
+modifier_word_sound (Numeral text ∷ ks) x e = absurd cc
+modifier_word_sound (Marked sign ∷ ks) x e = absurd cc
+modifier_word_sound (Reserved word ∷ ks) x e =
+    let b = bind_some (modifier_of_word word) _ x e in
+    modifier_word_reads word ks b.0 b.1 ∙ ap (λ (y : Modifier × List Lexeme). onto_modifier y.0 y.1) (some_is (b.0, ks) x b.2)
+
+pub modifier_sound : SoundItem onto_modifier Anything modifier_at
+modifier_sound ks x e =
+    elim (given_cases (modifier_word_at ks) (λ m. Some m) (annotation_at ks) (Some x) e) [
+      | inl annotation ↦
+          let a = bind_some (after_sign signs.At ks) _ x annotation.1 in
+          let n = bind_some (name_at a.0) _ x a.2 in
+          (sign_reads signs.At ks a.0 a.1 ∙ ap (cons (Marked signs.At)) (name_reads a.0 n.0 n.1) ∙ ap (λ (y : Modifier × List Lexeme). onto_modifier y.0 y.1) (some_is (Annotation n.0.0, n.0.1) x n.2), tt)
+      | inr word ↦ (modifier_word_sound ks word.0 word.1 ∙ ap (λ (y : Modifier × List Lexeme). onto_modifier y.0 y.1) (some_is word.0 x word.2), tt)
+    ]
+
+pub modifiers_sound : (ks : List Lexeme) (x : List Modifier × List Lexeme) → modifiers_at ks ≡ Some x → ks ≡ onto_all onto_modifier x.0 x.1
+modifiers_sound ks x e = (many_sound onto_modifier Anything starts_modifier modifier_at modifier_sound ks x e).0.spelled
+
+boolean_sound : (ks : List Lexeme) (x : TypeName × List Lexeme) → boolean_at ks ≡ Some x → Reserved words.Boolean ∷ ks ≡ onto_type x.0 x.1
+boolean_sound ks x e =
+    elim (given_cases (after_sign signs.OpenBracket ks) _ (Some (Boolean, ks)) (Some x) e) [
+      | inl one ↦ ap (λ (y : TypeName × List Lexeme). onto_type y.0 y.1) (some_is (Boolean, ks) x one.1)
+      | inr array ↦
+          let c = bind_some (after_sign signs.CloseBracket array.0) _ x array.2 in
+          ap (cons (Reserved words.Boolean)) (sign_reads signs.OpenBracket ks array.0 array.1 ∙ ap (cons (Marked signs.OpenBracket)) (sign_reads signs.CloseBracket array.0 c.0 c.1))
+          ∙ ap (λ (y : TypeName × List Lexeme). onto_type y.0 y.1) (some_is (BooleanArray, c.0) x c.2)
+    ]
+
+named_type_sound : (text : Text) (ks : List Lexeme) (x : TypeName × List Lexeme) → named_type_at text ks ≡ Some x → Named text ∷ ks ≡ onto_type x.0 x.1
+named_type_sound text ks x e =
+    elim (either (is_markable text && starts signs.Less ks) (class_at ks >>= λ name. Some (Markable name.0, name.1)) (Some (Class text, ks)) (Some x) e) [
+      | inl markable ↦
+          let c = bind_some (class_at ks) _ x markable.1 in
+          let is : text ≡ markable_name = same_text text markable_name (sym (both_true (is_markable text) (starts signs.Less ks) markable.0).0) in
+          (λ i. Named (is i) ∷ class_reads ks c.0 c.1 i) ∙ ap (λ (y : TypeName × List Lexeme). onto_type y.0 y.1) (some_is (Markable c.0.0, c.0.1) x c.2)
+      | inr other ↦ ap (λ (y : TypeName × List Lexeme). onto_type y.0 y.1) (some_is (Class text, ks) x other.1)
+    ]
+
+pub type_sound : (ks : List Lexeme) (x : TypeName × List Lexeme) → type_at ks ≡ Some x → ks ≡ onto_type x.0 x.1
+type_sound ks x e =
+    elim (given_cases (name_at ks) (λ name. named_type_at name.0 name.1) (given (after_word words.Int ks) (λ rest. Some (Int, rest)) (after_word words.Boolean ks >>= λ rest. boolean_at rest)) (Some x) e) [
+      | inr name ↦ name_reads ks name.0 name.1 ∙ named_type_sound name.0.0 name.0.1 x name.2
+      | inl word ↦
+          elim (given_cases (after_word words.Int ks) (λ rest. Some (Int, rest)) (after_word words.Boolean ks >>= λ rest. boolean_at rest) (Some x) word.1) [
+            | inr int ↦ word_reads words.Int ks int.0 int.1 ∙ ap (λ (y : TypeName × List Lexeme). onto_type y.0 y.1) (some_is (Int, int.0) x int.2)
+            | inl boolean ↦
+                let b = bind_some (after_word words.Boolean ks) _ x boolean.1 in
+                word_reads words.Boolean ks b.0 b.1 ∙ boolean_sound b.0 x b.2
+          ]
+    ]
+
+-- ---- declarations
+
+abbrev pub FormedDeclarator : ℕ → Declarator → Type 0
+FormedDeclarator limit d = WellFormedValue d.value × (value_height d.value ≤ limit)
+
+pub declarator_sound : (limit : ℕ) → SoundItem onto_declarator (FormedDeclarator limit) (declarator_at (expression_at limit))
+declarator_sound limit ks x e =
+    let n = bind_some (name_at ks) _ x e in
+    elim (given_cases (after_sign signs.Assign n.0.1) _ (Some (declarator_of n.0.0 None, n.0.1)) (Some x) n.2) [
+      | inl none ↦
+          subst (λ (y : Declarator × List Lexeme). (ks ≡ onto_declarator y.0 y.1) × FormedDeclarator limit y.0) (some_is (declarator_of n.0.0 None, n.0.1) x none.1)
+          (name_reads ks n.0 n.1, (tt, omega arith))
+      | inr some ↦
+          let v = bind_some (expression_at limit some.0) _ x some.2 in
+          let value = expression_sound limit some.0 v.0 v.1 in
+          subst (λ (y : Declarator × List Lexeme). (ks ≡ onto_declarator y.0 y.1) × FormedDeclarator limit y.0) (some_is (declarator_of n.0.0 (Some v.0.0), v.0.1) x v.2)
+          (name_reads ks n.0 n.1 ∙ ap (cons (Named n.0.0)) (sign_reads signs.Assign n.0.1 some.0 some.1 ∙ ap (cons (Marked signs.Assign)) value.spelled), (value.formed, value.fits))
+    ]
+
+pub next_declarator_sound : (limit : ℕ) → SoundItem onto_next_declarator (FormedDeclarator limit) (behind_comma (declarator_at (expression_at limit)))
+next_declarator_sound limit ks x e =
+    let c = bind_some (after_sign signs.Comma ks) _ x e in
+    let d = declarator_sound limit c.0 x c.2 in
+    (sign_reads signs.Comma ks c.0 c.1 ∙ ap (cons (Marked signs.Comma)) d.0, d.1)
+
+more_formed : (limit : ℕ) (ds : List Declarator) → AllByRecursion (FormedDeclarator limit) ds → AllByRecursion (λ (m : Declarator). WellFormedValue m.value) ds × (declarators_height ds ≤ limit)
+more_formed limit [] all = (tt, omega arith)
+more_formed limit (d ∷ ds) all =
+    let more = more_formed limit ds all.1 in
+    ((all.0.0, more.0), omega (arith, all.0.1, more.1))
+
+pub record ReadsDeclaration (limit : ℕ) (ks : List Lexeme) (x : Declaration × List Lexeme) : Type 0 where
+  pub spelled : ks ≡ onto_declaration x.0 x.1
+  pub formed : WellFormedDeclaration x.0
+  pub fits : declarators_height (x.0.first ∷ x.0.more) ≤ limit
+
+pub declarators_sound : (limit : ℕ) (modifiers : List Modifier) (type_name : TypeName) (whole ks : List Lexeme) (x : Declaration × List Lexeme)
+    → whole ≡ onto_all onto_modifier modifiers (onto_type type_name ks) → declarators_at (expression_at limit) modifiers type_name ks ≡ Some x → ReadsDeclaration limit whole x
+declarators_sound limit modifiers type_name whole ks x before e =
+    let f = bind_some (declarator_at (expression_at limit) ks) _ x e in
+    let m = bind_some (many_at (not_yet signs.Semicolon) (behind_comma (declarator_at (expression_at limit))) f.0.1) _ x f.2 in
+    let s = bind_some (after_sign signs.Semicolon m.0.1) _ x m.2 in
+    let first = declarator_sound limit ks f.0 f.1 in
+    let more = (many_sound onto_next_declarator (FormedDeclarator limit) (not_yet signs.Semicolon) (behind_comma (declarator_at (expression_at limit))) (next_declarator_sound limit) f.0.1 m.0 m.1).0 in
+    let formed = more_formed limit m.0.0 more.each in
+    subst (ReadsDeclaration limit whole) (some_is (declaration_of modifiers type_name f.0.0 m.0.0, s.0) x s.2) (record {
+      spelled = before ∙ ap (λ (r : List Lexeme). onto_all onto_modifier modifiers (onto_type type_name r)) (first.0 ∙ ap (onto_declarator f.0.0) (more.spelled ∙ ap (onto_all onto_next_declarator m.0.0) (sign_reads signs.Semicolon m.0.1 s.0 s.1)));
+      formed = (first.1.0, formed.0);
+      fits = omega (arith, first.1.1, formed.1);
+    })
+
+pub declaration_sound : (limit : ℕ) (ks : List Lexeme) (x : Declaration × List Lexeme) → declaration_at (expression_at limit) ks ≡ Some x → ReadsDeclaration limit ks x
+declaration_sound limit ks x e =
+    let m = bind_some (modifiers_at ks) _ x e in
+    let t = bind_some (type_at m.0.1) _ x m.2 in
+    declarators_sound limit m.0.0 t.0.0 ks t.0.1 x (modifiers_sound ks m.0 m.1 ∙ ap (onto_all onto_modifier m.0.0) (type_sound m.0.1 t.0 t.1)) t.2
+
+-- ---- statements
+
+pub record ReadsStatement (limit : ℕ) (ks : List Lexeme) (x : Statement × List Lexeme) : Type 0 where
+  pub spelled : ks ≡ onto_statement x.0 x.1
+  pub formed : WellFormedStatement x.0
+  pub fits : statement_height x.0 ≤ limit
+  pub stops : ends_open x.0 ≡ true → after_word words.Else x.1 ≡ None
+
+abbrev pub SoundStatement : Reader Statement → ℕ → Type 0
+SoundStatement reader limit = (ks : List Lexeme) (x : Statement × List Lexeme) → reader ks ≡ Some x → ReadsStatement limit ks x
+
+pub record ReadsBlock (limit : ℕ) (ks : List Lexeme) (x : Items × List Lexeme) : Type 0 where
+  pub spelled : ks ≡ onto_block x.0 x.1
+  pub formed : WellFormedItems x.0
+  pub fits : items_height x.0 + 1 ≤ limit
+
+abbrev pub SoundBlock : Reader Items → ℕ → Type 0
+SoundBlock reader limit = (ks : List Lexeme) (x : Items × List Lexeme) → reader ks ≡ Some x → ReadsBlock limit ks x
+
+abbrev pub FormedPiece : ℕ → Piece → Type 0
+FormedPiece limit (Doing a) = WellFormedStatement a × (statement_height a ≤ limit)
+FormedPiece limit (Declaring d) = WellFormedDeclaration d × (declaration_height d ≤ limit)
+
+pieces_formed : (limit : ℕ) (ps : List Piece) → AllByRecursion (FormedPiece limit) ps → WellFormedItems (collected ps) × (items_height (collected ps) ≤ limit)
+pieces_formed limit [] all = (tt, omega arith)
+pieces_formed limit (Doing a ∷ ps) all =
+    let more = pieces_formed limit ps all.1 in
+    ((all.0.0, more.0), omega (arith, all.0.1, more.1))
+pieces_formed limit (Declaring d ∷ ps) all =
+    let more = pieces_formed limit ps all.1 in
+    ((all.0.0, more.0), omega (arith, all.0.1, more.1))
+
+local_sound : (limit : ℕ) (ks : List Lexeme) (x : Piece × List Lexeme) → declared_at (local_at limit) ks ≡ Some x → (ks ≡ onto_piece x.0 x.1) × FormedPiece limit x.0
+local_sound zero ks x e = absurd cc
+local_sound (suc limit) ks x e =
+    let d = bind_some (declaration_at (expression_at limit) ks) _ x e in
+    let r = declaration_sound limit ks d.0 d.1 in
+    subst (λ (y : Piece × List Lexeme). (ks ≡ onto_piece y.0 y.1) × FormedPiece (suc limit) y.0) (some_is (Declaring d.0.0, d.0.1) x d.2)
+    (r.spelled, (r.formed, omega (arith, r.fits)))
+
+module _ (limit : ℕ) (statement : Reader Statement) (sound : SoundStatement statement limit) where
+  piece_sound : SoundItem onto_piece (FormedPiece limit) (piece_at (local_at limit) statement)
+  piece_sound ks x e =
+      elim (either (starts_declaration ks) (declared_at (local_at limit) ks) (statement ks >>= λ a. Some (Doing a.0, a.1)) (Some x) e) [
+        | inl declared ↦ local_sound limit ks x declared.1
+        | inr done ↦
+            let a = bind_some (statement ks) _ x done.1 in
+            let r = sound ks a.0 a.1 in
+            subst (λ (y : Piece × List Lexeme). (ks ≡ onto_piece y.0 y.1) × FormedPiece limit y.0) (some_is (Doing a.0.0, a.0.1) x a.2)
+            (r.spelled, (r.formed, r.fits))
+      ]
+
+  braces_sound : SoundBlock (braces_at (piece_at (local_at limit) statement)) (suc limit)
+  braces_sound ks x e =
+      let o = bind_some (after_sign signs.OpenBrace ks) _ x e in
+      let m = bind_some (many_at (not_yet signs.CloseBrace) (piece_at (local_at limit) statement) o.0) _ x o.2 in
+      let c = bind_some (after_sign signs.CloseBrace m.0.1) _ x m.2 in
+      let took = (many_sound onto_piece (FormedPiece limit) (not_yet signs.CloseBrace) (piece_at (local_at limit) statement) piece_sound o.0 m.0 m.1).0 in
+      let formed = pieces_formed limit m.0.0 took.each in
+      subst (ReadsBlock (suc limit) ks) (some_is (collected m.0.0, c.0) x c.2) (record {
+        spelled = sign_reads signs.OpenBrace ks o.0 o.1 ∙ ap (cons (Marked signs.OpenBrace)) (took.spelled ∙ ap (onto_all onto_piece m.0.0) (sign_reads signs.CloseBrace m.0.1 c.0 c.1) ∙ sym (onto_collected m.0.0 (Marked signs.CloseBrace ∷ c.0)));
+        formed = formed.0;
+        fits = omega (arith, formed.1);
+      })
+
+  block_statement_sound : SoundStatement (block_in (braces_at (piece_at (local_at limit) statement))) (suc limit)
+  block_statement_sound ks x e =
+      let b = bind_some (braces_at (piece_at (local_at limit) statement) ks) _ x e in
+      let r = braces_sound ks b.0 b.1 in
+      subst (ReadsStatement (suc limit) ks) (some_is (Block b.0.0, b.0.1) x b.2) (record { spelled = r.spelled; formed = r.formed; fits = omega (arith, r.fits); stops = λ h. absurd cc })
+
+  record ReadsCondition (ks : List Lexeme) (x : Expression × List Lexeme) : Type 0 where
+    spelled : ks ≡ onto_condition x.0 x.1
+    formed : WellFormed false x.0
+    fits : expression_height x.0 ≤ limit
+
+  condition_sound : (ks : List Lexeme) (x : Expression × List Lexeme) → condition_at (expression_at limit) ks ≡ Some x → ReadsCondition ks x
+  condition_sound ks x e =
+      let o = bind_some (after_sign signs.OpenParen ks) _ x e in
+      let t = bind_some (expression_at limit o.0) _ x o.2 in
+      let c = bind_some (after_sign signs.CloseParen t.0.1) _ x t.2 in
+      let r = expression_sound limit o.0 t.0 t.1 in
+      subst (ReadsCondition ks) (some_is (t.0.0, c.0) x c.2) (record {
+        spelled = sign_reads signs.OpenParen ks o.0 o.1 ∙ ap (cons (Marked signs.OpenParen)) (r.spelled ∙ ap (onto t.0.0) (sign_reads signs.CloseParen t.0.1 c.0 c.1));
+        formed = r.formed;
+        fits = r.fits;
+      })
+
+  if_sound : (ks : List Lexeme) (x : Statement × List Lexeme) → if_at (expression_at limit) statement ks ≡ Some x → ReadsStatement (suc limit) (Reserved words.If ∷ ks) x
+  if_sound ks x e =
+      let b = bind_some (condition_at (expression_at limit) ks) _ x e in
+      let d = bind_some (statement b.0.1) _ x b.2 in
+      let condition = condition_sound ks b.0 b.1 in
+      let first = sound b.0.1 d.0 d.1 in
+      let head : ks ≡ onto_condition b.0.0 (onto_statement d.0.0 d.0.1) = condition.spelled ∙ ap (onto_condition b.0.0) first.spelled in
+      elim (given_cases (after_word words.Else d.0.1) _ (Some (If b.0.0 d.0.0, d.0.1)) (Some x) d.2) [
+        | inl stop ↦
+            subst (ReadsStatement (suc limit) (Reserved words.If ∷ ks)) (some_is (If b.0.0 d.0.0, d.0.1) x stop.1)
+            (record { spelled = ap (cons (Reserved words.If)) head; formed = (condition.formed, first.formed); fits = omega (arith, condition.fits, first.fits); stops = λ h. stop.0 })
+        | inr go ↦
+            let f = bind_some (statement go.0) _ x go.2 in
+            let second = sound go.0 f.0 f.1 in
+            let closed : ends_open d.0.0 ≡ false = elim (cases_Bool (ends_open d.0.0)) [ inl is ↦ absurd (let none = first.stops is in cc (go.1, none)) | inr is_not ↦ is_not ] in
+            subst (ReadsStatement (suc limit) (Reserved words.If ∷ ks)) (some_is (IfElse b.0.0 d.0.0 f.0.0, f.0.1) x f.2)
+            (record {
+              spelled = ap (cons (Reserved words.If)) (head ∙ ap (λ (r : List Lexeme). onto_condition b.0.0 (onto_statement d.0.0 r)) (word_reads words.Else d.0.1 go.0 go.1 ∙ ap (cons (Reserved words.Else)) second.spelled));
+              formed = (condition.formed, first.formed, closed, second.formed);
+              fits = omega (arith, condition.fits, first.fits, second.fits);
+              stops = second.stops;
+            })
+      ]
+
+  while_sound : (label : Option Text) (whole ks : List Lexeme) (x : Statement × List Lexeme) → whole ≡ onto_label_before label (Reserved words.While ∷ ks) → while_at (expression_at limit) statement label ks ≡ Some x → ReadsStatement (suc limit) whole x
+  while_sound label whole ks x before e =
+      let b = bind_some (condition_at (expression_at limit) ks) _ x e in
+      let d = bind_some (statement b.0.1) _ x b.2 in
+      let condition = condition_sound ks b.0 b.1 in
+      let body = sound b.0.1 d.0 d.1 in
+      subst (ReadsStatement (suc limit) whole) (some_is (While label b.0.0 d.0.0, d.0.1) x d.2) (record {
+        spelled = before ∙ ap (λ (r : List Lexeme). onto_label_before label (Reserved words.While ∷ r)) (condition.spelled ∙ ap (onto_condition b.0.0) body.spelled);
+        formed = (condition.formed, body.formed);
+        fits = omega (arith, condition.fits, body.fits);
+        stops = body.stops;
+      })
+
+  jump_sound : (ks : List Lexeme) (x : Option Text × List Lexeme) → jump_at ks ≡ Some x → ks ≡ onto_label x.0 (Marked signs.Semicolon ∷ x.1)
+  jump_sound ks x e =
+      elim (given_cases (name_at ks) _ (after_sign signs.Semicolon ks >>= λ rest. Some (None, rest)) (Some x) e) [
+        | inl none ↦
+            let s = bind_some (after_sign signs.Semicolon ks) _ x none.1 in
+            sign_reads signs.Semicolon ks s.0 s.1 ∙ ap (λ (y : Option Text × List Lexeme). onto_label y.0 (Marked signs.Semicolon ∷ y.1)) (some_is (None, s.0) x s.2)
+        | inr name ↦
+            let s = bind_some (after_sign signs.Semicolon name.0.1) _ x name.2 in
+            name_reads ks name.0 name.1 ∙ ap (cons (Named name.0.0)) (sign_reads signs.Semicolon name.0.1 s.0 s.1) ∙ ap (λ (y : Option Text × List Lexeme). onto_label y.0 (Marked signs.Semicolon ∷ y.1)) (some_is (Some name.0.0, s.0) x s.2)
+      ]
+
+  break_sound : (ks : List Lexeme) (x : Statement × List Lexeme) → break_at ks ≡ Some x → ReadsStatement (suc limit) (Reserved words.Break ∷ ks) x
+  break_sound ks x e =
+      let j = bind_some (jump_at ks) _ x e in
+      subst (ReadsStatement (suc limit) (Reserved words.Break ∷ ks)) (some_is (Break j.0.0, j.0.1) x j.2)
+      (record { spelled = ap (cons (Reserved words.Break)) (jump_sound ks j.0 j.1); formed = tt; fits = omega arith; stops = λ h. absurd cc })
+
+  continue_sound : (ks : List Lexeme) (x : Statement × List Lexeme) → continue_at ks ≡ Some x → ReadsStatement (suc limit) (Reserved words.Continue ∷ ks) x
+  continue_sound ks x e =
+      let j = bind_some (jump_at ks) _ x e in
+      subst (ReadsStatement (suc limit) (Reserved words.Continue ∷ ks)) (some_is (Continue j.0.0, j.0.1) x j.2)
+      (record { spelled = ap (cons (Reserved words.Continue)) (jump_sound ks j.0 j.1); formed = tt; fits = omega arith; stops = λ h. absurd cc })
+
+  return_sound : (ks : List Lexeme) (x : Statement × List Lexeme) → return_at (expression_at limit) ks ≡ Some x → ReadsStatement (suc limit) (Reserved words.Return ∷ ks) x
+  return_sound ks x e =
+      let v = bind_some (value_at (expression_at limit) ks) _ x e in
+      subst (ReadsStatement (suc limit) (Reserved words.Return ∷ ks)) (some_is (Return v.0.0, v.0.1) x v.2)
+      (elim (given_cases (after_sign signs.Semicolon ks) _ (expression_at limit ks >>= λ value. after_sign signs.Semicolon value.1 >>= λ rest. Some (Some value.0, rest)) (Some v.0) v.1) [
+        | inr none ↦
+            subst (λ (y : Option Expression × List Lexeme). ReadsStatement (suc limit) (Reserved words.Return ∷ ks) (Return y.0, y.1)) (some_is (None, none.0) v.0 none.2)
+            (record { spelled = ap (cons (Reserved words.Return)) (sign_reads signs.Semicolon ks none.0 none.1); formed = tt; fits = omega arith; stops = λ h. absurd cc })
+        | inl some ↦
+            let t = bind_some (expression_at limit ks) _ v.0 some.1 in
+            let s = bind_some (after_sign signs.Semicolon t.0.1) _ v.0 t.2 in
+            let value = expression_sound limit ks t.0 t.1 in
+            subst (λ (y : Option Expression × List Lexeme). ReadsStatement (suc limit) (Reserved words.Return ∷ ks) (Return y.0, y.1)) (some_is (Some t.0.0, s.0) v.0 s.2)
+            (record { spelled = ap (cons (Reserved words.Return)) (value.spelled ∙ ap (onto t.0.0) (sign_reads signs.Semicolon t.0.1 s.0 s.1)); formed = value.formed; fits = omega (arith, value.fits); stops = λ h. absurd cc })
+      ])
+
+  try_sound : (block : Reader Items) → SoundBlock block limit → (ks : List Lexeme) (x : Statement × List Lexeme) → try_at block ks ≡ Some x → ReadsStatement (suc limit) (Reserved words.Try ∷ ks) x
+  try_sound block sound_block ks x e =
+      let b = bind_some (block ks) _ x e in
+      let w = bind_some (after_word words.Finally b.0.1) _ x b.2 in
+      let f = bind_some (block w.0) _ x w.2 in
+      let body = sound_block ks b.0 b.1 in
+      let finally = sound_block w.0 f.0 f.1 in
+      subst (ReadsStatement (suc limit) (Reserved words.Try ∷ ks)) (some_is (Try b.0.0 f.0.0, f.0.1) x f.2) (record {
+        spelled = ap (cons (Reserved words.Try)) (body.spelled ∙ ap (onto_block b.0.0) (word_reads words.Finally b.0.1 w.0 w.1 ∙ ap (cons (Reserved words.Finally)) finally.spelled));
+        formed = (body.formed, finally.formed);
+        fits = omega (arith, body.fits, finally.fits);
+        stops = λ h. absurd cc;
+      })
+
+  used_sound : (target : Expression) (whole ks : List Lexeme) (x : Statement × List Lexeme) → whole ≡ onto target ks → is_post target ≡ true → WellFormed false target → expression_height target ≤ limit → used_at (expression_at limit) target ks ≡ Some x → ReadsStatement (suc limit) whole x
+  used_sound target whole ks x before post formed fits e =
+      elim (given_cases (after_sign signs.Assign ks) _ _ (Some x) e) [
+        | inr assign ↦
+            let t = bind_some (expression_at limit assign.0) _ x assign.2 in
+            let s = bind_some (after_sign signs.Semicolon t.0.1) _ x t.2 in
+            let value = expression_sound limit assign.0 t.0 t.1 in
+            subst (ReadsStatement (suc limit) whole) (some_is (Assign target t.0.0, s.0) x s.2) (record {
+              spelled = before ∙ ap (onto target) (sign_reads signs.Assign ks assign.0 assign.1 ∙ ap (cons (Marked signs.Assign)) (value.spelled ∙ ap (onto t.0.0) (sign_reads signs.Semicolon t.0.1 s.0 s.1)));
+              formed = (post, formed, value.formed);
+              fits = omega (arith, fits, value.fits);
+              stops = λ h. absurd cc;
+            })
+        | inl call ↦
+            let g = guarded (is_call target) _ x call.1 in
+            let s = bind_some (after_sign signs.Semicolon ks) _ x g.1 in
+            subst (ReadsStatement (suc limit) whole) (some_is (Evaluate target, s.0) x s.2) (record {
+              spelled = before ∙ ap (onto target) (sign_reads signs.Semicolon ks s.0 s.1);
+              formed = (g.0, formed);
+              fits = omega (arith, fits);
+              stops = λ h. absurd cc;
+            })
+      ]
+
+  label_reads : (ks : List Lexeme) (x : Text × List Lexeme) → label_at ks ≡ Some x → ks ≡ Named x.0 ∷ Marked signs.Colon ∷ x.1
+  label_reads ks x e =
+      let n = bind_some (name_at ks) _ x e in
+      let c = bind_some (after_sign signs.Colon n.0.1) _ x n.2 in
+      name_reads ks n.0 n.1 ∙ ap (cons (Named n.0.0)) (sign_reads signs.Colon n.0.1 c.0 c.1) ∙ ap (λ (y : Text × List Lexeme). Named y.0 ∷ Marked signs.Colon ∷ y.1) (some_is (n.0.0, c.0) x c.2)
+
+  other_sound : SoundStatement (other_at (post_at limit false) (expression_at limit) statement) (suc limit)
+  other_sound ks x e =
+      elim (given_cases (label_at ks) _ (post_at limit false ks >>= λ target. used_at (expression_at limit) target.0 target.1) (Some x) e) [
+        | inl used ↦
+            let p = bind_some (post_at limit false ks) _ x used.1 in
+            let target = post_sound limit false ks p.0 p.1 in
+            used_sound p.0.0 ks p.0.1 x target.spelled target.post target.formed target.fits p.2
+        | inr label ↦
+            let w = bind_some (after_word words.While label.0.1) _ x label.2 in
+            while_sound (Some label.0.0) ks w.0 x (label_reads ks label.0 label.1 ∙ ap (λ (r : List Lexeme). Named label.0.0 ∷ Marked signs.Colon ∷ r) (word_reads words.While label.0.1 w.0 w.1)) w.2
+      ]
+
+  module _ (block : Reader Items) (sound_block : SoundBlock block limit) where
+    sign_sound : (sign : Sign) (ks : List Lexeme) (x : Statement × List Lexeme) → statement_from (first_of_sign sign) limit statement block (piece_at (local_at limit) statement) (Marked sign ∷ ks) ks ≡ Some x → ReadsStatement (suc limit) (Marked sign ∷ ks) x
+    sign_sound signs.Semicolon ks x e =
+        subst (ReadsStatement (suc limit) (Marked signs.Semicolon ∷ ks)) (some_is (Empty, ks) x e) (record { spelled = refl; formed = tt; fits = omega arith; stops = λ h. absurd cc })
+    sign_sound signs.OpenBrace ks x e = block_statement_sound (Marked signs.OpenBrace ∷ ks) x e
+    sign_sound sign ks x e = other_sound (Marked sign ∷ ks) x e
+
+    word_sound : (word : Word) (ks : List Lexeme) (x : Statement × List Lexeme) → statement_from (first_of_word word) limit statement block (piece_at (local_at limit) statement) (Reserved word ∷ ks) ks ≡ Some x → ReadsStatement (suc limit) (Reserved word ∷ ks) x
+    word_sound words.If ks x e = if_sound ks x e
+    word_sound words.While ks x e = while_sound None (Reserved words.While ∷ ks) ks x refl e
+    word_sound words.Break ks x e = break_sound ks x e
+    word_sound words.Continue ks x e = continue_sound ks x e
+    word_sound words.Return ks x e = return_sound ks x e
+    word_sound words.Try ks x e = try_sound block sound_block ks x e
+    word_sound word ks x e = other_sound (Reserved word ∷ ks) x e
+
+    statement_of_sound : SoundStatement (statement_of limit statement block) (suc limit)
+    statement_of_sound [] x e = absurd cc
+    statement_of_sound (Named text ∷ ks) x e = other_sound (Named text ∷ ks) x e
+    statement_of_sound (Numeral text ∷ ks) x e = other_sound (Numeral text ∷ ks) x e
+    statement_of_sound (Marked sign ∷ ks) x e = sign_sound sign ks x e
+    statement_of_sound (Reserved word ∷ ks) x e = word_sound word ks x e
+
+pub nested_sound : (limit : ℕ) → SoundStatement (statement_at limit) limit × SoundBlock (block_at limit) limit
+unfolding nested_at
+nested_sound zero = (λ ks x e. absurd cc, λ ks x e. absurd cc)
+nested_sound (suc limit) =
+    let inner = nested_sound limit in
+    (statement_of_sound limit (statement_at limit) inner.0 (block_at limit) inner.1, braces_sound limit (statement_at limit) inner.0)
+
+pub statement_sound : (limit : ℕ) → SoundStatement (statement_at limit) limit
+statement_sound limit = (nested_sound limit).0
+
+pub block_sound : (limit : ℕ) → SoundBlock (block_at limit) limit
+block_sound limit = (nested_sound limit).1
+
+-- ---- each takes a token at least
+
+pub modifier_shrinks : Shrinks modifier_at
+modifier_shrinks ks x e = omega (arith, ap length (modifier_sound ks x e).0, modifier_longer x.0 x.1)
+
+pub declarator_shrinks : (limit : ℕ) → Shrinks (declarator_at (expression_at limit))
+declarator_shrinks limit ks x e = omega (arith, ap length (declarator_sound limit ks x e).0, declarator_longer x.0 x.1)
+
+pub piece_shrinks : (limit : ℕ) → Shrinks (piece_at (local_at limit) (statement_at limit))
+piece_shrinks limit ks x e = omega (arith, ap length (piece_sound limit (statement_at limit) (statement_sound limit) ks x e).0, piece_longer x.0 x.1)

@@ -1,0 +1,106 @@
+// What a thread does now, and what is left round it.
+
+ghost use Rattle.std.specs.Prelude.{◌≡◌};
+ghost use Rattle.ls_source_pending.specs.Filled.{is_some};
+ghost use Rattle.ls_source_pending.specs.Machine.{answered};
+ghost use Rattle.ls_source_pending.specs.Seen.{control_of};
+
+use crate::work::{Control, Frame};
+use ls_checked::tree::File;
+use ls_events::action::Answer;
+use ls_events::value::Value;
+use ls_meaning::completion::Completion;
+use std::alloc::{AllocError, Global};
+use std::mem;
+
+/// What is done now, the frames round it with the innermost last, the locals, and how many more calls may be entered.
+#[derive(Drop)]
+pub struct Pending<'a> {
+    pub control: Control<'a>,
+    pub frames: Vec<Frame<'a>>,
+    pub locals: Vec<Value>,
+    pub depth: u64,
+}
+
+// Whether there are frames.
+#[inline(always)]
+fn has_some<'a>(frames: &[Frame<'a>]) -> bool
+    ensures { result ≡ is_some frames.now }
+{
+    match frames {
+        [] => false,
+        [_, ..] => true,
+    }
+}
+
+// What goes on after an action that is answered.
+#[inline(always)]
+fn answered<'a>(answer: Answer<Value>) -> Control<'a>
+    ensures { control_of result ≡ answered answer }
+{
+    match answer {
+        Answer::Done => Control::Gives(Value::Reference(0)),
+        Answer::Gives(v) => Control::Gives(v),
+        Answer::Fails(kind) => Control::Ends(Completion::Threw(kind)),
+    }
+}
+
+impl<'a> Pending<'a> {
+    ghost use Rattle.std.specs.Prelude.{false, OnOk};
+    ghost use Rattle.ls_checked.specs.Plain.{plain_file};
+    ghost use Rattle.ls_meaning.specs.Course.{Answers};
+    ghost use Rattle.ls_source_pending.specs.Machine.{is_left, taken, meaning, Rest};
+    ghost use Rattle.ls_source_pending.specs.SeenPending.{state_of};
+
+    /// Whether a move is left.
+    #[tactic(auto, using(crate::proofs::Stacks::gives_left, crate::proofs::Stacks::ends_left))]
+    #[inline(always)]
+    pub fn is_left(&self) -> bool
+        ensures { result ≡ is_left (state_of self.now).control (state_of self.now).frames }
+    {
+        match &self.control {
+            Control::Asks(_, _) | Control::Enters(_, _, _) | Control::Turns(_, _) => false,
+            Control::Gives(_) => has_some(&self.frames),
+            Control::Ends(_) => has_some(&self.frames),
+            _ => true,
+        }
+    }
+
+    /// Goes on to what is asked for next, or to the end. The work means what it meant, also where it is refused.
+    pub fn settle(&mut self, alloc: Global, file: &'a File) -> Result<(), AllocError>
+        ensures same { (base : Rest) (q : Answers) → meaning (plain_file file.now) base (state_of self.new) q ≡ meaning (plain_file file.now) base (state_of self.old) q }
+        ensures settled { OnOk result (is_left (state_of self.new).control (state_of self.new).frames ≡ false) }
+    {
+        'moves: while self.is_left() {
+            self.advance(alloc, file)?;
+        }
+        Ok(())
+    }
+
+    // A method that was asked for may be entered. Anything else stays.
+    fn enter(&mut self, answer: Answer<Value>)
+        ensures { state_of self.new ≡ taken answer (state_of self.old) }
+    {
+        let control = mem::replace(&mut self.control, Control::Gives(Value::Reference(0)));
+        self.control = match control {
+            Control::Asks(_action, _sort) => answered(answer),
+            Control::Enters(m, o, values) => Control::Opens(m, o, values),
+            Control::Turns(e, s) => Control::Loops(e, s),
+            control => control,
+        };
+    }
+
+    /// The answer to what was asked for.
+    pub fn take(&mut self, answer: Answer<Value>)
+        ensures { state_of self.new ≡ taken answer (state_of self.old) }
+    {
+        match &self.control {
+            Control::Asks(_, _) => self.control = answered(answer),
+            Control::Turns(e, s) => {
+                let turn = Control::Loops(*e, *s);
+                self.control = turn;
+            }
+            _ => self.enter(answer),
+        }
+    }
+}

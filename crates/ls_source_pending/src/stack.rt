@@ -1,0 +1,30 @@
+// A stack of frames, the innermost last.
+
+ghost use Rattle.std.specs.Prelude.{◌≡◌, ◌<◌, ◌≤◌, [], ◌∷◌, vec_len, vec_capacity, MatchOption, IfSome};
+ghost use Rattle.ls_source_pending.specs.Seen.{frame_of, frames_of};
+
+use crate::work::Frame;
+
+/// One frame more, where there is room.
+#[tactic(auto, using(crate::proofs::Stacks::one_more))]
+#[inline(always)]
+pub fn push<'a>(frames: &mut Vec<Frame<'a>>, frame: Frame<'a>)
+    requires { vec_len frames.old < vec_capacity frames.old }
+    ensures { frames_of frames.new.items ≡ frame_of frame.entry ∷ frames_of frames.old.items }
+{
+    match frames.push(frame) {
+        Ok(()) => {}
+        Err(_) => unreachable!(),
+    }
+}
+
+/// The innermost frame is taken away, and leaves room.
+#[tactic(auto, using(crate::proofs::Stacks::one_more, crate::proofs::Stacks::none_left))]
+#[inline(always)]
+pub fn pop<'a>(frames: &mut Vec<Frame<'a>>) -> Option<Frame<'a>>
+    requires { vec_len frames.old < vec_capacity frames.old }
+    ensures frames { MatchOption result ((frames_of frames.old.items ≡ []) × (frames_of frames.new.items ≡ [])) (λ f. frames_of frames.old.items ≡ frame_of f ∷ frames_of frames.new.items) }
+    ensures room { vec_len frames.new < vec_capacity frames.new }
+{
+    frames.pop()
+}

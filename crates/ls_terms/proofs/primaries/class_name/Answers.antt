@@ -1,6 +1,0 @@
-use Rattle.ls_terms.proofs.Places.{both_ok, class_name_is}
-use Rattle.ls_terms.proofs.primaries.class_name.Goals as goal
-
-pub returns-clause-placed : goal.returns-clause-placed
-returns-clause-placed c =
-    both_ok c.closed.result _ _ _ (λ n same close. class_name_is same c.in_ok-open.ensures.placed c.in_ok-name.ensures.placed close) c.closed.ensures.same c.closed.ensures.placed

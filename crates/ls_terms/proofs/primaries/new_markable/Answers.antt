@@ -1,9 +1,0 @@
-use Rattle.ls_spelling.proofs.Rows.{new_markable_bare}
-use Rattle.ls_terms.proofs.PlacedRows.{new_markable_placed}
-use Rattle.ls_terms.proofs.primaries.new_markable.Goals as goal
-
-pub returns-clause-read : goal.returns-clause-read
-returns-clause-read c = new_markable_bare c.args.class c.args.arguments c.args.span
-
-pub returns-clause-placed : goal.returns-clause-placed
-returns-clause-placed c = new_markable_placed c.args.class c.args.arguments c.args.span

@@ -1,9 +1,0 @@
-use Rattle.ls_spelling.proofs.Rows.{new_bare}
-use Rattle.ls_terms.proofs.PlacedRows.{new_placed}
-use Rattle.ls_terms.proofs.primaries.new_object.Goals as goal
-
-pub returns-clause-read : goal.returns-clause-read
-returns-clause-read c = new_bare c.args.class c.args.arguments c.args.span
-
-pub returns-clause-placed : goal.returns-clause-placed
-returns-clause-placed c = new_placed c.args.class c.args.arguments c.args.span

@@ -1,0 +1,15 @@
+//! Why the bodies of an elaborated file end as their methods do.
+#![tactic(auto)]
+
+ghost use Rattle.std.specs.Prelude.{◌≡◌, Ok};
+ghost use Rattle.ls_types_elaboration.specs.Trees.{File};
+ghost use Rattle.ls_types_elaboration.specs.Elaboration.{Outcome, elaborated};
+ghost use Rattle.ls_types_bodies.specs.Bodies.{BodiesFit, NoneLeft};
+
+/// In the elaboration of a class text's tree no jump leaves a method's body, and a body of a method that answers a value
+/// ends with a value or an exception: no call of it has the value that stands for none.
+#[tactic(auto, using(crate::proofs::Bodies::bodies_fit, crate::proofs::Bodies::none_left))]
+pub fn bodies_fit()
+    ensures bodies { (f : File) (o : Outcome) → elaborated f ≡ Ok o → BodiesFit o.file }
+    ensures values { (f : File) (o : Outcome) → elaborated f ≡ Ok o → NoneLeft o.file }
+{}

@@ -1,0 +1,27 @@
+-- The rules of typing keep what the meaning says of how statements complete.
+use Rattle.std.specs.Prelude.{ℕ, ◌≡◌, Bool, true}
+use Rattle.ls_events.specs.declared.value.Value.{Value}
+use Rattle.ls_meaning.specs.declared.completion.Completion.{Completion}
+use Rattle.ls_meaning.specs.declared.completion.Completion.TheVariants.{Normal, Broke}
+use Rattle.ls_checked.specs.CheckedTree.{Statement, Statements, Then}
+use Rattle.ls_types_completion.specs.Jumps.{JumpsInLoops}
+use Rattle.ls_types_completion.specs.Completion.{can_complete, breaks}
+use Rattle.ls_types_completion.specs.Ways.{Closed}
+use Rattle.ls_types_completion.specs.Ends.{AlwaysEnds, Allows, IsIn}
+
+-- a statement completes normally, or breaks a loop, only where the rules say that it can (JLS 14.21)
+abbrev pub OnlyAsAllowed : Type 0
+OnlyAsAllowed = (s : Statement) → AlwaysEnds (Allows s) s
+
+-- a statement whose jumps belong to loops in it or to the n loops round it jumps to none other (JLS 14.15, 14.16)
+abbrev pub OnlyToItsLoops : Type 0
+OnlyToItsLoops = (n : ℕ) (s : Statement) → JumpsInLoops n s → AlwaysEnds (IsIn n) s
+
+-- the rules allow no more than follows from the ways that statements complete, where a `break` counts even behind a
+-- statement that can't complete: unreachable statements aren't looked at
+abbrev pub NoMoreThanWays : Type 0
+NoMoreThanWays =
+    (p : Statement → Completion Value → Bool) (q : Statements → Completion Value → Bool)
+    → Closed (λ s c. p s c ≡ true) (λ ss c. q ss c ≡ true)
+    → ((s : Statement) (ss : Statements) (n : ℕ) → q ss (Broke n) ≡ true → q (Then s ss) (Broke n) ≡ true)
+    → (s : Statement) → (can_complete s ≡ true → p s Normal ≡ true) × ((n : ℕ) → breaks n s ≡ true → p s (Broke n) ≡ true)

@@ -1,0 +1,9 @@
+-- What contracts see of a file's elaboration.
+use Rattle.std.specs.Prelude.{map}
+use Rattle.ls_checked.specs.Plain.{plain_file}
+use Rattle.ls_types_elaboration.specs.declared.outcome.Outcome.{Outcome}
+use Rattle.ls_types_elaboration.specs.Elaboration as elaboration
+use Rattle.ls_types_elaboration.specs.Tables.{texts_of, class_sign_of}
+
+abbrev pub outcome_of : Outcome → elaboration.Outcome
+outcome_of o = record { names = texts_of o.names; signs = map class_sign_of o.signs.items; file = plain_file o.file }

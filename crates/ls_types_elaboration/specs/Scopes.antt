@@ -1,0 +1,71 @@
+-- Blocks as they are checked: their statements, and the locals in scope (JLS 6.3, 6.4, 14.4).
+use Rattle.std.specs.Prelude.{ℕ, pos, nat_lt, false, not, List, [], ◌∷◌, ◌++◌, length, Option, Some, None, Ok, is_some}
+use Rattle.ls_lexer.specs.declared.token.Span.{Span}
+use Rattle.ls_events.specs.declared.value.Value.{Value}
+use Rattle.ls_events.specs.declared.value.Value.TheVariants as values
+use Rattle.ls_events.specs.declared.value.ValueType.{ValueType}
+use Rattle.ls_events.specs.declared.value.ValueType.TheVariants as types
+use Rattle.ls_checked.specs.CheckedTree as checked
+use Rattle.ls_types_elaboration.specs.declared.rule.Rule.TheVariants.{TwiceDeclared, Limit}
+use Rattle.ls_types_elaboration.specs.Trees.{Text, Name, Declarator, Declaration}
+use Rattle.ls_types_elaboration.specs.Trees as parsed
+use Rattle.ls_types_elaboration.specs.Elaborated.{Elaborated, with_ok, unless_broken, each}
+use Rattle.ls_types_elaboration.specs.Known.{Known, Local, local_named, type_of}
+use Rattle.ls_types_elaboration.specs.TypedExpressions.{fitting}
+
+-- what is known in a body: the declarations of the file, what the method answers, and where its name stands
+pub record Body : Type 0 where
+  pub known : Known
+  pub result : Option ValueType
+  pub span : Span
+
+-- the statements of a block so far, the locals in scope behind them, and the types of the method's slots so far
+pub record Scope : Type 0 where
+  pub statements : List checked.Statement
+  pub locals : List Local
+  pub slots : List ValueType
+
+-- `this`, parameters and locals of a method
+abbrev pub most_slots : ℕ
+most_slots = 128
+
+-- what a variable starts at (JLS 4.12.5; the profile gives locals such a start too)
+abbrev pub start_of : ValueType → Value
+start_of types.Int = values.Int (pos 0)
+start_of types.Boolean = values.Boolean false
+start_of _ = values.Reference 0
+
+abbrev pub with_statement : Scope → checked.Statement → Scope
+with_statement scope s = record { statements = scope.statements ++ s ∷ []; locals = scope.locals; slots = scope.slots }
+
+-- one more variable in scope, in the next slot
+abbrev pub with_variable : Scope → Text → ValueType → Scope
+with_variable scope name t = record {
+  statements = scope.statements;
+  locals = scope.locals ++ record { name = name; type = t; slot = length scope.slots } ∷ [];
+  slots = scope.slots ++ t ∷ [];
+}
+
+-- a name that no variable in scope has, and room for it; a method with too many is refused at its name
+abbrev pub may_declare : {A : Type 0} → Span → Scope → Name → Elaborated A → Elaborated A
+may_declare method scope n go =
+    unless_broken (is_some (local_named scope.locals n.text)) TwiceDeclared n.span (
+    unless_broken (not (nat_lt (length scope.slots) most_slots)) Limit method go)
+
+-- the initialiser, where there is one, as an assignment (JLS 14.4.2)
+abbrev pub initialised : Known → ValueType → ℕ → Scope → Option parsed.Expression → Elaborated Scope
+initialised known t slot scope None = Ok scope
+initialised known t slot scope (Some e) =
+    with_ok (fitting known scope.locals t e) (λ v. Ok (with_statement scope (checked.SetSlot slot v)))
+
+-- a local is in scope from its own initialiser on (JLS 6.3); it gets its start value, and then that of its initialiser
+abbrev pub declared : Body → ValueType → Scope → Declarator → Elaborated Scope
+declared body t scope d =
+    may_declare body.span scope d.name (
+    initialised body.known t (length scope.slots)
+    (with_statement (with_variable scope d.name.text t) (checked.SetSlot (length scope.slots) (checked.Literal (start_of t))))
+    d.value)
+
+abbrev pub declaration : Body → Scope → Declaration → Elaborated Scope
+declaration body scope d =
+    with_ok (type_of body.known.names d.type_name) (λ t. each (declared body t) scope (d.first ∷ d.more))

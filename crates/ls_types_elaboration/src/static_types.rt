@@ -1,0 +1,141 @@
+// Types of expressions, and what fits where.
+
+ghost use Rattle.std.specs.Prelude.{◌≡◌, Ok};
+ghost use Rattle.ls_checked.specs.Plain.{plain};
+ghost use Rattle.ls_types_elaboration.specs.StaticTypes.{fits as the_fits, same_type as the_same_type, is_reference as the_reference, comparable as the_comparable, typed_as as typing, as_type as the_as_type, as_value as the_as_value, is_void as the_void, is_array as the_array, as_array as the_as_array, result_type as the_result_type};
+ghost use Rattle.ls_types_elaboration.specs.Answers.{typed_of, seen_typed, seen_plain};
+
+use crate::rule::{Broken, Rule, broken_at};
+use crate::together::passing;
+use ls_checked::tree::Expression;
+use ls_events::value::ValueType;
+use ls_lexer::token::Span;
+
+/// The type of an expression, that of `null`, or that of a call of a void method (JLS 4.1, 15.1).
+#[derive(Clone, Copy)]
+pub enum Static {
+    Of(ValueType),
+    NullType,
+    Void,
+}
+
+/// An expression that is checked, and its type.
+#[derive(Drop)]
+pub struct Typed {
+    pub expression: Expression,
+    pub of: Static,
+}
+
+fn same_type(t: ValueType, u: ValueType) -> bool
+    ensures { result ≡ the_same_type t u }
+{
+    match (t, u) {
+        (ValueType::Int, ValueType::Int) => true,
+        (ValueType::Boolean, ValueType::Boolean) => true,
+        (ValueType::BooleanArray, ValueType::BooleanArray) => true,
+        (ValueType::Class(m), ValueType::Class(n)) => m == n,
+        (ValueType::Lock, ValueType::Lock) => true,
+        (ValueType::Markable(m), ValueType::Markable(n)) => m == n,
+        _ => false,
+    }
+}
+
+fn is_reference(t: ValueType) -> bool
+    ensures { result ≡ the_reference t }
+{
+    match t {
+        ValueType::Int => false,
+        ValueType::Boolean => false,
+        _ => true,
+    }
+}
+
+fn fits(t: ValueType, x: Static) -> bool
+    ensures { result ≡ the_fits t x }
+{
+    match x {
+        Static::Of(u) => same_type(t, u),
+        Static::NullType => is_reference(t),
+        Static::Void => false,
+    }
+}
+
+/// Whether `==` may compare two values.
+pub fn comparable(x: Static, y: Static) -> bool
+    ensures { result ≡ the_comparable x y }
+{
+    match (x, y) {
+        (Static::Of(t), y) => fits(t, y),
+        (Static::NullType, Static::Of(t)) => is_reference(t),
+        (Static::NullType, Static::NullType) => true,
+        _ => false,
+    }
+}
+
+/// An expression where a value of a type is wanted.
+pub fn as_type(t: ValueType, span: Span, x: Typed) -> Result<Expression, Broken>
+    ensures { seen_plain result ≡ the_as_type t span (typed_of x) }
+{
+    passing(
+        x.expression,
+        fits(t, x.of),
+        broken_at(Rule::WrongType, span),
+    )
+}
+
+fn is_void(x: Static) -> bool
+    ensures { result ≡ the_void x }
+{
+    match x {
+        Static::Void => true,
+        _ => false,
+    }
+}
+
+/// An expression where any value is wanted.
+pub fn as_value(span: Span, x: Typed) -> Result<Typed, Broken>
+    ensures { seen_typed result ≡ the_as_value span (typed_of x) }
+{
+    let value = !is_void(x.of);
+    passing(x, value, broken_at(Rule::WrongType, span))
+}
+
+fn is_array(x: Static) -> bool
+    ensures { result ≡ the_array x }
+{
+    match x {
+        Static::Of(ValueType::BooleanArray) => true,
+        _ => false,
+    }
+}
+
+/// An expression where an array is wanted.
+pub fn as_array(span: Span, x: Typed) -> Result<Expression, Broken>
+    ensures { seen_plain result ≡ the_as_array span (typed_of x) }
+{
+    passing(
+        x.expression,
+        is_array(x.of),
+        broken_at(Rule::WrongType, span),
+    )
+}
+
+/// An expression of a type.
+pub fn typed_as(t: ValueType, expression: Expression) -> Typed
+    ensures { typing t (plain expression) ≡ Ok (typed_of result) }
+{
+    Typed {
+        expression,
+        of: Static::Of(t),
+    }
+}
+
+/// The type of a call.
+pub fn result_type(result_type: Option<ValueType>) -> Static
+    ensures { result ≡ the_result_type result_type }
+{
+    match result_type {
+        None => Static::Void,
+        Some(t) => Static::Of(t),
+    }
+}

@@ -1,0 +1,90 @@
+// Assignments: what may stand on the left side.
+
+ghost use Rattle.std.specs.Prelude.{◌≡◌};
+ghost use Rattle.ls_checked.specs.Plain.{plain, plain_statement};
+ghost use Rattle.ls_types_elaboration.specs.TypedStatements.{variable as the_variable, assigned as the_assigned, assignment as the_assignment};
+ghost use Rattle.ls_types_elaboration.specs.Placed.{placed};
+ghost use Rattle.ls_types_elaboration.specs.Tables.{known_of};
+ghost use Rattle.ls_types_expressions.specs.Views.{locals_of, place_of, seen_variable};
+ghost use Rattle.ls_types_elaboration.specs.Answers.{Gives};
+
+use crate::expressions::{fitting, typed};
+use crate::places::span_of;
+use crate::site::Site;
+use ls_checked::tree::{Expression, Statement};
+use ls_events::value::ValueType;
+use ls_lexer::token::Span;
+use ls_tree::tree::Expr;
+use ls_types_elaboration::rule::{Broken, CheckFault, Rule, broken_at};
+use ls_types_elaboration::static_types::{Static, Typed};
+use ls_types_elaboration::together::also;
+
+/// A local, a field of an object, or an element of an array.
+#[derive(Drop)]
+pub enum Place {
+    Slot(usize),
+    Field(Expression, usize),
+    Item(Expression, Expression),
+}
+
+/// A variable that may be assigned to.
+#[derive(Drop)]
+pub struct Variable {
+    pub place: Place,
+    pub value_type: ValueType,
+}
+
+fn left_side(span: Span, x: Typed) -> Result<Variable, Broken>
+    ensures { seen_variable result ≡ the_variable span (plain x.expression) x.of }
+{
+    let Static::Of(value_type) = x.of else {
+        return Err(broken_at(Rule::NotAssignable, span));
+    };
+    match x.expression {
+        Expression::Slot(0) => Err(broken_at(Rule::NotAssignable, span)),
+        Expression::Slot(n) => Ok(Variable {
+            place: Place::Slot(n),
+            value_type,
+        }),
+        Expression::Field { target, field, .. } => {
+            Ok(Variable {
+                place: Place::Field(Box::into_inner(target), field),
+                value_type,
+            })
+        }
+        Expression::Item(array, index) => {
+            let place = Place::Item(Box::into_inner(array), Box::into_inner(index));
+            Ok(Variable { place, value_type })
+        }
+        _ => Err(broken_at(Rule::NotAssignable, span)),
+    }
+}
+
+fn assigned(place: Place, value: Expression) -> Statement
+    ensures { plain_statement result ≡ the_assigned (place_of place) (plain value) }
+{
+    match place {
+        Place::Slot(n) => Statement::SetSlot(n, value),
+        Place::Field(target, field) => Statement::SetField {
+            target,
+            field,
+            value,
+        },
+        Place::Item(array, index) => Statement::SetItem {
+            array,
+            index,
+            value,
+        },
+    }
+}
+
+/// An assignment.
+pub fn assignment(site: Site, target: &Expr, value: &Expr) -> Result<Statement, CheckFault>
+    ensures { Gives plain_statement result (the_assignment (known_of site.entry.known) (locals_of site.entry) (placed target.now) (placed value.now)) }
+{
+    let x = typed(site, target)?;
+    let to = left_side(span_of(target), x)?;
+    let v = fitting(site, to.value_type, value);
+    let (to, v) = also(to, v)?;
+    Ok(assigned(to.place, v))
+}

@@ -1,0 +1,18 @@
+// Where an expression stands.
+
+use ls_types_elaboration::known::{Known, Local};
+use std::alloc::{AllocError, Global};
+
+/// What the file declares, the locals in scope, and memory for what is made.
+#[derive(Copy)]
+pub struct Site<'k, 'l, 't> {
+    pub alloc: Global,
+    pub known: Known<'k>,
+    pub locals: &'l [Local<'t>],
+}
+
+impl<'k, 'l, 't> Clone for Site<'k, 'l, 't> {
+    fn clone(&self) -> Result<Site<'k, 'l, 't>, AllocError> {
+        Ok(*self)
+    }
+}

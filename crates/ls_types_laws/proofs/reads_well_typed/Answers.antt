@@ -1,0 +1,5 @@
+use Rattle.ls_types_laws.proofs.WellTyped.{well_typed_program}
+use Rattle.ls_types_laws.proofs.reads_well_typed.Goals as goal
+
+pub returns : goal.returns
+returns c = well_typed_program

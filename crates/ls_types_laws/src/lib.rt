@@ -1,0 +1,19 @@
+//! Laws of typing: what is elaborated, and what is read for it, is well typed.
+#![tactic(auto)]
+
+ghost use Rattle.std.specs.Prelude.{◌≡◌, Ok, Some};
+ghost use Rattle.ls_checked.specs.CheckedProgram.{Program};
+ghost use Rattle.ls_types_elaboration.specs.Trees.{File, Text};
+ghost use Rattle.ls_types_elaboration.specs.Elaboration.{Outcome, elaborated};
+ghost use Rattle.ls_types_programs.specs.ThreadPrograms.{program_of};
+ghost use Rattle.ls_types_judgement.specs.WellTyped.{IsWellTyped, IsWellTypedProgram};
+
+/// The elaboration of a class text's tree is well typed: so the lowerings take each file that is checked.
+pub fn elaborates_well_typed()
+    ensures { (f : File) (o : Outcome) → elaborated f ≡ Ok o → IsWellTyped o.file }
+{}
+
+/// A thread program that is read for a checked file is a well typed program of it.
+pub fn reads_well_typed()
+    ensures { (f : File) (o : Outcome) (text : Text) (p : Program) → elaborated f ≡ Ok o → program_of o text ≡ Some p → IsWellTypedProgram o.file p }
+{}

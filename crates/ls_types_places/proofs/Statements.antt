@@ -1,0 +1,150 @@
+-- Statements without places.
+use Rattle.std.proofs.Common.{◌≡◌, refl, ap, ◌∙◌, List, [], ◌∷◌, Option, Some, None, ℕ, length}
+use Rattle.std.specs.Prelude.{is_some, not, nat_lt, nat_eq, option_map}
+use Rattle.ls_lexer.specs.declared.token.Span.{Span}
+use Rattle.ls_events.specs.declared.value.ValueType.{ValueType}
+use Rattle.ls_events.specs.declared.value.ValueType.TheVariants as types
+use Rattle.ls_checked.specs.CheckedTree as checked
+use Rattle.ls_types_elaboration.specs.declared.rule.Rule.TheVariants as rules
+use Rattle.ls_types_elaboration.specs.declared.static_types.Static.{Static}
+use Rattle.ls_types_elaboration.specs.declared.static_types.Static.TheVariants.{Of}
+use Rattle.ls_types_elaboration.specs.Trees
+use Rattle.ls_types_elaboration.specs.Trees.{Text, Name, Expression, TypeName, Declarator, Declaration, Statement, Items, span_of}
+use Rattle.ls_types_elaboration.specs.Elaborated.{Elaborated, with_ok}
+use Rattle.ls_types_elaboration.specs.Known.{Known, Local, local_named, number_of, is_lock_name, class_type, type_of, result_of}
+use Rattle.ls_types_elaboration.specs.TypedExpressions.{typed, fitting}
+use Rattle.ls_types_elaboration.specs.Scopes.{Body, Scope, most_slots, start_of, with_statement, with_variable, may_declare, initialised, declared, declaration}
+use Rattle.ls_types_elaboration.specs.TypedStatements.{Loops, with_slots, loop_named, found_loop, jump, label_text, fresh_label, variable, assignment, returned, opened, closed, followed, statement, items}
+use Rattle.ls_parser_placing.specs.Unplaced.{nowhere, unplaced, unplaced_name, unplaced_type, unplaced_declarator, unplaced_declaration, unplaced_statement, unplaced_items}
+use Rattle.ls_types_places.proofs.Anywhere.{anywhere}
+use Rattle.ls_types_places.proofs.Steps.{bind, blank, test, choice, each_same}
+use Rattle.ls_types_places.proofs.Expressions.{span_nowhere, typed_same, fitting_same}
+
+-- the body of a method whose name's place is put to 0
+abbrev pub unplaced_body : Body → Body
+unplaced_body b = record { known = b.known; result = b.result; span = nowhere }
+
+class_same : (make : ℕ → ValueType) (o : Option ℕ) (s : Span) → class_type make o nowhere ≡ anywhere (class_type make o s)
+class_same make None s = refl
+class_same make (Some c) s = refl
+
+pub type_same : (names : List Text) (t : TypeName) → type_of names (unplaced_type t) ≡ anywhere (type_of names t)
+type_same names Trees.Int = refl
+type_same names Trees.Boolean = refl
+type_same names Trees.BooleanArray = refl
+type_same names (Trees.Class n) = choice (is_lock_name n.text) _ _ _ _ refl (class_same (λ c. types.Class c) (number_of names n.text) n.span)
+type_same names (Trees.Markable n) = class_same (λ c. types.Markable c) (number_of names n.text) n.span
+
+pub result_same : (names : List Text) (t : Option TypeName) → result_of names (option_map unplaced_type t) ≡ anywhere (result_of names t)
+result_same names None = refl
+result_same names (Some t) = bind (type_of names t) (type_of names (unplaced_type t)) _ _ (type_same names t) (λ u. refl)
+
+pub may_same : {A : Type 0} (s : Span) (scope : Scope) (n : Name) (x x' : Elaborated A) → x' ≡ anywhere x
+    → may_declare nowhere scope (unplaced_name n) x' ≡ anywhere (may_declare s scope n x)
+may_same s scope n x x' e =
+    test (is_some (local_named scope.locals n.text)) rules.TwiceDeclared nowhere n.span _ _ refl
+    (test (not (nat_lt (length scope.slots) most_slots)) rules.Limit nowhere s x x' refl e)
+
+initialised_same : (known : Known) (t : ValueType) (slot : ℕ) (scope : Scope) (v : Option Expression)
+    → initialised known t slot scope (option_map unplaced v) ≡ anywhere (initialised known t slot scope v)
+initialised_same known t slot scope None = refl
+initialised_same known t slot scope (Some e) =
+    bind (fitting known scope.locals t e) (fitting known scope.locals t (unplaced e)) _ _ (fitting_same known scope.locals t e) (λ v. refl)
+
+declared_same : (body : Body) (t : ValueType) (scope : Scope) (d : Declarator)
+    → declared (unplaced_body body) t scope (unplaced_declarator d) ≡ anywhere (declared body t scope d)
+declared_same body t scope d =
+    may_same body.span scope d.name _ _ (initialised_same body.known t (length scope.slots) (with_statement (with_variable scope d.name.text t) (checked.SetSlot (length scope.slots) (checked.Literal (start_of t)))) d.value)
+
+declaration_same : (body : Body) (scope : Scope) (d : Declaration) → declaration (unplaced_body body) scope (unplaced_declaration d) ≡ anywhere (declaration body scope d)
+declaration_same body scope d =
+    bind (type_of body.known.names d.type_name) (type_of body.known.names (unplaced_type d.type_name)) _ _ (type_same body.known.names d.type_name) (λ t.
+    each_same (declared body t) (declared (unplaced_body body) t) unplaced_declarator scope (d.first ∷ d.more) (λ s a. declared_same body t s a))
+
+found_loop_same : (o : Option ℕ) (s : Span) → found_loop o nowhere ≡ anywhere (found_loop o s)
+found_loop_same None s = refl
+found_loop_same (Some n) s = refl
+
+jump_same : (loops : Loops) (label : Option Name) (s : Span) → jump loops (option_map unplaced_name label) nowhere ≡ anywhere (jump loops label s)
+jump_same [] label s = refl
+jump_same (l ∷ ls) None s = refl
+jump_same (l ∷ ls) (Some n) s = found_loop_same (loop_named (l ∷ ls) n.text) n.span
+
+label_same : (label : Option Name) → label_text (option_map unplaced_name label) ≡ label_text label
+label_same None = refl
+label_same (Some n) = refl
+
+fresh_same : {A : Type 0} (loops : Loops) (label : Option Name) (x x' : Elaborated A) → x' ≡ anywhere x
+    → fresh_label loops (option_map unplaced_name label) x' ≡ anywhere (fresh_label loops label x)
+fresh_same loops None x x' e = e
+fresh_same loops (Some n) x x' e = test (is_some (loop_named loops n.text)) rules.TwiceDeclared nowhere n.span x x' refl e
+
+variable_same : (s' s : Span) (e : checked.Expression) (u : Static) → s' ≡ nowhere → variable s' e u ≡ anywhere (variable s e u)
+variable_same s' s (checked.Slot n) (Of t) h = choice (nat_eq n 0) _ _ _ _ (blank rules.NotAssignable s' s h) refl
+variable_same s' s (checked.Field e c f) (Of t) h = refl
+variable_same s' s (checked.Item a i) (Of t) h = refl
+variable_same s' s _ _ h = blank rules.NotAssignable s' s h
+
+assignment_same : (known : Known) (locals : List Local) (target value : Expression)
+    → assignment known locals (unplaced target) (unplaced value) ≡ anywhere (assignment known locals target value)
+assignment_same known locals target value =
+    bind (typed known locals target) (typed known locals (unplaced target)) _ _ (typed_same known locals target) (λ x.
+    bind (variable (span_of target) x.expression x.static) (variable (span_of (unplaced target)) x.expression x.static) _ _
+    (variable_same (span_of (unplaced target)) (span_of target) x.expression x.static (span_nowhere target)) (λ to.
+    bind (fitting known locals to.type value) (fitting known locals to.type (unplaced value)) _ _ (fitting_same known locals to.type value) (λ v. refl)))
+
+returned_same : (known : Known) (locals : List Local) (r : Option ValueType) (v : Option Expression) (s : Span)
+    → returned known locals r (option_map unplaced v) nowhere ≡ anywhere (returned known locals r v s)
+returned_same known locals None None s = refl
+returned_same known locals (Some t) None s = refl
+returned_same known locals None (Some e) s = blank rules.WrongType (span_of (unplaced e)) (span_of e) (span_nowhere e)
+returned_same known locals (Some t) (Some e) s =
+    bind (fitting known locals t e) (fitting known locals t (unplaced e)) _ _ (fitting_same known locals t e) (λ v. refl)
+
+mutual
+  pub statement_same : (body : Body) (loops : Loops) (locals : List Local) (slots : List ValueType) (s : Statement)
+      → statement (unplaced_body body) loops locals slots (unplaced_statement s) ≡ anywhere (statement body loops locals slots s)
+  statement_same body loops locals slots (Trees.Block is) =
+      bind (items body loops (opened locals slots) is) (items (unplaced_body body) loops (opened locals slots) (unplaced_items is)) _ _
+      (items_same body loops (opened locals slots) is) (λ s. refl)
+  statement_same body loops locals slots Trees.Empty = refl
+  statement_same body loops locals slots (Trees.If c s) =
+      bind (fitting body.known locals types.Boolean c) (fitting body.known locals types.Boolean (unplaced c)) _ _ (fitting_same body.known locals types.Boolean c) (λ e.
+      bind (statement body loops locals slots s) (statement (unplaced_body body) loops locals slots (unplaced_statement s)) _ _ (statement_same body loops locals slots s) (λ a. refl))
+  statement_same body loops locals slots (Trees.IfElse c s t) =
+      bind (fitting body.known locals types.Boolean c) (fitting body.known locals types.Boolean (unplaced c)) _ _ (fitting_same body.known locals types.Boolean c) (λ e.
+      bind (statement body loops locals slots s) (statement (unplaced_body body) loops locals slots (unplaced_statement s)) _ _ (statement_same body loops locals slots s) (λ a.
+      bind (statement body loops locals a.slots t) (statement (unplaced_body body) loops locals a.slots (unplaced_statement t)) _ _ (statement_same body loops locals a.slots t) (λ b. refl)))
+  statement_same body loops locals slots (Trees.While label c s) =
+      ap (λ l. fresh_label loops (option_map unplaced_name label) (with_ok (fitting body.known locals types.Boolean (unplaced c)) (λ e.
+      with_ok (statement (unplaced_body body) (l ∷ loops) locals slots (unplaced_statement s)) (λ a. with_slots (checked.While e a.tree) a.slots)))) (label_same label)
+      ∙ fresh_same loops label _ _ (
+      bind (fitting body.known locals types.Boolean c) (fitting body.known locals types.Boolean (unplaced c)) _ _ (fitting_same body.known locals types.Boolean c) (λ e.
+      bind (statement body (label_text label ∷ loops) locals slots s) (statement (unplaced_body body) (label_text label ∷ loops) locals slots (unplaced_statement s)) _ _
+      (statement_same body (label_text label ∷ loops) locals slots s) (λ a. refl)))
+  statement_same body loops locals slots (Trees.Break label span) =
+      bind (jump loops label span) (jump loops (option_map unplaced_name label) nowhere) _ _ (jump_same loops label span) (λ n. refl)
+  statement_same body loops locals slots (Trees.Continue label span) =
+      bind (jump loops label span) (jump loops (option_map unplaced_name label) nowhere) _ _ (jump_same loops label span) (λ n. refl)
+  statement_same body loops locals slots (Trees.Return value span) =
+      bind (returned body.known locals body.result value span) (returned body.known locals body.result (option_map unplaced value) nowhere) _ _
+      (returned_same body.known locals body.result value span) (λ s. refl)
+  statement_same body loops locals slots (Trees.Try b f) =
+      bind (with_ok (items body loops (opened locals slots) b) closed) (with_ok (items (unplaced_body body) loops (opened locals slots) (unplaced_items b)) closed) _ _
+      (bind (items body loops (opened locals slots) b) (items (unplaced_body body) loops (opened locals slots) (unplaced_items b)) _ _ (items_same body loops (opened locals slots) b) (λ s. refl))
+      (λ x. bind (with_ok (items body loops (opened locals x.slots) f) closed) (with_ok (items (unplaced_body body) loops (opened locals x.slots) (unplaced_items f)) closed) _ _
+      (bind (items body loops (opened locals x.slots) f) (items (unplaced_body body) loops (opened locals x.slots) (unplaced_items f)) _ _ (items_same body loops (opened locals x.slots) f) (λ s. refl))
+      (λ y. refl))
+  statement_same body loops locals slots (Trees.Assign target value) =
+      bind (assignment body.known locals target value) (assignment body.known locals (unplaced target) (unplaced value)) _ _ (assignment_same body.known locals target value) (λ s. refl)
+  statement_same body loops locals slots (Trees.Evaluate e) =
+      bind (typed body.known locals e) (typed body.known locals (unplaced e)) _ _ (typed_same body.known locals e) (λ x. refl)
+
+  pub items_same : (body : Body) (loops : Loops) (scope : Scope) (is : Items)
+      → items (unplaced_body body) loops scope (unplaced_items is) ≡ anywhere (items body loops scope is)
+  items_same body loops scope Trees.NoItem = refl
+  items_same body loops scope (Trees.Do s rest) =
+      bind (statement body loops scope.locals scope.slots s) (statement (unplaced_body body) loops scope.locals scope.slots (unplaced_statement s)) _ _
+      (statement_same body loops scope.locals scope.slots s) (λ a. items_same body loops (followed scope a) rest)
+  items_same body loops scope (Trees.Declare d rest) =
+      bind (declaration body scope d) (declaration (unplaced_body body) scope (unplaced_declaration d)) _ _ (declaration_same body scope d) (λ next. items_same body loops next rest)

@@ -1,0 +1,84 @@
+-- Which programs are programs of a file.
+use Rattle.std.specs.Prelude.{◌≡◌, ◌≢◌, ℕ, ◌≤◌, Bool, true, false, List, [], ◌∷◌, ◌++◌, length, map, Option, Some, None, codes, slice_get}
+use Rattle.ls_lexer.specs.Lexemes.{Lexeme}
+use Rattle.ls_lexer.specs.Tokens.{tokens_of}
+use Rattle.ls_events.specs.declared.value.Value.{Value}
+use Rattle.ls_events.specs.declared.value.Value.TheVariants as values
+use Rattle.ls_events.specs.declared.value.ValueType.{ValueType}
+use Rattle.ls_events.specs.declared.value.ValueType.TheVariants as types
+use Rattle.ls_checked.specs.CheckedProgram.{SetupName, ProgramCall, Making, Calling, ThreadProgram, Program}
+use Rattle.ls_types_elaboration.specs.Trees.{Text}
+use Rattle.ls_types_elaboration.specs.Known.{MethodSign, number_of, method_named, methods_in, parameters_in}
+use Rattle.ls_types_elaboration.specs.Elaboration.{Outcome}
+use Rattle.ls_types_programs.specs.Spelled.{Spells}
+
+-- an argument is an int or a boolean
+abbrev pub type_of : Value → Option ValueType
+type_of (values.Int z) = Some types.Int
+type_of (values.Boolean b) = Some types.Boolean
+type_of (values.Reference n) = None
+type_of (values.Pair n m) = None
+
+-- as many arguments as parameters, and each of its type
+abbrev pub AreFor : List ValueType → List Value → Type 0
+AreFor parameters arguments = map type_of arguments ≡ map Some parameters
+
+-- an int, a boolean or nothing
+abbrev pub IsPlain : Option ValueType → Type 0
+IsPlain None = Unit {0}
+IsPlain (Some types.Int) = Unit {0}
+IsPlain (Some types.Boolean) = Unit {0}
+IsPlain (Some _) = ⊥
+
+-- none of the setup names, or of the threads, has this name
+abbrev pub IsNewName : List SetupName → Text → Type 0
+IsNewName [] name = Unit {0}
+IsNewName (s ∷ ss) name = (s.name ≢ name) × IsNewName ss name
+
+abbrev pub IsNewThread : List ThreadProgram → Text → Type 0
+IsNewThread [] name = Unit {0}
+IsNewThread (t ∷ ts) name = (t.name ≢ name) × IsNewThread ts name
+
+-- The calls of a block, where these setup names are given before it, and those that are given behind it. A making gives a
+-- new name, in the setup alone, and makes an object of a class that is there; a call is on a name that is given, of a
+-- method that is there in the class of its object and that answers an int, a boolean or nothing.
+pub data AreCallsOf (o : Outcome) (in_setup : Bool) : List SetupName → List ProgramCall → List SetupName → Type 0 where
+  End : {names : List SetupName} → AreCallsOf o in_setup names [] names
+  Makes : {names all : List SetupName} {cs : List ProgramCall} (s : SetupName) (class_name : Text) (vs : List Value)
+      → in_setup ≡ true → IsNewName names s.name
+      → number_of o.names class_name ≡ Some s.class → AreFor (parameters_in (slice_get o.signs s.class)) vs
+      → AreCallsOf o in_setup (names ++ s ∷ []) cs all
+      → AreCallsOf o in_setup names (Making (length names) s.class class_name vs ∷ cs) all
+  Calls : {names all : List SetupName} {cs : List ProgramCall} (n : ℕ) (s : SetupName) (name : Text) (m : MethodSign) (vs : List Value)
+      → slice_get names n ≡ Some s
+      → method_named (methods_in (slice_get o.signs s.class)) name ≡ Some m → IsPlain m.result → AreFor m.parameters vs
+      → AreCallsOf o in_setup names cs all
+      → AreCallsOf o in_setup names (Calling n m.number name m.result vs ∷ cs) all
+
+-- Threads behind those that are there: each has a name of its own, other than `all`, at most 256 calls, and gives no
+-- setup name.
+pub data AreThreadsOf (o : Outcome) (names : List SetupName) : List ThreadProgram → List ThreadProgram → Type 0 where
+  End : {before : List ThreadProgram} → AreThreadsOf o names before []
+  Thread : {before ts : List ThreadProgram} (t : ThreadProgram)
+      → t.name ≢ codes "all" → IsNewThread before t.name
+      → length t.calls ≤ 256 → AreCallsOf o false names t.calls names
+      → AreThreadsOf o names (before ++ t ∷ []) ts
+      → AreThreadsOf o names before (t ∷ ts)
+
+-- The program of a file: thread 0 is named `setup` and gives the setup names; at most 16 threads stand beside it.
+pub record IsProgramOf (o : Outcome) (p : Program) : Type 0 where
+  pub setup : List ProgramCall
+  pub threads : List ThreadProgram
+  pub parts : p.threads ≡ record { name = codes "setup"; calls = setup } ∷ threads
+  pub gives : AreCallsOf o true [] setup p.names
+  pub calls : length setup ≤ 256
+  pub few : length threads ≤ 16
+  pub others : AreThreadsOf o p.names (record { name = codes "setup"; calls = setup } ∷ []) threads
+
+-- The text is not too long, its tokens spell the program, and that is a program of the file.
+pub record IsTextOf (o : Outcome) (p : Program) (text : Text) : Type 0 where
+  pub short : length text ≤ 262144
+  pub tokens : List Lexeme
+  pub lexed : tokens_of text ≡ Some tokens
+  pub spelled : Spells p tokens
+  pub program : IsProgramOf o p

@@ -1,0 +1,27 @@
+-- The loops that a `break` in a statement can leave, counted outward from the innermost round it.
+use Rattle.std.specs.Prelude.{ℕ, zero, suc, Bool, false, ◌||◌, nat_eq, List, [], ◌∷◌, ◌++◌, if◌then◌else◌}
+use Rattle.ls_checked.specs.CheckedTree.{Statement, Block, If, While, Break, Try, Statements, Done, Then}
+use Rattle.ls_types_completion.specs.Completion.{can_complete}
+
+-- without the loop itself
+abbrev pub outward : List ℕ → List ℕ
+outward [] = []
+outward (zero ∷ ns) = outward ns
+outward (suc n ∷ ns) = n ∷ outward ns
+
+abbrev pub has : ℕ → List ℕ → Bool
+has n [] = false
+has n (m ∷ ms) = nat_eq m n || has n ms
+
+abbrev mutual
+  pub left : Statement → List ℕ
+  left (Block ss) = all_left ss
+  left (If c a b) = left a ++ left b
+  left (While c s) = outward (left s)
+  left (Break n) = n ∷ []
+  left (Try b f) = left f ++ (if can_complete f then left b else [])
+  left _ = []
+
+  pub all_left : Statements → List ℕ
+  all_left Done = []
+  all_left (Then s ss) = left s ++ all_left ss

@@ -1,0 +1,171 @@
+// Blocks as they are checked: their statements, and the locals in scope.
+
+ghost use Rattle.std.specs.Prelude.{◌≡◌, ◌<◌, ◌≤◌, List, OnOk, length, option_map, vec_len};
+ghost use Rattle.ls_events.specs.declared.value.ValueType.{ValueType as value_type};
+ghost use Rattle.ls_types_elaboration.specs.Elaborated.{Elaborated};
+ghost use Rattle.ls_checked.specs.CheckedTree.{Literal as literal, SetSlot as set_slot};
+ghost use Rattle.ls_types_elaboration.specs.Answers.{Gives, unless_refused};
+ghost use Rattle.ls_types_elaboration.specs.Scopes.{start_of as the_start, with_variable as the_variable, with_statement as the_with_statement, initialised as the_initialised, declared as the_declared, declaration as the_declaration, may_declare as the_may_declare, Scope as the_scope};
+ghost use Rattle.ls_types_elaboration.specs.PlacedStatements.{placed_declarator, placed_declaration};
+ghost use Rattle.ls_types_elaboration.specs.Placed.{placed, placed_name};
+ghost use Rattle.ls_types_elaboration.specs.Tables.{known_of};
+ghost use Rattle.ls_types_statements.specs.ScopeViews.{body_of, scope_of};
+
+use ls_checked::tree::{Expression, Statement};
+use ls_events::value::{Value, ValueType};
+use ls_lexer::token::Span;
+use ls_tree::tree::{Declaration, Declarator, Expr, Name};
+use ls_types_elaboration::known::{Known, Local, local_named};
+use ls_types_elaboration::rule::{Broken, CheckFault, Rule, broken_at};
+use ls_types_elaboration::signs::MOST_SLOTS;
+use ls_types_elaboration::type_names::type_of;
+use ls_types_expressions::expressions::fitting;
+use ls_types_expressions::site::Site;
+use std::alloc::{AllocError, Global};
+
+/// What is known in a body: memory for what is made, the declarations of the file, what the method answers, and where its name stands.
+#[derive(Copy)]
+pub struct Context<'k> {
+    pub alloc: Global,
+    pub known: Known<'k>,
+    pub result: Option<ValueType>,
+    pub span: Span,
+}
+
+impl<'k> Clone for Context<'k> {
+    fn clone(&self) -> Result<Context<'k>, AllocError> {
+        Ok(*self)
+    }
+}
+
+/// The statements of a block so far, and the locals in scope behind them.
+#[derive(Drop)]
+pub struct Scope<'t> {
+    pub statements: Vec<Statement>,
+    pub locals: Vec<Local<'t>>,
+}
+
+/// What a local starts at.
+pub fn start_of(t: ValueType) -> Value
+    ensures { result ≡ the_start t }
+{
+    match t {
+        ValueType::Int => Value::Int(0),
+        ValueType::Boolean => Value::Boolean(false),
+        _ => Value::Reference(0),
+    }
+}
+
+/// One more variable in scope, in the next slot.
+pub fn with_variable<'t>(
+    scope: &mut Scope<'t>,
+    slots: &mut Vec<ValueType>,
+    name: &'t str,
+    t: ValueType,
+) -> Result<(), AllocError>
+    requires { vec_len slots.old < 128 }
+    ensures grown { OnOk result (scope_of scope.new slots.new.items ≡ the_variable (scope_of scope.old slots.old.items) name.entry.now t) }
+    ensures low { OnOk result (vec_len slots.new ≤ 128) }
+{
+    scope.locals.push(Local {
+        name,
+        value_type: t,
+        slot: slots.len(),
+    })?;
+    slots.push(t)?;
+    Ok(())
+}
+
+// One more variable in scope, and the statement that gives it its start value.
+fn started<'t>(
+    scope: &mut Scope<'t>,
+    slots: &mut Vec<ValueType>,
+    name: &'t str,
+    t: ValueType,
+) -> Result<(), AllocError>
+    requires { vec_len slots.old < 128 }
+    ensures grown { OnOk result (scope_of scope.new slots.new.items ≡ the_with_statement (the_variable (scope_of scope.old slots.old.items) name.entry.now t) (set_slot (length slots.old.items) (literal (the_start t)))) }
+    ensures low { OnOk result (vec_len slots.new ≤ 128) }
+{
+    let slot = slots.len();
+    with_variable(scope, slots, name, t)?;
+    let start = Expression::Literal(start_of(t));
+    scope.statements.push(Statement::SetSlot(slot, start))?;
+    Ok(())
+}
+
+/// Whether a name may be declared: no variable in scope has it, and there is room.
+pub fn may_declare(method: Span, scope: &Scope, slots: &[ValueType], n: &Name) -> Result<(), Broken>
+    ensures may { (go : Elaborated (the_scope)) → the_may_declare method (scope_of scope.now slots.now) (placed_name n.now) go ≡ unless_refused result go }
+    ensures room { OnOk result (length slots.now < 128) }
+{
+    if local_named(&scope.locals, n.text.as_str()).is_some() {
+        return Err(broken_at(Rule::TwiceDeclared, n.span));
+    }
+    if slots.len() >= MOST_SLOTS {
+        return Err(broken_at(Rule::Limit, method));
+    }
+    Ok(())
+}
+
+// The initialiser, where there is one, as an assignment.
+fn initialised(
+    context: Context,
+    t: ValueType,
+    slot: usize,
+    scope: &mut Scope,
+    value: &Option<Expr>,
+) -> Result<(), CheckFault>
+    ensures { (slots : List value_type) → Gives (λ _. scope_of scope.new slots) result (the_initialised (known_of context.entry.known) t slot (scope_of scope.old slots) (option_map placed value.now)) }
+{
+    match value {
+        None => Ok(()),
+        Some(e) => {
+            let site = Site {
+                alloc: context.alloc,
+                known: context.known,
+                locals: &scope.locals,
+            };
+            let v = fitting(site, t, e)?;
+            scope.statements.push(Statement::SetSlot(slot, v))?;
+            Ok(())
+        }
+    }
+}
+
+// A local, from its own initialiser on.
+fn declared<'t>(
+    context: Context,
+    t: ValueType,
+    scope: &mut Scope<'t>,
+    slots: &mut Vec<ValueType>,
+    d: &'t Declarator,
+) -> Result<(), CheckFault>
+    requires { vec_len slots.old ≤ 128 }
+    ensures found { Gives (λ _. scope_of scope.new slots.new.items) result (the_declared (body_of context.entry) t (scope_of scope.old slots.old.items) (placed_declarator d.entry.now)) }
+    ensures low { OnOk result (vec_len slots.new ≤ 128) }
+{
+    may_declare(context.span, scope, slots, &d.name)?;
+    let slot = slots.len();
+    started(scope, slots, d.name.text.as_str(), t)?;
+    initialised(context, t, slot, scope, &d.value)
+}
+
+/// A declaration of locals.
+pub fn declaration<'t>(
+    context: Context,
+    scope: &mut Scope<'t>,
+    slots: &mut Vec<ValueType>,
+    d: &'t Declaration,
+) -> Result<(), CheckFault>
+    requires { vec_len slots.old ≤ 128 }
+    ensures found { Gives (λ _. scope_of scope.new slots.new.items) result (the_declaration (body_of context.entry) (scope_of scope.old slots.old.items) (placed_declaration d.entry.now)) }
+    ensures low { OnOk result (vec_len slots.new ≤ 128) }
+{
+    let t = type_of(context.known.names, &d.type_name)?;
+    declared(context, t, scope, slots, &d.first)?;
+    for d in &d.more {
+        declared(context, t, scope, slots, d)?;
+    }
+    Ok(())
+}

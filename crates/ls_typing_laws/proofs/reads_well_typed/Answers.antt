@@ -1,5 +1,0 @@
-use Rattle.ls_typing_laws.proofs.WellTyped.{well_typed_program}
-use Rattle.ls_typing_laws.proofs.reads_well_typed.Goals as goal
-
-pub returns : goal.returns
-returns c = well_typed_program
