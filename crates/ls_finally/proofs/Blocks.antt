@@ -4,7 +4,7 @@ use Rattle.ls_lowered.specs.declared.tree.Statement.{Statement}
 use Rattle.ls_lowered.specs.LoweredTree.{Then}
 use Rattle.ls_lowered.specs.Plain.{plain_statement, in_front, statements_of}
 use Rattle.ls_finally.specs.Exits.{exits, all_exits, replaced, all_replaced}
-use Rattle.ls_finally.proofs.Fronts.{one_made}
+use Rattle.ls_finally_copies.proofs.Fronts.{one_made}
 
 -- what is done of a block, and what is left
 pub record Going (r l first : ℕ) (whole done : List Statement) (next : ℕ) (rest : List Statement) : Type 0 where

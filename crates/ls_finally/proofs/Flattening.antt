@@ -8,7 +8,7 @@ use Rattle.ls_lowered.specs.Plain.{plain_statement, in_front, statements_of}
 use Rattle.ls_finally.specs.Flat.{tries, all_tries, flat, all_flat}
 use Rattle.ls_finally.specs.Code.{TooMany}
 use Rattle.ls_finally.specs.Counts.{copies, all_copies}
-use Rattle.ls_finally.proofs.Fronts.{one_made}
+use Rattle.ls_finally_copies.proofs.Fronts.{one_made}
 
 -- what is done of a block, and what is left
 pub record Flattening (first so_far : ℕ) (whole : List Statement) (done : List Statement) (free count : ℕ) (rest : List Statement) : Type 0 where

@@ -1,4 +1,4 @@
-pub mod Fronts
+pub mod Counted
 pub mod Numbers
 pub mod Blocks
 pub mod Whole
@@ -11,4 +11,3 @@ pub mod Fitting
 pub mod Flats
 pub mod Calls
 pub mod Methods
-pub mod Weights

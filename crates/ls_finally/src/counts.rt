@@ -25,7 +25,7 @@ fn more(so_far: usize, count: usize) -> Option<usize>
 
 // So many locals, and two for each `try` of a statement; none where they are over 128.
 #[cycle(statements)]
-#[tactic(auto, using(crate::proofs::Fronts::block_read))]
+#[tactic(auto, using(ls_finally_copies::proofs::Fronts::block_read))]
 fn count_tries(s: &Statement, so_far: usize) -> Option<usize>
     requires { so_far ≤ 128 }
     ensures { SomeIff result (so_far + 2 * tries (plain_statement s.now) ≤ 128) (so_far + 2 * tries (plain_statement s.now)) }

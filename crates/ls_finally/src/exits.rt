@@ -38,7 +38,7 @@ pub fn beyond(inside: usize, number: usize) -> Option<usize>
 
 /// How many numbers there are inside of a leavable statement's body, where there are so many round it. More than memory has
 /// room for are answered as want of memory.
-#[tactic(auto, using(crate::proofs::Fronts::counted))]
+#[tactic(auto, using(crate::proofs::Counted::counted))]
 pub fn within(inside: usize, own: &[Statement]) -> Result<usize, AllocError>
     ensures numbers { IfOk result (λ n. n ≡ suc (count (statements_of own.now)) + inside) }
     ensures few { IfOk result (λ n. n ≤ 1000000000) }
@@ -52,7 +52,7 @@ pub fn within(inside: usize, own: &[Statement]) -> Result<usize, AllocError>
 
 /// Puts the exits of a statement, inside so many numbers, behind those that are there, in text order.
 #[cycle(statements)]
-#[tactic(auto, using(crate::proofs::Fronts::block_read))]
+#[tactic(auto, using(ls_finally_copies::proofs::Fronts::block_read))]
 pub fn collect_exits(s: &Statement, inside: usize, out: &mut Vec<Exit>) -> Result<(), AllocError>
     ensures { IfOk result (λ _. plain_exits out.new.items ≡ plain_exits out.old.items ++ exits inside (plain_statement s.now)) }
 {

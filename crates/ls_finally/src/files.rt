@@ -11,7 +11,7 @@ ghost use Rattle.ls_finally.specs.Code.{Fits};
 
 use crate::counts::have_few_locals;
 use crate::flatten::Lowering;
-use crate::together::put;
+use ls_finally_copies::together::put;
 use ls_lowered::fault::LowerFault;
 use ls_lowered::tree::{File, Method};
 use std::alloc::Global;

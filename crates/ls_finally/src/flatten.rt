@@ -9,10 +9,10 @@ ghost use Rattle.ls_finally.specs.Flat.{tries, all_tries, flat, all_flat};
 ghost use Rattle.ls_finally.specs.Counts.{copies, all_copies};
 ghost use Rattle.ls_finally.specs.Code.{Fits};
 
-use crate::copy::{block_of, copy_expression, copy_statement, leavable_of};
 use crate::exits::collect_exits;
 use crate::replace::by_copies;
-use crate::together::{in_box, put};
+use ls_finally_copies::copy::{block_of, copy_expression, copy_statement, leavable_of};
+use ls_finally_copies::together::{in_box, put};
 use ls_lowered::fault::LowerFault;
 use ls_lowered::together::also;
 use ls_lowered::tree::Statement;
@@ -59,7 +59,7 @@ fn beside<T: Drop, U: Drop>(first: T, next: Result<U, LowerFault>) -> Result<(T,
 impl Lowering {
     /// A statement without `try`, where its copies and those so far aren't too many. Two locals serve each `try`.
     #[cycle(flatten)]
-    #[tactic(auto, using(crate::proofs::Fronts::block_read, ls_lowered::proofs::Rows::block_made))]
+    #[tactic(auto, using(ls_finally_copies::proofs::Fronts::block_read, ls_lowered::proofs::Rows::block_made))]
     pub fn flatten(&mut self, alloc: Global, s: &Statement) -> Result<Statement, LowerFault>
         requires room { self.old.free + 2 * tries (plain_statement s.now) ≤ 128 }
         requires few { self.old.count ≤ 4096 }
@@ -156,7 +156,7 @@ impl Lowering {
 
     #[cycle(flatten)]
     #[inline(never)]
-    #[tactic(auto, using(crate::proofs::Flattening::too_many_more, crate::proofs::Fronts::counted))]
+    #[tactic(auto, using(crate::proofs::Flattening::too_many_more, crate::proofs::Counted::counted))]
     fn flat_leavable(
         &mut self,
         alloc: Global,

@@ -1,6 +1,6 @@
 // A statement without `try` inside copies of a finally block.
 //
-// A tree can be thousands of levels high: what isn't recursive is kept out of the recursive functions, whose frames have to be
+// A tree can be hundreds of levels high: what isn't recursive is kept out of the recursive functions, whose frames have to be
 // small.
 
 ghost use Rattle.std.specs.Prelude.{◌≡◌, ℕ, suc, ◌+◌, ◌<◌, ◌≤◌, ◌++◌, length, IfOk, OnOk};
@@ -9,9 +9,9 @@ ghost use Rattle.ls_lowered.specs.Plain.{plain, plain_statement, in_front, state
 ghost use Rattle.ls_finally.specs.Exits.{count, exits, all_exits, both, exit_of, replaced, all_replaced, ways, finally_of};
 ghost use Rattle.ls_finally.specs.Code.{plain_exit, plain_exits};
 
-use crate::copy::{block_of, copy_expression, copy_statement, leavable_of};
 use crate::exits::{Exit, beyond, collect_exits, within};
-use crate::together::{in_box, put};
+use ls_finally_copies::copy::{block_of, copy_expression, copy_statement, leavable_of};
+use ls_finally_copies::together::{in_box, put};
 use ls_lowered::together::{also, pair, two};
 use ls_lowered::tree::{Expression, Statement};
 use std::alloc::{AllocError, Global};
@@ -154,7 +154,7 @@ fn replace_in_all(
 
 // A statement inside so many numbers, with leaves in place of its exits, the first of them number `next` beyond these.
 #[cycle(replace)]
-#[tactic(auto, using(crate::proofs::Fronts::block_read))]
+#[tactic(auto, using(ls_finally_copies::proofs::Fronts::block_read))]
 fn replace_exits(
     alloc: Global,
     s: &Statement,

@@ -1,20 +1,20 @@
 // What no clause says: that the rules are those of the language. Each row is a text on one side of a rule. Where a text is
 // refused, `^` stands before and behind the place that the refusal names.
 
+use crate::marks::unmarked;
 use ls_lexer::fault::TextFault;
 use ls_lexer::token::Span;
 use ls_parser::parse::parse_text;
 use ls_types::check::CheckFault;
 use ls_types::checking::check;
 use ls_types_elaboration::rule::{Broken, Rule};
-use std::alloc::{AllocError, Global};
+use std::alloc::Global;
 use std::test::Fail;
 
 mod calls;
 mod jumps;
 mod limits;
 mod names;
-mod programs;
 mod stored;
 mod types;
 
@@ -34,20 +34,6 @@ fn found_of(alloc: Global, text: &str) -> Outcome {
             Err(fault) => Outcome::Refused(fault),
         },
     }
-}
-
-/// A text without its marks, and where they stood.
-fn unmarked(alloc: Global, marked: &str) -> Result<(String, Vec<usize>), AllocError> {
-    let mut text = String::new(alloc);
-    let mut marks = Vec::new(alloc);
-    for c in marked.chars() {
-        if c == '^' {
-            marks.push(text.len())?;
-        } else {
-            text.push(c)?;
-        }
-    }
-    Ok((text, marks))
 }
 
 /// The rows that are not refused by the rule at their marks, each with what it is found to be.

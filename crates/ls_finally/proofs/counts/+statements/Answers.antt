@@ -3,7 +3,7 @@ use Rattle.std.specs.Option.{SomeIff}
 use Rattle.ls_lowered.specs.LoweredTree.{Leavable}
 use Rattle.ls_lowered.specs.Plain.{plain_statement, statements_of}
 use Rattle.ls_finally.specs.Flat.{tries}
-use Rattle.ls_finally.proofs.Fronts.{leavable_read}
+use Rattle.ls_finally_copies.proofs.Fronts.{leavable_read}
 use Rattle.ls_finally.proofs.counts.+statements.Goals as goal
 
 pub count_tries-returns-in_ok-count_tries-in-Leavable : goal.count_tries-returns-in_ok-count_tries-in-Leavable

@@ -5,7 +5,7 @@ use Rattle.ls_lowered.specs.LoweredTree.{Leavable}
 use Rattle.ls_lowered.specs.Plain.{plain_statement, statements_of}
 use Rattle.ls_finally.specs.Exits.{Exit, count, exits, all_exits}
 use Rattle.ls_finally.specs.Code.{plain_exits}
-use Rattle.ls_finally.proofs.Fronts.{leavable_read}
+use Rattle.ls_finally_copies.proofs.Fronts.{leavable_read}
 use Rattle.ls_finally.proofs.exits.+statements.Goals as goal
 
 pub collect_exits-returns-in_ok-collect_exits-in-Leavable : goal.collect_exits-returns-in_ok-collect_exits-in-Leavable

@@ -4,9 +4,9 @@ use Rattle.ls_lowered.specs.LoweredTree as lowered
 use Rattle.ls_lowered.specs.LoweredTree.{Leavable}
 use Rattle.ls_lowered.specs.Plain.{plain_statement, statements_of}
 use Rattle.ls_finally.specs.Exits.{exits}
-use Rattle.ls_finally.proofs.Fronts.{left_at, leavable_read}
+use Rattle.ls_finally_copies.proofs.Fronts.{left_at, leavable_read}
 use Rattle.ls_finally.proofs.Blocks.{goes_on, one_fits}
-use Rattle.ls_finally.proofs.Weights.{size, size_at}
+use Rattle.ls_finally_copies.proofs.Weights.{size, size_at}
 use Rattle.ls_finally.proofs.replace.+replace.Goals as goal
 
 pub replace_in_all-replace_exits-requires : goal.replace_in_all-replace_exits-requires

@@ -3,9 +3,9 @@ use Rattle.ls_lowered.specs.declared.tree.Statement.{Statement}
 use Rattle.ls_lowered.specs.LoweredTree.{Leavable}
 use Rattle.ls_lowered.specs.Plain.{plain_statement, statements_of}
 use Rattle.ls_finally.specs.Flat.{tries}
-use Rattle.ls_finally.proofs.Fronts.{left_at, leavable_read}
+use Rattle.ls_finally_copies.proofs.Fronts.{left_at, leavable_read}
 use Rattle.ls_finally.proofs.Flattening.{goes_on, one_fits}
-use Rattle.ls_finally.proofs.Weights.{size, size_at}
+use Rattle.ls_finally_copies.proofs.Weights.{size, size_at}
 use Rattle.ls_finally.proofs.flatten.Lowering.+flatten.Goals as goal
 
 pub flat_all-flatten-requires : goal.flat_all-flatten-requires

@@ -1,7 +1,7 @@
 use Rattle.std.proofs.Common.{◌+◌, ◌*◌, drop}
 use Rattle.ls_lowered.specs.Plain.{plain_statement, statements_of}
 use Rattle.ls_finally.proofs.Flattening.{Flattening}
-use Rattle.ls_finally.proofs.Weights.{size, sizes}
+use Rattle.ls_finally_copies.proofs.Weights.{size, sizes}
 use Rattle.ls_finally.proofs.flatten.Lowering.+flatten.Given as goal
 
 abbrev pub decreases-flatten : goal.decreases-flatten

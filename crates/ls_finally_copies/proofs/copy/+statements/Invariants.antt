@@ -1,7 +1,7 @@
 use Rattle.std.proofs.Common.{◌≡◌, ◌+◌, ◌*◌, drop}
 use Rattle.ls_lowered.specs.Plain.{plain_statement, in_front, statements_of}
-use Rattle.ls_finally.proofs.Weights.{size, sizes}
-use Rattle.ls_finally.proofs.copy.+statements.Given as goal
+use Rattle.ls_finally_copies.proofs.Weights.{size, sizes}
+use Rattle.ls_finally_copies.proofs.copy.+statements.Given as goal
 
 abbrev pub decreases-copy_statement : goal.decreases-copy_statement
 decreases-copy_statement l = 4 * size (plain_statement l.s.now)

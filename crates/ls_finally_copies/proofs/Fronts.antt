@@ -10,7 +10,6 @@ use Rattle.ls_lowered.specs.declared.tree.Statement.TheVariants.{Block'}
 use Rattle.ls_lowered.specs.LoweredTree as lowered
 use Rattle.ls_lowered.specs.LoweredTree.{Statements, Block, Leavable, Then}
 use Rattle.ls_lowered.specs.Plain.{plain_statement, row_statements, in_front, statements_of}
-use Rattle.ls_finally.specs.Exits.{count}
 use Rattle.ls_lowered.proofs.Rows.{row_is_list}
 
 pub push_front : (ss : List Statement) (s : Statement) (rest : Statements) → in_front (ss ++ s ∷ []) rest ≡ in_front ss (Then (plain_statement s) rest)
@@ -39,8 +38,3 @@ block_plain s v items e is = ap plain_statement is ∙ ap Block (block_read v �
 pub leavable_read : (s : Statement) (b : Box Statement) (v : Vec Statement) (body : Statement) (own : List Statement) → body ≡ b.value → own ≡ v.items → s ≡ code.Leavable b v →
     plain_statement s ≡ Leavable (plain_statement body) (statements_of own)
 leavable_read s b v body own e f is = ap plain_statement is ∙ ap₂ Leavable (sym (ap plain_statement e)) (block_read v ∙ sym (ap statements_of f))
-
--- how many there are
-pub counted : (ss : List Statement) → count (statements_of ss) ≡ length ss
-counted [] = refl
-counted (s ∷ ss) = ap suc (counted ss)

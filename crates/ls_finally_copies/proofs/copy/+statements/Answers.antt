@@ -2,9 +2,9 @@ use Rattle.std.proofs.Common.{◌≡◌, ◌∷◌, ◌+◌, ◌∙◌, sym, ap,
 use Rattle.ls_lowered.specs.declared.tree.Statement.{Statement}
 use Rattle.ls_lowered.specs.LoweredTree.{Leavable}
 use Rattle.ls_lowered.specs.Plain.{plain_statement, in_front, statements_of}
-use Rattle.ls_finally.proofs.Fronts.{left_at, one_made, leavable_read}
-use Rattle.ls_finally.proofs.Weights.{size, size_at}
-use Rattle.ls_finally.proofs.copy.+statements.Goals as goal
+use Rattle.ls_finally_copies.proofs.Fronts.{left_at, one_made, leavable_read}
+use Rattle.ls_finally_copies.proofs.Weights.{size, size_at}
+use Rattle.ls_finally_copies.proofs.copy.+statements.Goals as goal
 
 pub copy_block-copy_statement-requires : goal.copy_block-copy_statement-requires
 copy_block-copy_statement-requires t c =

@@ -1,11 +1,11 @@
 // Thread programs. Where a text is refused, `^` stands before the place that the refusal names.
 
-use super::unmarked;
 use ls_parser::parse::parse_text;
 use ls_types::check::Checked;
 use ls_types::checking::check;
 use ls_types::fault::ProgramFault;
 use ls_types::program::read_program;
+use ls_types_rows::marks::unmarked;
 use std::alloc::Global;
 use std::test::Fail;
 

@@ -234,7 +234,7 @@ pub fn copy_statement(alloc: Global, s: &Statement) -> Result<Statement, AllocEr
     }
 }
 
-// Not inlined, so that the frames of `copy_statement` stay small: lowered trees can be thousands of levels high.
+// Not inlined, so that the frames of `copy_statement` stay small: trees over words can be hundreds of levels high.
 #[cycle(statements)]
 #[inline(never)]
 fn part(alloc: Global, s: &Statement) -> Result<Box<Statement>, AllocError>

@@ -1,7 +1,7 @@
 use Rattle.std.proofs.Common.{◌+◌, ◌*◌}
 use Rattle.ls_lowered.specs.Plain.{plain, all_plain}
-use Rattle.ls_finally.proofs.Weights.{weight, weights}
-use Rattle.ls_finally.proofs.copy.+expressions.Given as goal
+use Rattle.ls_finally_copies.proofs.Weights.{weight, weights}
+use Rattle.ls_finally_copies.proofs.copy.+expressions.Given as goal
 
 abbrev pub decreases-copy_expression : goal.decreases-copy_expression
 decreases-copy_expression l = 4 * weight (plain l.e.now)

@@ -1,0 +1,5 @@
+//! Copies of the trees over words, of which the lowering of `finally` makes many.
+#![tactic(auto)]
+
+pub mod copy;
+pub mod together;
