@@ -8,6 +8,7 @@ ghost use Rattle.ls_emit.specs.Small.{IsSmallStatement};
 ghost use Rattle.ls_emit.specs.Short.{AllShort};
 
 use crate::code_unit::CodeUnit;
+use crate::emission::{Emission, Stretch};
 use crate::expressions::put;
 use crate::fault::EmitFault;
 use crate::needs::{larger, statement_need};
@@ -24,23 +25,18 @@ fn emit_unit(alloc: Global, method: &Method) -> Result<CodeUnit, AllocError>
     requires small { IsSmallStatement (plain_method method.now).body }
     ensures { IfOk result (λ u. u ≡ unit_of (plain_method method.now)) }
 {
-    let mut instructions = Vec::new(alloc);
-    let mut handlers = Vec::new(alloc);
-    let end = size_of_statement(&method.body);
-    emit_statement(
+    let mut out = Emission {
         alloc,
-        &mut instructions,
-        &mut handlers,
-        &Around::Nothing,
-        0,
-        end,
-        &method.body,
-    )?;
-    put(&mut instructions, Instruction::Push(0))?;
-    put(&mut instructions, Instruction::LeaveWith)?;
+        instructions: Vec::new(alloc),
+        rows: Vec::new(alloc),
+    };
+    let at = Stretch::new(0, size_of_statement(&method.body));
+    emit_statement(&mut out, &Around::Nothing, at, &method.body)?;
+    put(&mut out.instructions, Instruction::Push(0))?;
+    put(&mut out.instructions, Instruction::LeaveWith)?;
     Ok(CodeUnit {
-        instructions,
-        handlers,
+        instructions: out.instructions,
+        handlers: out.rows,
         arguments: method.arguments,
         more: method.locals,
         need: larger(1, statement_need(&method.body)),

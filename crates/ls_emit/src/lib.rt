@@ -2,6 +2,7 @@
 #![tactic(auto)]
 
 pub mod code_unit;
+pub mod emission;
 pub mod emit;
 pub mod expressions;
 pub mod fault;

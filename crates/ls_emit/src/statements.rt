@@ -10,6 +10,7 @@ ghost use Rattle.ls_emit.specs.Alone.{IsAlone};
 ghost use Rattle.ls_emit.specs.Places.{targets_of};
 ghost use Rattle.ls_emit.specs.Small.{IsSmall, IsSmallStatement, AreSmallStatements};
 
+use crate::emission::{Emission, Stretch};
 use crate::expressions::{emit_expression, emit_on, emit_on_three, emit_on_two, put};
 use crate::layout::lay_out;
 use crate::sizes::size_of_statement;
@@ -17,52 +18,33 @@ use crate::targets::{Around, find_target};
 use ls_code::code::HandlerRow;
 use ls_code::instruction::Instruction;
 use ls_lowered::tree::{Expression, Statement};
-use std::alloc::{AllocError, Global};
+use std::alloc::AllocError;
 
-/// The code of a statement that stands from `place` to below `end`, and its handler rows, behind those that are there.
+/// The code of a statement that stands there, and its handler rows, behind those that are there.
 #[cycle(statements)]
 #[tactic(auto, using(crate::proofs::Blocks::block_read))]
 pub fn emit_statement(
-    alloc: Global,
-    out: &mut Vec<Instruction>,
-    rows: &mut Vec<HandlerRow>,
+    out: &mut Emission,
     around: &Around,
-    place: usize,
-    end: usize,
+    at: Stretch,
     s: &Statement,
 ) -> Result<(), AllocError>
-    requires ends { end ≡ place + statement_size (plain_statement s.now) }
-    requires room { end ≤ 65536 }
+    requires ends { at.end ≡ at.place + statement_size (plain_statement s.now) }
+    requires room { at.end ≤ 65536 }
     requires small { IsSmallStatement (plain_statement s.now) }
-    ensures code { OnOk result (out.new.items ≡ out.old.items ++ statement_code (targets_of around.now) place (plain_statement s.now)) }
-    ensures rows { OnOk result (rows.new.items ≡ rows.old.items ++ statement_rows place (plain_statement s.now)) }
+    ensures code { OnOk result (out.new.instructions.items ≡ out.old.instructions.items ++ statement_code (targets_of around.now) at.place (plain_statement s.now)) }
+    ensures rows { OnOk result (out.new.rows.items ≡ out.old.rows.items ++ statement_rows at.place (plain_statement s.now)) }
 {
     match s {
-        Statement::Block(statements) => emit_block(alloc, out, rows, &*around, place, statements),
+        Statement::Block(statements) => emit_block(out, &*around, at.place, statements),
         Statement::If(condition, first, second) => {
-            emit_if(
-                alloc, out, rows, &*around, place, end, condition, first, second,
-            )
+            emit_if(out, &*around, at, condition, first, second)
         }
-        Statement::While(condition, body) => {
-            emit_while(alloc, out, rows, &*around, place, end, condition, body)
-        }
+        Statement::While(condition, body) => emit_while(out, &*around, at, condition, body),
         Statement::Guarded(body, number, handler) => {
-            emit_guarded(
-                alloc,
-                out,
-                rows,
-                &*around,
-                place,
-                end,
-                body,
-                *number as u32,
-                handler,
-            )
+            emit_guarded(out, &*around, at, body, *number as u32, handler)
         }
-        Statement::Leavable(body, exits) => {
-            emit_leavable(alloc, out, rows, &*around, place, end, body, exits)
-        }
+        Statement::Leavable(body, exits) => emit_leavable(out, &*around, at, body, exits),
         Statement::SetLocal(_, _)
         | Statement::SetField(_, _, _)
         | Statement::SetItem(_, _, _)
@@ -70,7 +52,7 @@ pub fn emit_statement(
         | Statement::Return(_)
         | Statement::Try(_, _)
         | Statement::Throw(_)
-        | Statement::Leave(_) => emit_alone(out, around, place, s),
+        | Statement::Leave(_) => emit_alone(&mut out.instructions, around, at.place, s),
     }
 }
 
@@ -142,22 +124,20 @@ fn emit_throw(out: &mut Vec<Instruction>, number: u32) -> Result<(), AllocError>
 
 #[cycle(statements)]
 fn emit_block(
-    alloc: Global,
-    out: &mut Vec<Instruction>,
-    rows: &mut Vec<HandlerRow>,
+    out: &mut Emission,
     around: &Around,
     place: usize,
     statements: &[Statement],
 ) -> Result<(), AllocError>
     requires room { place + statements_size (statements_of statements.now) ≤ 65536 }
     requires small { AreSmallStatements (statements_of statements.now) }
-    ensures code { OnOk result (out.new.items ≡ out.old.items ++ statements_code (targets_of around.now) place (statements_of statements.now)) }
-    ensures rows { OnOk result (rows.new.items ≡ rows.old.items ++ statements_rows place (statements_of statements.now)) }
+    ensures code { OnOk result (out.new.instructions.items ≡ out.old.instructions.items ++ statements_code (targets_of around.now) place (statements_of statements.now)) }
+    ensures rows { OnOk result (out.new.rows.items ≡ out.old.rows.items ++ statements_rows place (statements_of statements.now)) }
 {
     let mut next = place;
     for s in statements {
         let end = next + size_of_statement(s);
-        emit_statement(alloc, out, rows, &*around, next, end, s)?;
+        emit_statement(out, &*around, Stretch::new(next, end), s)?;
         next = end;
     }
     Ok(())
@@ -165,113 +145,104 @@ fn emit_block(
 
 #[cycle(statements)]
 fn emit_if(
-    alloc: Global,
-    out: &mut Vec<Instruction>,
-    rows: &mut Vec<HandlerRow>,
+    out: &mut Emission,
     around: &Around,
-    place: usize,
-    end: usize,
+    at: Stretch,
     condition: &Expression,
     first: &Statement,
     second: &Statement,
 ) -> Result<(), AllocError>
-    requires ends { end ≡ place + (size (plain condition.now) + statement_size (plain_statement first.now) + statement_size (plain_statement second.now) + 2) }
-    requires room { end ≤ 65536 }
+    requires ends { at.end ≡ at.place + (size (plain condition.now) + statement_size (plain_statement first.now) + statement_size (plain_statement second.now) + 2) }
+    requires room { at.end ≤ 65536 }
     requires small { IsSmall (plain condition.now) × IsSmallStatement (plain_statement first.now) × IsSmallStatement (plain_statement second.now) }
-    ensures code { OnOk result (out.new.items ≡ out.old.items ++ statement_code (targets_of around.now) place (If (plain condition.now) (plain_statement first.now) (plain_statement second.now))) }
-    ensures rows { OnOk result (rows.new.items ≡ rows.old.items ++ statement_rows place (If (plain condition.now) (plain_statement first.now) (plain_statement second.now))) }
+    ensures code { OnOk result (out.new.instructions.items ≡ out.old.instructions.items ++ statement_code (targets_of around.now) at.place (If (plain condition.now) (plain_statement first.now) (plain_statement second.now))) }
+    ensures rows { OnOk result (out.new.rows.items ≡ out.old.rows.items ++ statement_rows at.place (If (plain condition.now) (plain_statement first.now) (plain_statement second.now))) }
 {
-    let next = emit_expression(out, place, condition)?;
-    let other = end - size_of_statement(second);
-    put(out, Instruction::JumpIfFalse(other as u32))?;
-    emit_statement(alloc, out, rows, &*around, next + 1, other - 1, first)?;
-    put(out, Instruction::Jump(end as u32))?;
-    emit_statement(alloc, out, rows, &*around, other, end, second)
+    let next = emit_expression(&mut out.instructions, at.place, condition)?;
+    let other = at.end - size_of_statement(second);
+    put(
+        &mut out.instructions,
+        Instruction::JumpIfFalse(other as u32),
+    )?;
+    emit_statement(out, &*around, Stretch::new(next + 1, other - 1), first)?;
+    put(&mut out.instructions, Instruction::Jump(at.end as u32))?;
+    emit_statement(out, &*around, Stretch::new(other, at.end), second)
 }
 
 #[cycle(statements)]
 fn emit_while(
-    alloc: Global,
-    out: &mut Vec<Instruction>,
-    rows: &mut Vec<HandlerRow>,
+    out: &mut Emission,
     around: &Around,
-    place: usize,
-    end: usize,
+    at: Stretch,
     condition: &Expression,
     body: &Statement,
 ) -> Result<(), AllocError>
-    requires ends { end ≡ place + (size (plain condition.now) + statement_size (plain_statement body.now) + 2) }
-    requires room { end ≤ 65536 }
+    requires ends { at.end ≡ at.place + (size (plain condition.now) + statement_size (plain_statement body.now) + 2) }
+    requires room { at.end ≤ 65536 }
     requires small { IsSmall (plain condition.now) × IsSmallStatement (plain_statement body.now) }
-    ensures code { OnOk result (out.new.items ≡ out.old.items ++ statement_code (targets_of around.now) place (While (plain condition.now) (plain_statement body.now))) }
-    ensures rows { OnOk result (rows.new.items ≡ rows.old.items ++ statement_rows place (While (plain condition.now) (plain_statement body.now))) }
+    ensures code { OnOk result (out.new.instructions.items ≡ out.old.instructions.items ++ statement_code (targets_of around.now) at.place (While (plain condition.now) (plain_statement body.now))) }
+    ensures rows { OnOk result (out.new.rows.items ≡ out.old.rows.items ++ statement_rows at.place (While (plain condition.now) (plain_statement body.now))) }
 {
-    let next = emit_expression(out, place, condition)?;
-    put(out, Instruction::JumpIfFalse(end as u32))?;
-    emit_statement(alloc, out, rows, &*around, next + 1, end - 1, body)?;
-    put(out, Instruction::Turn(place as u32))
+    let next = emit_expression(&mut out.instructions, at.place, condition)?;
+    put(
+        &mut out.instructions,
+        Instruction::JumpIfFalse(at.end as u32),
+    )?;
+    emit_statement(out, &*around, Stretch::new(next + 1, at.end - 1), body)?;
+    put(&mut out.instructions, Instruction::Turn(at.place as u32))
 }
 
 // A throw from the body goes on behind the jump over the handler.
 #[cycle(statements)]
 fn emit_guarded(
-    alloc: Global,
-    out: &mut Vec<Instruction>,
-    rows: &mut Vec<HandlerRow>,
+    out: &mut Emission,
     around: &Around,
-    place: usize,
-    end: usize,
+    at: Stretch,
     body: &Statement,
     number: u32,
     handler: &Statement,
 ) -> Result<(), AllocError>
-    requires ends { end ≡ place + (statement_size (plain_statement body.now) + statement_size (plain_statement handler.now) + 2) }
-    requires room { end ≤ 65536 }
+    requires ends { at.end ≡ at.place + (statement_size (plain_statement body.now) + statement_size (plain_statement handler.now) + 2) }
+    requires room { at.end ≤ 65536 }
     requires small { IsSmallStatement (plain_statement body.now) × IsSmallStatement (plain_statement handler.now) }
-    ensures code { OnOk result (out.new.items ≡ out.old.items ++ statement_code (targets_of around.now) place (Guarded (plain_statement body.now) number (plain_statement handler.now))) }
-    ensures rows { OnOk result (rows.new.items ≡ rows.old.items ++ statement_rows place (Guarded (plain_statement body.now) number (plain_statement handler.now))) }
+    ensures code { OnOk result (out.new.instructions.items ≡ out.old.instructions.items ++ statement_code (targets_of around.now) at.place (Guarded (plain_statement body.now) number (plain_statement handler.now))) }
+    ensures rows { OnOk result (out.new.rows.items ≡ out.old.rows.items ++ statement_rows at.place (Guarded (plain_statement body.now) number (plain_statement handler.now))) }
 {
-    let after = end - size_of_statement(handler);
-    emit_statement(alloc, out, rows, &*around, place, after - 2, body)?;
-    put(out, Instruction::Jump(end as u32))?;
-    rows.push(HandlerRow {
-        from: place,
+    let after = at.end - size_of_statement(handler);
+    emit_statement(out, &*around, Stretch::new(at.place, after - 2), body)?;
+    put(&mut out.instructions, Instruction::Jump(at.end as u32))?;
+    out.rows.push(HandlerRow {
+        from: at.place,
         to: after - 2,
         handler: after - 1,
         depth: 0,
     })?;
-    put(out, Instruction::Store(number))?;
-    emit_statement(alloc, out, rows, &*around, after, end, handler)
+    put(&mut out.instructions, Instruction::Store(number))?;
+    emit_statement(out, &*around, Stretch::new(after, at.end), handler)
 }
 
 // The exits stand behind the body.
 #[cycle(statements)]
 fn emit_leavable(
-    alloc: Global,
-    out: &mut Vec<Instruction>,
-    rows: &mut Vec<HandlerRow>,
+    out: &mut Emission,
     around: &Around,
-    place: usize,
-    end: usize,
+    at: Stretch,
     body: &Statement,
     exits: &[Statement],
 ) -> Result<(), AllocError>
-    requires ends { end ≡ place + (statement_size (plain_statement body.now) + exits_size (statements_of exits.now)) }
-    requires room { end ≤ 65536 }
+    requires ends { at.end ≡ at.place + (statement_size (plain_statement body.now) + exits_size (statements_of exits.now)) }
+    requires room { at.end ≤ 65536 }
     requires small { IsSmallStatement (plain_statement body.now) × AreSmallStatements (statements_of exits.now) }
-    ensures code { OnOk result (out.new.items ≡ out.old.items ++ statement_code (targets_of around.now) place (Leavable (plain_statement body.now) (statements_of exits.now))) }
-    ensures rows { OnOk result (rows.new.items ≡ rows.old.items ++ statement_rows place (Leavable (plain_statement body.now) (statements_of exits.now))) }
+    ensures code { OnOk result (out.new.instructions.items ≡ out.old.instructions.items ++ statement_code (targets_of around.now) at.place (Leavable (plain_statement body.now) (statements_of exits.now))) }
+    ensures rows { OnOk result (out.new.rows.items ≡ out.old.rows.items ++ statement_rows at.place (Leavable (plain_statement body.now) (statements_of exits.now))) }
 {
-    let layout = lay_out(alloc, end, exits)?;
-    let inner = Around::Leavable(&layout.begins, end as u32, &*around);
-    emit_statement(alloc, out, rows, &inner, place, layout.place, body)?;
+    let layout = lay_out(out.alloc, at.end, exits)?;
+    let inner = Around::Leavable(&layout.begins, at.end as u32, &*around);
+    emit_statement(out, &inner, Stretch::new(at.place, layout.place), body)?;
     emit_exits(
-        alloc,
         out,
-        rows,
         &*around,
-        layout.place,
-        end,
+        Stretch::new(layout.place, at.end),
         exits,
         &layout.sizes,
     )
@@ -280,28 +251,25 @@ fn emit_leavable(
 // Each exit stands behind a jump over it and what follows.
 #[cycle(statements)]
 fn emit_exits(
-    alloc: Global,
-    out: &mut Vec<Instruction>,
-    rows: &mut Vec<HandlerRow>,
+    out: &mut Emission,
     around: &Around,
-    place: usize,
-    end: usize,
+    at: Stretch,
     exits: &[Statement],
     sizes: &[usize],
 ) -> Result<(), AllocError>
-    requires ends { end ≡ place + exits_size (statements_of exits.now) }
-    requires room { end ≤ 65536 }
+    requires ends { at.end ≡ at.place + exits_size (statements_of exits.now) }
+    requires room { at.end ≤ 65536 }
     requires sizes { sizes.now ≡ map (λ s. statement_size (plain_statement s)) exits.now }
     requires small { AreSmallStatements (statements_of exits.now) }
-    ensures code { OnOk result (out.new.items ≡ out.old.items ++ exits_code (targets_of around.now) end place (statements_of exits.now)) }
-    ensures rows { OnOk result (rows.new.items ≡ rows.old.items ++ exits_rows place (statements_of exits.now)) }
+    ensures code { OnOk result (out.new.instructions.items ≡ out.old.instructions.items ++ exits_code (targets_of around.now) at.end at.place (statements_of exits.now)) }
+    ensures rows { OnOk result (out.new.rows.items ≡ out.old.rows.items ++ exits_rows at.place (statements_of exits.now)) }
 {
-    let mut next = place;
+    let mut next = at.place;
     let mut number = 0;
     for x in exits {
-        put(out, Instruction::Jump(end as u32))?;
+        put(&mut out.instructions, Instruction::Jump(at.end as u32))?;
         let stop = next + 1 + sizes[number];
-        emit_statement(alloc, out, rows, &*around, next + 1, stop, x)?;
+        emit_statement(out, &*around, Stretch::new(next + 1, stop), x)?;
         next = stop;
         number += 1;
     }

@@ -15,7 +15,7 @@ emit_statement-emit_block-requires t c =
     let block : plain_statement c.args.s.now ≡ Block (statements_of c.deref.result.now) = block_plain c.args.s.now c.in-Block.statements c.deref.result.now c.deref.ensures.value c.in-Block.is in
     let same = ap statement_size block in
     let work = ap weight block in
-    let room : c.args.place + statements_size (statements_of c.deref.result.now) ≤ 65536 = omega (arith, same, c.requires.ends, c.requires.room) in
+    let room : c.args.at.place + statements_size (statements_of c.deref.result.now) ≤ 65536 = omega (arith, same, c.requires.ends, c.requires.room) in
     let small : AreSmallStatements (statements_of c.deref.result.now) = subst IsSmallStatement block c.requires.small in
     (omega (arith, work, c.decreases), (room, small))
 
@@ -26,7 +26,7 @@ emit_statement-emit_leavable-requires t c =
     let is : plain_statement c.args.s.now ≡ Leavable (plain_statement body) (statements_of exits) =
     leavable_plain c.args.s.now c.in-Leavable.body c.in-Leavable.exits body exits c.deref-in-Leavable.ensures c.deref-in-Leavable-2.ensures.value c.in-Leavable.is in
     let work = ap weight is in
-    let ends : c.args.end ≡ c.args.place + (statement_size (plain_statement body) + exits_size (statements_of exits)) = omega (arith, ap statement_size is, c.requires.ends) in
+    let ends : c.args.at.end ≡ c.args.at.place + (statement_size (plain_statement body) + exits_size (statements_of exits)) = omega (arith, ap statement_size is, c.requires.ends) in
     let small = subst IsSmallStatement is c.requires.small in
     (omega (arith, work, c.decreases), (ends, (c.requires.room, (small.0, small.1))))
 
@@ -36,7 +36,7 @@ emit_statement-returns-in-Leavable-clause-code t c =
     let exits = c.deref-in-Leavable-2.result.now in
     let is : plain_statement c.args.s.now ≡ Leavable (plain_statement body) (statements_of exits) =
     leavable_plain c.args.s.now c.in-Leavable.body c.in-Leavable.exits body exits c.deref-in-Leavable.ensures c.deref-in-Leavable-2.ensures.value c.in-Leavable.is in
-    let Puts = λ (s : lowered.Statement). OnOk c.emit_leavable.result (c.emit_leavable.new.out.items ≡ c.args.out.now.items ++ statement_code (targets_of c.args.around.now) c.args.place s) in
+    let Puts = λ (s : lowered.Statement). OnOk c.emit_leavable.result (c.emit_leavable.new.out.instructions.items ≡ c.args.out.now.instructions.items ++ statement_code (targets_of c.args.around.now) c.args.at.place s) in
     subst Puts (sym is) c.emit_leavable.ensures.code
 
 pub emit_statement-returns-in-Leavable-clause-rows : goal.emit_statement-returns-in-Leavable-clause-rows
@@ -45,5 +45,5 @@ emit_statement-returns-in-Leavable-clause-rows t c =
     let exits = c.deref-in-Leavable-2.result.now in
     let is : plain_statement c.args.s.now ≡ Leavable (plain_statement body) (statements_of exits) =
     leavable_plain c.args.s.now c.in-Leavable.body c.in-Leavable.exits body exits c.deref-in-Leavable.ensures c.deref-in-Leavable-2.ensures.value c.in-Leavable.is in
-    let Puts = λ (s : lowered.Statement). OnOk c.emit_leavable.result (c.emit_leavable.new.rows.items ≡ c.args.rows.now.items ++ statement_rows c.args.place s) in
+    let Puts = λ (s : lowered.Statement). OnOk c.emit_leavable.result (c.emit_leavable.new.out.rows.items ≡ c.args.out.now.rows.items ++ statement_rows c.args.at.place s) in
     subst Puts (sym is) c.emit_leavable.ensures.rows

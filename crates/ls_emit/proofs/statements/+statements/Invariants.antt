@@ -8,17 +8,17 @@ use Rattle.ls_emit.proofs.statements.+statements.Given as goal
 
 abbrev pub invariant-emit_block-loop-s : goal.invariant-emit_block-loop-s
 invariant-emit_block-loop-s l =
-    (l.out.items ++ statements_code (targets_of l.around) l.next (statements_of (drop l.s-index l.statements)) ≡ l.initial.out.items ++ statements_code (targets_of l.around) l.place (statements_of l.statements))
-    × (l.rows.items ++ statements_rows l.next (statements_of (drop l.s-index l.statements)) ≡ l.initial.rows.items ++ statements_rows l.place (statements_of l.statements))
+    (l.out.instructions.items ++ statements_code (targets_of l.around) l.next (statements_of (drop l.s-index l.statements)) ≡ l.initial.out.instructions.items ++ statements_code (targets_of l.around) l.place (statements_of l.statements))
+    × (l.out.rows.items ++ statements_rows l.next (statements_of (drop l.s-index l.statements)) ≡ l.initial.out.rows.items ++ statements_rows l.place (statements_of l.statements))
     × (l.next + statements_size (statements_of (drop l.s-index l.statements)) ≡ l.place + statements_size (statements_of l.statements))
     × AreSmallStatements (statements_of (drop l.s-index l.statements))
     × (weights (statements_of (drop l.s-index l.statements)) ≤ weights (statements_of l.statements))
 
 abbrev pub invariant-emit_exits-loop-x : goal.invariant-emit_exits-loop-x
 invariant-emit_exits-loop-x l =
-    (l.out.items ++ exits_code (targets_of l.around) l.end l.next (statements_of (drop l.x-index l.exits)) ≡ l.initial.out.items ++ exits_code (targets_of l.around) l.end l.place (statements_of l.exits))
-    × (l.rows.items ++ exits_rows l.next (statements_of (drop l.x-index l.exits)) ≡ l.initial.rows.items ++ exits_rows l.place (statements_of l.exits))
-    × (l.next + exits_size (statements_of (drop l.x-index l.exits)) ≡ l.place + exits_size (statements_of l.exits))
+    (l.out.instructions.items ++ exits_code (targets_of l.around) l.at.end l.next (statements_of (drop l.x-index l.exits)) ≡ l.initial.out.instructions.items ++ exits_code (targets_of l.around) l.at.end l.at.place (statements_of l.exits))
+    × (l.out.rows.items ++ exits_rows l.next (statements_of (drop l.x-index l.exits)) ≡ l.initial.out.rows.items ++ exits_rows l.at.place (statements_of l.exits))
+    × (l.next + exits_size (statements_of (drop l.x-index l.exits)) ≡ l.at.place + exits_size (statements_of l.exits))
     × AreSmallStatements (statements_of (drop l.x-index l.exits))
     × (weights (statements_of (drop l.x-index l.exits)) ≤ weights (statements_of l.exits))
     × (l.number ≡ l.x-index)
