@@ -14,33 +14,46 @@ use crate::live::{CloseFault, Live};
 use crate::running::{Gate, run_live};
 use ls_image::image::Image;
 use ls_schedule::Record;
-use std::alloc::Global;
+use std::alloc::{AllocError, Global};
 use std::marker::Brand;
 use std::sync::Wait;
 use std::sync::ledger::Blank;
 use std::thread::Threads;
+
+/// How many cells the machine of a live run has, and how many steps are recorded at most.
+#[derive(Copy)]
+struct Bounds {
+    cells: usize,
+    limit: usize,
+}
+
+impl Clone for Bounds {
+    fn clone(&self) -> Result<Bounds, AllocError> {
+        Ok(*self)
+    }
+}
 
 fn played<L: Session + Send + Sync, G: Gate + Sync, R: Threads + Wait + Sync>(
     rt: &R,
     alloc: Global,
     blank: Blank,
     image: &Image,
-    cells: usize,
-    limit: usize,
+    bounds: Bounds,
     gate: &G,
 ) -> Result<Record, PlayFault>
     requires name { blank.name ≡ L.name }
     requires parts { blank.parts ≡ L.parts }
     requires seats { (L.seats ≡ L.parts) × (L.seats ≡ length (code_of_image image.now).starts) }
-    requires start { L.start ≡ loaded (code_of_image image.now) cells }
-    requires limit { L.limit ≡ limit }
-    ensures limit { IsErrOf result (PlayFault.Open BadLimit) ↔ (1000000 < limit) }
-    ensures cells { IsErrOf result (PlayFault.Open BadCells) ↔ ((limit ≤ 1000000) × AreBadCells (code_of_image image.now).names cells) }
-    ensures record { IfOk result (λ r. IsRecordOf (code_of_image image.now) cells (scheduled r) r) }
+    requires start { L.start ≡ loaded (code_of_image image.now) bounds.cells }
+    requires limit { L.limit ≡ bounds.limit }
+    ensures limit { IsErrOf result (PlayFault.Open BadLimit) ↔ (1000000 < bounds.limit) }
+    ensures cells { IsErrOf result (PlayFault.Open BadCells) ↔ ((bounds.limit ≤ 1000000) × AreBadCells (code_of_image image.now).names bounds.cells) }
+    ensures record { IfOk result (λ r. IsRecordOf (code_of_image image.now) bounds.cells (scheduled r) r) }
     ensures there { IfOk result (AreThere (code_of_image image.now)) }
-    ensures within { IfOk result (λ r. length (scheduled r) ≤ limit) }
-    ensures done { IfOk result (IsDone (code_of_image image.now) cells limit) }
+    ensures within { IfOk result (λ r. length (scheduled r) ≤ bounds.limit) }
+    ensures done { IfOk result (IsDone (code_of_image image.now) bounds.cells bounds.limit) }
 {
+    let Bounds { cells, limit } = bounds;
     let (live, seats) = match Live::<L>::open(alloc, blank, image, cells, limit) {
         Ok(opened) => opened,
         Err(fault) => return Err(PlayFault::Open(fault)),
@@ -74,5 +87,6 @@ pub fn play_live<G: Gate + Sync, R: Threads + Wait + Sync>(
     ensures done { IfOk result (IsDone (code_of_image image.now) cells limit) }
 {
     let blank = Blank::new(image.code().starts().len() as u64);
-    played::<Brand, G, R>(rt, alloc, blank, image, cells, limit, gate)
+    let bounds = Bounds { cells, limit };
+    played::<Brand, G, R>(rt, alloc, blank, image, bounds, gate)
 }

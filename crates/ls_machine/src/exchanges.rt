@@ -19,6 +19,22 @@ use ls_events::kind::Kind;
 use ls_machine_moves::cells::Cells;
 use ls_machine_moves::flow::Reply;
 use ls_machine_moves::lock_words::{is_own_word, lock_word, unlock_word};
+use std::alloc::AllocError;
+
+/// What a thread sees of a lock: the operation that it is at and the number by which an instruction names that, the lock, and its word.
+#[derive(Copy)]
+struct Sight {
+    which: u32,
+    operation: Action<u64>,
+    lock: u64,
+    word: u64,
+}
+
+impl Clone for Sight {
+    fn clone(&self) -> Result<Sight, AllocError> {
+        Ok(*self)
+    }
+}
 
 /// An operation that fails is over, where the thread's throw is caught.
 fn fail(
@@ -67,22 +83,20 @@ fn taken_operation(which: u32, lock: u64) -> Option<Action<u64>>
 
 /// The thread has seen a lock's word.
 #[inline(always)]
-fn saw_word(
-    code: &Code,
-    cells: &mut Cells,
-    number: usize,
-    thread: &mut Thread,
-    which: u32,
-    lock: u64,
-    word: u64,
-) -> Did
+fn saw_word(code: &Code, cells: &mut Cells, number: usize, thread: &mut Thread, seen: Sight) -> Did
     requires number { number ≤ 64 }
     requires place { thread.old.thread.top.counter + 1 < 2 ^ 64 }
     requires room { length thread.old.thread.top.operands < thread.old.thread.top.need }
-    ensures came { Came (seen_outcome cells.old thread.old.thread (saw code.now thread.old.thread number which lock word)) thread.old thread.new cells.new result }
+    ensures came { Came (seen_outcome cells.old thread.old.thread (saw code.now thread.old.thread number seen.which seen.lock seen.word)) thread.old thread.new cells.new result }
     ensures events { TakesEvents code.now number result thread.old.thread thread.new.thread }
     ensures unseen { IsUnseen result }
 {
+    let Sight {
+        which,
+        lock,
+        word,
+        ..
+    } = seen;
     if which == 2 {
         thread.resume(Resume::Push, word);
         return match lock_word(word, number) {
@@ -123,7 +137,7 @@ fn see_lock(
 {
     match seen_operation(which, lock) {
         None => Did::Silent,
-        Some(_) => {
+        Some(operation) => {
             if lock == 0 {
                 let _ = thread.throw(code.handlers(), Kind::NullPointer);
                 return Did::Silent;
@@ -133,7 +147,15 @@ fn see_lock(
             }
             match cells.get(lock, 0) {
                 None => Did::Silent,
-                Some(word) => saw_word(code, cells, number, thread, which, lock, word),
+                Some(word) => {
+                    let seen = Sight {
+                        which,
+                        operation,
+                        lock,
+                        word,
+                    };
+                    saw_word(code, cells, number, thread, seen)
+                }
             }
         }
     }
@@ -161,29 +183,28 @@ fn took_word(
     cells: &mut Cells,
     number: usize,
     thread: &mut Thread,
-    which: u32,
-    operation: Action<u64>,
+    seen: Sight,
     won: u64,
 ) -> Did
     requires place { thread.old.thread.top.counter + 1 < 2 ^ 64 }
     requires there { 1 ≤ length thread.old.thread.top.operands }
-    requires quiet { IsQuiet operation }
-    ensures came { Came (seen_outcome cells.old thread.old.thread (took thread.old.thread which operation won)) thread.old thread.new cells.new result }
+    requires quiet { IsQuiet seen.operation }
+    ensures came { Came (seen_outcome cells.old thread.old.thread (took thread.old.thread seen.which seen.operation won)) thread.old thread.new cells.new result }
     ensures events { TakesEvents code.now number result thread.old.thread thread.new.thread }
     ensures unseen { IsUnseen result }
 {
     if won == 1 {
         thread.resume(Resume::Settle(1), 1);
-        let answer = if which == 2 {
+        let answer = if seen.which == 2 {
             Answer::Gives(1)
         } else {
             Answer::Done
         };
-        return Did::Acted(operation, answer);
+        return Did::Acted(seen.operation, answer);
     }
     thread.resume(Resume::Settle(1), 0);
-    if which == 2 {
-        Did::Acted(operation, Answer::Gives(0))
+    if seen.which == 2 {
+        Did::Acted(seen.operation, Answer::Gives(0))
     } else {
         Did::Silent
     }
@@ -191,33 +212,24 @@ fn took_word(
 
 /// The thread exchanges the word that it saw.
 #[inline(always)]
-fn take_word(
-    code: &Code,
-    cells: &mut Cells,
-    number: usize,
-    thread: &mut Thread,
-    which: u32,
-    operation: Action<u64>,
-    lock: u64,
-    word: u64,
-) -> Did
+fn take_word(code: &Code, cells: &mut Cells, number: usize, thread: &mut Thread, seen: Sight) -> Did
     requires number { number ≤ 64 }
     requires place { thread.old.thread.top.counter + 1 < 2 ^ 64 }
     requires there { 1 ≤ length thread.old.thread.top.operands }
-    requires quiet { IsQuiet operation }
-    ensures came { Came (planned cells.old number thread.old.thread (take_from code.now thread.old.thread which operation lock word (taken_of word number))) thread.old thread.new cells.new result }
+    requires quiet { IsQuiet seen.operation }
+    ensures came { Came (planned cells.old number thread.old.thread (take_from code.now thread.old.thread seen.which seen.operation seen.lock seen.word (taken_of seen.word number))) thread.old thread.new cells.new result }
     ensures events { TakesEvents code.now number result thread.old.thread thread.new.thread }
     ensures unseen { IsUnseen result }
 {
-    match lock_word(word, number) {
+    match lock_word(seen.word, number) {
         Taken::Other => {
             thread.resume(Resume::Settle(1), 0);
             Did::Silent
         }
-        Taken::TooMany => fail(code, cells, number, thread, operation, Kind::Error),
-        Taken::Taken(next) => match cells.swap(lock, word, next) {
+        Taken::TooMany => fail(code, cells, number, thread, seen.operation, Kind::Error),
+        Taken::Taken(next) => match cells.swap(seen.lock, seen.word, next) {
             Reply::Answered(Answer::Gives(won)) => took_word(
-                code, cells, number, thread, which, operation, won,
+                code, cells, number, thread, seen, won,
             ),
             _ => Did::Silent,
         },
@@ -237,7 +249,15 @@ pub fn take(code: &Code, cells: &mut Cells, number: usize, thread: &mut Thread, 
         None => Did::Silent,
         Some((lock, word)) => match taken_operation(which, lock) {
             None => Did::Silent,
-            Some(operation) => take_word(code, cells, number, thread, which, operation, lock, word),
+            Some(operation) => {
+                let seen = Sight {
+                    which,
+                    operation,
+                    lock,
+                    word,
+                };
+                take_word(code, cells, number, thread, seen)
+            }
         },
     }
 }

@@ -12,7 +12,7 @@ ghost use Rattle.ls_types_elaboration.specs.Tables.{known_of};
 ghost use Rattle.ls_types_expressions.specs.Views.{locals_of};
 ghost use Rattle.ls_types_elaboration.specs.Answers.{Gives, typed_of, member_of as seen_member, seen_typed};
 
-use crate::operators::{binary_of, unary_of};
+use crate::operators::{Spans, binary_of, unary_of};
 use crate::places::span_of;
 use crate::site::Site;
 use ls_checked::tree::{Expression, Expressions};
@@ -222,7 +222,12 @@ fn binary(
     let x = typed(site, left)?;
     let y = typed(site, right);
     let (x, y) = also(x, y)?;
-    binary_of(site.alloc, op, span, span_of(left), span_of(right), x, y)
+    let spans = Spans {
+        whole: span,
+        left: span_of(left),
+        right: span_of(right),
+    };
+    binary_of(site.alloc, op, spans, x, y)
 }
 
 #[cycle(expressions)]

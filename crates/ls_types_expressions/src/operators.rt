@@ -15,7 +15,21 @@ use ls_tree::tree::{BinaryOp, UnaryOp};
 use ls_types_elaboration::rule::{Broken, CheckFault, Rule, broken_at};
 use ls_types_elaboration::static_types::{Static, Typed, as_type, as_value, comparable, typed_as};
 use ls_types_elaboration::together::{also, two};
-use std::alloc::Global;
+use std::alloc::{AllocError, Global};
+
+/// Where a binary expression stands, and its operands.
+#[derive(Copy)]
+pub struct Spans {
+    pub whole: Span,
+    pub left: Span,
+    pub right: Span,
+}
+
+impl Clone for Spans {
+    fn clone(&self) -> Result<Spans, AllocError> {
+        Ok(*self)
+    }
+}
 
 /// A unary operator on an operand that stands at `span`.
 pub fn unary_of(alloc: Global, op: UnaryOp, span: Span, x: Typed) -> Result<Typed, CheckFault>
@@ -38,15 +52,14 @@ fn computed(
     alloc: Global,
     t: ValueType,
     op: Operator,
-    left: Span,
-    right: Span,
+    spans: Spans,
     x: Typed,
     y: Typed,
 ) -> Result<Typed, CheckFault>
-    ensures { Gives typed_of result (the_computed t op left right (typed_of x) (typed_of y)) }
+    ensures { Gives typed_of result (the_computed t op spans.left spans.right (typed_of x) (typed_of y)) }
 {
-    let (y, a) = also(y, as_type(ValueType::Int, left, x))?;
-    let (a, b) = also(a, as_type(ValueType::Int, right, y))?;
+    let (y, a) = also(y, as_type(ValueType::Int, spans.left, x))?;
+    let (a, b) = also(a, as_type(ValueType::Int, spans.right, y))?;
     let (a, b) = two(alloc, a, b)?;
     Ok(typed_as(t, Expression::Binary(op, a, b)))
 }
@@ -65,35 +78,26 @@ fn may_compare(span: Span, x: Static, y: Static) -> Result<(), Broken>
 fn compared(
     alloc: Global,
     op: Operator,
-    span: Span,
-    left: Span,
-    right: Span,
+    spans: Spans,
     x: Typed,
     y: Typed,
 ) -> Result<Typed, CheckFault>
-    ensures { Gives typed_of result (the_compared op span left right (typed_of x) (typed_of y)) }
+    ensures { Gives typed_of result (the_compared op spans.whole spans.left spans.right (typed_of x) (typed_of y)) }
 {
-    let (y, x) = also(y, as_value(left, x))?;
-    let (x, y) = also(x, as_value(right, y))?;
-    let fits = may_compare(span, x.of, y.of);
+    let (y, x) = also(y, as_value(spans.left, x))?;
+    let (x, y) = also(x, as_value(spans.right, y))?;
+    let fits = may_compare(spans.whole, x.of, y.of);
     let ((x, y), _) = also((x, y), fits)?;
     let (a, b) = two(alloc, x.expression, y.expression)?;
     Ok(typed_as(ValueType::Boolean, Expression::Binary(op, a, b)))
 }
 
 // Truth values on both sides of `&&` or `||`.
-fn decided(
-    alloc: Global,
-    and: bool,
-    left: Span,
-    right: Span,
-    x: Typed,
-    y: Typed,
-) -> Result<Typed, CheckFault>
-    ensures { Gives typed_of result (the_binary (if and then and_written else or_written) left left right (typed_of x) (typed_of y)) }
+fn decided(alloc: Global, and: bool, spans: Spans, x: Typed, y: Typed) -> Result<Typed, CheckFault>
+    ensures { Gives typed_of result (the_binary (if and then and_written else or_written) spans.whole spans.left spans.right (typed_of x) (typed_of y)) }
 {
-    let (y, a) = also(y, as_type(ValueType::Boolean, left, x))?;
-    let (a, b) = also(a, as_type(ValueType::Boolean, right, y))?;
+    let (y, a) = also(y, as_type(ValueType::Boolean, spans.left, x))?;
+    let (a, b) = also(a, as_type(ValueType::Boolean, spans.right, y))?;
     let (a, b) = two(alloc, a, b)?;
     if and {
         Ok(typed_as(ValueType::Boolean, Expression::And(a, b)))
@@ -102,79 +106,45 @@ fn decided(
     }
 }
 
-/// A binary operator that stands at `span` with its operands, which stand at `left` and `right`.
+/// A binary operator with its operands.
 pub fn binary_of(
     alloc: Global,
     op: BinaryOp,
-    span: Span,
-    left: Span,
-    right: Span,
+    spans: Spans,
     x: Typed,
     y: Typed,
 ) -> Result<Typed, CheckFault>
-    ensures { Gives typed_of result (the_binary op span left right (typed_of x) (typed_of y)) }
+    ensures { Gives typed_of result (the_binary op spans.whole spans.left spans.right (typed_of x) (typed_of y)) }
 {
     match op {
-        BinaryOp::Or => decided(alloc, false, left, right, x, y),
-        BinaryOp::And => decided(alloc, true, left, right, x, y),
-        BinaryOp::Equal => compared(alloc, Operator::Equal, span, left, right, x, y),
-        BinaryOp::NotEqual => compared(alloc, Operator::NotEqual, span, left, right, x, y),
-        BinaryOp::Less => computed(alloc, ValueType::Boolean, Operator::Less, left, right, x, y),
-        BinaryOp::Greater => computed(
-            alloc,
-            ValueType::Boolean,
-            Operator::Greater,
-            left,
-            right,
-            x,
-            y,
-        ),
+        BinaryOp::Or => decided(alloc, false, spans, x, y),
+        BinaryOp::And => decided(alloc, true, spans, x, y),
+        BinaryOp::Equal => compared(alloc, Operator::Equal, spans, x, y),
+        BinaryOp::NotEqual => compared(alloc, Operator::NotEqual, spans, x, y),
+        BinaryOp::Less => computed(alloc, ValueType::Boolean, Operator::Less, spans, x, y),
+        BinaryOp::Greater => computed(alloc, ValueType::Boolean, Operator::Greater, spans, x, y),
         BinaryOp::LessEqual => computed(
             alloc,
             ValueType::Boolean,
             Operator::LessEqual,
-            left,
-            right,
+            spans,
             x,
             y,
         ),
-        BinaryOp::GreaterEqual => computed(
-            alloc,
-            ValueType::Boolean,
-            Operator::GreaterEqual,
-            left,
-            right,
-            x,
-            y,
-        ),
-        BinaryOp::Add => computed(alloc, ValueType::Int, Operator::Add, left, right, x, y),
-        BinaryOp::Subtract => computed(
-            alloc,
-            ValueType::Int,
-            Operator::Subtract,
-            left,
-            right,
-            x,
-            y,
-        ),
-        BinaryOp::Multiply => computed(
-            alloc,
-            ValueType::Int,
-            Operator::Multiply,
-            left,
-            right,
-            x,
-            y,
-        ),
-        BinaryOp::Divide => computed(alloc, ValueType::Int, Operator::Divide, left, right, x, y),
-        BinaryOp::Remainder => computed(
-            alloc,
-            ValueType::Int,
-            Operator::Remainder,
-            left,
-            right,
-            x,
-            y,
-        ),
+        BinaryOp::GreaterEqual => {
+            computed(
+                alloc,
+                ValueType::Boolean,
+                Operator::GreaterEqual,
+                spans,
+                x,
+                y,
+            )
+        }
+        BinaryOp::Add => computed(alloc, ValueType::Int, Operator::Add, spans, x, y),
+        BinaryOp::Subtract => computed(alloc, ValueType::Int, Operator::Subtract, spans, x, y),
+        BinaryOp::Multiply => computed(alloc, ValueType::Int, Operator::Multiply, spans, x, y),
+        BinaryOp::Divide => computed(alloc, ValueType::Int, Operator::Divide, spans, x, y),
+        BinaryOp::Remainder => computed(alloc, ValueType::Int, Operator::Remainder, spans, x, y),
     }
 }

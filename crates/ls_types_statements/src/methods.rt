@@ -149,25 +149,19 @@ fn answered(context: Context, body: &[Statement]) -> Result<(), CheckFault>
     Ok(())
 }
 
-// A method or constructor, whose body begins with the statements of `front`.
+// A method or constructor of this name, whose body begins with the statements of `front`.
 fn method<'t>(
-    alloc: Global,
-    known: Known,
-    answers: Option<ValueType>,
+    context: Context,
     name: &Name,
     ps: &'t [Parameter],
     front: Vec<Statement>,
     items: &'t [BlockItem],
 ) -> Result<Method, CheckFault>
-    ensures { Gives plain_method result (the_method (known_of known.entry) answers (placed_name name.now) (map placed_parameter ps.entry.now) (map plain_statement front.items) (placed_items items.entry.now)) }
+    requires { context.span ≡ name.now.span }
+    ensures { Gives plain_method result (the_method (known_of context.entry.known) context.entry.result (placed_name name.now) (map placed_parameter ps.entry.now) (map plain_statement front.items) (placed_items items.entry.now)) }
 {
-    let context = Context {
-        alloc,
-        known,
-        result: answers,
-        span: name.span,
-    };
-    let (front, mut slots) = also(front, first_slot(alloc, known))?;
+    let alloc = context.alloc;
+    let (front, mut slots) = also(front, first_slot(alloc, context.known))?;
     let mut scope = Scope {
         statements: front,
         locals: Vec::new(alloc),
@@ -180,10 +174,10 @@ fn method<'t>(
     all_items(round, &mut scope, &mut slots, items)?;
     answered(context, &scope.statements)?;
     Ok(Method {
-        class: known.own,
+        class: context.known.own,
         parameters: ps.len(),
         slots,
-        result: answers,
+        result: context.result,
         body: block_of(scope.statements),
     })
 }
@@ -191,16 +185,14 @@ fn method<'t>(
 fn written_method(alloc: Global, known: Known, m: &MethodText) -> Result<Method, CheckFault>
     ensures { Gives plain_method result (the_written_method (known_of known.entry) (option_map placed_type m.now.result) (placed_name m.now.name) (map placed_parameter m.now.parameters.items) (placed_items m.now.body.items.items)) }
 {
-    let answers = result_of(known.names, &m.result)?;
-    method(
+    let context = Context {
         alloc,
         known,
-        answers,
-        &m.name,
-        &m.parameters,
-        Vec::new(alloc),
-        &m.body.items,
-    )
+        result: result_of(known.names, &m.result)?,
+        span: m.name.span,
+    };
+    let front = Vec::new(alloc);
+    method(context, &m.name, &m.parameters, front, &m.body.items)
 }
 
 fn written_constructor(
@@ -211,16 +203,14 @@ fn written_constructor(
 ) -> Result<Method, CheckFault>
     ensures { Gives plain_method result (the_written_constructor (known_of known.entry) (map placed_member members.now) (placed_name c.now.name) (map placed_parameter c.now.parameters.items) (placed_items c.now.body.items.items)) }
 {
-    let front = initialisers(alloc, known, members)?;
-    method(
+    let context = Context {
         alloc,
         known,
-        None,
-        &c.name,
-        &c.parameters,
-        front,
-        &c.body.items,
-    )
+        result: None,
+        span: c.name.span,
+    };
+    let front = initialisers(alloc, known, members)?;
+    method(context, &c.name, &c.parameters, front, &c.body.items)
 }
 
 // A method or constructor behind those before it.

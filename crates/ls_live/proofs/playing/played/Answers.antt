@@ -20,5 +20,5 @@ returns-in-Ok-close-clause-there g c =
 pub returns-in-Ok-close-clause-done : goal.returns-in-Ok-close-clause-done
 returns-in-Ok-close-clause-done g c =
     let closed = c.in-Ok-close.ensures.closed in
-    all_done g.L.Session.start g.L.Session.limit (code_of_image c.args.image.now) c.args.cells c.args.limit c.in-Ok-close.record c.in-Ok-run_live.worked.items
+    all_done g.L.Session.start g.L.Session.limit (code_of_image c.args.image.now) c.args.bounds.cells c.args.bounds.limit c.in-Ok-close.record c.in-Ok-run_live.worked.items
     c.requires.start c.requires.limit (closed.whole ∙ c.requires.seats.1) c.in-Ok-run_live.ensures.order closed.agreed c.in-Ok-run_live.ensures.told
