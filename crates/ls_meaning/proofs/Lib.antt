@@ -1,3 +1,4 @@
+pub mod Followers
 pub mod Renames
 pub mod RenamesStatements
 pub mod RenamesThreads

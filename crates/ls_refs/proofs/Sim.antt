@@ -13,6 +13,7 @@ use Rattle.ls_meaning.specs.declared.sort.Sort.{Sort}
 use Rattle.ls_meaning.specs.declared.sort.Sort.TheVariants.{NoValue}
 use Rattle.ls_meaning.specs.Values.{nothing}
 use Rattle.ls_meaning.specs.Course.{Answers, Evaluated, Asks, Results, Throws, ask, with_value, unless_null}
+use Rattle.ls_meaning.proofs.Followers as followers
 use Rattle.ls_lowered.specs.Course as low
 use Rattle.ls_refs.specs.ValueWords.{value_word}
 use Rattle.ls_types_judgement.specs.Sorts.{HasSort}
@@ -26,9 +27,7 @@ suited_eq P f g (x ∷ qs) e s = (subst (λ t. Suits P t x) (e [] (omega arith))
 
 -- what follows an expression, by its result or its throw
 abbrev pub ends : {A : Type 0} → Evaluated A → (A → Answers → Evaluated Value) → (Kind → Answers → Evaluated Value) → Evaluated Value
-ends (Asks action sort) go h = Asks action sort
-ends (Results v rest) go h = go v rest
-ends (Throws kind rest) go h = h kind rest
+ends x go h = followers.ends Asks x go h
 
 abbrev pub word_ends : {B : Type 0} → low.Course (low.Outcome B) → (B → List ℕ → low.Answers → low.Told) → (Kind → List ℕ → low.Answers → low.Told) → low.Told
 word_ends (low.Asks action) go h = low.Asked action
@@ -37,9 +36,7 @@ word_ends (low.Ends (low.Throws kind) ls rest) go h = h kind ls rest
 word_ends low.Stuck go h = low.Lost
 
 pub ends_with : {A B : Type 0} (x : Evaluated A) (g : A → Answers → Evaluated B) (go : B → Answers → Evaluated Value) (h : Kind → Answers → Evaluated Value) → ends (with_value x g) go h ≡ ends x (λ v r. ends (g v r) go h) h
-ends_with (Asks a s) g go h = refl
-ends_with (Results v rest) g go h = refl
-ends_with (Throws k rest) g go h = refl
+ends_with x g go h = followers.ends_with Asks x g go h
 
 pub ends_and : {A B : Type 0} (x : low.Course (low.Outcome A)) (g : A → List ℕ → low.Answers → low.Course (low.Outcome B)) (go : B → List ℕ → low.Answers → low.Told) (h : Kind → List ℕ → low.Answers → low.Told) →
     word_ends (low.and_then x g) go h ≡ word_ends x (λ w l r. word_ends (g w l r) go h) h

@@ -18,6 +18,8 @@ use Rattle.ls_events.specs.declared.action.Answer.TheVariants as answers
 use Rattle.ls_meaning.specs.Course.{Answers, Evaluated, Asks, Results, Throws}
 use Rattle.ls_meaning.specs.Expressions.{Calls, evaluate}
 use Rattle.ls_meaning.specs.Statements.{Executed, AsksFor, Completes, on_value, then_do, finally_do, turn_back, after_body, one_turn, turns, execute, execute_all}
+use Rattle.ls_meaning.proofs.Followers as followers
+use Rattle.ls_meaning.proofs.Followers.{Follower}
 use Rattle.ls_lowered.specs.LoweredTree as tree
 use Rattle.ls_lowered.specs.Words as words
 use Rattle.ls_lowered.specs.Course as low
@@ -38,14 +40,13 @@ use Rattle.ls_refs.proofs.Exprs.{agrees}
 use Rattle.ls_meaning.proofs.Shorter.{CallsWithin, evaluate_within, execute_within, turns_eq}
 
 abbrev pub Go : Type 0
-Go = Completion Value → List Value → Answers → Evaluated Value
+Go = Follower (Evaluated Value)
 
 abbrev pub GoWord : Type 0
 GoWord = does.Completion → List ℕ → low.Answers → low.Told
 
 abbrev pub finish_by : Executed → Go → Evaluated Value
-finish_by (AsksFor a s) g = Asks a s
-finish_by (Completes c ls rest) g = g c ls rest
+finish_by x g = followers.finish_by Asks x g
 
 -- the word that is returned, and the completion in words: two numbers are each loop's
 abbrev pub returned_word : Option Value → ℕ
@@ -60,11 +61,6 @@ completion_word (Returned v) = does.Returned (returned_word v)
 completion_word (Threw k) = does.Threw k
 
 -- an expression, and then a statement
-value_by : (x : Evaluated Value) (ls : List Value) (k : Value → Answers → Executed) (g : Go) → finish_by (on_value x ls k) g ≡ ends x (λ v r. finish_by (k v r) g) (λ n r. g (Threw n) ls r)
-value_by (Asks a s) ls k g = refl
-value_by (Results v r) ls k g = refl
-value_by (Throws n r) ls k g = refl
-
 word_by : (x : low.Course (low.Outcome ℕ)) (k : ℕ → List ℕ → low.Answers → low.Course does.Completion) (g : GoWord) → told (low.finish x (does.on_word k)) g ≡ word_ends x (λ w l r. told (k w l r) g) (λ n l r. g (does.Threw n) l r)
 word_by (low.Asks a) k g = refl
 word_by (low.Ends (low.Results w) l r) k g = refl
@@ -78,42 +74,10 @@ finish_told (low.Ends c l r) f g = refl
 finish_told low.Stuck f g = refl
 
 abbrev on_normal : (List Value → Answers → Executed) → Go → Go
-on_normal b g Normal ls r = finish_by (b ls r) g
-on_normal b g (Broke n) ls r = g (Broke n) ls r
-on_normal b g (Continued n) ls r = g (Continued n) ls r
-on_normal b g (Returned v) ls r = g (Returned v) ls r
-on_normal b g (Threw n) ls r = g (Threw n) ls r
-
-then_by : (x : Executed) (b : List Value → Answers → Executed) (g : Go) → finish_by (then_do x b) g ≡ finish_by x (on_normal b g)
-then_by (AsksFor a s) b g = refl
-then_by (Completes Normal ls r) b g = refl
-then_by (Completes (Broke n) ls r) b g = refl
-then_by (Completes (Continued n) ls r) b g = refl
-then_by (Completes (Returned n) ls r) b g = refl
-then_by (Completes (Threw n) ls r) b g = refl
-
-finally_by : (x : Executed) (b : List Value → Answers → Executed) (g : Go) → finish_by (finally_do x b) g ≡ finish_by x (λ c ls r. finish_by (then_do (b ls r) (λ ls r. Completes c ls r)) g)
-finally_by (AsksFor a s) b g = refl
-finally_by (Completes c ls r) b g = refl
+on_normal b g = followers.on_normal (Evaluated Value) Asks b g
 
 abbrev on_body : (List Value → Answers → Executed) → Go → Go
-on_body b g Normal ls r = finish_by (turn_back b ls r) g
-on_body b g (Broke zero) ls r = g Normal ls r
-on_body b g (Broke (suc n)) ls r = g (Broke n) ls r
-on_body b g (Continued zero) ls r = finish_by (turn_back b ls r) g
-on_body b g (Continued (suc n)) ls r = g (Continued n) ls r
-on_body b g (Returned v) ls r = g (Returned v) ls r
-on_body b g (Threw n) ls r = g (Threw n) ls r
-
-body_by : (x : Executed) (b : List Value → Answers → Executed) (g : Go) → finish_by (after_body x b) g ≡ finish_by x (on_body b g)
-body_by (AsksFor a s) b g = refl
-body_by (Completes Normal ls r) b g = refl
-body_by (Completes (Broke zero) ls r) b g = refl
-body_by (Completes (Broke (suc n)) ls r) b g = refl
-body_by (Completes (Continued zero) ls r) b g = refl
-body_by (Completes (Continued (suc n)) ls r) b g = refl
-body_by (Completes (Returned n) ls r) b g = refl
-body_by (Completes (Threw n) ls r) b g = refl
+on_body b g = followers.on_body (Evaluated Value) Asks b g
 
 -- a course that a leave of it ends
 abbrev ended : low.Calls → low.Course does.Completion → low.Course does.Completion
@@ -175,7 +139,7 @@ module _ (P : ℕ → ValueType → Type 0) (slots : List ValueType) (r : Option
       Agrees P (HasSort P s) value_word base old x x' → ((v : Value) (l : List ℕ) → HasSort P s v → Holds P slots ls l → length l ≡ room → AgreesBy P slots r room (λ q. k v q) (λ q. k' (value_word v) l q)) →
       AgreesBy P slots r room (λ q. on_value (x q) ls k) (λ q. low.finish (x' q) (does.on_word k'))
   value_agrees base old s ls x x' k k' le e h a f = record {
-    sim = λ g g' kg. sim_eq P _ _ _ _ (λ q. value_by (x q) ls k g) (λ q. word_by (x' q) k' g')
+    sim = λ g g' kg. sim_eq P _ _ _ _ (λ q. followers.value_by (Evaluated Value) Asks (x q) ls k g) (λ q. word_by (x' q) k' g')
         (a.sim (λ v q. finish_by (k v q) g) (λ n q. g (Threw n) ls q) (λ w l q. told (k' w l q) g') (λ n l q. g' (does.Threw n) l q)
         (λ v l hv kp. (f v l hv (holds_kept P slots ls base old l le kp h) (kp.long ∙ e)).sim g g' kg)
         (λ n l kp. kg (Threw n) ls l tt (holds_kept P slots ls base old l le kp h) (kp.long ∙ e)));
@@ -184,7 +148,7 @@ module _ (P : ℕ → ValueType → Type 0) (slots : List ValueType) (r : Option
   both_agree : (x : Answers → Executed) (x' : low.Answers → low.Course does.Completion) (b : List Value → Answers → Executed) (b' : List ℕ → low.Answers → low.Course does.Completion) → AgreesBy P slots r room x x' → Follows b b' →
       AgreesBy P slots r room (λ q. then_do (x q) b) (λ q. low.finish (x' q) (does.on_normal b'))
   both_agree x x' b b' a f = record {
-    sim = λ g g' kg. sim_eq P _ _ _ _ (λ q. then_by (x q) b g) (λ q. finish_told (x' q) (does.on_normal b') g') (a.sim (on_normal b g) (λ c l r. told (does.on_normal b' c l r) g') (goes g g' kg));
+    sim = λ g g' kg. sim_eq P _ _ _ _ (λ q. followers.then_by (Evaluated Value) Asks (x q) b g) (λ q. finish_told (x' q) (does.on_normal b') g') (a.sim (on_normal b g) (λ c l r. told (does.on_normal b' c l r) g') (goes g g' kg));
   }
     where
       goes : (g : Go) (g' : GoWord) → Rest g g' → Rest (on_normal b g) (λ c l r. told (does.on_normal b' c l r) g')
@@ -197,7 +161,7 @@ module _ (P : ℕ → ValueType → Type 0) (slots : List ValueType) (r : Option
   finally_agree : (x : Answers → Executed) (x' : low.Answers → low.Course does.Completion) (b : List Value → Answers → Executed) (b' : List ℕ → low.Answers → low.Course does.Completion) → AgreesBy P slots r room x x' → Follows b b' →
       AgreesBy P slots r room (λ q. finally_do (x q) b) (λ q. low.finish (x' q) (does.on_any b'))
   finally_agree x x' b b' a f = record {
-    sim = λ g g' kg. sim_eq P _ _ _ _ (λ q. finally_by (x q) b g) (λ q. finish_told (x' q) (does.on_any b') g')
+    sim = λ g g' kg. sim_eq P _ _ _ _ (λ q. followers.finally_by (Evaluated Value) Asks (x q) b g) (λ q. finish_told (x' q) (does.on_any b') g')
         (a.sim (λ c ls r. finish_by (then_do (b ls r) (λ ls r. Completes c ls r)) g) (λ c l r. told (does.on_any b' c l r) g')
         (λ c ls l hc h e. (both_agree (λ q. b ls q) (λ q. b' l q) (λ ls r. Completes c ls r) (λ l r. low.Ends (completion_word c) l r) (f ls l h e) (λ ls l h e. ends_agrees c ls l hc h e)).sim g g' kg));
   }
@@ -219,7 +183,7 @@ module _ (P : ℕ → ValueType → Type 0) (slots : List ValueType) (r : Option
   body_agree : (calls' : low.Calls) (x : Answers → Executed) (x' : low.Answers → low.Course does.Completion) (b : List Value → Answers → Executed) (b' : List ℕ → low.Answers → low.Course does.Completion) → AgreesBy P slots r room x x' → Follows b (λ l q. ended calls' (b' l q)) →
       AgreesBy P slots r room (λ q. after_body (x q) b) (λ q. ended calls' (low.finish (ended calls' (x' q)) (does.on_body b')))
   body_agree calls' x x' b b' a f = record {
-    sim = λ g g' kg. sim_eq P _ _ _ _ (λ q. body_by (x q) b g) (λ q. round_told calls' (x' q) b' g') (a.sim (on_body b g) (λ c l r. told (round calls' b' c l r) g') (goes g g' kg));
+    sim = λ g g' kg. sim_eq P _ _ _ _ (λ q. followers.body_by (Evaluated Value) Asks (x q) b g) (λ q. round_told calls' (x' q) b' g') (a.sim (on_body b g) (λ c l r. told (round calls' b' c l r) g') (goes g g' kg));
   }
     where
       back : (g : Go) (g' : GoWord) → Rest g g' → (ls : List Value) (l : List ℕ) → Holds P slots ls l → length l ≡ room → Sim P (λ q. finish_by (turn_back b ls q) g) (λ q. told (ended calls' (does.turn_back b' l q)) g')

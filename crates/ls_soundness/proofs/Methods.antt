@@ -20,10 +20,12 @@ use Rattle.ls_types_judgement.specs.Sorts.{HasType, HasSort, HaveTypes}
 use Rattle.ls_types_judgement.specs.Typing.{IsTypedMethod, IsTypedFile, answer_sort, parameters_of}
 use Rattle.ls_meaning.proofs.Shorter.{CallsWithin, invoke_within}
 use Rattle.ls_soundness.proofs.Values.{start_has}
-use Rattle.ls_soundness.proofs.Ways.{Way, ends, Sure, sure_same, Good, throws_good, then_good, tell_fits}
+use Rattle.ls_meaning.proofs.Followers.{ends, Follower, finish_by}
+use Rattle.ls_soundness.proofs.Ways.{Way, Sure, sure_same, Good, throws_good, then_good, tell_fits}
 use Rattle.ls_soundness.proofs.Locals.{Locals, Starts, starts_of, frame_locals}
 use Rattle.ls_soundness.proofs.Expressions.{CallsGood}
-use Rattle.ls_soundness.proofs.Statements.{Follower, finish_by, CompletionHas, good_by}
+use Rattle.ls_refs.proofs.Stmts.{CompletionHas}
+use Rattle.ls_soundness.proofs.Statements.{good_by}
 
 abbrev on_leave : {X : Type 0} → Option ValueType → (Value → Answers → X) → (Kind → Answers → X) → Follower X
 on_leave r go h Normal ls q = go (answer_without r) q

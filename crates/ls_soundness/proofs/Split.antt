@@ -21,7 +21,8 @@ use Rattle.ls_refs.specs.Laws as refs
 use Rattle.ls_headline.specs.Sorts.{CanFail, Suits, Suited}
 use Rattle.ls_soundness.specs.InCall.{then_next}
 use Rattle.ls_soundness.proofs.Values.{Makes, sort_of_answer}
-use Rattle.ls_soundness.proofs.Ways.{Way, ends, Sure, sure_same}
+use Rattle.ls_meaning.proofs.Followers.{ends}
+use Rattle.ls_soundness.proofs.Ways.{Way, Sure, sure_same}
 use Rattle.ls_soundness.proofs.Methods.{calls_good}
 use Rattle.ls_soundness.proofs.Threads.{suited_same}
 

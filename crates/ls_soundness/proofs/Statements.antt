@@ -1,7 +1,6 @@
 -- Each typed statement asks for actions of the right types, and leaves locals of their types.
 use Rattle.std.proofs.Common.{◌≡◌, ℕ, zero, suc, Bool, true, false, cond, List, [], ◌∷◌, length, Option, Some, None, refl, ap, arith}
 use Rattle.std.specs.Prelude.{slice_set}
-use Rattle.ls_events.specs.declared.action.Action.{Action}
 use Rattle.ls_events.specs.declared.action.Action.TheVariants as act
 use Rattle.ls_events.specs.declared.value.Value.{Value}
 use Rattle.ls_events.specs.declared.value.ValueType.{ValueType}
@@ -13,79 +12,19 @@ use Rattle.ls_meaning.specs.declared.sort.Sort.TheVariants.{NoValue, ValueOf}
 use Rattle.ls_meaning.specs.declared.completion.Completion.{Completion}
 use Rattle.ls_meaning.specs.declared.completion.Completion.TheVariants.{Normal, Broke, Continued, Returned, Threw}
 use Rattle.ls_meaning.specs.Values.{int_of, truth_of, reference_of}
-use Rattle.ls_meaning.specs.Course.{Answers, Evaluated, Asks, Results, Throws}
+use Rattle.ls_meaning.specs.Course.{Answers, Evaluated}
 use Rattle.ls_meaning.specs.Expressions.{Calls, evaluate}
 use Rattle.ls_meaning.specs.Statements.{Executed, AsksFor, Completes, on_value, then_do, finally_do, turn_back, after_body, one_turn, turns, execute, execute_all}
-use Rattle.ls_types_judgement.specs.Sorts.{HasType, HasSort}
+use Rattle.ls_types_judgement.specs.Sorts.{HasSort}
 use Rattle.ls_types_judgement.specs.Typing.{IsTyped, IsTypedStatement, AreTypedStatements}
 use Rattle.ls_meaning.proofs.Shorter.{CallsWithin, evaluate_within, execute_within, turns_eq}
 use Rattle.ls_soundness.proofs.Values.{reference_has}
-use Rattle.ls_soundness.proofs.Ways.{Way, ends, Sure, sure_same, Good, then_good, ask_good, null_good}
+use Rattle.ls_meaning.proofs.Followers.{Follower, finish_by, value_by, on_normal, then_by, finally_by, on_body, body_by}
+use Rattle.ls_refs.proofs.Stmts.{CompletionHas}
+use Rattle.ls_soundness.proofs.Ways.{Way, Sure, sure_same, Good, then_good, ask_good, null_good}
 use Rattle.ls_soundness.proofs.Calls.{field_there}
 use Rattle.ls_soundness.proofs.Locals.{Locals, locals_set}
 use Rattle.ls_soundness.proofs.Expressions.{CallsGood, good_of}
-
--- what follows a statement, by its completion
-abbrev pub Follower : Type 0 → Type 0
-Follower X = Completion Value → List Value → Answers → X
-
-abbrev pub finish_by : {X : Type 0} → (Action Value → Sort → X) → Executed → Follower X → X
-finish_by asks (AsksFor a s) g = asks a s
-finish_by asks (Completes c ls rest) g = g c ls rest
-
-module _ (X : Type 0) (asks : Action Value → Sort → X) where
-  -- an expression, and then a statement
-  value_by : (x : Evaluated Value) (ls : List Value) (k : Value → Answers → Executed) (g : Follower X) → finish_by asks (on_value x ls k) g ≡ ends asks x (λ v r. finish_by asks (k v r) g) (λ n r. g (Threw n) ls r)
-  value_by (Asks a s) ls k g = refl
-  value_by (Results v r) ls k g = refl
-  value_by (Throws n r) ls k g = refl
-
-  abbrev pub on_normal : (List Value → Answers → Executed) → Follower X → Follower X
-  on_normal b g Normal ls r = finish_by asks (b ls r) g
-  on_normal b g (Broke n) ls r = g (Broke n) ls r
-  on_normal b g (Continued n) ls r = g (Continued n) ls r
-  on_normal b g (Returned v) ls r = g (Returned v) ls r
-  on_normal b g (Threw n) ls r = g (Threw n) ls r
-
-  then_by : (x : Executed) (b : List Value → Answers → Executed) (g : Follower X) → finish_by asks (then_do x b) g ≡ finish_by asks x (on_normal b g)
-  then_by (AsksFor a s) b g = refl
-  then_by (Completes Normal ls r) b g = refl
-  then_by (Completes (Broke n) ls r) b g = refl
-  then_by (Completes (Continued n) ls r) b g = refl
-  then_by (Completes (Returned n) ls r) b g = refl
-  then_by (Completes (Threw n) ls r) b g = refl
-
-  finally_by : (x : Executed) (b : List Value → Answers → Executed) (g : Follower X) → finish_by asks (finally_do x b) g ≡ finish_by asks x (λ c ls r. finish_by asks (then_do (b ls r) (λ ls r. Completes c ls r)) g)
-  finally_by (AsksFor a s) b g = refl
-  finally_by (Completes c ls r) b g = refl
-
-  abbrev pub on_body : (List Value → Answers → Executed) → Follower X → Follower X
-  on_body b g Normal ls r = finish_by asks (turn_back b ls r) g
-  on_body b g (Broke zero) ls r = g Normal ls r
-  on_body b g (Broke (suc n)) ls r = g (Broke n) ls r
-  on_body b g (Continued zero) ls r = finish_by asks (turn_back b ls r) g
-  on_body b g (Continued (suc n)) ls r = g (Continued n) ls r
-  on_body b g (Returned v) ls r = g (Returned v) ls r
-  on_body b g (Threw n) ls r = g (Threw n) ls r
-
-  body_by : (x : Executed) (b : List Value → Answers → Executed) (g : Follower X) → finish_by asks (after_body x b) g ≡ finish_by asks x (on_body b g)
-  body_by (AsksFor a s) b g = refl
-  body_by (Completes Normal ls r) b g = refl
-  body_by (Completes (Broke zero) ls r) b g = refl
-  body_by (Completes (Broke (suc n)) ls r) b g = refl
-  body_by (Completes (Continued zero) ls r) b g = refl
-  body_by (Completes (Continued (suc n)) ls r) b g = refl
-  body_by (Completes (Returned n) ls r) b g = refl
-  body_by (Completes (Threw n) ls r) b g = refl
-
--- a value that is returned has the type that the method answers
-abbrev pub ReturnedHas : (ℕ → ValueType → Type 0) → Option ValueType → Option Value → Type 0
-ReturnedHas P r None = Unit {0}
-ReturnedHas P r (Some v) = (t : ValueType) × (r ≡ Some t) × HasType P v t
-
-abbrev pub CompletionHas : (ℕ → ValueType → Type 0) → Option ValueType → Completion Value → Type 0
-CompletionHas P r (Returned v) = ReturnedHas P r v
-CompletionHas P r _ = Unit {0}
 
 module _ (P : ℕ → ValueType → Type 0) (file : File) (w : Way P file) (slots : List ValueType) (r : Option ValueType) where
   -- what follows can be shown, after each completion of the right type, with locals of their types

@@ -22,7 +22,8 @@ use Rattle.ls_headline.specs.Sorts.{Refers, Names, NameHas, call_at, Returns, Ac
 use Rattle.ls_headline.specs.Threads.{IsSound}
 use Rattle.ls_types_judgement.specs.Classes.{HasItsClasses}
 use Rattle.ls_types_judgement.specs.Programs.{IsArgument, AreArguments, IsPlainResult, IsTypedMaking, IsTypedCalling, IsTypedCall, IsTypedProgram}
-use Rattle.ls_soundness.proofs.Ways.{HasAction, Way, ends, Sure, sure_same, Good, results_good, then_good, ask_fits, ask_good, tell_fits, null_good}
+use Rattle.ls_meaning.proofs.Followers.{ends}
+use Rattle.ls_soundness.proofs.Ways.{HasAction, Way, Sure, sure_same, Good, results_good, then_good, ask_fits, ask_good, tell_fits, null_good}
 use Rattle.ls_soundness.proofs.Methods.{calls_good}
 
 -- answers that suit what is the same after no more answers

@@ -15,8 +15,9 @@ use Rattle.ls_checked.specs.CheckedTree.{File, Method}
 use Rattle.ls_meaning.specs.declared.sort.Sort.{Sort}
 use Rattle.ls_meaning.specs.declared.sort.Sort.TheVariants.{NoValue, ValueOf, NewOf, PairOf}
 use Rattle.ls_meaning.specs.Values.{nothing}
-use Rattle.ls_meaning.specs.Course.{Answers, Evaluated, Asks, Results, Throws, ask, tell, with_value, unless_null}
+use Rattle.ls_meaning.specs.Course.{Answers, Evaluated, Results, Throws, ask, tell, with_value, unless_null}
 use Rattle.ls_meaning.specs.Threads.{Goes}
+use Rattle.ls_meaning.proofs.Followers.{ends, ends_with}
 use Rattle.ls_types_judgement.specs.Sorts.{HasType, HasSort}
 use Rattle.ls_headline.specs.Sorts.{HasSortBy, Suits, fields_of}
 use Rattle.ls_soundness.proofs.Values.{Makes, sort_of_answer}
@@ -59,18 +60,6 @@ pub record Way (P : ℕ → ValueType → Type 0) (file : File) : Type 1 where
   pub same : (f g : Answers → Left) (had : Answers) → ((q : Answers) → length q ≤ length had → f q ≡ g q) → Shown g had → Shown f had
   pub at_end : (f : Answers → Left) (a : Action Value) (s : Sort) → f [] ≡ asks a s → Fits a s → Shown f []
   pub at_more : (f : Answers → Left) (a : Action Value) (s : Sort) (y : Answer Value) (rest : Answers) → f [] ≡ asks a s → Makes s → (Suits P (Goes a s) y → Shown (λ q. f (y ∷ q)) rest) → Shown f (y ∷ rest)
-
--- what follows an expression, by its result or its throw
-abbrev pub ends : {A X : Type 0} → (Action Value → Sort → X) → Evaluated A → (A → Answers → X) → (Kind → Answers → X) → X
-ends asks (Asks action sort) go h = asks action sort
-ends asks (Results v rest) go h = go v rest
-ends asks (Throws kind rest) go h = h kind rest
-
-ends_with : {A B X : Type 0} (asks : Action Value → Sort → X) (x : Evaluated A) (g : A → Answers → Evaluated B) (go : B → Answers → X) (h : Kind → Answers → X) →
-    ends asks (with_value x g) go h ≡ ends asks x (λ v r. ends asks (g v r) go h) h
-ends_with asks (Asks a s) g go h = refl
-ends_with asks (Results v rest) g go h = refl
-ends_with asks (Throws k rest) g go h = refl
 
 differ : (n : ℕ) → nat_eq n 0 ≡ false → n ≢ 0
 differ n e z = grind (arith, common_steps, e, z)

@@ -23,7 +23,8 @@ use Rattle.ls_types_judgement.specs.Sorts.{HasType}
 use Rattle.ls_types_judgement.specs.Typing.{IsTypedFile}
 use Rattle.ls_headline.specs.Sorts.{Suits, Suited, call_at}
 use Rattle.ls_types_judgement.specs.Programs.{IsTypedMaking, IsTypedCalling, IsTypedCall}
-use Rattle.ls_soundness.proofs.Ways.{HasAction, Way, ends, Sure, Good, results_good, then_good, ask_fits, ask_good, tell_fits, null_good}
+use Rattle.ls_meaning.proofs.Followers.{ends}
+use Rattle.ls_soundness.proofs.Ways.{HasAction, Way, Sure, Good, results_good, then_good, ask_fits, ask_good, tell_fits, null_good}
 use Rattle.ls_soundness.proofs.Methods.{calls_good}
 use Rattle.ls_soundness.proofs.Threads.{suited_same, arguments_have}
 use Rattle.ls_text_laws.proofs.Follows as follows
