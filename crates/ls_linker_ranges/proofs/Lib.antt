@@ -5,6 +5,7 @@ mod Placed
 mod Locals
 mod Words
 mod Flattens
+mod Ahead
 mod Exits
 mod Flat
 mod Emitted

@@ -1,5 +1,5 @@
 -- The lowered methods have as many locals as the checked ones.
-use Rattle.std.proofs.Common.{◌≡◌, ℕ, ◌+◌, ◌≤◌, ◌<◌, List, length, refl, ap₂, arith}
+use Rattle.std.proofs.Common.{◌≡◌, ℕ, ◌+◌, ◌≤◌, ◌<◌, List, length, refl, ap₂, ◌∙◌, arith}
 use Rattle.std.specs.Prelude.{slice_index_or}
 use Rattle.std.proofs.lemmas.List.Elements.{All-map}
 use Rattle.ls_checked.specs.CheckedTree.{Class, Method, File, Statement, Block, SetSlot, SetField, SetItem, Evaluate, If, While, Break, Continue, ReturnNothing, ReturnValue, Try, Statements, Done, Then}
@@ -8,6 +8,7 @@ use Rattle.ls_refs.specs.Temporaries as refs
 use Rattle.ls_refs.specs.Refused.{AllFit, AllSlotted}
 use Rattle.ls_finally.specs.Flat.{tries, all_tries}
 use Rattle.ls_finally.specs.Counts.{FewLocals, locals_of}
+use Rattle.ls_linker_ranges.proofs.Ahead.{ahead_tries}
 
 -- a lowered statement has as many `try`s as its statement
 mutual
@@ -32,7 +33,9 @@ mutual
 
   all_tries_same : (classes : List Class) (free : ℕ) (ss : Statements) → all_tries (lowered_block classes free ss) ≡ refs.block_tries ss
   all_tries_same classes free Done = refl
-  all_tries_same classes free (Then s ss) = ap₂ (λ x y. x + y) (tries_same classes _ s) (all_tries_same classes _ ss)
+  all_tries_same classes free (Then s ss) =
+      ahead_tries (lowered_statement classes free s) (lowered_block classes (free + refs.statement_temporaries s) ss)
+      ∙ ap₂ (λ x y. x + y) (tries_same classes _ s) (all_tries_same classes _ ss)
 
 pub few_here : (classes : List Class) (m : Method) → m.parameters < length m.slots → refs.locals_of m ≤ 128 → locals_of (lowered_method classes m) ≤ 128
 few_here classes m slots few =

@@ -9,6 +9,7 @@ use Rattle.ls_refs.specs.Temporaries.{temporaries, statement_temporaries, block_
 use Rattle.ls_refs.specs.Lowered.{lowered, lowered_statement, lowered_block, lowered_method, lowered_file}
 use Rattle.ls_finally.specs.Placed.{IsPlaced, IsPlacedStatement, ArePlaced, AllPlaced}
 use Rattle.ls_linker_ranges.proofs.Lists.{in_range}
+use Rattle.ls_linker_ranges.proofs.Ahead.{ahead_placed}
 use Rattle.ls_linker_ranges.proofs.Below.{below}
 use Rattle.ls_linker_ranges.proofs.Calls.{calls}
 
@@ -49,7 +50,8 @@ module _ (file : File) (typed : IsTypedFile file) (slots : List ValueType) (r : 
         ArePlaced (lowered_file file) k (lowered_block file.classes free ss)
     placed_block free Done fits room h = tt
     placed_block free (Then s ss) fits room h =
-        (placed_statement free s fits (omega (arith, room)) h.0, placed_block (free + statement_temporaries s) ss (omega (arith, fits)) (omega (arith, room)) h.1)
+        ahead_placed (lowered_file file) k (lowered_statement file.classes free s) (lowered_block file.classes (free + statement_temporaries s) ss)
+        (placed_statement free s fits (omega (arith, room)) h.0) (placed_block (free + statement_temporaries s) ss (omega (arith, fits)) (omega (arith, room)) h.1)
 
 placed_method : (file : File) (typed : IsTypedFile file) (m : Method) → IsTypedMethod file m →
     IsPlacedStatement (lowered_file file) (m.parameters + 1 + (length m.slots + statement_temporaries m.body - (m.parameters + 1))) (lowered_statement file.classes (length m.slots) m.body)

@@ -16,6 +16,7 @@ use Rattle.ls_types_judgement.specs.Classes.{HasItsClasses}
 use Rattle.ls_types_judgement.specs.Jumps.{HasItsLoops}
 use Rattle.ls_types_judgement.specs.Limits.{IsRanged}
 use Rattle.ls_linker_ranges.proofs.Flattens.{Flattens, AllFlatten}
+use Rattle.ls_linker_ranges.proofs.Ahead.{ahead_flatten}
 use Rattle.ls_linker_ranges.proofs.Lists.{in_range, all_at}
 use Rattle.ls_linker_ranges.proofs.Below.{below}
 use Rattle.ls_linker_ranges.proofs.Calls.{calls}
@@ -66,7 +67,8 @@ module _ (file : File) (typed : IsTypedFile file) (its : HasItsClasses file) (ra
         AllFlatten (flat_file (lowered_file file)) k around (lowered_block file.classes free ss)
     all_flatten free loops around Done two fits room h j = tt
     all_flatten free loops around (Then s ss) two fits room h j =
-        (flattens free loops around s two fits (omega (arith, room)) h.0 j.0, all_flatten (free + statement_temporaries s) loops around ss two (omega (arith, fits)) (omega (arith, room)) h.1 j.1)
+        ahead_flatten (flat_file (lowered_file file)) k around (lowered_statement file.classes free s) (lowered_block file.classes (free + statement_temporaries s) ss)
+        (flattens free loops around s two fits (omega (arith, room)) h.0 j.0) (all_flatten (free + statement_temporaries s) loops around ss two (omega (arith, fits)) (omega (arith, room)) h.1 j.1)
 
 module _ (file : File) (typed : IsTypedFile file) (its : HasItsClasses file) (ranged : IsRanged file) where
   method_emittable : (m : Method) → IsTypedMethod file m → JumpsInLoops 0 m.body → refs.locals_of m ≤ 128 →

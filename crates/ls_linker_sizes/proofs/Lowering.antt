@@ -1,12 +1,22 @@
 -- Nodes of lowered trees.
-use Rattle.std.proofs.Common.{ℕ, ◌+◌, ◌*◌, ◌≤◌, List, arith}
+use Rattle.std.proofs.Common.{◌≡◌, ℕ, ◌+◌, ◌*◌, ◌≤◌, List, arith}
 use Rattle.ls_checked.specs.declared.tree.Called.{Called}
 use Rattle.ls_checked.specs.declared.tree.Called.TheVariants.{Method as OfMethod, LockIt, UnlockIt, TryIt, AskIt, GetReference, IsMarked, GetBoth, SetBoth, CompareAndSet, Attempt}
 use Rattle.ls_checked.specs.CheckedTree as checked
-use Rattle.ls_lowered.specs.LoweredTree.{Expression, Expressions, End, More}
+use Rattle.ls_lowered.specs.LoweredTree.{Expression, Expressions, End, More, Statement, Statements, Done, Then}
 use Rattle.ls_refs.specs.Temporaries.{own_temporaries, temporaries, statement_temporaries}
-use Rattle.ls_refs.specs.Lowered.{first_of, rest_of, lowered_call, lowered, all_lowered, lowered_statement, lowered_block}
+use Rattle.ls_refs.specs.Lowered.{first_of, rest_of, lowered_call, lowered, all_lowered, lowered_statement, lowered_block, joined, ahead}
+use Rattle.ls_refs.proofs.Ahead.{by_inner}
 use Rattle.ls_linker_laws.specs.Counts.{nodes, all_nodes, statement_nodes, statements_nodes, checked_nodes, all_checked_nodes, written_nodes, block_nodes}
+
+-- in place of a block stand its statements
+joined_nodes : (ss rest : Statements) → statements_nodes (joined ss rest) ≡ statements_nodes ss + statements_nodes rest
+joined_nodes Done rest = omega arith
+joined_nodes (Then s ss) rest = omega (arith, joined_nodes ss rest)
+
+ahead_few : (s : Statement) (rest : Statements) → statements_nodes (ahead s rest) ≤ statement_nodes s + statements_nodes rest
+ahead_few s rest =
+    by_inner (λ s all. statements_nodes all ≤ statement_nodes s + statements_nodes rest) s rest (omega arith) (λ ss. omega (arith, joined_nodes ss rest))
 
 -- an argument that isn't there is a word
 split : (es : Expressions) → nodes (first_of es) + all_nodes (rest_of es) ≤ 1 + all_nodes es
@@ -66,4 +76,10 @@ module _ (classes : List checked.Class) where
 
     block_few : (ss : checked.Statements) (free : ℕ) → statements_nodes (lowered_block classes free ss) ≤ 16 * block_nodes ss
     block_few checked.Done free = omega arith
-    block_few (checked.Then s ss) free = omega (arith, statement_few s free, block_few ss (free + statement_temporaries s))
+    block_few (checked.Then s ss) free =
+        omega (
+          arith,
+          statement_few s free,
+          block_few ss (free + statement_temporaries s),
+          ahead_few (lowered_statement classes free s) (lowered_block classes (free + statement_temporaries s) ss),
+        )

@@ -1,3 +1,4 @@
+pub mod Ahead
 pub mod Rows
 pub mod Files
 pub mod Numbers

@@ -10,29 +10,23 @@ use Rattle.ls_checked.specs.declared.tree.Statement.TheVariants.{Block'}
 use Rattle.ls_checked.specs.Plain.{row_statements, statements_of, plain_statement as checked_statement}
 use Rattle.ls_checked.proofs.Rows.{row_is_list}
 use Rattle.ls_lowered.specs.declared.tree.Statement.{Statement as Tree}
-use Rattle.ls_lowered.specs.LoweredTree.{Statements, Block, Then}
+use Rattle.ls_lowered.specs.LoweredTree.{Statements, Block}
 use Rattle.ls_lowered.specs.Plain.{plain_statement, in_front}
 use Rattle.ls_refs.specs.Temporaries.{statement_temporaries, block_temporaries}
-use Rattle.ls_refs.specs.Lowered.{lowered_statement, lowered_block}
+use Rattle.ls_refs.specs.Lowered.{lowered_statement, lowered_block, ahead}
 
 -- those of a block that is read
 pub block_read : (v : Vec Statement) → row_statements (hidden-the_row-Statement-0 v) ≡ statements_of v.items
 block_read v = row_is_list _ (hidden-the_row-Statement-0 v) ∙ ap statements_of (items_hidden-the_row-Statement-0 v)
 
--- one statement more
-pub in_front_push : (xs : List Tree) (x : Tree) (rest : Statements) → in_front (xs ++ x ∷ []) rest ≡ in_front xs (Then (plain_statement x) rest)
-in_front_push [] x rest = refl
-in_front_push (y ∷ xs) x rest = ap (Then (plain_statement y)) (in_front_push xs x rest)
-
 -- the statements of a block are lowered so far, and one more
 pub one_lowered : (classes : List checked.Class) (lowered new : List Tree) (x : Tree) (next after : ℕ) (s : Statement) (items rest : List Statement) →
-    new ≡ lowered ++ x ∷ [] → items ≡ s ∷ rest → plain_statement x ≡ lowered_statement classes next (checked_statement s) → after ≡ next + statement_temporaries (checked_statement s) →
+    ((others : Statements) → in_front new others ≡ in_front lowered (ahead (plain_statement x) others)) → items ≡ s ∷ rest → plain_statement x ≡ lowered_statement classes next (checked_statement s) → after ≡ next + statement_temporaries (checked_statement s) →
     in_front new (lowered_block classes after (statements_of rest)) ≡ in_front lowered (lowered_block classes next (statements_of items))
 one_lowered classes lowered new x next after s items rest pushed split is ends =
-    ap (λ l. in_front l (lowered_block classes after (statements_of rest))) pushed
-    ∙ in_front_push lowered x (lowered_block classes after (statements_of rest))
-    ∙ ap (λ t. in_front lowered (Then t (lowered_block classes after (statements_of rest)))) is
-    ∙ ap (λ n. in_front lowered (Then (lowered_statement classes next (checked_statement s)) (lowered_block classes n (statements_of rest)))) ends
+    pushed (lowered_block classes after (statements_of rest))
+    ∙ ap (λ t. in_front lowered (ahead t (lowered_block classes after (statements_of rest)))) is
+    ∙ ap (λ n. in_front lowered (ahead (lowered_statement classes next (checked_statement s)) (lowered_block classes n (statements_of rest)))) ends
     ∙ ap (λ l. in_front lowered (lowered_block classes next (statements_of l))) (sym split)
 
 pub one_counted : (next after : ℕ) (s : Statement) (items rest : List Statement) (whole : ℕ) →

@@ -37,6 +37,7 @@ use Rattle.ls_refs.proofs.Values.{reference_word, truth_word, int_word, int_fits
 use Rattle.ls_refs.proofs.Sim.{suited_eq, ends, word_ends, Sim, sim_eq, Agrees, then_agrees, perform_agrees, null_agrees}
 use Rattle.ls_refs.proofs.Good.{Holds, holds_kept, get_within, CallsAgree}
 use Rattle.ls_refs.proofs.Exprs.{agrees}
+use Rattle.ls_refs.proofs.Ahead.{ahead_runs}
 use Rattle.ls_meaning.proofs.Shorter.{CallsWithin, evaluate_within, execute_within, turns_eq}
 
 abbrev pub Go : Type 0
@@ -301,4 +302,4 @@ module _ (P : ℕ → ValueType → Type 0) (null : (n : ℕ) (t : ValueType) �
     pub all_agree_by : (ss : Statements) (base : ℕ) (ls : List Value) (l : List ℕ) → AreTypedStatements file slots r ss → Holds P slots ls l → length l ≡ room → length slots ≤ base → base + block_temporaries ss ≤ room →
         AgreesBy P slots r room (λ q. execute_all file.classes calls ss ls q) (λ q. does.execute_all calls' (lowered_block file.classes base ss) l q)
     all_agree_by checked.Done base ls l t h e le big = ends_agrees P slots r room Normal ls l tt h e
-    all_agree_by (Then s ss) base ls l t h e le big = both_agree P slots r room _ _ _ _ (agrees_by s base ls l t.0 h e le (omega arith)) (λ ls2 l2 h2 e2. all_agree_by ss (base + statement_temporaries s) ls2 l2 t.1 h2 e2 (omega arith) (omega arith))
+    all_agree_by (Then s ss) base ls l t h e le big = words_same P slots r room _ _ _ (ahead_runs calls' (lowered_statement file.classes base s) (lowered_block file.classes (base + statement_temporaries s) ss) l) (both_agree P slots r room _ _ _ _ (agrees_by s base ls l t.0 h e le (omega arith)) (λ ls2 l2 h2 e2. all_agree_by ss (base + statement_temporaries s) ls2 l2 t.1 h2 e2 (omega arith) (omega arith)))

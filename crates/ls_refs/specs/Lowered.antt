@@ -1,5 +1,5 @@
 -- The lowered tree of a checked tree. Temporaries are numbered in text order, from the first local that is free.
-use Rattle.std.specs.Prelude.{ℕ, ◌+◌, ◌-◌, ◌*◌, List, length, map}
+use Rattle.std.specs.Prelude.{ℕ, ◌+◌, ◌-◌, ◌*◌, List, length, map, Option, Some, None}
 use Rattle.ls_checked.specs.declared.tree.Operator.{Operator}
 use Rattle.ls_checked.specs.declared.tree.Operator.TheVariants as written
 use Rattle.ls_checked.specs.declared.tree.Called.{Called}
@@ -103,6 +103,23 @@ abbrev mutual
 abbrev pub leavable : Statement → Statement
 leavable s = Leavable s Done
 
+-- the statements of a block
+abbrev pub inner_of : Statement → Option Statements
+inner_of (Block ss) = Some ss
+inner_of _ = None
+
+abbrev pub joined : Statements → Statements → Statements
+joined Done rest = rest
+joined (Then s ss) rest = Then s (joined ss rest)
+
+abbrev pub put_ahead : Option Statements → Statement → Statements → Statements
+put_ahead None s rest = Then s rest
+put_ahead (Some ss) s rest = joined ss rest
+
+-- a statement in front of others; in place of a block stand its statements, so one that does nothing goes
+abbrev pub ahead : Statement → Statements → Statements
+ahead s rest = put_ahead (inner_of s) s rest
+
 -- A loop is leavable, and so is its body: to continue the n-th loop round a statement is to leave its body, and to break it is to
 -- leave the loop itself. So two numbers are each loop's
 abbrev mutual
@@ -126,7 +143,7 @@ abbrev mutual
 
   pub lowered_block : List checked.Class → ℕ → checked.Statements → Statements
   lowered_block classes free checked.Done = Done
-  lowered_block classes free (checked.Then s ss) = Then (lowered_statement classes free s) (lowered_block classes (free + statement_temporaries s) ss)
+  lowered_block classes free (checked.Then s ss) = ahead (lowered_statement classes free s) (lowered_block classes (free + statement_temporaries s) ss)
 
 -- the temporaries follow the method's slots
 abbrev pub lowered_method : List checked.Class → checked.Method → Method

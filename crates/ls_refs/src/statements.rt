@@ -2,10 +2,10 @@
 
 ghost use Rattle.std.specs.Prelude.{◌≡◌, ℕ, ◌+◌, ◌*◌, ◌≤◌, IfOk, map};
 ghost use Rattle.ls_checked.specs.Plain.{plain as checked, plain_statement as checked_statement, statements_of as checked_statements, plain_class};
-ghost use Rattle.ls_lowered.specs.LoweredTree.{Block, While, Leave};
-ghost use Rattle.ls_lowered.specs.Plain.{plain, plain_statement, statements_of};
+ghost use Rattle.ls_lowered.specs.LoweredTree.{Block, While, Leave, Statements};
+ghost use Rattle.ls_lowered.specs.Plain.{plain, plain_statement, statements_of, in_front};
 ghost use Rattle.ls_refs.specs.Temporaries.{statement_temporaries, block_temporaries};
-ghost use Rattle.ls_refs.specs.Lowered.{leavable as ended_by_leave, lowered_statement, lowered_block};
+ghost use Rattle.ls_refs.specs.Lowered.{leavable as ended_by_leave, lowered_statement, lowered_block, ahead};
 
 use crate::expressions::{Placed, lower_expression};
 use ls_checked::tree::{Class, Statement};
@@ -18,6 +18,17 @@ fn block_of(statements: Vec<Tree>) -> Tree
     ensures { plain_statement result ≡ Block (statements_of statements.items) }
 {
     Tree::Block(statements)
+}
+
+// One more statement of a block; in place of a block stand its statements.
+fn put(out: &mut Vec<Tree>, s: Tree) -> Result<(), AllocError>
+    ensures { IfOk result (λ _. (rest : Statements) → in_front out.new.items rest ≡ in_front out.old.items (ahead (plain_statement s) rest)) }
+{
+    match s {
+        Tree::Block(mut inner) => out.append(&mut inner)?,
+        other => out.push(other)?,
+    }
+    Ok(())
 }
 
 // A statement that a leave ends.
@@ -74,7 +85,7 @@ pub fn lower_statement(
             let mut next = free;
             for s in statements {
                 let s = lower_statement(alloc, classes, next, s)?;
-                lowered.push(s.tree)?;
+                put(&mut lowered, s.tree)?;
                 next = s.free;
             }
             Ok(Placed {

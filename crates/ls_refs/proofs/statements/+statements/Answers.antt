@@ -22,6 +22,6 @@ lower_statement-loop-s-preserved t c =
     let after = c.in_ok-s-in-Block.s.free in
     let split : drop c.loop-s.s-index items ≡ c.s-item.result ∷ drop (c.loop-s.s-index + 1) items = left_at items c.loop-s.s-index c.s-item.result (search rules) c.s-item.is in (
       one_counted c.loop-s.next after c.s-item.result _ _ _ split c.in_ok-s-in-Block.ensures.free c.loop-s.invariant.0,
-      ap Block (one_lowered classes c.loop-s.lowered.items c.push.new.self.items c.in_ok-s-in-Block.s.tree c.loop-s.next after c.s-item.result _ _ c.in_ok-push-in-Block.ensures.items split c.in_ok-s-in-Block.ensures.tree c.in_ok-s-in-Block.ensures.free)
+      ap Block (one_lowered classes c.loop-s.lowered.items c.put.new.out.items c.in_ok-s-in-Block.s.tree c.loop-s.next after c.s-item.result _ _ c.in_ok-put-in-Block.ensures split c.in_ok-s-in-Block.ensures.tree c.in_ok-s-in-Block.ensures.free)
           ∙ c.loop-s.invariant.1,
     )
