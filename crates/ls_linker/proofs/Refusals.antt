@@ -9,6 +9,9 @@ use Rattle.ls_refs.specs.Lowered.{lowered_file}
 use Rattle.ls_refs.specs.Refused.{AllFit}
 use Rattle.ls_finally.specs.Flat.{flat_file}
 use Rattle.ls_finally.specs.Counts.{FewLocals, FewCopies, Refused}
+use Rattle.ls_finally_counts.specs.declared.fault.CountFault.{CountFault}
+use Rattle.ls_finally_counts.specs.declared.fault.CountFault.TheVariants as counts
+use Rattle.ls_finally_counts.specs.Refused as counted
 use Rattle.ls_emit.specs.Short.{AllShort}
 use Rattle.ls_emit.specs.declared.fault.EmitFault.{EmitFault}
 use Rattle.ls_emit.specs.declared.fault.EmitFault.TheVariants as emit
@@ -20,6 +23,7 @@ use Rattle.ls_linker.specs.declared.fault.LinkFault.TheVariants as link
 use Rattle.ls_linker.specs.declared.fault.BuildFault.TheVariants.{Lower, Emit, Link}
 use Rattle.ls_linker_laws.specs.Compiled.{flat_of, code_of, count}
 use Rattle.ls_linker.specs.Limits.{GoesPast}
+use Rattle.ls_linker.specs.Counted.{of_counts}
 
 -- code that is too long has a count over 4,096
 long_unit : (file : File) (program : Program) → KeepsFloor → ¬ AllShort (flat_of file) → 4096 < count file program
@@ -37,6 +41,13 @@ module _ (file : File) (program : Program) (refs : low.File) (r : refs ≡ lower
   finally_past Memory fits few refused = tt
   finally_past TooManyLocals fits few refused = absurd (refused (subst FewLocals (sym r) few))
   finally_past TooManyCopies fits few refused = (fits, λ copies. refused (subst FewCopies (sym r) copies))
+
+  pub counts_past : (f : CountFault) → KeepsFloor → AllFit file.methods → counted.Refused refs f → GoesPast file program (of_counts f)
+  counts_past counts.Memory floor fits refused = tt
+  counts_past counts.TooManyCopies floor fits refused = (fits, λ copies. refused (subst FewCopies (sym r) copies))
+  counts_past counts.TooLong floor fits refused =
+      let too_long : ¬ AllShort (flat_of file) = λ short. refused.1 (subst AllShort (sym (ap flat_file r)) short) in
+      (fits, subst FewCopies r refused.0, too_long, long_unit file program floor too_long)
 
   pub units_past : (flat : low.File) (f : EmitFault) → KeepsFloor → AllFit file.methods → FewCopies refs → flat ≡ flat_file refs → (f ≡ emit.CodeTooLong → ¬ AllShort flat) → GoesPast file program (Emit f)
   units_past flat emit.Memory floor fits few e long = tt

@@ -16,6 +16,7 @@ use ls_checked::tree::File;
 use ls_code::code::Code;
 use ls_emit::emit::emit;
 use ls_finally::files::lower_finally;
+use ls_finally_counts::files::measure;
 use ls_linker_ranges::{fits_lowered, ranged_is_emittable, ranged_links, typed_is_placed};
 use ls_linker_sizes::laws::sizes;
 use ls_refs::laws::has_slots;
@@ -23,7 +24,8 @@ use ls_refs::lower::lower_refs;
 use std::alloc::Global;
 
 /// The whole code of a checked file and a thread program for it, which runs as the two: it has the same histories, both ways,
-/// and no thread is silent for too long. Refused with 30 to 33, by the first limit that isn't kept.
+/// and no thread is silent for too long. Refused with 30 to 33, by the first limit that isn't kept. Where copies of finally blocks are too
+/// many, or make a method too long, none of them is made.
 pub fn build(alloc: Global, file: &File, program: &Program) -> Result<Code, BuildFault>
     requires file { IsWellTyped (plain_file file.now) }
     requires program { IsWellTypedProgram (plain_file file.now) (plain_program program.now) }
@@ -40,6 +42,7 @@ pub fn build(alloc: Global, file: &File, program: &Program) -> Result<Code, Buil
     ranged_is_emittable();
     ranged_links();
     let refs = lower_refs(alloc, file)?;
+    measure(alloc, &refs)?;
     let flat = lower_finally(alloc, refs)?;
     let units = emit(alloc, &flat)?;
     let code = link(alloc, &units, file, program)?;

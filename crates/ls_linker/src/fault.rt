@@ -3,8 +3,10 @@
 ghost use Rattle.std.specs.Prelude.{◌≡◌};
 ghost use Rattle.ls_linker.specs.declared.fault.LinkFault.TheVariants.{Memory};
 ghost use Rattle.ls_linker.specs.declared.fault.BuildFault.TheVariants.{Lower, Emit, Link};
+ghost use Rattle.ls_linker.specs.Counted.{of_counts};
 
 use ls_emit::fault::EmitFault;
+use ls_finally_counts::fault::CountFault;
 use ls_lowered::fault::LowerFault;
 use std::alloc::AllocError;
 use thiserror::Error;
@@ -43,6 +45,18 @@ impl From<LowerFault> for BuildFault {
 
     fn from(fault: LowerFault) -> BuildFault {
         BuildFault::Lower(fault)
+    }
+}
+
+impl From<CountFault> for BuildFault {
+    ghost from_gives = { λ f e. e ≡ of_counts f };
+
+    fn from(fault: CountFault) -> BuildFault {
+        match fault {
+            CountFault::Memory => BuildFault::Lower(LowerFault::Memory),
+            CountFault::TooManyCopies => BuildFault::Lower(LowerFault::TooManyCopies),
+            CountFault::TooLong => BuildFault::Emit(EmitFault::CodeTooLong),
+        }
     }
 }
 

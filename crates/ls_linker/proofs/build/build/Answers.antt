@@ -5,7 +5,7 @@ use Rattle.ls_lowered.specs.Plain as lowered
 use Rattle.ls_code.specs.Code.{Code}
 use Rattle.ls_linker_laws.specs.Runs.{Runs}
 use Rattle.std.proofs.lemmas.Result.{err_from_is_err_and}
-use Rattle.ls_linker.proofs.Refusals.{finally_past, units_past, link_past}
+use Rattle.ls_linker.proofs.Refusals.{finally_past, counts_past, units_past, link_past}
 use Rattle.ls_linker.proofs.Built.{placed_here, emittable_here, code_here, short_here, links_here}
 use Rattle.ls_linker.proofs.build.build.Goals as goal
 
@@ -22,6 +22,13 @@ returns-clause-runs c =
     (c.compiled_runs.ensures file program c.requires.file c.requires.program
     (c.typed_is_placed.ensures file c.requires.file.typed) (c.ranged_is_emittable.ensures file c.requires.file c.in_ok-refs.ensures.fits)
     (subst (λ (x : Code). length x.instructions ≤ 65536) code c.in_ok-code.ensures.short))
+
+pub returns-in_err-measure-clause-refused : goal.returns-in_err-measure-clause-refused
+returns-in_err-measure-clause-refused c =
+    let p = err_from_is_err_and c.from_residual-in_err-measure.result c.from_residual-in_err-measure.ensures.1 in
+    rw (p.1, p.2)
+    (counts_past (plain_file c.args.file.now) (plain_program c.args.program.now) (lowered.plain_file c.in_ok-refs.refs)
+    c.in_ok-refs.ensures.tree c.in_err-measure.field-0.0 c.sizes.ensures.floor c.in_ok-refs.ensures.fits c.in_err-measure.ensures.refused)
 
 pub returns-in_err-flat-clause-refused : goal.returns-in_err-flat-clause-refused
 returns-in_err-flat-clause-refused c =

@@ -1,0 +1,68 @@
+use Rattle.std.proofs.Common.{◌≡◌, ◌+◌, ◌∷◌, ◌++◌, suc, append_assoc, drop, ap, subst, ◌∙◌, rules, arith, List, OnOk, length}
+use Rattle.ls_lowered.specs.declared.tree.Statement.{Statement}
+use Rattle.ls_lowered.specs.LoweredTree.{Leavable}
+use Rattle.ls_lowered.specs.Plain.{plain_statement, statements_of}
+use Rattle.ls_finally.specs.Exits.{count}
+use Rattle.ls_finally.proofs.Counted.{counted}
+use Rattle.ls_finally_copies.proofs.Fronts.{left_at, leavable_read}
+use Rattle.ls_finally_copies.proofs.Weights.{size, size_at}
+use Rattle.ls_finally_counts.specs.declared.ways.Way.{Way}
+use Rattle.ls_finally_counts.specs.Counts.{beyond, ways_of, all_ways}
+use Rattle.ls_finally_counts.proofs.counting.Counting.+count.Goals as goal
+
+pub count-count_leavable-requires : goal.count-count_leavable-requires
+count-count_leavable-requires t c =
+    let body = c.deref-in-Leavable.result.now in
+    let own = c.deref-in-Leavable-2.result.now in
+    let e : plain_statement c.args.s.now ≡ Leavable (plain_statement body) (statements_of own) = leavable_read c.args.s.now c.in-Leavable.body c.in-Leavable.own body own c.deref-in-Leavable.ensures c.deref-in-Leavable-2.ensures.value c.in-Leavable.is in
+    (omega (arith, ap size e), c.requires.few)
+
+pub count-returns-in-Leavable-clause-ways : goal.count-returns-in-Leavable-clause-ways
+count-returns-in-Leavable-clause-ways t c =
+    let body = c.deref-in-Leavable.result.now in
+    let own = c.deref-in-Leavable-2.result.now in
+    let e : plain_statement c.args.s.now ≡ Leavable (plain_statement body) (statements_of own) = leavable_read c.args.s.now c.in-Leavable.body c.in-Leavable.own body own c.deref-in-Leavable.ensures c.deref-in-Leavable-2.ensures.value c.in-Leavable.is in
+    rw e c.count_leavable.ensures.ways
+
+pub count-returns-in-Leavable-clause-copies : goal.count-returns-in-Leavable-clause-copies
+count-returns-in-Leavable-clause-copies t c =
+    let body = c.deref-in-Leavable.result.now in
+    let own = c.deref-in-Leavable-2.result.now in
+    let e : plain_statement c.args.s.now ≡ Leavable (plain_statement body) (statements_of own) = leavable_read c.args.s.now c.in-Leavable.body c.in-Leavable.own body own c.deref-in-Leavable.ensures c.deref-in-Leavable-2.ensures.value c.in-Leavable.is in
+    rw e c.count_leavable.ensures.copies
+
+pub count-returns-in-Leavable-clause-least : goal.count-returns-in-Leavable-clause-least
+count-returns-in-Leavable-clause-least t c =
+    let body = c.deref-in-Leavable.result.now in
+    let own = c.deref-in-Leavable-2.result.now in
+    let e : plain_statement c.args.s.now ≡ Leavable (plain_statement body) (statements_of own) = leavable_read c.args.s.now c.in-Leavable.body c.in-Leavable.own body own c.deref-in-Leavable.ensures c.deref-in-Leavable-2.ensures.value c.in-Leavable.is in
+    rw e c.count_leavable.ensures.least
+
+pub count-returns-in-Leavable-clause-few : goal.count-returns-in-Leavable-clause-few
+count-returns-in-Leavable-clause-few t c =
+    let body = c.deref-in-Leavable.result.now in
+    let own = c.deref-in-Leavable-2.result.now in
+    let e : plain_statement c.args.s.now ≡ Leavable (plain_statement body) (statements_of own) = leavable_read c.args.s.now c.in-Leavable.body c.in-Leavable.own body own c.deref-in-Leavable.ensures c.deref-in-Leavable-2.ensures.value c.in-Leavable.is in
+    rw e c.count_leavable.ensures.few
+
+pub count_all-count-requires : goal.count_all-count-requires
+count_all-count-requires t c =
+    let xs : List Statement = c.args.statements.now in
+    let i = c.loop-s.s-index in
+    let s = c.s-item.result in
+    let split : drop i xs ≡ s ∷ drop (i + 1) xs = left_at xs i s (search rules) c.s-item.is in
+    let less = size_at xs i s split in
+    (omega (arith, less), c.loop-s.invariant.3)
+
+pub count_leavable-returns-clause-ways : goal.count_leavable-returns-clause-ways
+count_leavable-returns-clause-ways t c =
+    let own : List Statement = c.args.own.now in
+    let before : List Way = c.args.out.now.items in
+    let inner : List Way = ways_of (plain_statement c.args.body.now) in
+    let others : List Way = all_ways (statements_of own) in
+    let numbers : length own + 1 ≡ suc (count (statements_of own)) = omega (arith, counted own) in
+    let found : c.deref.result.now ≡ inner = c.deref.ensures.value ∙ c.in_ok-count.ensures.ways ∙ ap (λ (ws : List Way). ws ++ inner) c.new-ways.ensures.items in
+    let whole : c.put_beyond.new.out.items ++ others ≡ before ++ (beyond (suc (count (statements_of own))) inner ++ others) =
+    ap (λ (ws : List Way). ws ++ others) (c.in_ok-put_beyond.ensures ∙ ap (λ n. before ++ beyond n c.deref.result.now) numbers ∙ ap (λ (ws : List Way). before ++ beyond (suc (count (statements_of own))) ws) found)
+    ∙ append_assoc before (beyond (suc (count (statements_of own))) inner) others in
+    subst (λ (ws : List Way). OnOk c.count_all.result (c.count_all.new.out.items ≡ ws)) whole c.count_all.ensures.ways

@@ -1,0 +1,6 @@
+use Rattle.std.proofs.Common.{◌≡◌, ◌+◌, drop}
+use Rattle.ls_finally_counts.specs.Counts.{total}
+use Rattle.ls_finally_counts.proofs.ways.total_of.Given as goal
+
+abbrev pub invariant-loop-way : goal.invariant-loop-way
+invariant-loop-way l = l.all + total (drop l.way-index l.ways) ≡ total l.ways

@@ -1,0 +1,108 @@
+// The exits that a statement has without `try`, each with how often it is there.
+
+ghost use Rattle.std.specs.Prelude.{◌≡◌, ℕ, ◌+◌, ◌*◌, ◌++◌, ◌∷◌, [], Some, None, IfOk};
+ghost use Rattle.ls_finally.specs.Exits.{outward};
+ghost use Rattle.ls_finally_counts.specs.Counts.{total, scaled, beyond, one_beyond};
+
+use std::alloc::AllocError;
+
+/// A leave, so many numbers beyond the statement, or a return, where there is none; and how often it is there.
+#[derive(Copy)]
+pub struct Way {
+    pub number: Option<usize>,
+    pub times: usize,
+}
+
+impl Clone for Way {
+    fn clone(&self) -> Result<Way, AllocError> {
+        Ok(*self)
+    }
+}
+
+// How often there is any. More than a number holds are answered as want of memory.
+fn total_of(ways: &[Way]) -> Result<usize, AllocError>
+    ensures { IfOk result (λ n. n ≡ total ways.now) }
+{
+    let mut all = 0usize;
+    for way in ways {
+        let Some(more) = all.checked_add(way.times) else {
+            return Err(AllocError);
+        };
+        all = more;
+    }
+    Ok(all)
+}
+
+/// How many copies of its finally block the exits of a body make.
+pub fn blocks_of(ways: &[Way]) -> Result<usize, AllocError>
+    ensures { IfOk result (λ n. n ≡ 2 + total ways.now) }
+{
+    match total_of(ways)?.checked_add(2) {
+        Some(blocks) => Ok(blocks),
+        None => Err(AllocError),
+    }
+}
+
+/// Puts ways behind those that are there.
+pub fn put_all(out: &mut Vec<Way>, ways: &[Way]) -> Result<(), AllocError>
+    ensures { IfOk result (λ _. out.new.items ≡ out.old.items ++ ways.now) }
+{
+    for way in ways {
+        out.push(*way)?;
+    }
+    Ok(())
+}
+
+/// Puts the ways of so many copies behind those that are there.
+pub fn put_scaled(out: &mut Vec<Way>, times: usize, ways: &[Way]) -> Result<(), AllocError>
+    ensures { IfOk result (λ _. out.new.items ≡ out.old.items ++ scaled times ways.now) }
+{
+    for way in ways {
+        let Some(more) = times.checked_mul(way.times) else {
+            return Err(AllocError);
+        };
+        out.push(Way {
+            number: way.number,
+            times: more,
+        })?;
+    }
+    Ok(())
+}
+
+// How far a leave goes beyond so many numbers; none where its target is one of them.
+#[tactic(auto, using(ls_finally::proofs::Numbers::is_inside, ls_finally::proofs::Numbers::is_beyond))]
+fn outward_of(inside: usize, number: usize) -> Option<usize>
+    ensures { result ≡ outward inside number }
+{
+    if number < inside {
+        None
+    } else {
+        Some(number - inside)
+    }
+}
+
+// Puts a way of a body behind those that are there, where it leads beyond so many numbers.
+fn put_beyond_one(out: &mut Vec<Way>, inside: usize, way: Way) -> Result<(), AllocError>
+    ensures { IfOk result (λ _. out.new.items ≡ out.old.items ++ one_beyond inside way) }
+{
+    let times = way.times;
+    let number = match way.number {
+        None => None,
+        Some(number) => match outward_of(inside, number) {
+            None => return Ok(()),
+            Some(number) => Some(number),
+        },
+    };
+    out.push(Way { number, times })?;
+    Ok(())
+}
+
+/// Puts the ways of a body that lead beyond so many numbers behind those that are there.
+pub fn put_beyond(out: &mut Vec<Way>, inside: usize, ways: &[Way]) -> Result<(), AllocError>
+    ensures { IfOk result (λ _. out.new.items ≡ out.old.items ++ beyond inside ways.now) }
+{
+    for way in ways {
+        put_beyond_one(out, inside, *way)?;
+    }
+    Ok(())
+}

@@ -1,0 +1,12 @@
+-- What is told before a copy of a finally block is made, as the faults of the steps that would tell it.
+use Rattle.ls_finally_counts.specs.declared.fault.CountFault.{CountFault}
+use Rattle.ls_finally_counts.specs.declared.fault.CountFault.TheVariants as counts
+use Rattle.ls_lowered.specs.declared.fault.LowerFault.TheVariants.{Memory, TooManyCopies}
+use Rattle.ls_emit.specs.declared.fault.EmitFault.TheVariants.{CodeTooLong}
+use Rattle.ls_linker.specs.declared.fault.BuildFault.{BuildFault}
+use Rattle.ls_linker.specs.declared.fault.BuildFault.TheVariants.{Lower, Emit}
+
+abbrev pub of_counts : CountFault → BuildFault
+of_counts counts.Memory = Lower Memory
+of_counts counts.TooManyCopies = Lower TooManyCopies
+of_counts counts.TooLong = Emit CodeTooLong
