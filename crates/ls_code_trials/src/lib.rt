@@ -1,11 +1,9 @@
-//! Tests of the public calls that lower trees and make steps. They stand apart from the crates that they test, so
-//! that they are proved without proving those again.
+//! Tests of the public calls that lower trees and that step the source, and of schedules. They stand apart from the crates that
+//! they test, so that they are proved without proving those again.
 #![tactic(auto)]
 
 #[cfg(test)]
 mod locks;
-#[cfg(test)]
-mod machine;
 #[cfg(test)]
 mod references;
 #[cfg(test)]

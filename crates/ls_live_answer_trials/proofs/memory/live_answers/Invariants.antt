@@ -1,6 +1,6 @@
 use Rattle.ls_code.specs.Machine.{loaded}
 use Rattle.ls_image.specs.Images.{code_of_image}
-use Rattle.ls_live_trials.proofs.memory.live_answers.Given as goal
+use Rattle.ls_live_answer_trials.proofs.memory.live_answers.Given as goal
 
 abbrev pub ghosts-note_answers-L-Ledger : goal.ghosts-note_answers-L-Ledger
 ghosts-note_answers-L-Ledger g a = record { name = a.blank.name; parts = a.blank.parts }

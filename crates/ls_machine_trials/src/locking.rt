@@ -1,6 +1,6 @@
 // Locks, by single instructions and by load and exchange.
 
-use crate::machine::hand_made::{BODY, answers, never_ends, outcome, traps};
+use crate::hand_made::{BODY, answers, never_ends, outcome, traps};
 use ls_code::instruction::Instruction as Op;
 use ls_code::lock_word::{Left, Taken};
 use ls_events::event::Happening;

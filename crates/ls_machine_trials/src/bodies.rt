@@ -1,6 +1,6 @@
 // One call, instruction by instruction.
 
-use crate::machine::hand_made::{BODY, answers, never_ends, outcome, traps};
+use crate::hand_made::{BODY, answers, never_ends, outcome, traps};
 use ls_code::instruction::Instruction as Op;
 use ls_events::event::Happening;
 use ls_events::kind::Kind;
