@@ -143,9 +143,12 @@ def parts():
 
 def copies():
     """Blocks of `finally` with many exits: the code is far too long, and its text is not."""
-    for exits, size in ((100, 1000), (200, 2000), (400, 4000)):
-        text = b"try { " + b"if (b) return; " * exits + b"} finally { " + b"x=1;" * size + b" }"
-        yield f"copies_{exits}_of_{size}", ["compile"], method(text) + EMPTY, (31, 32, 33)
+    exit = b"if (b) return; "
+    for exits, size in ((100, 1000), (400, 4000), (4000, 40_000)):
+        yield f"copies_{exits}_of_{size}", ["compile"], method(b"try { " + exit * exits + b"} finally { " + b"x=1;" * size + b" }") + EMPTY, 32
+    long = b"void g() { try { " + exit * 400 + b"} finally { " + b"x=1;" * 4000 + b" } }"
+    yield "too_many_copies_behind_too_long", ["compile"], method(b"try { " + exit * 4095 + b"} finally { }", before=long) + EMPTY, 31
+    yield "copies_400_of_4000_that_do_nothing", ["compile"], method(b"try { " + exit * 400 + b"} finally { " + b";" * 4000 + b" }") + EMPTY, 0
 
 
 def everything():
