@@ -6,8 +6,8 @@ ghost use Rattle.ls_lowered.specs.Plain.{plain, all_plain};
 ghost use Rattle.ls_emit_laws.specs.Expressions.{unary_code, binary_code, size, all_size, code, all_code};
 ghost use Rattle.ls_emit.specs.Small.{IsSmall, AreSmall};
 
-use crate::sizes::size_of;
 use ls_code::instruction::Instruction;
+use ls_emit_sizes::expressions::size_of;
 use ls_locks::lower::{lock_size, lower_lock};
 use ls_lowered::tree::{BinaryOperator, Expression, Expressions, UnaryOperator};
 use std::alloc::AllocError;

@@ -22,6 +22,10 @@ pub record CodeUnit : Type 0 where
 abbrev pub method_size : Method → ℕ
 method_size m = statement_size m.body + 2
 
+abbrev pub file_size : File → ℕ
+file_size [] = 0
+file_size (m ∷ ms) = method_size m + file_size ms
+
 abbrev pub method_code : ℕ → Method → List Instruction
 method_code p m = statement_code [] p m.body ++ op.Push 0 ∷ op.LeaveWith ∷ []
 

@@ -1,16 +1,18 @@
 -- What is counted of a statement is what it comes to without `try`.
-use Rattle.std.proofs.Common.{◌≡◌, ℕ, zero, suc, ◌+◌, ◌*◌, ◌≤◌, Bool, true, false, cond, List, [], ◌∷◌, ◌++◌, length, Option, Some, None, refl, ap, sym, ◌∙◌, arith, length-append, is_some}
+use Rattle.std.proofs.Common.{◌≡◌, ℕ, zero, suc, ◌+◌, ◌*◌, Bool, true, false, cond, List, [], ◌∷◌, ◌++◌, length, Option, Some, None, refl, ap, sym, ◌∙◌, arith, length-append, is_some}
 use Rattle.ls_lowered.specs.LoweredTree.{Statement, Block, SetLocal, SetField, SetItem, Evaluate, If, While, Return, Try, Guarded, Throw, Leavable, Leave, Statements, Done, Then}
 use Rattle.ls_finally.specs.Exits.{outward, count, leave_exit, exits, all_exits}
 use Rattle.ls_finally.specs.Flat.{tries, flat, all_flat}
 use Rattle.ls_finally.specs.Counts.{copies, all_copies}
 use Rattle.ls_emit_laws.specs.Statements.{statement_size, statements_size, exits_size}
 use Rattle.ls_finally_counts.specs.declared.ways.Way.{Way}
-use Rattle.ls_finally_counts.specs.Counts.{total, scaled, at_number, numbered_beyond, one_beyond, beyond, ways_of, all_ways, copied, all_copied, least, all_least}
+use Rattle.ls_finally_counts.specs.Counts.{total, scaled, at_number, numbered_beyond, one_beyond, beyond, ways_of, all_ways, copied, all_copied, returned, flat_size, all_flat_size}
 use Rattle.ls_finally_counts.proofs.Outward.{outs, beyond_both}
 use Rattle.ls_finally_counts.proofs.Flats.{flat_none}
 use Rattle.ls_finally_counts.proofs.Exits.{finally_exits}
-use Rattle.ls_finally_counts.proofs.Sizes.{finally_long}
+use Rattle.ls_finally_counts.proofs.Returns.{returned_right}
+use Rattle.ls_finally_counts.proofs.Sizes.{finally_size}
+use Rattle.ls_finally_counts.proofs.Products.{distribute, nothing, products}
 
 -- whether a leave or a return leads beyond so many numbers
 abbrev leads : ℕ → Option ℕ → Bool
@@ -25,14 +27,6 @@ reach l (w ∷ ws) = cond (leads l w.number) w.times 0 + reach l ws
 reach_append : (l : ℕ) (xs ys : List Way) → reach l (xs ++ ys) ≡ reach l xs + reach l ys
 reach_append l [] ys = omega arith
 reach_append l (x ∷ xs) ys = omega (arith, reach_append l xs ys)
-
-distribute : (n a b : ℕ) → n * (a + b) ≡ n * a + n * b
-distribute zero a b = omega arith
-distribute (suc n) a b = omega (arith, distribute n a b)
-
-nothing : (n : ℕ) → n * 0 ≡ 0
-nothing zero = refl
-nothing (suc n) = omega (arith, nothing n)
 
 scaled_one : (b : Bool) (n t : ℕ) → cond b (n * t) 0 ≡ n * cond b t 0
 scaled_one true n t = refl
@@ -85,10 +79,6 @@ one_leave (Some n) = refl
 count_flat : (ss : Statements) (k : ℕ) → count (all_flat k ss) ≡ count ss
 count_flat Done k = refl
 count_flat (Then s ss) k = ap suc (count_flat ss (k + 2 * tries s))
-
--- two products of equal numbers
-products : (a b c d : ℕ) → a ≡ b → c ≡ d → (2 + a) * c ≡ (2 + b) * d
-products a b c d e f = ap (λ n. (2 + n) * c) e ∙ ap (λ n. (2 + b) * n) f
 
 mutual
   pub ways_right : (s : Statement) (k l : ℕ) → reach l (ways_of s) ≡ length (exits l (flat k s))
@@ -161,40 +151,36 @@ mutual
   all_copied_right Done k = refl
   all_copied_right (Then s ss) k = omega (arith, copied_right s k, all_copied_right ss (k + 2 * tries s))
 
-more_times : (a b c : ℕ) → b ≤ c → a * b ≤ a * c
-more_times zero b c le = omega arith
-more_times (suc a) b c le = omega (arith, le, more_times a b c le)
-
 mutual
-  pub least_right : (s : Statement) (k : ℕ) → least s ≤ statement_size (flat k s)
-  least_right (Block ss) k = all_least_right ss k
-  least_right (SetLocal n e) k = omega arith
-  least_right (SetField e f a) k = omega arith
-  least_right (SetItem a i e) k = omega arith
-  least_right (Evaluate e) k = omega arith
-  least_right (If e a b) k = omega (arith, least_right a k, least_right b (k + 2 * tries a))
-  least_right (While e s) k = omega (arith, least_right s k)
-  least_right (Return e) k = omega arith
-  least_right (Try b f) k =
+  pub size_right : (s : Statement) (k : ℕ) → flat_size s ≡ statement_size (flat k s)
+  size_right (Block ss) k = all_size_right ss k
+  size_right (SetLocal n e) k = refl
+  size_right (SetField e f a) k = refl
+  size_right (SetItem a i e) k = refl
+  size_right (Evaluate e) k = refl
+  size_right (If e a b) k = omega (arith, size_right a k, size_right b (k + 2 * tries a))
+  size_right (While e s) k = omega (arith, size_right s k)
+  size_right (Return e) k = refl
+  size_right (Try b f) k =
       let after : ℕ = k + 2 * tries b in
-      let many : ℕ = length (exits 0 (flat k b)) in
-      let same = products (total (ways_of b)) many (least f) (least f) (exits_right b k) refl in
+      let inner : flat_size f + 2 ≡ statement_size (flat after f) + 2 = ap (λ n. n + 2) (size_right f after) in
       omega (
         arith,
-        same,
-        more_times (2 + many) (least f) (statement_size (flat after f)) (least_right f after),
-        least_right b k,
-        finally_long (k + 2 * tries b + 2 * tries f) (flat k b) (flat after f),
+        products (total (ways_of b)) (length (exits 0 (flat k b))) (flat_size f + 2) (statement_size (flat after f) + 2) (exits_right b k) inner,
+        returned_right b k exits_right,
+        size_right b k,
+        finally_size (k + 2 * tries b + 2 * tries f) (flat k b) (flat after f) (flat_none b k),
       )
-  least_right (Guarded b n h) k = omega (arith, least_right b k, least_right h (k + 2 * tries b))
-  least_right (Throw n) k = omega arith
-  least_right (Leavable b xs) k = omega (arith, least_right b k, exits_least_right xs (k + 2 * tries b))
-  least_right (Leave n) k = omega arith
+  size_right (Guarded b n h) k = omega (arith, size_right b k, size_right h (k + 2 * tries b))
+  size_right (Throw n) k = refl
+  size_right (Leavable b xs) k = omega (arith, size_right b k, exits_size_right xs (k + 2 * tries b))
+  size_right (Leave n) k = refl
 
-  all_least_right : (ss : Statements) (k : ℕ) → all_least ss ≤ statements_size (all_flat k ss)
-  all_least_right Done k = omega arith
-  all_least_right (Then s ss) k = omega (arith, least_right s k, all_least_right ss (k + 2 * tries s))
+  all_size_right : (ss : Statements) (k : ℕ) → all_flat_size ss ≡ statements_size (all_flat k ss)
+  all_size_right Done k = refl
+  all_size_right (Then s ss) k = omega (arith, size_right s k, all_size_right ss (k + 2 * tries s))
 
-  exits_least_right : (xs : Statements) (k : ℕ) → all_least xs ≤ exits_size (all_flat k xs)
-  exits_least_right Done k = omega arith
-  exits_least_right (Then x xs) k = omega (arith, least_right x k, exits_least_right xs (k + 2 * tries x))
+  -- each stands behind a jump
+  exits_size_right : (xs : Statements) (k : ℕ) → count xs + all_flat_size xs ≡ exits_size (all_flat k xs)
+  exits_size_right Done k = refl
+  exits_size_right (Then x xs) k = omega (arith, size_right x k, exits_size_right xs (k + 2 * tries x))

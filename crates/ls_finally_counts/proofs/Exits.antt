@@ -5,6 +5,7 @@ use Rattle.ls_finally.specs.Exits.{outward, count, Exit, LeaveOut, ReturnOut, le
 use Rattle.ls_finally.proofs.Numbers.{is_inside}
 use Rattle.ls_finally_counts.proofs.Outward.{inward, outs, beyond_both}
 use Rattle.ls_finally_counts.proofs.Flats.{HasNoTry, HaveNoTry}
+use Rattle.ls_finally_counts.proofs.Products.{two_more}
 
 count_replaced : (ss : Statements) (r l j : ℕ) → count (all_replaced r l j ss) ≡ count ss
 count_replaced Done r l j = refl
@@ -115,9 +116,6 @@ ways_exits : (xs : List Exit) (r l : ℕ) (f : Statement) → length (all_exits 
 ways_exits [] r l f = omega arith
 ways_exits (x ∷ xs) r l f =
     omega (arith, length-append (exits l (both f (exit_of r x))) (all_exits l (ways r f xs)), copy_exits l f (exit_of r x), exit_outs r l x xs, ways_exits xs r l f)
-
-two_more : (n f : ℕ) → (2 + n) * f ≡ f + f + n * f
-two_more n f = omega arith
 
 pub finally_exits : (k l : ℕ) (b f : Statement) → HasNoTry b → length (exits l (finally_of k b f)) ≡ length (exits l b) + (2 + length (exits 0 b)) * length (exits l f)
 finally_exits k l b f t =

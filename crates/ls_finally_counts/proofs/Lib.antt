@@ -1,7 +1,9 @@
+pub mod Products
 pub mod More
 pub mod Outward
 pub mod Flats
 pub mod Exits
+pub mod Returns
 pub mod Sizes
 pub mod Counted
 pub mod Whole

@@ -1,19 +1,19 @@
 -- The methods of a file.
-use Rattle.std.proofs.Common.{◌≡◌, ℕ, ◌+◌, ◌<◌, ◌≤◌, length, take, map, sym, ap, ◌∙◌, subst, arith, Result, Ok, Err, List, [], ◌∷◌, ◌++◌}
-use Rattle.std.specs.Prelude.{All, slice_index_or, IfErr}
+use Rattle.std.proofs.Common.{◌≡◌, ℕ, ◌+◌, ◌<◌, ◌≤◌, length, take, map, refl, sym, ap, ◌∙◌, subst, arith, Result, Ok, Err, List, [], ◌∷◌, ◌++◌}
+use Rattle.std.specs.Prelude.{All, slice_index_or, IfErr, min}
 use Rattle.std.proofs.lemmas.List.{map-append}
 use Rattle.std.proofs.lemmas.List.Elements.{All-map}
 use Rattle.ls_lowered.specs.declared.tree.Method.{Method}
 use Rattle.ls_lowered.specs.Plain.{plain_statement, plain_method}
 use Rattle.ls_lowered.proofs.Taken.{taken_at, all_of_map}
-use Rattle.ls_finally.specs.Flat.{flat_method}
+use Rattle.ls_finally.specs.Flat.{flat_method, flat_file}
 use Rattle.ls_finally.specs.Counts.{copies_of, FewCopies}
-use Rattle.ls_emit_laws.specs.Units.{method_size}
-use Rattle.ls_finally_counts.specs.Counts.{copied, least}
-use Rattle.ls_finally_counts.specs.Refused.{AreShort, Refused, TooManyOf}
+use Rattle.ls_emit_laws.specs.Units.{method_size, file_size}
+use Rattle.ls_finally_counts.specs.Counts.{copied, counted_size, sum}
+use Rattle.ls_finally_counts.specs.Refused.{AreShort, AreShortTogether, Refused, TooManyOf}
 use Rattle.ls_finally_counts.specs.declared.fault.CountFault.{CountFault}
-use Rattle.ls_finally_counts.specs.declared.fault.CountFault.TheVariants.{Memory, TooManyCopies, TooLong}
-use Rattle.ls_finally_counts.proofs.Counted.{copied_right, least_right}
+use Rattle.ls_finally_counts.specs.declared.fault.CountFault.TheVariants.{Memory, TooManyCopies, TooLong, TooLongTogether}
+use Rattle.ls_finally_counts.proofs.Counted.{copied_right, size_right}
 
 -- one more, of what is made of each
 pub mapped_one : {X Y : Type 0} (f : Y → X) (old new : List X) (x : X) (ys : List Y) (i : ℕ) (y : Y) → i < length ys → y ≡ slice_index_or ys i y →
@@ -46,19 +46,49 @@ refused_so : (methods items : List Method) → methods ≡ items → (e : CountF
 refused_so methods items same Memory h = tt
 refused_so methods items same TooManyCopies h = λ few. h (copies_few methods items same few)
 refused_so methods items same TooLong h = absurd h
+refused_so methods items same TooLongTogether h = absurd h
 
 pub passes_on : {A : Type 0} (methods items : List Method) (r : Result A CountFault) → methods ≡ items → IfErr r (TooManyOf methods) → IfErr r (Refused (map plain_method items))
 passes_on methods items (Ok x) same h = tt
 passes_on methods items (Err e) same h = refused_so methods items same e h
 
-short_here : (m : Method) → method_size (flat_method (plain_method m)) ≤ 65536 → least (plain_statement m.body) ≤ 65536
-short_here m h = omega (arith, h, least_right (plain_statement m.body) (m.arguments + m.locals))
+short_here : (m : Method) → method_size (flat_method (plain_method m)) ≤ 65536 → counted_size (plain_statement m.body) ≤ 65536
+short_here m h = omega (arith, h, size_right (plain_statement m.body) (m.arguments + m.locals))
 
-pub are_short : (methods items : List Method) (leasts : List ℕ) → methods ≡ items → leasts ≡ map (λ m. least (plain_statement m.body)) methods → AreShort (map plain_method items) → All (λ n. n ≤ 65536) leasts
-are_short methods items leasts same counted h =
+size_here : (m : Method) → counted_size (plain_statement m.body) ≤ 65536 → method_size (flat_method (plain_method m)) ≤ 65536
+size_here m h = omega (arith, h, size_right (plain_statement m.body) (m.arguments + m.locals))
+
+-- what is counted of each method, and the code of each
+pub are_short : (methods items : List Method) (lengths : List ℕ) → methods ≡ items → lengths ≡ map (λ m. counted_size (plain_statement m.body)) methods → AreShort (map plain_method items) → All (λ n. n ≤ 65536) lengths
+are_short methods items lengths same counted h =
     let flat : All (λ m. method_size (flat_method m) ≤ 65536) (map plain_method items) = all_of_map (λ m. method_size m ≤ 65536) flat_method (map plain_method items) h in
     let code : All (λ m. method_size (flat_method (plain_method m)) ≤ 65536) items = all_of_map (λ m. method_size (flat_method m) ≤ 65536) plain_method items flat in
-    let short : All (λ m. least (plain_statement m.body) ≤ 65536) items =
-    all_weaker (λ m. method_size (flat_method (plain_method m)) ≤ 65536) (λ m. least (plain_statement m.body) ≤ 65536) items short_here code in
-    subst (λ ns. All (λ n. n ≤ 65536) ns) (sym (counted ∙ ap (map (λ m. least (plain_statement m.body))) same))
-    (All-map (λ n. n ≤ 65536) (λ m. least (plain_statement m.body)) items short)
+    let short : All (λ m. counted_size (plain_statement m.body) ≤ 65536) items =
+    all_weaker (λ m. method_size (flat_method (plain_method m)) ≤ 65536) (λ m. counted_size (plain_statement m.body) ≤ 65536) items short_here code in
+    subst (λ ns. All (λ n. n ≤ 65536) ns) (sym (counted ∙ ap (map (λ m. counted_size (plain_statement m.body))) same))
+    (All-map (λ n. n ≤ 65536) (λ m. counted_size (plain_statement m.body)) items short)
+
+pub short_so : (methods items : List Method) (lengths : List ℕ) → methods ≡ items → lengths ≡ map (λ m. counted_size (plain_statement m.body)) methods → All (λ n. n ≤ 65536) lengths → AreShort (map plain_method items)
+short_so methods items lengths same counted h =
+    let all : All (λ n. n ≤ 65536) (map (λ m. counted_size (plain_statement m.body)) items) =
+    subst (λ ns. All (λ n. n ≤ 65536) ns) (counted ∙ ap (map (λ m. counted_size (plain_statement m.body))) same) h in
+    let short : All (λ m. counted_size (plain_statement m.body) ≤ 65536) items = all_of_map (λ n. n ≤ 65536) (λ m. counted_size (plain_statement m.body)) items all in
+    let code : All (λ m. method_size (flat_method (plain_method m)) ≤ 65536) items =
+    all_weaker (λ m. counted_size (plain_statement m.body) ≤ 65536) (λ m. method_size (flat_method (plain_method m)) ≤ 65536) items size_here short in
+    All-map (λ m. method_size m ≤ 65536) flat_method (map plain_method items) (All-map (λ m. method_size (flat_method m) ≤ 65536) plain_method items code)
+
+-- the sum is right as far as it isn't too great
+sum_right : (items : List Method) → min (sum (map (λ m. counted_size (plain_statement m.body)) items)) 65537 ≡ min (file_size (flat_file (map plain_method items))) 65537
+sum_right [] = refl
+sum_right (m ∷ ms) = omega (arith, size_right (plain_statement m.body) (m.arguments + m.locals), sum_right ms)
+
+sum_here : (methods items : List Method) (lengths : List ℕ) → methods ≡ items → lengths ≡ map (λ m. counted_size (plain_statement m.body)) methods →
+    min (sum lengths) 65537 ≡ min (file_size (flat_file (map plain_method items))) 65537
+sum_here methods items lengths same counted =
+    ap (λ ns. min (sum ns) 65537) (counted ∙ ap (map (λ m. counted_size (plain_statement m.body))) same) ∙ sum_right items
+
+pub together : (methods items : List Method) (lengths : List ℕ) → methods ≡ items → lengths ≡ map (λ m. counted_size (plain_statement m.body)) methods → AreShortTogether (map plain_method items) → sum lengths ≤ 65536
+together methods items lengths same counted h = omega (arith, h, sum_here methods items lengths same counted)
+
+pub together_so : (methods items : List Method) (lengths : List ℕ) → methods ≡ items → lengths ≡ map (λ m. counted_size (plain_statement m.body)) methods → sum lengths ≤ 65536 → AreShortTogether (map plain_method items)
+together_so methods items lengths same counted h = omega (arith, h, sum_here methods items lengths same counted)

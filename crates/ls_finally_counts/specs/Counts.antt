@@ -1,7 +1,8 @@
 -- What a statement comes to without `try`, by the statement with it.
-use Rattle.std.specs.Prelude.{ℕ, suc, ◌+◌, ◌*◌, List, [], ◌∷◌, ◌++◌, Option, Some, None, map}
+use Rattle.std.specs.Prelude.{ℕ, suc, ◌+◌, ◌*◌, List, [], ◌∷◌, ◌++◌, Option, Some, None, min}
 use Rattle.ls_lowered.specs.LoweredTree.{Statement, Block, SetLocal, SetField, SetItem, Evaluate, If, While, Return, Try, Guarded, Throw, Leavable, Leave, Statements, Done, Then, Method, File}
 use Rattle.ls_finally.specs.Exits.{outward, count}
+use Rattle.ls_emit_laws.specs.Expressions.{size}
 use Rattle.ls_finally_counts.specs.declared.ways.Way.{Way}
 
 -- how often there is any
@@ -66,17 +67,56 @@ abbrev mutual
   all_copied Done = 0
   all_copied (Then s ss) = copied s + all_copied ss
 
--- how many instructions its code has at least
-abbrev mutual
-  pub least : Statement → ℕ
-  least (Block ss) = all_least ss
-  least (If e a b) = least a + least b + 1
-  least (While e s) = least s + 1
-  least (Try b f) = least b + (2 + total (ways_of b)) * least f
-  least (Guarded b n h) = least b + least h
-  least (Leavable b xs) = least b + all_least xs
-  least _ = 1
+-- how often there is a return
+abbrev pub returned_one : Option ℕ → ℕ → ℕ
+returned_one None times = times
+returned_one (Some n) times = 0
 
-  pub all_least : Statements → ℕ
-  all_least Done = 0
-  all_least (Then s ss) = least s + all_least ss
+abbrev pub returned : List Way → ℕ
+returned [] = 0
+returned (w ∷ ws) = returned_one w.number w.times + returned ws
+
+-- How many instructions its code has. Each copy of a finally block has two besides its own, a jump over it and one behind it; each
+-- return out of the body has two more, one that keeps its value and one that loads it; and two for the region that is guarded, one that
+-- leaves it and one that leaves its handler.
+abbrev mutual
+  pub flat_size : Statement → ℕ
+  flat_size (Block ss) = all_flat_size ss
+  flat_size (SetLocal n e) = size e + 1
+  flat_size (SetField e f a) = size e + size a + 1
+  flat_size (SetItem a i e) = size a + size i + size e + 1
+  flat_size (Evaluate e) = size e + 1
+  flat_size (If e a b) = size e + flat_size a + flat_size b + 2
+  flat_size (While e s) = size e + flat_size s + 2
+  flat_size (Return e) = size e + 1
+  flat_size (Try b f) = flat_size b + (2 + total (ways_of b)) * (flat_size f + 2) + 2 * returned (ways_of b) + 4
+  flat_size (Guarded b n h) = flat_size b + flat_size h + 2
+  flat_size (Throw n) = 2
+  flat_size (Leavable b xs) = flat_size b + count xs + all_flat_size xs
+  flat_size (Leave n) = 1
+
+  pub all_flat_size : Statements → ℕ
+  all_flat_size Done = 0
+  all_flat_size (Then s ss) = flat_size s + all_flat_size ss
+
+-- the instructions of a statement besides those of the statements in it
+abbrev pub own_size : Statement → ℕ
+own_size (SetLocal n e) = size e + 1
+own_size (SetField e f a) = size e + size a + 1
+own_size (SetItem a i e) = size a + size i + size e + 1
+own_size (Evaluate e) = size e + 1
+own_size (If e a b) = size e + 2
+own_size (While e s) = size e + 2
+own_size (Return e) = size e + 1
+own_size (Guarded b n h) = 2
+own_size (Throw n) = 2
+own_size (Leave n) = 1
+own_size _ = 0
+
+-- how long the code of a method is, as far as it isn't too long
+abbrev pub counted_size : Statement → ℕ
+counted_size s = min (flat_size s + 2) 65537
+
+abbrev pub sum : List ℕ → ℕ
+sum [] = 0
+sum (n ∷ ns) = n + sum ns

@@ -5,26 +5,32 @@ use Rattle.ls_lowered.specs.Plain.{plain_statement}
 use Rattle.ls_lowered.specs.declared.tree.Method.{Method}
 use Rattle.ls_finally.specs.Flat.{flat_file}
 use Rattle.ls_finally.specs.Counts.{FewCopies}
-use Rattle.ls_emit_laws.specs.Units.{method_size}
+use Rattle.ls_emit_laws.specs.Units.{method_size, file_size}
 use Rattle.ls_finally_counts.specs.Counts.{copied}
 use Rattle.ls_finally_counts.specs.declared.fault.CountFault.{CountFault}
-use Rattle.ls_finally_counts.specs.declared.fault.CountFault.TheVariants.{Memory, TooManyCopies, TooLong}
+use Rattle.ls_finally_counts.specs.declared.fault.CountFault.TheVariants.{Memory, TooManyCopies, TooLong, TooLongTogether}
 
 -- no method's code has over 65,536 instructions
 abbrev pub AreShort : File → Type 0
 AreShort methods = All (λ m. method_size m ≤ 65536) (flat_file methods)
 
--- Copies go before lengths. Want of memory says nothing.
+-- no more have all together
+abbrev pub AreShortTogether : File → Type 0
+AreShortTogether methods = file_size (flat_file methods) ≤ 65536
+
+-- Copies go before lengths, and the length of each method before that of all. Want of memory says nothing.
 abbrev pub Refused : File → CountFault → Type 0
 Refused methods Memory = Unit {0}
 Refused methods TooManyCopies = ¬ FewCopies methods
 Refused methods TooLong = FewCopies methods × ¬ AreShort methods
+Refused methods TooLongTogether = FewCopies methods × AreShort methods × ¬ AreShortTogether methods
 
 -- a statement with so many copies, and those before it, is refused for their number or for want of memory
 abbrev pub TooMany : CountFault → ℕ → Type 0
 TooMany Memory n = Unit {0}
 TooMany TooManyCopies n = 4096 < n
 TooMany TooLong n = ⊥
+TooMany TooLongTogether n = ⊥
 
 -- the copies are few enough, or refused
 abbrev pub Fits : {X : Type 0} → Result X CountFault → ℕ → Type 0
@@ -36,3 +42,4 @@ abbrev pub TooManyOf : List Method → CountFault → Type 0
 TooManyOf methods Memory = Unit {0}
 TooManyOf methods TooManyCopies = ¬ All (λ m. copied (plain_statement m.body) ≤ 4096) methods
 TooManyOf methods TooLong = ⊥
+TooManyOf methods TooLongTogether = ⊥

@@ -1,25 +1,36 @@
 // Copies and instructions of a statement without `try`, counted.
 
-ghost use Rattle.std.specs.Prelude.{◌≡◌, ◌+◌, ◌*◌, ◌++◌, ◌≤◌, IfOk, OnOk};
+ghost use Rattle.std.specs.Prelude.{◌≡◌, ◌+◌, ◌*◌, ◌++◌, ◌≤◌, min, OnOk};
 ghost use Rattle.std.specs.Option.{SomeIff};
 ghost use Rattle.ls_lowered.specs.LoweredTree.{Try, Leavable};
-ghost use Rattle.ls_lowered.specs.Plain.{plain_statement, statements_of};
-ghost use Rattle.ls_finally_counts.specs.Counts.{ways_of, all_ways, copied, all_copied, least, all_least, total};
+ghost use Rattle.ls_lowered.specs.Plain.{plain, plain_statement, statements_of};
+ghost use Rattle.ls_emit_laws.specs.Expressions.{size};
+ghost use Rattle.ls_finally_counts.specs.Counts.{ways_of, all_ways, copied, all_copied, flat_size, all_flat_size, own_size};
 ghost use Rattle.ls_finally_counts.specs.Refused.{Fits};
 
 use crate::fault::CountFault;
-use crate::ways::{Way, blocks_of, put_all, put_beyond, put_scaled};
-use ls_lowered::tree::Statement;
-use std::alloc::{AllocError, Global};
+use crate::ways::{Way, blocks_of, put_all, put_beyond, put_once, put_scaled, returns_of};
+use ls_emit_sizes::expressions::{MOST_INSTRUCTIONS, TOO_MANY, count_expression};
+use ls_lowered::tree::{Expression, Statement};
+use std::alloc::Global;
 
 /// The most copies of finally blocks of a method.
 const MOST_COPIES: usize = 4096;
 
-/// How many copies there are so far, and how many instructions at least.
+/// How many copies there are so far, and how many instructions, as far as they aren't too many.
 #[derive(Drop)]
 pub struct Counting {
     pub copies: usize,
-    pub least: usize,
+    pub length: usize,
+}
+
+/// What a `try` comes to besides its body: how often its finally block is there, how many returns lead out of the body, and what
+/// is counted of one copy.
+#[derive(Drop)]
+struct Blocks {
+    count: usize,
+    returns: usize,
+    inside: Counting,
 }
 
 // So many copies of a finally block and those before it, where there are so many copies in the block. None where they are too
@@ -37,30 +48,79 @@ fn with_copies(before: usize, blocks: usize, finally: usize) -> Option<usize>
     }
 }
 
-// So many instructions before, and as many in each block. More than a number holds are answered as want of memory.
-fn with_least(before: usize, blocks: usize, finally: usize) -> Result<usize, AllocError>
-    ensures { IfOk result (λ n. n ≡ before + blocks * finally) }
+// So many instructions before, in each copy of a finally block two more than in the block, and two for each return. Or too many.
+fn with_length(before: usize, blocks: usize, finally: usize, returns: usize) -> usize
+    requires before { before ≤ 65537 }
+    requires finally { finally ≤ 65537 }
+    ensures { result ≡ min (before + blocks * (finally + 2) + 2 * returns + 4) 65537 }
 {
-    let Some(more) = blocks.checked_mul(finally) else {
-        return Err(AllocError);
-    };
-    let Some(whole) = more.checked_add(before) else {
-        return Err(AllocError);
-    };
-    Ok(whole)
+    let copies = blocks.saturating_mul(finally + 2);
+    let all = returns
+        .saturating_mul(2)
+        .saturating_add(copies)
+        .saturating_add(before + 4);
+    if all <= MOST_INSTRUCTIONS {
+        all
+    } else {
+        TOO_MANY
+    }
 }
 
 impl Counting {
-    // One instruction more.
-    fn one_more(&mut self) -> Result<(), AllocError>
-        ensures least { OnOk result (self.new.least ≡ self.old.least + 1) }
+    // So many instructions more.
+    fn add(&mut self, count: usize)
+        requires short { self.old.length ≤ 65537 }
+        requires few { count ≤ 4096 }
+        ensures length { self.new.length ≡ min (self.old.length + count) 65537 }
         ensures copies { self.new.copies ≡ self.old.copies }
     {
-        let Some(more) = self.least.checked_add(1) else {
-            return Err(AllocError);
+        let all = self.length + count;
+        self.length = if all <= MOST_INSTRUCTIONS {
+            all
+        } else {
+            TOO_MANY
         };
-        self.least = more;
-        Ok(())
+    }
+
+    // The instructions of an expression more.
+    fn add_expression(&mut self, e: &Expression)
+        requires { self.old.length ≤ 65537 }
+        ensures length { self.new.length ≡ min (self.old.length + size (plain e.now)) 65537 }
+        ensures copies { self.new.copies ≡ self.old.copies }
+    {
+        self.length = count_expression(self.length, e);
+    }
+
+    // The instructions of a statement more, besides those of the statements in it.
+    fn add_own(&mut self, s: &Statement)
+        requires { self.old.length ≤ 65537 }
+        ensures length { self.new.length ≡ min (self.old.length + own_size (plain_statement s.now)) 65537 }
+        ensures copies { self.new.copies ≡ self.old.copies }
+    {
+        match s {
+            Statement::SetLocal(_, e) | Statement::Evaluate(e) | Statement::Return(e) => {
+                self.add_expression(e);
+                self.add(1);
+            }
+            Statement::SetField(object, _, value) => {
+                self.add_expression(object);
+                self.add_expression(value);
+                self.add(1);
+            }
+            Statement::SetItem(array, index, value) => {
+                self.add_expression(array);
+                self.add_expression(index);
+                self.add_expression(value);
+                self.add(1);
+            }
+            Statement::If(condition, _, _) | Statement::While(condition, _) => {
+                self.add_expression(condition);
+                self.add(2);
+            }
+            Statement::Guarded(_, _, _) | Statement::Throw(_) => self.add(2),
+            Statement::Leave(_) => self.add(1),
+            Statement::Block(_) | Statement::Try(_, _) | Statement::Leavable(_, _) => {}
+        }
     }
 
     /// A statement with what is counted so far. Its ways come behind those that are there.
@@ -73,43 +133,44 @@ impl Counting {
         out: &mut Vec<Way>,
     ) -> Result<(), CountFault>
         requires few { self.old.copies ≤ 4096 }
+        requires short { self.old.length ≤ 65537 }
         ensures ways { OnOk result (out.new.items ≡ out.old.items ++ ways_of (plain_statement s.now)) }
         ensures copies { OnOk result (self.new.copies ≡ self.old.copies + copied (plain_statement s.now)) }
-        ensures least { OnOk result (self.new.least ≡ self.old.least + least (plain_statement s.now)) }
+        ensures length { OnOk result (self.new.length ≡ min (self.old.length + flat_size (plain_statement s.now)) 65537) }
         ensures few { Fits result (self.old.copies + copied (plain_statement s.now)) }
     {
         match s {
             Statement::Block(statements) => self.count_all(alloc, statements, out),
             Statement::If(_, first, second) => {
-                self.count_two(alloc, first, second, out)?;
-                Ok(self.one_more()?)
+                self.add_own(s);
+                self.count_two(alloc, first, second, out)
             }
             Statement::While(_, body) => {
-                self.count(alloc, body, out)?;
-                Ok(self.one_more()?)
+                self.add_own(s);
+                self.count(alloc, body, out)
             }
             Statement::Try(body, finally) => self.count_try(alloc, body, finally, out),
-            Statement::Guarded(body, _, handler) => self.count_two(alloc, body, handler, out),
+            Statement::Guarded(body, _, handler) => {
+                self.add_own(s);
+                self.count_two(alloc, body, handler, out)
+            }
             Statement::Leavable(body, own) => self.count_leavable(alloc, body, own, out),
             Statement::Return(_) => {
-                out.push(Way {
-                    number: None,
-                    times: 1,
-                })?;
-                Ok(self.one_more()?)
+                self.add_own(s);
+                Ok(put_once(out, None)?)
             }
             Statement::Leave(number) => {
-                out.push(Way {
-                    number: Some(*number),
-                    times: 1,
-                })?;
-                Ok(self.one_more()?)
+                self.add_own(s);
+                Ok(put_once(out, Some(*number))?)
             }
             Statement::SetLocal(_, _)
             | Statement::SetField(_, _, _)
             | Statement::SetItem(_, _, _)
             | Statement::Evaluate(_)
-            | Statement::Throw(_) => Ok(self.one_more()?),
+            | Statement::Throw(_) => {
+                self.add_own(s);
+                Ok(())
+            }
         }
     }
 
@@ -123,9 +184,10 @@ impl Counting {
         out: &mut Vec<Way>,
     ) -> Result<(), CountFault>
         requires few { self.old.copies ≤ 4096 }
+        requires short { self.old.length ≤ 65537 }
         ensures ways { OnOk result (out.new.items ≡ out.old.items ++ all_ways (statements_of statements.now)) }
         ensures copies { OnOk result (self.new.copies ≡ self.old.copies + all_copied (statements_of statements.now)) }
-        ensures least { OnOk result (self.new.least ≡ self.old.least + all_least (statements_of statements.now)) }
+        ensures length { OnOk result (self.new.length ≡ min (self.old.length + all_flat_size (statements_of statements.now)) 65537) }
         ensures few { Fits result (self.old.copies + all_copied (statements_of statements.now)) }
     {
         for s in statements {
@@ -146,9 +208,10 @@ impl Counting {
         out: &mut Vec<Way>,
     ) -> Result<(), CountFault>
         requires few { self.old.copies ≤ 4096 }
+        requires short { self.old.length ≤ 65537 }
         ensures ways { OnOk result (out.new.items ≡ out.old.items ++ ways_of (plain_statement first.now) ++ ways_of (plain_statement second.now)) }
         ensures copies { OnOk result (self.new.copies ≡ self.old.copies + (copied (plain_statement first.now) + copied (plain_statement second.now))) }
-        ensures least { OnOk result (self.new.least ≡ self.old.least + (least (plain_statement first.now) + least (plain_statement second.now))) }
+        ensures length { OnOk result (self.new.length ≡ min (self.old.length + (flat_size (plain_statement first.now) + flat_size (plain_statement second.now))) 65537) }
         ensures few { Fits result (self.old.copies + (copied (plain_statement first.now) + copied (plain_statement second.now))) }
     {
         self.count(alloc, first, out)?;
@@ -167,15 +230,17 @@ impl Counting {
         out: &mut Vec<Way>,
     ) -> Result<(), CountFault>
         requires few { self.old.copies ≤ 4096 }
+        requires short { self.old.length ≤ 65537 }
         ensures ways { OnOk result (out.new.items ≡ out.old.items ++ ways_of (Leavable (plain_statement body.now) (statements_of own.now))) }
         ensures copies { OnOk result (self.new.copies ≡ self.old.copies + copied (Leavable (plain_statement body.now) (statements_of own.now))) }
-        ensures least { OnOk result (self.new.least ≡ self.old.least + least (Leavable (plain_statement body.now) (statements_of own.now))) }
+        ensures length { OnOk result (self.new.length ≡ min (self.old.length + flat_size (Leavable (plain_statement body.now) (statements_of own.now))) 65537) }
         ensures few { Fits result (self.old.copies + copied (Leavable (plain_statement body.now) (statements_of own.now))) }
     {
         if own.len() > MOST_COPIES - self.copies {
             return Err(CountFault::TooManyCopies);
         }
         self.copies += own.len();
+        self.add(own.len());
         let mut ways = Vec::new(alloc);
         self.count(alloc, body, &mut ways)?;
         put_beyond(out, own.len() + 1, &ways)?;
@@ -194,38 +259,51 @@ impl Counting {
         out: &mut Vec<Way>,
     ) -> Result<(), CountFault>
         requires few { self.old.copies ≤ 4096 }
+        requires short { self.old.length ≤ 65537 }
         ensures ways { OnOk result (out.new.items ≡ out.old.items ++ ways_of (Try (plain_statement body.now) (plain_statement finally.now))) }
         ensures copies { OnOk result (self.new.copies ≡ self.old.copies + copied (Try (plain_statement body.now) (plain_statement finally.now))) }
-        ensures least { OnOk result (self.new.least ≡ self.old.least + least (Try (plain_statement body.now) (plain_statement finally.now))) }
+        ensures length { OnOk result (self.new.length ≡ min (self.old.length + flat_size (Try (plain_statement body.now) (plain_statement finally.now))) 65537) }
         ensures few { Fits result (self.old.copies + copied (Try (plain_statement body.now) (plain_statement finally.now))) }
     {
         let mut ways = Vec::new(alloc);
         self.count(alloc, body, &mut ways)?;
-        let blocks = blocks_of(&ways)?;
+        let count = blocks_of(&ways)?;
+        let returns = returns_of(&ways)?;
         put_all(out, &ways)?;
         let mut inside = Counting {
             copies: 0,
-            least: 0,
+            length: 0,
         };
         let mut inner = Vec::new(alloc);
         inside.count(alloc, finally, &mut inner)?;
-        self.with_blocks(blocks, &inside)?;
-        put_scaled(out, blocks, &inner)?;
+        self.with_blocks(&Blocks {
+            count,
+            returns,
+            inside,
+        })?;
+        put_scaled(out, count, &inner)?;
         Ok(())
     }
 
     // So many copies of a finally block, with those in it and with its instructions.
-    fn with_blocks(&mut self, blocks: usize, inside: &Counting) -> Result<(), CountFault>
-        requires few { inside.now.copies ≤ 4096 }
-        ensures copies { OnOk result (self.new.copies ≡ self.old.copies + blocks * (1 + inside.now.copies)) }
-        ensures least { OnOk result (self.new.least ≡ self.old.least + blocks * inside.now.least) }
-        ensures few { Fits result (self.old.copies + blocks * (1 + inside.now.copies)) }
+    fn with_blocks(&mut self, blocks: &Blocks) -> Result<(), CountFault>
+        requires few { blocks.now.inside.copies ≤ 4096 }
+        requires short { self.old.length ≤ 65537 }
+        requires finally { blocks.now.inside.length ≤ 65537 }
+        ensures copies { OnOk result (self.new.copies ≡ self.old.copies + blocks.now.count * (1 + blocks.now.inside.copies)) }
+        ensures length { OnOk result (self.new.length ≡ min (self.old.length + blocks.now.count * (blocks.now.inside.length + 2) + 2 * blocks.now.returns + 4) 65537) }
+        ensures few { Fits result (self.old.copies + blocks.now.count * (1 + blocks.now.inside.copies)) }
     {
-        let Some(copies) = with_copies(self.copies, blocks, inside.copies) else {
+        let Some(copies) = with_copies(self.copies, blocks.count, blocks.inside.copies) else {
             return Err(CountFault::TooManyCopies);
         };
         self.copies = copies;
-        self.least = with_least(self.least, blocks, inside.least)?;
+        self.length = with_length(
+            self.length,
+            blocks.count,
+            blocks.inside.length,
+            blocks.returns,
+        );
         Ok(())
     }
 }

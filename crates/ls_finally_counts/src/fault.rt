@@ -17,6 +17,9 @@ pub enum CountFault {
     /// The code of a method has over 65,536 instructions.
     #[error("a method with too long a code")]
     TooLong,
+    /// The code of all methods has over 65,536 instructions.
+    #[error("too long a code")]
+    TooLongTogether,
 }
 
 impl From<AllocError> for CountFault {

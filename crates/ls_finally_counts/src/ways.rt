@@ -1,8 +1,8 @@
 // The exits that a statement has without `try`, each with how often it is there.
 
-ghost use Rattle.std.specs.Prelude.{◌≡◌, ℕ, ◌+◌, ◌*◌, ◌++◌, ◌∷◌, [], Some, None, IfOk};
+ghost use Rattle.std.specs.Prelude.{◌≡◌, ℕ, ◌+◌, ◌*◌, ◌++◌, ◌∷◌, [], Some, None, IfOk, OnOk};
 ghost use Rattle.ls_finally.specs.Exits.{outward};
-ghost use Rattle.ls_finally_counts.specs.Counts.{total, scaled, beyond, one_beyond};
+ghost use Rattle.ls_finally_counts.specs.Counts.{total, returned, once, scaled, beyond, one_beyond};
 
 use std::alloc::AllocError;
 
@@ -33,6 +33,22 @@ fn total_of(ways: &[Way]) -> Result<usize, AllocError>
     Ok(all)
 }
 
+/// How often there is a return. More than a number holds are answered as want of memory.
+pub fn returns_of(ways: &[Way]) -> Result<usize, AllocError>
+    ensures { IfOk result (λ n. n ≡ returned ways.now) }
+{
+    let mut all = 0usize;
+    for way in ways {
+        if way.number.is_none() {
+            let Some(more) = all.checked_add(way.times) else {
+                return Err(AllocError);
+            };
+            all = more;
+        }
+    }
+    Ok(all)
+}
+
 /// How many copies of its finally block the exits of a body make.
 pub fn blocks_of(ways: &[Way]) -> Result<usize, AllocError>
     ensures { IfOk result (λ n. n ≡ 2 + total ways.now) }
@@ -41,6 +57,14 @@ pub fn blocks_of(ways: &[Way]) -> Result<usize, AllocError>
         Some(blocks) => Ok(blocks),
         None => Err(AllocError),
     }
+}
+
+/// Puts a leave or a return that is there once behind those that are there.
+pub fn put_once(out: &mut Vec<Way>, number: Option<usize>) -> Result<(), AllocError>
+    ensures { OnOk result (out.new.items ≡ out.old.items ++ once number) }
+{
+    out.push(Way { number, times: 1 })?;
+    Ok(())
 }
 
 /// Puts ways behind those that are there.

@@ -15,9 +15,9 @@ use Rattle.ls_finally_counts.specs.Refused as counted
 use Rattle.ls_emit.specs.Short.{AllShort}
 use Rattle.ls_emit.specs.declared.fault.EmitFault.{EmitFault}
 use Rattle.ls_emit.specs.declared.fault.EmitFault.TheVariants as emit
-use Rattle.ls_emit_laws.specs.Units.{CodeUnit, units_of}
+use Rattle.ls_emit_laws.specs.Units.{CodeUnit, units_of, file_size}
 use Rattle.ls_linker_laws.specs.Linked.{linked}
-use Rattle.ls_linker_sizes.specs.Floor.{KeepsFloor}
+use Rattle.ls_linker_sizes.specs.Floor.{CodeHoldsMethods, KeepsFloor}
 use Rattle.ls_linker.specs.declared.fault.LinkFault.{LinkFault}
 use Rattle.ls_linker.specs.declared.fault.LinkFault.TheVariants as link
 use Rattle.ls_linker.specs.declared.fault.BuildFault.TheVariants.{Lower, Emit, Link}
@@ -42,12 +42,18 @@ module _ (file : File) (program : Program) (refs : low.File) (r : refs ≡ lower
   finally_past TooManyLocals fits few refused = absurd (refused (subst FewLocals (sym r) few))
   finally_past TooManyCopies fits few refused = (fits, λ copies. refused (subst FewCopies (sym r) copies))
 
-  pub counts_past : (f : CountFault) → KeepsFloor → AllFit file.methods → counted.Refused refs f → GoesPast file program (of_counts f)
-  counts_past counts.Memory floor fits refused = tt
-  counts_past counts.TooManyCopies floor fits refused = (fits, λ copies. refused (subst FewCopies (sym r) copies))
-  counts_past counts.TooLong floor fits refused =
+  pub counts_past : (f : CountFault) → CodeHoldsMethods → KeepsFloor → AllFit file.methods → counted.Refused refs f → GoesPast file program (of_counts f)
+  counts_past counts.Memory holds floor fits refused = tt
+  counts_past counts.TooManyCopies holds floor fits refused = (fits, λ copies. refused (subst FewCopies (sym r) copies))
+  counts_past counts.TooLong holds floor fits refused =
       let too_long : ¬ AllShort (flat_of file) = λ short. refused.1 (subst AllShort (sym (ap flat_file r)) short) in
       (fits, subst FewCopies r refused.0, too_long, long_unit file program floor too_long)
+
+  counts_past counts.TooLongTogether holds floor fits refused =
+      let here : flat_file refs ≡ flat_of file = ap flat_file r in
+      let no : ¬ (file_size (flat_of file) ≤ 65536) = λ le. refused.2 (subst (λ f. file_size f ≤ 65536) (sym here) le) in
+      let too_long : 65536 < length (code_of file program).instructions = omega (arith, no, holds file program (flat_of file)) in
+      (fits, subst FewCopies r refused.0, subst AllShort here refused.1, too_long, long_code file program floor too_long)
 
   pub units_past : (flat : low.File) (f : EmitFault) → KeepsFloor → AllFit file.methods → FewCopies refs → flat ≡ flat_file refs → (f ≡ emit.CodeTooLong → ¬ AllShort flat) → GoesPast file program (Emit f)
   units_past flat emit.Memory floor fits few e long = tt

@@ -25,7 +25,7 @@ use std::alloc::Global;
 
 /// The whole code of a checked file and a thread program for it, which runs as the two: it has the same histories, both ways,
 /// and no thread is silent for too long. Refused with 30 to 33, by the first limit that isn't kept. Where copies of finally blocks are too
-/// many, or make a method too long, none of them is made.
+/// many, or the methods are too long with them, one or all together, none of them is made.
 pub fn build(alloc: Global, file: &File, program: &Program) -> Result<Code, BuildFault>
     requires file { IsWellTyped (plain_file file.now) }
     requires program { IsWellTypedProgram (plain_file file.now) (plain_program program.now) }

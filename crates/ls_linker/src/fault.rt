@@ -56,6 +56,7 @@ impl From<CountFault> for BuildFault {
             CountFault::Memory => BuildFault::Lower(LowerFault::Memory),
             CountFault::TooManyCopies => BuildFault::Lower(LowerFault::TooManyCopies),
             CountFault::TooLong => BuildFault::Emit(EmitFault::CodeTooLong),
+            CountFault::TooLongTogether => BuildFault::Link(LinkFault::CodeTooLong),
         }
     }
 }

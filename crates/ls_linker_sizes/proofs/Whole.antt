@@ -13,12 +13,12 @@ use Rattle.ls_headline.specs.Threads.{result_type}
 use Rattle.ls_meaning.specs.Expressions.{constructor_of}
 use Rattle.ls_lowered.specs.LoweredTree.{Method, File}
 use Rattle.ls_emit_laws.specs.Statements.{statement_code}
-use Rattle.ls_emit_laws.specs.Units.{method_size, method_code, units_of, moved}
+use Rattle.ls_emit_laws.specs.Units.{method_size, file_size, method_code, units_of, moved}
 use Rattle.ls_emit_laws.proofs.StatementPlaces.{statement_size_is}
 use Rattle.ls_linker_laws.specs.Linked.{units_code, threads_code, linked}
 use Rattle.ls_linker_laws.specs.Threads.{pushes, result_code, call_code, calls_code}
 use Rattle.ls_linker_laws.specs.Counts.{file_count, call_count, calls_count, threads_count, program_count}
-use Rattle.ls_linker_sizes.specs.Floor.{KeepsFloor}
+use Rattle.ls_linker_sizes.specs.Floor.{CodeHoldsMethods, KeepsFloor}
 use Rattle.ls_linker_sizes.proofs.Sizes.{method_sized}
 
 code_size : (m : Method) → length (method_code 0 m) ≡ method_size m
@@ -30,6 +30,16 @@ units_short p (m ∷ ms) =
     let a = length-append (map (moved p) (method_code 0 m)) (units_code (p + length (method_code 0 m)) (units_of ms)) in
     let b = length-map (method_code 0 m) (moved p) in
     omega (arith, a, b, code_size m, method_sized m, units_short (p + length (method_code 0 m)) ms)
+
+units_hold : (p : ℕ) (flat : File) → file_size flat ≤ length (units_code p (units_of flat))
+units_hold p [] = omega arith
+units_hold p (m ∷ ms) =
+    let a = length-append (map (moved p) (method_code 0 m)) (units_code (p + length (method_code 0 m)) (units_of ms)) in
+    let b = length-map (method_code 0 m) (moved p) in
+    omega (arith, a, b, code_size m, units_hold (p + length (method_code 0 m)) ms)
+
+pub code_holds : CodeHoldsMethods
+code_holds file program flat = omega (arith, length-append (units_code 0 (units_of flat)) (threads_code file.classes program.threads), units_hold 0 flat)
 
 pushes_are : (values : List Value) → length (pushes values) ≡ length values
 pushes_are values = length-map values (λ v. op.Push (word_of v))

@@ -7,7 +7,7 @@ use Rattle.ls_lowered.specs.LoweredTree.{Method, File}
 use Rattle.ls_refs.specs.Lowered.{lowered_method, lowered_file}
 use Rattle.ls_finally.specs.Flat.{flat_method, flat_file}
 use Rattle.ls_finally.specs.Counts.{copies_of, FewLocals}
-use Rattle.ls_emit_laws.specs.Units.{method_size, units_of}
+use Rattle.ls_emit_laws.specs.Units.{method_size, file_size, units_of}
 use Rattle.ls_linker_laws.specs.Linked.{linked}
 use Rattle.ls_linker_laws.specs.Counts.{method_count, file_count, program_count, written_nodes, statement_nodes}
 
@@ -15,7 +15,12 @@ use Rattle.ls_linker_laws.specs.Counts.{method_count, file_count, program_count,
 abbrev pub UnitsAreFew : Type 0
 UnitsAreFew = (m : Method) → method_size m ≤ 16 * method_count m
 
--- and the whole code at most 16 for each of these, and for each thread, call and argument
+-- the whole code has the instructions of each method
+abbrev pub CodeHoldsMethods : Type 0
+CodeHoldsMethods =
+    (file : checked.File) (program : Program) (flat : File) → file_size flat ≤ length (linked file program (units_of flat)).instructions
+
+-- and at most 16 for each of these, and for each thread, call and argument
 abbrev pub CodeIsShort : Type 0
 CodeIsShort =
     (file : checked.File) (program : Program) (flat : File) →

@@ -62,7 +62,8 @@ fn read_call(alloc: Global, at: usize, item: &[u8]) -> Result<String, OrderFault
 pub fn read_order(alloc: Global, text: &str) -> Result<Order, OrderFault>
     ensures { Gives (λ o. o) result (order_of text.now) }
 {
-    let mut calls = Vec::new(alloc);
+    // A call takes three bytes at least, and one before the next.
+    let mut calls = Vec::with_capacity(alloc, text.len() / 4 + 1)?;
     let mut at = 0;
     let mut rest = text.as_bytes();
     while !rest.is_empty() {

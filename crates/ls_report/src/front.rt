@@ -1,6 +1,6 @@
 // The events that are read so far.
 
-ghost use Rattle.std.specs.Prelude.{◌≡◌, ◌++◌, ◌∷◌, [], OnOk, Some, find, if◌then◌else◌, reverse, string_bytes};
+ghost use Rattle.std.specs.Prelude.{◌≡◌, ◌++◌, ◌∷◌, [], IfOk, OnOk, Some, find, if◌then◌else◌, reverse, string_bytes};
 ghost use Rattle.std.specs.BTreeMap.{get_by_text};
 ghost use Rattle.std.specs.Option.{option_copied};
 ghost use Rattle.std.specs.Str.{bytes_eq};
@@ -37,14 +37,16 @@ pub(crate) struct Front {
 }
 
 impl Front {
-    pub(crate) fn new(alloc: Global) -> Front
-        ensures events { result.events.items ≡ [] }
-        ensures indexed { IsIndexed result }
+    /// With room for so many events.
+    pub(crate) fn with_room(alloc: Global, most: usize) -> Result<Front, AllocError>
+        ensures events { IfOk result (λ f. f.events.items ≡ []) }
+        ensures indexed { IfOk result IsIndexed }
     {
-        Front {
-            events: Vec::new(alloc),
+        let events = Vec::with_capacity(alloc, most)?;
+        Ok(Front {
+            events,
             places: BTreeMap::new(alloc),
-        }
+        })
     }
 
     /// The last event of the thread.

@@ -1,6 +1,6 @@
 // Reading a history.
 
-ghost use Rattle.std.specs.Prelude.{◌≡◌, ◌<◌, ◌^◌, List, true, length as list_length, map, IfErr, IfNone, IfOk, IfSome};
+ghost use Rattle.std.specs.Prelude.{◌≡◌, ◌+◌, ◌<◌, ◌≤◌, ◌^◌, List, true, length as list_length, map, IfErr, IfNone, IfOk, IfSome};
 ghost use Rattle.std.specs.Str.{bytes_eq};
 ghost use Rattle.ls_report.specs.Discipline.{is_history, is_next};
 ghost use Rattle.ls_report.specs.Events.{Event};
@@ -52,13 +52,27 @@ fn next_in(
     Ok(Some(event))
 }
 
+/// How many events the text may have: each has a line, of eleven bytes at least, as `A.1 return`.
+fn most_events(text: &str) -> usize
+    ensures { result ≤ list_length text.now + 1 }
+{
+    let mut lines = 0;
+    for b in text.as_bytes() {
+        if *b == b'\n' {
+            lines += 1;
+        }
+    }
+    let most = text.len() / 11 + 1;
+    if lines < most { lines } else { most }
+}
+
 fn read_events(alloc: Global, text: &str, length: usize) -> Result<Vec<NamedEvent>, HistoryFault>
     requires { length ≡ list_length text.now }
     ensures fits { length < 2 ^ 64 }
     ensures found { IfOk result (λ events. Says text.now (map plain_event events.items)) }
     ensures fault { IfErr result (Explains text.now) }
 {
-    let mut front = Front::new(alloc);
+    let mut front = Front::with_room(alloc, most_events(text))?;
     let mut printed = String::new(alloc);
     let mut rest = text;
     while let Some((line, after)) = cut(rest, '\n') {

@@ -28,7 +28,7 @@ returns-in_err-measure-clause-refused c =
     let p = err_from_is_err_and c.from_residual-in_err-measure.result c.from_residual-in_err-measure.ensures.1 in
     rw (p.1, p.2)
     (counts_past (plain_file c.args.file.now) (plain_program c.args.program.now) (lowered.plain_file c.in_ok-refs.refs)
-    c.in_ok-refs.ensures.tree c.in_err-measure.field-0.0 c.sizes.ensures.floor c.in_ok-refs.ensures.fits c.in_err-measure.ensures.refused)
+    c.in_ok-refs.ensures.tree c.in_err-measure.field-0.0 c.sizes.ensures.methods c.sizes.ensures.floor c.in_ok-refs.ensures.fits c.in_err-measure.ensures.refused)
 
 pub returns-in_err-flat-clause-refused : goal.returns-in_err-flat-clause-refused
 returns-in_err-flat-clause-refused c =

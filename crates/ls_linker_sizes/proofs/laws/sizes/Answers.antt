@@ -1,9 +1,12 @@
 use Rattle.ls_linker_sizes.proofs.Sizes.{method_sized}
-use Rattle.ls_linker_sizes.proofs.Whole.{code_short, keeps_floor}
+use Rattle.ls_linker_sizes.proofs.Whole.{code_holds, code_short, keeps_floor}
 use Rattle.ls_linker_sizes.proofs.laws.sizes.Goals as goal
 
 pub returns-clause-units : goal.returns-clause-units
 returns-clause-units c = method_sized
+
+pub returns-clause-methods : goal.returns-clause-methods
+returns-clause-methods c = code_holds
 
 pub returns-clause-code : goal.returns-clause-code
 returns-clause-code c = code_short

@@ -1,4 +1,5 @@
-use Rattle.std.proofs.Common.{◌≡◌, ◌+◌, ◌∷◌, ◌++◌, suc, append_assoc, drop, ap, subst, ◌∙◌, rules, arith, List, OnOk, length}
+use Rattle.std.proofs.Common.{◌≡◌, ℕ, ◌+◌, ◌*◌, ◌∷◌, ◌++◌, suc, append_assoc, drop, ap, subst, ◌∙◌, rules, arith, List, OnOk, length}
+use Rattle.std.specs.Prelude.{min}
 use Rattle.ls_lowered.specs.declared.tree.Statement.{Statement}
 use Rattle.ls_lowered.specs.LoweredTree.{Leavable}
 use Rattle.ls_lowered.specs.Plain.{plain_statement, statements_of}
@@ -7,7 +8,8 @@ use Rattle.ls_finally.proofs.Counted.{counted}
 use Rattle.ls_finally_copies.proofs.Fronts.{left_at, leavable_read}
 use Rattle.ls_finally_copies.proofs.Weights.{size, size_at}
 use Rattle.ls_finally_counts.specs.declared.ways.Way.{Way}
-use Rattle.ls_finally_counts.specs.Counts.{beyond, ways_of, all_ways}
+use Rattle.ls_finally_counts.specs.Counts.{beyond, ways_of, all_ways, total, returned, flat_size}
+use Rattle.ls_finally_counts.proofs.More.{capped}
 use Rattle.ls_finally_counts.proofs.counting.Counting.+count.Goals as goal
 
 pub count-count_leavable-requires : goal.count-count_leavable-requires
@@ -15,7 +17,7 @@ count-count_leavable-requires t c =
     let body = c.deref-in-Leavable.result.now in
     let own = c.deref-in-Leavable-2.result.now in
     let e : plain_statement c.args.s.now ≡ Leavable (plain_statement body) (statements_of own) = leavable_read c.args.s.now c.in-Leavable.body c.in-Leavable.own body own c.deref-in-Leavable.ensures c.deref-in-Leavable-2.ensures.value c.in-Leavable.is in
-    (omega (arith, ap size e), c.requires.few)
+    (omega (arith, ap size e), (c.requires.few, c.requires.short))
 
 pub count-returns-in-Leavable-clause-ways : goal.count-returns-in-Leavable-clause-ways
 count-returns-in-Leavable-clause-ways t c =
@@ -31,12 +33,12 @@ count-returns-in-Leavable-clause-copies t c =
     let e : plain_statement c.args.s.now ≡ Leavable (plain_statement body) (statements_of own) = leavable_read c.args.s.now c.in-Leavable.body c.in-Leavable.own body own c.deref-in-Leavable.ensures c.deref-in-Leavable-2.ensures.value c.in-Leavable.is in
     rw e c.count_leavable.ensures.copies
 
-pub count-returns-in-Leavable-clause-least : goal.count-returns-in-Leavable-clause-least
-count-returns-in-Leavable-clause-least t c =
+pub count-returns-in-Leavable-clause-length : goal.count-returns-in-Leavable-clause-length
+count-returns-in-Leavable-clause-length t c =
     let body = c.deref-in-Leavable.result.now in
     let own = c.deref-in-Leavable-2.result.now in
     let e : plain_statement c.args.s.now ≡ Leavable (plain_statement body) (statements_of own) = leavable_read c.args.s.now c.in-Leavable.body c.in-Leavable.own body own c.deref-in-Leavable.ensures c.deref-in-Leavable-2.ensures.value c.in-Leavable.is in
-    rw e c.count_leavable.ensures.least
+    rw e c.count_leavable.ensures.length
 
 pub count-returns-in-Leavable-clause-few : goal.count-returns-in-Leavable-clause-few
 count-returns-in-Leavable-clause-few t c =
@@ -52,7 +54,7 @@ count_all-count-requires t c =
     let s = c.s-item.result in
     let split : drop i xs ≡ s ∷ drop (i + 1) xs = left_at xs i s (search rules) c.s-item.is in
     let less = size_at xs i s split in
-    (omega (arith, less), c.loop-s.invariant.3)
+    (omega (arith, less), (c.loop-s.invariant.3, c.loop-s.invariant.4))
 
 pub count_leavable-returns-clause-ways : goal.count_leavable-returns-clause-ways
 count_leavable-returns-clause-ways t c =
@@ -66,3 +68,24 @@ count_leavable-returns-clause-ways t c =
     ap (λ (ws : List Way). ws ++ others) (c.in_ok-put_beyond.ensures ∙ ap (λ n. before ++ beyond n c.deref.result.now) numbers ∙ ap (λ (ws : List Way). before ++ beyond (suc (count (statements_of own))) ws) found)
     ∙ append_assoc before (beyond (suc (count (statements_of own))) inner) others in
     subst (λ (ws : List Way). OnOk c.count_all.result (c.count_all.new.out.items ≡ ws)) whole c.count_all.ensures.ways
+
+pub count_try-returns-clause-length : goal.count_try-returns-clause-length
+count_try-returns-clause-length t c =
+    let inner : List Way = ways_of (plain_statement c.args.body.now) in
+    let first : ℕ = flat_size (plain_statement c.args.body.now) in
+    let second : ℕ = flat_size (plain_statement c.args.finally.now) in
+    let before : ℕ = c.args.self.now.length in
+    let all : List Way → List Way = λ ws. ws ++ inner in
+    let counted = c.in_ok-count.ensures.ways ∙ ap all c.new-ways.ensures.items in
+    let blocks : c.in_ok-count-2.count ≡ 2 + total inner = c.in_ok-count-2.ensures ∙ ap (λ ws. 2 + total ws) (c.deref.ensures.value ∙ counted) in
+    let back : c.in_ok-returns.returns ≡ returned inner = c.in_ok-returns.ensures ∙ ap returned (c.deref-2.ensures.value ∙ counted) in
+    let body : c.count.new.self.length ≡ min (before + first) 65537 = c.in_ok-count.ensures.length in
+    let inside : c.count-2.new.self.length ≡ min second 65537 = omega (arith, c.in_ok-count-3.ensures.length) in
+    let whole : c.with_blocks.new.self.length ≡ min (before + first + (2 + total inner) * (second + 2) + 2 * returned inner + 4) 65537 =
+    c.in_ok-with_blocks.ensures.length
+    ∙ ap (λ n. min (c.count.new.self.length + n * (c.count-2.new.self.length + 2) + 2 * c.in_ok-returns.returns + 4) 65537) blocks
+    ∙ ap (λ n. min (c.count.new.self.length + (2 + total inner) * (n + 2) + 2 * c.in_ok-returns.returns + 4) 65537) inside
+    ∙ ap (λ n. min (c.count.new.self.length + (2 + total inner) * (min second 65537 + 2) + 2 * n + 4) 65537) back
+    ∙ ap (λ n. min (n + (2 + total inner) * (min second 65537 + 2) + 2 * returned inner + 4) 65537) body
+    ∙ capped (before + first) (total inner) second (returned inner) in
+    omega (arith, whole)

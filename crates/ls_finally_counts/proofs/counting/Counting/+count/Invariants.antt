@@ -1,7 +1,8 @@
 use Rattle.std.proofs.Common.{◌≡◌, ◌+◌, ◌*◌, ◌++◌, ◌≤◌, drop}
+use Rattle.std.specs.Prelude.{min}
 use Rattle.ls_lowered.specs.Plain.{plain_statement, statements_of}
 use Rattle.ls_finally_copies.proofs.Weights.{size, sizes}
-use Rattle.ls_finally_counts.specs.Counts.{all_ways, all_copied, all_least}
+use Rattle.ls_finally_counts.specs.Counts.{all_ways, all_copied, all_flat_size}
 use Rattle.ls_finally_counts.proofs.counting.Counting.+count.Given as goal
 
 abbrev pub decreases-count : goal.decreases-count
@@ -23,5 +24,6 @@ abbrev pub invariant-count_all-loop-s : goal.invariant-count_all-loop-s
 invariant-count_all-loop-s l =
     (l.out.items ++ all_ways (statements_of (drop l.s-index l.statements)) ≡ l.initial.out.items ++ all_ways (statements_of l.statements))
     × (l.self.copies + all_copied (statements_of (drop l.s-index l.statements)) ≡ l.fn.self.copies + all_copied (statements_of l.statements))
-    × (l.self.least + all_least (statements_of (drop l.s-index l.statements)) ≡ l.fn.self.least + all_least (statements_of l.statements))
+    × (min (l.self.length + all_flat_size (statements_of (drop l.s-index l.statements))) 65537 ≡ min (l.fn.self.length + all_flat_size (statements_of l.statements)) 65537)
     × (l.self.copies ≤ 4096)
+    × (l.self.length ≤ 65537)

@@ -1,0 +1,7 @@
+use Rattle.std.proofs.Common.{◌≡◌, ◌+◌, ◌≤◌, drop}
+use Rattle.ls_finally_counts.specs.Counts.{sum}
+use Rattle.ls_finally_counts.proofs.files.are_short_together.Given as goal
+
+abbrev pub invariant-loop-length : goal.invariant-loop-length
+invariant-loop-length l =
+    (l.left ≤ 65536) × (sum l.lengths + l.left ≡ sum (drop l.length-index l.lengths) + 65536)
