@@ -63,7 +63,7 @@ pub(crate) fn calls_of(
     ensures { IfOk result (λ named. plain_named named
         ≡ each (λ name. ok_or (get_by_text names.now name) name) (map string_bytes order.now)) }
 {
-    let mut calls = Vec::new(alloc);
+    let mut calls = Vec::with_capacity(alloc, order.len())?;
     for name in order {
         match names.get(name.as_str()) {
             Some(call) => calls.push(*call)?,

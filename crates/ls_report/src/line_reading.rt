@@ -143,10 +143,11 @@ fn values_in(alloc: Global, text: &str) -> Result<Option<Vec<Value>>, AllocError
     ensures { (vs : List ghost_Value) → list_all is_shown vs ≡ true → text.now ≡ arguments_text vs
         → IfOk result (λ o. option_map (λ v. v.items) o ≡ Some vs) }
 {
-    let mut values = Vec::new(alloc);
     if text.is_empty() {
-        return Ok(Some(values));
+        return Ok(Some(Vec::new(alloc)));
     }
+    // Most calls pass one.
+    let mut values = Vec::with_capacity(alloc, 1)?;
     let mut rest = text;
     while let Some((first, others)) = cut(rest, ',') {
         let Some(value) = value_in(first) else {

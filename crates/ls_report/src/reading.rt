@@ -1,6 +1,6 @@
 // Reading a history.
 
-ghost use Rattle.std.specs.Prelude.{◌≡◌, ◌+◌, ◌<◌, ◌≤◌, ◌^◌, List, true, length as list_length, map, IfErr, IfNone, IfOk, IfSome};
+ghost use Rattle.std.specs.Prelude.{◌≡◌, ◌<◌, ◌≤◌, ◌^◌, List, true, length as list_length, map, IfErr, IfNone, IfOk, IfSome};
 ghost use Rattle.std.specs.Str.{bytes_eq};
 ghost use Rattle.ls_report.specs.Discipline.{is_history, is_next};
 ghost use Rattle.ls_report.specs.Events.{Event};
@@ -54,16 +54,20 @@ fn next_in(
 
 /// How many events the text may have: each has a line, of eleven bytes at least, as `A.1 return`.
 fn most_events(text: &str) -> usize
-    ensures { result ≤ list_length text.now + 1 }
+    ensures { result ≤ list_length text.now }
 {
-    let mut lines = 0;
+    let mut events = 0usize;
+    let mut length = 0usize;
     for b in text.as_bytes() {
+        length += 1;
         if *b == b'\n' {
-            lines += 1;
+            if length >= 11 {
+                events += 1;
+            }
+            length = 0;
         }
     }
-    let most = text.len() / 11 + 1;
-    if lines < most { lines } else { most }
+    events
 }
 
 fn read_events(alloc: Global, text: &str, length: usize) -> Result<Vec<NamedEvent>, HistoryFault>

@@ -8,7 +8,7 @@ use Rattle.ls_report.proofs.line_reading.values_in.Goals as goal
 pub returns-then-is_empty : goal.returns-then-is_empty
 returns-then-is_empty c = λ vs h e.
     let none : length c.args.text.now ≡ 0 = eqb-true (length c.args.text.now) 0 (sym c.is_empty.ensures ∙ c.if-is_empty.true) in
-    ap Some (c.new-values.ensures.items ∙ sym (no_values vs h (ap length (sym e) ∙ none)))
+    ap Some (c.new.ensures.items ∙ sym (no_values vs h (ap length (sym e) ∙ none)))
 
 pub returns-in_default-value_in : goal.returns-in_default-value_in
 returns-in_default-value_in c = λ vs h e.
