@@ -146,6 +146,9 @@ def copies():
     exit = b"if (b) return; "
     for exits, size in ((100, 1000), (400, 4000), (4000, 40_000)):
         yield f"copies_{exits}_of_{size}", ["compile"], method(b"try { " + exit * exits + b"} finally { " + b"x=1;" * size + b" }") + EMPTY, 32
+    for methods, exits, size, fault in ((65, 160, 400, 32), (113, 128, 128, 33)):
+        many = b"".join(b"void f%d(boolean b) { try { " % i + b"if(b)return;" * exits + b"} finally { " + b"x=1;" * size + b" } } " for i in range(methods))
+        yield f"copies_of_{methods}_methods", ["compile"], b"class C { int x; " + many + b"}" + EMPTY, fault
     long = b"void g() { try { " + exit * 400 + b"} finally { " + b"x=1;" * 4000 + b" } }"
     yield "too_many_copies_behind_too_long", ["compile"], method(b"try { " + exit * 4095 + b"} finally { }", before=long) + EMPTY, 31
     yield "copies_400_of_4000_that_do_nothing", ["compile"], method(b"try { " + exit * 400 + b"} finally { " + b";" * 4000 + b" }") + EMPTY, 0
