@@ -6,8 +6,7 @@ use Rattle.ls_finally.specs.Flat.{tries, flat, all_flat}
 use Rattle.ls_finally.specs.Counts.{copies, all_copies}
 use Rattle.ls_emit_laws.specs.Statements.{statement_size, statements_size, exits_size}
 use Rattle.ls_finally_counts.specs.declared.ways.Way.{Way}
-use Rattle.ls_finally_counts.specs.Counts.{total, scaled, at_number, numbered_beyond, one_beyond, beyond, ways_of, all_ways, copied, all_copied, returned, flat_size, all_flat_size}
-use Rattle.ls_finally_counts.proofs.Outward.{outs, beyond_both}
+use Rattle.ls_finally_counts.specs.Counts.{total, scaled, at_number, numbered_beyond, one_beyond, beyond, ways_of, all_ways, copied, all_copied, flat_size, all_flat_size}
 use Rattle.ls_finally_counts.proofs.Flats.{flat_none}
 use Rattle.ls_finally_counts.proofs.Exits.{finally_exits}
 use Rattle.ls_finally_counts.proofs.Returns.{returned_right}

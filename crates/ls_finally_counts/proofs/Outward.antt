@@ -1,5 +1,5 @@
 -- Numbers inside of a statement and beyond it.
-use Rattle.std.proofs.Common.{◌≡◌, ℕ, zero, suc, ◌+◌, ◌<◌, List, [], ◌∷◌, length, Option, Some, None, refl, ap, ◌∙◌, arith}
+use Rattle.std.proofs.Common.{◌≡◌, ℕ, zero, suc, ◌+◌, ◌<◌, List, [], ◌∷◌, length, Some, None, ap, ◌∙◌, arith}
 use Rattle.ls_finally.specs.Exits.{outward, Exit, LeaveOut, ReturnOut, leave_exit}
 
 -- a number that isn't beyond so many is below them

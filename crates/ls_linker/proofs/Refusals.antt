@@ -48,7 +48,6 @@ module _ (file : File) (program : Program) (refs : low.File) (r : refs ≡ lower
   counts_past counts.TooLong holds floor fits refused =
       let too_long : ¬ AllShort (flat_of file) = λ short. refused.1 (subst AllShort (sym (ap flat_file r)) short) in
       (fits, subst FewCopies r refused.0, too_long, long_unit file program floor too_long)
-
   counts_past counts.TooLongTogether holds floor fits refused =
       let here : flat_file refs ≡ flat_of file = ap flat_file r in
       let no : ¬ (file_size (flat_of file) ≤ 65536) = λ le. refused.2 (subst (λ f. file_size f ≤ 65536) (sym here) le) in

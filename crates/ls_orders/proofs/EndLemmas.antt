@@ -10,7 +10,7 @@ use Rattle.std.specs.Str.{bytes_eq}
 use Rattle.std.proofs.lemmas.Bool.{ltb-true}
 use Rattle.std.proofs.lemmas.List.{reverse-append}
 use Rattle.std.proofs.lemmas.Map.Text.{is_eq-slice_cmp}
-use Rattle.ls_report.specs.Events.{Event, Text}
+use Rattle.ls_report.specs.Events.{Text}
 use Rattle.ls_report.specs.Plain.{plain_event}
 use Rattle.ls_report.specs.declared.history.NamedEvent.{NamedEvent}
 use Rattle.ls_orders.specs.declared.calls.End.{End}

@@ -1,4 +1,4 @@
-use Rattle.std.proofs.Common.{rules, ◌∙◌, sym, ap}
+use Rattle.std.proofs.Common.{rules, ◌∙◌}
 use Rattle.ls_lowered.proofs.Taken.{no_truth}
 use Rattle.ls_finally_counts.proofs.Whole.{few_copies, passes_on, are_short, short_so, together, together_so}
 use Rattle.ls_finally_counts.proofs.files.measure.Goals as goal

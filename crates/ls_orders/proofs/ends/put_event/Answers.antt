@@ -1,8 +1,6 @@
-use Rattle.std.proofs.Common.{◌∙◌, ap, string_bytes, sym}
+use Rattle.std.proofs.Common.{◌∙◌, ap, sym}
 use Rattle.std.proofs.lemmas.Result.{IfOk-weaker}
-use Rattle.ls_report.specs.Plain.{plain_occurrence}
 use Rattle.ls_orders.specs.Ends.{ended}
-use Rattle.ls_orders.specs.SetCalls.{end_at}
 use Rattle.ls_orders.proofs.EndLemmas.{put_there}
 use Rattle.ls_orders.proofs.ends.put_event.Goals as goal
 

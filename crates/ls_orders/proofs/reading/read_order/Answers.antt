@@ -11,7 +11,7 @@ use Rattle.ls_orders.proofs.reading.read_order.Goals as goal
 
 pub returns-in_err-call : goal.returns-in_err-call
 returns-in_err-call c =
-    let p = err_from_is_err_and c.from_residual.result c.from_residual.ensures.1 in
+    let p = err_from_is_err_and c.from_residual-in_err-call.result c.from_residual-in_err-call.ensures.1 in
     let front = map string_bytes c.loop-rest.calls.items in
     let split = items_split c.loop-rest.at _ c.loop-rest.rest.now _ _ c.item_len-len.ensures c.if-len-eq0.false c.split_at.ensures.front c.split_at.ensures.back in
     let item : Item = (c.loop-rest.at, c.split_at.result.0.now) in
