@@ -31,7 +31,7 @@ use Rattle.ls_headline.proofs.Feeding.{ended, trapped, at_end, more, silent_is}
 use Rattle.ls_headline.proofs.LockCells.{another_is}
 use Rattle.ls_headline.proofs.Middle.{Middle, Here, Saw, Lost, Told, same_mode}
 use Rattle.ls_headline.proofs.Effects.{renaming}
-use Rattle.ls_headline.proofs.StepBack as back
+use Rattle.ls_headline.proofs.Following
 use Rattle.ls_ends.specs.InTime.{StandsAs, IsOpen, EndsInTime}
 use Rattle.ls_ends.proofs.Reached.{follows_all}
 
@@ -155,18 +155,18 @@ module _ (file : File) (program : Program) (code : Code) (asks : Asks file progr
   bound = most_silent code
 
   abbrev Follows : State → Machine → Type 0
-  Follows = back.Follows file program code asks sound room within.most
+  Follows = Following.Follows file program code asks sound room within.most
 
   abbrev Each : (s : State) (m : Machine) → Follows s m → ℕ → Option Answers → Option Thread → Type 0
-  Each s m h t o p = back.Each file program code asks sound room within.most m.cells h.sorts (renaming (back.names file program code asks sound room within.most) s.store) t o p
+  Each s m h t o p = Following.Each file program code asks sound room within.most m.cells h.sorts (renaming (Following.names file program code asks sound room within.most) s.store) t o p
 
   abbrev Stood : Next → Machine → ℕ → Type 0
   Stood d m t = StandsAs d (machine_state (machine_run m (replicate bound t)) t)
 
   abbrev InWords : (ℕ → ℕ) → Next → Pause → Type 0
-  InWords = back.InWords file program code asks sound room within.most
+  InWords = Following.InWords file program code asks sound room within.most
 
-  in_time_by : (ρ : ℕ → ℕ) (m : Machine) (t : ℕ) → m.code ≡ code → IsOpen m t → (y x : Thread) → slice_get m.threads t ≡ Some x → Middle code m.cells t y x → (d : Next) (q : Pause) → back.stands file program code asks sound room within.most t y ≡ q → InWords ρ d q → Stood d m t
+  in_time_by : (ρ : ℕ → ℕ) (m : Machine) (t : ℕ) → m.code ≡ code → IsOpen m t → (y x : Thread) → slice_get m.threads t ≡ Some x → Middle code m.cells t y x → (d : Next) (q : Pause) → Following.stands file program code asks sound room within.most t y ≡ q → InWords ρ d q → Stood d m t
   in_time_by ρ m t image is_open y x there mid (Goes a k) q e w = tt
   in_time_by ρ m t image is_open y x there mid Ended (IsOver mode.Ended) e w = over_middle code t mode.Ended bound m image is_open.0 is_open.1 y x there mid e
   in_time_by ρ m t image is_open y x there mid Trapped (IsOver mode.Trapped) e w = over_middle code t mode.Trapped bound m image is_open.0 is_open.1 y x there mid e
@@ -186,8 +186,8 @@ module _ (file : File) (program : Program) (code : Code) (asks : Asks file progr
   in_time_at : (s : State) (m : Machine) (h : Follows s m) (t : ℕ) → IsOpen m t → (had : Answers) → slice_get s.answers t ≡ Some had → (p : Option Thread) → slice_get m.threads t ≡ p → Each s m h t (Some had) p → Stood (next file program t had) m t
   in_time_at s m h t is_open had at None there each = absurd each
   in_time_at s m h t is_open had at (Some x) there each =
-      in_time_by _ m t h.image is_open each.3 x there each.5 (next file program t had) (back.stands file program code asks sound room within.most t each.3) refl
-      (back.stands_so file program code asks sound room within.most h.sorts s.store m.cells h.holds t had x each)
+      in_time_by _ m t h.image is_open each.3 x there each.5 (next file program t had) (Following.stands file program code asks sound room within.most t each.3) refl
+      (Following.stands_so file program code asks sound room within.most h.sorts s.store m.cells h.holds t had x each)
 
   pub in_time : (s : State) (m : Machine) (h : Follows s m) (t : ℕ) → t < length program.threads → IsOpen m t → Stood (next file program t (answers_of s t)) m t
   in_time s m h t is is_open =

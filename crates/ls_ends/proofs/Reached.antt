@@ -14,21 +14,21 @@ use Rattle.ls_headline.specs.Same.{IsCells}
 use Rattle.ls_headline.proofs.Meaning.{Means}
 use Rattle.ls_headline.proofs.Runs.{md, run_is, trace_is}
 use Rattle.ls_headline.proofs.LiftBack
-use Rattle.ls_headline.proofs.StepBack
+use Rattle.ls_headline.proofs.Following
 use Rattle.ls_headline.proofs.Theorem
 
 module _ (file : File) (program : Program) (code : Code) (asks : Asks file program code) (sound : Means file program) (room : ℕ) (within : IsCells code room) where
   abbrev Follows : State → Machine → Type 0
-  Follows = StepBack.Follows file program code asks sound room within.most
+  Follows = Following.Follows file program code asks sound room within.most
 
   abbrev Live : State → source.Entry Value → Type 0
-  Live = StepBack.Live file program code asks sound room within.most
+  Live = Following.Live file program code asks sound room within.most
 
   abbrev Later : State → State → Type 0
-  Later = StepBack.Later file program code asks sound room within.most
+  Later = Following.Later file program code asks sound room within.most
 
   abbrev write : State → source.Entry Value → Entry
-  write = StepBack.write file program code asks sound room within.most
+  write = Following.write file program code asks sound room within.most
 
   pub follows_all : (ts : List ℕ) → Follows (source_run file program (to_source code room ts)) (machine_run (loaded code room) ts)
   follows_all ts =

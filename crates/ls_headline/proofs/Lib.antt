@@ -16,7 +16,9 @@ pub mod PartsThere
 pub mod Others
 pub mod LockCells
 pub mod Middle
+pub mod Following
 pub mod StepBack
+pub mod Bursts
 pub mod StepForth
 pub mod Total
 pub mod Histories

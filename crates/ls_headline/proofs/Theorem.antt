@@ -25,8 +25,10 @@ use Rattle.ls_headline.proofs.LiftForth
 use Rattle.ls_headline.proofs.Cells.{sizes_of, AgreeTo}
 use Rattle.ls_headline.proofs.Effects.{HaveTypes, renaming}
 use Rattle.ls_headline.proofs.AllCases.{names_of}
+use Rattle.ls_headline.proofs.Following
 use Rattle.ls_headline.proofs.StepBack
 use Rattle.ls_headline.proofs.Middle.{Here}
+use Rattle.ls_headline.proofs.Bursts
 use Rattle.ls_headline.proofs.StepForth
 use Rattle.ls_headline.proofs.Histories.{events_in, history_is, AllSay, events_back}
 use Rattle.ls_headline.proofs.Births.{addresses, numbered_agrees, grows_refl, grows_trans, grows_step, births_right, addresses_differ}
@@ -64,19 +66,19 @@ module _ (file : File) (program : Program) (code : Code) (asks : Asks file progr
   bound = most_silent code
 
   abbrev pub Follows : State → Machine → Type 0
-  Follows = StepBack.Follows file program code asks sound room within.most
+  Follows = Following.Follows file program code asks sound room within.most
 
   abbrev pub Live : State → source.Entry Value → Type 0
-  Live = StepBack.Live file program code asks sound room within.most
+  Live = Following.Live file program code asks sound room within.most
 
   abbrev pub Later : State → State → Type 0
-  Later = StepBack.Later file program code asks sound room within.most
+  Later = Following.Later file program code asks sound room within.most
 
   abbrev pub write : State → source.Entry Value → Entry
-  write = StepBack.write file program code asks sound room within.most
+  write = Following.write file program code asks sound room within.most
 
   abbrev Has : ℕ → Option Answers → Option Thread → Type 0
-  Has t o p = StepForth.Each file program code asks sound room within.most [] (renaming names s0.store) t o p
+  Has t o p = Bursts.Each file program code asks sound room within.most [] (renaming names s0.store) t o p
 
   each_start : (xs : List Start) (ys : List ThreadProgram) (k t : ℕ) → ((u : ℕ) → calls_of (slice_get xs u) (slice_get ys u)) → ((u : ℕ) (x : Start) → slice_get xs u ≡ Some x → slice_get code.starts (k + u) ≡ Some x) → Has (k + t) (slice_get (map (λ y. []) ys) t) (slice_get (map started xs) t)
   each_start [] [] k t c h = tt
@@ -92,7 +94,7 @@ module _ (file : File) (program : Program) (code : Code) (asks : Asks file progr
   count : names ≡ length program.names
   count = length-map program.names (λ x. type.Class x.class)
 
-  steady_start : StepForth.Follows file program code asks sound room within.most s0 m0
+  steady_start : Bursts.Follows file program code asks sound room within.most s0 m0
   steady_start = record {
     sorts = [];
     image = refl;
@@ -109,7 +111,7 @@ module _ (file : File) (program : Program) (code : Code) (asks : Asks file progr
     each = λ t. let e : 0 + t ≡ t = omega arith in subst (λ n. Has n (slice_get (map (λ y. []) program.threads) t) (slice_get (map started code.starts) t)) e (each_start code.starts program.threads 0 t asks.threads (λ u x g. let e' : u ≡ 0 + u = omega arith in subst (λ n. slice_get code.starts n ≡ Some x) e' g));
   }
 
-  back_each : (σ : List ValueType) (t : ℕ) (o : Option Answers) (p : Option Thread) → StepForth.Each file program code asks sound room within.most σ (renaming names s0.store) t o p → StepBack.Each file program code asks sound room within.most m0.cells σ (renaming names s0.store) t o p
+  back_each : (σ : List ValueType) (t : ℕ) (o : Option Answers) (p : Option Thread) → Bursts.Each file program code asks sound room within.most σ (renaming names s0.store) t o p → Following.Each file program code asks sound room within.most m0.cells σ (renaming names s0.store) t o p
   back_each σ t None None h = tt
   back_each σ t None (Some x) h = absurd h
   back_each σ t (Some had) None h = absurd h
@@ -192,7 +194,7 @@ module _ (file : File) (program : Program) (code : Code) (asks : Asks file progr
   source_right ts =
       let r = LiftBack.to_source_right State Machine (source.Entry Value) Entry sd md (λ f. f.thread) write Follows Later Live back_laws ts s0 m0 follows_start in
       let e = trace_is ts m0 in
-      subst (λ fs. Alike file program code room ts (map (λ f. f.thread) fs)) e (alike ts (map (λ f. f.thread) (trace md m0 ts)) (trace md m0 ts) (StepBack.used_length file program code asks sound room within.most r.0.sorts (run sd s0 (map (λ f. f.thread) (trace md m0 ts))).store (run md m0 ts).cells r.0.holds) (sym e) r.1 r.3)
+      subst (λ fs. Alike file program code room ts (map (λ f. f.thread) fs)) e (alike ts (map (λ f. f.thread) (trace md m0 ts)) (trace md m0 ts) (Following.used_length file program code asks sound room within.most r.0.sorts (run sd s0 (map (λ f. f.thread) (trace md m0 ts))).store (run md m0 ts).cells r.0.holds) (sym e) r.1 r.3)
 
   same_alive : (s : State) (es : List (source.Entry Value)) → LiftForth.Alive file program bound write InStep Later Live FitsNow s es → Alive s es
   same_alive s [] h = tt
