@@ -4,4 +4,5 @@
 pub mod expressions;
 pub mod operators;
 pub mod primaries;
+mod suffixes;
 pub mod tokens;
