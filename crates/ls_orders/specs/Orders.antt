@@ -1,7 +1,8 @@
 -- What an order's text says.
-use Rattle.std.specs.Prelude.{◌≡◌, ◌==◌, ◌&&◌, Bool, false, not, List, [], ◌∷◌, Result, Ok, Err, if◌then◌else◌}
+use Rattle.std.specs.Prelude.{◌≡◌, ◌==◌, ◌&&◌, ℕ, Bool, false, not, List, [], ◌∷◌, Result, Ok, Err, if◌then◌else◌}
 use Rattle.std.specs.List.{list_all}
 use Rattle.std.specs.Option.{option_map_or}
+use denote.Ref.{Bor}
 use Rattle.ls_lexer.specs.Characters.{is_digit}
 use Rattle.ls_lexer.specs.Names.{is_name}
 use Rattle.ls_report.specs.Cut.{cut}
@@ -10,6 +11,10 @@ use Rattle.ls_orders.specs.Each.{each}
 use Rattle.ls_items.specs.Items.{Item, items}
 use Rattle.ls_orders.specs.declared.fault.OrderFault.{OrderFault}
 use Rattle.ls_orders.specs.declared.fault.OrderFault.TheVariants as faults
+
+-- the text that is borrowed
+abbrev pub plain_text : Bor (List ℕ) → Text
+plain_text borrowed = borrowed.now
 
 -- a digit that isn't 0, and then digits
 abbrev pub is_number : Text → Bool

@@ -1,6 +1,6 @@
 // How calls end, from the last event to the first.
 
-ghost use Rattle.std.specs.Prelude.{◌≡◌, ◌==◌, ◌&&◌, ℕ, IfOk, OnOk, if◌then◌else◌, string_bytes};
+ghost use Rattle.std.specs.Prelude.{◌≡◌, ◌==◌, ◌&&◌, ℕ, IfOk, OnOk, if◌then◌else◌};
 ghost use Rattle.ls_orders.specs.declared.calls.End.TheVariants.{Pending};
 ghost use Rattle.std.specs.Str.{bytes_eq};
 ghost use Rattle.ls_report.specs.Events.{Text};
@@ -23,7 +23,7 @@ fn reply_of(value: Option<Value>) -> Option<bool>
     }
 }
 
-fn end_at(at: usize, occurrence: &Occurrence) -> End
+fn end_at(at: usize, occurrence: &Occurrence<'_>) -> End
     ensures { result ≡ end_at at (plain_occurrence occurrence.now) }
 {
     match occurrence {
@@ -61,14 +61,14 @@ fn put_end<'a>(
 pub(crate) fn put_event<'a>(
     ends: &mut BTreeMap<(usize, &'a str), End>,
     at: usize,
-    event: &'a NamedEvent,
+    event: &NamedEvent<'a>,
 ) -> Result<End, AllocError>
-    ensures behind { IfOk result (λ end. end ≡ ended ends.old (string_bytes event.now.thread) event.now.call) }
+    ensures behind { IfOk result (λ end. end ≡ ended ends.old event.now.thread.now event.now.call) }
     ensures put { OnOk result ((thread : Text) (number : ℕ) → ended ends.new thread number
-        ≡ (if bytes_eq (string_bytes event.now.thread) thread && event.now.call == number
+        ≡ (if bytes_eq event.now.thread.now thread && event.now.call == number
         then end_at at (plain_occurrence event.now.occurrence) else ended ends.old thread number)) }
 {
-    let call = (event.call, event.thread.as_str());
+    let call = (event.call, event.thread);
     match end_at(at, &event.occurrence) {
         End::Pending => Ok(take_end(ends, call)),
         end => put_end(ends, call, end),

@@ -63,7 +63,7 @@ fn asked_with(method: &str, arguments: &[Value]) -> Option<(Operation, i32)>
 }
 
 /// The operation and its item, where it is a set call.
-fn asked_of(occurrence: &Occurrence) -> Option<(Operation, i32)>
+fn asked_of(occurrence: &Occurrence<'_>) -> Option<(Operation, i32)>
     ensures { result ≡ asked_of (plain_occurrence occurrence.now) }
 {
     match occurrence {
@@ -71,12 +71,12 @@ fn asked_of(occurrence: &Occurrence) -> Option<(Operation, i32)>
             method,
             arguments,
             ..
-        } => asked_with(method.as_str(), arguments.as_slice()),
+        } => asked_with(method, arguments.as_slice()),
         _ => None,
     }
 }
 
-fn is_foreign(first: Option<&str>, occurrence: &Occurrence) -> bool
+fn is_foreign(first: Option<&str>, occurrence: &Occurrence<'_>) -> bool
     ensures { result ≡ is_foreign (option_copied first.entry) (plain_occurrence occurrence.now) }
 {
     match occurrence {
@@ -86,7 +86,7 @@ fn is_foreign(first: Option<&str>, occurrence: &Occurrence) -> bool
                 return true;
             }
             match first {
-                Some(first) => first != object.as_str(),
+                Some(first) => first != *object,
                 None => false,
             }
         }
@@ -94,7 +94,7 @@ fn is_foreign(first: Option<&str>, occurrence: &Occurrence) -> bool
     }
 }
 
-fn first_after<'a>(first: Option<&'a str>, occurrence: &'a Occurrence) -> Option<&'a str>
+fn first_after<'a>(first: Option<&'a str>, occurrence: &Occurrence<'a>) -> Option<&'a str>
     ensures { option_copied result ≡ first_after (option_copied first.entry) (plain_occurrence occurrence.now) }
 {
     if first.is_some() {
@@ -103,7 +103,7 @@ fn first_after<'a>(first: Option<&'a str>, occurrence: &'a Occurrence) -> Option
     match occurrence {
         Occurrence::Called { object, .. } => {
             if asked_of(occurrence).is_some() {
-                Some(object.as_str())
+                Some(*object)
             } else {
                 None
             }
@@ -113,7 +113,7 @@ fn first_after<'a>(first: Option<&'a str>, occurrence: &'a Occurrence) -> Option
 }
 
 /// The first call that is no set call on the one object.
-pub(crate) fn first_foreign(events: &[NamedEvent]) -> Option<&NamedEvent>
+pub(crate) fn first_foreign<'a, 'b>(events: &'a [NamedEvent<'b>]) -> Option<&'a NamedEvent<'b>>
     ensures { option_map plain_event (option_copied result) ≡ first_foreign (map plain_event events.now) }
 {
     let mut first = None;
@@ -139,7 +139,10 @@ fn set_call(called: usize, asked: (Operation, i32), end: End) -> SetCall
 }
 
 /// The set calls, in order of their call events.
-pub(crate) fn set_calls(alloc: Global, events: &[NamedEvent]) -> Result<Vec<SetCall>, AllocError>
+pub(crate) fn set_calls(
+    alloc: Global,
+    events: &[NamedEvent<'_>],
+) -> Result<Vec<SetCall>, AllocError>
     ensures { IfOk result (λ calls. calls.items ≡ set_calls (map plain_event events.now)) }
 {
     let mut ends = BTreeMap::new(alloc);
@@ -156,17 +159,21 @@ pub(crate) fn set_calls(alloc: Global, events: &[NamedEvent]) -> Result<Vec<SetC
 }
 
 /// The call's text.
-pub(crate) fn name_of(alloc: Global, event: &NamedEvent) -> Result<String, AllocError>
+pub(crate) fn name_of(alloc: Global, event: &NamedEvent<'_>) -> Result<String, AllocError>
     ensures { IfOk result (λ text. string_bytes text ≡ name_of (plain_event event.now)) }
 {
-    let thread = event.thread.as_str();
+    let thread = event.thread;
     let call = event.call;
     let mut text = String::with_capacity(alloc, NAME_ROOM)?;
     write!(text, "{thread}.{call}")?;
     Ok(text)
 }
 
-pub(crate) fn name_at(alloc: Global, events: &[NamedEvent], at: usize) -> Result<String, AllocError>
+pub(crate) fn name_at(
+    alloc: Global,
+    events: &[NamedEvent<'_>],
+    at: usize,
+) -> Result<String, AllocError>
     ensures { IfOk result (λ text. string_bytes text ≡ name_at (map plain_event events.now) at) }
 {
     match events.get(at) {

@@ -3,6 +3,7 @@
 ghost use Rattle.std.specs.Prelude.{◌≡◌, ◌↔◌, IfOk, map};
 ghost use Rattle.ls_report.specs.Plain.{plain_event};
 ghost use Rattle.ls_orders.specs.Legal.{IsLegal, plain_verdict};
+ghost use Rattle.ls_orders.specs.Named.{plain_call};
 ghost use Rattle.ls_orders.specs.Rules.{Judgement, Broken, Legal, judgement_of, judgement_of_calls};
 ghost use Rattle.ls_orders.specs.SetCalls.{name_at, set_calls};
 
@@ -18,7 +19,7 @@ use std::alloc::{AllocError, Global};
 /// The verdict that the call breaks the rule.
 fn broken(
     alloc: Global,
-    events: &[NamedEvent],
+    events: &[NamedEvent<'_>],
     rule: Rule,
     call: SetCall,
 ) -> Result<Verdict, AllocError>
@@ -31,12 +32,12 @@ fn broken(
 /// The rules of an order of set calls.
 fn judge_calls(
     alloc: Global,
-    events: &[NamedEvent],
+    events: &[NamedEvent<'_>],
     calls: &[SetCall],
-    order: &[SetCall],
+    order: &[&SetCall],
 ) -> Result<Verdict, AllocError>
     requires { calls.now ≡ set_calls (map plain_event events.now) }
-    ensures { IfOk result (λ v. plain_verdict v ≡ judgement_of_calls (map plain_event events.now) order.now) }
+    ensures { IfOk result (λ v. plain_verdict v ≡ judgement_of_calls (map plain_event events.now) (map plain_call order.now)) }
 {
     if let Some(call) = first_repeated(alloc, order)? {
         return broken(alloc, events, Rule::Repeated, call);
@@ -55,14 +56,18 @@ fn judge_calls(
 
 /// Whether the order is a legal order of the history's set calls. If it isn't, the first rule that is broken, at the first
 /// call that breaks it.
-pub fn check_order(alloc: Global, history: &History, order: &Order) -> Result<Verdict, AllocError>
+pub fn check_order(
+    alloc: Global,
+    history: &History<'_>,
+    order: &Order<'_>,
+) -> Result<Verdict, AllocError>
     ensures legal { IfOk result (λ v. (plain_verdict v ≡ Legal) ↔ IsLegal history.now order.now) }
     ensures exact { IfOk result (λ v. plain_verdict v ≡ judgement_of history.now order.now) }
 {
     judged(alloc, history, order)
 }
 
-fn judged(alloc: Global, history: &History, order: &Order) -> Result<Verdict, AllocError>
+fn judged(alloc: Global, history: &History<'_>, order: &Order<'_>) -> Result<Verdict, AllocError>
     ensures { IfOk result (λ v. plain_verdict v ≡ judgement_of history.now order.now) }
 {
     let events = history.events();

@@ -1,12 +1,12 @@
 // Reading an order.
 
-ghost use Rattle.std.specs.Prelude.{◌≡◌, ◌==◌, length, map, unwrap_or, string_bytes};
+ghost use Rattle.std.specs.Prelude.{◌≡◌, ◌==◌, length, map, unwrap_or};
 ghost use Rattle.std.specs.List.{list_all, position};
 ghost use Rattle.ls_lexer.specs.Characters.{is_digit};
 ghost use Rattle.ls_report.specs.Events.{Text};
 ghost use Rattle.ls_orders.specs.Each.{each};
 ghost use Rattle.ls_items.specs.Items.{items};
-ghost use Rattle.ls_orders.specs.Orders.{call_at, Gives, is_call, is_number, order_of};
+ghost use Rattle.ls_orders.specs.Orders.{call_at, Gives, is_call, is_number, order_of, plain_text};
 
 use crate::fault::OrderFault;
 use crate::order::Order;
@@ -46,8 +46,8 @@ fn is_call(text: &str) -> bool
 }
 
 /// The call that the item names.
-fn read_call(alloc: Global, at: usize, item: &[u8]) -> Result<String, OrderFault>
-    ensures { Gives string_bytes result (call_at (at, item.now)) }
+fn read_call(at: usize, item: &[u8]) -> Result<&str, OrderFault>
+    ensures { Gives plain_text result (call_at (at, item.now)) }
 {
     let Ok(text) = std::str::from_utf8(item) else {
         return Err(OrderFault::BadOrder { at });
@@ -55,11 +55,11 @@ fn read_call(alloc: Global, at: usize, item: &[u8]) -> Result<String, OrderFault
     if !is_call(text) {
         return Err(OrderFault::BadOrder { at });
     }
-    Ok(String::from_str(alloc, text)?)
+    Ok(text)
 }
 
 /// The order that the text says. Otherwise the fault says where the first item begins that is no call.
-pub fn read_order(alloc: Global, text: &str) -> Result<Order, OrderFault>
+pub fn read_order<'a>(alloc: Global, text: &'a str) -> Result<Order<'a>, OrderFault>
     ensures { Gives (λ o. o) result (order_of text.now) }
 {
     // A call takes three bytes at least, and one before the next.
@@ -73,7 +73,7 @@ pub fn read_order(alloc: Global, text: &str) -> Result<Order, OrderFault>
             at += 1;
         } else {
             let (item, after) = rest.split_at(len);
-            let call = read_call(alloc, at, item)?;
+            let call = read_call(at, item)?;
             calls.push(call)?;
             rest = after;
             at += len;

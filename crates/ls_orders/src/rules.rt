@@ -1,7 +1,8 @@
 // The rules of an order, each by the first call that breaks it.
 
-ghost use Rattle.std.specs.Prelude.{◌≡◌, ◌==◌, ◌&&◌, [], ℕ, IfOk, find, not};
+ghost use Rattle.std.specs.Prelude.{◌≡◌, ◌==◌, ◌&&◌, [], ℕ, IfOk, find, map, not};
 ghost use Rattle.std.specs.List.{list_any};
+ghost use Rattle.ls_orders.specs.Named.{plain_call};
 ghost use Rattle.ls_orders.specs.Places.{is_marked};
 ghost use Rattle.ls_orders.specs.Rules.{
   answer_of,
@@ -58,8 +59,8 @@ fn differs(end: End, wanted: bool) -> bool
 }
 
 /// The places of the calls.
-fn places_of(alloc: Global, order: &[SetCall]) -> Result<Vec<bool>, AllocError>
-    ensures { IfOk result (λ places. (k : ℕ) → is_marked places.items k ≡ list_any (λ y. y.called == k) order.now) }
+fn places_of(alloc: Global, order: &[&SetCall]) -> Result<Vec<bool>, AllocError>
+    ensures { IfOk result (λ places. (k : ℕ) → is_marked places.items k ≡ list_any (λ y. y.called == k) (map plain_call order.now)) }
 {
     let mut places = Vec::new(alloc);
     for call in order {
@@ -71,14 +72,14 @@ fn places_of(alloc: Global, order: &[SetCall]) -> Result<Vec<bool>, AllocError>
 /// The first call that stands there again.
 pub(crate) fn first_repeated(
     alloc: Global,
-    order: &[SetCall],
+    order: &[&SetCall],
 ) -> Result<Option<SetCall>, AllocError>
-    ensures { IfOk result (λ r. r ≡ first_repeated order.now) }
+    ensures { IfOk result (λ r. r ≡ first_repeated (map plain_call order.now)) }
 {
     let mut behind = Vec::new(alloc);
     let mut first = None;
     for i in (0..order.len()).rev() {
-        let call = order[i];
+        let call = *order[i];
         if is_marked(behind.as_slice(), call.called) {
             first = Some(call);
         }
@@ -97,9 +98,9 @@ fn is_missing(places: &[bool], call: SetCall) -> bool
 pub(crate) fn first_missing(
     alloc: Global,
     calls: &[SetCall],
-    order: &[SetCall],
+    order: &[&SetCall],
 ) -> Result<Option<SetCall>, AllocError>
-    ensures { IfOk result (λ r. r ≡ find (is_missing order.now) calls.now) }
+    ensures { IfOk result (λ r. r ≡ find (is_missing (map plain_call order.now)) calls.now) }
 {
     let places = places_of(alloc, order)?;
     for call in calls {
@@ -111,12 +112,12 @@ pub(crate) fn first_missing(
 }
 
 /// The first call in front of which a call stands that was called only after this one had ended.
-pub(crate) fn first_late(order: &[SetCall]) -> Option<SetCall>
-    ensures { result ≡ first_where is_late [] order.now }
+pub(crate) fn first_late(order: &[&SetCall]) -> Option<SetCall>
+    ensures { result ≡ first_where is_late [] (map plain_call order.now) }
 {
     let mut latest = 0;
     for i in 0..order.len() {
-        let call = order[i];
+        let call = *order[i];
         if ended_before(call.end, latest) {
             return Some(call);
         }
@@ -126,12 +127,12 @@ pub(crate) fn first_late(order: &[SetCall]) -> Option<SetCall>
 }
 
 /// The first returned call whose reply isn't the set's.
-pub(crate) fn first_wrong(alloc: Global, order: &[SetCall]) -> Result<Option<SetCall>, AllocError>
-    ensures { IfOk result (λ r. r ≡ first_where has_wrong_reply [] order.now) }
+pub(crate) fn first_wrong(alloc: Global, order: &[&SetCall]) -> Result<Option<SetCall>, AllocError>
+    ensures { IfOk result (λ r. r ≡ first_where has_wrong_reply [] (map plain_call order.now)) }
 {
     let mut set = BTreeSet::new(alloc);
     for i in 0..order.len() {
-        let call = order[i];
+        let call = *order[i];
         let was = set.contains(&call.item);
         if differs(call.end, answer_of(call.operation, was)) {
             return Ok(Some(call));

@@ -1,15 +1,14 @@
 -- One more event, whose place is kept under its thread's name.
 use Rattle.std.proofs.Common.{◌≡◌, ◌∙◌, ◌<◌, ◌++◌, ◌∷◌, [], ℕ, Bool, true, false, cond, List, Option, Some, None, length, Bor, refl, sym, ap, subst, arith}
-use Rattle.std.specs.Prelude.{IfSome, find, get_or, is_some, nat_lt, reverse, slice_get, string_bytes}
+use Rattle.std.specs.Prelude.{IfSome, find, get_or, is_some, nat_lt, reverse, slice_get}
 use Rattle.std.specs.Option.{option_and_then, option_copied}
-use Rattle.std.specs.BTreeMap.{get_by_text}
 use Rattle.std.specs.Str.{bytes_eq}
 use Rattle.std.proofs.lemmas.Bool.{ltb-true}
 use Rattle.std.proofs.lemmas.Bool.Decides.{nat_tests}
 use Rattle.std.proofs.lemmas.List.{get_or_append_left, get_or_push, length-append, reverse-append}
 use Rattle.std.proofs.lemmas.Option.{slice_get-get_or, slice_get_past, slice_get_read}
 use Rattle.ls_report.specs.Events.{Text}
-use Rattle.ls_report.specs.Front.{IsIndexed}
+use Rattle.ls_report.specs.Front.{IsIndexed, place_of}
 use Rattle.ls_report.specs.declared.front.Front.{Front}
 use Rattle.ls_report.specs.declared.history.NamedEvent.{NamedEvent}
 
@@ -57,21 +56,21 @@ module _ {X : Type 0} (p : X → Bool) (xs : List X) (x : X) where
 
 -- whether it is an event of the thread
 abbrev is_of : Text → NamedEvent → Bool
-is_of t e = bytes_eq (string_bytes e.thread) t
+is_of t e = bytes_eq e.thread.now t
 
 -- the thread's place once e is pushed
 abbrev pub place_after : Front → NamedEvent → Text → Option ℕ
-place_after old e t = cond (is_of t e) (Some (length old.events.items)) (get_by_text old.places t)
+place_after old e t = cond (is_of t e) (Some (length old.events.items)) (place_of old.places t)
 
 pub indexed_after : (old new : Front) (e : NamedEvent) → IsIndexed old → new.events.items ≡ old.events.items ++ e ∷ []
-    → ((t : Text) → get_by_text new.places t ≡ place_after old e t) → IsIndexed new
+    → ((t : Text) → place_of new.places t ≡ place_after old e t) → IsIndexed new
 indexed_after old new e h items place = record {
   last = λ t.
       ap (option_and_then (slice_get new.events.items)) (place t)
       ∙ subst (λ es. option_and_then (slice_get es) (place_after old e t) ≡ find (is_of t) (reverse es)) (sym items)
-      (found_after (is_of t) old.events.items e (get_by_text old.places t) (h.within t) (h.last t));
+      (found_after (is_of t) old.events.items e (place_of old.places t) (h.within t) (h.last t));
   within = λ t.
       subst (λ o. IfSome o (λ i. i < length new.events.items)) (sym (place t))
       (subst (λ es. IfSome (place_after old e t) (λ i. i < length es)) (sym items)
-      (within_after (is_of t) old.events.items e (get_by_text old.places t) (h.within t)));
+      (within_after (is_of t) old.events.items e (place_of old.places t) (h.within t)));
 }

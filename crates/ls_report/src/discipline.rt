@@ -35,7 +35,7 @@ fn are_shown(values: &[Value]) -> bool
     values.iter().all(|value| is_shown(*value))
 }
 
-fn has_names(occurrence: &Occurrence) -> bool
+fn has_names(occurrence: &Occurrence<'_>) -> bool
     ensures { result ≡ has_names (plain_occurrence occurrence.now) }
 {
     match occurrence {
@@ -43,29 +43,25 @@ fn has_names(occurrence: &Occurrence) -> bool
             object,
             class,
             arguments,
-        } => {
-            is_name(object.as_str()) && is_name(class.as_str()) && are_shown(arguments.as_slice())
-        }
+        } => is_name(object) && is_name(class) && are_shown(arguments.as_slice()),
         Occurrence::Called {
             object,
             method,
             arguments,
-        } => {
-            is_name(object.as_str()) && is_name(method.as_str()) && are_shown(arguments.as_slice())
-        }
+        } => is_name(object) && is_name(method) && are_shown(arguments.as_slice()),
         Occurrence::Returned(Some(value)) => is_shown(*value),
         Occurrence::Returned(None) | Occurrence::Trapped(_) => true,
     }
 }
 
-fn is_well_formed(event: &NamedEvent) -> bool
+fn is_well_formed(event: &NamedEvent<'_>) -> bool
     ensures { result ≡ is_well_formed (plain_event event.now) }
 {
-    let thread = event.thread.as_str();
+    let thread = event.thread;
     is_name(thread) && thread != "all" && has_names(&event.occurrence)
 }
 
-fn is_call(occurrence: &Occurrence) -> bool
+fn is_call(occurrence: &Occurrence<'_>) -> bool
     ensures { result ≡ is_call (plain_occurrence occurrence.now) }
 {
     matches!(
@@ -74,28 +70,28 @@ fn is_call(occurrence: &Occurrence) -> bool
     )
 }
 
-fn is_making(occurrence: &Occurrence) -> bool
+fn is_making(occurrence: &Occurrence<'_>) -> bool
     ensures { result ≡ is_making (plain_occurrence occurrence.now) }
 {
     matches!(occurrence, Occurrence::Made { .. })
 }
 
-fn is_return(occurrence: &Occurrence) -> bool
+fn is_return(occurrence: &Occurrence<'_>) -> bool
     ensures { result ≡ is_return (plain_occurrence occurrence.now) }
 {
     matches!(occurrence, Occurrence::Returned(_))
 }
 
-fn has_value(occurrence: &Occurrence) -> bool
+fn has_value(occurrence: &Occurrence<'_>) -> bool
     ensures { result ≡ has_value (plain_occurrence occurrence.now) }
 {
     matches!(occurrence, Occurrence::Returned(Some(_)))
 }
 
-fn is_placed(event: &NamedEvent) -> bool
+fn is_placed(event: &NamedEvent<'_>) -> bool
     ensures { result ≡ is_placed (plain_event event.now) }
 {
-    !is_making(&event.occurrence) || event.thread.as_str() == "setup"
+    !is_making(&event.occurrence) || event.thread == "setup"
 }
 
 fn is_one_more(number: usize, before: usize) -> bool
@@ -104,7 +100,7 @@ fn is_one_more(number: usize, before: usize) -> bool
     number > 0 && number - 1 == before
 }
 
-fn may_follow(last: Option<&NamedEvent>, event: &NamedEvent) -> bool
+fn may_follow(last: Option<&NamedEvent<'_>>, event: &NamedEvent<'_>) -> bool
     ensures { result ≡ may_follow (option_map plain_event (option_copied last.entry)) (plain_event event.now) }
 {
     match last {
@@ -124,9 +120,9 @@ fn may_follow(last: Option<&NamedEvent>, event: &NamedEvent) -> bool
 }
 
 /// Whether the event may come after those in front.
-pub(crate) fn is_next(front: &Front, event: &NamedEvent) -> bool
+pub(crate) fn is_next(front: &Front<'_>, event: &NamedEvent<'_>) -> bool
     requires { IsIndexed front.now }
     ensures { result ≡ is_next (map plain_event front.now.events.items) (plain_event event.now) }
 {
-    is_well_formed(event) && may_follow(front.last_of(event.thread.as_str()), event)
+    is_well_formed(event) && may_follow(front.last_of(event.thread), event)
 }

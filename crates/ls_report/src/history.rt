@@ -1,4 +1,4 @@
-// Histories with the names of their texts.
+// Histories with the names of their texts. A name is a place in the text that was read, and so has no memory of its own.
 
 use crate::lines::text_of;
 use ls_events::kind::Kind;
@@ -8,17 +8,17 @@ use std::marker::Model;
 
 /// What happened to a call.
 #[derive(Drop)]
-pub enum Occurrence {
+pub enum Occurrence<'a> {
     /// `object = new class(arguments)`.
     Made {
-        object: String,
-        class: String,
+        object: &'a str,
+        class: &'a str,
         arguments: Vec<Value>,
     },
     /// `object.method(arguments)`.
     Called {
-        object: String,
-        method: String,
+        object: &'a str,
+        method: &'a str,
         arguments: Vec<Value>,
     },
     /// With the value of a method that answers one.
@@ -28,19 +28,19 @@ pub enum Occurrence {
 
 /// An event of a thread's call. A thread's calls are numbered from 1.
 #[derive(Drop)]
-pub struct NamedEvent {
-    pub thread: String,
+pub struct NamedEvent<'a> {
+    pub thread: &'a str,
     pub call: usize,
-    pub occurrence: Occurrence,
+    pub occurrence: Occurrence<'a>,
 }
 
 /// The events of a history, in order.
 #[derive(Drop)]
-pub struct History {
-    events: Vec<NamedEvent>,
+pub struct History<'a> {
+    events: Vec<NamedEvent<'a>>,
 }
 
-impl Model for History {
+impl<'a> Model for History<'a> {
     ghost use Rattle.std.specs.Prelude.{List, map};
     ghost use Rattle.ls_report.specs.Events.{Event};
     ghost use Rattle.ls_report.specs.Plain.{plain_event};
@@ -50,13 +50,13 @@ impl Model for History {
     ghost view = { λ h. map plain_event h.events.items };
 }
 
-impl History {
+impl<'a> History<'a> {
     ghost use Rattle.std.specs.Prelude.{◌≡◌, IfOk, map, string_bytes};
     ghost use Rattle.ls_report.specs.Lines.{history_text};
     ghost use Rattle.ls_report.specs.Plain.{plain_event};
 
-    pub(crate) fn from_events(events: Vec<NamedEvent>) -> History
-        ensures { result ≡ map plain_event events.items }
+    pub(crate) fn from_events(events: Vec<NamedEvent<'a>>) -> History<'a>
+        ensures { result ≡ map plain_event events.entry.items }
     {
         History { events }
     }
@@ -68,7 +68,7 @@ impl History {
         text_of(alloc, self.events.as_slice())
     }
 
-    pub fn events(&self) -> &[NamedEvent]
+    pub fn events(&self) -> &[NamedEvent<'a>]
         ensures { map plain_event result.now ≡ self.now }
     {
         self.events.as_slice()

@@ -1,6 +1,6 @@
 // Taking the lines of a history apart.
 
-ghost use Rattle.std.specs.Prelude.{◌≡◌, ◌<◌, ◌^◌, ℕ, ℤ, FitsSigned, List, Some, true, IfOk, option_map};
+ghost use Rattle.std.specs.Prelude.{◌≡◌, ◌<◌, ◌≤◌, ◌+◌, ◌/◌, ◌^◌, ℕ, ℤ, FitsSigned, List, Some, true, IfOk, length as list_length, option_map};
 ghost use Rattle.std.specs.Fmt.{decimal, signed_decimal};
 ghost use Rattle.std.specs.Int.{w32};
 ghost use Rattle.std.specs.List.{list_all};
@@ -138,6 +138,19 @@ fn kind_in(text: &str) -> Option<Kind>
     }
 }
 
+/// How many values the text may have: one, and one more for each comma, which a space and a value follow.
+fn most_values(text: &str) -> usize
+    ensures { result ≤ list_length text.now / 3 + 1 }
+{
+    let mut commas = 0usize;
+    for b in text.as_bytes() {
+        if *b == b',' {
+            commas += 1;
+        }
+    }
+    commas.min(text.len() / 3) + 1
+}
+
 /// The values that are printed so.
 fn values_in(alloc: Global, text: &str) -> Result<Option<Vec<Value>>, AllocError>
     ensures { (vs : List ghost_Value) → list_all is_shown vs ≡ true → text.now ≡ arguments_text vs
@@ -146,8 +159,7 @@ fn values_in(alloc: Global, text: &str) -> Result<Option<Vec<Value>>, AllocError
     if text.is_empty() {
         return Ok(Some(Vec::new(alloc)));
     }
-    // Most calls pass one.
-    let mut values = Vec::with_capacity(alloc, 1)?;
+    let mut values = Vec::with_capacity(alloc, most_values(text))?;
     let mut rest = text;
     while let Some((first, others)) = cut(rest, ',') {
         let Some(value) = value_in(first) else {
@@ -167,20 +179,18 @@ fn values_in(alloc: Global, text: &str) -> Result<Option<Vec<Value>>, AllocError
 }
 
 /// `object = new class(arguments)`.
-fn made_in(
+fn made_in<'a>(
     alloc: Global,
-    object: &str,
-    class: &str,
+    object: &'a str,
+    class: &'a str,
     arguments: &str,
-) -> Result<Option<Occurrence>, AllocError>
+) -> Result<Option<Occurrence<'a>>, AllocError>
     ensures { (vs : List ghost_Value) → list_all is_shown vs ≡ true → arguments.now ≡ arguments_text vs
         → IfOk result (λ r. option_map plain_occurrence r ≡ Some (Made object.now class.now vs)) }
 {
     let Some(arguments) = values_in(alloc, arguments)? else {
         return Ok(None);
     };
-    let object = String::from_str(alloc, object)?;
-    let class = String::from_str(alloc, class)?;
     Ok(Some(Occurrence::Made {
         object,
         class,
@@ -189,20 +199,18 @@ fn made_in(
 }
 
 /// `object.method(arguments)`.
-fn called_in(
+fn called_in<'a>(
     alloc: Global,
-    object: &str,
-    method: &str,
+    object: &'a str,
+    method: &'a str,
     arguments: &str,
-) -> Result<Option<Occurrence>, AllocError>
+) -> Result<Option<Occurrence<'a>>, AllocError>
     ensures { (vs : List ghost_Value) → list_all is_shown vs ≡ true → arguments.now ≡ arguments_text vs
         → IfOk result (λ r. option_map plain_occurrence r ≡ Some (Called object.now method.now vs)) }
 {
     let Some(arguments) = values_in(alloc, arguments)? else {
         return Ok(None);
     };
-    let object = String::from_str(alloc, object)?;
-    let method = String::from_str(alloc, method)?;
     Ok(Some(Occurrence::Called {
         object,
         method,
@@ -210,7 +218,7 @@ fn called_in(
     }))
 }
 
-fn returned_in(value: &str) -> Option<Occurrence>
+fn returned_in(value: &str) -> Option<Occurrence<'_>>
     ensures { (v : ghost_Value) → is_shown v ≡ true → value.now ≡ value_text v
         → option_map plain_occurrence result ≡ Some (Returned (Some v)) }
 {
@@ -220,7 +228,7 @@ fn returned_in(value: &str) -> Option<Occurrence>
     }
 }
 
-fn trapped_in(kind: &str) -> Option<Occurrence>
+fn trapped_in(kind: &str) -> Option<Occurrence<'_>>
     ensures { (k : ghost_Kind) → kind.now ≡ kind_text k → option_map plain_occurrence result ≡ Some (Trapped k) }
 {
     match kind_in(kind) {
@@ -230,7 +238,7 @@ fn trapped_in(kind: &str) -> Option<Occurrence>
 }
 
 /// The occurrence that is printed so.
-fn occurrence_in(alloc: Global, text: &str) -> Result<Option<Occurrence>, AllocError>
+fn occurrence_in(alloc: Global, text: &str) -> Result<Option<Occurrence<'_>>, AllocError>
     ensures { (o : ghost_Occurrence) → has_names o ≡ true → text.now ≡ occurrence_text o
         → IfOk result (λ r. option_map plain_occurrence r ≡ Some o) }
 {
@@ -257,7 +265,7 @@ fn occurrence_in(alloc: Global, text: &str) -> Result<Option<Occurrence>, AllocE
 }
 
 /// The event whose line it is, without the line feed. Another text may give an event too.
-pub(crate) fn event_in(alloc: Global, line: &str) -> Result<Option<NamedEvent>, AllocError>
+pub(crate) fn event_in(alloc: Global, line: &str) -> Result<Option<NamedEvent<'_>>, AllocError>
     ensures { (e : Event) → is_well_formed e ≡ true → e.call < 2 ^ 64 → line.now ≡ event_text e
         → IfOk result (λ o. option_map plain_event o ≡ Some e) }
 {
@@ -273,7 +281,6 @@ pub(crate) fn event_in(alloc: Global, line: &str) -> Result<Option<NamedEvent>, 
     let Some(occurrence) = occurrence_in(alloc, text)? else {
         return Ok(None);
     };
-    let thread = String::from_str(alloc, thread)?;
     Ok(Some(NamedEvent {
         thread,
         call,

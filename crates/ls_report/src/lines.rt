@@ -113,7 +113,7 @@ pub(crate) fn push_trapped(out: &mut String, kind: Kind) -> Result<(), AllocErro
     out.push_str(kind_name(kind))
 }
 
-fn push_occurrence(out: &mut String, occurrence: &Occurrence) -> Result<(), AllocError>
+fn push_occurrence(out: &mut String, occurrence: &Occurrence<'_>) -> Result<(), AllocError>
     ensures { OnOk result (string_bytes out.new ≡ string_bytes out.old ++ occurrence_text (plain_occurrence occurrence.now)) }
 {
     match occurrence {
@@ -121,28 +121,28 @@ fn push_occurrence(out: &mut String, occurrence: &Occurrence) -> Result<(), Allo
             object,
             class,
             arguments,
-        } => push_made(out, object.as_str(), class.as_str(), arguments.as_slice()),
+        } => push_made(out, object, class, arguments.as_slice()),
         Occurrence::Called {
             object,
             method,
             arguments,
-        } => push_called(out, object.as_str(), method.as_str(), arguments.as_slice()),
+        } => push_called(out, object, method, arguments.as_slice()),
         Occurrence::Returned(value) => push_returned(out, *value),
         Occurrence::Trapped(kind) => push_trapped(out, *kind),
     }
 }
 
 /// Adds the event's line without its line feed.
-pub(crate) fn push_event(out: &mut String, event: &NamedEvent) -> Result<(), AllocError>
+pub(crate) fn push_event(out: &mut String, event: &NamedEvent<'_>) -> Result<(), AllocError>
     ensures { OnOk result (string_bytes out.new ≡ string_bytes out.old ++ event_text (plain_event event.now)) }
 {
-    let thread = event.thread.as_str();
+    let thread = event.thread;
     let call = event.call;
     write!(out, "{thread}.{call} ")?;
     push_occurrence(out, &event.occurrence)
 }
 
-fn push_line(out: &mut String, event: &NamedEvent) -> Result<(), AllocError>
+fn push_line(out: &mut String, event: &NamedEvent<'_>) -> Result<(), AllocError>
     ensures { OnOk result (string_bytes out.new ≡ string_bytes out.old ++ line (plain_event event.now)) }
 {
     push_event(out, event)?;
@@ -150,7 +150,7 @@ fn push_line(out: &mut String, event: &NamedEvent) -> Result<(), AllocError>
 }
 
 /// A line for each event.
-pub(crate) fn text_of(alloc: Global, events: &[NamedEvent]) -> Result<String, AllocError>
+pub(crate) fn text_of(alloc: Global, events: &[NamedEvent<'_>]) -> Result<String, AllocError>
     ensures { IfOk result (λ text. string_bytes text ≡ history_text (map plain_event events.now)) }
 {
     let mut out = String::new(alloc);

@@ -19,7 +19,7 @@ use crate::lines::push_event;
 use std::alloc::{AllocError, Global};
 
 /// Whether it is the event's line, without the line feed. The event is printed in the place of the text that it is lent.
-fn is_line_of(printed: &mut String, event: &NamedEvent, line: &str) -> Result<bool, AllocError>
+fn is_line_of(printed: &mut String, event: &NamedEvent<'_>, line: &str) -> Result<bool, AllocError>
     ensures { IfOk result (λ b. b ≡ bytes_eq (event_text (plain_event event.now)) line.now) }
 {
     printed.clear();
@@ -28,12 +28,12 @@ fn is_line_of(printed: &mut String, event: &NamedEvent, line: &str) -> Result<bo
 }
 
 /// The event of the line, if it may come after those in front.
-fn next_in(
+fn next_in<'a>(
     alloc: Global,
     printed: &mut String,
-    front: &Front,
-    line: &str,
-) -> Result<Option<NamedEvent>, AllocError>
+    front: &Front<'_>,
+    line: &'a str,
+) -> Result<Option<NamedEvent<'a>>, AllocError>
     requires { IsIndexed front.now }
     ensures some { IfOk result (λ o. IfSome o (λ e.
         (is_next (map plain_event front.now.events.items) (plain_event e) ≡ true) × (line.now ≡ event_text (plain_event e)))) }
@@ -70,7 +70,11 @@ fn most_events(text: &str) -> usize
     events
 }
 
-fn read_events(alloc: Global, text: &str, length: usize) -> Result<Vec<NamedEvent>, HistoryFault>
+fn read_events(
+    alloc: Global,
+    text: &str,
+    length: usize,
+) -> Result<Vec<NamedEvent<'_>>, HistoryFault>
     requires { length ≡ list_length text.now }
     ensures fits { length < 2 ^ 64 }
     ensures found { IfOk result (λ events. Says text.now (map plain_event events.items)) }
@@ -95,7 +99,7 @@ fn read_events(alloc: Global, text: &str, length: usize) -> Result<Vec<NamedEven
 }
 
 /// The history whose lines the text is. Otherwise the fault says where the first line begins that can't stand there.
-pub fn read_history(alloc: Global, text: &str) -> Result<History, HistoryFault>
+pub fn read_history<'a>(alloc: Global, text: &'a str) -> Result<History<'a>, HistoryFault>
     ensures accepts { (es : List Event) → is_history es ≡ true → text.now ≡ history_text es → IsReadAs es result }
     ensures found { IfOk result (Says text.now) }
     ensures fault { IfErr result (Explains text.now) }

@@ -1,4 +1,4 @@
-use Rattle.std.proofs.Common.{◌∙◌, ◌++◌, ◌∷◌, [], ◌<◌, ◌≤◌, ap, arith, length, string_bytes}
+use Rattle.std.proofs.Common.{◌∙◌, ◌++◌, ◌∷◌, [], ◌<◌, ◌≤◌, ap, arith, length}
 use Rattle.ls_orders.specs.Ends.{ended}
 use Rattle.ls_orders.specs.SetCalls.{Asked}
 use Rattle.ls_orders.proofs.EndLemmas.{call_before, ends_before, no_call_before}
@@ -25,7 +25,7 @@ loop-at-preserved-in-Continue-branch-2 c =
     let front = c.loop-at.calls.items in
     let some : 0 < i = omega arith in
     let le : i ≤ length es = omega arith in
-    let there = c.in_ok-end.ensures.behind ∙ c.loop-at.invariant.ends (string_bytes e.thread) e.call in
+    let there = c.in_ok-end.ensures.behind ∙ c.loop-at.invariant.ends e.thread.now e.call in
     record {
       ends = ends_before es i e (ended c.loop-at.ends) (ended c.put_event.new.ends) some le c.index-events-at.is c.loop-at.invariant.ends c.in_ok-end.ensures.put;
       calls = call_before es i e asked c.in_ok-end.end front _ some le c.index-events-at.is c.in-Some.ensures there

@@ -4,8 +4,7 @@ use Rattle.std.specs.Str.{bytes_eq}
 use Rattle.ls_report.specs.Plain.{plain_event}
 use Rattle.ls_orders.specs.declared.calls.SetCall.{SetCall}
 use Rattle.ls_orders.specs.SetCalls.{name_at}
-use Rattle.ls_orders.proofs.NamingLemmas.{found_before}
-use Rattle.ls_orders.proofs.RuleLemmas.{at}
+use Rattle.ls_orders.proofs.NamingLemmas.{call_at, found_before}
 use Rattle.ls_orders.proofs.naming.names_of.Goals as goal
 
 pub loop-i-preserved : goal.loop-i-preserved
@@ -13,7 +12,7 @@ loop-i-preserved c = λ q.
     let events = map plain_event c.args.events.now in
     let calls = c.args.calls.now in
     let i = c.loop-i.i in
-    let call = at calls (i - 1) in
+    let call = call_at calls (i - 1) in
     let some : 0 < i = omega arith in
     let le : i ≤ length calls = omega arith in
     let named = λ (x : SetCall). bytes_eq q (name_at events x.called) in

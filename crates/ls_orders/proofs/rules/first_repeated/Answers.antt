@@ -1,7 +1,7 @@
-use Rattle.std.proofs.Common.{◌∙◌, ◌==◌, ◌||◌, ◌-◌, ◌<◌, ◌≤◌, ap, sym, arith, cond, drop, length, Some}
+use Rattle.std.proofs.Common.{◌∙◌, ◌==◌, ◌||◌, ◌-◌, ◌<◌, ◌≤◌, ap, sym, arith, cond, length, Some}
 use Rattle.ls_orders.specs.Places.{is_marked as marked}
 use Rattle.ls_orders.specs.Rules.{first_repeated}
-use Rattle.ls_orders.proofs.RuleLemmas.{any_before, at, repeated_before}
+use Rattle.ls_orders.proofs.RuleLemmas.{any_before, at, back, repeated_before}
 use Rattle.ls_orders.proofs.rules.first_repeated.Goals as goal
 use Rattle.ls_orders.proofs.rules.first_repeated.Goals.{then-is_marked, else-is_marked}
 
@@ -17,7 +17,7 @@ loop-i-preserved c =
     record {
       seen = λ k. c.in_ok-mark.ensures k ∙ ap (λ b. call.called == k || b) (c.loop-i.invariant.seen k) ∙ sym (any_before (λ y. y.called == k) xs i some le);
       found = elim c.if-is_marked.branch [
-        | then-is_marked w ↦ w.first-is ∙ ap (λ b. cond b (Some call) (first_repeated (drop i xs))) (sym w.if-is_marked.true ∙ is) ∙ sym before
-        | else-is_marked w ↦ w.first-is ∙ c.loop-i.invariant.found ∙ ap (λ b. cond b (Some call) (first_repeated (drop i xs))) (sym w.if-is_marked.false ∙ is) ∙ sym before
+        | then-is_marked w ↦ w.first-is ∙ ap (λ b. cond b (Some call) (first_repeated (back i xs))) (sym w.if-is_marked.true ∙ is) ∙ sym before
+        | else-is_marked w ↦ w.first-is ∙ c.loop-i.invariant.found ∙ ap (λ b. cond b (Some call) (first_repeated (back i xs))) (sym w.if-is_marked.false ∙ is) ∙ sym before
       ];
     }

@@ -1,5 +1,5 @@
 use Rattle.std.proofs.Common.{◌∙◌, ◌&&◌, ap, sym, map}
-use Rattle.std.specs.Prelude.{find, option_map, reverse, string_bytes}
+use Rattle.std.specs.Prelude.{option_map}
 use Rattle.std.specs.Str.{bytes_eq}
 use Rattle.ls_report.specs.Events.{Event}
 use Rattle.ls_report.specs.Discipline.{last_of, may_follow}
@@ -12,7 +12,6 @@ returns-then-is_well_formed c =
     let event = plain_event c.args.event.now in
     let events = c.args.front.now.events.items in
     c.may_follow.ensures
-    ∙ ap (λ o. may_follow o event) (ap (option_map plain_event) (c.last_of.ensures
-    ∙ ap (λ t. find (λ e. bytes_eq (string_bytes e.thread) t) (reverse events)) c.as_str.ensures.value)
+    ∙ ap (λ o. may_follow o event) (ap (option_map plain_event) c.last_of.ensures
     ∙ sym (last-map (λ (e : Event). bytes_eq e.thread event.thread) plain_event events))
     ∙ ap (λ b. b && may_follow (last_of event.thread (map plain_event events)) event) (sym c.if-is_well_formed.true ∙ c.is_well_formed.ensures)

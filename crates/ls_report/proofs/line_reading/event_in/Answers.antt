@@ -36,5 +36,5 @@ returns c = λ e h n is.
     let text = second_of_two c.in-Some-cut.number.now c.in-Some-cut.text.now _ _ numbers in
     let thread = first_of_two c.in-Some.thread.now c.in-Some.rest.now _ _ threads in
     let some = ap (option_map plain_occurrence) (sym c.in-Some-2.is) in
-    ap Some (same_event _ _ _ e (c.in_ok-thread.ensures.ok ∙ thread) (some_is (c.in-Some-number_in.ensures e.call n number))
+    ap Some (same_event _ _ _ e thread (some_is (c.in-Some-number_in.ensures e.call n number))
     (some_is (some ∙ c.in_ok-occurrence.ensures e.occurrence (well_named e h) text)))
