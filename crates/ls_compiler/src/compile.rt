@@ -10,6 +10,7 @@ use ls_linker::build::build;
 use ls_parser::parse::parse_text;
 use ls_types::checking::check;
 use ls_types::program::read_program;
+use ls_types::source::Source;
 use std::alloc::Global;
 
 /// The image of a class text and a program text. Faults come in the order of the stages: those of the class text, of its
@@ -22,6 +23,7 @@ pub fn compile(alloc: Global, classes: &str, program: &str) -> Result<Image, Com
     let parsed = parse_text(alloc, classes)?;
     let checked = check(alloc, parsed)?;
     let program = read_program(alloc, program, &checked)?;
-    let code = build(alloc, checked.file(), &program)?;
-    Ok(Image::new(checked, program, code))
+    let source = Source::new(checked, program);
+    let code = build(alloc, &source)?;
+    Ok(Image::new(source, code))
 }

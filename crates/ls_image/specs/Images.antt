@@ -9,15 +9,20 @@ use Rattle.ls_types_elaboration.specs.Trees.{Text, File}
 use Rattle.ls_types_elaboration.specs.Elaboration.{elaborated}
 use Rattle.ls_types.specs.CheckedFile.{outcome_of}
 use Rattle.ls_types_programs.specs.Programs.{IsTextOf}
+use Rattle.ls_types.specs.Sources as sources
 use Rattle.ls_types.specs.declared.check.Checked.{Checked}
+use Rattle.ls_types.specs.declared.source.Source.{Source}
 use Rattle.ls_linker_laws.specs.Runs.{Runs}
 use Rattle.ls_image.specs.declared.image.Image.{Image}
 
+abbrev pub source_of : Image → Source
+source_of i = i.source
+
 abbrev pub checked_of : Image → Checked
-checked_of i = i.checked
+checked_of i = sources.checked_of (source_of i)
 
 abbrev pub program_of_image : Image → Program
-program_of_image i = i.program
+program_of_image i = sources.program_of (source_of i)
 
 abbrev pub code_of_image : Image → Code
 code_of_image i = i.code

@@ -33,3 +33,7 @@ module _ (file : File) (program : Program) (refs flat : low.File) (r : refs ≡ 
 
   pub links_here : (units : List CodeUnit) → units ≡ units_of flat → Links file program (units_of (flat_of file)) → Links file program units
   links_here units u l = subst (Links file program) (sym (u ∙ ap units_of flat_here)) l
+
+-- what is so of two is so of their equals
+pub both : {A B : Type 0} (P : A → B → Type 0) {x x' : A} {y y' : B} → x ≡ x' → y ≡ y' → P x y → P x' y'
+both P {y} ex ey p = subst (P _) ey (subst (λ a. P a y) ex p)

@@ -2,5 +2,6 @@ mod Sizes
 mod Wholes
 mod Rooms
 mod Composed
+mod Once
 mod Built
 mod Refusals

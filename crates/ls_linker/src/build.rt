@@ -1,9 +1,7 @@
-// From a checked file and a thread program to the whole code.
+// From a source to the whole code.
 
 ghost use Rattle.std.specs.Prelude.{◌≡◌, IfOk, IfErr, OnOk};
-ghost use Rattle.ls_checked.specs.Plain.{plain_file};
-ghost use Rattle.ls_checked.specs.PlainProgram.{plain_program};
-ghost use Rattle.ls_types_judgement.specs.WellTyped.{IsWellTyped, IsWellTypedProgram};
+ghost use Rattle.ls_types.specs.Sources.{source_file, source_program};
 ghost use Rattle.ls_linker_laws.specs.Compiled.{code_of};
 ghost use Rattle.ls_linker.specs.Limits.{KeepsLimits, GoesPast};
 ghost use Rattle.ls_linker_laws.specs.Runs.{Runs};
@@ -11,8 +9,6 @@ ghost use Rattle.ls_linker_laws.specs.Runs.{Runs};
 use crate::fault::BuildFault;
 use crate::laws::compiled_runs;
 use crate::link::link;
-use ls_checked::program::Program;
-use ls_checked::tree::File;
 use ls_code::code::Code;
 use ls_emit::emit::emit;
 use ls_finally::files::lower_finally;
@@ -21,19 +17,20 @@ use ls_linker_ranges::{fits_lowered, ranged_is_emittable, ranged_links, typed_is
 use ls_linker_sizes::laws::sizes;
 use ls_refs::laws::has_slots;
 use ls_refs::lower::lower_refs;
+use ls_types::laws::source_is_well_typed;
+use ls_types::source::Source;
 use std::alloc::Global;
 
-/// The whole code of a checked file and a thread program for it, which runs as the two: it has the same histories, both ways,
+/// The whole code of a checked file and its thread program, which runs as the two: it has the same histories, both ways,
 /// and no thread is silent for too long. Refused with 30 to 33, by the first limit that isn't kept. Where copies of finally blocks are too
 /// many, or the methods are too long with them, one or all together, none of them is made.
-pub fn build(alloc: Global, file: &File, program: &Program) -> Result<Code, BuildFault>
-    requires file { IsWellTyped (plain_file file.now) }
-    requires program { IsWellTypedProgram (plain_file file.now) (plain_program program.now) }
-    ensures code { IfOk result (λ code. code ≡ code_of (plain_file file.now) (plain_program program.now)) }
-    ensures runs { IfOk result (Runs (plain_file file.now) (plain_program program.now)) }
-    ensures within { OnOk result (KeepsLimits (plain_file file.now) (plain_program program.now)) }
-    ensures refused { IfErr result (GoesPast (plain_file file.now) (plain_program program.now)) }
+pub fn build(alloc: Global, source: &Source) -> Result<Code, BuildFault>
+    ensures code { IfOk result (λ code. code ≡ code_of (source_file source.now) (source_program source.now)) }
+    ensures runs { IfOk result (Runs (source_file source.now) (source_program source.now)) }
+    ensures within { OnOk result (KeepsLimits (source_file source.now) (source_program source.now)) }
+    ensures refused { IfErr result (GoesPast (source_file source.now) (source_program source.now)) }
 {
+    source_is_well_typed(source);
     compiled_runs();
     has_slots();
     sizes();
@@ -41,6 +38,8 @@ pub fn build(alloc: Global, file: &File, program: &Program) -> Result<Code, Buil
     fits_lowered();
     ranged_is_emittable();
     ranged_links();
+    let file = source.file();
+    let program = source.program();
     let refs = lower_refs(alloc, file)?;
     measure(alloc, &refs)?;
     let flat = lower_finally(alloc, refs)?;

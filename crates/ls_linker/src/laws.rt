@@ -21,7 +21,7 @@ use ls_soundness::laws::{is_sound, suited_in_call};
 
 /// The code of a well typed file and a well typed program of it runs as the two, where it isn't too long.
 pub fn compiled_runs()
-    ensures { (file : File) (program : Program) → IsWellTyped file → IsWellTypedProgram file program → AllPlaced (lowered_file file) (lowered_file file) → IsEmittableFile (flat_of file) → length (code_of file program).instructions ≤ 65536 → Runs file program (code_of file program) }
+    ensures { (file : File) (program : Program) → ∥ IsWellTyped file ∥₁ → ∥ IsWellTypedProgram file program ∥₁ → AllPlaced (lowered_file file) (lowered_file file) → IsEmittableFile (flat_of file) → length (code_of file program).instructions ≤ 65536 → Runs file program (code_of file program) }
 {
     suited_in_call();
     keeps_courses();

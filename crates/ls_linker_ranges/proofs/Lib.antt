@@ -12,3 +12,4 @@ mod Emitted
 mod Ranges
 mod Landing
 mod Linking
+mod Once

@@ -3,7 +3,6 @@
 
 ghost use Rattle.ls_checked.specs.CheckedProgram.{Program};
 ghost use Rattle.ls_checked.specs.CheckedTree.{File};
-ghost use Rattle.ls_types_judgement.specs.Typing.{IsTypedFile};
 ghost use Rattle.ls_refs.specs.Lowered.{lowered_file};
 ghost use Rattle.ls_refs.specs.Refused.{AllFit, AllSlotted};
 ghost use Rattle.ls_finally.specs.Placed.{AllPlaced};
@@ -15,11 +14,10 @@ ghost use Rattle.ls_emit.specs.Short.{AllShort};
 ghost use Rattle.ls_types_judgement.specs.WellTyped.{IsWellTyped, IsWellTypedProgram};
 ghost use Rattle.ls_linker_ranges.specs.Links.{Links};
 
-/// In the tree over words of a typed file each local is there, each call has as many arguments as its method, and nothing is
+/// In the tree over words of a well typed file each local is there, each call has as many arguments as its method, and nothing is
 /// guarded yet: so `finally` can be lowered in it.
-#[tactic(auto, using(crate::proofs::Placed::file_placed))]
 pub fn typed_is_placed()
-    ensures { (file : File) → IsTypedFile file → AllPlaced (lowered_file file) (lowered_file file) }
+    ensures { (file : File) → ∥ IsWellTyped file ∥₁ → AllPlaced (lowered_file file) (lowered_file file) }
 {}
 
 /// Where no method of a file has too many locals, none of its lowered methods has.
@@ -30,11 +28,11 @@ pub fn fits_lowered()
 
 /// The tree without `try` of a well typed file, where no method has too many locals, has code.
 pub fn ranged_is_emittable()
-    ensures { (file : File) → IsWellTyped file → AllFit file.methods → IsEmittableFile (flat_file (lowered_file file)) }
+    ensures { (file : File) → ∥ IsWellTyped file ∥₁ → AllFit file.methods → IsEmittableFile (flat_file (lowered_file file)) }
 {}
 
 /// The units of a well typed file, where none is too long, and the threads of a well typed program of it can be linked: each
 /// place, number and value of them is an operand.
 pub fn ranged_links()
-    ensures { (file : File) (program : Program) → IsWellTyped file → IsWellTypedProgram file program → AllFit file.methods → AllShort (flat_file (lowered_file file)) → Links file program (units_of (flat_file (lowered_file file))) }
+    ensures { (file : File) (program : Program) → ∥ IsWellTyped file ∥₁ → ∥ IsWellTypedProgram file program ∥₁ → AllFit file.methods → AllShort (flat_file (lowered_file file)) → Links file program (units_of (flat_file (lowered_file file))) }
 {}

@@ -1,4 +1,5 @@
 pub mod CheckedFile
 pub mod Kept
+pub mod Sources
 pub mod ProgramViews
 pub mod ProgramRefusals

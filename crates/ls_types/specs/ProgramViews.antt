@@ -1,5 +1,5 @@
 -- What contracts see of a program that is being read.
-use Rattle.std.specs.Prelude.{◌≡◌, ℕ, List, map, string_bytes, Option, Some, None, Result, Ok, Err, option_map}
+use Rattle.std.specs.Prelude.{◌≡◌, ℕ, map, string_bytes, Option, Some, None, Result, Ok, Err, option_map}
 use Rattle.ls_checked.specs.PlainProgram.{plain_name, plain_call, plain_thread}
 use Rattle.ls_types.specs.declared.fault.ProgramFault.{ProgramFault}
 use Rattle.ls_types.specs.declared.fault.ProgramFault.TheVariants as faults

@@ -1,9 +1,11 @@
-// What each checked file keeps, as the contract of a function that computes nothing.
+// What each checked file and each source keeps, as the contract of functions that compute nothing.
 
-ghost use Rattle.ls_types_judgement.specs.WellTyped.{IsWellTyped};
+ghost use Rattle.ls_types_judgement.specs.WellTyped.{IsWellTyped, IsWellTypedProgram};
 ghost use Rattle.ls_types.specs.CheckedFile.{outcome_of};
+ghost use Rattle.ls_types.specs.Sources.{source_file, source_program};
 
 use crate::check::Checked;
+use crate::source::Source;
 use ls_types_laws::elaborates_well_typed;
 
 /// A checked file is well typed.
@@ -11,4 +13,12 @@ pub fn well_typed(checked: &Checked)
     ensures { ∥ IsWellTyped (outcome_of checked.now).file ∥₁ }
 {
     elaborates_well_typed();
+}
+
+/// The file of a source is well typed, and its program is a well typed program of it.
+pub fn source_is_well_typed(source: &Source)
+    ensures file { ∥ IsWellTyped (source_file source.now) ∥₁ }
+    ensures program { ∥ IsWellTypedProgram (source_file source.now) (source_program source.now) ∥₁ }
+{
+    well_typed(source.checked());
 }

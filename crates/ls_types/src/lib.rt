@@ -8,5 +8,6 @@ pub mod fault;
 pub mod laws;
 pub mod program;
 mod reading;
+pub mod source;
 mod steps;
 mod together;

@@ -112,6 +112,7 @@ fn read(alloc: Global, text: &str, checked: &Checked) -> Result<Program, Program
 pub fn read_program(alloc: Global, text: &str, checked: &Checked) -> Result<Program, ProgramFault>
     ensures read { IfOk result (λ p. program_of (outcome_of checked.now) text.now ≡ Some (plain_program p)) }
     ensures typed { IfOk result (λ p. (f : File) → elaborated f ≡ Ok (outcome_of checked.now) → IsWellTypedProgram (outcome_of checked.now).file (plain_program p)) }
+    ensures kept { IfOk result (λ p. ∥ IsWellTypedProgram (outcome_of checked.now).file (plain_program p) ∥₁) }
     ensures spelled { IfOk result (λ p. IsTextOf (outcome_of checked.now) (plain_program p) text.now) }
     ensures refused { IfErr result (λ e. Refuses e (program_of (outcome_of checked.now) text.now)) }
     ensures stands { IfErr result (λ e. Stands (outcome_of checked.now) text.now e) }

@@ -1,38 +1,26 @@
-use Rattle.std.proofs.Common.{◌≡◌, sym, subst}
-use Rattle.ls_checked.specs.Plain.{plain_file}
 use Rattle.ls_checked.specs.PlainProgram.{plain_program}
 use Rattle.ls_types_elaboration.specs.PlacedStatements.{placed_file}
 use Rattle.ls_types.specs.CheckedFile.{outcome_of}
-use Rattle.ls_types_judgement.specs.WellTyped.{IsWellTyped, IsWellTypedProgram}
-use Rattle.ls_linker_laws.specs.Runs.{Runs}
 use Rattle.std.proofs.lemmas.Result.{err_from_is_err_and}
-use Rattle.ls_linker.specs.Limits.{KeepsLimits, GoesPast}
 use Rattle.ls_types.proofs.Standing.{no_program}
 use Rattle.ls_compiler.specs.Answers.{Compiled, NoFile, Breaks, NoProgram, PastLimit}
-use Rattle.ls_compiler.proofs.Put.{compiled, limited, err_of}
+use Rattle.ls_compiler.proofs.Put.{compiled, limited, past, err_of}
 use Rattle.ls_compiler.proofs.compile.compile.Goals as goal
 
-pub build-requires-clause-file : goal.build-requires-clause-file
-build-requires-clause-file c = subst (λ x. IsWellTyped (plain_file x)) (sym c.file.ensures) c.in_ok-checked.ensures.typed
-
-pub build-requires-clause-program : goal.build-requires-clause-program
-build-requires-clause-program c =
-    subst (λ x. IsWellTypedProgram (plain_file x) (plain_program c.in_ok-program.program)) (sym c.file.ensures)
-    (c.in_ok-program.ensures.typed (placed_file c.in_ok-parsed.parsed) c.in_ok-checked.ensures.checked)
+pub new-source-requires : goal.new-source-requires
+new-source-requires c = c.in_ok-program.ensures.kept
 
 pub new-requires : goal.new-requires
-new-requires c = subst (λ x. Runs (plain_file x) (plain_program c.in_ok-program.program) c.in_ok-code.code) c.file.ensures c.in_ok-code.ensures.runs
+new-requires c = c.in_ok-code.ensures.runs
 
 pub returns-clause-compiled : goal.returns-clause-compiled
 returns-clause-compiled c =
-    compiled c.args.classes.now c.args.program.now (placed_file c.in_ok-parsed.parsed) c.in_ok-checked.checked c.in_ok-program.program c.in_ok-code.code c.new.result
-    c.new.ensures.checked c.new.ensures.program c.new.ensures.code c.in_ok-parsed.ensures.file c.in_ok-checked.ensures.checked c.in_ok-program.ensures.spelled
-    (subst (λ x. Runs (plain_file x) (plain_program c.in_ok-program.program) c.in_ok-code.code) c.file.ensures c.in_ok-code.ensures.runs)
+    compiled c.args.classes.now c.args.program.now (placed_file c.in_ok-parsed.parsed) c.in_ok-checked.checked c.in_ok-program.program c.new-source.result c.in_ok-code.code c.new.result
+    c.new.ensures.source c.new.ensures.code c.new-source.ensures.checked c.new-source.ensures.program
+    c.in_ok-parsed.ensures.file c.in_ok-checked.ensures.checked c.in_ok-program.ensures.spelled c.in_ok-code.ensures.runs
 
 pub returns-clause-within : goal.returns-clause-within
-returns-clause-within c =
-    limited c.in_ok-checked.checked c.in_ok-program.program c.new.result c.new.ensures.checked c.new.ensures.program
-    (subst (λ x. KeepsLimits (plain_file x) (plain_program c.in_ok-program.program)) c.file.ensures c.in_ok-code.ensures.within)
+returns-clause-within c = limited c.new-source.result c.new.result c.new.ensures.source c.in_ok-code.ensures.within
 
 pub returns-clause-refused : goal.returns-clause-refused
 returns-clause-refused c = Compiled c.new.result (returns-clause-compiled c)
@@ -61,4 +49,4 @@ returns-in_err-code-clause-refused c =
     let program = plain_program c.in_ok-program.program in
     rw (p.1, p.2)
     (PastLimit (placed_file c.in_ok-parsed.parsed) o program c.in_err-code.field-0.0 c.in_ok-parsed.ensures.file c.in_ok-checked.ensures.checked c.in_ok-program.ensures.spelled
-    (subst (λ x. GoesPast (plain_file x) program c.in_err-code.field-0.0) c.file.ensures c.in_err-code.ensures.refused))
+    (past c.in_ok-checked.checked c.in_ok-program.program c.new-source.result c.in_err-code.field-0.0 c.new-source.ensures.checked c.new-source.ensures.program c.in_err-code.ensures.refused))

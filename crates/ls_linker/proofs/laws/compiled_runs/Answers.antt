@@ -1,14 +1,18 @@
 use Rattle.std.proofs.Common.{refl}
+use Rattle.std.proofs.Math.Logic.{∥∥₁_elim}
 use Rattle.ls_emit_laws.specs.Units.{units_of}
 use Rattle.ls_linker_laws.specs.Linked.{words_of, threads_code, threads_rows}
 use Rattle.ls_linker_laws.proofs.Threads.{threads_from}
 use Rattle.ls_linker_laws.proofs.Units.{lie_in}
 use Rattle.ls_linker_laws.specs.Compiled.{flat_of, code_of}
 use Rattle.ls_linker.proofs.Composed.{lowered_asks}
+use Rattle.ls_linker.proofs.Once.{runs_once}
 use Rattle.ls_linker.proofs.laws.compiled_runs.Goals as goal
 
 pub returns : goal.returns
-returns c = λ file program well reads placed emittable short.
+returns c = λ file program merely_well merely_reads placed emittable short.
+    let once = runs_once file program (code_of file program) in
+    ∥∥₁_elim merely_well once (λ well. ∥∥₁_elim merely_reads once (λ reads.
     let typed = well.typed in
     let constants = well.constants in
     let program_constants = reads.constants in
@@ -27,4 +31,4 @@ returns c = λ file program well reads placed emittable short.
       threads = c.threads_are_quick.ensures file program flat;
       short = short;
       lean = c.sizes.ensures.code file program flat;
-    }
+    }))

@@ -1,0 +1,21 @@
+-- What a source shows.
+use Rattle.ls_checked.specs.CheckedTree.{File}
+use Rattle.ls_checked.specs.CheckedProgram.{Program as PlainProgram}
+use Rattle.ls_checked.specs.PlainProgram.{plain_program}
+use Rattle.ls_checked.specs.declared.program.Program.{Program}
+use Rattle.ls_types.specs.CheckedFile.{outcome_of}
+use Rattle.ls_types.specs.declared.check.Checked.{Checked}
+use Rattle.ls_types.specs.declared.source.Source.{Source}
+
+abbrev pub checked_of : Source → Checked
+checked_of s = s.checked
+
+abbrev pub program_of : Source → Program
+program_of s = s.program
+
+-- as plain data
+abbrev pub source_file : Source → File
+source_file s = (outcome_of (checked_of s)).file
+
+abbrev pub source_program : Source → PlainProgram
+source_program s = plain_program (program_of s)
