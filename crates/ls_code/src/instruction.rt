@@ -305,7 +305,7 @@ fn table(x: u32) -> [Instruction; 54]
 }
 
 /// The instruction of a code word: its opcode stands in bits 0 to 7, its operand in bits 8 to 39, and the rest is 0.
-/// None where no instruction has this word.
+/// None where the rest is not 0 or no instruction has this opcode; an operand that an instruction doesn't take isn't looked at.
 pub fn decode(word: u64) -> Option<Instruction>
     ensures { result ≡ decoded word }
 {
