@@ -1,6 +1,8 @@
 -- The table of instructions, a step of one thread for each case: what the others never notice.
-use Rattle.std.specs.Prelude.{[], ◌∷◌}
-use Rattle.ls_machine_rows.specs.Stages.{Goes, Throws}
+use Rattle.std.specs.Prelude.{◌≡◌, [], ◌∷◌}
+use Rattle.ls_machine_rows.specs.Stages.{Goes, Throws, machine, machine_of, memory}
+use Rattle.ls_code.specs.Machine.{machine_step}
+use Rattle.ls_code.specs.declared.step.Did.TheVariants as did
 use Rattle.ls_code.specs.declared.instruction.Instruction.TheVariants as op
 
 -- words on the operands
@@ -10,6 +12,12 @@ Words =
     × (Goes (op.Load 1) (5 ∷ []) 1 (20 ∷ 5 ∷ []))
     × (Goes op.Pop (7 ∷ 5 ∷ []) 1 (5 ∷ []))
     × (Goes op.Dup (7 ∷ 5 ∷ []) 1 (7 ∷ 7 ∷ 5 ∷ []))
+
+-- a local, written
+abbrev pub Locals : Type 0
+Locals =
+    machine_step (machine (op.Store 0) 0 (9 ∷ 5 ∷ []) memory) 1
+    ≡ record { machine = machine_of (9 ∷ 20 ∷ []) (op.Store 0) 1 (5 ∷ []) memory; did = did.Silent }
 
 -- a b, wrapped
 abbrev pub Arithmetic : Type 0

@@ -15,9 +15,9 @@ use Rattle.ls_events.specs.declared.action.Answer.{Answer}
 abbrev pub memory : List ℕ
 memory = 2 ∷ 30 ∷ 31 ∷ 2 ∷ 0 ∷ 1 ∷ 11 ∷ 0 ∷ []
 
-abbrev pub thread : Mode → ℕ → List ℕ → Thread
-thread goes counter operands = record {
-  top = record { counter = counter; locals = 10 ∷ 20 ∷ []; operands = operands; need = 4 };
+abbrev pub thread_of : List ℕ → Mode → ℕ → List ℕ → Thread
+thread_of locals goes counter operands = record {
+  top = record { counter = counter; locals = locals; operands = operands; need = 4 };
   below = [];
   mode = goes;
   calls = [];
@@ -25,9 +25,12 @@ thread goes counter operands = record {
   pending = false;
 }
 
+abbrev pub thread : Mode → ℕ → List ℕ → Thread
+thread = thread_of (10 ∷ 20 ∷ [])
+
 -- the setup has ended; thread 1 stands at a place with these operands, the top first; a throw at place 0 leads to place 20
-abbrev pub machine : Instruction → ℕ → List ℕ → List ℕ → Machine
-machine i counter operands words = record {
+abbrev pub machine_of : List ℕ → Instruction → ℕ → List ℕ → List ℕ → Machine
+machine_of locals i counter operands words = record {
   code = record {
     instructions = i ∷ [];
     handlers = record { from = 0; to = 1; handler = 20; depth = 0 } ∷ [];
@@ -36,11 +39,14 @@ machine i counter operands words = record {
     starts = [];
     names = 1;
   };
-  threads = thread mode.Ended 0 [] ∷ thread mode.Running counter operands ∷ [];
+  threads = thread mode.Ended 0 [] ∷ thread_of locals mode.Running counter operands ∷ [];
   cells = record { words = words; limit = 12; names = 1; sizes = 2 ∷ [] };
   stopped = false;
   history = [];
 }
+
+abbrev pub machine : Instruction → ℕ → List ℕ → List ℕ → Machine
+machine = machine_of (10 ∷ 20 ∷ [])
 
 -- the instruction on these operands does this, and leaves the thread at a place with operands, and these cells
 abbrev pub Does : Instruction → List ℕ → List ℕ → Did → ℕ → List ℕ → List ℕ → Type 0

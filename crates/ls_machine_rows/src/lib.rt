@@ -5,7 +5,7 @@
 
 ghost use Rattle.ls_machine_rows.specs.Words.{WithoutOperand, LeastOperands, GreatestOperands, OtherOperands, NoInstruction};
 ghost use Rattle.ls_machine_rows.specs.Locks.{SeeForLock, SeeForTry, SeeForUnlock, SeeOfNull, SeeSticks, TakeWins, TakeLoses, TakeOfAnother, TakePastTheMost, TakeSticks, Drops, DropSticks, TwoHoldsDropped};
-ghost use Rattle.ls_machine_rows.specs.Silent.{Words, Arithmetic, Divisions, Comparisons, Equality, Jumps, Pairs, Nulls};
+ghost use Rattle.ls_machine_rows.specs.Silent.{Words, Locals, Arithmetic, Divisions, Comparisons, Equality, Jumps, Pairs, Nulls};
 ghost use Rattle.ls_machine_rows.specs.Acting.{Fields, Items, Names, Makings, LocksInOneStep, Markables};
 ghost use Rattle.ls_machine_rows.specs.Frames.{Enters, EntersNoDeeper, Leaves, Throws, Begins, Returns, Stops};
 ghost use Rattle.ls_machine_rows.specs.Whole.{Due, WaitsForALock, StopsAll, States};
@@ -39,6 +39,7 @@ pub fn locks()
 /// Instructions that the other threads never notice.
 pub fn silent()
     ensures words { Words }
+    ensures locals { Locals }
     ensures arithmetic { Arithmetic }
     ensures divisions { Divisions }
     ensures comparisons { Comparisons }

@@ -33,9 +33,6 @@ const METHODS: [Instruction; 17] = [
     Instruction::LeaveWith,
 ];
 
-/// Where the call's own code begins.
-pub const BODY: u32 = 18;
-
 fn method(start: usize, arguments: usize, more: usize, need: usize) -> Method {
     Method {
         start,
@@ -71,7 +68,7 @@ fn row(from: usize, to: usize, handler: usize, depth: usize) -> HandlerRow {
 }
 
 /// The image of one call with this code, which answers an int.
-pub fn image(alloc: Global, body: &[Instruction]) -> Result<Code, Fail> {
+fn image(alloc: Global, body: &[Instruction]) -> Result<Code, Fail> {
     let instructions = instructions(alloc, body)?;
     let trap = instructions.len().saturating_sub(1);
     let mut handlers = Vec::new(alloc);
@@ -132,9 +129,4 @@ pub fn answers(int: i32) -> Option<Happening> {
 /// The call traps.
 pub fn traps(kind: Kind) -> Option<Happening> {
     Some(Happening::Trapped(kind))
-}
-
-/// The call has begun and is never over.
-pub fn never_ends() -> Option<Happening> {
-    Some(Happening::Called)
 }

@@ -1,10 +1,8 @@
-use ls_lexer::fault::TextFault;
-use ls_lexer::lexing::{TEXT_LIMIT, lex};
+use ls_lexer::lexing::lex;
 use ls_lexer::names::is_name;
 use ls_lexer::sign::Sign;
 use ls_lexer::token::TokenKind;
 use ls_lexer::word::Word;
-use std::alloc::Global;
 use std::test::Fail;
 
 #[test]
@@ -73,63 +71,6 @@ fn gaps_and_spans(rt: HostRuntime) -> Result<(), Fail> {
     assert!(rt; tokens[1].kind == TokenKind::Name("x"));
     assert_eq!(rt; (tokens[1].span.start, tokens[1].span.end), (14, 15));
     assert!(rt; tokens[2].kind == TokenKind::Number("0"));
-    Ok(())
-}
-
-#[test]
-fn refusals(rt: HostRuntime) -> Result<(), Fail> {
-    let alloc = rt.alloc();
-    let cases = [
-        ("class C { /* x", TextFault::OpenComment { at: 10 }),
-        ("a /*/", TextFault::OpenComment { at: 2 }),
-        ("class C { # }", TextFault::BadByte { at: 10 }),
-        ("\u{feff}class C { }", TextFault::BadByte { at: 0 }),
-        ("a é", TextFault::BadByte { at: 2 }),
-        ("a\u{b}b", TextFault::BadByte { at: 1 }),
-        ("= 2147483649", TextFault::BadNumber { at: 2 }),
-        ("07", TextFault::BadNumber { at: 0 }),
-        ("1_000", TextFault::BadNumber { at: 0 }),
-        ("0x1F", TextFault::BadNumber { at: 0 }),
-        ("10L #", TextFault::BadNumber { at: 0 }),
-    ];
-    for (text, wanted) in cases {
-        match lex(alloc, text) {
-            Ok(_) => assert!(rt; false, "{text}"),
-            Err(fault) => assert!(rt; fault == wanted, "{text}"),
-        }
-    }
-    assert!(rt; lex(alloc, "2147483648 - 0")?.len() == 3);
-    Ok(())
-}
-
-fn repeated(alloc: Global, first: &str, piece: &str, bytes: usize) -> Result<String, Fail> {
-    let mut text = String::from_str(alloc, first)?;
-    for _ in 0..bytes {
-        if text.len() < bytes {
-            text.push_str(piece)?;
-        }
-    }
-    Ok(text)
-}
-
-#[test]
-fn long_texts(rt: HostRuntime) -> Result<(), Fail> {
-    let alloc = rt.alloc();
-    for (first, piece, accepted) in [
-        ("", "a", true),
-        ("", "/", true),
-        ("", " ", true),
-        ("", "(", true),
-        ("", ">", true),
-        ("/*", "*", false),
-        ("", "7", false),
-        ("", "if a[0] ", true),
-    ] {
-        let text = repeated(alloc, first, piece, TEXT_LIMIT)?;
-        assert_eq!(rt; lex(alloc, &text).is_ok(), accepted);
-    }
-    let over = repeated(alloc, "", "a", TEXT_LIMIT + 1)?;
-    assert!(rt; matches!(&lex(alloc, &over), Err(TextFault::TooLong)));
     Ok(())
 }
 

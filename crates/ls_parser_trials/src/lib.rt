@@ -5,12 +5,6 @@
 #[cfg(test)]
 mod accepted;
 #[cfg(test)]
-mod beginnings;
-#[cfg(test)]
-mod heights;
-#[cfg(test)]
 mod lexing;
 #[cfg(test)]
 mod parsing;
-#[cfg(test)]
-mod trees;

@@ -2,14 +2,11 @@
 #![tactic(auto)]
 
 #[cfg(test)]
-#[cfg(test)]
 mod lists;
 #[cfg(test)]
 mod long;
 #[cfg(test)]
 mod runs;
-#[cfg(test)]
-mod small;
 #[cfg(test)]
 mod told;
 #[cfg(test)]

@@ -5,19 +5,11 @@ use ls_checked::program::Program;
 use ls_checked::tree::File;
 use ls_meaning::step::{Asked, Did};
 use ls_parser::parse::parse_text;
-use ls_report::print_history;
 use ls_source::run::SourceRun;
 use ls_types::checking::check;
 use ls_types::program::read_program;
 use std::alloc::{AllocError, Global};
 use std::test::Fail;
-
-/// What a run came to: its history as a text, and how many events that has.
-#[derive(Drop)]
-pub struct Played {
-    pub history: String,
-    pub events: usize,
-}
 
 // Whether a thread asks for the same.
 fn same(a: Asked, b: Asked) -> bool {
@@ -106,53 +98,24 @@ pub fn steps_of(alloc: Global, schedule: &str, program: &Program) -> Result<Vec<
     Ok(steps)
 }
 
-// The run of a schedule, or nothing where a step doesn't do what was asked for before it.
-fn run_of(
+// How many events the run of a schedule has, or nothing where a step doesn't do what was asked for before it.
+fn events_of(
     alloc: Global,
     file: &File,
     program: &Program,
     steps: &[usize],
-) -> Result<Option<Played>, Fail> {
+) -> Result<Option<usize>, AllocError> {
     let mut run = SourceRun::new(alloc, file, program)?;
     for thread in steps {
         if !stepped(alloc, program, &mut run, *thread)? {
             return Ok(None);
         }
     }
-    let events = run.history().len();
-    let history = print_history(alloc, run.history(), program)?;
-    Ok(Some(Played { history, events }))
+    Ok(Some(run.history().len()))
 }
 
-/// The run of texts, or nothing where a step of it doesn't do what its thread asked for, or another thread asks for
-/// something else behind it.
-fn play(
-    alloc: Global,
-    classes: &str,
-    program: &str,
-    schedule: &str,
-) -> Result<Option<Played>, Fail> {
-    let checked = check(alloc, parse_text(alloc, classes)?)?;
-    let program = read_program(alloc, program, &checked)?;
-    let steps = steps_of(alloc, schedule, &program)?;
-    run_of(alloc, checked.file(), &program, &steps)
-}
-
-/// Whether each step of the run of texts does what was asked for, and the run has this history.
-pub fn holds(
-    alloc: Global,
-    classes: &str,
-    program: &str,
-    schedule: &str,
-    history: &str,
-) -> Result<bool, Fail> {
-    match play(alloc, classes, program, schedule)? {
-        None => Ok(false),
-        Some(found) => Ok(found.history.as_str() == history),
-    }
-}
-
-/// Whether each step of the run of texts does what was asked for, and the run has so many events.
+/// Whether each step of the run of texts does what its thread asked for, the others ask for the same behind it, and the run
+/// has so many events.
 pub fn comes_to(
     alloc: Global,
     classes: &str,
@@ -160,8 +123,8 @@ pub fn comes_to(
     schedule: &str,
     events: usize,
 ) -> Result<bool, Fail> {
-    match play(alloc, classes, program, schedule)? {
-        None => Ok(false),
-        Some(found) => Ok(found.events == events),
-    }
+    let checked = check(alloc, parse_text(alloc, classes)?)?;
+    let program = read_program(alloc, program, &checked)?;
+    let steps = steps_of(alloc, schedule, &program)?;
+    Ok(events_of(alloc, checked.file(), &program, &steps)? == Some(events))
 }

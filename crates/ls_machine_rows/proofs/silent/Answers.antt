@@ -4,6 +4,9 @@ use Rattle.ls_machine_rows.proofs.silent.Goals as goal
 pub returns-clause-words : goal.returns-clause-words
 returns-clause-words c = (refl, refl, refl, refl)
 
+pub returns-clause-locals : goal.returns-clause-locals
+returns-clause-locals c = refl
+
 pub returns-clause-arithmetic : goal.returns-clause-arithmetic
 returns-clause-arithmetic c = (refl, refl, refl, refl, refl, refl, refl, refl, refl)
 

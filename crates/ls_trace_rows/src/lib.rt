@@ -1,0 +1,4 @@
+//! Traces that are worked out by hand.
+#![tactic(auto)]
+
+mod rows;
