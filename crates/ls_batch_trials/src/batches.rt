@@ -1,6 +1,6 @@
-// Tallies beside the same seeds one after the other, refusals, and texts.
+// Tallies beside the same seeds one after the other.
 
-use ls_batch::{BatchFault, Tally, batch, print_tally, sample};
+use ls_batch::{Tally, batch, sample};
 use ls_code::step::ThreadState;
 use ls_compiler::compile::compile;
 use ls_compiler::fault::CompileFault;
@@ -103,13 +103,6 @@ fn equals_one_after_the_other(
 }
 
 #[test]
-fn one_seed(rt: HostRuntime) -> Result<(), Fail> {
-    let is_same = equals_one_after_the_other(&rt, rt.alloc(), u64::MAX, 1, 60)?;
-    assert!(rt; is_same);
-    Ok(())
-}
-
-#[test]
 fn a_hundred_seeds(rt: HostRuntime) -> Result<(), Fail> {
     let is_same = equals_one_after_the_other(&rt, rt.alloc(), 7, 100, 60)?;
     assert!(rt; is_same);
@@ -120,68 +113,5 @@ fn a_hundred_seeds(rt: HostRuntime) -> Result<(), Fail> {
 fn five_thousand_seeds(rt: HostRuntime) -> Result<(), Fail> {
     let is_same = equals_one_after_the_other(&rt, rt.alloc(), 1_000_000_007, 5_000, 12)?;
     assert!(rt; is_same);
-    Ok(())
-}
-
-// Of a hundred seeds some lose an update and some don't.
-#[test]
-fn has_more_than_one_history(rt: HostRuntime) -> Result<(), Fail> {
-    let alloc = rt.alloc();
-    let image = counter(alloc)?;
-    let tally = batch(&rt, alloc, &image, CELLS, 0, 100, 60)?;
-    assert!(rt; tally.entries().len() > 1);
-    let text = print_tally(alloc, &tally, image.program())?;
-    assert!(rt; text.as_str().contains("return 1\n"));
-    assert!(rt; text.as_str().contains("return 2\n"));
-    Ok(())
-}
-
-fn refusal(
-    rt: &(impl Threads + Sync),
-    alloc: Global,
-    image: &Image,
-    cells: usize,
-    first: u64,
-    count: usize,
-    steps: usize,
-) -> Option<BatchFault> {
-    batch(rt, alloc, image, cells, first, count, steps).err()
-}
-
-#[test]
-fn refuses(rt: HostRuntime) -> Result<(), Fail> {
-    let alloc = rt.alloc();
-    let image = counter(alloc)?;
-    let count = Some(BatchFault::BadCount);
-    let cells = Some(BatchFault::BadCells);
-    assert!(rt; refusal(&rt, alloc, &image, CELLS, 0, 0, 5) == count);
-    assert!(rt; refusal(&rt, alloc, &image, CELLS, 0, 100_001, 5) == count);
-    assert!(rt; refusal(&rt, alloc, &image, CELLS, 0, 1, 900_001) == count);
-    assert!(rt; refusal(&rt, alloc, &image, CELLS, 0, 1, 900_000).is_none());
-    assert!(rt; refusal(&rt, alloc, &image, CELLS, u64::MAX, 2, 5) == count);
-    assert!(rt; refusal(&rt, alloc, &image, CELLS, u64::MAX, 1, 5).is_none());
-    assert!(rt; refusal(&rt, alloc, &image, CELLS, u64::MAX - 99, 100, 5).is_none());
-    assert!(rt; refusal(&rt, alloc, &image, CELLS, u64::MAX - 98, 100, 5) == count);
-    assert!(rt; refusal(&rt, alloc, &image, 0, 0, 0, 5) == cells);
-    assert!(rt; refusal(&rt, alloc, &image, 1_048_577, 0, 1, 5) == cells);
-    assert!(rt; refusal(&rt, alloc, &image, 1, 0, 1, 5).is_none());
-    Ok(())
-}
-
-// What is printed: an empty history, and one that stops at full cells.
-#[test]
-fn prints(rt: HostRuntime) -> Result<(), Fail> {
-    let alloc = rt.alloc();
-    let empty = compile(alloc, "", "setup { }")?;
-    let tally = batch(&rt, alloc, &empty, CELLS, 7, 3, 5)?;
-    let text = print_tally(alloc, &tally, empty.program())?;
-    assert_eq!(rt; text.as_str(), "seed 7 count 3\n\n");
-    let full = counter(alloc)?;
-    let tally = batch(&rt, alloc, &full, 1, 7, 2, 5)?;
-    let text = print_tally(alloc, &tally, full.program())?;
-    assert_eq!(rt;
-        text.as_str(),
-        "seed 7 count 2\nsetup.1 call c = new Counter()\n\n"
-    );
     Ok(())
 }

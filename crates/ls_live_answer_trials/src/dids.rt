@@ -4,9 +4,8 @@ ghost use Rattle.ls_code.specs.Machine.{loaded};
 ghost use Rattle.ls_image.specs.Images.{code_of_image};
 ghost use Rattle.std.specs.Prelude.{◌≡◌, length};
 
-use crate::keys::key;
+use crate::digests::with_did;
 use crate::texts::{COUNTER, TWO_COUNT};
-use ls_code::step::Did;
 use ls_compiler::compile::compile;
 use ls_image::image::Image;
 use ls_live::{Live, More, Seat, Session};
@@ -26,21 +25,17 @@ const CALLS: usize = 100_000;
 
 const LIMIT: usize = 250_000;
 
-// A seat, and what its steps did.
+// A seat, and the digest of what its steps did.
 #[derive(Drop)]
 struct Worker<L: Session> {
     seat: Seat<L>,
-    dids: Vec<Did>,
+    digest: u64,
 }
 
 fn work<L: Session, R: Wait>(rt: &R, live: &Live<L>, worker: &mut Worker<L>) {
     for _ in 0..CALLS {
         match live.step(rt, &mut worker.seat) {
-            More::Did(did) => {
-                if worker.dids.push(did).is_err() {
-                    return;
-                }
-            }
+            More::Did(did) => worker.digest = with_did(worker.digest, did),
             More::Later => thread::yield_now(),
             More::Over | More::Full => {}
         }
@@ -67,10 +62,23 @@ fn work_all<'x, L: Session + Send + Sync, R: Threads + Wait + Sync>(
 fn employed<L: Session>(alloc: Global, seats: Vec<Seat<L>>) -> Result<Vec<Worker<L>>, AllocError> {
     let mut workers = Vec::new(alloc);
     for seat in seats {
-        let dids = Vec::with_capacity(alloc, CALLS)?;
-        workers.push(Worker { seat, dids })?;
+        workers.push(Worker { seat, digest: 0 })?;
     }
     Ok(workers)
+}
+
+// The seats of the workers, whose digests are noted.
+fn dismissed<L: Session>(
+    alloc: Global,
+    workers: Vec<Worker<L>>,
+    digests: &mut [u64; 3],
+) -> Result<Vec<Seat<L>>, AllocError> {
+    let mut seats = Vec::new(alloc);
+    for (worker, digest) in workers.into_iter().zip(digests.iter_mut()) {
+        *digest = worker.digest;
+        seats.push(worker.seat)?;
+    }
+    Ok(seats)
 }
 
 // The record of a live run, and what each seat was answered; none where a seat disagrees.
@@ -79,7 +87,8 @@ fn run_noted<L: Session + Send + Sync, R: Threads + Wait + Sync>(
     alloc: Global,
     blank: Blank,
     image: &Image,
-) -> Result<Option<(Record, Vec<Vec<Did>>)>, Fail>
+    digests: &mut [u64; 3],
+) -> Result<Option<Record>, Fail>
     requires name { blank.name ≡ L.name }
     requires parts { blank.parts ≡ L.parts }
     requires seats { (L.seats ≡ L.parts) × (L.seats ≡ length (code_of_image image.now).starts) }
@@ -91,57 +100,20 @@ fn run_noted<L: Session + Send + Sync, R: Threads + Wait + Sync>(
     };
     let mut workers = employed(alloc, seats)?;
     work_all(rt, &live, workers.as_mut_slice());
-    let mut seats = Vec::new(alloc);
-    let mut answered = Vec::new(alloc);
-    for worker in workers {
-        let Worker { seat, dids } = worker;
-        seats.push(seat)?;
-        answered.push(dids)?;
-    }
-    match live.close(seats) {
-        Ok(record) => Ok(Some((record, answered))),
-        Err(_) => Ok(None),
-    }
+    let seats = dismissed(alloc, workers, digests)?;
+    Ok(live.close(seats).ok())
 }
 
-// Whether the step of the record did what its seat was answered at this place.
-fn is_the_same(did: Did, answered: Option<&Did>) -> bool {
-    match answered {
-        None => false,
-        Some(other) => key(*other) == key(did),
-    }
-}
-
-// Whether the steps of the record did what the seats were answered, each in its order, and no more were answered.
-fn are_the_same(machine: &mut Machine, steps: &[usize], answered: &[Vec<Did>]) -> bool {
-    let mut places = [0usize; 3];
+// The digests of what a machine does by these steps, those of each thread by themselves.
+fn stepped(machine: &mut Machine, steps: &[usize]) -> [u64; 3] {
+    let mut digests = [0; 3];
     for thread in steps {
         let did = machine.step(*thread);
-        let (Some(place), Some(dids)) = (places.get_mut(*thread), answered.get(*thread)) else {
-            return false;
-        };
-        if !is_the_same(did, dids.get(*place)) {
-            return false;
+        if let Some(digest) = digests.get_mut(*thread) {
+            *digest = with_did(*digest, did);
         }
-        *place = place.wrapping_add(1);
     }
-    answered.len() == 3
-        && places
-            .iter()
-            .zip(answered)
-            .all(|(place, dids)| *place == dids.len())
-}
-
-// An image, the record of a live run of it, and what its seats were answered.
-fn noted<R: Threads + Wait + Sync>(
-    rt: &R,
-    alloc: Global,
-) -> Result<(Image, Record, Vec<Vec<Did>>), Fail> {
-    let image = compile(alloc, COUNTER, TWO_COUNT)?;
-    let blank = Blank::new(image.code().starts().len() as u64);
-    let run = run_noted::<Brand, R>(rt, alloc, blank, &image)?;
-    let (record, answered) = run.ok_or("a seat disagrees")?;
-    Ok((image, record, answered))
+    digests
 }
 
 // Whether the record has what the seats were answered, each was answered, and its history is the machine's.
@@ -149,11 +121,11 @@ fn agreements(
     alloc: Global,
     image: &Image,
     record: &Record,
-    answered: &[Vec<Did>],
+    digests: &[u64; 3],
 ) -> Result<[bool; 3], Fail> {
     let mut machine = Machine::load(alloc, image.code(), CELLS)?;
-    let are_same = are_the_same(&mut machine, record.schedule().steps(), answered);
-    let are_answered = answered.iter().all(|dids| !dids.is_empty());
+    let are_same = stepped(&mut machine, record.schedule().steps()) == *digests;
+    let are_answered = digests.iter().all(|digest| *digest != 0);
     Ok([
         are_same,
         are_answered,
@@ -162,8 +134,12 @@ fn agreements(
 }
 
 fn live_agreements<R: Threads + Wait + Sync>(rt: &R, alloc: Global) -> Result<[bool; 3], Fail> {
-    let (image, record, answered) = noted(rt, alloc)?;
-    agreements(alloc, &image, &record, answered.as_slice())
+    let image = compile(alloc, COUNTER, TWO_COUNT)?;
+    let blank = Blank::new(image.code().starts().len() as u64);
+    let mut digests = [0; 3];
+    let run = run_noted::<Brand, R>(rt, alloc, blank, &image, &mut digests)?;
+    let record = run.ok_or("a seat disagrees")?;
+    agreements(alloc, &image, &record, &digests)
 }
 
 #[test]

@@ -5,7 +5,7 @@
 #[cfg(test)]
 mod dids;
 #[cfg(test)]
-mod keys;
+mod digests;
 #[cfg(test)]
 mod memory;
 #[cfg(test)]

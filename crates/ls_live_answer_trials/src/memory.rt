@@ -4,9 +4,8 @@ ghost use Rattle.ls_code.specs.Machine.{loaded};
 ghost use Rattle.ls_image.specs.Images.{code_of_image};
 ghost use Rattle.std.specs.Prelude.{◌≡◌, length};
 
-use crate::keys::key;
+use crate::digests::{mixed, with_did};
 use crate::texts::{COUNTER, TWO_COUNT};
-use ls_code::step::Did;
 use ls_compiler::compile::compile;
 use ls_hoard::Hoard;
 use ls_image::image::Image;
@@ -22,23 +21,23 @@ const CELLS: usize = 1000;
 
 const CALLS: usize = 100_000;
 
-// So many steps, of each thread in turn. There is room for what they did.
-fn step_machine(machine: &mut Machine, dids: &mut Vec<Did>) {
+// The digest of so many steps, of each thread in turn.
+fn step_machine(machine: &mut Machine) -> u64 {
+    let mut digest = 0;
     for number in 0..CALLS {
-        let _ = dids.push(machine.step(number % 3));
+        digest = with_did(digest, machine.step(number % 3));
     }
+    digest
 }
 
-// What the steps of an image's machine do, where further memory is refused or there is ample.
-fn machine_dids(alloc: Global, image: &Image, is_refused: bool) -> Result<Vec<Did>, Fail> {
-    let mut dids = Vec::with_capacity(alloc, CALLS)?;
+// The digest of the steps of an image's machine, where further memory is refused or there is ample.
+fn machine_digest(alloc: Global, image: &Image, is_refused: bool) -> Result<u64, Fail> {
     let mut machine = Machine::load(alloc, image.code(), CELLS)?;
     let mut hoard = Hoard::new(alloc)?;
     if is_refused {
         hoard.take_all(alloc);
     }
-    step_machine(&mut machine, &mut dids);
-    Ok(dids)
+    Ok(step_machine(&mut machine))
 }
 
 // Whether an image's machine isn't loaded where all memory is refused.
@@ -49,22 +48,12 @@ fn a_machine_is_refused(alloc: Global, image: &Image) -> Result<bool, AllocError
     Ok(matches!(loaded, Err(LoadFault::Memory)))
 }
 
-fn did_the_same(dids: &[Did], wanted: &[Did]) -> bool {
-    dids.len() == CALLS
-        && wanted.len() == CALLS
-        && dids
-            .iter()
-            .zip(wanted)
-            .all(|(did, other)| key(*did) == key(*other))
-}
-
 // Whether a machine isn't loaded without memory, and does without further memory what it does with it.
 fn machine_goes_on(alloc: Global) -> Result<[bool; 2], Fail> {
     let image = compile(alloc, COUNTER, TWO_COUNT)?;
     let is_refused = a_machine_is_refused(alloc, &image)?;
-    let wanted = machine_dids(alloc, &image, false)?;
-    let dids = machine_dids(alloc, &image, true)?;
-    Ok([is_refused, did_the_same(&dids, &wanted)])
+    let wanted = machine_digest(alloc, &image, false)?;
+    Ok([is_refused, machine_digest(alloc, &image, true)? == wanted])
 }
 
 #[test]
@@ -73,29 +62,57 @@ fn a_machine_steps(rt: HostRuntime) -> Result<(), Fail> {
     Ok(())
 }
 
-// So many steps, of each seat in turn. There is room for what they are answered.
-fn step_live<L: Session, R: Wait>(
-    rt: &R,
-    live: &Live<L>,
-    seats: &mut [Seat<L>],
-    answers: &mut Vec<More>,
-) {
-    for number in 0..CALLS {
-        if let Some(seat) = seats.get_mut(number % 3) {
-            let _ = answers.push(live.step(rt, seat));
-        }
+// The digest of what the seats are answered, and how many answers are steps.
+#[derive(Clone, Copy, PartialEq, Eq)]
+struct Answers {
+    digest: u64,
+    steps: usize,
+}
+
+fn with_more(answers: Answers, more: More) -> Answers {
+    let Answers { digest, steps } = answers;
+    match more {
+        More::Did(did) => Answers {
+            digest: with_did(digest, did),
+            steps: steps.wrapping_add(1),
+        },
+        More::Later => Answers {
+            digest: mixed(digest, 30),
+            steps,
+        },
+        More::Over => Answers {
+            digest: mixed(digest, 31),
+            steps,
+        },
+        More::Full => Answers {
+            digest: mixed(digest, 32),
+            steps,
+        },
     }
 }
 
-// Notes what the steps of a live run are answered, where further memory is refused or there is ample.
-fn note_answers<L: Session, R: Wait>(
+// What so many steps are answered, of each seat in turn.
+fn step_live<L: Session, R: Wait>(rt: &R, live: &Live<L>, seats: &mut [Seat<L>]) -> Answers {
+    let mut answers = Answers {
+        digest: 0,
+        steps: 0,
+    };
+    for number in 0..CALLS {
+        if let Some(seat) = seats.get_mut(number % 3) {
+            answers = with_more(answers, live.step(rt, seat));
+        }
+    }
+    answers
+}
+
+// What the steps of a live run are answered, where further memory is refused or there is ample.
+fn answers_of<L: Session, R: Wait>(
     rt: &R,
     alloc: Global,
     blank: Blank,
     image: &Image,
     hoard: Option<&mut Hoard>,
-    answers: &mut Vec<More>,
-) -> Result<(), LiveFault>
+) -> Result<Answers, LiveFault>
     requires name { blank.name ≡ L.name }
     requires parts { blank.parts ≡ L.parts }
     requires seats { (L.seats ≡ L.parts) × (L.seats ≡ length (code_of_image image.now).starts) }
@@ -106,8 +123,7 @@ fn note_answers<L: Session, R: Wait>(
     if let Some(hoard) = hoard {
         hoard.take_all(alloc);
     }
-    step_live(rt, &live, seats.as_mut_slice(), answers);
-    Ok(())
+    Ok(step_live(rt, &live, seats.as_mut_slice()))
 }
 
 // What the steps of a live run of an image are answered, where further memory is refused or there is ample.
@@ -116,47 +132,18 @@ fn live_answers<R: Wait>(
     alloc: Global,
     image: &Image,
     is_refused: bool,
-) -> Result<Vec<More>, Fail> {
-    let mut answers = Vec::with_capacity(alloc, CALLS)?;
+) -> Result<Answers, Fail> {
     let mut hoard = Hoard::new(alloc)?;
     let taken = if is_refused { Some(&mut hoard) } else { None };
     let blank = Blank::new(image.code().starts().len() as u64);
-    note_answers::<Brand, R>(rt, alloc, blank, image, taken, &mut answers)?;
-    Ok(answers)
+    Ok(answers_of::<Brand, R>(rt, alloc, blank, image, taken)?)
 }
 
-fn is_the_same(answer: More, other: More) -> bool {
-    match answer {
-        More::Over => matches!(other, More::Over),
-        More::Full => matches!(other, More::Full),
-        More::Later => matches!(other, More::Later),
-        More::Did(did) => match other {
-            More::Did(wanted) => key(did) == key(wanted),
-            _ => false,
-        },
-    }
-}
-
-// Whether most answers are steps, and they are the others.
-fn are_the_same(answers: &[More], wanted: &[More]) -> bool {
-    let done = answers
-        .iter()
-        .filter(|it| matches!(it, More::Did(_)))
-        .count();
-    answers.len() == CALLS
-        && wanted.len() == CALLS
-        && done > CALLS / 2
-        && answers
-            .iter()
-            .zip(wanted)
-            .all(|(answer, other)| is_the_same(*answer, *other))
-}
-
+// Whether most answers are steps, and they are the same without further memory.
 fn live_goes_on<R: Wait>(rt: &R, alloc: Global) -> Result<bool, Fail> {
     let image = compile(alloc, COUNTER, TWO_COUNT)?;
     let wanted = live_answers(rt, alloc, &image, false)?;
-    let answers = live_answers(rt, alloc, &image, true)?;
-    Ok(are_the_same(&answers, &wanted))
+    Ok(wanted.steps > CALLS / 2 && live_answers(rt, alloc, &image, true)? == wanted)
 }
 
 #[test]

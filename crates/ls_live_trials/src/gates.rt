@@ -4,14 +4,6 @@ use ls_live::Gate;
 use std::sync::atomic::Ordering::SeqCst;
 use std::sync::atomic::{AtomicBool, AtomicU64};
 
-/// A gate that stands open.
-#[derive(Drop)]
-pub struct Open;
-
-impl Gate for Open {
-    fn pass(&self, _thread: usize) {}
-}
-
 // How often a flag is looked at before its thread goes on without it.
 const TURNS: u64 = 100_000_000;
 

@@ -1,8 +1,7 @@
-//! Tests of live threads: records, gates, seats. They stand apart from the crate that they test, so that they are proved without proving it again.
+//! Tests of live threads: two that run at one time, and what seats are told. They stand apart from the crate that they test, so that
+//! they are proved without proving it again.
 #![tactic(auto)]
 
-#[cfg(test)]
-mod books;
 #[cfg(test)]
 mod gates;
 #[cfg(test)]

@@ -28,8 +28,3 @@ pub const COUNTER: &str = "class Counter { int count; Lock lock = new ReentrantL
 
 pub const TWO_COUNT: &str =
     "setup { c = new Counter(); } thread A { c.up(); } thread B { c.up(); }";
-
-// A setup that is trapped.
-pub const TRAPPED: &str = "class Trap { int f; Trap() { f = 1 / 0; } void g() { } }";
-
-pub const AFTER_A_TRAP: &str = "setup { t = new Trap(); } thread A { t.g(); }";

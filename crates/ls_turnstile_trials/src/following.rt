@@ -14,7 +14,7 @@ fn follow<R: Threads + Wait + Sync>(
     alloc: Global,
     tape: &str,
 ) -> Result<(Option<FollowFault>, usize), Fail> {
-    let (turnstile, mut seats, _) = opened(alloc, COUNTER, COUNTER_PROGRAM, tape)?;
+    let (turnstile, mut seats) = opened(alloc, COUNTER, COUNTER_PROGRAM, tape)?;
     let _ = seats.pop();
     match follow_tape(rt, alloc, turnstile, seats, &OpenGate) {
         Ok((_, seats)) => Ok((None, seats.len())),

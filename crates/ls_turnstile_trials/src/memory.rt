@@ -1,10 +1,22 @@
 // Steps while all further memory is refused: they answer as they do with ample memory.
 
-use crate::seats::{Run, answers, are_in_order, open_fault};
+ghost use Rattle.ls_turnstile.specs.Turns.{IsSeatOf};
+
+use crate::seats::{key, opened, step};
+use crate::texts::{COUNTER, COUNTER_PROGRAM};
+use ls_compiler::compile::compile;
+use ls_hoard::Hoard;
 use ls_machine::LoadFault;
+use ls_schedule::read_schedule;
+use ls_turnstile::{TurnSeat, Turnstile};
+use std::alloc::Global;
 use std::test::Fail;
 
 const STEPS: usize = 100_000;
+
+const SETUP_STEPS: usize = 50;
+
+const TAPE: &str = "setup*50 all*49975";
 
 // Two threads that go on for good, and call and return all along.
 const ADDER: &str = "class Adder { int v; int more() { v = v + 1; return v; } \
@@ -13,23 +25,61 @@ const ADDER: &str = "class Adder { int v; int more() { v = v + 1; return v; } \
 const TWO_GO: &str = "setup { a = new Adder(); a.more(); } \
     thread A { a.more(); a.go(); } thread B { a.go(); }";
 
+// Whether each step of the tape is done at its place, and then none is left.
+fn goes_in_order(
+    turnstile: &Turnstile,
+    setup: &mut TurnSeat,
+    a: &mut TurnSeat,
+    b: &mut TurnSeat,
+) -> bool
+    requires setup { IsSeatOf turnstile.now setup.old }
+    requires a { IsSeatOf turnstile.now a.old }
+    requires b { IsSeatOf turnstile.now b.old }
+{
+    for place in 0..STEPS {
+        let thread = if place < SETUP_STEPS {
+            0
+        } else {
+            1 + place % 2
+        };
+        if key(step(turnstile, setup, a, b, thread)) != ('s', place) {
+            return false;
+        }
+    }
+    let mut is_over = true;
+    for thread in 0..3 {
+        is_over = is_over && key(step(turnstile, setup, a, b, thread)) == ('o', 0);
+    }
+    is_over
+}
+
+fn goes_without_memory(alloc: Global) -> Result<bool, Fail> {
+    let mut hoard = Hoard::new(alloc)?;
+    let (turnstile, mut seats) = opened(alloc, ADDER, TWO_GO, TAPE)?;
+    let (Some(mut b), Some(mut a), Some(mut setup)) = (seats.pop(), seats.pop(), seats.pop()) else {
+        return Ok(false);
+    };
+    hoard.take_all(alloc);
+    Ok(goes_in_order(&turnstile, &mut setup, &mut a, &mut b))
+}
+
 #[test]
 fn a_turnstile_steps(rt: HostRuntime) -> Result<(), Fail> {
-    let run = Run {
-        classes: ADDER,
-        program: TWO_GO,
-        tape: "setup*50 all*49975",
-        order: None,
-        is_refused: true,
-    };
-    let answered = answers(rt.alloc(), &run)?;
-    assert!(rt; are_in_order(&answered.turns, STEPS));
+    assert!(rt; goes_without_memory(rt.alloc())?);
     Ok(())
+}
+
+// Why a turnstile isn't opened where all memory is refused.
+fn fault_without_memory(alloc: Global) -> Result<Option<LoadFault>, Fail> {
+    let mut hoard = Hoard::new(alloc)?;
+    let image = compile(alloc, COUNTER, COUNTER_PROGRAM)?;
+    let tape = read_schedule(alloc, "setup A B", image.program())?;
+    hoard.take_all(alloc);
+    Ok(Turnstile::open(alloc, &image, 100, &tape).err())
 }
 
 #[test]
 fn a_turnstile_is_refused(rt: HostRuntime) -> Result<(), Fail> {
-    let fault = open_fault(rt.alloc(), 100, true)?;
-    assert_eq!(rt; fault, Some(LoadFault::Memory));
+    assert_eq!(rt; fault_without_memory(rt.alloc())?, Some(LoadFault::Memory));
     Ok(())
 }

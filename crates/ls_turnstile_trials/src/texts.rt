@@ -9,64 +9,6 @@ pub const COUNTER: &str = "class Counter {\n\
 pub const COUNTER_PROGRAM: &str =
     "setup { c = new Counter(); } thread A { c.inc(); } thread B { c.inc(); c.get(); }";
 
-pub const LOCKS: &str = "class K {\n\
-    Lock l = new ReentrantLock();\n\
-    void in2() { l.lock(); l.lock(); }\n\
-    void out() { l.unlock(); }\n\
-    boolean t() { return l.tryLock(); }\n\
-}\n";
-
-pub const LOCKS_PROGRAM: &str =
-    "setup { k = new K(); } thread A { k.in2(); k.out(); k.out(); } thread B { k.t(); k.t(); }";
-
-pub const COARSE_LIST: &str = "class Node {\n\
-    int key;\n\
-    Node next;\n\
-    Node(int k) { key = k; }\n\
-    }\n\
-    \n\
-    class CoarseList {\n\
-    Node head;\n\
-    Lock lock = new ReentrantLock();\n\
-    CoarseList() {\n\
-    head = new Node(Integer.MIN_VALUE);\n\
-    head.next = new Node(Integer.MAX_VALUE);\n\
-    }\n\
-    \n\
-    boolean add(int item) {\n\
-    lock.lock();\n\
-    try {\n\
-    Node pred = head, curr = pred.next;\n\
-    while (curr.key < item) { pred = curr; curr = curr.next; }\n\
-    if (curr.key == item) return false;\n\
-    Node node = new Node(item);\n\
-    node.next = curr;\n\
-    pred.next = node;\n\
-    return true;\n\
-    } finally { lock.unlock(); }\n\
-    }\n\
-    \n\
-    boolean remove(int item) {\n\
-    lock.lock();\n\
-    try {\n\
-    Node pred = head, curr = pred.next;\n\
-    while (curr.key < item) { pred = curr; curr = curr.next; }\n\
-    if (curr.key != item) return false;\n\
-    pred.next = curr.next;\n\
-    return true;\n\
-    } finally { lock.unlock(); }\n\
-    }\n\
-    \n\
-    boolean contains(int item) {\n\
-    lock.lock();\n\
-    try {\n\
-    Node pred = head, curr = pred.next;\n\
-    while (curr.key < item) { pred = curr; curr = curr.next; }\n\
-    return curr.key == item;\n\
-    } finally { lock.unlock(); }\n\
-    }\n\
-    }\n";
-
 pub const LAZY_LIST: &str = "class Node {\n\
     int key;\n\
     Node next;\n\
