@@ -5,13 +5,14 @@ ghost use Rattle.ls_image.specs.Images.{code_of_image};
 ghost use Rattle.std.specs.Prelude.{◌≡◌, length};
 
 use crate::gates::Meeting;
-use crate::texts::{LAZY_LIST, TWO_ADD};
+use crate::texts::TWO_ADD;
 use ls_compiler::compile::compile;
 use ls_events::event::{Event, Happening};
 use ls_events::value::Value;
 use ls_image::image::Image;
 use ls_live::{Gate, Live, Session, run_live};
 use ls_schedule::{Record, replay};
+use ls_stored_classes::LAZY;
 use std::alloc::Global;
 use std::marker::Brand;
 use std::sync::Wait;
@@ -89,7 +90,7 @@ fn counted<R: Threads + Wait + Sync>(
     alloc: Global,
     gate: &Meeting,
 ) -> Result<(Image, Record, Vec<u64>), Fail> {
-    let image = compile(alloc, LAZY_LIST, TWO_ADD)?;
+    let image = compile(alloc, LAZY, TWO_ADD)?;
     let blank = Blank::new(image.code().starts().len() as u64);
     let run = run_counted::<Brand, Meeting, R>(rt, alloc, blank, &image, gate)?;
     let (record, counts) = run.ok_or("a seat disagrees")?;

@@ -1,8 +1,9 @@
 // Whole runs of live threads.
 
-use crate::texts::{COUNTER, COUNTER_PROGRAM, LAZY_LIST};
+use crate::texts::{COUNTER, COUNTER_PROGRAM};
 use ls_compiler::compile::compile;
 use ls_schedule::{Record, read_schedule};
+use ls_stored_classes::LAZY;
 use ls_turnstile::{FollowFault, Gate, OpenGate, PlayFault, play_turns};
 use std::alloc::Global;
 use std::sync::Wait;
@@ -105,7 +106,7 @@ fn two_threads_meet(rt: HostRuntime) -> Result<(), Fail> {
         left_by_turns: AtomicU64::new(0),
     };
     let lists = Turns {
-        classes: LAZY_LIST,
+        classes: LAZY,
         program: "setup { s = new LazyList(); } thread A { s.add(1); } thread B { s.add(2); s.contains(2); }",
         entries: "setup*999 all*999",
         has_nobody: false,
