@@ -6,8 +6,8 @@ mod lists;
 #[cfg(test)]
 mod long;
 #[cfg(test)]
-mod runs;
+mod numbers;
 #[cfg(test)]
-mod told;
+mod runs;
 #[cfg(test)]
 mod whole;

@@ -1,6 +1,7 @@
 // A long run, of which before each step the thread that steps is asked, and no other.
 
-use crate::runs::{as_asked, steps_of};
+use crate::numbers::{is_as_asked, of_asked};
+use crate::runs::steps_of;
 use ls_parser::parse::parse_text;
 use ls_report::print_history;
 use ls_source::run::SourceRun;
@@ -22,9 +23,9 @@ fn million_steps(rt: HostRuntime) -> Result<(), Fail> {
     let steps = steps_of(alloc, "setup*5 A*999990 B*5", &program)?;
     let mut run = SourceRun::new(alloc, checked.file(), &program)?;
     for thread in &steps {
-        let asked = run.next(alloc, *thread)?;
+        let asked = of_asked(run.next(alloc, *thread)?);
         let did = run.step(alloc, *thread)?;
-        assert!(rt; as_asked(asked, did));
+        assert!(rt; is_as_asked(asked, did));
     }
     let history = print_history(alloc, run.history(), &program)?;
     let wanted =

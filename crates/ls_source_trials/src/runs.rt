@@ -1,9 +1,8 @@
 // Runs of texts. Before and behind each step `next` is asked of each thread, and of a number that no thread has.
 
-use crate::told::summary;
+use crate::numbers::{ENDED, NOT_STARTED, is_as_asked, of_asked};
 use ls_checked::program::Program;
 use ls_checked::tree::File;
-use ls_meaning::step::{Asked, Did};
 use ls_parser::parse::parse_text;
 use ls_source::run::SourceRun;
 use ls_types::checking::check;
@@ -11,69 +10,34 @@ use ls_types::program::read_program;
 use std::alloc::{AllocError, Global};
 use std::test::Fail;
 
-// Whether a thread asks for the same.
-fn same(a: Asked, b: Asked) -> bool {
-    match a {
-        Asked::Asks(x) => match b {
-            Asked::Asks(y) => summary(x) == summary(y),
-            _ => false,
-        },
-        Asked::Ended => matches!(b, Asked::Ended),
-        Asked::NotStarted => matches!(b, Asked::NotStarted),
-    }
-}
+// The most threads of these programs, and one more that none has.
+const NUMBERS: usize = 5;
 
-/// Whether a step did what its thread asked for: that action, or waiting for the lock of that action, or nothing where it
-/// asked for nothing.
-pub fn as_asked(asked: Asked, did: Did) -> bool {
-    match did {
-        Did::Acted(action, _) => same(asked, Asked::Asks(action)),
-        Did::Waits => matches!(asked, Asked::Asks(_)),
-        Did::Idle => !matches!(asked, Asked::Asks(_)),
-    }
-}
-
-// What each thread asks for, and last what a number asks for that no thread has.
-fn asked_of_all(
-    alloc: Global,
-    run: &SourceRun,
-    program: &Program,
-) -> Result<Vec<Asked>, AllocError> {
-    let mut found = Vec::new(alloc);
-    for thread in 0..=program.threads.len() {
-        found.push(run.next(alloc, thread)?)?;
+// What each thread asks for, and what a number asks for that no thread has.
+fn asked_of_all(alloc: Global, run: &SourceRun) -> Result<[u64; NUMBERS], AllocError> {
+    let mut found = [0; NUMBERS];
+    for (thread, number) in found.iter_mut().enumerate() {
+        *number = of_asked(run.next(alloc, thread)?);
     }
     Ok(found)
 }
 
 // Whether all but one thread ask for the same behind a step of that one; a thread that the setup held back may have started.
-fn others_stand(before: &[Asked], behind: &[Asked], thread: usize) -> bool {
-    for other in 0..before.len() {
-        let held_back = matches!(before[other], Asked::NotStarted);
-        if other < behind.len()
-            && other != thread
-            && !held_back
-            && !same(before[other], behind[other])
-        {
-            return false;
-        }
-    }
-    matches!(behind.last(), Some(Asked::Ended))
+fn others_stand(before: &[u64; NUMBERS], behind: &[u64; NUMBERS], thread: usize) -> bool {
+    let stand = before.iter().zip(behind).enumerate().all(|(other, (x, y))| x == y
+        || other == thread
+        || *x == NOT_STARTED);
+    stand && behind.last() == Some(&ENDED)
 }
 
 // One step of a run: whether it does what its thread asked for before it, and the others ask for the same behind it.
-fn stepped(
-    alloc: Global,
-    program: &Program,
-    run: &mut SourceRun,
-    thread: usize,
-) -> Result<bool, AllocError> {
-    let before = asked_of_all(alloc, run, program)?;
+fn stepped(alloc: Global, run: &mut SourceRun, thread: usize) -> Result<bool, AllocError> {
+    let before = asked_of_all(alloc, run)?;
     let did = run.step(alloc, thread)?;
-    let behind = asked_of_all(alloc, run, program)?;
+    let behind = asked_of_all(alloc, run)?;
     let does_as_asked = match before.get(thread) {
         None => false,
-        Some(asked) => as_asked(*asked, did),
+        Some(asked) => is_as_asked(*asked, did),
     };
     Ok(does_as_asked && others_stand(&before, &behind, thread))
 }
@@ -107,7 +71,7 @@ fn events_of(
 ) -> Result<Option<usize>, AllocError> {
     let mut run = SourceRun::new(alloc, file, program)?;
     for thread in steps {
-        if !stepped(alloc, program, &mut run, *thread)? {
+        if !stepped(alloc, &mut run, *thread)? {
             return Ok(None);
         }
     }
