@@ -3,6 +3,10 @@
 use ls_code::step::Did;
 use ls_events::action::{Action, Answer};
 
+fn int_number(int: i32) -> u64 {
+    u64::from(int.cast_unsigned())
+}
+
 // Which action, and what it names and holds.
 fn object_numbers(action: Action<u64>) -> [u64; 4] {
     match action {
@@ -12,18 +16,18 @@ fn object_numbers(action: Action<u64>) -> [u64; 4] {
             field,
             value,
         } => [1, object, field as u64, value],
-        Action::ReadItem { array, index } => [2, array, 0, index as u64],
+        Action::ReadItem { array, index } => [2, array, 0, int_number(index)],
         Action::WriteItem {
             array,
             index,
             value,
-        } => [3, array, value, index as u64],
+        } => [3, array, value, int_number(index)],
         Action::ReadName(name) => [4, name as u64, 0, 0],
         Action::WriteName(name, value) => [5, name as u64, value, 0],
         Action::New(class) => [6, class as u64, 0, 0],
         Action::NewLock => [7, 0, 0, 0],
         Action::NewMarkable(pair) => [8, pair, 0, 0],
-        Action::NewArray(len) => [9, 0, 0, len as u64],
+        Action::NewArray(len) => [9, 0, 0, int_number(len)],
         Action::Lock(lock) => [10, lock, 0, 0],
         Action::Unlock(lock) => [11, lock, 0, 0],
         Action::TryLock(lock) => [12, lock, 0, 0],

@@ -11,9 +11,13 @@ fn mixed(digest: u64, number: u64) -> u64 {
         .wrapping_add(1_442_695_040_888_963_407)
 }
 
+fn of_int(int: i32) -> u64 {
+    u64::from(int.cast_unsigned())
+}
+
 fn of_value(value: Value) -> u64 {
     match value {
-        Value::Int(int) => mixed(0, int as u64),
+        Value::Int(int) => mixed(0, of_int(int)),
         Value::Boolean(boolean) => mixed(1, u64::from(boolean)),
         Value::Reference(reference) => mixed(2, reference),
         Value::Pair { reference, mark } => mixed(mixed(3, reference), u64::from(mark)),
@@ -29,18 +33,18 @@ fn of_object(action: Action<Value>) -> [u64; 4] {
             field,
             value,
         } => [1, object, field as u64, of_value(value)],
-        Action::ReadItem { array, index } => [2, array, index as u64, 0],
+        Action::ReadItem { array, index } => [2, array, of_int(index), 0],
         Action::WriteItem {
             array,
             index,
             value,
-        } => [3, array, index as u64, of_value(value)],
+        } => [3, array, of_int(index), of_value(value)],
         Action::ReadName(n) => [4, n as u64, 0, 0],
         Action::WriteName(n, v) => [5, n as u64, of_value(v), 0],
         Action::New(c) => [6, c as u64, 0, 0],
         Action::NewLock => [7, 0, 0, 0],
         Action::NewMarkable(v) => [8, of_value(v), 0, 0],
-        Action::NewArray(n) => [9, n as u64, 0, 0],
+        Action::NewArray(n) => [9, of_int(n), 0, 0],
         Action::Lock(o) => [10, o, 0, 0],
         Action::Unlock(o) => [11, o, 0, 0],
         Action::TryLock(o) => [12, o, 0, 0],
