@@ -1,6 +1,6 @@
 use Rattle.ls_code.specs.Machine.{loaded}
 use Rattle.ls_image.specs.Images.{code_of_image}
-use Rattle.ls_live_answer_trials.proofs.dids.noted.Given as goal
+use Rattle.ls_live_answer_trials.proofs.dids.live_agreements.Given as goal
 
 abbrev pub ghosts-run_noted-L-Ledger : goal.ghosts-run_noted-L-Ledger
 ghosts-run_noted-L-Ledger g a = record { name = a.blank.name; parts = a.blank.parts }
