@@ -1,10 +1,12 @@
-//! A test of live threads: two that run at one time. It stands apart from the crate that it tests, so that it is proved without
-//! proving that again.
+//! Tests of live threads: two that run at one time, and what seats are told. They stand apart from the crate that they test, so that
+//! they are proved without proving it again.
 #![tactic(auto)]
 
 #[cfg(test)]
 mod gates;
 #[cfg(test)]
 mod meeting;
+#[cfg(test)]
+mod seats;
 #[cfg(test)]
 mod texts;
