@@ -3,8 +3,12 @@
 #![tactic(auto)]
 
 #[cfg(test)]
+mod following;
+#[cfg(test)]
 mod memory;
 #[cfg(test)]
 mod playing;
+#[cfg(test)]
+mod seats;
 #[cfg(test)]
 mod texts;

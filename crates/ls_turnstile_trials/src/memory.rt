@@ -1,18 +1,16 @@
 // Steps while all further memory is refused: they answer as they do with ample memory.
 
 ghost use Rattle.ls_turnstile.specs.Turns.{IsSeatOf};
-ghost use Rattle.std.specs.Prelude.{All, IfOk};
 
+use crate::seats::{CELLS, key, opened, step};
 use crate::texts::{COUNTER, COUNTER_PROGRAM};
 use ls_compiler::compile::compile;
 use ls_hoard::Hoard;
 use ls_machine::LoadFault;
 use ls_schedule::read_schedule;
-use ls_turnstile::{Turn, TurnSeat, Turnstile};
+use ls_turnstile::{TurnSeat, Turnstile};
 use std::alloc::Global;
 use std::test::Fail;
-
-const CELLS: usize = 100;
 
 const STEPS: usize = 100_000;
 
@@ -26,51 +24,6 @@ const ADDER: &str = "class Adder { int v; int more() { v = v + 1; return v; } \
 
 const TWO_GO: &str = "setup { a = new Adder(); a.more(); } \
     thread A { a.more(); a.go(); } thread B { a.go(); }";
-
-// A step of a thread's seat, of three.
-fn step(
-    turnstile: &Turnstile,
-    setup: &mut TurnSeat,
-    a: &mut TurnSeat,
-    b: &mut TurnSeat,
-    thread: usize,
-) -> Turn
-    requires setup { IsSeatOf turnstile.now setup.old }
-    requires a { IsSeatOf turnstile.now a.old }
-    requires b { IsSeatOf turnstile.now b.old }
-    ensures setup { IsSeatOf turnstile.now setup.new }
-    ensures a { IsSeatOf turnstile.now a.new }
-    ensures b { IsSeatOf turnstile.now b.new }
-{
-    match thread {
-        0 => turnstile.step(setup),
-        1 => turnstile.step(a),
-        _ => turnstile.step(b),
-    }
-}
-
-// The turnstile of two texts and a tape, and its seats.
-fn opened(
-    alloc: Global,
-    classes: &str,
-    program: &str,
-    tape: &str,
-) -> Result<(Turnstile, Vec<TurnSeat>), Fail>
-    ensures { IfOk result (λ r. All (IsSeatOf r.0) r.1.items) }
-{
-    let image = compile(alloc, classes, program)?;
-    let tape = read_schedule(alloc, tape, image.program())?;
-    Ok(Turnstile::open(alloc, &image, CELLS, &tape)?)
-}
-
-// A turn's kind and place.
-fn key(turn: Turn) -> (char, usize) {
-    match turn {
-        Turn::Stepped { place, did: _ } => ('s', place),
-        Turn::NotYet { place } => ('n', place),
-        Turn::Over => ('o', 0),
-    }
-}
 
 // Whether each step of the tape is done at its place, and then none is left.
 fn goes_in_order(
