@@ -1,5 +1,8 @@
 // What a step does, and where a thread stands.
 
+ghost use Rattle.std.specs.Prelude.{◌≡◌};
+ghost use Rattle.ls_code.specs.Machine.{stops};
+
 use ls_events::action::{Action, Answer};
 use std::alloc::AllocError;
 
@@ -51,5 +54,16 @@ pub enum Did {
 impl Clone for Did {
     fn clone(&self) -> Result<Did, AllocError> {
         Ok(*self)
+    }
+}
+
+/// Whether a step stops the machine, for good and for each of its threads: the cells have run out.
+#[inline]
+pub fn is_stop(did: Did) -> bool
+    ensures { result ≡ stops did }
+{
+    match did {
+        Did::Stopped => true,
+        Did::Silent | Did::Acted(_, _) | Did::Waits | Did::Idle => false,
     }
 }

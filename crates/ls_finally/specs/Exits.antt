@@ -1,6 +1,7 @@
 -- `try b finally f` by copies of f, where b and f have no `try` left (JLS 14.20.2). Each exit of b gets its own copy, and
 -- none of them lies in the region that is guarded.
 use Rattle.std.specs.Prelude.{ℕ, zero, suc, ◌+◌, List, [], ◌∷◌, ◌++◌, length, Option, Some, None}
+use Rattle.ls_finally_ways.specs.Ways.{both, guarded, first_ways}
 use Rattle.ls_lowered.specs.LoweredTree.{Statement, Block, SetLocal, SetField, SetItem, Evaluate, If, While, Return, Try, Guarded, Throw, Leavable, Leave, Statements, Done, Then, Local}
 
 -- how far a leave goes beyond so many numbers
@@ -44,10 +45,6 @@ abbrev mutual
   all_exits l Done = []
   all_exits l (Then s ss) = exits l s ++ all_exits l ss
 
--- the first, and then the second
-abbrev pub both : Statement → Statement → Statement
-both a b = Block (Then a (Then b Done))
-
 abbrev pub or_leave : Option ℕ → ℕ → ℕ → Statement
 or_leave None n j = Leave n
 or_leave (Some beyond) n j = Leave j
@@ -89,5 +86,4 @@ ways r f (x ∷ xs) = Then (both f (exit_of r x)) (ways r f xs)
 -- exit 1 where it throws, and the others are the exits of b.
 abbrev pub finally_of : ℕ → Statement → Statement → Statement
 finally_of k b f =
-    Leavable (both (Guarded (replaced (k + 1) 0 2 b) k (Leave 1)) (Leave 0))
-    (Then f (Then (both f (Throw k)) (ways (k + 1) f (exits 0 b))))
+    Leavable (guarded k (replaced (k + 1) 0 2 b)) (first_ways k f (ways (k + 1) f (exits 0 b)))

@@ -4,24 +4,19 @@
 // small.
 
 ghost use Rattle.std.specs.Prelude.{◌≡◌, ℕ, suc, ◌+◌, ◌<◌, ◌≤◌, ◌++◌, length, IfOk, OnOk};
-ghost use Rattle.ls_lowered.specs.LoweredTree.{Statements, SetLocal, Guarded, Throw, Leavable, Leave, Then};
-ghost use Rattle.ls_lowered.specs.Plain.{plain, plain_statement, in_front, statements_of};
-ghost use Rattle.ls_finally.specs.Exits.{count, exits, all_exits, both, exit_of, replaced, all_replaced, ways, finally_of};
+ghost use Rattle.ls_lowered.specs.LoweredTree.{Statements, SetLocal, Leavable, Leave};
+ghost use Rattle.ls_lowered.specs.Plain.{plain, plain_statement, statements_of};
+ghost use Rattle.ls_finally.specs.Exits.{count, exits, all_exits, exit_of, replaced, all_replaced, ways, finally_of};
+ghost use Rattle.ls_finally_ways.specs.Ways.{both, first_ways};
 ghost use Rattle.ls_finally.specs.Code.{plain_exit, plain_exits};
 
 use crate::exits::{Exit, beyond, collect_exits, within};
 use ls_finally_copies::copy::{block_of, copy_expression, copy_statement, leavable_of};
 use ls_finally_copies::together::{in_box, put};
-use ls_lowered::together::{also, pair, two};
+use ls_finally_ways::ways::{copied_before, first_ways, guarded, in_turn};
+use ls_lowered::together::also;
 use ls_lowered::tree::{Expression, Statement};
 use std::alloc::{AllocError, Global};
-
-/// The first, and then the second.
-fn in_turn(alloc: Global, first: Statement, second: Statement) -> Result<Statement, AllocError>
-    ensures { IfOk result (λ t. plain_statement t ≡ both (plain_statement first) (plain_statement second)) }
-{
-    Ok(block_of(pair(alloc, first, second)?))
-}
 
 // A leave in place of an exit.
 fn leave(inside: usize, next: &mut usize) -> Statement
@@ -213,37 +208,6 @@ fn exit_statement(kept: usize, exit: Exit) -> Statement
     }
 }
 
-// A copy of the finally block, and then the last.
-fn copied_before(
-    alloc: Global,
-    finally: &Statement,
-    last: Statement,
-) -> Result<Statement, AllocError>
-    ensures { IfOk result (λ t. plain_statement t ≡ both (plain_statement finally.now) (plain_statement last)) }
-{
-    let (last, copy) = also(last, copy_statement(alloc, finally))?;
-    in_turn(alloc, copy, last)
-}
-
-// The body, which leaves for exit 0 where it ends and for exit 1 where it throws.
-fn guarded(alloc: Global, body: Statement, free: usize) -> Result<Box<Statement>, AllocError>
-    ensures { IfOk result (λ t. plain_statement t.value ≡ both (Guarded (plain_statement body) free (Leave 1)) (Leave 0)) }
-{
-    let (body, handler) = two(alloc, body, Statement::Leave(1))?;
-    let guarded = Statement::Guarded(body, free, handler);
-    in_box(alloc, in_turn(alloc, guarded, Statement::Leave(0))?)
-}
-
-// The first two exits: the finally block where the body completes normally, and where it throws.
-fn first_ways(alloc: Global, finally: &Statement, free: usize) -> Result<Vec<Statement>, AllocError>
-    ensures { IfOk result (λ v. (rest : Statements) → in_front v.items rest ≡ Then (plain_statement finally.now) (Then (both (plain_statement finally.now) (Throw free)) rest)) }
-{
-    let normally = copy_statement(alloc, finally)?;
-    let thrown = copied_before(alloc, finally, Statement::Throw(free));
-    let (normally, thrown) = also(normally, thrown)?;
-    pair(alloc, normally, thrown)
-}
-
 // All exits: behind the first two, each of the body's behind its own copy of the finally block.
 fn all_ways(
     alloc: Global,
@@ -252,7 +216,7 @@ fn all_ways(
     free: usize,
 ) -> Result<Vec<Statement>, AllocError>
     requires { free ≤ 128 }
-    ensures { IfOk result (λ v. statements_of v.items ≡ Then (plain_statement finally.now) (Then (both (plain_statement finally.now) (Throw free)) (ways (free + 1) (plain_statement finally.now) (plain_exits found.now)))) }
+    ensures { IfOk result (λ v. statements_of v.items ≡ first_ways free (plain_statement finally.now) (ways (free + 1) (plain_statement finally.now) (plain_exits found.now))) }
 {
     let mut out = first_ways(alloc, finally, free)?;
     for exit in found {

@@ -12,13 +12,12 @@ ghost use Rattle.ls_machine.specs.Takes.{IsUnseen, TakesEvents};
 use crate::thread::Thread;
 use ls_code::code::Code;
 use ls_code::instruction::Resume;
-use ls_code::lock_word::{Left, Taken};
+use ls_code::lock_word::{Left, Taken, is_own_word, lock_word, unlock_word};
 use ls_code::step::Did;
 use ls_events::action::{Action, Answer};
 use ls_events::kind::Kind;
 use ls_machine_moves::cells::Cells;
 use ls_machine_moves::flow::Reply;
-use ls_machine_moves::lock_words::{is_own_word, lock_word, unlock_word};
 use std::alloc::AllocError;
 
 /// What a thread sees of a lock: the operation that it is at and the number by which an instruction names that, the lock, and its word.

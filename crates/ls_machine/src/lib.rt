@@ -11,5 +11,5 @@ mod steps;
 mod thread;
 
 pub use fault::LoadFault;
-pub use ls_machine_moves::lock_words::{lock_word, unlock_word};
+pub use ls_code::lock_word::{lock_word, unlock_word};
 pub use machine::{MOST_CELLS, Machine};

@@ -3,7 +3,7 @@
 ghost use Rattle.std.specs.Prelude.{◌≡◌, ℕ, ◌+◌, ◌<◌, ◌≤◌, ◌^◌, ◌++◌, ◌↔◌, List, [], length, map, slice_get, slice_index_or, vec_len, vec_capacity, IfOk, IsErrOf, ◌*◌};
 ghost use Rattle.std.specs.List.{All, sum_by};
 ghost use Rattle.ls_code.specs.Events.{events_of, result_of, result_value};
-ghost use Rattle.ls_code.specs.Machine.{loaded, machine_step, machine_run, machine_state, setup_ended, stops, is_due as due};
+ghost use Rattle.ls_code.specs.Machine.{loaded, machine_step, machine_run, machine_state, setup_ended, is_due as due};
 ghost use Rattle.ls_machine.specs.Back.{all_back};
 ghost use Rattle.ls_machine.specs.Memory.{no_thread, started_kept};
 ghost use Rattle.ls_machine.specs.Room.{AreBadCells};
@@ -12,7 +12,7 @@ use crate::fault::LoadFault;
 use crate::steps;
 use crate::thread::Thread;
 use ls_code::code::{CallResult, Code, Method, Start};
-use ls_code::step::{Did, Mode, ThreadState};
+use ls_code::step::{Did, Mode, ThreadState, is_stop};
 use ls_events::action::Action;
 use ls_events::event::{Event, Happening};
 use ls_events::schedule::Schedule;
@@ -291,17 +291,6 @@ fn forget(history: &mut Vec<Event>)
     ensures capacity { vec_capacity history.old ≤ vec_capacity history.new }
 {
     history.clear();
-}
-
-/// Whether a step stops the machine.
-#[inline]
-fn is_stop(did: Did) -> bool
-    ensures { result ≡ stops did }
-{
-    match did {
-        Did::Stopped => true,
-        Did::Silent | Did::Acted(_, _) | Did::Waits | Did::Idle => false,
-    }
 }
 
 /// The locals that every method has room in.

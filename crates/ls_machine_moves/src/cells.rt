@@ -6,9 +6,8 @@ ghost use Rattle.ls_code.specs.Machine.{first_cells};
 ghost use Rattle.ls_machine_moves.specs.Replies.{cells_after, reply_of};
 
 use crate::flow::Reply;
-use crate::lock_words::{is_own_word, lock_word, unlock_word};
 use crate::words;
-use ls_code::lock_word::{Left, Taken};
+use ls_code::lock_word::{Left, Taken, is_own_word, lock_word, unlock_word};
 use ls_events::action::{Action, Answer};
 use ls_events::kind::Kind;
 use std::alloc::{AllocError, Global};

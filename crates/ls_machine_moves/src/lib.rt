@@ -5,6 +5,5 @@ pub mod acting;
 pub mod cells;
 pub mod flow;
 pub mod frame;
-pub mod lock_words;
 pub mod silent;
 pub mod words;

@@ -11,13 +11,14 @@ ghost use Rattle.ls_tree.specs.WellFormed.{expression_height, is_new_array};
 ghost use Rattle.ls_tree.specs.Views.{name_text, bare, bare_target, call_of, expressions_of};
 ghost use Rattle.ls_parser_expressions.specs.Answers.{Gives};
 ghost use Rattle.ls_parser_expressions.specs.Reading.{is_markable};
-ghost use Rattle.ls_parser_expressions.specs.ReadingExpressions.{has_suffix, is_largest, number_here, class_at};
+ghost use Rattle.ls_parser_expressions.specs.ReadingExpressions.{has_suffix, number_here, class_at};
 
 use crate::tokens::{Context, Part, Read, closed, expect, name, starts_with};
 use ls_lexer::fault::TextFault;
 use ls_lexer::sign::Sign;
 use ls_lexer::token::{Span, Token};
 use ls_lexer::word::Word;
+use ls_tree::numbers::may_stand;
 use ls_tree::tree::{Expr, Name};
 use std::alloc::AllocError;
 
@@ -49,12 +50,6 @@ pub fn called(target: Option<Box<Expr>>, name: Name, arguments: Vec<Expr>, span:
 
 // ---- primaries
 
-pub fn is_largest(text: &str) -> bool
-    ensures { result ≡ is_largest text.now }
-{
-    text == "2147483648"
-}
-
 pub fn is_markable(text: &str) -> bool
     ensures { result ≡ is_markable text.now }
 {
@@ -73,7 +68,7 @@ pub fn number<'t, 'a>(
     ensures placed { IfOk result (λ p. At (placed p.tree) (spot (Numeral text.now) span ∷ spots rest.now) (spots p.rest.now)) }
     ensures height { IfOk result (λ p. (p.height ≡ expression_height (bare p.tree)) × (p.height ≡ 1)) }
 {
-    if !after_minus && is_largest(text) {
+    if !may_stand(after_minus, text) {
         return Err(TextFault::BadNumber { at: span.start });
     }
     let text = String::from_str(context.alloc, text)?;

@@ -1,13 +1,13 @@
 // What is behind a reference, and what an action does to it.
 
 ghost use Rattle.std.specs.Prelude.{◌≡◌, IfOk, OnErr};
-ghost use Rattle.ls_meaning.specs.Effect.{same_mark, change, in_range, same_pair, reading_field, writing_field, reading_item, writing_item, locking, trying, unlocking, asking_held, reading_pair, setting_pair, swapping, attempting};
+ghost use Rattle.ls_meaning.specs.Effect.{change, in_range, reading_field, writing_field, reading_item, writing_item, locking, trying, unlocking, asking_held, reading_pair, setting_pair, swapping, attempting};
 ghost use Rattle.ls_source.specs.SeenThing.{items_of, thing_of, seen_change};
 
 use ls_events::action::{Action, Answer};
 use ls_events::kind::Kind;
 use ls_events::value::Value;
-use ls_source_values::value::{mark_of, reference_of};
+use ls_source_values::value::{reference_of, same_pair};
 use std::alloc::AllocError;
 use std::collections::BTreeMap;
 
@@ -70,19 +70,6 @@ fn truth(b: bool) -> Effect
     ensures { result ≡ Effect.Does (Answer.Gives (Value.Boolean b)) }
 {
     gives(Value::Boolean(b))
-}
-
-fn same_mark(x: bool, y: bool) -> bool
-    ensures { result ≡ same_mark x y }
-{
-    if x { y } else { !y }
-}
-
-// Reference and mark are both the expected ones.
-fn same_pair(p: Value, q: Value) -> bool
-    ensures { result ≡ same_pair p q }
-{
-    reference_of(p) == reference_of(q) && same_mark(mark_of(p), mark_of(q))
 }
 
 // Whether an index is in range.

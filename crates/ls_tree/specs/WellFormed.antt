@@ -1,6 +1,7 @@
 -- Which trees the grammar has.
-use Rattle.std.specs.Prelude.{◌≡◌, ◌≢◌, ℕ, ◌+◌, ◌<◌, ◌≤◌, max, Bool, true, false, List, [], ◌∷◌, Option, Some, None, IfSome, codes, ⊤}
+use Rattle.std.specs.Prelude.{◌≡◌, ◌≢◌, ℕ, ◌+◌, ◌<◌, ◌≤◌, max, Bool, true, false, not, ◌||◌, List, [], ◌∷◌, Option, Some, None, IfSome, codes, ⊤}
 use Rattle.std.specs.List.{AllByRecursion}
+use Rattle.std.specs.Str.{bytes_eq}
 use Rattle.ls_tree.specs.declared.tree.UnaryOp.{UnaryOp}
 use Rattle.ls_tree.specs.declared.tree.UnaryOp.TheVariants as unary
 use Rattle.ls_tree.specs.declared.tree.BinaryOp.{BinaryOp}
@@ -49,6 +50,10 @@ is_call _ = false
 abbrev pub is_minus : UnaryOp → Bool
 is_minus unary.Minus = true
 is_minus unary.Not = false
+
+-- where a number may stand: the largest only directly after a unary minus
+abbrev pub may_stand : Bool → Text → Bool
+may_stand after_minus text = after_minus || not (bytes_eq text (codes "2147483648"))
 
 abbrev mutual
   -- whether it stands directly after a unary minus

@@ -5,7 +5,8 @@ use Rattle.ls_lowered.specs.LoweredTree.{Statement}
 use Rattle.ls_lowered.specs.Plain.{plain_statement, in_front}
 use Rattle.ls_finally.specs.declared.exits.Exit.{Exit}
 use Rattle.ls_finally.specs.declared.exits.Exit.TheVariants.{Leave}
-use Rattle.ls_finally.specs.Exits.{both, exit_of, ways}
+use Rattle.ls_finally.specs.Exits.{exit_of, ways}
+use Rattle.ls_finally_ways.specs.Ways.{both}
 use Rattle.ls_finally.specs.Code.{plain_exit, plain_exits}
 use Rattle.ls_finally_copies.proofs.Fronts.{one_made}
 use Rattle.ls_finally.proofs.replace.all_ways.Goals as goal
