@@ -6,7 +6,7 @@ use Rattle.std.proofs.lemmas.List.{length-map, map-append, take_more}
 use Rattle.std.proofs.lemmas.List.FromFn.{length-range_with_len}
 use Rattle.std.proofs.lemmas.Bool.{cases_lt}
 use Rattle.ls_batch.specs.Samples.{IsBadCount}
-use Rattle.ls_batch.specs.Tallies.{History}
+use Rattle.ls_batch_tally.specs.Tallies.{History}
 
 -- the histories of one seed more
 pub mapped_more : {V : Type 0} (h : ℕ → History) (f : V → History) (seeds : List ℕ) (k : ℕ) (vs : List V) (v : V) → k < length seeds → f v ≡ h (get_or seeds k 0) → map f vs ≡ map h (take k seeds) → map f (vs ++ v ∷ []) ≡ map h (take (k + 1) seeds)

@@ -5,11 +5,11 @@ ghost use Rattle.std.specs.List.{range_with_len};
 ghost use Rattle.ls_image.specs.Images.{RunsAsItsTexts, code_of_image};
 ghost use Rattle.ls_machine.specs.Room.{AreBadCells};
 ghost use Rattle.ls_batch.specs.Samples.{IsBadCount, histories_of};
-ghost use Rattle.ls_batch.specs.Tallies.{IsTally};
+ghost use Rattle.ls_batch_tally.specs.Tallies.{IsTally};
 
 use crate::fault::BatchFault;
 use crate::gathering::histories;
-use crate::tallying::{Tally, tally_of};
+use ls_batch_tally::{Tally, tally_of};
 use ls_code::code::Code;
 use ls_image::image::Image;
 use ls_image::laws::runs;

@@ -4,7 +4,7 @@ ghost use Rattle.std.specs.Prelude.{◌≡◌, ◌++◌, IfOk, OnOk, string_byte
 ghost use Rattle.ls_checked.specs.PlainProgram.{plain_program};
 ghost use Rattle.ls_batch.specs.Printing.{entry_text, head_text, tally_text};
 
-use crate::tallying::{Entry, Tally};
+use ls_batch_tally::{Entry, Tally};
 use ls_checked::program::Program;
 use ls_report::print_history;
 use std::alloc::{AllocError, Global};

@@ -4,8 +4,8 @@ ghost use Rattle.std.specs.Prelude.{◌≡◌, IfOk};
 ghost use Rattle.ls_code.specs.Machine.{loaded, machine_state};
 ghost use Rattle.ls_batch.specs.Samples.{goes_on, history_of, played, settled, threads_of};
 
-use crate::events::copied;
 use crate::samples::run_sample;
+use ls_batch_tally::copied;
 use ls_code::code::Code;
 use ls_code::step::ThreadState;
 use ls_events::event::Event;

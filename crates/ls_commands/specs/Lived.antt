@@ -8,7 +8,7 @@ use Rattle.ls_image.specs.declared.image.Image.{Image}
 use Rattle.ls_schedule.specs.Printing.{schedule_text}
 use Rattle.ls_schedule.specs.Reading.{schedule_of}
 use Rattle.ls_schedule.specs.declared.fault.ScheduleFault.{ScheduleFault}
-use Rattle.ls_live.specs.Answers.{is_over}
+use Rattle.ls_live_book.specs.Answers.{is_over}
 use Rattle.ls_live.specs.declared.fault.LiveFault.TheVariants as opening
 use Rattle.ls_live.specs.declared.fault.PlayFault.TheVariants as live
 use Rattle.ls_turnstile.specs.declared.fault.FollowFault.{FollowFault}

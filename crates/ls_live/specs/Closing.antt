@@ -1,12 +1,12 @@
 -- How a live run is closed.
-use Rattle.std.specs.Prelude.{◌≡◌, ℕ, ◌<◌, List, length, sum_by, Bool, false, true}
+use Rattle.std.specs.Prelude.{◌≡◌, ℕ, ◌<◌, List, length, sum_by, Bool, false}
 use Rattle.std.specs.List.{list_all}
 use Rattle.ls_code.specs.Machine.{Machine}
 use Rattle.ls_schedule.specs.Records.{scheduled}
 use Rattle.ls_schedule.specs.declared.replaying.Record.{Record}
-use Rattle.ls_live.specs.Records.{IsRecordFrom}
-use Rattle.ls_live.specs.Seats.{Seat, agrees}
-use Rattle.ls_live.specs.declared.laws.Session.{Ghosts}
+use Rattle.ls_live_book.specs.Records.{IsRecordFrom}
+use Rattle.ls_live_book.specs.Seats.{Seat, agrees}
+use Rattle.ls_live_book.specs.declared.book.Session.{Ghosts}
 use Rattle.ls_live.specs.declared.live.CloseFault.{CloseFault}
 use Rattle.ls_live.specs.declared.live.CloseFault.TheVariants.{Missing, Disagree}
 

@@ -3,13 +3,12 @@
 #![tactic(auto)]
 
 mod fault;
-pub mod laws;
 mod live;
 mod playing;
 mod running;
 
 pub use fault::{LiveFault, PlayFault};
-pub use laws::{More, Session, Told};
 pub use live::{CloseFault, Live, Seat};
+pub use ls_live_book::{More, Session, Told};
 pub use playing::play_live;
 pub use running::{Gate, NoThread, run_live};

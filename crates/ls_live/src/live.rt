@@ -2,17 +2,17 @@
 
 ghost use Rattle.ls_image.specs.Images.{code_of_image};
 ghost use Rattle.ls_code.specs.Machine.{loaded};
-ghost use Rattle.ls_live.specs.Answers.{done_by};
-ghost use Rattle.ls_live.specs.Seats.{Seat as SeatValue, agrees, seat_after, seat_of};
-ghost use Rattle.ls_live.specs.declared.laws.Told.TheVariants.{Nothing};
+ghost use Rattle.ls_live.specs.Seats.{done_by, seat_after};
+ghost use Rattle.ls_live_book.specs.Seats.{Seat as SeatValue, agrees, seat_of};
+ghost use Rattle.ls_live_book.specs.declared.book.Told.TheVariants.{Nothing};
 ghost use Rattle.ls_machine.specs.Room.{AreBadCells};
 ghost use Rattle.std.specs.List.{list_all};
 ghost use Rattle.std.specs.Prelude.{◌≡◌, ◌↔◌, ℕ, ◌+◌, ◌≤◌, ◌<◌, ◌^◌, length, sum_by, IfOk, IfErr, IsErrOf, slice_get, Some, true, vec_len, vec_capacity};
 
 use crate::fault::LiveFault;
-use crate::laws::{Book, More, Session, Told};
 use ls_events::schedule::MOST_STEPS;
 use ls_image::image::Image;
+use ls_live_book::{Book, More, Session, Told};
 use ls_machine::{LoadFault, Machine};
 use ls_schedule::Record;
 use std::alloc::Global;

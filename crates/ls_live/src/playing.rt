@@ -9,10 +9,10 @@ ghost use Rattle.ls_schedule.specs.Records.{IsRecordOf, scheduled};
 ghost use Rattle.std.specs.Prelude.{◌≡◌, ◌↔◌, ◌<◌, ◌≤◌, length, IfOk, IsErrOf};
 
 use crate::fault::PlayFault;
-use crate::laws::Session;
 use crate::live::{CloseFault, Live};
 use crate::running::{Gate, run_live};
 use ls_image::image::Image;
+use ls_live_book::Session;
 use ls_schedule::Record;
 use std::alloc::{AllocError, Global};
 use std::marker::Brand;

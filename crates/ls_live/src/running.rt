@@ -4,8 +4,8 @@ ghost use Rattle.ls_live.specs.Seats.{AreInOrder, is_told};
 ghost use Rattle.std.specs.List.{list_all};
 ghost use Rattle.std.specs.Prelude.{◌≡◌, true, length, IfOk, IfErr};
 
-use crate::laws::{More, Session, Told};
 use crate::live::{Live, Seat};
+use ls_live_book::{More, Session, Told};
 use std::sync::Wait;
 use std::thread;
 use std::thread::Threads;

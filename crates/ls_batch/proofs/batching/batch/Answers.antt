@@ -1,6 +1,6 @@
 use Rattle.std.proofs.Common.{ℕ, List, map, length, ap, ◌∙◌, subst, arith}
 use Rattle.ls_batch.specs.Samples.{history_of}
-use Rattle.ls_batch.specs.Tallies.{History, IsTally}
+use Rattle.ls_batch_tally.specs.Tallies.{History, IsTally}
 use Rattle.ls_batch.proofs.Batched.{batched, batched_len, within}
 use Rattle.ls_batch.proofs.batching.batch.Goals as goal
 

@@ -1,7 +1,7 @@
 use Rattle.std.proofs.Common.{ℕ, ap, ◌∙◌, map}
 use Rattle.rayon.proofs.ToStd.{chunks_of-concat}
 use Rattle.ls_batch.specs.Samples.{history_of}
-use Rattle.ls_batch.specs.Tallies.{History}
+use Rattle.ls_batch_tally.specs.Tallies.{History}
 use Rattle.ls_batch.proofs.Batched.{zip_parts}
 use Rattle.ls_batch.proofs.gathering.histories.Goals as goal
 

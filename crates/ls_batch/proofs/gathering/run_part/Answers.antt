@@ -1,6 +1,6 @@
 use Rattle.std.proofs.Common.{ℕ, ◌∙◌}
 use Rattle.ls_batch.specs.Samples.{history_of}
-use Rattle.ls_batch.specs.Tallies.{History}
+use Rattle.ls_batch_tally.specs.Tallies.{History}
 use Rattle.ls_batch.proofs.Batched.{mapped_more}
 use Rattle.ls_batch.proofs.gathering.run_part.Goals as goal
 

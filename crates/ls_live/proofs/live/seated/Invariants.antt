@@ -1,7 +1,7 @@
-use Rattle.std.proofs.Common.{◌≡◌, ◌+◌, ◌<◌, ◌≤◌, ℕ, length, vec_len, vec_capacity}
+use Rattle.std.proofs.Common.{◌≡◌, ◌+◌, ◌<◌, ◌≤◌, ℕ, vec_len, vec_capacity}
 use Rattle.std.specs.Prelude.{slice_get, Some}
-use Rattle.ls_live.specs.Seats.{seat_of}
-use Rattle.ls_live.specs.declared.laws.Told.TheVariants.{Nothing}
+use Rattle.ls_live_book.specs.Seats.{seat_of}
+use Rattle.ls_live_book.specs.declared.book.Told.TheVariants.{Nothing}
 use Rattle.ls_live.proofs.live.seated.Given as goal
 
 abbrev pub invariant-loop-thread : goal.invariant-loop-thread

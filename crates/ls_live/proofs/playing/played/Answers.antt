@@ -1,6 +1,6 @@
 use Rattle.std.proofs.Common.{◌≡◌, ◌<◌, ◌∙◌, ℕ, All, ap, length, subst}
 use Rattle.std.proofs.lemmas.List.{length-map}
-use Rattle.ls_code.specs.Machine.{Machine, loaded}
+use Rattle.ls_code.specs.Machine.{Machine}
 use Rattle.ls_image.specs.Images.{code_of_image}
 use Rattle.ls_live.proofs.Ends.{opened_in_order, all_done}
 use Rattle.ls_schedule.specs.Records.{scheduled}

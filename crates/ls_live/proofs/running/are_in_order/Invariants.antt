@@ -1,6 +1,6 @@
 use Rattle.std.proofs.Common.{◌≡◌, ◌<◌, ℕ}
 use Rattle.std.specs.Prelude.{slice_get, Some}
-use Rattle.ls_live.specs.Seats.{Seat}
+use Rattle.ls_live_book.specs.Seats.{Seat}
 use Rattle.ls_live.proofs.running.are_in_order.Given as goal
 
 abbrev pub invariant-loop-thread : goal.invariant-loop-thread

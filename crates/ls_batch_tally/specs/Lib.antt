@@ -1,0 +1,3 @@
+pub mod Keys
+pub mod Places
+pub mod Tallies

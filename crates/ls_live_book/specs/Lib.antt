@@ -1,0 +1,5 @@
+pub mod Answers
+pub mod Books
+pub mod Records
+pub mod Seats
+pub mod Sessions
