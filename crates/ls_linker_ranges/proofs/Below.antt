@@ -7,7 +7,8 @@ use Rattle.ls_checked.specs.CheckedTree.{File, Expression, Literal, Slot, Field,
 use Rattle.ls_meaning.specs.declared.sort.Sort.{Sort}
 use Rattle.ls_types_judgement.specs.Typing.{IsTyped, AreTyped}
 use Rattle.ls_refs.specs.Temporaries.{temporaries, all_temporaries}
-use Rattle.ls_refs.specs.Lowered.{first_of, second_of, lowered, all_lowered}
+use Rattle.ls_refs_calls.specs.Calls.{first_of, second_of}
+use Rattle.ls_refs.specs.Lowered.{lowered, all_lowered}
 use Rattle.ls_finally.specs.Agreement.{IsBelow, AreBelow}
 use Rattle.ls_linker_ranges.proofs.Lists.{in_range}
 

@@ -15,7 +15,7 @@ use Rattle.ls_meaning.specs.declared.completion.Completion.{Completion}
 use Rattle.ls_meaning.specs.declared.completion.Completion.TheVariants.{Normal, Broke, Continued, Returned, Threw}
 use Rattle.ls_meaning.specs.Values.{int_of, truth_of, reference_of, nothing}
 use Rattle.ls_events.specs.declared.action.Answer.TheVariants as answers
-use Rattle.ls_meaning.specs.Course.{Answers, Evaluated, Asks, Results, Throws}
+use Rattle.ls_meaning.specs.Course.{Answers, Evaluated, Asks}
 use Rattle.ls_meaning.specs.Expressions.{Calls, evaluate}
 use Rattle.ls_meaning.specs.Statements.{Executed, AsksFor, Completes, on_value, then_do, finally_do, turn_back, after_body, one_turn, turns, execute, execute_all}
 use Rattle.ls_meaning.proofs.Followers as followers
@@ -26,7 +26,7 @@ use Rattle.ls_lowered.specs.Course as low
 use Rattle.ls_lowered.specs.Expressions.{find}
 use Rattle.ls_lowered.specs.Statements as does
 use Rattle.ls_lowered.specs.Methods.{told}
-use Rattle.ls_refs.specs.ValueWords.{value_word}
+use Rattle.ls_refs_calls.specs.ValueWords.{value_word}
 use Rattle.ls_types_judgement.specs.Sorts.{HasType, HasSort}
 use Rattle.ls_types_judgement.specs.Typing.{IsTyped, IsTypedStatement, AreTypedStatements}
 use Rattle.ls_refs.specs.Temporaries.{temporaries, statement_temporaries, block_temporaries}
@@ -34,7 +34,7 @@ use Rattle.ls_refs.specs.Lowered.{lowered, lowered_statement, lowered_block}
 use Rattle.ls_refs.specs.Laws.{answer_word, answer_words, in_words, Suited}
 use Rattle.ls_refs.proofs.Numbers.{int_back}
 use Rattle.ls_refs.proofs.Values.{reference_word, truth_word, int_word, int_fits}
-use Rattle.ls_refs.proofs.Sim.{suited_eq, ends, word_ends, Sim, sim_eq, Agrees, then_agrees, perform_agrees, null_agrees}
+use Rattle.ls_refs.proofs.Sim.{suited_eq, word_ends, Sim, sim_eq, Agrees, then_agrees, perform_agrees, null_agrees}
 use Rattle.ls_refs.proofs.Good.{Holds, holds_kept, get_within, CallsAgree}
 use Rattle.ls_refs.proofs.Exprs.{agrees}
 use Rattle.ls_refs.proofs.Ahead.{ahead_runs}

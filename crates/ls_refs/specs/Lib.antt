@@ -1,4 +1,3 @@
-pub mod ValueWords
 pub mod Temporaries
 pub mod Lowered
 pub mod Refused

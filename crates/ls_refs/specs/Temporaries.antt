@@ -1,15 +1,7 @@
--- How many temporaries a tree needs: four for each compareAndSet, two for each get. Each try keeps two more for the
--- lowering of finally blocks.
+-- How many temporaries a tree needs: those of its calls. Each try keeps two more for the lowering of finally blocks.
 use Rattle.std.specs.Prelude.{ℕ, ◌+◌, ◌*◌, length}
-use Rattle.ls_checked.specs.declared.tree.Called.{Called}
-use Rattle.ls_checked.specs.declared.tree.Called.TheVariants.{GetBoth, CompareAndSet}
 use Rattle.ls_checked.specs.CheckedTree.{Expression, Literal, Slot, Field, Item, Negate, Not, Binary, And, Or, Call, MakeObject, MakeLock, MakeMarkable, MakeArray, Expressions, End, More, Statement, Block, SetSlot, SetField, SetItem, Evaluate, If, While, Break, Continue, ReturnNothing, ReturnValue, Try, Statements, Done, Then, Method}
-
--- those of a call itself
-abbrev pub own_temporaries : Called → ℕ
-own_temporaries CompareAndSet = 4
-own_temporaries (GetBoth class) = 2
-own_temporaries _ = 0
+use Rattle.ls_refs_calls.specs.Calls.{own_temporaries}
 
 abbrev mutual
   pub temporaries : Expression → ℕ

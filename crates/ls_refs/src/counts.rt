@@ -3,10 +3,11 @@
 ghost use Rattle.std.specs.Prelude.{◌≡◌, ℕ, ◌+◌, ◌*◌, ◌≤◌, length};
 ghost use Rattle.std.specs.Option.{SomeIff};
 ghost use Rattle.ls_checked.specs.Plain.{plain as checked, all_plain as all_checked, plain_statement, plain_method, statements_of};
-ghost use Rattle.ls_refs.specs.Temporaries.{own_temporaries as those_of, temporaries, all_temporaries, taken, block_taken, locals_of};
+ghost use Rattle.ls_refs_calls.specs.Calls.{own_temporaries as those_of};
+ghost use Rattle.ls_refs.specs.Temporaries.{temporaries, all_temporaries, taken, block_taken, locals_of};
 
-use crate::calls::own_temporaries;
 use ls_checked::tree::{Expression, Expressions, Method, Statement};
+use ls_refs_calls::calls::own_temporaries;
 
 /// The most locals of a method.
 pub const MOST_LOCALS: usize = 128;

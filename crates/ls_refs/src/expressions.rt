@@ -6,10 +6,12 @@ ghost use Rattle.ls_lowered.specs.Plain.{plain, all_plain};
 ghost use Rattle.ls_refs.specs.Temporaries.{temporaries, all_temporaries};
 ghost use Rattle.ls_refs.specs.Lowered.{lowered, all_lowered};
 
-use crate::calls::{call, constructor_of, operator, own_temporaries, pack_arguments, value_word};
 use ls_checked::tree::{Class, Expression, Expressions};
 use ls_lowered::together::also;
 use ls_lowered::tree::{Expression as Tree, Expressions as Trees, UnaryOperator};
+use ls_refs_calls::calls::{
+    call, constructor_of, operator, own_temporaries, pack_arguments, value_word,
+};
 use std::alloc::{AllocError, Global};
 
 /// A lowered tree, and the first local that is still free.

@@ -1,8 +1,7 @@
-//! The first lowering: values become words, and the operations of markable references become operations on packed words,
-//! with their arguments in temporaries.
+//! The first lowering: values become words, and loops become leavable statements. What a call becomes, whose target and
+//! arguments are lowered, stands in `ls_refs_calls`.
 #![tactic(auto)]
 
-mod calls;
 mod counts;
 mod expressions;
 pub mod laws;

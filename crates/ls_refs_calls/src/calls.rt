@@ -1,4 +1,4 @@
-// Calls whose target and arguments are lowered.
+// Words of values, operators, and calls whose target and arguments are lowered.
 
 ghost use Rattle.std.specs.Prelude.{◌≡◌, ℕ, ◌+◌, ◌≤◌, IfOk, map};
 ghost use Rattle.ls_checked.specs.Plain.{plain_class};
@@ -6,9 +6,8 @@ ghost use Rattle.ls_lowered.specs.Plain.{plain, all_plain};
 ghost use Rattle.ls_lowered.specs.LoweredTree.{Local, Unary, Hold, After, SetFirst, ReadPair, OnLock, AttemptMark};
 ghost use Rattle.ls_lowered.specs.declared.tree.UnaryOperator.TheVariants as unary;
 ghost use Rattle.ls_meaning.specs.Expressions.{constructor_of as the_constructor};
-ghost use Rattle.ls_refs.specs.ValueWords.{value_word as the_word};
-ghost use Rattle.ls_refs.specs.Temporaries.{own_temporaries as those_of};
-ghost use Rattle.ls_refs.specs.Lowered.{lowered_operator as the_operator, first_of, rest_of, second_of, pack as packed, compare_and_set as swapping, get_both as getting, lowered_call};
+ghost use Rattle.ls_refs_calls.specs.ValueWords.{value_word as the_word};
+ghost use Rattle.ls_refs_calls.specs.Calls.{lowered_operator as the_operator, own_temporaries as those_of, first_of, rest_of, second_of, pack as packed, compare_and_set as swapping, get_both as getting, lowered_call};
 
 use ls_checked::tree::{Called, Class, Operator};
 use ls_events::value::Value;

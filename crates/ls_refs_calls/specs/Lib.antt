@@ -1,0 +1,2 @@
+pub mod ValueWords
+pub mod Calls
