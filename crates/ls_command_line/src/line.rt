@@ -1,7 +1,7 @@
 // The command line as clap has it: the commands with their options.
 
 ghost use Rattle.std.specs.Prelude.{◌≡◌, IfOk, codes, false};
-ghost use Rattle.clap.specs.Words.{app_of, rule_of};
+ghost use Rattle.clap.specs.Words.{App, Rule, app_of, rule_of, with_rule, with_subcommand};
 ghost use Rattle.clap.specs.declared.builder.command.Command.TheViews.{out-Command};
 ghost use Rattle.ls_command_line.specs.Words.{NamesSides, batch_line, flag_rule, line, live_line, number_rule, replay_line, side_rule, state_line, top_line, trace_line, translate_line, u64_parser, with_explain};
 
@@ -40,6 +40,30 @@ fn plain_command<'a>(
             "explain",
             "shows the line in which a fault stands, with a mark under its place",
         ))
+}
+
+/// The command with one more option, where there is a command.
+fn with_option<'a>(
+    command: Result<Command<'a>, AllocError>,
+    option: Arg<'a>,
+) -> Result<Command<'a>, AllocError>
+    requires command { IfOk command (λ c. (out-Command c).has_globals ≡ false) }
+    requires option { option.global ≡ false }
+    ensures shape { (a : App) (r : Rule) → IfOk command.entry (λ c. app_of c ≡ a) → rule_of option.entry ≡ r → IfOk result (λ c. app_of c ≡ with_rule a r) }
+    ensures local { IfOk result (λ c. (out-Command c).has_globals ≡ false) }
+{
+    command?.arg(option)
+}
+
+/// The program with one more command, where there are both.
+fn with_command<'a>(
+    program: Result<Command<'a>, AllocError>,
+    command: Result<Command<'a>, AllocError>,
+) -> Result<Command<'a>, AllocError>
+    requires { IfOk command (λ c. (out-Command c).has_globals ≡ false) }
+    ensures { (a b : App) → IfOk program.entry (λ c. app_of c ≡ a) → IfOk command.entry (λ c. app_of c ≡ b) → IfOk result (λ c. app_of c ≡ with_subcommand a b.top) }
+{
+    program?.subcommand(command?)
 }
 
 /// The argument, with its values read as numbers of 64 bits.
@@ -106,76 +130,78 @@ fn replay_command<'a>(alloc: Global) -> Result<Command<'a>, AllocError>
     ensures shape { IfOk result (λ c. app_of c ≡ replay_line) }
     ensures local { IfOk result (λ c. (out-Command c).has_globals ≡ false) }
 {
-    plain_command(
+    let command = plain_command(
         alloc,
         "replay",
         "Compiles a program and runs it under a schedule of machine instructions",
         "Standard input has three parts, class text, thread program and schedule, with a line %% between them:\n  \
          listset replay < examples/least_int.txt",
-    )?
-    .arg(cells_option(alloc))?
-    .arg(live_option(alloc))
+    );
+    with_option(
+        with_option(command, cells_option(alloc)),
+        live_option(alloc),
+    )
 }
 
 fn translate_command<'a>(alloc: Global) -> Result<Command<'a>, AllocError>
-    ensures shape { IfOk result (λ c. (p : _) × NamesSides p × (app_of c ≡ translate_line p)) }
+    ensures shape { (p : _) × NamesSides p × IfOk result (λ c. app_of c ≡ translate_line p) }
     ensures local { IfOk result (λ c. (out-Command c).has_globals ≡ false) }
 {
-    plain_command(
+    let command = plain_command(
         alloc,
         "translate",
         "Prints the schedule of source steps for one of instructions, or the other way round",
         "Standard input has three parts, class text, thread program and schedule, with a line %% between them:\n  \
          listset translate --to machine < examples/lost_update.txt",
-    )?
-    .arg(side_option(alloc))?
-    .arg(cells_option(alloc))
+    );
+    with_option(
+        with_option(command, side_option(alloc)),
+        cells_option(alloc),
+    )
 }
 
 fn live_command<'a>(alloc: Global) -> Result<Command<'a>, AllocError>
     ensures shape { IfOk result (λ c. app_of c ≡ live_line) }
     ensures local { IfOk result (λ c. (out-Command c).has_globals ≡ false) }
 {
+    let command = plain_command(
+        alloc,
+        "live",
+        "Runs each thread on a thread of its own, and prints the recorded schedule and its history",
+        "Standard input has two parts, class text and thread program, with a line %% between them:\n  \
+         printf 'class C { }\\n%%%%\\nsetup { c = new C(); }\\n' | listset live",
+    );
     let limit = number_option(
         alloc,
         "limit",
         false,
         "how many steps are recorded, at most 1000000 [default: 5000]",
     );
-    plain_command(
-        alloc,
-        "live",
-        "Runs each thread on a thread of its own, and prints the recorded schedule and its history",
-        "Standard input has two parts, class text and thread program, with a line %% between them:\n  \
-         printf 'class C { }\\n%%%%\\nsetup { c = new C(); }\\n' | listset live",
-    )?
-    .arg(cells_option(alloc))?
-    .arg(limit)
+    with_option(with_option(command, cells_option(alloc)), limit)
 }
 
 fn batch_command<'a>(alloc: Global) -> Result<Command<'a>, AllocError>
     ensures shape { IfOk result (λ c. app_of c ≡ batch_line) }
     ensures local { IfOk result (λ c. (out-Command c).has_globals ≡ false) }
 {
+    let command = plain_command(
+        alloc,
+        "batch",
+        "Runs a program under many sampled schedules, and prints each history once with its count",
+        "Standard input has two parts, class text and thread program, with a line %% between them:\n  \
+         printf 'class C { }\\n%%%%\\nsetup { c = new C(); }\\n' | listset batch --seed 1 --count 9 --steps 99",
+    );
     let seed = number_option(alloc, "seed", true, "the first seed");
+    let command = with_option(command, seed);
     let count = number_option(alloc, "count", true, "how many seeds, 1 to 100000");
+    let command = with_option(command, count);
     let steps = number_option(
         alloc,
         "steps",
         true,
         "how many steps each sample has behind the setup's, at most 900000",
     );
-    plain_command(
-        alloc,
-        "batch",
-        "Runs a program under many sampled schedules, and prints each history once with its count",
-        "Standard input has two parts, class text and thread program, with a line %% between them:\n  \
-         printf 'class C { }\\n%%%%\\nsetup { c = new C(); }\\n' | listset batch --seed 1 --count 9 --steps 99",
-    )?
-    .arg(seed)?
-    .arg(count)?
-    .arg(steps)?
-    .arg(cells_option(alloc))
+    with_option(with_option(command, steps), cells_option(alloc))
 }
 
 fn check_command<'a>(alloc: Global) -> Result<Command<'a>, AllocError>
@@ -221,42 +247,44 @@ fn trace_command<'a>(alloc: Global) -> Result<Command<'a>, AllocError>
     ensures shape { IfOk result (λ c. app_of c ≡ trace_line) }
     ensures local { IfOk result (λ c. (out-Command c).has_globals ≡ false) }
 {
+    let command = plain_command(
+        alloc,
+        "trace",
+        "Tells step by step what a run from the Java text does",
+        "Standard input has three parts, class text, thread program and schedule, with a line %% between them:\n  \
+         listset trace < examples/lost_update.txt",
+    );
     let from = number_option(
         alloc,
         "from",
         false,
         "the first step that is shown [default: 1]",
     );
+    let command = with_option(command, from);
     let to = number_option(
         alloc,
         "to",
         false,
         "the last step that is shown [default: 1000000]",
     );
-    plain_command(
-        alloc,
-        "trace",
-        "Tells step by step what a run from the Java text does",
-        "Standard input has three parts, class text, thread program and schedule, with a line %% between them:\n  \
-         listset trace < examples/lost_update.txt",
-    )?
-    .arg(from)?
-    .arg(to)
+    with_option(command, to)
 }
 
 fn state_command<'a>(alloc: Global) -> Result<Command<'a>, AllocError>
     ensures shape { IfOk result (λ c. app_of c ≡ state_line) }
     ensures local { IfOk result (λ c. (out-Command c).has_globals ≡ false) }
 {
-    let dot = flag_option(alloc, "dot", "draws it as a graph for Graphviz");
-    plain_command(
+    let command = plain_command(
         alloc,
         "state",
         "Shows what each object holds and what each thread does next, behind a schedule of source steps",
         "Standard input has three parts, class text, thread program and schedule, with a line %% between them:\n  \
          listset state < examples/lost_update.txt",
-    )?
-    .arg(dot)
+    );
+    with_option(
+        command,
+        flag_option(alloc, "dot", "draws it as a graph for Graphviz"),
+    )
 }
 
 /// The program without its commands.
@@ -274,23 +302,14 @@ fn top_command<'a>(alloc: Global) -> Command<'a>
 pub(crate) fn program<'a>(alloc: Global) -> Result<Command<'a>, AllocError>
     ensures { IfOk result (λ c. (p : _) × NamesSides p × (app_of c ≡ line p)) }
 {
-    let check = check_command(alloc)?;
-    let one = top_command(alloc).subcommand(check)?;
-    let compile = compile_command(alloc)?;
-    let two = one.subcommand(compile)?;
-    let replay = replay_command(alloc)?;
-    let three = two.subcommand(replay)?;
-    let source = source_command(alloc)?;
-    let four = three.subcommand(source)?;
-    let trace = trace_command(alloc)?;
-    let five = four.subcommand(trace)?;
-    let state = state_command(alloc)?;
-    let six = five.subcommand(state)?;
-    let translate = translate_command(alloc)?;
-    let seven = six.subcommand(translate)?;
-    let live = live_command(alloc)?;
-    let eight = seven.subcommand(live)?;
-    let batch = batch_command(alloc)?;
-    let nine = eight.subcommand(batch)?;
-    Ok(nine)
+    let program = Ok(top_command(alloc));
+    let program = with_command(program, check_command(alloc));
+    let program = with_command(program, compile_command(alloc));
+    let program = with_command(program, replay_command(alloc));
+    let program = with_command(program, source_command(alloc));
+    let program = with_command(program, trace_command(alloc));
+    let program = with_command(program, state_command(alloc));
+    let program = with_command(program, translate_command(alloc));
+    let program = with_command(program, live_command(alloc));
+    with_command(program, batch_command(alloc))
 }
