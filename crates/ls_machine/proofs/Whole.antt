@@ -1,9 +1,9 @@
 -- A step of one thread as a step of the whole machine.
-use Rattle.std.proofs.Common.{◌≡◌, ℕ, ◌+◌, ◌<◌, ◌++◌, List, [], Bool, length, map, set, get_or, true, false, Option, Some, slice_get, option_map, refl, ap, sym, subst, ◌∙◌, arith}
-use Rattle.std.proofs.lemmas.List.{append-nil, map-set, length-set, set-get_or}
+use Rattle.std.proofs.Common.{◌≡◌, ℕ, ◌+◌, ◌<◌, ◌≤◌, ◌++◌, List, [], Bool, false, length, map, set, get_or, true, Option, Some, slice_get, option_map, refl, ap, sym, subst, ◌∙◌, arith}
+use Rattle.std.proofs.lemmas.List.{append-nil, map-set, length-map, length-set, set-get_or}
 use Rattle.std.proofs.lemmas.List.Sums.{sum_by-set}
 use Rattle.std.proofs.lemmas.List.Elements.{All-set}
-use Rattle.std.proofs.lemmas.Option.{slice_get-map, slice_get-get_or}
+use Rattle.std.proofs.lemmas.Option.{slice_get-map, slice_get-get_or, slice_get_past}
 use Rattle.ls_code.specs.Code.{Code}
 use Rattle.ls_code.specs.Thread.{Thread}
 use Rattle.ls_machine.specs.Memory.{KeptThread, MethodsFit, no_thread, events_left}
@@ -15,8 +15,9 @@ use Rattle.ls_code.specs.Events.{events_of}
 use Rattle.ls_code.specs.Moves.{frame_move}
 use Rattle.ls_code.specs.Steps.{Outcome, performed, thread_move, fetched_move, of_frame}
 use Rattle.ls_code.specs.declared.instruction.Instruction.{Instruction}
-use Rattle.ls_code.specs.Machine.{Machine, is_due, stops, after, stepped_by, machine_step, open_step, due_step, step_of}
+use Rattle.ls_code.specs.Machine.{Machine, is_due, stops, after, Stepped, stepped_by, machine_step, open_step, due_step, step_of}
 use Rattle.ls_code.specs.declared.step.Did.{Did}
+use Rattle.ls_code.specs.declared.step.Did.TheVariants as did
 use Rattle.ls_events.specs.declared.event.Event.{Event}
 
 -- after a step of thread n the memory is there again
@@ -71,3 +72,29 @@ came_here p c n k old new cells d i is e came =
 -- a thread that is as it was
 pub same_threads : (ts : List KeptThread) (n : ℕ) (k : KeptThread) → k ≡ get_or ts n no_thread → set ts n k ≡ ts
 same_threads ts n k e = rw e (set-get_or ts n no_thread)
+
+-- a step of a thread that isn't there does nothing
+pub step_past : (m : Machine) (n : ℕ) (ts : List KeptThread) → length ts ≤ n → m.threads ≡ map (λ t. t.thread) ts → machine_step m n ≡ stepped_by m did.Idle
+step_past m n ts past list =
+    let count : length m.threads ≡ length ts = ap length list ∙ length-map ts (λ t. t.thread) in
+    ap (step_of m n) (slice_get_past m.threads n (omega (arith, count, past)))
+
+module _ (m : Machine) (n : ℕ) (ts : List KeptThread) (inside : n < length ts) (list : m.threads ≡ map (λ t. t.thread) ts) where
+  found : slice_get m.threads n ≡ Some (get_or ts n no_thread).thread
+  found = ap (λ xs. slice_get xs n) list ∙ slice_get-map (λ (x : KeptThread). x.thread) ts n ∙ ap (option_map (λ (x : KeptThread). x.thread)) (slice_get-get_or ts n no_thread inside)
+
+  -- once the machine has stopped, a step does nothing
+  pub step_stopped : m.stopped ≡ true → machine_step m n ≡ stepped_by m did.Stopped
+  step_stopped stopped = ap (step_of m n) found ∙ ap (open_step m n (get_or ts n no_thread).thread) stopped
+
+  -- a step of a thread that isn't due does nothing
+  pub step_undue : m.stopped ≡ false → is_due m.threads n (get_or ts n no_thread).thread ≡ false → machine_step m n ≡ stepped_by m did.Idle
+  step_undue runs undue = ap (step_of m n) found ∙ (ap (open_step m n (get_or ts n no_thread).thread) runs ∙ ap (due_step m n (get_or ts n no_thread).thread) undue)
+
+-- what a step that does nothing leaves and says
+module _ (v m : Machine) (n : ℕ) (d : Did) (is : v ≡ m) (stays : machine_step v n ≡ stepped_by v d) where
+  pub left_as_it_was : m ≡ (machine_step m n).machine
+  left_as_it_was = subst (λ (x : Machine). x ≡ (machine_step x n).machine) is (sym (ap (λ (s : Stepped). s.machine) stays))
+
+  pub said : d ≡ (machine_step m n).did
+  said = subst (λ (x : Machine). d ≡ (machine_step x n).did) is (sym (ap (λ (s : Stepped). s.did) stays))

@@ -1,13 +1,14 @@
-use Rattle.std.proofs.Common.{◌≡◌, ◌<◌, length, get_or, true, refl, ap, sym, subst, ◌∙◌, rules, arith}
+use Rattle.std.proofs.Common.{◌≡◌, ◌<◌, length, get_or, true, refl, ap, sym, subst, ◌∙◌, rules, arith, false}
 use Rattle.std.proofs.lemmas.List.{get_or_read}
 use Rattle.std.specs.Vec.{with_item}
-use Rattle.ls_machine.specs.Memory.{KeptThread, no_thread}
+use Rattle.ls_code.specs.declared.step.Did.TheVariants as did
+use Rattle.ls_machine.specs.Memory.{KeptThread, no_thread, MethodsFit}
 use Rattle.ls_machine.specs.Outcomes.{Came}
 use Rattle.ls_machine.specs.Takes.{TakesEvents}
 use Rattle.ls_code.specs.Machine.{Machine, is_due, machine_step, Stepped, stepped_by}
 use Rattle.ls_code.specs.Steps.{performed, thread_move}
 use Rattle.ls_machine.proofs.Back.{of_kept}
-use Rattle.ls_machine.proofs.Whole.{memory_kept, step_due}
+use Rattle.ls_machine.proofs.Whole.{memory_kept, step_due, left_as_it_was, said, step_past, step_stopped, step_undue}
 use Rattle.ls_machine.specs.contracts.machine.Machine.{the_view}
 use Rattle.ls_machine.proofs.machine.Machine.any_step.Goals as goal
 use Rattle.ls_machine.proofs.machine.Machine.any_step.Goals.{After-record}
@@ -42,3 +43,39 @@ returns-clause-machine c = subst (λ (m : Machine). the_view (record { code = c.
 
 pub returns-clause-did : goal.returns-clause-did
 returns-clause-did c = subst (λ (m : Machine). c.run-did.result ≡ (machine_step m c.args.number).did) c.self.view_is (sym (ap (λ (s : Stepped). s.did) (stepped c)))
+
+pub returns-then-number-len-clause-machine : goal.returns-then-number-len-clause-machine
+returns-then-number-len-clause-machine c = left_as_it_was _ _ _ did.Idle c.self.view_is (step_past (the_view c.self.inside) c.args.number c.self.inside.threads.items (omega (arith, c.if-number-len.true, c.len.ensures, c.self.inside.threads.ok.0)) refl)
+
+pub returns-then-number-len-clause-did : goal.returns-then-number-len-clause-did
+returns-then-number-len-clause-did c = said _ _ _ did.Idle c.self.view_is (step_past (the_view c.self.inside) c.args.number c.self.inside.threads.items (omega (arith, c.if-number-len.true, c.len.ensures, c.self.inside.threads.ok.0)) refl)
+
+pub returns-then-self-clause-machine : goal.returns-then-self-clause-machine
+returns-then-self-clause-machine c = left_as_it_was _ _ _ did.Stopped c.self.view_is (step_stopped (the_view c.self.inside) c.args.number c.self.inside.threads.items (omega (arith, c.if-number-len.false, c.len.ensures, c.self.inside.threads.ok.0)) refl c.if-self.true)
+
+pub returns-then-self-clause-did : goal.returns-then-self-clause-did
+returns-then-self-clause-did c = said _ _ _ did.Stopped c.self.view_is (step_stopped (the_view c.self.inside) c.args.number c.self.inside.threads.items (omega (arith, c.if-number-len.false, c.len.ensures, c.self.inside.threads.ok.0)) refl c.if-self.true)
+
+pub is_due-requires : goal.is_due-requires
+is_due-requires c = omega (arith, c.if-number-len.false, c.len.ensures, c.deref.ensures.len)
+
+pub returns-then-not-is_due-clause-machine : goal.returns-then-not-is_due-clause-machine
+returns-then-not-is_due-clause-machine c =
+    let undue : is_due (the_view c.self.inside).threads c.args.number (get_or c.self.inside.threads.items c.args.number no_thread).thread ≡ false = rw c.deref.ensures.value at (sym c.is_due.ensures ∙ c.if-not-is_due.true) in
+    left_as_it_was _ _ _ did.Idle c.self.view_is (step_undue (the_view c.self.inside) c.args.number c.self.inside.threads.items (omega (arith, c.if-number-len.false, c.len.ensures, c.self.inside.threads.ok.0)) refl c.if-self.false undue)
+
+pub returns-then-not-is_due-clause-did : goal.returns-then-not-is_due-clause-did
+returns-then-not-is_due-clause-did c =
+    let undue : is_due (the_view c.self.inside).threads c.args.number (get_or c.self.inside.threads.items c.args.number no_thread).thread ≡ false = rw c.deref.ensures.value at (sym c.is_due.ensures ∙ c.if-not-is_due.true) in
+    said _ _ _ did.Idle c.self.view_is (step_undue (the_view c.self.inside) c.args.number c.self.inside.threads.items (omega (arith, c.if-number-len.false, c.len.ensures, c.self.inside.threads.ok.0)) refl c.if-self.false undue)
+
+pub index_mut-thread-requires : goal.index_mut-thread-requires
+index_mut-thread-requires c = omega (arith, c.if-number-len.false, c.len.ensures)
+
+pub run-did-requires-clause-number : goal.run-did-requires-clause-number
+run-did-requires-clause-number c = omega (arith, c.if-number-len.false, c.len.ensures, c.self.inside.threads.ok.0, c.self.invariant.0.few)
+
+pub run-did-requires-clause-fit : goal.run-did-requires-clause-fit
+run-did-requires-clause-fit c =
+    let inside : c.args.number < length c.self.inside.threads.items = omega (arith, c.if-number-len.false, c.len.ensures, c.self.inside.threads.ok.0) in
+    subst (λ (t : KeptThread). MethodsFit c.self.inside.code.methods t.locals_room t.operands_room) (sym c.index_mut-thread.ensures.value) (c.self.invariant.0.fit c.args.number c.index_mut-thread.result.now inside)

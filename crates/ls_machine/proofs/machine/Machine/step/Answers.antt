@@ -1,4 +1,4 @@
-use Rattle.std.proofs.Common.{◌≡◌, ◌<◌, ◌≤◌, length, get_or, set, true, refl, ap, sym, subst, ◌∙◌, rules, arith}
+use Rattle.std.proofs.Common.{◌≡◌, ◌<◌, ◌≤◌, length, get_or, set, true, refl, ap, sym, subst, ◌∙◌, rules, arith, false}
 use Rattle.std.proofs.lemmas.List.{get_or_read}
 use Rattle.std.specs.Vec.{with_item}
 use Rattle.ls_machine.specs.Memory.{KeptThread, no_thread, events_left}
@@ -8,7 +8,7 @@ use Rattle.ls_code.specs.Machine.{Machine, is_due, machine_step, Stepped, steppe
 use Rattle.ls_code.specs.Steps.{performed, thread_move}
 use Rattle.ls_code.specs.declared.step.Did.TheVariants as did
 use Rattle.ls_machine.proofs.Back.{of_kept}
-use Rattle.ls_machine.proofs.Whole.{memory_unseen, same_threads, step_unseen}
+use Rattle.ls_machine.proofs.Whole.{memory_unseen, same_threads, step_unseen, left_as_it_was, said, step_past, step_stopped, step_undue}
 use Rattle.ls_machine.specs.contracts.machine.Machine.{the_view}
 use Rattle.ls_machine.proofs.machine.Machine.step.Goals as goal
 use Rattle.ls_machine.proofs.machine.Machine.step.Goals.{Then-move_silently, Else-move_silently}
@@ -58,3 +58,31 @@ returns-then-move_silently-clause-machine c = subst (λ (m : Machine). the_view 
 
 pub returns-then-move_silently-clause-did : goal.returns-then-move_silently-clause-did
 returns-then-move_silently-clause-did c = subst (λ (m : Machine). did.Silent ≡ (machine_step m c.args.number).did) c.self.view_is (sym (ap (λ (s : Stepped). s.did) (stepped c)))
+
+pub returns-then-number-len-clause-machine : goal.returns-then-number-len-clause-machine
+returns-then-number-len-clause-machine c = left_as_it_was _ _ _ did.Idle c.self.view_is (step_past (the_view c.self.inside) c.args.number c.self.inside.threads.items (omega (arith, c.if-number-len.true, c.len.ensures, c.self.inside.threads.ok.0)) refl)
+
+pub returns-then-number-len-clause-did : goal.returns-then-number-len-clause-did
+returns-then-number-len-clause-did c = said _ _ _ did.Idle c.self.view_is (step_past (the_view c.self.inside) c.args.number c.self.inside.threads.items (omega (arith, c.if-number-len.true, c.len.ensures, c.self.inside.threads.ok.0)) refl)
+
+pub returns-then-self-clause-machine : goal.returns-then-self-clause-machine
+returns-then-self-clause-machine c = left_as_it_was _ _ _ did.Stopped c.self.view_is (step_stopped (the_view c.self.inside) c.args.number c.self.inside.threads.items (omega (arith, c.if-number-len.false, c.len.ensures, c.self.inside.threads.ok.0)) refl c.if-self.true)
+
+pub returns-then-self-clause-did : goal.returns-then-self-clause-did
+returns-then-self-clause-did c = said _ _ _ did.Stopped c.self.view_is (step_stopped (the_view c.self.inside) c.args.number c.self.inside.threads.items (omega (arith, c.if-number-len.false, c.len.ensures, c.self.inside.threads.ok.0)) refl c.if-self.true)
+
+pub is_due-requires : goal.is_due-requires
+is_due-requires c = omega (arith, c.if-number-len.false, c.len.ensures, c.deref.ensures.len)
+
+pub returns-then-not-is_due-clause-machine : goal.returns-then-not-is_due-clause-machine
+returns-then-not-is_due-clause-machine c =
+    let undue : is_due (the_view c.self.inside).threads c.args.number (get_or c.self.inside.threads.items c.args.number no_thread).thread ≡ false = rw c.deref.ensures.value at (sym c.is_due.ensures ∙ c.if-not-is_due.true) in
+    left_as_it_was _ _ _ did.Idle c.self.view_is (step_undue (the_view c.self.inside) c.args.number c.self.inside.threads.items (omega (arith, c.if-number-len.false, c.len.ensures, c.self.inside.threads.ok.0)) refl c.if-self.false undue)
+
+pub returns-then-not-is_due-clause-did : goal.returns-then-not-is_due-clause-did
+returns-then-not-is_due-clause-did c =
+    let undue : is_due (the_view c.self.inside).threads c.args.number (get_or c.self.inside.threads.items c.args.number no_thread).thread ≡ false = rw c.deref.ensures.value at (sym c.is_due.ensures ∙ c.if-not-is_due.true) in
+    said _ _ _ did.Idle c.self.view_is (step_undue (the_view c.self.inside) c.args.number c.self.inside.threads.items (omega (arith, c.if-number-len.false, c.len.ensures, c.self.inside.threads.ok.0)) refl c.if-self.false undue)
+
+pub index_mut-thread-requires : goal.index_mut-thread-requires
+index_mut-thread-requires c = omega (arith, c.if-number-len.false, c.len.ensures)
