@@ -11,6 +11,7 @@ mod ls_lexer;
 mod ls_parser;
 mod ls_parser_statements;
 mod ls_parser_expressions;
+mod ls_parser_tokens;
 mod ls_tree;
 mod ls_types;
 mod memory;

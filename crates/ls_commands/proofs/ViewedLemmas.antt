@@ -6,7 +6,7 @@ use Rattle.ls_lexer.specs.declared.fault.TextFault.{TextFault}
 use Rattle.ls_lexer.specs.declared.fault.TextFault.TheVariants as text
 use Rattle.ls_tree.specs.Trees.{File as ParsedFile}
 use Rattle.ls_parser_spelling.specs.Spells.{TextSpells}
-use Rattle.ls_parser_expressions.specs.Answers.{Refuses}
+use Rattle.ls_parser_tokens.specs.Answers.{Refuses}
 use Rattle.ls_parser.specs.Comes.{Comes}
 use Rattle.ls_checked.specs.CheckedProgram.{Program}
 use Rattle.ls_checked.specs.PlainProgram.{plain_thread, plain_program}

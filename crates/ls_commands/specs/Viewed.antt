@@ -5,7 +5,7 @@ use Rattle.ls_tree.specs.Trees.{File as ParsedFile}
 use Rattle.ls_parser_spelling.specs.Spells.{TextSpells}
 use Rattle.ls_parser_placing.specs.Files.{IsFileOf}
 use Rattle.ls_parser.specs.Comes.{Comes}
-use Rattle.ls_parser_expressions.specs.Answers.{Refuses}
+use Rattle.ls_parser_tokens.specs.Answers.{Refuses}
 use Rattle.ls_checked.specs.CheckedProgram.{Program}
 use Rattle.ls_types_elaboration.specs.Elaboration.{Outcome, elaborated}
 use Rattle.ls_types_elaboration.specs.Trees.{File}

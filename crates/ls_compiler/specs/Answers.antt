@@ -1,7 +1,7 @@
 -- What `compile` answers of two texts.
 use Rattle.std.specs.Prelude.{◌≡◌, Result, Ok, Err}
 use Rattle.ls_lexer.specs.declared.fault.TextFault.{TextFault}
-use Rattle.ls_parser_expressions.specs.Answers.{Refuses}
+use Rattle.ls_parser_tokens.specs.Answers.{Refuses}
 use Rattle.ls_tree.specs.Trees.{File as ParsedFile}
 use Rattle.ls_parser_spelling.specs.Spells.{TextSpells}
 use Rattle.ls_parser_placing.specs.Files.{IsFileOf}

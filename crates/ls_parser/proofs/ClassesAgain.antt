@@ -5,7 +5,7 @@ use Rattle.ls_lexer.specs.declared.word.Word.TheVariants as words
 use Rattle.ls_lexer.specs.Lexemes.{Lexeme, Named, Reserved, Marked}
 use Rattle.ls_tree.specs.Trees.{Text, Expression, Modifier, Public, Protected, Private, Final, Volatile, Annotation, TypeName, Int, Boolean, BooleanArray, Class, Markable, Declarator, Items, Parameter, Member, Fields, Method, Constructor, ClassTree, Dotted, Import, File}
 use Rattle.ls_tree.specs.WellFormed.{most_nodes, WellFormedMember, WellFormedFile, WellFormedItems, items_height}
-use Rattle.ls_parser_expressions.specs.Reading.{after_sign, after_word, starts, not_yet, many_from, many_at, behind_comma, group_at}
+use Rattle.ls_parser_tokens.specs.Reading.{after_sign, after_word, starts, not_yet, many_from, many_at, behind_comma, group_at}
 use Rattle.ls_parser.specs.ReadingClasses.{parameter_at, parameters_at, starts_call, method_at, typed_at, unmodified_at, member_at, class_at, part_at, dotted_at, more_path, import_at, header_at, starts_import, is_left, file_at}
 use Rattle.ls_parser_expressions.proofs.Lists.{onto_all, many_from_complete}
 use Rattle.ls_parser_statements.proofs.OntoStatements.{onto_modifier, onto_type, onto_initial, onto_declarator, onto_next_declarator, onto_block}

@@ -6,7 +6,7 @@ use Rattle.ls_lexer.specs.declared.word.Word.TheVariants as words
 use Rattle.ls_lexer.specs.Lexemes.{Lexeme, Named, Reserved, Marked}
 use Rattle.ls_tree.specs.Trees.{Modifier, TypeName, Parameter, Member, Fields, Method, Constructor, ClassTree, Dotted, Import, File}
 use Rattle.ls_tree.specs.WellFormed.{most_nodes, WellFormedMember, WellFormedFile}
-use Rattle.ls_parser_expressions.specs.Reading.{◌>>=◌, given, after_sign, after_word, name_at, not_yet, one_more, many_from, many_at, behind_comma, others_at, group_at}
+use Rattle.ls_parser_tokens.specs.Reading.{◌>>=◌, given, after_sign, after_word, name_at, not_yet, one_more, many_from, many_at, behind_comma, others_at, group_at}
 use Rattle.ls_parser_expressions.specs.ReadingExpressions.{expression_at}
 use Rattle.ls_parser_statements.specs.ReadingStatements.{modifiers_at, type_at, declarators_at, block_at}
 use Rattle.ls_parser.specs.ReadingClasses.{parameter_of, parameter_at, parameters_at, starts_call, constructor_at, method_at, typed_at, unmodified_at, member_at, class_of, class_at, part_at, dotted_of, dotted_at, after_star, more_path, import_of, import_at, package_at, header_at, starts_import, is_left, file_from, file_at}

@@ -7,7 +7,7 @@ use Rattle.ls_tree.specs.Trees.{File}
 use Rattle.ls_parser_spelling.specs.Spelling.{spell}
 use Rattle.ls_tree.specs.WellFormed.{WellFormedFile}
 use Rattle.ls_parser_spelling.specs.Spells.{Spells, TextSpells}
-use Rattle.ls_parser_expressions.specs.Answers.{Refuses, RefusesTokens, MayCome, Fails}
+use Rattle.ls_parser_tokens.specs.Answers.{Refuses, RefusesTokens, MayCome, Fails}
 use Rattle.ls_lexer.specs.Places.{Refused, text_limit}
 use Rattle.ls_lexer.specs.declared.fault.TextFault.TheVariants as faults
 use Rattle.ls_parser.specs.ReadingClasses.{file_at}

@@ -4,8 +4,8 @@ use Rattle.ls_lexer.specs.declared.fault.TextFault.{TextFault}
 use Rattle.ls_lexer.specs.Lexemes.{Lexeme}
 use Rattle.ls_tree.specs.Trees.{Text, Modifier, TypeName, Items, Parameter, Member, Method, Constructor}
 use Rattle.ls_tree.specs.WellFormed.{most_nodes}
-use Rattle.ls_parser_expressions.specs.Answers.{Fails}
-use Rattle.ls_parser_expressions.specs.Reading.{◌>>=◌, Reader, name_at}
+use Rattle.ls_parser_tokens.specs.Answers.{Fails}
+use Rattle.ls_parser_tokens.specs.Reading.{◌>>=◌, Reader, name_at}
 use Rattle.ls_parser_statements.specs.ReadingStatements.{block_at}
 use Rattle.ls_parser.specs.ReadingClasses.{parameters_at, callable_at, constructor_at, method_at}
 use Rattle.ls_parser_expressions.proofs.Repeats.{fails_first}

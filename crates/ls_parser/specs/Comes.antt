@@ -3,7 +3,7 @@ use Rattle.std.specs.Prelude.{◌≡◌, ◌<◌, ℕ, List, length}
 use Rattle.ls_lexer.specs.declared.fault.TextFault.{TextFault}
 use Rattle.ls_lexer.specs.declared.fault.TextFault.TheVariants as faults
 use Rattle.ls_lexer.specs.Places.{text_limit}
-use Rattle.ls_parser_expressions.specs.Answers.{MayCome}
+use Rattle.ls_parser_tokens.specs.Answers.{MayCome}
 
 -- each fault only of a text of which it may come, and of a text that is too long no other
 pub record Comes (text : List ℕ) (f : TextFault) : Type 0 where

@@ -5,7 +5,7 @@ pub mod Leaves
 pub use Rattle.ls_parser_spelling.specs.Spelling
 pub use Rattle.ls_parser_spelling.specs.Spells
 pub use Rattle.ls_parser_spelling.specs.Kinds
-pub use Rattle.ls_parser_expressions.specs.Answers
-pub use Rattle.ls_parser_expressions.specs.Reading
+pub use Rattle.ls_parser_tokens.specs.Answers
+pub use Rattle.ls_parser_tokens.specs.Reading
 pub use Rattle.ls_parser_expressions.specs.ReadingExpressions
 pub use Rattle.ls_parser_statements.specs.ReadingStatements

@@ -5,7 +5,7 @@ use Rattle.ls_lexer.specs.declared.sign.Sign.TheVariants as signs
 use Rattle.ls_lexer.specs.Lexemes.{Lexeme}
 use Rattle.ls_tree.specs.Trees.{Text, Modifier, TypeName, Items, Parameter, Member, Fields, Method, Constructor, ClassTree, Dotted, Import, File}
 use Rattle.ls_tree.specs.WellFormed.{most_nodes}
-use Rattle.ls_parser_expressions.specs.Reading.{◌>>=◌, Reader, given, after_sign, after_word, name_at, starts, many_at, not_yet, group_at}
+use Rattle.ls_parser_tokens.specs.Reading.{◌>>=◌, Reader, given, after_sign, after_word, name_at, starts, many_at, not_yet, group_at}
 use Rattle.ls_parser_expressions.specs.ReadingExpressions.{expression_at}
 use Rattle.ls_parser_statements.specs.ReadingStatements.{modifiers_at, type_at, declarators_at, block_at}
 

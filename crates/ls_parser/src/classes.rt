@@ -10,20 +10,20 @@ ghost use Rattle.ls_tree.specs.PlacedStatements.{placed_type, placed_items, plac
 ghost use Rattle.ls_parser_spelling.specs.Places.{Spot, sign, spots};
 ghost use Rattle.ls_parser_spelling.specs.StatementPlaces.{ManyAt, ModifierAt, TypeAt};
 ghost use Rattle.ls_parser_spelling.specs.FilePlaces.{ParameterAt, SomeParametersAt, ParametersAt, CallableAt, ResultAt, MemberAt, BodyAt, ClassAt};
-ghost use Rattle.ls_parser_expressions.specs.Answers.{Gives, Finds};
-ghost use Rattle.ls_parser_expressions.specs.Reading.{one_more, behind_comma, many_at, not_yet, group_at};
+ghost use Rattle.ls_parser_tokens.specs.Answers.{Gives, Finds};
+ghost use Rattle.ls_parser_tokens.specs.Reading.{one_more, behind_comma, many_at, not_yet, group_at};
 ghost use Rattle.ls_parser.specs.ReadingClasses.{parameter_at, parameters_at, starts_call, callable_at, constructor_at, method_at, typed_at, unmodified_at, member_at, class_body_at, class_at, is_left};
 
 use ls_lexer::fault::TextFault;
 use ls_lexer::sign::Sign;
 use ls_lexer::token::{Span, Token};
 use ls_lexer::word::Word;
-use ls_parser_expressions::tokens::{
+use ls_parser_statements::declarations::{declarators, modifiers, type_name};
+use ls_parser_statements::statements::block;
+use ls_parser_tokens::tokens::{
     Context, Read, closed, expect, expect_word, name, name_part, push, sign_part, starts_with,
     word_part,
 };
-use ls_parser_statements::declarations::{declarators, modifiers, type_name};
-use ls_parser_statements::statements::block;
 use ls_tree::tree::{Block, Class, Constructor, Member, Method, Modifier, Name, Parameter, Type};
 
 /// The greatest height of a body or of a field's initialiser.

@@ -6,15 +6,15 @@ ghost use Rattle.ls_lexer.specs.declared.sign.Sign.TheVariants as signs;
 ghost use Rattle.ls_tree.specs.Views.{name_text, bare_dotted, bare_import};
 ghost use Rattle.ls_parser_spelling.specs.Places.{spots};
 ghost use Rattle.ls_parser.specs.Leaves.{Leaves};
-ghost use Rattle.ls_parser_expressions.specs.Answers.{Gives, Finds};
-ghost use Rattle.ls_parser_expressions.specs.Reading.{after_sign, one_more, many_at, not_yet};
+ghost use Rattle.ls_parser_tokens.specs.Answers.{Gives, Finds};
+ghost use Rattle.ls_parser_tokens.specs.Reading.{after_sign, one_more, many_at, not_yet};
 ghost use Rattle.ls_parser.specs.ReadingClasses.{part_at, dotted_at, after_star, more_path, import_of, import_at, package_at, header_at, starts_import};
 
 use ls_lexer::fault::TextFault;
 use ls_lexer::sign::Sign;
 use ls_lexer::token::Token;
 use ls_lexer::word::Word;
-use ls_parser_expressions::tokens::{
+use ls_parser_tokens::tokens::{
     Context, Read, closed, expect, expect_word, name, push, sign_part, starts_with, word_part,
 };
 use ls_tree::tree::{Dotted, Import, Name};

@@ -11,7 +11,7 @@ ghost use Rattle.ls_tree.specs.PlacedStatements.{placed_class, placed_file};
 ghost use Rattle.ls_parser_spelling.specs.Places.{spots};
 ghost use Rattle.ls_parser_spelling.specs.FilePlaces.{FileAt};
 ghost use Rattle.ls_parser_placing.specs.Files.{IsFileOf};
-ghost use Rattle.ls_parser_expressions.specs.Answers.{Refuses, RefusesTokens, MayCome, Gives};
+ghost use Rattle.ls_parser_tokens.specs.Answers.{Refuses, RefusesTokens, MayCome, Gives};
 ghost use Rattle.ls_parser.specs.ReadingClasses.{file_at};
 ghost use Rattle.ls_parser_spelling.specs.Spells.{Spells, TextSpells};
 ghost use Rattle.ls_parser.specs.Laws.{OneTree, OneFile};
@@ -21,7 +21,7 @@ use crate::imports::{header, imports};
 use ls_lexer::fault::TextFault;
 use ls_lexer::lexing::lex;
 use ls_lexer::token::Token;
-use ls_parser_expressions::tokens::Context;
+use ls_parser_tokens::tokens::Context;
 use ls_tree::tree::{Class, ClassFile, Dotted, Import};
 use std::alloc::Global;
 

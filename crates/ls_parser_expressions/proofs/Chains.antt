@@ -7,8 +7,8 @@ use Rattle.ls_lexer.specs.Lexemes.{Lexeme, lexemes}
 use Rattle.ls_tree.specs.declared.tree.BinaryOp.{BinaryOp}
 use Rattle.ls_tree.specs.Trees.{Expression, Binary}
 use Rattle.ls_tree.specs.WellFormed.{expression_height, is_minus}
-use Rattle.ls_parser_expressions.specs.Answers.{Fails}
-use Rattle.ls_parser_expressions.specs.Reading.{Reader, given, repeat}
+use Rattle.ls_parser_tokens.specs.Answers.{Fails}
+use Rattle.ls_parser_tokens.specs.Reading.{Reader, given, repeat}
 use Rattle.ls_parser_expressions.specs.ReadingExpressions.{operator_at, has_operator, joined_at, binary_at, unary_of, signed_at, unary_at, post_at}
 use Rattle.ls_parser_expressions.proofs.Repeats.{InRepeat, repeat_ends, repeat_goes_on, fails_first}
 

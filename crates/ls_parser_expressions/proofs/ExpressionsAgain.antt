@@ -14,8 +14,8 @@ use Rattle.ls_tree.specs.declared.tree.BinaryOp.TheVariants as binary
 use Rattle.ls_tree.specs.Trees.{Text, Expression, Number, True, False, Null, This, Name, Paren, Unary, Binary, Field, Call, CallOn, Item, New, NewMarkable, NewArray, Expressions, NoExpression, MoreExpressions, listed}
 use Rattle.ls_parser_spelling.specs.Spelling.{sign_of, sign_of_unary}
 use Rattle.ls_tree.specs.WellFormed.{rank_of, rank, is_post, is_new_array, is_minus, WellFormed, AreWellFormed, expression_height, expressions_height}
-use Rattle.ls_parser_expressions.specs.Reading.{Reader, after_sign, not_yet, repeat, many_from, behind_comma, is_markable}
-use Rattle.ls_parser_expressions.specs.ReadingExpressions.{operator_of_sign, operator_at, has_operator, below, joined_at, binary_at, arguments_at, has_suffix, suffix_at, index_at, largest, is_largest, primary_at, post_of, unary_of, unary_at, expression_at, post_at}
+use Rattle.ls_parser_tokens.specs.Reading.{Reader, after_sign, not_yet, repeat, many_from, behind_comma}
+use Rattle.ls_parser_expressions.specs.ReadingExpressions.{is_markable, operator_of_sign, operator_at, has_operator, below, joined_at, binary_at, arguments_at, has_suffix, suffix_at, index_at, largest, is_largest, primary_at, post_of, unary_of, unary_at, expression_at, post_at}
 use Rattle.ls_parser_expressions.proofs.Repeats.{repeat_stops, turn}
 use Rattle.ls_parser_expressions.proofs.Onto.{onto, onto_expressions, onto_others, onto_longer}
 use Rattle.ls_parser_expressions.proofs.Lists.{onto_all, many_from_complete}

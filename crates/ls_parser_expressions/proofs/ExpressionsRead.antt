@@ -15,8 +15,8 @@ use Rattle.ls_tree.specs.declared.tree.BinaryOp.TheVariants as binary
 use Rattle.ls_tree.specs.Trees.{Text, Expression, Number, True, False, Null, This, Name, Paren, Unary, Binary, Field, Call, CallOn, Item, New, NewMarkable, NewArray, Expressions, listed}
 use Rattle.ls_parser_spelling.specs.Spelling.{sign_of, sign_of_unary}
 use Rattle.ls_tree.specs.WellFormed.{rank_of, rank, is_post, is_new_array, is_minus, WellFormed, AreWellFormed, expression_height, expressions_height}
-use Rattle.ls_parser_expressions.specs.Reading.{◌>>=◌, Reader, after_sign, after_word, name_at, starts, not_yet, one_more, many_from, behind_comma, others_at, group_at, markable_name, is_markable}
-use Rattle.ls_parser_expressions.specs.ReadingExpressions.{operator_of_sign, of_rank, operator_at, has_operator, below, joined_at, binary_at, arguments_at, has_suffix, member_at, index_at, item_at, suffix_at, start_of_sign, start_of_word, largest, is_largest, number_here, named_at, made_at, class_at, object_at, new_at, paren_at, primary_from, primary_at, post_of, unary_of, signed_at, unary_at, expression_at, post_at}
+use Rattle.ls_parser_tokens.specs.Reading.{◌>>=◌, Reader, after_sign, after_word, name_at, starts, not_yet, one_more, many_from, behind_comma, others_at, group_at}
+use Rattle.ls_parser_expressions.specs.ReadingExpressions.{markable_name, is_markable, operator_of_sign, of_rank, operator_at, has_operator, below, joined_at, binary_at, arguments_at, has_suffix, member_at, index_at, item_at, suffix_at, start_of_sign, start_of_word, largest, is_largest, number_here, named_at, made_at, class_at, object_at, new_at, paren_at, primary_from, primary_at, post_of, unary_of, signed_at, unary_at, expression_at, post_at}
 use Rattle.ls_parser_expressions.proofs.Repeats.{bind_some, some_is, repeat_sound}
 use Rattle.ls_parser_expressions.proofs.Signs.{guard_some, guarded, both_true, either, given_cases, sign_reads, word_reads, name_reads}
 use Rattle.ls_parser_expressions.proofs.Shrinks.{Shrinks}

@@ -4,7 +4,7 @@ use Rattle.std.specs.List.{AllByRecursion, flat_map}
 use Rattle.std.proofs.lemmas.List.{append-nil}
 use Rattle.std.proofs.lemmas.List.Concat.{flat_map-cons}
 use Rattle.ls_lexer.specs.Lexemes.{Lexeme}
-use Rattle.ls_parser_expressions.specs.Reading.{Reader, repeat, one_more, many_from, many_at}
+use Rattle.ls_parser_tokens.specs.Reading.{Reader, repeat, one_more, many_from, many_at}
 use Rattle.ls_parser_expressions.proofs.Repeats.{bind_some, some_is, repeat_sound, repeat_stops, turn}
 
 abbrev pub Onto : Type 0 → Type 0

@@ -5,7 +5,7 @@ use Rattle.ls_lexer.specs.declared.sign.Sign.TheVariants as signs
 use Rattle.ls_lexer.specs.declared.word.Word.TheVariants as words
 use Rattle.ls_tree.specs.Trees.{Text, Expression, Number, True, False, Null, This, Name, Paren, Unary, Binary, Field, Call, CallOn, Item, New, NewMarkable, NewArray, Expressions, NoExpression, MoreExpressions}
 use Rattle.ls_parser_spelling.specs.Spelling.{sign_of, sign_of_unary, in_parens, spell_expression, spell_expressions, spell_others}
-use Rattle.ls_parser_expressions.specs.Reading.{markable_name}
+use Rattle.ls_parser_expressions.specs.ReadingExpressions.{markable_name}
 
 -- `<name>`
 abbrev pub onto_class : Text → List Lexeme → List Lexeme

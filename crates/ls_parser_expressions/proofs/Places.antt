@@ -1,10 +1,5 @@
 -- The places of an expression, from what the parser's functions answer.
-use Rattle.std.proofs.Common.{◌≡◌, ℕ, ◌-◌, ◌≤◌, true, List, [], ◌∷◌, ◌++◌, length, take, drop, slice_index_or, Result, Ok, Err, IfOk, sym, ap, subst, ◌∙◌, codes, arith}
-use Rattle.std.proofs.Math.Seq.{take-length}
-use denote.Enum.Bare.{sameb, same_true}
-use Rattle.ls_lexer.specs.contracts.sign.Sign.{the_type as sign_type}
-use Rattle.ls_lexer.specs.contracts.word.Word.{the_type as word_type}
-use Rattle.ls_lexer.specs.declared.word.Word.{Word}
+use Rattle.std.proofs.Common.{◌≡◌, true, List, [], ◌∷◌, ◌++◌, Result, Ok, Err, IfOk, sym, ap, subst, ◌∙◌, codes}
 use Rattle.std.specs.Global.{Vec, Box}
 use Rattle.std.specs.Cmp.Lexicographic.{same_text}
 use Rattle.ls_lexer.specs.declared.token.Span.{Span}
@@ -12,7 +7,7 @@ use Rattle.ls_lexer.specs.declared.token.Token.{Token}
 use Rattle.ls_lexer.specs.declared.word.Word.TheVariants as words
 use Rattle.ls_lexer.specs.declared.sign.Sign.{Sign}
 use Rattle.ls_lexer.specs.declared.sign.Sign.TheVariants as signs
-use Rattle.ls_lexer.specs.Lexemes.{Lexeme, Named, Reserved, Marked, lexeme_of}
+use Rattle.ls_lexer.specs.Lexemes.{Named, Reserved}
 use Rattle.ls_tree.specs.declared.tree.BinaryOp.{BinaryOp}
 use Rattle.ls_tree.specs.declared.tree.UnaryOp.{UnaryOp}
 use Rattle.ls_tree.specs.declared.tree.Expr.{Expr}
@@ -23,7 +18,7 @@ use Rattle.ls_tree.specs.Placed.{placed, placed_all, placed_name}
 use Rattle.ls_tree.specs.Views.{name_text}
 use Rattle.ls_parser_spelling.specs.Spelling.{sign_of, sign_of_unary}
 use Rattle.ls_parser_spelling.specs.Places.{Spot, ClassNameAt, class_name_at, spot, spots, sign, named, upto, At, OperandAt, IndexAt, ArgumentsAt, SomeAt, name_at, paren_at, unary_at, binary_at, operand_at, index_at, field_at, call_at, call_on_at, item_at, new_at, new_markable_at, new_array_at, none_at, some_at, one_at, more_at}
-use Rattle.ls_parser_expressions.specs.Reading.{markable_name, is_markable}
+use Rattle.ls_parser_expressions.specs.ReadingExpressions.{markable_name, is_markable}
 use Rattle.ls_parser_expressions.proofs.PlacedRows.{snoc, all_push}
 
 -- ---- tokens
@@ -32,20 +27,6 @@ use Rattle.ls_parser_expressions.proofs.PlacedRows.{snoc, all_push}
 pub both_ok : {R E : Type 0} (r : Result R E) (P Q S : R → Type 0) → ((x : R) → P x → Q x → S x) → IfOk r P → IfOk r Q → IfOk r S
 both_ok (Ok x) P Q S f p q = f x p q
 both_ok (Err e) P Q S f p q = tt
-
-pub same_sign : (s t : Sign) → sameb sign_type s t ≡ true → s ≡ t
-same_sign s t e = same_true sign_type tt s t e
-
-pub same_word : (s t : Word) → sameb word_type s t ≡ true → s ≡ t
-same_word s t e = same_true word_type tt s t e
-
--- the first token of a slice
-pub first_spot : (ts : List Token) (d : Token) (k : Lexeme) → 1 ≤ length ts → lexeme_of (slice_index_or ts 0 d).kind ≡ k → spots ts ≡ spot k (slice_index_or ts 0 d).span ∷ spots (take (length ts - 1) (drop 1 ts))
-first_spot [] d k le e = absurd (omega arith)
-first_spot (t ∷ ts) d k le e =
-    let less : length (t ∷ ts) - 1 ≡ length ts = omega arith in
-    let whole : take (length (t ∷ ts) - 1) ts ≡ ts = ap (λ (n : ℕ). take n ts) less ∙ take-length ts in
-    λ i. spot (e i) t.span ∷ spots (sym whole i)
 
 pub operator_stands : (op : BinaryOp) {mark : Sign} {at : Span} {rest : List Spot} → sign_of op ≡ mark → sign mark at ∷ rest ≡ sign (sign_of op) at ∷ rest
 operator_stands op {at = at} {rest} is = ap (λ (m : Sign). sign m at ∷ rest) (sym is)

@@ -6,8 +6,8 @@ use Rattle.ls_lexer.specs.declared.sign.Sign.TheVariants as signs
 use Rattle.ls_lexer.specs.Lexemes.{Lexeme}
 use Rattle.ls_tree.specs.Trees.{Expression}
 use Rattle.ls_tree.specs.WellFormed.{expression_height}
-use Rattle.ls_parser_expressions.specs.Answers.{Fails}
-use Rattle.ls_parser_expressions.specs.Reading.{Reader, given, after_sign, repeat}
+use Rattle.ls_parser_tokens.specs.Answers.{Fails}
+use Rattle.ls_parser_tokens.specs.Reading.{Reader, given, after_sign, repeat}
 use Rattle.ls_parser_expressions.specs.ReadingExpressions.{has_suffix, suffix_at, member_at, item_at, primary_at, expression_at, post_at}
 use Rattle.ls_parser_expressions.proofs.Repeats.{InRepeat, fails_first}
 

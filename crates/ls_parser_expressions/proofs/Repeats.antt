@@ -4,9 +4,9 @@ use Rattle.std.proofs.lemmas.Bool.{cases_Bool}
 use Rattle.ls_lexer.specs.declared.fault.TextFault.{TextFault}
 use Rattle.ls_lexer.specs.declared.fault.TextFault.TheVariants as faults
 use Rattle.ls_lexer.specs.Lexemes.{Lexeme}
-use Rattle.ls_parser_expressions.specs.Answers.{RefusesTokens, Fails}
+use Rattle.ls_parser_tokens.specs.Answers.{RefusesTokens, Fails}
 use Rattle.ls_lexer.specs.declared.sign.Sign.TheVariants as signs
-use Rattle.ls_parser_expressions.specs.Reading.{◌>>=◌, Reader, repeat, one_more, after_sign, starts, not_yet, behind_comma, group_at}
+use Rattle.ls_parser_tokens.specs.Reading.{◌>>=◌, Reader, repeat, one_more, after_sign, starts, not_yet, behind_comma, group_at}
 
 pub means_map : {P Q : Type 0} (e : TextFault) → (P → Q) → RefusesTokens e P → RefusesTokens e Q
 means_map faults.Memory f h = tt

@@ -3,7 +3,7 @@ use Rattle.std.proofs.Common.{◌≡◌, ◌<◌, suc, length, List, [], ◌∷�
 use Rattle.ls_lexer.specs.Lexemes.{Lexeme, lexemes}
 use Rattle.ls_lexer.specs.declared.token.Token.{Token}
 use Rattle.ls_lexer.specs.declared.sign.Sign.TheVariants as signs
-use Rattle.ls_parser_expressions.specs.Reading.{Reader, one_more, behind_comma, after_sign}
+use Rattle.ls_parser_tokens.specs.Reading.{Reader, one_more, behind_comma, after_sign}
 use Rattle.ls_parser_expressions.proofs.Repeats.{bind_some, some_is}
 use Rattle.ls_parser_expressions.proofs.Signs.{sign_reads}
 

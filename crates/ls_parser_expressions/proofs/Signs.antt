@@ -8,7 +8,7 @@ use Rattle.ls_lexer.specs.declared.sign.Sign.{Sign}
 use Rattle.ls_lexer.specs.declared.word.Word.{Word}
 use Rattle.ls_lexer.specs.Lexemes.{Lexeme, Named, Numeral, Reserved, Marked}
 use Rattle.ls_tree.specs.Trees.{Text}
-use Rattle.ls_parser_expressions.specs.Reading.{given, after_sign, after_word, name_at}
+use Rattle.ls_parser_tokens.specs.Reading.{given, after_sign, after_word, name_at}
 
 pub guard_some : {A : Type 0} (b : Bool) (x y : A) → cond b (Some x) None ≡ Some y → (b ≡ true) × (x ≡ y)
 guard_some true x y e = (refl, cc)

@@ -12,7 +12,7 @@ use Rattle.ls_tree.specs.declared.tree.BinaryOp.{BinaryOp}
 use Rattle.ls_tree.specs.declared.tree.BinaryOp.TheVariants as binary
 use Rattle.ls_tree.specs.Trees.{Text, Expression, Number, True, False, Null, This, Name, Paren, Unary, Binary, Field, Call, CallOn, Item, New, NewMarkable, NewArray, Expressions, listed}
 use Rattle.ls_tree.specs.WellFormed.{rank_of, expression_height, is_new_array, is_minus}
-use Rattle.ls_parser_expressions.specs.Reading.{◌>>=◌, Reader, given, after_sign, after_word, name_at, starts, repeat, group_at, is_markable}
+use Rattle.ls_parser_tokens.specs.Reading.{◌>>=◌, Reader, given, after_sign, after_word, name_at, starts, repeat, group_at}
 
 abbrev pub operator_of_sign : Sign → Option BinaryOp
 operator_of_sign signs.Or = Some binary.Or
@@ -140,6 +140,12 @@ named_at whole text ks =
 -- the arguments of a made object, with their parentheses
 abbrev pub made_at : Reader Expression → (Expressions → Expression) → Reader Expression
 made_at whole make ks = after_sign signs.OpenParen ks >>= λ rest. arguments_at whole rest >>= λ ts. Some (make ts.0, ts.1)
+
+abbrev pub markable_name : Text
+markable_name = codes "AtomicMarkableReference"
+
+abbrev pub is_markable : Text → Bool
+is_markable text = bytes_eq text markable_name
 
 -- a name between `<` and `>`
 abbrev pub class_at : Reader Text

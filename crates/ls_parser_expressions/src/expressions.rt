@@ -10,7 +10,7 @@ ghost use Rattle.ls_tree.specs.Views.{bare};
 ghost use Rattle.ls_tree.specs.Placed.{placed};
 ghost use Rattle.ls_parser_spelling.specs.Spelling.{sign_of_unary};
 ghost use Rattle.ls_parser_spelling.specs.Places.{Spot, spot, sign, spots, At, OperandAt};
-ghost use Rattle.ls_parser_expressions.specs.Answers.{Gives};
+ghost use Rattle.ls_parser_tokens.specs.Answers.{Gives};
 ghost use Rattle.ls_parser_expressions.specs.ReadingExpressions.{joined_at, binary_at, signed_at, unary_at, expression_at, post_at, primary_at, named_at, object_at, new_at, paren_at};
 
 use crate::operators::{has_operator, join, operator_part, unary_op};
@@ -18,14 +18,14 @@ use crate::primaries::{
     called, class_name, has_suffix, is_markable, new_markable, new_object, number,
 };
 use crate::suffixes::{arguments, index, suffix};
-use crate::tokens::{
-    Context, NamePart, Part, boxed_part, closed_part, expect, expect_word, make_name, name_part,
-    sign_part, starts_with, syntax, too_deep, upto,
-};
 use ls_lexer::fault::TextFault;
 use ls_lexer::sign::Sign;
 use ls_lexer::token::{Span, Token, TokenKind};
 use ls_lexer::word::Word;
+use ls_parser_tokens::tokens::{
+    Context, NamePart, Part, boxed_part, closed_part, expect, expect_word, make_name, name_part,
+    sign_part, starts_with, syntax, too_deep, upto,
+};
 use ls_tree::tree::{BinaryOp, Expr, UnaryOp};
 
 // A chain of each rank in turn, from those that bind most tightly: what is read of one rank is the first operand of the next.

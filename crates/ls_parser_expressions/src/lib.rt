@@ -1,8 +1,7 @@
-//! Reading of tokens and of expressions: the lower half of the parser.
+//! Reading of expressions: the lower half of the parser.
 #![tactic(auto)]
 
 pub mod expressions;
 pub mod operators;
 pub mod primaries;
 mod suffixes;
-pub mod tokens;

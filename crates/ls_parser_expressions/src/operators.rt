@@ -9,14 +9,14 @@ ghost use Rattle.ls_tree.specs.Placed.{placed};
 ghost use Rattle.ls_tree.specs.Trees.{Binary};
 ghost use Rattle.ls_tree.specs.WellFormed.{rank_of};
 ghost use Rattle.ls_tree.specs.Views.{bare};
-ghost use Rattle.ls_parser_expressions.specs.Answers.{Finds};
+ghost use Rattle.ls_parser_tokens.specs.Answers.{Finds};
 ghost use Rattle.ls_parser_expressions.specs.ReadingExpressions.{operator_of_sign, operator_at, has_operator, unary_of};
 
-use crate::tokens::{Context, two_boxed, upto};
 use ls_lexer::fault::TextFault;
 use ls_lexer::sign::Sign;
 use ls_lexer::token::{Span, Token, TokenKind};
 use ls_lexer::word::Word;
+use ls_parser_tokens::tokens::{Context, two_boxed, upto};
 use ls_tree::tree::{BinaryOp, Expr, UnaryOp};
 use std::alloc::AllocError;
 

@@ -9,15 +9,14 @@ ghost use Rattle.ls_tree.specs.Placed.{placed, placed_name, placed_target, place
 ghost use Rattle.ls_tree.specs.Trees.{NewArray, New, NewMarkable};
 ghost use Rattle.ls_tree.specs.WellFormed.{expression_height, is_new_array};
 ghost use Rattle.ls_tree.specs.Views.{name_text, bare, bare_target, call_of, expressions_of};
-ghost use Rattle.ls_parser_expressions.specs.Answers.{Gives};
-ghost use Rattle.ls_parser_expressions.specs.Reading.{is_markable};
-ghost use Rattle.ls_parser_expressions.specs.ReadingExpressions.{has_suffix, number_here, class_at};
+ghost use Rattle.ls_parser_tokens.specs.Answers.{Gives};
+ghost use Rattle.ls_parser_expressions.specs.ReadingExpressions.{is_markable, has_suffix, number_here, class_at};
 
-use crate::tokens::{Context, Part, Read, closed, expect, name, starts_with};
 use ls_lexer::fault::TextFault;
 use ls_lexer::sign::Sign;
 use ls_lexer::token::{Span, Token};
 use ls_lexer::word::Word;
+use ls_parser_tokens::tokens::{Context, Part, Read, closed, expect, name, starts_with};
 use ls_tree::numbers::may_stand;
 use ls_tree::tree::{Expr, Name};
 use std::alloc::AllocError;

@@ -7,19 +7,19 @@ ghost use Rattle.ls_tree.specs.WellFormed.{expression_height, expressions_height
 ghost use Rattle.ls_tree.specs.Views.{bare, expressions_of};
 ghost use Rattle.ls_tree.specs.Placed.{placed, placed_all};
 ghost use Rattle.ls_parser_spelling.specs.Places.{Spot, sign, spots, At, IndexAt, ArgumentsAt, SomeAt};
-ghost use Rattle.ls_parser_expressions.specs.Answers.{Gives};
-ghost use Rattle.ls_parser_expressions.specs.Reading.{one_more, behind_comma};
+ghost use Rattle.ls_parser_tokens.specs.Answers.{Gives};
+ghost use Rattle.ls_parser_tokens.specs.Reading.{one_more, behind_comma};
 ghost use Rattle.ls_parser_expressions.specs.ReadingExpressions.{expression_at, suffix_at, member_at, index_at, item_at, arguments_at};
 
 use crate::expressions::binary;
 use crate::primaries::{called, is_new_array};
-use crate::tokens::{
-    Context, Enclosed, Part, boxed_part, closed_part, expect, name, push, sign_part, starts_with,
-    syntax, too_deep, upto,
-};
 use ls_lexer::fault::TextFault;
 use ls_lexer::sign::Sign;
 use ls_lexer::token::{Span, Token};
+use ls_parser_tokens::tokens::{
+    Context, Enclosed, Part, boxed_part, closed_part, expect, name, push, sign_part, starts_with,
+    syntax, too_deep, upto,
+};
 use ls_tree::tree::Expr;
 
 // One suffix, with what stands on its left.

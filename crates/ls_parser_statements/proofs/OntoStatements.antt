@@ -4,7 +4,7 @@ use Rattle.ls_lexer.specs.Lexemes.{Lexeme, Named, Reserved, Marked}
 use Rattle.ls_lexer.specs.declared.sign.Sign.TheVariants as signs
 use Rattle.ls_lexer.specs.declared.word.Word.TheVariants as words
 use Rattle.ls_tree.specs.Trees.{Text, Expression, Modifier, Public, Protected, Private, Final, Volatile, Annotation, TypeName, Int, Boolean, BooleanArray, Class, Markable, Declarator, Declaration, Statement, Block, Empty, If, IfElse, While, Break, Continue, Return, Try, Assign, Evaluate, Items, NoItem, Do, Declare, Piece, Doing, Declaring, collected}
-use Rattle.ls_parser_expressions.specs.Reading.{markable_name}
+use Rattle.ls_parser_expressions.specs.ReadingExpressions.{markable_name}
 use Rattle.ls_parser_expressions.proofs.Onto.{onto, onto_class, onto_longer}
 use Rattle.ls_parser_expressions.proofs.Lists.{onto_all, onto_all_longer}
 

@@ -22,9 +22,10 @@ use Rattle.ls_tree.specs.PlacedStatements.{placed_declarator, placed_declaration
 use Rattle.ls_parser_spelling.specs.Spelling.{spell_modifier}
 use Rattle.ls_parser_spelling.specs.Places.{Spot, spot, spots, sign, named, upto, At, ClassNameAt}
 use Rattle.ls_parser_spelling.specs.StatementPlaces.{word, Begins, Anywhere, nothing_more, one_token, ManyAt, none_left, next_one, BehindComma, behind_comma_at, ModifierAt, TypeAt, int_at, boolean_at, boolean_array_at, class_type_at, markable_at, DeclaratorAt, no_value_at, value_at, DeclaratorsAt, declarators_at, DeclarationAt, declaration_at, ConditionAt, condition_at, LabelAt, no_label_at, label_at, JumpAt, bare_jump_at, jump_to_at, ReturnedAt, nothing_at, returned_at, StatementAt, block_statement_at, empty_at, if_at, if_else_at, while_at, break_at, continue_at, return_at, try_at, assign_at, evaluate_at, BlockAt, block_at, ItemsAt, no_item_at, do_at, declare_at}
-use Rattle.ls_parser_expressions.specs.Reading.{is_markable}
+use Rattle.ls_parser_expressions.specs.ReadingExpressions.{is_markable}
 use Rattle.ls_parser_expressions.proofs.Rows.{map_push}
-use Rattle.ls_parser_expressions.proofs.Places.{first_spot, name_spot, is_markable_text}
+use Rattle.ls_parser_tokens.proofs.Places.{first_spot}
+use Rattle.ls_parser_expressions.proofs.Places.{name_spot, is_markable_text}
 
 -- what is answered begins the same tokens, however they are written
 pub of_tokens : {R E : Type 0} (r : Result R E) (P : R → List Spot → Type 0) {ss same : List Spot} → ss ≡ same → IfOk r (λ x. P x same) → IfOk r (λ x. P x ss)

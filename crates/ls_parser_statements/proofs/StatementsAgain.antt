@@ -7,8 +7,8 @@ use Rattle.ls_lexer.specs.declared.word.Word.TheVariants as words
 use Rattle.ls_lexer.specs.Lexemes.{Lexeme, Named, Reserved, Marked}
 use Rattle.ls_tree.specs.Trees.{Text, Expression, Number, True, False, Null, This, Name, Paren, Unary, Binary, Field, Call, CallOn, Item, New, NewMarkable, NewArray, Modifier, Public, Protected, Private, Final, Volatile, Annotation, TypeName, Int, Boolean, BooleanArray, Class, Markable, Declarator, Declaration, Statement, Block, Empty, If, IfElse, While, Break, Continue, Return, Try, Assign, Evaluate, Items, NoItem, Do, Declare, Piece, Doing, Declaring, collected}
 use Rattle.ls_tree.specs.WellFormed.{WellFormed, is_post, is_call, expression_height, value_height, declarators_height, declaration_height, statement_height, items_height, ends_open, WellFormedValue, WellFormedDeclaration, WellFormedStatement, WellFormedItems}
-use Rattle.ls_parser_expressions.specs.Reading.{Reader, after_sign, after_word, name_at, not_yet, many_at, behind_comma, is_markable}
-use Rattle.ls_parser_expressions.specs.ReadingExpressions.{expression_at, post_at}
+use Rattle.ls_parser_tokens.specs.Reading.{Reader, after_sign, after_word, name_at, not_yet, many_at, behind_comma}
+use Rattle.ls_parser_expressions.specs.ReadingExpressions.{is_markable, expression_at, post_at}
 use Rattle.ls_parser_statements.specs.ReadingStatements.{starts_modifier, modifier_at, modifiers_at, type_at, declarator_at, declarators_at, declaration_at, starts_type, named_declaration, starts_declaration, piece_at, braces_at, condition_at, jump_at, value_at, label_at, other_at, FirstOther, first_of, local_at, statement_of, nested_at, statement_at, block_at}
 use Rattle.ls_parser_expressions.proofs.Onto.{onto, onto_expressions}
 use Rattle.ls_parser_expressions.proofs.Lists.{onto_all, many_from_complete}

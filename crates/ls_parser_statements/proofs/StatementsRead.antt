@@ -11,8 +11,8 @@ use Rattle.ls_lexer.specs.declared.word.Word.TheVariants as words
 use Rattle.ls_lexer.specs.Lexemes.{Lexeme, Named, Numeral, Reserved, Marked}
 use Rattle.ls_tree.specs.Trees.{Text, Expression, Modifier, Public, Protected, Private, Final, Volatile, Annotation, TypeName, Int, Boolean, BooleanArray, Class, Markable, Declarator, Declaration, Statement, Block, Empty, If, IfElse, While, Break, Continue, Return, Try, Assign, Evaluate, Items, Piece, Doing, Declaring, collected}
 use Rattle.ls_tree.specs.WellFormed.{WellFormed, is_post, is_call, expression_height, value_height, declarators_height, declaration_height, statement_height, items_height, ends_open, WellFormedValue, WellFormedDeclaration, WellFormedStatement, WellFormedItems}
-use Rattle.ls_parser_expressions.specs.Reading.{◌>>=◌, Reader, given, after_sign, after_word, name_at, starts, not_yet, many_at, behind_comma, markable_name, is_markable}
-use Rattle.ls_parser_expressions.specs.ReadingExpressions.{class_at, expression_at, post_at}
+use Rattle.ls_parser_tokens.specs.Reading.{◌>>=◌, Reader, given, after_sign, after_word, name_at, starts, not_yet, many_at, behind_comma}
+use Rattle.ls_parser_expressions.specs.ReadingExpressions.{markable_name, is_markable, class_at, expression_at, post_at}
 use Rattle.ls_parser_statements.specs.ReadingStatements.{modifier_of_word, modifier_word_at, starts_modifier, annotation_at, modifier_at, modifiers_at, boolean_at, named_type_at, type_at, declarator_of, declarator_at, declaration_of, declarators_at, declaration_at, starts_declaration, declared_at, piece_at, braces_at, block_in, condition_at, if_at, while_at, jump_at, value_at, break_at, continue_at, return_at, try_at, label_at, used_at, other_at, first_of_sign, first_of_word, statement_from, local_at, statement_of, nested_at, statement_at, block_at}
 use Rattle.ls_parser_expressions.proofs.Repeats.{bind_some, some_is}
 use Rattle.ls_parser_expressions.proofs.Signs.{guarded, both_true, either, given_cases, sign_reads, word_reads, name_reads}

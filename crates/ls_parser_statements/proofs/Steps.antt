@@ -4,8 +4,8 @@ use Rattle.ls_lexer.specs.declared.fault.TextFault.{TextFault}
 use Rattle.ls_lexer.specs.declared.sign.Sign.TheVariants as signs
 use Rattle.ls_lexer.specs.Lexemes.{Lexeme}
 use Rattle.ls_tree.specs.Trees.{Expression, Modifier, TypeName, Declarator}
-use Rattle.ls_parser_expressions.specs.Answers.{Fails}
-use Rattle.ls_parser_expressions.specs.Reading.{◌>>=◌, Reader, after_sign, many_at, not_yet, behind_comma}
+use Rattle.ls_parser_tokens.specs.Answers.{Fails}
+use Rattle.ls_parser_tokens.specs.Reading.{◌>>=◌, Reader, after_sign, many_at, not_yet, behind_comma}
 use Rattle.ls_parser_statements.specs.ReadingStatements.{declarator_at, declarator_list_at, declarators_at, declaration_of}
 use Rattle.ls_parser_expressions.proofs.Repeats.{fails_first}
 

@@ -7,8 +7,8 @@ use Rattle.ls_lexer.specs.declared.sign.Sign.TheVariants as signs
 use Rattle.ls_lexer.specs.Lexemes.{Lexeme, Named, Numeral, Reserved, Marked}
 use Rattle.ls_tree.specs.Trees.{Text, Expression, Modifier, Public, Protected, Private, Final, Volatile, Annotation, TypeName, Int, Boolean, BooleanArray, Class, Markable, Declarator, Declaration, Statement, Block, Empty, If, IfElse, While, Break, Continue, Return, Try, Assign, Evaluate, Items, Piece, Doing, Declaring, collected}
 use Rattle.ls_tree.specs.WellFormed.{is_call}
-use Rattle.ls_parser_expressions.specs.Reading.{◌>>=◌, Reader, given, after_sign, after_word, name_at, starts, many_at, behind_comma, not_yet, is_markable}
-use Rattle.ls_parser_expressions.specs.ReadingExpressions.{class_at, expression_at, post_at}
+use Rattle.ls_parser_tokens.specs.Reading.{◌>>=◌, Reader, given, after_sign, after_word, name_at, starts, many_at, behind_comma, not_yet}
+use Rattle.ls_parser_expressions.specs.ReadingExpressions.{is_markable, class_at, expression_at, post_at}
 
 -- ---- modifiers and types
 

@@ -12,8 +12,8 @@ ghost use Rattle.ls_tree.specs.PlacedStatements.{placed_type, placed_declarator,
 ghost use Rattle.ls_parser_spelling.specs.Spelling.{spell_modifier};
 ghost use Rattle.ls_parser_spelling.specs.Places.{Spot, spot, spots};
 ghost use Rattle.ls_parser_spelling.specs.StatementPlaces.{word, ManyAt, BehindComma, ModifierAt, TypeAt, DeclaratorAt, DeclaratorsAt, DeclarationAt};
-ghost use Rattle.ls_parser_expressions.specs.Answers.{Gives, Finds};
-ghost use Rattle.ls_parser_expressions.specs.Reading.{one_more, behind_comma, many_at, not_yet};
+ghost use Rattle.ls_parser_tokens.specs.Answers.{Gives, Finds};
+ghost use Rattle.ls_parser_tokens.specs.Reading.{one_more, behind_comma, many_at, not_yet};
 ghost use Rattle.ls_parser_expressions.specs.ReadingExpressions.{expression_at};
 ghost use Rattle.ls_parser_statements.specs.ReadingStatements.{modifier_of_word, modifier_word_at, starts_modifier, modifier_at, modifiers_at, boolean_at, named_type_at, type_at, declarator_at, more_declarators_at, declarator_list_at, declarators_at, declaration_at, starts_type, named_declaration, starts_declaration};
 
@@ -23,7 +23,7 @@ use ls_lexer::token::{Span, Token, TokenKind};
 use ls_lexer::word::Word;
 use ls_parser_expressions::expressions::binary;
 use ls_parser_expressions::primaries::{class_name, is_markable};
-use ls_parser_expressions::tokens::{
+use ls_parser_tokens::tokens::{
     Context, NamePart, Part, Read, closed_part, expect, expect_word, make_name, name, name_part,
     push, sign_part, span_to, starts_with, word_part,
 };

@@ -13,7 +13,7 @@ ghost use Rattle.ls_tree.specs.Placed.{placed, placed_name};
 ghost use Rattle.ls_tree.specs.PlacedStatements.{placed_statement, placed_before, placed_items};
 ghost use Rattle.ls_parser_spelling.specs.Places.{Spot, spot, sign, spots, At};
 ghost use Rattle.ls_parser_spelling.specs.StatementPlaces.{word, ConditionAt, JumpAt, StatementAt, ItemsAt};
-ghost use Rattle.ls_parser_expressions.specs.Answers.{Gives, Finds};
+ghost use Rattle.ls_parser_tokens.specs.Answers.{Gives, Finds};
 ghost use Rattle.ls_parser_expressions.specs.ReadingExpressions.{expression_at};
 ghost use Rattle.ls_parser_statements.specs.ReadingStatements.{local_at, condition_at, jump_at, ended_at, label_at, used_at, declared_at, break_at, continue_at, return_at};
 
@@ -23,7 +23,7 @@ use ls_lexer::sign::Sign;
 use ls_lexer::token::{Span, Token};
 use ls_lexer::word::Word;
 use ls_parser_expressions::expressions::binary;
-use ls_parser_expressions::tokens::{
+use ls_parser_tokens::tokens::{
     Context, Enclosed, NamePart, Part, closed_part, expect, make_name, name_part, sign_part,
     syntax, too_deep, upto,
 };

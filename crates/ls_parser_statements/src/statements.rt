@@ -12,8 +12,8 @@ ghost use Rattle.ls_tree.specs.Placed.{placed_name};
 ghost use Rattle.ls_tree.specs.PlacedStatements.{placed_statement, placed_before, placed_items};
 ghost use Rattle.ls_parser_spelling.specs.Places.{Spot, spot, spots};
 ghost use Rattle.ls_parser_spelling.specs.StatementPlaces.{word, LabelAt, StatementAt, BlockAt, ItemsAt};
-ghost use Rattle.ls_parser_expressions.specs.Answers.{Gives};
-ghost use Rattle.ls_parser_expressions.specs.Reading.{one_more, many_at, not_yet};
+ghost use Rattle.ls_parser_tokens.specs.Answers.{Gives};
+ghost use Rattle.ls_parser_tokens.specs.Reading.{one_more, many_at, not_yet};
 ghost use Rattle.ls_parser_expressions.specs.ReadingExpressions.{expression_at, post_at};
 ghost use Rattle.ls_parser_statements.specs.ReadingStatements.{piece_at, local_at, if_at, while_at, try_at, other_at, first_of, begun_at, statement_at, block_at, block_in};
 
@@ -27,9 +27,9 @@ use ls_lexer::sign::Sign;
 use ls_lexer::token::{Span, Token, TokenKind};
 use ls_lexer::word::Word;
 use ls_parser_expressions::expressions::post;
-use ls_parser_expressions::tokens::{
-    Context, Part, boxed_part, closed_part, expect, expect_word, make_name, push, span_to,
-    starts_with, syntax, too_deep, word_part,
+use ls_parser_tokens::tokens::{
+    Context, Part, boxed_part, closed_part, else_part, expect, expect_word, make_name, push,
+    span_to, starts_with, syntax, too_deep,
 };
 use ls_tree::tree::{Block, BlockItem, Name, Statement};
 use std::alloc::AllocError;
@@ -228,7 +228,7 @@ fn if_statement<'t, 'a>(
 {
     let condition = condition(context, tokens, limit)?;
     let first = boxed_statement(context, condition.rest, limit)?;
-    match word_part(first.rest, Word::Else) {
+    match else_part(first.rest) {
         Some(other) => {
             let second = boxed_statement(context, other.rest, limit)?;
             Ok(Part {

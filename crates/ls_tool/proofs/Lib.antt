@@ -1,4 +1,2 @@
-pub mod LineLemmas
-pub mod PartLemmas
 pub mod Written
 pub mod Ending

@@ -12,7 +12,7 @@ use Rattle.ls_commands.specs.Viewed.{ViewsTo}
 use Rattle.ls_commands.specs.declared.viewing.View.TheVariants as views
 use Rattle.ls_explanations.specs.Explanations.{note}
 use Rattle.ls_faults.specs.Faults.{fault_line}
-use Rattle.ls_tool.specs.Parts.{is_text, parts_of}
+use Rattle.ls_parts.specs.Parts.{is_text, parts_of}
 use Rattle.ls_command_line.specs.Words.{AsksFor}
 use Rattle.ls_command_line.specs.declared.words.CommandLine.{CommandLine}
 use Rattle.ls_command_line.specs.declared.words.Request.{Request}

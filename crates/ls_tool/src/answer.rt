@@ -5,7 +5,6 @@ ghost use Rattle.ls_faults.specs.Given.{Gives};
 ghost use Rattle.ls_tool.specs.Output.{Answers, AnswersText, Decides, OnThree, OnTwo};
 
 use crate::explained::refusal_of;
-use crate::parts::{parts_of, text_of};
 use crate::refusal::Refusal;
 use crate::streams::read_whole;
 use ls_command_line::{Request, WordsFault, read_words};
@@ -16,6 +15,7 @@ use ls_commands::tallying::{Sampling, batch};
 use ls_commands::translating::translate;
 use ls_commands::viewing::{View, show};
 use ls_faults::fault::ToolFault;
+use ls_parts::{parts_of, text_of};
 use std::alloc::Global;
 use std::io::Read;
 use std::sync::Wait;

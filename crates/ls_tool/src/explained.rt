@@ -3,11 +3,11 @@
 ghost use Rattle.std.specs.Prelude.{◌≡◌, IfOk, true};
 ghost use Rattle.ls_tool.specs.Output.{RefusesAs, told};
 
-use crate::parts::{parts_of, text_of};
 use crate::refusal::Refusal;
 use ls_explanations::explain;
 use ls_faults::fault::ToolFault;
 use ls_faults::line::fault_line;
+use ls_parts::{parts_of, text_of};
 use std::alloc::{AllocError, Global};
 
 /// The fault's line, and behind it the line of the input in which it stands.

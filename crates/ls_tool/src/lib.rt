@@ -3,7 +3,6 @@
 
 mod answer;
 mod explained;
-mod parts;
 mod refusal;
 mod running;
 mod streams;

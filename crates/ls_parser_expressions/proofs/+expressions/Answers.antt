@@ -5,8 +5,8 @@ use Rattle.ls_tree.specs.PlacedTrees.{span_of}
 use Rattle.ls_tree.specs.Placed.{placed}
 use Rattle.ls_tree.specs.Views.{bare}
 use Rattle.ls_parser_spelling.specs.Places.{spots}
-use Rattle.ls_parser_expressions.specs.Reading.{group_at, is_markable}
-use Rattle.ls_parser_expressions.specs.ReadingExpressions.{has_operator, unary_at, expression_at}
+use Rattle.ls_parser_tokens.specs.Reading.{group_at}
+use Rattle.ls_parser_expressions.specs.ReadingExpressions.{is_markable, has_operator, unary_at, expression_at}
 use Rattle.ls_parser_expressions.proofs.Chains.{chain_climbs, chain_ends, fails_climbs}
 use Rattle.ls_parser_expressions.proofs.Repeats.{repeat_ends, repeat_fails, group_ends, group_fails, group_goes_on, fails_first}
 use Rattle.ls_parser_expressions.proofs.Shrinks.{one_more_shrinks, tokens_shrink, comma_shrinks}

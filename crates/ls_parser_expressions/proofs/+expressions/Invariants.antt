@@ -4,7 +4,7 @@ use Rattle.ls_tree.specs.WellFormed.{expression_height, expressions_height}
 use Rattle.ls_tree.specs.Views.{bare, expressions_of}
 use Rattle.ls_tree.specs.Placed.{placed, placed_all}
 use Rattle.ls_parser_spelling.specs.Places.{At, SomeAt, spots}
-use Rattle.ls_parser_expressions.specs.Reading.{group_at}
+use Rattle.ls_parser_tokens.specs.Reading.{group_at}
 use Rattle.ls_parser_expressions.specs.ReadingExpressions.{binary_at, unary_at, expression_at, post_at, has_suffix, suffix_at}
 use Rattle.ls_parser_expressions.proofs.Repeats.{InRepeat, InGroup}
 use Rattle.ls_parser_expressions.proofs.Chains.{InChain}

@@ -1,7 +1,7 @@
 use Rattle.std.proofs.Common.{length, map}
 use Rattle.ls_lexer.specs.Lexemes.{lexemes}
 use Rattle.ls_tree.specs.Views.{bare_parameter}
-use Rattle.ls_parser_expressions.specs.Reading.{group_at}
+use Rattle.ls_parser_tokens.specs.Reading.{group_at}
 use Rattle.ls_tree.specs.PlacedStatements.{placed_parameter}
 use Rattle.ls_parser_spelling.specs.Places.{spots}
 use Rattle.ls_parser_spelling.specs.FilePlaces.{SomeParametersAt}

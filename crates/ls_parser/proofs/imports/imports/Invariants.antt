@@ -1,6 +1,6 @@
 use Rattle.std.proofs.Common.{length, map}
 use Rattle.ls_lexer.specs.Lexemes.{lexemes}
-use Rattle.ls_parser_expressions.specs.Reading.{one_more, many_at}
+use Rattle.ls_parser_tokens.specs.Reading.{one_more, many_at}
 use Rattle.ls_tree.specs.Views.{bare_import}
 use Rattle.ls_parser_spelling.specs.Places.{spots}
 use Rattle.ls_parser.specs.Leaves.{Leaves}

@@ -1,7 +1,7 @@
 use Rattle.std.proofs.Common.{◌≡◌, ◌≤◌, length, map}
 use Rattle.ls_lexer.specs.Lexemes.{lexemes}
 use Rattle.ls_lexer.specs.declared.sign.Sign.TheVariants as signs
-use Rattle.ls_parser_expressions.specs.Reading.{one_more, many_at, not_yet, behind_comma}
+use Rattle.ls_parser_tokens.specs.Reading.{one_more, many_at, not_yet, behind_comma}
 use Rattle.ls_tree.specs.Views.{bare_declarator}
 use Rattle.ls_tree.specs.PlacedStatements.{placed_declarator}
 use Rattle.ls_parser_spelling.specs.Places.{spots}

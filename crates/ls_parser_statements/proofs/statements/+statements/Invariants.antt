@@ -6,7 +6,7 @@ use Rattle.ls_tree.specs.Views.{bare_piece, items_of}
 use Rattle.ls_tree.specs.PlacedStatements.{placed_items}
 use Rattle.ls_parser_spelling.specs.Places.{spots}
 use Rattle.ls_parser_spelling.specs.StatementPlaces.{ItemsAt}
-use Rattle.ls_parser_expressions.specs.Reading.{one_more, many_at, not_yet}
+use Rattle.ls_parser_tokens.specs.Reading.{one_more, many_at, not_yet}
 use Rattle.ls_parser_statements.specs.ReadingStatements.{piece_at, local_at, statement_at}
 use Rattle.ls_parser_expressions.proofs.Repeats.{InRepeat}
 use Rattle.ls_parser_statements.proofs.statements.+statements.Given as goal

@@ -1,0 +1,4 @@
+//! Reading of tokens: the next of them, and what is made of it.
+#![tactic(auto)]
+
+pub mod tokens;

@@ -1,0 +1,6 @@
+// Turnstiles, and live threads on a tape.
+
+mod following;
+mod memory;
+mod playing;
+mod seats;
