@@ -5,6 +5,7 @@ mod ls_code;
 mod ls_events;
 mod ls_machine;
 mod ls_machine_moves;
+mod ls_machine_threads;
 use images::{Part, image};
 use ls_code::code::Code;
 use ls_code::step::ThreadState;

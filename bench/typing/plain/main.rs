@@ -9,11 +9,15 @@ mod ls_events;
 mod ls_types_expressions;
 mod ls_lexer;
 mod ls_parser;
+mod ls_parser_declarations;
 mod ls_parser_statements;
 mod ls_parser_expressions;
 mod ls_parser_tokens;
 mod ls_tree;
 mod ls_types;
+mod ls_types_files;
+mod ls_types_operators;
+mod ls_types_signs;
 mod memory;
 
 use memory::Global;
@@ -30,7 +34,7 @@ fn main() {
     if !check {
         return println!("parsed");
     }
-    match ls_types::checking::check(Global, parsed) {
+    match ls_types_files::checking::check(Global, parsed) {
         Ok(_) => println!("accepted"),
         Err(fault) => println!("{fault:?}"),
     }

@@ -40,7 +40,7 @@ def plain(text, crate):
 
 
 def main():
-    for crate in ("ls_events", "ls_code", "ls_machine_moves", "ls_machine"):
+    for crate in ("ls_events", "ls_code", "ls_machine_moves", "ls_machine_threads", "ls_machine"):
         for file in sorted((CRATES / crate / "src").glob("*.rt")):
             if file.stem == "tests":
                 continue
@@ -62,6 +62,7 @@ mod ls_code;
 mod ls_events;
 mod ls_machine;
 mod ls_machine_moves;
+mod ls_machine_threads;
 use images::{Part, SHORT_STEPS, image};
 use ls_code::code::Code;
 use ls_code::step::Did;

@@ -19,8 +19,10 @@ FILES = {
     "ls_checked": ("program", "tree"),
     "ls_meaning": ("completion", "sort", "step"),
     "ls_source_values": ("lookups", "value"),
-    "ls_source_pending": ("calls", "expressions", "moves", "operands", "pending", "stack", "statements", "tables", "work"),
-    "ls_source": ("next", "run", "stage", "store", "thing", "thread"),
+    "ls_source_store": ("store", "thing"),
+    "ls_source_pending": ("calls", "expressions", "onward", "operands", "pending", "stack", "tables", "work"),
+    "ls_source_moves": ("moves", "settling", "statements"),
+    "ls_source": ("next", "run", "stage", "thread"),
 }
 
 

@@ -3,7 +3,9 @@
 mod ls_checked;
 mod ls_events;
 mod ls_meaning;
+mod ls_source_moves;
 mod ls_source_pending;
+mod ls_source_store;
 mod ls_source;
 mod ls_source_values;
 mod timing;

@@ -1,6 +1,4 @@
 pub mod Answering
-pub mod CheckLemmas
-pub mod ViewedLemmas
 pub mod CompiledLemmas
 pub mod TranslatedLemmas
 pub mod LivedLemmas

@@ -14,9 +14,9 @@ use Rattle.ls_live.specs.Records.{IsDone}
 use Rattle.ls_live.specs.declared.fault.LiveFault.TheVariants as opening
 use Rattle.ls_live.specs.declared.fault.PlayFault.{PlayFault as LiveFault}
 use Rattle.ls_live.specs.declared.fault.PlayFault.TheVariants as live
-use Rattle.ls_turnstile.specs.declared.fault.FollowFault.TheVariants as follow
-use Rattle.ls_turnstile.specs.declared.fault.PlayFault.{PlayFault as TurnsFault}
-use Rattle.ls_turnstile.specs.declared.fault.PlayFault.TheVariants as turns
+use Rattle.ls_following.specs.declared.fault.FollowFault.TheVariants as follow
+use Rattle.ls_following.specs.declared.fault.PlayFault.{PlayFault as TurnsFault}
+use Rattle.ls_following.specs.declared.fault.PlayFault.TheVariants as turns
 use Rattle.ls_report.specs.Events.{Text}
 use Rattle.ls_report.specs.Printing.{run_text}
 use Rattle.ls_faults.specs.Faults.{lifted_live, lifted_turns}

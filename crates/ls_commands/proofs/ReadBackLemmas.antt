@@ -1,11 +1,7 @@
 -- What is printed of runs reads back.
-use Rattle.std.proofs.Common.{◌≡◌, ◌<◌, ◌^◌, ℕ, List, Result, Ok, Err, refl, inl, inr, arith}
+use Rattle.std.proofs.Common.{◌≡◌, ◌<◌, ◌^◌, ℕ, List, Result, refl, inl, inr, arith}
 use Rattle.std.specs.Prelude.{String}
 use Rattle.std.specs.Global.{Global}
-use Rattle.ls_checked.specs.CheckedProgram.{Program}
-use Rattle.ls_types_elaboration.specs.Elaboration.{Outcome, elaborated}
-use Rattle.ls_types_elaboration.specs.Trees.{File}
-use Rattle.ls_types_programs.specs.Programs.{IsTextOf}
 use Rattle.ls_code.specs.Code.{Code}
 use Rattle.ls_code.specs.Machine.{machine_history}
 use Rattle.ls_headline.specs.Same.{IsCells}
@@ -16,14 +12,11 @@ use Rattle.ls_schedule.specs.Reading.{schedule_of}
 use Rattle.ls_schedule.specs.declared.fault.ScheduleFault.{ScheduleFault}
 use Rattle.ls_report.specs.Events.{Text}
 use Rattle.ls_report.specs.Printing.{run_text}
-use Rattle.ls_text_laws.specs.Histories.{CompiledIsReadable, SourceIsReadable}
-use Rattle.ls_commands.proofs.Answering.{wider}
+use Rattle.ls_text_laws.specs.Histories.{CompiledIsReadable}
+use Rattle.ls_faults.proofs.Answering.{wider}
 use Rattle.ls_commands.specs.Compiled.{names_of_image, NoCells, NoSchedule, plain_program_of, Replayed, ReplayedOf, Runs}
 use Rattle.ls_commands.specs.Lived.{AsReplayed, BadLimit, Disagree, Lived, LivedOf, Lives, NoCells as TooFewOrMany, NotFollowed, NoThread, ReplayedLive, ReplayedLiveOf}
-use Rattle.ls_commands.specs.ReadBack.{IsHistoryText, ReadsBack, ReadsBackBehind}
-use Rattle.ls_commands.specs.Viewed.{names_in, NoProgram, Ran, RunsTo, ShowsBack, thread_names_of, viewed_by}
-use Rattle.ls_commands.specs.declared.viewing.View.{View}
-use Rattle.ls_commands.specs.declared.viewing.View.TheVariants as views
+use Rattle.ls_faults.specs.ReadBack.{IsHistoryText, ReadsBack, ReadsBackBehind}
 use Rattle.ls_faults.specs.Given.{Gives}
 use Rattle.ls_faults.specs.declared.fault.ToolFault.{ToolFault}
 
@@ -64,18 +57,3 @@ module _ (readable : CompiledIsReadable) (classes program : Text) (i : Image) (c
 
   pub lived_of : (limit : ℕ) (r : Result (String Global) ToolFault) → Gives (Lived i cells limit) r → Gives (LivedOf cells limit i) r
   lived_of limit r g = wider (Lived i cells limit) (LivedOf cells limit i) r (λ a h. (h, lived_back h)) g
-
-module _ (readable : SourceIsReadable) (file : File) (o : Outcome) (checks : elaborated file ≡ Ok o) (program schedule : Text) where
-  run_back : (p : Program) → IsTextOf o p program → (read : Result (List ℕ) ScheduleFault) → ReadsBack (viewed_by views.History (names_in o p) read)
-  run_back p is (Ok steps) = let r = readable file o program p checks is steps in (r.events, r.says)
-  run_back p is (Err f) = tt
-
-  history_back : {a : Result Text ToolFault} → RunsTo views.History o program schedule a → ReadsBack a
-  history_back (Ran p is) = run_back p is (schedule_of (thread_names_of p) schedule)
-  history_back (NoProgram f none) = tt
-
-  pub shows_back : (v : View) {a : Result Text ToolFault} → RunsTo v o program schedule a → ShowsBack v a
-  shows_back views.History h = history_back h
-  shows_back (views.Trace from to) h = tt
-  shows_back views.State h = tt
-  shows_back views.Drawing h = tt

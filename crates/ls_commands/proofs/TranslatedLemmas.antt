@@ -17,7 +17,8 @@ use Rattle.ls_command_line.specs.declared.words.Side.TheVariants as sides
 use Rattle.ls_faults.specs.Faults.{lifted_translation}
 use Rattle.ls_faults.specs.Given.{Gives, GivesSeen}
 use Rattle.ls_faults.specs.declared.fault.ToolFault.{ToolFault}
-use Rattle.ls_commands.proofs.Answering.{not_refused, passed_on}
+use Rattle.ls_faults.proofs.Answering.{passed_on}
+use Rattle.ls_commands.proofs.Answering.{not_refused}
 use Rattle.ls_commands.specs.Compiled.{file_of_image, names_of_image, plain_program_of}
 use Rattle.ls_commands.specs.Translated.{NoCells, NoRoom, TooLong, ToMachine, ToSource, Translated, Translates, Turned}
 

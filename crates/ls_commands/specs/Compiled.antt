@@ -15,7 +15,7 @@ use Rattle.ls_schedule.specs.Reading.{schedule_of, thread_names}
 use Rattle.ls_schedule.specs.declared.fault.ScheduleFault.{ScheduleFault}
 use Rattle.ls_report.specs.Events.{Text}
 use Rattle.ls_report.specs.Printing.{run_text}
-use Rattle.ls_commands.specs.ReadBack.{ReadsBack}
+use Rattle.ls_faults.specs.ReadBack.{ReadsBack}
 use Rattle.ls_faults.specs.Faults.{lifted_compile, lifted_schedule}
 use Rattle.ls_faults.specs.declared.fault.ToolFault.{ToolFault}
 use Rattle.ls_faults.specs.declared.fault.ToolFault.TheVariants as faults

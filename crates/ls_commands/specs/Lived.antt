@@ -11,15 +11,15 @@ use Rattle.ls_schedule.specs.declared.fault.ScheduleFault.{ScheduleFault}
 use Rattle.ls_live_book.specs.Answers.{is_over}
 use Rattle.ls_live.specs.declared.fault.LiveFault.TheVariants as opening
 use Rattle.ls_live.specs.declared.fault.PlayFault.TheVariants as live
-use Rattle.ls_turnstile.specs.declared.fault.FollowFault.{FollowFault}
-use Rattle.ls_turnstile.specs.declared.fault.FollowFault.TheVariants as follow
-use Rattle.ls_turnstile.specs.declared.fault.PlayFault.TheVariants as turns
+use Rattle.ls_following.specs.declared.fault.FollowFault.{FollowFault}
+use Rattle.ls_following.specs.declared.fault.FollowFault.TheVariants as follow
+use Rattle.ls_following.specs.declared.fault.PlayFault.TheVariants as turns
 use Rattle.ls_report.specs.Events.{Text}
 use Rattle.ls_report.specs.Printing.{run_text}
 use Rattle.ls_faults.specs.declared.fault.ToolFault.{ToolFault}
 use Rattle.ls_faults.specs.declared.fault.ToolFault.TheVariants as faults
 use Rattle.ls_commands.specs.Compiled.{AnswersOn, names_of_image, plain_program_of, Replayed}
-use Rattle.ls_commands.specs.ReadBack.{ReadsBack, ReadsBackBehind}
+use Rattle.ls_faults.specs.ReadBack.{ReadsBack, ReadsBackBehind}
 
 -- each thread is over after the steps, or they are as many as may be recorded
 abbrev pub AreDone : Code → ℕ → ℕ → List ℕ → Type 0

@@ -8,9 +8,9 @@ use crate::fault::CompileFault;
 use ls_image::image::Image;
 use ls_linker::build::build;
 use ls_parser::parse::parse_text;
-use ls_types::checking::check;
-use ls_types::program::read_program;
 use ls_types::source::Source;
+use ls_types_files::checking::check;
+use ls_types_reading::program::read_program;
 use std::alloc::Global;
 
 /// The image of a class text and a program text. Faults come in the order of the stages: those of the class text, of its

@@ -4,7 +4,7 @@ ghost use Rattle.std.specs.Prelude.{◌≡◌, ◌++◌, IfOk, OnOk, [], string_
 ghost use Rattle.ls_checked.specs.PlainProgram.{plain_name};
 ghost use Rattle.ls_labels.specs.Names.{names_of};
 ghost use Rattle.ls_labels.specs.Objects.{object_text};
-ghost use Rattle.ls_source.specs.SeenThing.{thing_of};
+ghost use Rattle.ls_source_store.specs.SeenThing.{thing_of};
 ghost use Rattle.ls_drawing.specs.Drawing.{arrow_text, arrows_text, drawing_text, drawn_name, drawn_name_of, drawn_thing, field_arrow, field_row, fill_text, head_text, label_text, mark_style, name_node, node_text, null_text, port_arrow, reference_row, row_text, rows_text};
 ghost use Rattle.ls_state.specs.Parts.{numbered};
 ghost use Rattle.ls_state.specs.Seen.{names_in, scene_seen};
@@ -13,7 +13,7 @@ use ls_checked::program::SetupName;
 use ls_events::value::Value;
 use ls_labels::names::Names;
 use ls_labels::objects::{push_object, push_value};
-use ls_source::Thing;
+use ls_source_store::thing::Thing;
 use ls_source_values::value::{mark_of, reference_of};
 use ls_state::array::push_array;
 use ls_state::objects::{field_name_of, push_held};

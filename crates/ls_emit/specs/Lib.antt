@@ -1,4 +1,4 @@
 pub mod Small
 pub mod Short
 pub mod Alone
-pub mod Places
+pub mod Targets

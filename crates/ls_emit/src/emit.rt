@@ -11,11 +11,11 @@ use crate::code_unit::CodeUnit;
 use crate::emission::{Emission, Stretch};
 use crate::expressions::put;
 use crate::fault::EmitFault;
-use crate::needs::{larger, statement_need};
-use crate::sizes::{are_short, size_of_statement};
 use crate::statements::emit_statement;
 use crate::targets::Around;
 use ls_code::instruction::Instruction;
+use ls_emit_sizes::needs::{larger, statement_need};
+use ls_emit_sizes::sizes::{are_short, size_of_statement};
 use ls_lowered::tree::{File, Method};
 use std::alloc::{AllocError, Global};
 

@@ -6,8 +6,5 @@ pub mod emission;
 pub mod emit;
 pub mod expressions;
 pub mod fault;
-pub mod layout;
-pub mod needs;
-pub mod sizes;
 pub mod statements;
 pub mod targets;

@@ -7,22 +7,22 @@ ghost use Rattle.ls_lowered.specs.Plain.{plain, plain_statement, statements_of};
 ghost use Rattle.ls_emit_laws.specs.Expressions.{size, code};
 ghost use Rattle.ls_emit_laws.specs.Statements.{statement_size, statements_size, exits_size, statement_code, statements_code, exits_code, statement_rows, statements_rows, exits_rows};
 ghost use Rattle.ls_emit.specs.Alone.{IsAlone};
-ghost use Rattle.ls_emit.specs.Places.{targets_of};
+ghost use Rattle.ls_emit.specs.Targets.{targets_of};
 ghost use Rattle.ls_emit.specs.Small.{IsSmall, IsSmallStatement, AreSmallStatements};
 
 use crate::emission::{Emission, Stretch};
 use crate::expressions::{emit_expression, emit_on, emit_on_three, emit_on_two, put};
-use crate::layout::lay_out;
-use crate::sizes::size_of_statement;
 use crate::targets::{Around, find_target};
 use ls_code::code::HandlerRow;
 use ls_code::instruction::Instruction;
+use ls_emit_sizes::layout::lay_out;
+use ls_emit_sizes::sizes::size_of_statement;
 use ls_lowered::tree::{Expression, Statement};
 use std::alloc::AllocError;
 
 /// The code of a statement that stands there, and its handler rows, behind those that are there.
 #[cycle(statements)]
-#[tactic(auto, using(crate::proofs::Blocks::block_read))]
+#[tactic(auto, using(ls_emit_sizes::proofs::Blocks::block_read))]
 pub fn emit_statement(
     out: &mut Emission,
     around: &Around,
@@ -57,7 +57,7 @@ pub fn emit_statement(
 }
 
 // A statement without others in it. It stands apart so that the frames of the recursion stay small.
-#[tactic(auto, using(crate::proofs::Blocks::block_read))]
+#[tactic(auto, using(ls_emit_sizes::proofs::Blocks::block_read))]
 fn emit_alone(
     out: &mut Vec<Instruction>,
     around: &Around,

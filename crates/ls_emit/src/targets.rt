@@ -2,7 +2,7 @@
 
 ghost use Rattle.std.specs.Prelude.{◌≡◌};
 ghost use Rattle.ls_emit_laws.specs.Statements.{target_of};
-ghost use Rattle.ls_emit.specs.Places.{targets_of};
+ghost use Rattle.ls_emit.specs.Targets.{targets_of};
 
 /// The leavable statements around a statement, the innermost first.
 #[derive(Clone, Copy)]

@@ -6,6 +6,7 @@ ghost use Rattle.ls_faults.specs.Faults.{batch_line, build_line, cells_line, che
 use crate::fault::ToolFault;
 use ls_batch::BatchFault;
 use ls_emit::fault::EmitFault;
+use ls_following::{FollowFault, PlayFault as TurnsPlayFault};
 use ls_lexer::fault::TextFault;
 use ls_lexer::token::Span;
 use ls_linker::fault::{BuildFault, LinkFault};
@@ -16,7 +17,6 @@ use ls_orders::OrderFault;
 use ls_report::HistoryFault;
 use ls_schedule::fault::ScheduleFault;
 use ls_translation::fault::TranslationFault;
-use ls_turnstile::{FollowFault, PlayFault as TurnsPlayFault};
 use ls_types::check::CheckFault;
 use ls_types::fault::ProgramFault;
 use ls_types_elaboration::rule::Rule;

@@ -1,7 +1,7 @@
 -- The lowered tree speaks of its locals alone.
 use Rattle.std.proofs.Common.{ℕ, suc, ◌+◌, ◌*◌, ◌<◌, ◌≤◌, List, [], ◌∷◌, length, Option, Some, None, arith}
 use Rattle.ls_lowered.specs.LoweredTree.{Expression, Word, Local, Unary, Binary, And, Or, Hold, Keep, After, Field, Item, SetFirst, ReadPair, SetPair, SwapPair, AttemptMark, OnLock, Call, MakeObject, MakeLock, MakeMarkable, MakeArray, Expressions, End, More, Statement, Block, SetLocal, SetField, SetItem, Evaluate, If, While, Return, Try, Guarded, Throw, Leavable, Leave, Statements, Done, Then, File}
-use Rattle.ls_finally.specs.Exits.{outward, count, Exit, LeaveOut, ReturnOut, exits, or_leave, replaced, all_replaced, exit_of, ways, finally_of}
+use Rattle.ls_finally_exits.specs.Exits.{outward, count, Exit, LeaveOut, ReturnOut, exits, or_leave, replaced, all_replaced, exit_of, ways, finally_of}
 use Rattle.ls_finally.specs.Flat.{tries, all_tries, flat, all_flat}
 use Rattle.ls_finally.specs.Agreement.{IsBelow, AreBelow, Fits, AllFit}
 use Rattle.ls_finally.specs.Placed.{IsPlacedStatement, ArePlaced}

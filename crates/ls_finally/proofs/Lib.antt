@@ -1,6 +1,3 @@
-pub mod Counted
-pub mod Numbers
-pub mod Blocks
 pub mod Whole
 pub mod Flattening
 pub mod Agreeing

@@ -10,7 +10,7 @@ use Rattle.ls_events.specs.declared.action.Answer.TheVariants as answers
 use Rattle.ls_lowered.specs.Course.{Answers, Course, Asks, Ends, Outcome, Results, Throws, Calls, finish}
 use Rattle.ls_lowered.specs.Expressions.{find}
 use Rattle.ls_lowered.specs.Statements.{Completion, Normal, Returned, Threw, Left, Go, on_word, on_normal, on_throw, on_leave, on_body, turn_back, one_turn, turns, throw, execute, execute_all, leave_to}
-use Rattle.ls_finally.specs.Exits.{outward, count, Exit, LeaveOut, ReturnOut, leave_exit, exits, all_exits, or_leave, replaced, all_replaced}
+use Rattle.ls_finally_exits.specs.Exits.{outward, count, Exit, LeaveOut, ReturnOut, leave_exit, exits, all_exits, or_leave, replaced, all_replaced}
 use Rattle.ls_finally.specs.Agreement.{Agree, IsBelow, Fits, AllFit}
 use Rattle.ls_finally.proofs.Agreeing.{finish_finish, Above, above_refl, agree_set, agree_slot, Alike, found_alike}
 use Rattle.ls_finally.proofs.Alike.{field_alike, item_alike}

@@ -3,7 +3,7 @@ use Rattle.std.specs.Prelude.{ℕ, ◌+◌, ◌*◌, ◌≤◌, length, All}
 use Rattle.ls_lowered.specs.declared.fault.LowerFault.{LowerFault}
 use Rattle.ls_lowered.specs.declared.fault.LowerFault.TheVariants.{Memory, TooManyLocals, TooManyCopies}
 use Rattle.ls_lowered.specs.LoweredTree.{Statement, Block, If, While, Try, Guarded, Leavable, Statements, Done, Then, Method, File}
-use Rattle.ls_finally.specs.Exits.{exits, count}
+use Rattle.ls_finally_exits.specs.Exits.{exits, count}
 use Rattle.ls_finally.specs.Flat.{tries, flat}
 
 -- The copies in a statement, whose tries' locals begin at k. Inner statements are lowered first. For `try b finally f`

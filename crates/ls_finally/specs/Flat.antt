@@ -1,7 +1,7 @@
 -- The tree without `try`. Inner statements are lowered first.
 use Rattle.std.specs.Prelude.{ℕ, ◌+◌, ◌*◌, map}
 use Rattle.ls_lowered.specs.LoweredTree.{Statement, Block, SetLocal, SetField, SetItem, Evaluate, If, While, Return, Try, Guarded, Throw, Leavable, Leave, Statements, Done, Then, Method, File}
-use Rattle.ls_finally.specs.Exits.{finally_of}
+use Rattle.ls_finally_exits.specs.Exits.{finally_of}
 
 -- the try statements
 abbrev mutual

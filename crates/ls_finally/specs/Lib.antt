@@ -1,4 +1,3 @@
-pub mod Exits
 pub mod Flat
 pub mod Agreement
 pub mod Placed

@@ -4,15 +4,15 @@ ghost use Rattle.std.specs.Prelude.{◌≡◌, ℕ, ◌+◌, ◌*◌, ◌≤◌,
 ghost use Rattle.std.specs.Option.{SomeIff};
 ghost use Rattle.ls_lowered.specs.LoweredTree.{Try, Leavable};
 ghost use Rattle.ls_lowered.specs.Plain.{plain_statement, statements_of};
-ghost use Rattle.ls_finally.specs.Exits.{exits, finally_of};
+ghost use Rattle.ls_finally_exits.specs.Exits.{exits, finally_of};
 ghost use Rattle.ls_finally.specs.Flat.{tries, all_tries, flat, all_flat};
 ghost use Rattle.ls_finally.specs.Counts.{copies, all_copies};
 ghost use Rattle.ls_finally.specs.Code.{Fits};
 
-use crate::exits::collect_exits;
-use crate::replace::by_copies;
 use ls_finally_copies::copy::{block_of, copy_expression, copy_statement, leavable_of};
 use ls_finally_copies::together::{in_box, put};
+use ls_finally_exits::exits::collect_exits;
+use ls_finally_exits::replace::by_copies;
 use ls_lowered::fault::LowerFault;
 use ls_lowered::together::also;
 use ls_lowered::tree::Statement;
@@ -156,7 +156,7 @@ impl Lowering {
 
     #[cycle(flatten)]
     #[inline(never)]
-    #[tactic(auto, using(crate::proofs::Flattening::too_many_more, crate::proofs::Counted::counted))]
+    #[tactic(auto, using(crate::proofs::Flattening::too_many_more, ls_finally_exits::proofs::Counted::counted))]
     fn flat_leavable(
         &mut self,
         alloc: Global,

@@ -3,8 +3,6 @@
 
 pub mod cases;
 mod counts;
-mod exits;
 pub mod files;
 mod flatten;
 pub mod laws;
-mod replace;

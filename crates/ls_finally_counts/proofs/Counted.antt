@@ -1,7 +1,7 @@
 -- What is counted of a statement is what it comes to without `try`.
 use Rattle.std.proofs.Common.{◌≡◌, ℕ, zero, suc, ◌+◌, ◌*◌, Bool, true, false, cond, List, [], ◌∷◌, ◌++◌, length, Option, Some, None, refl, ap, sym, ◌∙◌, arith, length-append, is_some}
 use Rattle.ls_lowered.specs.LoweredTree.{Statement, Block, SetLocal, SetField, SetItem, Evaluate, If, While, Return, Try, Guarded, Throw, Leavable, Leave, Statements, Done, Then}
-use Rattle.ls_finally.specs.Exits.{outward, count, leave_exit, exits, all_exits}
+use Rattle.ls_finally_exits.specs.Exits.{outward, count, leave_exit, exits, all_exits}
 use Rattle.ls_finally.specs.Flat.{tries, flat, all_flat}
 use Rattle.ls_finally.specs.Counts.{copies, all_copies}
 use Rattle.ls_emit_laws.specs.Statements.{statement_size, statements_size, exits_size}

@@ -1,7 +1,7 @@
 -- No tree that is made has a `try`.
 use Rattle.std.proofs.Common.{ℕ, ◌+◌, ◌*◌, suc, List, [], ◌∷◌, length, Option, Some, None}
 use Rattle.ls_lowered.specs.LoweredTree.{Statement, Block, SetLocal, SetField, SetItem, Evaluate, If, While, Return, Try, Guarded, Throw, Leavable, Leave, Statements, Done, Then}
-use Rattle.ls_finally.specs.Exits.{outward, count, Exit, LeaveOut, ReturnOut, exits, or_leave, replaced, all_replaced, exit_of, ways, finally_of}
+use Rattle.ls_finally_exits.specs.Exits.{outward, count, Exit, LeaveOut, ReturnOut, exits, or_leave, replaced, all_replaced, exit_of, ways, finally_of}
 use Rattle.ls_finally.specs.Flat.{tries, flat, all_flat}
 
 abbrev mutual

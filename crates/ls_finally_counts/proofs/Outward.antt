@@ -1,6 +1,6 @@
 -- Numbers inside of a statement and beyond it.
 use Rattle.std.proofs.Common.{◌≡◌, ℕ, zero, suc, ◌+◌, ◌<◌, List, [], ◌∷◌, length, Some, None, ap, ◌∙◌, arith}
-use Rattle.ls_finally.specs.Exits.{outward, Exit, LeaveOut, ReturnOut, leave_exit}
+use Rattle.ls_finally_exits.specs.Exits.{outward, Exit, LeaveOut, ReturnOut, leave_exit}
 
 -- a number that isn't beyond so many is below them
 pub inward : (l n : ℕ) → outward l n ≡ None → n < l

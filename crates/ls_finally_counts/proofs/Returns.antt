@@ -1,7 +1,7 @@
 -- How many returns a statement has, and its exits.
 use Rattle.std.proofs.Common.{◌≡◌, ℕ, suc, ◌+◌, ◌*◌, List, [], ◌∷◌, ◌++◌, length, Option, Some, None, refl, arith}
 use Rattle.ls_lowered.specs.LoweredTree.{Statement, Block, SetLocal, SetField, SetItem, Evaluate, If, While, Return, Try, Guarded, Throw, Leavable, Leave, Statements, Done, Then}
-use Rattle.ls_finally.specs.Exits.{outward, count, Exit, LeaveOut, ReturnOut, leave_exit, exits, all_exits, or_leave, replaced, all_replaced, exit_of, ways, finally_of}
+use Rattle.ls_finally_exits.specs.Exits.{outward, count, Exit, LeaveOut, ReturnOut, leave_exit, exits, all_exits, or_leave, replaced, all_replaced, exit_of, ways, finally_of}
 use Rattle.ls_finally.specs.Flat.{tries, flat, all_flat}
 use Rattle.ls_finally_counts.specs.declared.ways.Way.{Way}
 use Rattle.ls_finally_counts.specs.Counts.{total, scaled, at_number, numbered_beyond, one_beyond, beyond, ways_of, all_ways, returned_one, returned}

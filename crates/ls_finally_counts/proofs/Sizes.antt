@@ -1,7 +1,7 @@
 -- How long the code of `try b finally f` by copies of f is.
 use Rattle.std.proofs.Common.{◌≡◌, ℕ, suc, ◌+◌, ◌*◌, List, [], ◌∷◌, length, Option, Some, None, refl, arith}
 use Rattle.ls_lowered.specs.LoweredTree.{Statement, Block, SetLocal, SetField, SetItem, Evaluate, If, While, Return, Try, Guarded, Throw, Leavable, Leave, Statements, Done, Then}
-use Rattle.ls_finally.specs.Exits.{outward, count, Exit, LeaveOut, ReturnOut, exits, or_leave, replaced, all_replaced, exit_of, ways, finally_of}
+use Rattle.ls_finally_exits.specs.Exits.{outward, count, Exit, LeaveOut, ReturnOut, exits, or_leave, replaced, all_replaced, exit_of, ways, finally_of}
 use Rattle.ls_emit_laws.specs.Statements.{statement_size, statements_size, exits_size}
 use Rattle.ls_finally_counts.proofs.Flats.{HasNoTry, HaveNoTry}
 use Rattle.ls_finally_counts.proofs.Returns.{returns, all_returns, is_return, return_exits, exits_return}

@@ -1,7 +1,7 @@
 -- What a statement comes to without `try`, by the statement with it.
 use Rattle.std.specs.Prelude.{ℕ, suc, ◌+◌, ◌*◌, List, [], ◌∷◌, ◌++◌, Option, Some, None, min}
 use Rattle.ls_lowered.specs.LoweredTree.{Statement, Block, SetLocal, SetField, SetItem, Evaluate, If, While, Return, Try, Guarded, Throw, Leavable, Leave, Statements, Done, Then}
-use Rattle.ls_finally.specs.Exits.{outward, count}
+use Rattle.ls_finally_exits.specs.Exits.{outward, count}
 use Rattle.ls_emit_laws.specs.Expressions.{size}
 use Rattle.ls_finally_counts.specs.declared.ways.Way.{Way}
 

@@ -221,7 +221,7 @@ impl Counting {
     // A leavable statement, beyond whose numbers its body leads.
     #[cycle(count)]
     #[inline(never)]
-    #[tactic(auto, using(crate::proofs::More::too_many_more, ls_finally::proofs::Counted::counted))]
+    #[tactic(auto, using(crate::proofs::More::too_many_more, ls_finally_exits::proofs::Counted::counted))]
     fn count_leavable(
         &mut self,
         alloc: Global,

@@ -1,7 +1,7 @@
 // The exits that a statement has without `try`, each with how often it is there.
 
 ghost use Rattle.std.specs.Prelude.{◌≡◌, ℕ, ◌+◌, ◌*◌, ◌++◌, ◌∷◌, [], Some, None, IfOk, OnOk};
-ghost use Rattle.ls_finally.specs.Exits.{outward};
+ghost use Rattle.ls_finally_exits.specs.Exits.{outward};
 ghost use Rattle.ls_finally_counts.specs.Counts.{total, returned, once, scaled, beyond, one_beyond};
 
 use std::alloc::AllocError;
@@ -94,7 +94,7 @@ pub fn put_scaled(out: &mut Vec<Way>, times: usize, ways: &[Way]) -> Result<(), 
 }
 
 // How far a leave goes beyond so many numbers; none where its target is one of them.
-#[tactic(auto, using(ls_finally::proofs::Numbers::is_inside, ls_finally::proofs::Numbers::is_beyond))]
+#[tactic(auto, using(ls_finally_exits::proofs::Numbers::is_inside, ls_finally_exits::proofs::Numbers::is_beyond))]
 fn outward_of(inside: usize, number: usize) -> Option<usize>
     ensures { result ≡ outward inside number }
 {

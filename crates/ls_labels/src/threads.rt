@@ -3,7 +3,7 @@
 ghost use Rattle.std.specs.Prelude.{◌≡◌, ◌++◌, OnOk, option_map, string_bytes};
 ghost use Rattle.std.specs.Option.{option_copied};
 ghost use Rattle.ls_checked.specs.PlainProgram.{plain_program};
-ghost use Rattle.ls_source.specs.SeenThing.{thing_of};
+ghost use Rattle.ls_source_store.specs.SeenThing.{thing_of};
 ghost use Rattle.ls_source.specs.Shown.{progress_of};
 ghost use Rattle.ls_labels.specs.Names.{names_of};
 ghost use Rattle.ls_labels.specs.Threads.{awaited_text, end_text, owner_of, start_text, thread_name, wait_text};
@@ -14,8 +14,8 @@ use crate::objects::push_object;
 use ls_checked::program::Program;
 use ls_events::action::Action;
 use ls_events::value::Value;
-use ls_source::Thing;
 use ls_source::run::SourceRun;
+use ls_source_store::thing::Thing;
 use std::alloc::AllocError;
 use std::fmt::Write;
 

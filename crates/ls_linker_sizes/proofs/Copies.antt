@@ -2,10 +2,10 @@
 use Rattle.std.proofs.Common.{◌≡◌, ℕ, zero, suc, ◌+◌, ◌*◌, ◌≤◌, List, [], ◌∷◌, length, Option, Some, None, arith, length-append}
 use Rattle.ls_checked.specs.CheckedTree as checked
 use Rattle.ls_lowered.specs.LoweredTree.{Statement, Block, SetLocal, SetField, SetItem, Evaluate, If, While, Return, Try, Guarded, Throw, Leavable, Leave, Statements, Done, Then}
-use Rattle.ls_finally.specs.Exits.{Exit, LeaveOut, ReturnOut, outward, count, exits, all_exits, or_leave, replaced, all_replaced, exit_of, ways, finally_of}
+use Rattle.ls_finally_exits.specs.Exits.{Exit, LeaveOut, ReturnOut, outward, count, exits, all_exits, or_leave, replaced, all_replaced, exit_of, ways, finally_of}
 use Rattle.ls_finally.specs.Flat.{tries, flat, all_flat}
 use Rattle.ls_finally.specs.Counts.{copies, all_copies}
-use Rattle.ls_refs.specs.Lowered.{lowered_method}
+use Rattle.ls_refs_expressions.specs.Lowered.{lowered_method}
 use Rattle.ls_linker_laws.specs.Counts.{statement_nodes, statements_nodes, written_nodes}
 use Rattle.std.specs.Prelude.{map, All}
 use Rattle.ls_finally.specs.Flat.{flat_method}

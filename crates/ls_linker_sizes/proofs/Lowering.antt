@@ -5,8 +5,8 @@ use Rattle.ls_checked.specs.declared.tree.Called.TheVariants.{Method as OfMethod
 use Rattle.ls_checked.specs.CheckedTree as checked
 use Rattle.ls_lowered.specs.LoweredTree.{Expression, Expressions, End, More, Statement, Statements, Done, Then}
 use Rattle.ls_refs_calls.specs.Calls.{own_temporaries, first_of, rest_of, lowered_call}
-use Rattle.ls_refs.specs.Temporaries.{temporaries, statement_temporaries}
-use Rattle.ls_refs.specs.Lowered.{lowered, all_lowered, lowered_statement, lowered_block, joined, ahead}
+use Rattle.ls_refs_expressions.specs.Temporaries.{temporaries, statement_temporaries}
+use Rattle.ls_refs_expressions.specs.Lowered.{lowered, all_lowered, lowered_statement, lowered_block, joined, ahead}
 use Rattle.ls_refs.proofs.Ahead.{by_inner}
 use Rattle.ls_linker_laws.specs.Counts.{nodes, all_nodes, statement_nodes, statements_nodes, checked_nodes, all_checked_nodes, written_nodes, block_nodes}
 

@@ -12,10 +12,10 @@ use Rattle.ls_code.specs.Steps.{performed, thread_move}
 use Rattle.ls_code.specs.Machine.{Machine, started, is_due, step_of, open_step, due_step, machine_step, machine_run}
 use Rattle.ls_code.specs.declared.code.CallResult.{CallResult}
 use Rattle.ls_code.specs.declared.step.Did.{Did}
-use Rattle.ls_machine.specs.Memory.{KeptThread, MethodsFit, no_thread, events_left, started_kept}
+use Rattle.ls_machine_threads.specs.Memory.{KeptThread, MethodsFit, no_thread, events_left, started_kept, back_at}
 use Rattle.ls_machine.specs.Outcomes.{Came}
 use Rattle.ls_machine.specs.Room.{HasMemory}
-use Rattle.ls_machine.specs.Back.{IsOf, all_back, back_at}
+use Rattle.ls_machine.specs.Back.{IsOf, all_back}
 use Rattle.ls_machine.proofs.Keeping.{step_keeps}
 
 abbrev pub calls_of : KeptThread → List CallResult

@@ -5,7 +5,7 @@ use Rattle.std.proofs.lemmas.List.{length-map}
 use Rattle.std.specs.List.{All, sum_by}
 use Rattle.ls_code.specs.Code.{Code, Start}
 use Rattle.ls_code.specs.Machine.{started}
-use Rattle.ls_machine.specs.Memory.{KeptThread, MethodsFit, events_left, started_kept}
+use Rattle.ls_machine_threads.specs.Memory.{KeptThread, MethodsFit, events_left, started_kept}
 use Rattle.ls_machine.specs.Room.{HasMemory}
 
 module _ (locals operands : ℕ) where

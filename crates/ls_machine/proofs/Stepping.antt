@@ -10,10 +10,10 @@ use Rattle.ls_code.specs.declared.step.Did.TheVariants as did
 use Rattle.ls_events.specs.declared.kind.Kind.{Kind}
 use Rattle.ls_events.specs.declared.action.Action.TheVariants as act
 use Rattle.ls_events.specs.declared.action.Answer.TheVariants.{Done}
-use Rattle.ls_machine.specs.Memory.{KeptThread, keeping_thread}
+use Rattle.ls_machine_threads.specs.Memory.{KeptThread, keeping_thread}
 use Rattle.ls_machine.specs.Outcomes.{Came}
-use Rattle.ls_machine.specs.Threads.{thread_after, call_flow}
-use Rattle.ls_machine.specs.declared.flow.Entered.TheVariants as came
+use Rattle.ls_machine_threads.specs.Threads.{thread_after, call_flow}
+use Rattle.ls_machine_threads.specs.declared.flow.Entered.TheVariants as came
 
 -- k is the thread at the start, k' after it has tried to enter
 module _ (p : Code) (c : Cells) (n : ℕ) (k : KeptThread) where

@@ -6,7 +6,7 @@ use Rattle.std.proofs.lemmas.List.Elements.{All-set}
 use Rattle.std.proofs.lemmas.Option.{slice_get-map, slice_get-get_or, slice_get_past}
 use Rattle.ls_code.specs.Code.{Code}
 use Rattle.ls_code.specs.Thread.{Thread}
-use Rattle.ls_machine.specs.Memory.{KeptThread, MethodsFit, no_thread, events_left}
+use Rattle.ls_machine_threads.specs.Memory.{KeptThread, MethodsFit, no_thread, events_left}
 use Rattle.ls_machine.specs.Outcomes.{Came}
 use Rattle.ls_machine.specs.Room.{HasMemory}
 use Rattle.ls_machine.specs.Takes.{IsUnseen, TakesEvents}

@@ -3,12 +3,8 @@ use Rattle.std.specs.Prelude.{◌≡◌, ℕ, ◌*◌, ◌≤◌, List, [], ◌�
 use Rattle.std.specs.List.{All, sum_by}
 use Rattle.ls_code.specs.Code.{Code, Start}
 use Rattle.ls_code.specs.Cells.{Cells}
-use Rattle.ls_code.specs.Machine.{Machine, machine_run, started}
-use Rattle.ls_machine.specs.Memory.{KeptThread, keeping_thread}
-
--- a thread at a start, with its own calls and memory
-abbrev pub back_at : Start → KeptThread → KeptThread
-back_at s t = keeping_thread t (record (started s) { calls = t.thread.calls })
+use Rattle.ls_code.specs.Machine.{Machine, machine_run}
+use Rattle.ls_machine_threads.specs.Memory.{KeptThread, back_at}
 
 -- each thread at its start
 abbrev pub all_back : List Start → List KeptThread → List KeptThread

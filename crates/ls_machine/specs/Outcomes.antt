@@ -5,7 +5,7 @@ use Rattle.ls_code.specs.Code.{Code}
 use Rattle.ls_code.specs.Steps.{Outcome, performed, thread_move}
 use Rattle.ls_code.specs.declared.step.Did.TheVariants as did
 use Rattle.ls_code.specs.declared.step.Did.{Did}
-use Rattle.ls_machine.specs.Memory.{KeptThread, keeping_thread}
+use Rattle.ls_machine_threads.specs.Memory.{KeptThread, keeping_thread}
 
 -- it is this outcome
 abbrev pub Came : Outcome → KeptThread → KeptThread → Cells → Did → Type 0

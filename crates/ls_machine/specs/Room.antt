@@ -2,7 +2,7 @@
 use Rattle.std.specs.Prelude.{◌≡◌, ℕ, ◌+◌, ◌<◌, ◌≤◌, ◌^◌, ◌⊎◌, List, length}
 use Rattle.std.specs.List.{All, sum_by}
 use Rattle.ls_code.specs.Code.{Code}
-use Rattle.ls_machine.specs.Memory.{KeptThread, MethodsFit, events_left}
+use Rattle.ls_machine_threads.specs.Memory.{KeptThread, MethodsFit, events_left}
 
 -- all memory is there: for each frame of each method, and for each event that can still come
 pub record HasMemory (p : Code) (threads : List KeptThread) (events limit : ℕ) : Type 0 where

@@ -5,7 +5,7 @@ use Rattle.ls_code.specs.Thread.{Thread}
 use Rattle.ls_code.specs.Events.{events_of}
 use Rattle.ls_code.specs.Machine.{stops}
 use Rattle.ls_code.specs.declared.step.Did.{Did}
-use Rattle.ls_machine.specs.Memory.{events_left}
+use Rattle.ls_machine_threads.specs.Memory.{events_left}
 
 abbrev pub TakesEvents : Code → ℕ → Did → Thread → Thread → Type 0
 TakesEvents p number d old new = length (events_of p number d) + events_left new ≤ events_left old

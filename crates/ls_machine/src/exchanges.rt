@@ -9,7 +9,6 @@ ghost use Rattle.ls_machine.specs.Outcomes.{Came};
 ghost use Rattle.ls_machine_moves.specs.Flows.{IsQuiet};
 ghost use Rattle.ls_machine.specs.Takes.{IsUnseen, TakesEvents};
 
-use crate::thread::Thread;
 use ls_code::code::Code;
 use ls_code::instruction::Resume;
 use ls_code::lock_word::{Left, Taken, is_own_word, lock_word, unlock_word};
@@ -18,6 +17,7 @@ use ls_events::action::{Action, Answer};
 use ls_events::kind::Kind;
 use ls_machine_moves::cells::Cells;
 use ls_machine_moves::flow::Reply;
+use ls_machine_threads::thread::Thread;
 use std::alloc::AllocError;
 
 /// What a thread sees of a lock: the operation that it is at and the number by which an instruction names that, the lock, and its word.

@@ -4,11 +4,9 @@
 
 mod exchanges;
 mod fault;
-mod flow;
 pub mod laws;
 mod machine;
 mod steps;
-mod thread;
 
 pub use fault::LoadFault;
 pub use ls_code::lock_word::{lock_word, unlock_word};

@@ -5,12 +5,11 @@ ghost use Rattle.std.specs.List.{All, sum_by};
 ghost use Rattle.ls_code.specs.Events.{events_of, result_of, result_value};
 ghost use Rattle.ls_code.specs.Machine.{loaded, machine_step, machine_run, machine_state, setup_ended, is_due as due};
 ghost use Rattle.ls_machine.specs.Back.{all_back};
-ghost use Rattle.ls_machine.specs.Memory.{no_thread, started_kept};
+ghost use Rattle.ls_machine_threads.specs.Memory.{no_thread, started_kept};
 ghost use Rattle.ls_machine.specs.Room.{AreBadCells};
 
 use crate::fault::LoadFault;
 use crate::steps;
-use crate::thread::Thread;
 use ls_code::code::{CallResult, Code, Method, Start};
 use ls_code::step::{Did, Mode, ThreadState, is_stop};
 use ls_events::action::Action;
@@ -19,6 +18,7 @@ use ls_events::schedule::Schedule;
 use ls_events::value::Value;
 use ls_machine_moves::cells::Cells;
 use ls_machine_moves::words;
+use ls_machine_threads::thread::Thread;
 use std::alloc::{AllocError, Global};
 use std::marker::Model;
 

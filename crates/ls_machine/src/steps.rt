@@ -5,14 +5,12 @@ ghost use Rattle.ls_code.specs.Cells.{effect};
 ghost use Rattle.ls_code.specs.Moves.{frame_move};
 ghost use Rattle.ls_code.specs.Steps.{answered, settled, performed, thread_move, wide_move, enters_move, throw_move, leaves_with_move, throws_move, begin_move, gives_move, result_move, trap_move, of_frame};
 ghost use Rattle.ls_machine_moves.specs.Flows.{CanResume, IsQuiet, is_silent};
-ghost use Rattle.ls_machine.specs.Memory.{MethodsFit, events_left};
+ghost use Rattle.ls_machine_threads.specs.Memory.{MethodsFit, events_left};
 ghost use Rattle.ls_machine.specs.Outcomes.{Came, IsSilentMove};
 ghost use Rattle.ls_machine.specs.Takes.{IsUnseen, TakesEvents};
-ghost use Rattle.ls_machine.specs.Threads.{instruction_of};
+ghost use Rattle.ls_machine_threads.specs.Threads.{instruction_of};
 
 use crate::exchanges::{drop_lock, see, take};
-use crate::flow::{Acting, Entered};
-use crate::thread::Thread;
 use ls_code::code::{CallResult, Code, Method};
 use ls_code::instruction::{Instruction, Resume, ThreadInstruction};
 use ls_code::step::Did;
@@ -21,6 +19,8 @@ use ls_events::kind::Kind;
 use ls_machine_moves::cells::Cells;
 use ls_machine_moves::flow::{Flow, Quick, Reply};
 use ls_machine_moves::words;
+use ls_machine_threads::flow::{Acting, Entered};
+use ls_machine_threads::thread::Thread;
 
 /// The innermost frame asks the cells, and goes on with their answer.
 #[inline]

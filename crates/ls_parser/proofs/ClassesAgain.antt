@@ -8,9 +8,10 @@ use Rattle.ls_tree.specs.WellFormed.{most_nodes, WellFormedMember, WellFormedFil
 use Rattle.ls_parser_tokens.specs.Reading.{after_sign, after_word, starts, not_yet, many_from, many_at, behind_comma, group_at}
 use Rattle.ls_parser.specs.ReadingClasses.{parameter_at, parameters_at, starts_call, method_at, typed_at, unmodified_at, member_at, class_at, part_at, dotted_at, more_path, import_at, header_at, starts_import, is_left, file_at}
 use Rattle.ls_parser_expressions.proofs.Lists.{onto_all, many_from_complete}
-use Rattle.ls_parser_statements.proofs.OntoStatements.{onto_modifier, onto_type, onto_initial, onto_declarator, onto_next_declarator, onto_block}
+use Rattle.ls_parser_declarations.proofs.OntoDeclarations.{onto_modifier, onto_type, onto_initial, onto_declarator, onto_next_declarator}
+use Rattle.ls_parser_statements.proofs.OntoStatements.{onto_block}
 use Rattle.ls_parser.proofs.OntoClasses.{onto_parameter, next_parameter_longer, onto_next_parameter, onto_group, onto_parameters, onto_member, member_longer, onto_class_tree, class_longer, onto_part, part_longer, onto_dotted, onto_import, import_longer, onto_header, onto_file}
-use Rattle.ls_parser_statements.proofs.StatementsRead.{Anything}
+use Rattle.ls_parser_declarations.proofs.DeclarationsRead.{Anything}
 use Rattle.ls_parser_statements.proofs.StatementsAgain.{anything, modifiers_complete, type_complete, type_no_modifier, declarators_complete, block_complete, modifiers_brace}
 use Rattle.ls_parser.proofs.ClassesRead.{FormedClass}
 

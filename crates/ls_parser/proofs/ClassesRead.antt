@@ -8,15 +8,17 @@ use Rattle.ls_tree.specs.Trees.{Modifier, TypeName, Parameter, Member, Fields, M
 use Rattle.ls_tree.specs.WellFormed.{most_nodes, WellFormedMember, WellFormedFile}
 use Rattle.ls_parser_tokens.specs.Reading.{◌>>=◌, given, after_sign, after_word, name_at, not_yet, one_more, many_from, many_at, behind_comma, others_at, group_at}
 use Rattle.ls_parser_expressions.specs.ReadingExpressions.{expression_at}
-use Rattle.ls_parser_statements.specs.ReadingStatements.{modifiers_at, type_at, declarators_at, block_at}
+use Rattle.ls_parser_declarations.specs.ReadingDeclarations.{modifiers_at, type_at, declarators_at}
+use Rattle.ls_parser_statements.specs.ReadingStatements.{block_at}
 use Rattle.ls_parser.specs.ReadingClasses.{parameter_of, parameter_at, parameters_at, starts_call, constructor_at, method_at, typed_at, unmodified_at, member_at, class_of, class_at, part_at, dotted_of, dotted_at, after_star, more_path, import_of, import_at, package_at, header_at, starts_import, is_left, file_from, file_at}
 use Rattle.ls_parser_expressions.proofs.Repeats.{bind_some, some_is, repeat_sound}
 use Rattle.ls_parser_expressions.proofs.Signs.{either, given_cases, sign_reads, word_reads, name_reads}
 use Rattle.ls_parser_expressions.proofs.Shrinks.{Shrinks}
 use Rattle.ls_parser_expressions.proofs.Lists.{onto_all, onto_all_push, SoundItem, many_sound}
-use Rattle.ls_parser_statements.proofs.OntoStatements.{onto_modifier, onto_type}
+use Rattle.ls_parser_declarations.proofs.OntoDeclarations.{onto_modifier, onto_type}
 use Rattle.ls_parser.proofs.OntoClasses.{onto_parameter, parameter_longer, onto_next_parameter, onto_group, onto_parameters, onto_result, onto_member, member_longer, onto_class_tree, class_longer, onto_part, part_longer, onto_dotted, onto_import, import_longer, onto_header, onto_file}
-use Rattle.ls_parser_statements.proofs.StatementsRead.{Anything, modifiers_sound, type_sound, declarators_sound, block_sound}
+use Rattle.ls_parser_declarations.proofs.DeclarationsRead.{Anything, modifiers_sound, type_sound, declarators_sound}
+use Rattle.ls_parser_statements.proofs.StatementsRead.{block_sound}
 
 abbrev cons : Lexeme → List Lexeme → List Lexeme
 cons k ks = k ∷ ks

@@ -19,7 +19,7 @@ use Rattle.ls_parser_placing.specs.Files.{IsFileOf}
 use Rattle.ls_parser_placing.proofs.Views.{is_file_of}
 use Rattle.ls_parser_tokens.specs.Reading.{many_at}
 use Rattle.ls_parser_expressions.proofs.Lists.{many_sound, onto_all_spells}
-use Rattle.ls_parser_statements.proofs.StatementsRead.{Anything}
+use Rattle.ls_parser_declarations.proofs.DeclarationsRead.{Anything}
 use Rattle.ls_parser.specs.ReadingClasses.{header_at, import_at, starts_import}
 use Rattle.ls_parser.specs.Leaves.{Leaves}
 use Rattle.ls_parser.proofs.OntoClasses.{onto_import}

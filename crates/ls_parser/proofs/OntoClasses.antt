@@ -6,7 +6,8 @@ use Rattle.ls_lexer.specs.declared.word.Word.TheVariants as words
 use Rattle.ls_tree.specs.Trees
 use Rattle.ls_tree.specs.Trees.{Text, Modifier, TypeName, Parameter, Member, Fields, Method, Constructor, ClassTree, Dotted, Import, File}
 use Rattle.ls_parser_expressions.proofs.Lists.{onto_all, onto_all_longer}
-use Rattle.ls_parser_statements.proofs.OntoStatements.{onto_modifier, modifier_longer, onto_type, onto_declaration, declaration_longer, onto_block, items_longer}
+use Rattle.ls_parser_declarations.proofs.OntoDeclarations.{onto_modifier, modifier_longer, onto_type, onto_declaration, declaration_longer}
+use Rattle.ls_parser_statements.proofs.OntoStatements.{onto_block, items_longer}
 
 abbrev pub onto_parameter : Parameter → List Lexeme → List Lexeme
 onto_parameter p rest = onto_all onto_modifier p.modifiers (onto_type p.type_name (Named p.name ∷ rest))

@@ -17,7 +17,7 @@ use Rattle.ls_parser_spelling.specs.Places.{Spot, spots, sign, named}
 use Rattle.ls_parser_spelling.specs.StatementPlaces.{word, ManyAt, none_left, BehindComma, behind_comma_at, ModifierAt, TypeAt, DeclarationAt, BlockAt}
 use Rattle.ls_parser_spelling.specs.FilePlaces.{ParameterAt, parameter_at, SomeParametersAt, some_parameters_at, ParametersAt, no_parameter_at, parameters_at, CallableAt, callable_at, ResultAt, void_at, result_at, MemberAt, fields_at, method_at, constructor_at, BodyAt, body_at, ClassAt, class_at}
 use Rattle.ls_parser_expressions.proofs.Rows.{map_push}
-use Rattle.ls_parser_statements.proofs.Places.{many_push, many_pushed, many_none}
+use Rattle.ls_parser_declarations.proofs.Places.{many_push, many_pushed, many_none}
 use Rattle.ls_parser.specs.ReadingClasses.{is_left}
 
 -- ---- parameters

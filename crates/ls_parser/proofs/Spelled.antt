@@ -9,7 +9,8 @@ use Rattle.ls_tree.specs.Trees.{Text, Expression, Modifier, Public, Protected, P
 use Rattle.ls_parser_spelling.specs.Spelling.{spell_expression, spell_modifier, spell_type, spell_initial, spell_declarator, spell_declaration, spell_label, spell_label_before, spell_value, spell_statement, spell_items, in_parens, in_braces, spell_parameter, spell_parameters, spell_result, spell_member, spell_class, spell_dotted, spell_all, spell_import, spell_package, spell}
 use Rattle.ls_parser_expressions.proofs.Onto.{onto, onto_spells}
 use Rattle.ls_parser_expressions.proofs.Lists.{onto_all, onto_all_spells}
-use Rattle.ls_parser_statements.proofs.OntoStatements.{onto_modifier, onto_type, onto_initial, onto_declarator, onto_next_declarator, onto_declaration, onto_label, onto_label_before, onto_value, onto_condition, onto_statement, onto_items, onto_block}
+use Rattle.ls_parser_declarations.proofs.OntoDeclarations.{onto_modifier, onto_type, onto_initial, onto_declarator, onto_next_declarator, onto_declaration}
+use Rattle.ls_parser_statements.proofs.OntoStatements.{onto_label, onto_label_before, onto_value, onto_condition, onto_statement, onto_items, onto_block}
 use Rattle.ls_parser.proofs.OntoClasses.{onto_parameter, onto_next_parameter, onto_group, onto_parameters, onto_result, onto_member, onto_class_tree, onto_part, onto_dotted, onto_star, onto_import, onto_header, onto_file}
 
 modifier_spells : (m : Modifier) (rest : List Lexeme) → onto_modifier m rest ≡ spell_modifier m ++ rest

@@ -9,7 +9,7 @@ use Rattle.ls_parser_tokens.specs.Reading.{◌>>=◌, Reader, name_at}
 use Rattle.ls_parser_statements.specs.ReadingStatements.{block_at}
 use Rattle.ls_parser.specs.ReadingClasses.{parameters_at, callable_at, constructor_at, method_at}
 use Rattle.ls_parser_expressions.proofs.Repeats.{fails_first}
-use Rattle.ls_parser_statements.proofs.Steps.{three_steps}
+use Rattle.ls_parser_declarations.proofs.Steps.{three_steps}
 
 -- ---- methods and constructors
 

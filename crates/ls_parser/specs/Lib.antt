@@ -8,4 +8,5 @@ pub use Rattle.ls_parser_spelling.specs.Kinds
 pub use Rattle.ls_parser_tokens.specs.Answers
 pub use Rattle.ls_parser_tokens.specs.Reading
 pub use Rattle.ls_parser_expressions.specs.ReadingExpressions
+pub use Rattle.ls_parser_declarations.specs.ReadingDeclarations
 pub use Rattle.ls_parser_statements.specs.ReadingStatements

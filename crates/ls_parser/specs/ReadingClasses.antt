@@ -7,7 +7,8 @@ use Rattle.ls_tree.specs.Trees.{Text, Modifier, TypeName, Items, Parameter, Memb
 use Rattle.ls_tree.specs.WellFormed.{most_nodes}
 use Rattle.ls_parser_tokens.specs.Reading.{◌>>=◌, Reader, given, after_sign, after_word, name_at, starts, many_at, not_yet, group_at}
 use Rattle.ls_parser_expressions.specs.ReadingExpressions.{expression_at}
-use Rattle.ls_parser_statements.specs.ReadingStatements.{modifiers_at, type_at, declarators_at, block_at}
+use Rattle.ls_parser_declarations.specs.ReadingDeclarations.{modifiers_at, type_at, declarators_at}
+use Rattle.ls_parser_statements.specs.ReadingStatements.{block_at}
 
 abbrev pub parameter_of : List Modifier → TypeName → Text → Parameter
 parameter_of modifiers type_name name = record { modifiers = modifiers; type_name = type_name; name = name }

@@ -18,7 +18,7 @@ use ls_lexer::fault::TextFault;
 use ls_lexer::sign::Sign;
 use ls_lexer::token::{Span, Token};
 use ls_lexer::word::Word;
-use ls_parser_statements::declarations::{declarators, modifiers, type_name};
+use ls_parser_declarations::declarations::{declarators, modifiers, type_name};
 use ls_parser_statements::statements::block;
 use ls_parser_tokens::tokens::{
     Context, Read, closed, expect, expect_word, name, name_part, push, sign_part, starts_with,

@@ -3,6 +3,5 @@ pub mod StatementRows
 pub mod StatementSteps
 pub mod StatementsRead
 pub mod StatementsAgain
-pub mod Steps
 pub mod PlacedRows
 pub mod Places

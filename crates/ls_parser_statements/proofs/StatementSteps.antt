@@ -3,7 +3,8 @@ use Rattle.std.proofs.Common.{◌≡◌, ℕ, zero, suc, ◌+◌, ◌-◌, ◌<�
 use Rattle.ls_lexer.specs.declared.token.Token.{Token}
 use Rattle.ls_lexer.specs.Lexemes.{Lexeme, lexemes}
 use Rattle.ls_parser_expressions.specs.ReadingExpressions.{expression_at}
-use Rattle.ls_parser_statements.specs.ReadingStatements.{statement_at, block_at, nested_at, begun_at, first_of, braces_at, piece_at, local_at, declaration_at}
+use Rattle.ls_parser_declarations.specs.ReadingDeclarations.{declaration_at}
+use Rattle.ls_parser_statements.specs.ReadingStatements.{statement_at, block_at, nested_at, begun_at, first_of, braces_at, piece_at, local_at}
 
 pub statement_step : (limit : ℕ) (k : Lexeme) (ks : List Lexeme) → 0 < limit → statement_at limit (k ∷ ks) ≡ begun_at (limit - 1) (first_of k) (k ∷ ks) ks
 unfolding nested_at

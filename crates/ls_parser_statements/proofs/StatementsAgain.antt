@@ -9,11 +9,14 @@ use Rattle.ls_tree.specs.Trees.{Text, Expression, Number, True, False, Null, Thi
 use Rattle.ls_tree.specs.WellFormed.{WellFormed, is_post, is_call, expression_height, value_height, declarators_height, declaration_height, statement_height, items_height, ends_open, WellFormedValue, WellFormedDeclaration, WellFormedStatement, WellFormedItems}
 use Rattle.ls_parser_tokens.specs.Reading.{Reader, after_sign, after_word, name_at, not_yet, many_at, behind_comma}
 use Rattle.ls_parser_expressions.specs.ReadingExpressions.{is_markable, expression_at, post_at}
-use Rattle.ls_parser_statements.specs.ReadingStatements.{starts_modifier, modifier_at, modifiers_at, type_at, declarator_at, declarators_at, declaration_at, starts_type, named_declaration, starts_declaration, piece_at, braces_at, condition_at, jump_at, value_at, label_at, other_at, FirstOther, first_of, local_at, statement_of, nested_at, statement_at, block_at}
+use Rattle.ls_parser_declarations.specs.ReadingDeclarations.{starts_modifier, modifier_at, modifiers_at, type_at, declarator_at, declarators_at, declaration_at, starts_type, named_declaration, starts_declaration}
+use Rattle.ls_parser_statements.specs.ReadingStatements.{piece_at, braces_at, condition_at, jump_at, value_at, label_at, other_at, FirstOther, first_of, local_at, statement_of, nested_at, statement_at, block_at}
 use Rattle.ls_parser_expressions.proofs.Onto.{onto, onto_expressions}
 use Rattle.ls_parser_expressions.proofs.Lists.{onto_all, many_from_complete}
-use Rattle.ls_parser_statements.proofs.OntoStatements.{onto_modifier, modifier_longer, onto_type, onto_initial, onto_declarator, onto_next_declarator, next_declarator_longer, onto_declaration, onto_label, onto_label_before, onto_value, onto_condition, onto_statement, onto_items, onto_block, onto_piece, onto_collected, piece_longer}
-use Rattle.ls_parser_statements.proofs.StatementsRead.{Anything, FormedDeclarator, FormedPiece}
+use Rattle.ls_parser_declarations.proofs.OntoDeclarations.{onto_modifier, modifier_longer, onto_type, onto_initial, onto_declarator, onto_next_declarator, next_declarator_longer, onto_declaration}
+use Rattle.ls_parser_statements.proofs.OntoStatements.{onto_label, onto_label_before, onto_value, onto_condition, onto_statement, onto_items, onto_block, onto_piece, onto_collected, piece_longer}
+use Rattle.ls_parser_declarations.proofs.DeclarationsRead.{Anything, FormedDeclarator}
+use Rattle.ls_parser_statements.proofs.StatementsRead.{FormedPiece}
 use Rattle.ls_parser_expressions.proofs.ExpressionsAgain.{Follow, follow_close, follow_comma, follow_semicolon, follow_assign, post_head, no_semicolon, expression_complete, post_complete}
 
 -- ---- modifiers and types

@@ -17,11 +17,11 @@ ghost use Rattle.ls_parser_tokens.specs.Answers.{Gives, Finds};
 ghost use Rattle.ls_parser_expressions.specs.ReadingExpressions.{expression_at};
 ghost use Rattle.ls_parser_statements.specs.ReadingStatements.{local_at, condition_at, jump_at, ended_at, label_at, used_at, declared_at, break_at, continue_at, return_at};
 
-use crate::declarations::declaration;
 use ls_lexer::fault::TextFault;
 use ls_lexer::sign::Sign;
 use ls_lexer::token::{Span, Token};
 use ls_lexer::word::Word;
+use ls_parser_declarations::declarations::declaration;
 use ls_parser_expressions::expressions::binary;
 use ls_parser_tokens::tokens::{
     Context, Enclosed, NamePart, Part, closed_part, expect, make_name, name_part, sign_part,

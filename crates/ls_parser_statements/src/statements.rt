@@ -17,7 +17,6 @@ ghost use Rattle.ls_parser_tokens.specs.Reading.{one_more, many_at, not_yet};
 ghost use Rattle.ls_parser_expressions.specs.ReadingExpressions.{expression_at, post_at};
 ghost use Rattle.ls_parser_statements.specs.ReadingStatements.{piece_at, local_at, if_at, while_at, try_at, other_at, first_of, begun_at, statement_at, block_at, block_in};
 
-use crate::declarations::starts_declaration;
 use crate::simple_statements::{
     block_tree, break_statement, condition, continue_statement, label_part, local,
     return_statement, try_tree, used,
@@ -26,6 +25,7 @@ use ls_lexer::fault::TextFault;
 use ls_lexer::sign::Sign;
 use ls_lexer::token::{Span, Token, TokenKind};
 use ls_lexer::word::Word;
+use ls_parser_declarations::declarations::starts_declaration;
 use ls_parser_expressions::expressions::post;
 use ls_parser_tokens::tokens::{
     Context, Part, boxed_part, closed_part, else_part, expect, expect_word, make_name, push,

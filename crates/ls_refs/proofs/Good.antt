@@ -16,8 +16,8 @@ use Rattle.ls_lowered.specs.Expressions.{find, find_all}
 use Rattle.ls_refs_calls.specs.ValueWords.{value_word}
 use Rattle.ls_types_judgement.specs.Sorts.{HasType, HasSort, HaveTypes}
 use Rattle.ls_types_judgement.specs.Typing.{answer_sort, parameters_of}
-use Rattle.ls_refs.specs.Temporaries.{temporaries, all_temporaries}
-use Rattle.ls_refs.specs.Lowered.{lowered, all_lowered}
+use Rattle.ls_refs_expressions.specs.Temporaries.{temporaries, all_temporaries}
+use Rattle.ls_refs_expressions.specs.Lowered.{lowered, all_lowered}
 use Rattle.ls_refs.proofs.Sim.{sim_eq, ends, Agrees, gets_agrees, then_agrees, Kept}
 
 -- the locals of the tree are the first of the words'

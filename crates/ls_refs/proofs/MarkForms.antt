@@ -20,8 +20,8 @@ use Rattle.ls_lowered.specs.Course as low
 use Rattle.ls_lowered.specs.Expressions.{find}
 use Rattle.ls_refs_calls.specs.ValueWords.{value_word}
 use Rattle.ls_types_judgement.specs.Sorts.{HasType, HasSort}
-use Rattle.ls_refs.specs.Temporaries.{temporaries}
-use Rattle.ls_refs.specs.Lowered.{lowered}
+use Rattle.ls_refs_expressions.specs.Temporaries.{temporaries}
+use Rattle.ls_refs_expressions.specs.Lowered.{lowered}
 use Rattle.ls_refs.proofs.Values.{reference_word, packed, half_word, odd_word, pair_has}
 use Rattle.ls_refs.proofs.Sim.{Agrees, gets_agrees, then_agrees, flat, ask_agrees, perform_agrees, null_agrees, null_and, moved, Kept, kept_trans, kept_less, kept_set}
 use Rattle.ls_refs.proofs.Good.{holds_kept, Good, one_argument}

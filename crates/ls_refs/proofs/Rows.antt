@@ -12,8 +12,8 @@ use Rattle.ls_checked.proofs.Rows.{row_is_list}
 use Rattle.ls_lowered.specs.declared.tree.Statement.{Statement as Tree}
 use Rattle.ls_lowered.specs.LoweredTree.{Statements, Block}
 use Rattle.ls_lowered.specs.Plain.{plain_statement, in_front}
-use Rattle.ls_refs.specs.Temporaries.{statement_temporaries, block_temporaries}
-use Rattle.ls_refs.specs.Lowered.{lowered_statement, lowered_block, ahead}
+use Rattle.ls_refs_expressions.specs.Temporaries.{statement_temporaries, block_temporaries}
+use Rattle.ls_refs_expressions.specs.Lowered.{lowered_statement, lowered_block, ahead}
 
 -- those of a block that is read
 pub block_read : (v : Vec Statement) → row_statements (hidden-the_row-Statement-0 v) ≡ statements_of v.items

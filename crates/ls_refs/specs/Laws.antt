@@ -16,7 +16,7 @@ use Rattle.ls_lowered.specs.Methods as courses
 use Rattle.ls_refs_calls.specs.ValueWords.{value_word, IsSmall}
 use Rattle.ls_types_judgement.specs.Sorts.{HasSort, HaveTypes}
 use Rattle.ls_types_judgement.specs.Typing.{parameters_of}
-use Rattle.ls_refs.specs.Lowered.{lowered_file}
+use Rattle.ls_refs_expressions.specs.Lowered.{lowered_file}
 
 -- an action and an answer in words; objects keep their names
 abbrev pub action_word : Action Value → Action ℕ

@@ -1,4 +1,2 @@
-pub mod Temporaries
-pub mod Lowered
 pub mod Refused
 pub mod Laws

@@ -1,9 +1,8 @@
-//! The first lowering: values become words, and loops become leavable statements. What a call becomes, whose target and
-//! arguments are lowered, stands in `ls_refs_calls`.
+//! The first lowering: loops become leavable statements, and methods and files trees over words. What an expression becomes stands in
+//! `ls_refs_expressions`.
 #![tactic(auto)]
 
 mod counts;
-mod expressions;
 pub mod laws;
 pub mod lower;
 mod statements;

@@ -3,8 +3,8 @@
 ghost use Rattle.std.specs.Prelude.{◌≡◌, ℕ, ◌<◌, ◌≤◌, ◌↔◌, length, map, All, IfOk, IfErr, OnOk, IsTrue};
 ghost use Rattle.ls_checked.specs.Plain.{plain_method as checked_method, plain_class, plain_file as checked_file};
 ghost use Rattle.ls_lowered.specs.Plain.{plain_method, plain_file};
-ghost use Rattle.ls_refs.specs.Temporaries.{locals_of};
-ghost use Rattle.ls_refs.specs.Lowered.{lowered_method, lowered_file};
+ghost use Rattle.ls_refs_expressions.specs.Temporaries.{locals_of};
+ghost use Rattle.ls_refs_expressions.specs.Lowered.{lowered_method, lowered_file};
 ghost use Rattle.ls_refs.specs.Refused.{AllFit, AllSlotted, Refused};
 
 use crate::counts::count_locals;

@@ -4,13 +4,13 @@ ghost use Rattle.std.specs.Prelude.{◌≡◌, ℕ, ◌+◌, ◌*◌, ◌≤◌,
 ghost use Rattle.ls_checked.specs.Plain.{plain as checked, plain_statement as checked_statement, statements_of as checked_statements, plain_class};
 ghost use Rattle.ls_lowered.specs.LoweredTree.{Block, While, Leave, Statements};
 ghost use Rattle.ls_lowered.specs.Plain.{plain, plain_statement, statements_of, in_front};
-ghost use Rattle.ls_refs.specs.Temporaries.{statement_temporaries, block_temporaries};
-ghost use Rattle.ls_refs.specs.Lowered.{leavable as ended_by_leave, lowered_statement, lowered_block, ahead};
+ghost use Rattle.ls_refs_expressions.specs.Temporaries.{statement_temporaries, block_temporaries};
+ghost use Rattle.ls_refs_expressions.specs.Lowered.{leavable as ended_by_leave, lowered_statement, lowered_block, ahead};
 
-use crate::expressions::{Placed, lower_expression};
 use ls_checked::tree::{Class, Statement};
 use ls_lowered::together::also;
 use ls_lowered::tree::{Expression as Value, Statement as Tree};
+use ls_refs_expressions::expressions::{Placed, lower_expression};
 use std::alloc::{AllocError, Global};
 
 #[tactic(auto, using(ls_lowered::proofs::Rows::block_made))]

@@ -19,7 +19,7 @@ use Rattle.ls_lowered.specs.Methods as courses
 use Rattle.ls_refs_calls.specs.ValueWords.{value_word, IsSmall}
 use Rattle.ls_types_judgement.specs.Sorts.{HasType, HasSort, HaveTypes}
 use Rattle.ls_types_judgement.specs.Typing.{answer_sort, parameters_of}
-use Rattle.ls_refs.specs.Lowered.{lowered_file}
+use Rattle.ls_refs_expressions.specs.Lowered.{lowered_file}
 use Rattle.ls_refs.specs.Laws.{answer_words, in_words}
 use Rattle.ls_headline.specs.Sorts.{Suited}
 use Rattle.ls_types_judgement.specs.Programs.{IsTypedMaking, IsTypedCalling}

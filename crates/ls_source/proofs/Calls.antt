@@ -19,7 +19,7 @@ use Rattle.ls_meaning.specs.Methods.{invoke, depth_limit}
 use Rattle.ls_meaning.specs.Threads.{Next, Goes, Ended, Trapped, result_of, named, one_call, all_calls}
 use Rattle.ls_source_pending.specs.Pending.{State, Control, Evaluates, Argues, Applies, Invokes, Opens, Executes, Runs, Loops, Gives, Ends, Asks, Enters, Turns, Frame}
 use Rattle.ls_source_pending.specs.Machine.{Rest, evaluated, at, meaning, is_left, done_now, rest_of}
-use Rattle.ls_source_pending.proofs.Fusion.{taken_keeps, IsAsking}
+use Rattle.ls_source_moves.proofs.Fusion.{taken_keeps, IsAsking}
 use Rattle.ls_source.specs.declared.thread.Phase.{Phase as Kept}
 use Rattle.ls_source.specs.declared.thread.Phase.TheVariants as phases
 use Rattle.ls_source.specs.Calls.{Bottom, OfMaking, OfCalling, Phase, Starts, Announces, Makes, Fetches, Works, Names, ReturnsWith, TrapsWith, IsTrapped, Thread, then_calls, naming, after_work, phase_meaning, thread_meaning, begun, begun_in, begun_with, worked, finished_phase, object_made, object_fetched, announced, answered_phase, asked_by, asked_at_start, asked_in}

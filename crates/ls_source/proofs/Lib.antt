@@ -1,4 +1,3 @@
-pub mod Stores
 pub mod Stages
 pub mod Starts
 pub mod Histories

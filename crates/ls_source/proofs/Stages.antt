@@ -12,9 +12,9 @@ use Rattle.ls_meaning.specs.Course.{Answers}
 use Rattle.ls_meaning.specs.Store.{Store}
 use Rattle.ls_meaning.specs.Effect.{Effect}
 use Rattle.ls_meaning.specs.Runs.{State, answers_of, performed}
-use Rattle.ls_source.specs.declared.thing.Effect.{Effect as Outcome}
-use Rattle.ls_source.specs.declared.thing.Effect.TheVariants.{Waits as HasToWait, Does as HasDone}
-use Rattle.ls_source.specs.SeenStore.{seen_effect}
+use Rattle.ls_source_store.specs.declared.thing.Effect.{Effect as Outcome}
+use Rattle.ls_source_store.specs.declared.thing.Effect.TheVariants.{Waits as HasToWait, Does as HasDone}
+use Rattle.ls_source_store.specs.SeenStore.{seen_effect}
 use Rattle.ls_source.specs.SeenRun.{lists_of}
 
 abbrev pub Kept : Type 0

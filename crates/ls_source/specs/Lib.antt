@@ -1,5 +1,3 @@
-pub mod SeenThing
-pub mod SeenStore
 pub mod Calls
 pub mod SeenThread
 pub mod Kept

@@ -11,9 +11,9 @@ use Rattle.ls_meaning.specs.declared.step.Did.TheVariants as did
 use Rattle.ls_meaning.specs.Course.{Answers}
 use Rattle.ls_meaning.specs.Runs.{State, event_of}
 use Rattle.ls_source.specs.declared.stage.Stage.{Stage}
-use Rattle.ls_source.specs.declared.thing.Effect.{Effect as Outcome}
-use Rattle.ls_source.specs.declared.thing.Effect.TheVariants.{Waits as HasToWait, Does as HasDone}
-use Rattle.ls_source.specs.SeenStore.{store_of}
+use Rattle.ls_source_store.specs.declared.thing.Effect.{Effect as Outcome}
+use Rattle.ls_source_store.specs.declared.thing.Effect.TheVariants.{Waits as HasToWait, Does as HasDone}
+use Rattle.ls_source_store.specs.SeenStore.{store_of}
 
 -- the answers of each thread
 abbrev pub lists_of : List (Vec (Answer Value) Global) → List Answers

@@ -4,8 +4,4 @@
 mod next;
 pub mod run;
 mod stage;
-mod store;
-mod thing;
 mod thread;
-
-pub use thing::{Thing, item_at};

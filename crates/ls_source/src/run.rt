@@ -11,7 +11,6 @@ ghost use Rattle.ls_source.specs.Kept.{IsKept};
 
 use crate::next::Next;
 use crate::stage::Stage;
-use crate::thing::{Effect, Thing};
 use crate::thread::Thread;
 use ls_checked::program::{Program, ThreadProgram};
 use ls_checked::tree::File;
@@ -21,6 +20,7 @@ use ls_events::value::Value;
 use ls_meaning::sort::Sort;
 use ls_meaning::step::{Asked, Did};
 use ls_source_pending::work::Control;
+use ls_source_store::thing::{Effect, Thing};
 use std::alloc::{AllocError, Global};
 
 /// A run of a program of a file: each thread with its pending work, up to its next question. The answers that it has had are
@@ -71,7 +71,7 @@ impl<'a> SourceRun<'a> {
     ghost use Rattle.ls_source_pending.specs.Seen.{control_of};
     ghost use Rattle.ls_source.specs.Calls.{asked_by};
     ghost use Rattle.ls_source.specs.Ends.{has_trapped};
-    ghost use Rattle.ls_source.specs.SeenThing.{thing_of};
+    ghost use Rattle.ls_source_store.specs.SeenThing.{thing_of};
     ghost use Rattle.ls_source.specs.SeenThread.{seen_next};
     ghost use Rattle.ls_source.specs.Progress.{begun, gone_on};
     ghost use Rattle.ls_source.specs.GoneBy.{gone_by};

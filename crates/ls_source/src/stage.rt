@@ -5,16 +5,16 @@ ghost use Rattle.ls_checked.specs.Plain.{plain_class};
 ghost use Rattle.ls_checked.specs.PlainProgram.{plain_program};
 ghost use Rattle.ls_meaning.specs.Effect.{effect};
 ghost use Rattle.ls_meaning.specs.Runs.{start, performed, event_of};
-ghost use Rattle.ls_source.specs.SeenStore.{store_of};
+ghost use Rattle.ls_source_store.specs.SeenStore.{store_of};
 ghost use Rattle.ls_source.specs.SeenRun.{lists_of, state_of, did_by, events_by};
 
-use crate::store::Store;
-use crate::thing::Effect;
 use ls_checked::program::{Program, SetupName, ThreadProgram};
 use ls_checked::tree::Class;
 use ls_events::action::{Action, Answer};
 use ls_events::event::{Event, Happening};
 use ls_events::value::Value;
+use ls_source_store::store::Store;
+use ls_source_store::thing::Effect;
 use std::alloc::{AllocError, Global};
 
 /// The state of a run, with its events so far.

@@ -17,6 +17,7 @@ use ls_events::kind::Kind;
 use ls_events::value::{Value, ValueType};
 use ls_meaning::completion::Completion;
 use ls_meaning::sort::Sort;
+use ls_source_moves::settling::settle;
 use ls_source_pending::pending::Pending;
 use ls_source_pending::work::Control;
 use ls_source_values::lookups::{constructor_of, method_at};
@@ -191,7 +192,7 @@ impl<'a> Thread<'a> {
     fn work_on(&mut self, alloc: Global, file: &'a File) -> Result<(), AllocError>
         ensures { (program : PlainProgram) (q : Answers) → thread_meaning (plain_file file.now) program (thread_of self.new) q ≡ thread_meaning (plain_file file.now) program (thread_of self.old) q }
     {
-        self.work.settle(alloc, file)
+        settle(&mut self.work, alloc, file)
     }
 
     // A body that has come to its end.

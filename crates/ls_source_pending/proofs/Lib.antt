@@ -1,4 +1,1 @@
-pub mod Fusion
-pub mod Measure
 pub mod Stacks
-pub mod Blocks

@@ -32,7 +32,6 @@ operand_of (operands.Right op x) = pending.InRight op x
 operand_of (operands.And b) = pending.InAnd (plain b.now)
 operand_of (operands.Or b) = pending.InOr (plain b.now)
 operand_of (operands.Target m es) = pending.InTarget m (all_plain es.now)
-operand_of (operands.Argument p before es) = pending.InArgument (purpose_of p) before.items (all_plain es.now)
 operand_of (operands.Made c es) = pending.InMade c (all_plain es.now)
 operand_of (operands.Constructor o) = pending.InConstructor o
 operand_of operands.Reference = pending.InReference
@@ -60,6 +59,7 @@ ending_of (endings.Finally c) = pending.OfFinally c
 
 abbrev pub frame_of : Frame → pending.Frame
 frame_of (frames.Operand f) = pending.In (operand_of f)
+frame_of (frames.Argument p before es) = pending.In (pending.InArgument (purpose_of p) before.items (all_plain es.now))
 frame_of (frames.Waiting f) = pending.On (waiting_of f)
 frame_of (frames.Ending f) = pending.Up (ending_of f)
 frame_of (frames.Body result saved outer) = pending.Leaves result saved.items outer

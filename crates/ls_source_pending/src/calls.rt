@@ -95,7 +95,7 @@ impl<'a> Pending<'a> {
         match left {
             Expressions::End => self.go(Control::Applies(purpose, values)),
             Expressions::More(e, es) => match known(&self.locals, e) {
-                None => self.operand(Operand::Argument(purpose, values, es), e),
+                None => self.inside(Frame::Argument(purpose, values, es), Control::Evaluates(e)),
                 Some(v) => return self.put_known(purpose, values, v, es, left),
             },
         }

@@ -1,12 +1,11 @@
-//! Pending work: what is left to do of a statement, and of all that is round it, with no look at the answers had so far.
+//! Pending work: what is left to do of a statement, and of all that is round it, with no look at the answers had so far; and the moves of expressions.
 #![tactic(auto)]
 
 mod calls;
 mod expressions;
-mod moves;
+mod onward;
 mod operands;
 pub mod pending;
-mod stack;
-mod statements;
-mod tables;
+pub mod stack;
+pub mod tables;
 pub mod work;

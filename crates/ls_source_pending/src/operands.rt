@@ -142,8 +142,8 @@ impl<'a> Pending<'a> {
         self.asks_of(array, action, Sort::NoValue)
     }
 
-    // The value of an argument. A refusal puts the frame back.
-    fn put(
+    /// The value of an argument. A refusal puts the frame back.
+    pub fn put(
         &mut self,
         purpose: Purpose,
         before: Vec<Value>,
@@ -161,24 +161,16 @@ impl<'a> Pending<'a> {
                 Ok(())
             }
             Err(_) => {
-                let frame = Frame::Operand(Operand::Argument(purpose, before, left));
-                self.inside(frame, Control::Gives(v));
+                self.inside(Frame::Argument(purpose, before, left), Control::Gives(v));
                 Err(AllocError)
             }
         }
     }
 
-    /// The value of an operand. A refusal puts the frame back.
-    pub fn fill(
-        &mut self,
-        alloc: Global,
-        classes: &[Class],
-        f: Operand<'a>,
-        v: Value,
-    ) -> Result<(), AllocError>
+    /// The value of an operand.
+    pub fn fill(&mut self, alloc: Global, classes: &[Class], f: Operand<'a>, v: Value)
         requires { vec_len self.old.frames < vec_capacity self.old.frames }
-        ensures ok { OnOk result (state_of self.new ≡ filling (map plain_class classes.now) (operand_of f.entry) v (frames_of self.old.frames.items) self.old.locals.items self.old.depth) }
-        ensures err { OnErr result (state_of self.new ≡ at (PlainGives v) (In (operand_of f.entry) ∷ frames_of self.old.frames.items) self.old.locals.items self.old.depth) }
+        ensures { state_of self.new ≡ filling (map plain_class classes.now) (operand_of f.entry) v (frames_of self.old.frames.items) self.old.locals.items self.old.depth }
     {
         match f {
             Operand::Field(class, field) => self.read_field(classes, class, field, v),
@@ -192,7 +184,6 @@ impl<'a> Pending<'a> {
             Operand::And(b) => self.right_of_and(v, b),
             Operand::Or(b) => self.right_of_or(v, b),
             Operand::Target(m, es) => self.begin_call(alloc, m, v, es),
-            Operand::Argument(p, before, es) => return self.put(p, before, es, v),
             Operand::Made(c, es) => self.begin_make(alloc, c, v, es),
             Operand::Constructor(o) => self.gives(o),
             Operand::Reference => self.gives(Value::Reference(reference_of(v))),
@@ -200,6 +191,5 @@ impl<'a> Pending<'a> {
             Operand::Both(array) => self.write_mark(array, v),
             Operand::Written(pair) => self.gives(Value::Reference(reference_of(pair))),
         }
-        Ok(())
     }
 }

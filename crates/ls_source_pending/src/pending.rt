@@ -6,11 +6,9 @@ ghost use Rattle.ls_source_pending.specs.Machine.{answered};
 ghost use Rattle.ls_source_pending.specs.Seen.{control_of};
 
 use crate::work::{Control, Frame};
-use ls_checked::tree::File;
 use ls_events::action::Answer;
 use ls_events::value::Value;
 use ls_meaning::completion::Completion;
-use std::alloc::{AllocError, Global};
 use std::mem;
 
 /// What is done now, the frames round it with the innermost last, the locals, and how many more calls may be entered.
@@ -46,10 +44,7 @@ fn answered<'a>(answer: Answer<Value>) -> Control<'a>
 }
 
 impl<'a> Pending<'a> {
-    ghost use Rattle.std.specs.Prelude.{false, OnOk};
-    ghost use Rattle.ls_checked.specs.Plain.{plain_file};
-    ghost use Rattle.ls_meaning.specs.Course.{Answers};
-    ghost use Rattle.ls_source_pending.specs.Machine.{is_left, taken, meaning, Rest};
+    ghost use Rattle.ls_source_pending.specs.Machine.{is_left, taken};
     ghost use Rattle.ls_source_pending.specs.SeenPending.{state_of};
 
     /// Whether a move is left.
@@ -64,17 +59,6 @@ impl<'a> Pending<'a> {
             Control::Ends(_) => has_some(&self.frames),
             _ => true,
         }
-    }
-
-    /// Goes on to what is asked for next, or to the end. The work means what it meant, also where it is refused.
-    pub fn settle(&mut self, alloc: Global, file: &'a File) -> Result<(), AllocError>
-        ensures same { (base : Rest) (q : Answers) → meaning (plain_file file.now) base (state_of self.new) q ≡ meaning (plain_file file.now) base (state_of self.old) q }
-        ensures settled { OnOk result (is_left (state_of self.new).control (state_of self.new).frames ≡ false) }
-    {
-        'moves: while self.is_left() {
-            self.advance(alloc, file)?;
-        }
-        Ok(())
     }
 
     // A method that was asked for may be entered. Anything else stays.

@@ -22,7 +22,7 @@ impl Clone for Purpose {
 }
 
 /// The rest of an expression, which waits for a value.
-#[derive(Drop)]
+#[derive(Copy)]
 pub enum Operand<'a> {
     Field(usize, usize),
     Item(&'a Expression),
@@ -35,7 +35,6 @@ pub enum Operand<'a> {
     And(&'a Expression),
     Or(&'a Expression),
     Target(Called, &'a Expressions),
-    Argument(Purpose, Vec<Value>, &'a Expressions),
     Made(usize, &'a Expressions),
     Constructor(Value),
     Reference,
@@ -44,8 +43,14 @@ pub enum Operand<'a> {
     Written(Value),
 }
 
+impl<'a> Clone for Operand<'a> {
+    fn clone(&self) -> Result<Operand<'a>, AllocError> {
+        Ok(*self)
+    }
+}
+
 /// The rest of a statement, which waits for a value.
-#[derive(Drop)]
+#[derive(Copy)]
 pub enum Waiting<'a> {
     Slot(usize),
     Target(usize, &'a Expression),
@@ -59,8 +64,14 @@ pub enum Waiting<'a> {
     Return,
 }
 
+impl<'a> Clone for Waiting<'a> {
+    fn clone(&self) -> Result<Waiting<'a>, AllocError> {
+        Ok(*self)
+    }
+}
+
 /// The rest of a statement, which waits for the end of a part.
-#[derive(Drop)]
+#[derive(Copy)]
 pub enum Ending<'a> {
     Sequence(&'a [Statement]),
     Body(&'a Expression, &'a Statement),
@@ -68,10 +79,17 @@ pub enum Ending<'a> {
     Finally(Completion<Value>),
 }
 
-/// One frame. A body that is left gives its caller the locals that it had.
+impl<'a> Clone for Ending<'a> {
+    fn clone(&self) -> Result<Ending<'a>, AllocError> {
+        Ok(*self)
+    }
+}
+
+/// One frame. An argument stands behind those before it, and a body that is left gives its caller the locals that it had.
 #[derive(Drop)]
 pub enum Frame<'a> {
     Operand(Operand<'a>),
+    Argument(Purpose, Vec<Value>, &'a Expressions),
     Waiting(Waiting<'a>),
     Ending(Ending<'a>),
     Body(Option<ValueType>, Vec<Value>, u64),

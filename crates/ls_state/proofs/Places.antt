@@ -13,7 +13,7 @@ use Rattle.ls_meaning.specs.Values.{truth_of}
 use Rattle.ls_report.specs.Events.{Text}
 use Rattle.ls_state.specs.Parts.{places_text, more_places, true_places}
 use Rattle.std.proofs.lemmas.Bool.Decides.{nat_tests}
-use Rattle.ls_source.specs.SeenThing.{items_of}
+use Rattle.ls_source_store.specs.SeenThing.{items_of}
 
 abbrev pub is_place : ℕ → ℕ × Value → Bool
 is_place size e = nat_lt e.0 size && truth_of e.1

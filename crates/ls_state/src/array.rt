@@ -1,7 +1,7 @@
 // The items of an array, as text.
 
 ghost use Rattle.std.specs.Prelude.{◌≡◌, ◌++◌, OnOk, string_bytes};
-ghost use Rattle.ls_source.specs.SeenThing.{items_of};
+ghost use Rattle.ls_source_store.specs.SeenThing.{items_of};
 ghost use Rattle.ls_state.specs.Parts.{array_text, count_text, places_text, true_places};
 
 use ls_events::value::Value;

@@ -2,7 +2,7 @@
 
 ghost use Rattle.std.specs.Prelude.{◌≡◌, ◌++◌, OnOk, string_bytes};
 ghost use Rattle.ls_checked.specs.PlainProgram.{plain_name, plain_program};
-ghost use Rattle.ls_source.specs.SeenThing.{thing_of};
+ghost use Rattle.ls_source_store.specs.SeenThing.{thing_of};
 ghost use Rattle.ls_state.specs.Objects.{field_name_of, field_part, held_text, name_line, thing_line, thing_text};
 ghost use Rattle.ls_state.specs.Parts.{numbered};
 ghost use Rattle.ls_state.specs.Seen.{names_in, scene_seen};
@@ -16,7 +16,7 @@ use ls_labels::label::Label;
 use ls_labels::names::field_name;
 use ls_labels::objects::{label_at, push_object, push_value};
 use ls_labels::threads::thread_name;
-use ls_source::Thing;
+use ls_source_store::thing::Thing;
 use std::alloc::AllocError;
 use std::fmt::Write;
 

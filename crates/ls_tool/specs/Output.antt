@@ -3,13 +3,13 @@ use Rattle.std.specs.Prelude.{◌≡◌, ◌≢◌, ◌≤◌, ℕ, List, [], �
 use Rattle.std.specs.Global.{Global}
 use Rattle.std.specs.Io.KnownBytes.{Appends, Keeps}
 use Rattle.ls_report.specs.Events.{Text}
-use Rattle.ls_commands.specs.Check.{ChecksTo}
+use Rattle.ls_views.specs.Check.{ChecksTo}
 use Rattle.ls_commands.specs.Compiled.{CountsTo, ReplaysTo}
 use Rattle.ls_commands.specs.Lived.{LivesTo, ReplaysLiveTo}
 use Rattle.ls_commands.specs.Tallied.{sampling, TalliesTo}
 use Rattle.ls_commands.specs.Translated.{TranslatesTo}
-use Rattle.ls_commands.specs.Viewed.{ViewsTo}
-use Rattle.ls_commands.specs.declared.viewing.View.TheVariants as views
+use Rattle.ls_views.specs.Viewed.{ViewsTo}
+use Rattle.ls_views.specs.declared.viewing.View.TheVariants as views
 use Rattle.ls_explanations.specs.Explanations.{note}
 use Rattle.ls_faults.specs.Faults.{fault_line}
 use Rattle.ls_parts.specs.Parts.{is_text, parts_of}

@@ -1,4 +1,3 @@
 pub mod Moves
 pub mod Runs
 pub mod Totals
-pub mod Wholes

@@ -25,7 +25,8 @@ impl Checked {
     ghost use Rattle.ls_types.specs.CheckedFile.{file_of, names_of, signs_of};
     ghost use Rattle.ls_types_elaboration.specs.Outcomes.{outcome_of as outcome_seen};
 
-    pub(crate) fn new(outcome: Outcome) -> Checked
+    /// A checked file of what the elaboration of a tree answers.
+    pub fn new(outcome: Outcome) -> Checked
         requires { IsElaborated (outcome_seen outcome) }
         ensures names { names_of result ≡ texts_of outcome.names }
         ensures signs { signs_of result ≡ map class_sign_of outcome.signs.items }

@@ -1,13 +1,8 @@
-//! Typing and thread programs: what a class text and a program text mean, or why they are refused.
+//! Checked files, the calls of thread programs of them, and sources.
 #![tactic(auto)]
 
-mod calls;
+pub mod calls;
 pub mod check;
-pub mod checking;
 pub mod fault;
 pub mod laws;
-pub mod program;
-mod reading;
 pub mod source;
-mod steps;
-mod together;

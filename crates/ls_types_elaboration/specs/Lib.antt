@@ -15,5 +15,4 @@ pub mod Elaboration
 pub mod Tables
 pub mod Answers
 pub mod Refused
-pub mod SignViews
 pub mod Outcomes

@@ -9,6 +9,9 @@ ghost use Rattle.ls_types_elaboration.specs.Tables.{local_of, texts_of, field_si
 use indexmap::{IndexMap, IndexSet};
 use ls_events::value::ValueType;
 
+/// The most slots of a method: `this`, parameters and locals.
+pub const MOST_SLOTS: usize = 128;
+
 /// A local or parameter in scope, and its slot.
 #[derive(Clone, Copy)]
 pub struct Local<'t> {

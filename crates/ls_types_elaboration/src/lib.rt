@@ -1,4 +1,4 @@
-//! Typing: its definitions, and what the classes of a text declare.
+//! Typing: its definitions, and how names find what is declared.
 #![tactic(auto)]
 
 pub mod known;
@@ -6,7 +6,6 @@ pub mod members;
 pub mod numbers;
 pub mod outcome;
 pub mod rule;
-pub mod signs;
 pub mod static_types;
 pub mod together;
 pub mod type_names;

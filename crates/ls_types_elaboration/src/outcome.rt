@@ -1,15 +1,8 @@
 // What elaboration answers for a file.
 
-ghost use Rattle.std.specs.Prelude.{◌≡◌, IfOk, map};
-ghost use Rattle.ls_checked.specs.Plain.{plain_class};
-ghost use Rattle.ls_types_elaboration.specs.Elaboration.{checked_class as the_class};
-ghost use Rattle.ls_types_elaboration.specs.Tables.{class_sign_of, field_signs_of};
-
 use crate::known::ClassSign;
-use indexmap::{IndexMap, IndexSet};
-use ls_checked::tree::{Class, File};
-use ls_events::value::ValueType;
-use std::alloc::{AllocError, Global};
+use indexmap::IndexSet;
+use ls_checked::tree::File;
 
 /// The names of the classes, what they declare, and the checked file.
 #[derive(Drop)]
@@ -17,37 +10,4 @@ pub struct Outcome {
     pub names: IndexSet<String>,
     pub signs: Vec<ClassSign>,
     pub file: File,
-}
-
-fn field_types(
-    alloc: Global,
-    fields: &IndexMap<String, ValueType>,
-) -> Result<Vec<ValueType>, AllocError>
-    ensures { IfOk result (λ v. v.items ≡ map (λ f. f.type) (field_signs_of fields.now)) }
-{
-    let mut types = Vec::new(alloc);
-    for t in fields.values() {
-        types.push(*t)?;
-    }
-    Ok(types)
-}
-
-fn checked_class(alloc: Global, c: &ClassSign) -> Result<Class, AllocError>
-    ensures { IfOk result (λ d. plain_class d ≡ the_class (class_sign_of c.now)) }
-{
-    Ok(Class {
-        fields: field_types(alloc, &c.fields)?,
-        constructor: c.constructor,
-    })
-}
-
-/// The classes as they are checked.
-pub fn checked_classes(alloc: Global, signs: &[ClassSign]) -> Result<Vec<Class>, AllocError>
-    ensures { IfOk result (λ v. map plain_class v.items ≡ map the_class (map class_sign_of signs.now)) }
-{
-    let mut classes = Vec::new(alloc);
-    for c in signs {
-        classes.push(checked_class(alloc, c)?)?;
-    }
-    Ok(classes)
 }

@@ -12,7 +12,6 @@ ghost use Rattle.ls_types_elaboration.specs.Tables.{known_of};
 ghost use Rattle.ls_types_expressions.specs.Views.{locals_of};
 ghost use Rattle.ls_types_elaboration.specs.Answers.{Gives, typed_of, member_of as seen_member, seen_typed};
 
-use crate::operators::{Spans, binary_of, unary_of};
 use crate::places::span_of;
 use crate::site::Site;
 use ls_checked::tree::{Expression, Expressions};
@@ -29,6 +28,7 @@ use ls_types_elaboration::static_types::{
     Static, Typed, as_array, as_type, as_value, result_type, typed_as,
 };
 use ls_types_elaboration::together::{also, two};
+use ls_types_operators::operators::{Spans, binary_of, unary_of};
 use std::alloc::{AllocError, Global};
 
 fn number(text: &str) -> Expression

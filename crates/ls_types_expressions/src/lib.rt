@@ -3,6 +3,5 @@
 
 pub mod assignments;
 pub mod expressions;
-mod operators;
 pub mod places;
 pub mod site;

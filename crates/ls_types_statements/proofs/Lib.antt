@@ -1,4 +1,3 @@
 pub mod Nodes
 pub mod Blocks
 pub mod BlockRows
-pub mod Left

@@ -1,18 +1,14 @@
 -- What contracts see of scopes and statements.
-use Rattle.std.specs.Global.{Vec}
-use Rattle.std.specs.Prelude.{ℕ, List, map, option_copied}
+use Rattle.std.specs.Prelude.{List, map, option_copied}
 use Rattle.ls_checked.specs.CheckedTree as checked
-use Rattle.ls_checked.specs.Plain.{plain_statement, plain_method}
-use Rattle.ls_checked.specs.declared.tree.Method.{Method}
+use Rattle.ls_checked.specs.Plain.{plain_statement}
 use Rattle.ls_checked.specs.declared.tree.Statement.{Statement}
 use Rattle.ls_events.specs.declared.value.ValueType.{ValueType}
 use Rattle.ls_types_statements.specs.declared.scope.Context.{Context}
 use Rattle.ls_types_statements.specs.declared.scope.Scope.{Scope}
 use Rattle.ls_types_statements.specs.declared.statements.Round.{Round}
-use Rattle.ls_types_elaboration.specs.Known as known
 use Rattle.ls_types_elaboration.specs.Scopes as scopes
 use Rattle.ls_types_elaboration.specs.TypedStatements as typing
-use Rattle.ls_types_elaboration.specs.Elaboration as elaboration
 use Rattle.ls_types_elaboration.specs.Tables.{local_of, known_of}
 
 abbrev pub body_of : Context → scopes.Body
@@ -28,7 +24,3 @@ scope_of s slots = record { statements = map plain_statement s.statements.items;
 
 abbrev pub formed_of : List ValueType → Statement → typing.WithSlots checked.Statement
 formed_of slots s = record { tree = plain_statement s; slots = slots }
-
--- the methods of so many classes
-abbrev pub bodies_of : ℕ → Vec Method → elaboration.Bodies
-bodies_of count methods = record { methods = map plain_method methods.items; own = count }

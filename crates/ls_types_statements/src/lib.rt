@@ -1,8 +1,5 @@
-//! Typing of statements, methods and files: the checked file of a class text's tree, or a rule that is broken and where.
+//! Typing of statements: what a statement of a class text's tree means in its scope, or a rule that is broken and where.
 #![tactic(auto)]
 
-mod completion;
-pub mod elaboration;
-mod methods;
-mod scope;
-mod statements;
+pub mod scope;
+pub mod statements;

@@ -1,5 +1,5 @@
 use Rattle.std.proofs.Math.Logic.{∥∥₁_elim}
-use Rattle.ls_refs.specs.Lowered.{lowered_file}
+use Rattle.ls_refs_expressions.specs.Lowered.{lowered_file}
 use Rattle.ls_finally.specs.Flat.{flat_file}
 use Rattle.ls_linker_ranges.proofs.Once.{emittable_once}
 use Rattle.ls_linker_ranges.proofs.Ranges.{file_emittable}

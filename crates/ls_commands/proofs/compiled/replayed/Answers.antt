@@ -6,7 +6,7 @@ use Rattle.ls_schedule.specs.Answers.{Fails}
 use Rattle.ls_schedule.specs.Reading.{schedule_of, thread_names}
 use Rattle.ls_report.specs.Printing.{run_text}
 use Rattle.ls_commands.specs.Compiled.{NoSchedule, Replayed}
-use Rattle.ls_commands.proofs.Answering.{unread}
+use Rattle.ls_faults.proofs.Answering.{unread}
 use Rattle.ls_commands.proofs.CompiledLemmas.{cells_fail, schedule_runs}
 use Rattle.ls_commands.proofs.compiled.replayed.Goals as goal
 

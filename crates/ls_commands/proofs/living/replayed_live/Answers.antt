@@ -6,7 +6,7 @@ use Rattle.ls_schedule.specs.Answers.{Fails}
 use Rattle.ls_schedule.specs.Reading.{schedule_of, thread_names}
 use Rattle.ls_commands.specs.Compiled.{names_of_image, NoSchedule}
 use Rattle.ls_commands.specs.Lived.{AsReplayed, ReplayedLive}
-use Rattle.ls_commands.proofs.Answering.{unread}
+use Rattle.ls_faults.proofs.Answering.{unread}
 use Rattle.ls_commands.proofs.LivedLemmas.{turns_fail, turns_run}
 use Rattle.ls_commands.proofs.living.replayed_live.Goals as goal
 

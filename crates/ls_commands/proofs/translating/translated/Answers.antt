@@ -6,7 +6,7 @@ use Rattle.ls_schedule.specs.Printing.{schedule_text}
 use Rattle.ls_schedule.specs.Reading.{schedule_of, thread_names}
 use Rattle.ls_commands.specs.Compiled.{names_of_image}
 use Rattle.ls_commands.specs.Translated.{NoSchedule, Translated}
-use Rattle.ls_commands.proofs.Answering.{unread}
+use Rattle.ls_faults.proofs.Answering.{unread}
 use Rattle.ls_commands.proofs.TranslatedLemmas.{turn_fails, turn_told}
 use Rattle.ls_commands.proofs.translating.translated.Goals as goal
 

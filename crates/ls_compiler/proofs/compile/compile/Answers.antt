@@ -2,7 +2,7 @@ use Rattle.ls_checked.specs.PlainProgram.{plain_program}
 use Rattle.ls_types_elaboration.specs.PlacedStatements.{placed_file}
 use Rattle.ls_types.specs.CheckedFile.{outcome_of}
 use Rattle.std.proofs.lemmas.Result.{err_from_is_err_and}
-use Rattle.ls_types.proofs.Standing.{no_program}
+use Rattle.ls_types_reading.proofs.Standing.{no_program}
 use Rattle.ls_compiler.specs.Answers.{Compiled, NoFile, Breaks, NoProgram, PastLimit}
 use Rattle.ls_compiler.proofs.Put.{compiled, limited, past, err_of}
 use Rattle.ls_compiler.proofs.compile.compile.Goals as goal

@@ -2,7 +2,7 @@ use Rattle.std.proofs.Common.{◌∙◌, ◌++◌, ap, string_bytes}
 use Rattle.std.proofs.lemmas.List.{append_assoc}
 use Rattle.ls_report.specs.Events.{Text}
 use Rattle.ls_labels.specs.Objects.{object_text}
-use Rattle.ls_source.specs.SeenThing.{thing_of}
+use Rattle.ls_source_store.specs.SeenThing.{thing_of}
 use Rattle.ls_state.specs.Seen.{names_in}
 use Rattle.ls_drawing.specs.Drawing.{fill_text, head_text, label_text, rows_text}
 use Rattle.ls_drawing.proofs.drawing.push_node.Goals as goal

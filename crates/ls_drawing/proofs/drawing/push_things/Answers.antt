@@ -1,5 +1,5 @@
 use Rattle.std.proofs.Common.{◌+◌, arith, string_bytes}
-use Rattle.ls_source.specs.SeenThing.{thing_of}
+use Rattle.ls_source_store.specs.SeenThing.{thing_of}
 use Rattle.ls_state.specs.Seen.{names_in}
 use Rattle.ls_drawing.specs.Drawing.{drawn_thing}
 use Rattle.ls_drawing.proofs.Lists.{numbered_step}

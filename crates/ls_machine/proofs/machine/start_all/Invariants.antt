@@ -1,5 +1,5 @@
 use Rattle.std.proofs.Common.{◌≡◌, take, map}
-use Rattle.ls_machine.specs.Memory.{started_kept}
+use Rattle.ls_machine_threads.specs.Memory.{started_kept}
 use Rattle.ls_machine.proofs.machine.start_all.Given as goal
 
 abbrev pub invariant-loop-start : goal.invariant-loop-start

@@ -11,7 +11,7 @@ use Rattle.ls_events.specs.declared.action.Action.{Action}
 use Rattle.ls_events.specs.declared.action.Answer.{Answer}
 use Rattle.ls_machine_moves.specs.Replies.{cells_after, reply_of}
 use Rattle.ls_machine_moves.specs.declared.flow.Reply.TheVariants as reply
-use Rattle.ls_machine.specs.Memory.{KeptThread, keeping_thread}
+use Rattle.ls_machine_threads.specs.Memory.{KeptThread, keeping_thread}
 use Rattle.ls_machine.specs.Outcomes.{Came}
 use Rattle.ls_machine.proofs.steps.ask.Goals as goal
 

@@ -2,7 +2,7 @@ use Rattle.std.proofs.Common.{rules, ◌≡◌, ◌+◌, ◌∷◌, ap, ◌∙�
 use Rattle.ls_checked.specs.Plain.{statements_of as checked_statements, plain_class}
 use Rattle.ls_lowered.specs.LoweredTree.{Block}
 use Rattle.ls_lowered.specs.Plain.{in_front}
-use Rattle.ls_refs.specs.Lowered.{lowered_block}
+use Rattle.ls_refs_expressions.specs.Lowered.{lowered_block}
 use Rattle.ls_refs.proofs.Rows.{left_at, one_lowered, one_counted, block_counted, block_lowered}
 use Rattle.ls_refs.proofs.statements.+statements.Goals as goal
 

@@ -2,8 +2,8 @@ use Rattle.std.proofs.Common.{◌≡◌, ◌+◌, map, drop}
 use Rattle.ls_checked.specs.Plain.{plain_statement as checked_statement, statements_of as checked_statements, plain_class}
 use Rattle.ls_lowered.specs.LoweredTree.{Block}
 use Rattle.ls_lowered.specs.Plain.{in_front}
-use Rattle.ls_refs.specs.Temporaries.{statement_temporaries, block_temporaries}
-use Rattle.ls_refs.specs.Lowered.{lowered_statement, lowered_block}
+use Rattle.ls_refs_expressions.specs.Temporaries.{statement_temporaries, block_temporaries}
+use Rattle.ls_refs_expressions.specs.Lowered.{lowered_statement, lowered_block}
 use Rattle.ls_refs.proofs.statements.+statements.Given as goal
 
 abbrev pub invariant-lower_statement-loop-s : goal.invariant-lower_statement-loop-s

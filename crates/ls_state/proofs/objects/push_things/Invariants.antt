@@ -1,5 +1,5 @@
 use Rattle.std.proofs.Common.{◌≡◌, ◌+◌, ◌++◌, drop, map, string_bytes}
-use Rattle.ls_source.specs.SeenThing.{thing_of}
+use Rattle.ls_source_store.specs.SeenThing.{thing_of}
 use Rattle.ls_state.specs.Parts.{numbered}
 use Rattle.ls_state.specs.Objects.{thing_line}
 use Rattle.ls_state.specs.Seen.{names_in}

@@ -3,8 +3,8 @@ use Rattle.std.specs.Prelude.{min}
 use Rattle.ls_lowered.specs.declared.tree.Statement.{Statement}
 use Rattle.ls_lowered.specs.LoweredTree.{Leavable}
 use Rattle.ls_lowered.specs.Plain.{plain_statement, statements_of}
-use Rattle.ls_finally.specs.Exits.{count}
-use Rattle.ls_finally.proofs.Counted.{counted}
+use Rattle.ls_finally_exits.specs.Exits.{count}
+use Rattle.ls_finally_exits.proofs.Counted.{counted}
 use Rattle.ls_finally_copies.proofs.Fronts.{left_at, leavable_read}
 use Rattle.ls_finally_copies.proofs.Weights.{size, size_at}
 use Rattle.ls_finally_counts.specs.declared.ways.Way.{Way}

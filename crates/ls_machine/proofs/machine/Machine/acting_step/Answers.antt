@@ -2,9 +2,9 @@ use Rattle.std.proofs.Common.{◌≡◌, ◌<◌, length, get_or, true, refl, ap
 use Rattle.std.proofs.lemmas.List.{get_or_read}
 use Rattle.std.specs.Vec.{with_item}
 use Rattle.ls_code.specs.declared.step.Did.TheVariants as did
-use Rattle.ls_machine.specs.Memory.{KeptThread, no_thread, MethodsFit}
+use Rattle.ls_machine_threads.specs.Memory.{KeptThread, no_thread, MethodsFit}
 use Rattle.ls_machine.specs.Takes.{TakesEvents}
-use Rattle.ls_machine.specs.Threads.{instruction_of}
+use Rattle.ls_machine_threads.specs.Threads.{instruction_of}
 use Rattle.ls_code.specs.Machine.{Machine, is_due, machine_step, Stepped}
 use Rattle.ls_machine.proofs.Back.{of_kept}
 use Rattle.ls_machine.proofs.Whole.{memory_unseen, step_unseen, came_here, left_as_it_was, said, step_past, step_stopped, step_undue, same_threads}

@@ -2,7 +2,7 @@ use Rattle.std.proofs.Common.{◌≡◌, ◌<◌, length, get_or, true, refl, ap
 use Rattle.std.proofs.lemmas.List.{get_or_read}
 use Rattle.std.specs.Vec.{with_item}
 use Rattle.ls_code.specs.declared.step.Did.TheVariants as did
-use Rattle.ls_machine.specs.Memory.{KeptThread, no_thread, MethodsFit}
+use Rattle.ls_machine_threads.specs.Memory.{KeptThread, no_thread, MethodsFit}
 use Rattle.ls_machine.specs.Outcomes.{Came}
 use Rattle.ls_machine.specs.Takes.{TakesEvents}
 use Rattle.ls_code.specs.Machine.{Machine, is_due, machine_step, Stepped, stepped_by}

@@ -5,7 +5,7 @@ use Rattle.ls_code.specs.Cells.{Cells}
 use Rattle.ls_code.specs.Code.{Start}
 use Rattle.ls_code.specs.Machine.{Machine, loaded}
 use Rattle.ls_machine.specs.Back.{IsOf, all_back}
-use Rattle.ls_machine.specs.Memory.{KeptThread}
+use Rattle.ls_machine_threads.specs.Memory.{KeptThread}
 use Rattle.ls_machine.specs.Room.{HasMemory}
 use Rattle.ls_machine.specs.contracts.machine.Machine.{the_view}
 use Rattle.ls_machine.proofs.Back.{all_loaded, count_back, memory_back, of_back}

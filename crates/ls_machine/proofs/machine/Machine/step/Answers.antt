@@ -1,7 +1,7 @@
 use Rattle.std.proofs.Common.{◌≡◌, ◌<◌, ◌≤◌, length, get_or, set, true, refl, ap, sym, subst, ◌∙◌, rules, arith, false}
 use Rattle.std.proofs.lemmas.List.{get_or_read}
 use Rattle.std.specs.Vec.{with_item}
-use Rattle.ls_machine.specs.Memory.{KeptThread, no_thread, events_left}
+use Rattle.ls_machine_threads.specs.Memory.{KeptThread, no_thread, events_left}
 use Rattle.ls_machine.specs.Outcomes.{Came, IsSilentMove}
 use Rattle.ls_machine.specs.Takes.{IsUnseen, TakesEvents}
 use Rattle.ls_code.specs.Machine.{Machine, is_due, machine_step, Stepped, stepped_by}

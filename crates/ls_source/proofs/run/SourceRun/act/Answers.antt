@@ -7,7 +7,7 @@ use Rattle.ls_meaning.specs.Effect.{effect}
 use Rattle.ls_source.specs.Kept.{IsKept}
 use Rattle.ls_source.specs.SeenThread.{thread_of}
 use Rattle.ls_source.specs.SeenRun.{lists_of, state_of, did_by}
-use Rattle.ls_source.specs.SeenStore.{store_of}
+use Rattle.ls_source_store.specs.SeenStore.{store_of}
 use Rattle.ls_source.proofs.Kept.{taken, answers_after}
 use Rattle.ls_source.proofs.run.SourceRun.act.Goals as goal
 

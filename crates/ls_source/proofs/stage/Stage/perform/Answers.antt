@@ -1,7 +1,7 @@
 use Rattle.std.proofs.Common.{refl, ◌∙◌}
-use Rattle.ls_source.specs.SeenStore.{store_of}
+use Rattle.ls_source_store.specs.SeenStore.{store_of}
 use Rattle.ls_source.specs.SeenRun.{state_of}
-use Rattle.ls_source.proofs.Stores.{on_err}
+use Rattle.ls_source_store.proofs.Stores.{on_err}
 use Rattle.ls_source.proofs.Stages.{stays, grown, acts, waits}
 use Rattle.ls_source.proofs.stage.Stage.perform.Goals as goal
 

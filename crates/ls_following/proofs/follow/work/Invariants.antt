@@ -1,0 +1,10 @@
+use Rattle.std.proofs.Common.{◌≡◌, ◌<◌}
+use Rattle.ls_turnstile.specs.Turns.{IsSeatOf}
+use Rattle.ls_following.proofs.follow.work.Given as goal
+
+abbrev pub invariant-loop : goal.invariant-loop
+invariant-loop g l = record {
+  of : IsSeatOf l.followed.turnstile l.seat;
+  thread : l.seat.thread ≡ l.fn.seat.thread;
+  tries : l.tries < 10000000;
+}

@@ -1,0 +1,45 @@
+// Why a tape isn't followed to its end.
+
+ghost use Rattle.ls_following.specs.declared.fault.PlayFault.TheVariants.{Load, Follow};
+ghost use Rattle.std.specs.Prelude.{◌≡◌};
+
+use ls_machine::LoadFault;
+use thiserror::Error;
+
+/// Why seats don't come to the end of their tape.
+#[derive(Clone, Copy, Debug, Error, PartialEq, Eq)]
+pub enum FollowFault {
+    #[error("out of memory")]
+    Memory,
+    /// A seat got no thread of its own.
+    #[error("a thread couldn't be started")]
+    NoThread,
+    /// A seat was answered 10,000,000 times in a row that the entry at this place is another's.
+    #[error("the entry at {place} was never done")]
+    TurnsSpent { place: usize },
+}
+
+/// Why a tape isn't played.
+#[derive(Clone, Copy, Debug, Error, PartialEq, Eq)]
+pub enum PlayFault {
+    #[error("the machine isn't loaded")]
+    Load(LoadFault),
+    #[error("the tape isn't followed to its end")]
+    Follow(FollowFault),
+}
+
+impl From<LoadFault> for PlayFault {
+    ghost from_gives = { λ f e. e ≡ Load f };
+
+    fn from(fault: LoadFault) -> PlayFault {
+        PlayFault::Load(fault)
+    }
+}
+
+impl From<FollowFault> for PlayFault {
+    ghost from_gives = { λ f e. e ≡ Follow f };
+
+    fn from(fault: FollowFault) -> PlayFault {
+        PlayFault::Follow(fault)
+    }
+}

@@ -1,6 +1,0 @@
-use Rattle.std.proofs.Common.{◌≡◌, drop}
-use Rattle.ls_code.specs.Throws.{find_row}
-use Rattle.ls_machine.proofs.thread.find_row.Given as goal
-
-abbrev pub invariant-loop-row : goal.invariant-loop-row
-invariant-loop-row l = find_row (drop l.row-index l.rows) l.place ≡ find_row l.rows l.place

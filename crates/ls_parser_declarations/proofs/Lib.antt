@@ -1,0 +1,4 @@
+pub mod OntoDeclarations
+pub mod DeclarationsRead
+pub mod Steps
+pub mod Places

@@ -1,0 +1,4 @@
+//! Reading of modifiers, types and declarations.
+#![tactic(auto)]
+
+pub mod declarations;

@@ -1,5 +1,0 @@
-use Rattle.ls_parser_statements.proofs.Places.{array_is}
-use Rattle.ls_parser_statements.proofs.declarations.boolean_type.Goals as goal
-
-pub returns-in_ok-expect-in-Some-clause-places : goal.returns-in_ok-expect-in-Some-clause-places
-returns-in_ok-expect-in-Some-clause-places c = array_is c.in-Some.ensures.placed c.in_ok-expect-in-Some.ensures.placed

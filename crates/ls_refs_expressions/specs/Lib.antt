@@ -1,0 +1,2 @@
+pub mod Temporaries
+pub mod Lowered

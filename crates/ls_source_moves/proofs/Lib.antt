@@ -1,0 +1,3 @@
+pub mod Fusion
+pub mod Measure
+pub mod Blocks

@@ -1,0 +1,6 @@
+//! Moves of pending work: those of statements, and from one question to the next.
+#![tactic(auto)]
+
+mod moves;
+pub mod settling;
+mod statements;

@@ -1,0 +1,27 @@
+// Moves up to a question or the end.
+
+ghost use Rattle.std.specs.Prelude.{◌≡◌, false, OnOk};
+ghost use Rattle.ls_checked.specs.Plain.{plain_file};
+ghost use Rattle.ls_meaning.specs.Course.{Answers};
+ghost use Rattle.ls_source_pending.specs.Machine.{is_left, meaning, Rest};
+ghost use Rattle.ls_source_pending.specs.SeenPending.{state_of};
+
+use crate::moves::advance;
+use ls_checked::tree::File;
+use ls_source_pending::pending::Pending;
+use std::alloc::{AllocError, Global};
+
+/// Goes on to what is asked for next, or to the end. The work means what it meant, also where it is refused.
+pub fn settle<'a>(
+    pending: &mut Pending<'a>,
+    alloc: Global,
+    file: &'a File,
+) -> Result<(), AllocError>
+    ensures same { (base : Rest) (q : Answers) → meaning (plain_file file.now) base (state_of pending.new) q ≡ meaning (plain_file file.now) base (state_of pending.old) q }
+    ensures settled { OnOk result (is_left (state_of pending.new).control (state_of pending.new).frames ≡ false) }
+{
+    'moves: while pending.is_left() {
+        advance(pending, alloc, file)?;
+    }
+    Ok(())
+}

@@ -1,0 +1,2 @@
+pub mod SeenThing
+pub mod SeenStore

@@ -1,0 +1,324 @@
+// What is behind a reference, and what an action does to it.
+
+ghost use Rattle.std.specs.Prelude.{◌≡◌, IfOk, OnErr};
+ghost use Rattle.ls_meaning.specs.Effect.{change, in_range, reading_field, writing_field, reading_item, writing_item, locking, trying, unlocking, asking_held, reading_pair, setting_pair, swapping, attempting};
+ghost use Rattle.ls_source_store.specs.SeenThing.{items_of, thing_of, seen_change};
+
+use ls_events::action::{Action, Answer};
+use ls_events::kind::Kind;
+use ls_events::value::Value;
+use ls_source_values::value::{reference_of, same_pair};
+use std::alloc::AllocError;
+use std::collections::BTreeMap;
+
+/// What is behind a reference. Of an array the items that have been written are kept, whatever its size.
+#[derive(Drop)]
+pub enum Thing {
+    /// An object's fields in text order.
+    Object(Vec<Value>),
+    FreeLock,
+    /// A lock with the number of the thread that owns it, and how many times that holds it.
+    HeldLock {
+        owner: usize,
+        holds: u32,
+    },
+    /// The pair of a markable.
+    Markable(Value),
+    /// An array with its size and the items that have been written: `item_at` tells the others.
+    Array {
+        size: u32,
+        items: BTreeMap<u32, Value>,
+    },
+}
+
+/// What an action does: it waits, or it has an answer.
+#[derive(Copy)]
+pub enum Effect {
+    Waits,
+    Does(Answer<Value>),
+}
+
+impl Clone for Effect {
+    fn clone(&self) -> Result<Effect, AllocError> {
+        Ok(*self)
+    }
+}
+
+const MOST_HOLDS: u32 = 2147483647;
+
+/// The effect of an action that is done.
+pub fn done() -> Effect
+    ensures { result ≡ Effect.Does Answer.Done }
+{
+    Effect::Does(Answer::Done)
+}
+
+/// The effect of an action that gives a value.
+pub fn gives(v: Value) -> Effect
+    ensures { result ≡ Effect.Does (Answer.Gives v) }
+{
+    Effect::Does(Answer::Gives(v))
+}
+
+fn fails(kind: Kind) -> Effect
+    ensures { result ≡ Effect.Does (Answer.Fails kind) }
+{
+    Effect::Does(Answer::Fails(kind))
+}
+
+fn truth(b: bool) -> Effect
+    ensures { result ≡ Effect.Does (Answer.Gives (Value.Boolean b)) }
+{
+    gives(Value::Boolean(b))
+}
+
+// Whether an index is in range.
+fn in_range(i: i32, size: u32) -> bool
+    ensures { result ≡ in_range i size }
+{
+    if i < 0 {
+        false
+    } else {
+        i.unsigned_abs() < size
+    }
+}
+
+/// The item of an array at an index, which is false where it was never written.
+pub fn item_at(items: &BTreeMap<u32, Value>, index: u32) -> Value
+    ensures { result ≡ items_of items.now index }
+{
+    match items.get(&index) {
+        None => Value::Boolean(false),
+        Some(v) => *v,
+    }
+}
+
+fn read_field(thing: &Thing, f: usize) -> Effect
+    ensures { seen_change (thing_of thing.now) result ≡ reading_field f (thing_of thing.now) }
+{
+    match thing {
+        Thing::Object(fields) => match fields.get(f) {
+            None => gives(Value::Reference(0)),
+            Some(v) => gives(*v),
+        },
+        _ => done(),
+    }
+}
+
+fn write_field(thing: &mut Thing, f: usize, v: Value) -> Effect
+    ensures change { seen_change (thing_of thing.new) result ≡ writing_field f v (thing_of thing.old) }
+    ensures waits { result ≡ Effect.Waits → thing_of thing.new ≡ thing_of thing.old }
+{
+    match thing {
+        Thing::Object(fields) => {
+            if f < fields.len() {
+                fields[f] = v;
+            }
+            done()
+        }
+        _ => done(),
+    }
+}
+
+fn read_item(thing: &Thing, i: i32) -> Effect
+    ensures { seen_change (thing_of thing.now) result ≡ reading_item i (thing_of thing.now) }
+{
+    match thing {
+        Thing::Array { size, items } => {
+            if in_range(i, *size) {
+                gives(item_at(items, i.unsigned_abs()))
+            } else {
+                fails(Kind::ArrayIndexOutOfBounds)
+            }
+        }
+        _ => done(),
+    }
+}
+
+fn write_item(thing: &mut Thing, i: i32, v: Value) -> Result<Effect, AllocError>
+    ensures change { IfOk result (λ r. seen_change (thing_of thing.new) r ≡ writing_item i v (thing_of thing.old)) }
+    ensures waits { IfOk result (λ r. r ≡ Effect.Waits → thing_of thing.new ≡ thing_of thing.old) }
+    ensures err { OnErr result (thing_of thing.new ≡ thing_of thing.old) }
+{
+    match thing {
+        Thing::Array { size, items } => {
+            if in_range(i, *size) {
+                items.insert(i.unsigned_abs(), v)?;
+                Ok(done())
+            } else {
+                Ok(fails(Kind::ArrayIndexOutOfBounds))
+            }
+        }
+        _ => Ok(done()),
+    }
+}
+
+fn lock(thing: &mut Thing, thread: usize) -> Effect
+    ensures change { seen_change (thing_of thing.new) result ≡ locking thread (thing_of thing.old) }
+    ensures waits { result ≡ Effect.Waits → thing_of thing.new ≡ thing_of thing.old }
+{
+    match thing {
+        Thing::FreeLock => {
+            *thing = Thing::HeldLock {
+                owner: thread,
+                holds: 1,
+            };
+            done()
+        }
+        Thing::HeldLock { owner, holds } => {
+            if *owner != thread {
+                return Effect::Waits;
+            }
+            if *holds >= MOST_HOLDS {
+                return fails(Kind::Error);
+            }
+            *holds += 1;
+            done()
+        }
+        _ => done(),
+    }
+}
+
+fn try_lock(thing: &mut Thing, thread: usize) -> Effect
+    ensures change { seen_change (thing_of thing.new) result ≡ trying thread (thing_of thing.old) }
+    ensures waits { result ≡ Effect.Waits → thing_of thing.new ≡ thing_of thing.old }
+{
+    match thing {
+        Thing::FreeLock => {
+            *thing = Thing::HeldLock {
+                owner: thread,
+                holds: 1,
+            };
+            truth(true)
+        }
+        Thing::HeldLock { owner, holds } => {
+            if *owner != thread {
+                return truth(false);
+            }
+            if *holds >= MOST_HOLDS {
+                return fails(Kind::Error);
+            }
+            *holds += 1;
+            truth(true)
+        }
+        _ => done(),
+    }
+}
+
+fn unlock(thing: &mut Thing, thread: usize) -> Effect
+    ensures change { seen_change (thing_of thing.new) result ≡ unlocking thread (thing_of thing.old) }
+    ensures waits { result ≡ Effect.Waits → thing_of thing.new ≡ thing_of thing.old }
+{
+    match thing {
+        Thing::FreeLock => fails(Kind::IllegalMonitorState),
+        Thing::HeldLock { owner, holds } => {
+            if *owner != thread {
+                return fails(Kind::IllegalMonitorState);
+            }
+            if *holds > 1 {
+                *holds -= 1;
+            } else {
+                *thing = Thing::FreeLock;
+            }
+            done()
+        }
+        _ => done(),
+    }
+}
+
+fn is_held(thing: &Thing, thread: usize) -> Effect
+    ensures { seen_change (thing_of thing.now) result ≡ asking_held thread (thing_of thing.now) }
+{
+    match thing {
+        Thing::FreeLock => truth(false),
+        Thing::HeldLock { owner, .. } => truth(*owner == thread),
+        _ => done(),
+    }
+}
+
+fn read_pair(thing: &Thing) -> Effect
+    ensures { seen_change (thing_of thing.now) result ≡ reading_pair (thing_of thing.now) }
+{
+    match thing {
+        Thing::Markable(p) => gives(*p),
+        _ => done(),
+    }
+}
+
+fn set_pair(thing: &mut Thing, v: Value) -> Effect
+    ensures change { seen_change (thing_of thing.new) result ≡ setting_pair v (thing_of thing.old) }
+    ensures waits { result ≡ Effect.Waits → thing_of thing.new ≡ thing_of thing.old }
+{
+    match thing {
+        Thing::Markable(p) => {
+            *p = v;
+            done()
+        }
+        _ => done(),
+    }
+}
+
+fn swap_pair(thing: &mut Thing, expected: Value, new: Value) -> Effect
+    ensures change { seen_change (thing_of thing.new) result ≡ swapping expected new (thing_of thing.old) }
+    ensures waits { result ≡ Effect.Waits → thing_of thing.new ≡ thing_of thing.old }
+{
+    match thing {
+        Thing::Markable(p) => {
+            if same_pair(*p, expected) {
+                *p = new;
+                truth(true)
+            } else {
+                truth(false)
+            }
+        }
+        _ => done(),
+    }
+}
+
+fn attempt_mark(thing: &mut Thing, reference: u64, mark: bool) -> Effect
+    ensures change { seen_change (thing_of thing.new) result ≡ attempting reference mark (thing_of thing.old) }
+    ensures waits { result ≡ Effect.Waits → thing_of thing.new ≡ thing_of thing.old }
+{
+    match thing {
+        Thing::Markable(p) => {
+            if reference_of(*p) == reference {
+                *p = Value::Pair { reference, mark };
+                truth(true)
+            } else {
+                truth(false)
+            }
+        }
+        _ => done(),
+    }
+}
+
+/// What an action does to the thing that it is on.
+pub fn change(
+    thing: &mut Thing,
+    thread: usize,
+    action: &Action<Value>,
+) -> Result<Effect, AllocError>
+    ensures change { IfOk result (λ r. seen_change (thing_of thing.new) r ≡ change thread action.now (thing_of thing.old)) }
+    ensures waits { IfOk result (λ r. r ≡ Effect.Waits → thing_of thing.new ≡ thing_of thing.old) }
+    ensures err { OnErr result (thing_of thing.new ≡ thing_of thing.old) }
+{
+    match action {
+        Action::ReadField { field, .. } => Ok(read_field(thing, *field)),
+        Action::WriteField { field, value, .. } => Ok(write_field(thing, *field, *value)),
+        Action::ReadItem { index, .. } => Ok(read_item(thing, *index)),
+        Action::WriteItem { index, value, .. } => write_item(thing, *index, *value),
+        Action::Lock(_) => Ok(lock(thing, thread)),
+        Action::Unlock(_) => Ok(unlock(thing, thread)),
+        Action::TryLock(_) => Ok(try_lock(thing, thread)),
+        Action::IsHeld(_) => Ok(is_held(thing, thread)),
+        Action::ReadPair(_) => Ok(read_pair(thing)),
+        Action::SetPair(_, v) => Ok(set_pair(thing, *v)),
+        Action::SwapPair { expected, new, .. } => Ok(swap_pair(thing, *expected, *new)),
+        Action::AttemptMark {
+            reference,
+            mark,
+            ..
+        } => Ok(attempt_mark(thing, *reference, *mark)),
+        _ => Ok(done()),
+    }
+}

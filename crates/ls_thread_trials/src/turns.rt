@@ -1,6 +1,0 @@
-// Turnstiles, and live threads on a tape.
-
-mod following;
-mod memory;
-mod playing;
-mod seats;

@@ -1,0 +1,285 @@
+// Methods, constructors and field initialisers.
+
+ghost use Rattle.std.specs.Prelude.{◌≡◌, ◌≤◌, ◌&&◌, ◌∷◌, [], IfOk, OnOk, is_some, map, option_map, vec_len};
+ghost use Rattle.ls_events.specs.declared.value.ValueType.TheVariants.{Class as class_type};
+ghost use Rattle.ls_checked.specs.CheckedTree.{Method as checked_method};
+ghost use Rattle.ls_types_completion.specs.Completion.{all_complete as the_all_complete};
+ghost use Rattle.ls_types_elaboration.specs.declared.rule.Rule.TheVariants.{MissingReturn};
+ghost use Rattle.ls_types_elaboration.specs.Answers.{Gives, Leads};
+ghost use Rattle.ls_types_elaboration.specs.TypedStatements.{sequence};
+ghost use Rattle.ls_checked.specs.Plain.{plain_statement, plain_method};
+ghost use Rattle.ls_types_elaboration.specs.Elaborated.{Elaborated, each, unless_broken};
+ghost use Rattle.ls_types_elaboration.specs.TypedMethods.{parameter as the_parameter, declarator_set as the_declarator_set, member_set as the_member_set, initialisers as the_initialisers, method as the_method, written_method as the_written_method, written_constructor as the_written_constructor, one_method as the_one_method, has_constructor as the_has_constructor, default_constructor as the_default_constructor, class_methods as the_class_methods};
+ghost use Rattle.ls_types_elaboration.specs.Placed.{placed_name};
+ghost use Rattle.ls_types_elaboration.specs.PlacedStatements.{placed_parameter, placed_declarator, placed_member, placed_items, placed_type};
+ghost use Rattle.ls_types_elaboration.specs.Tables.{known_of};
+ghost use Rattle.ls_types_statements.specs.ScopeViews.{body_of, scope_of};
+
+use crate::completion::all_complete;
+use ls_checked::tree::{Expression, Method, Statement};
+use ls_events::value::ValueType;
+use ls_tree::tree::{
+    BlockItem, Constructor, Declarator, Member, Method as MethodText, Name, Parameter,
+};
+use ls_types_elaboration::known::{Known, field_of};
+use ls_types_elaboration::rule::{CheckFault, Rule, refused_at};
+use ls_types_elaboration::together::{also, push};
+use ls_types_elaboration::type_names::{result_of, type_of};
+use ls_types_expressions::expressions::fitting;
+use ls_types_expressions::site::Site;
+use ls_types_statements::scope::{Context, Scope, may_declare, with_variable};
+use ls_types_statements::statements::{Round, all_items, block_of};
+use std::alloc::{AllocError, Global};
+
+// One more parameter in scope.
+fn parameter<'t>(
+    context: Context,
+    scope: &mut Scope<'t>,
+    slots: &mut Vec<ValueType>,
+    p: &'t Parameter,
+) -> Result<(), CheckFault>
+    requires { vec_len slots.old ≤ 128 }
+    ensures found { Gives (λ _. scope_of scope.new slots.new.items) result (the_parameter (body_of context.entry) (scope_of scope.old slots.old.items) (placed_parameter p.entry.now)) }
+    ensures low { OnOk result (vec_len slots.new ≤ 128) }
+{
+    may_declare(context.span, scope, slots, &p.name)?;
+    let t = type_of(context.known.names, &p.type_name)?;
+    with_variable(scope, slots, p.name.text.as_str(), t)?;
+    Ok(())
+}
+
+fn parameters<'t>(
+    context: Context,
+    scope: &mut Scope<'t>,
+    slots: &mut Vec<ValueType>,
+    ps: &'t [Parameter],
+) -> Result<(), CheckFault>
+    requires { vec_len slots.old ≤ 128 }
+    ensures found { Gives (λ _. scope_of scope.new slots.new.items) result (each (the_parameter (body_of context.entry)) (scope_of scope.old slots.old.items) (map placed_parameter ps.entry.now)) }
+    ensures low { OnOk result (vec_len slots.new ≤ 128) }
+{
+    for p in ps {
+        parameter(context, scope, slots, p)?;
+    }
+    Ok(())
+}
+
+// The initialiser of a field, where it has one, behind those before it.
+fn declarator_set(
+    alloc: Global,
+    known: Known,
+    front: Vec<Statement>,
+    d: &Declarator,
+) -> Result<Vec<Statement>, CheckFault>
+    ensures { Gives (λ v. map plain_statement v.items) result (the_declarator_set (known_of known.entry) (map plain_statement front.items) (placed_declarator d.now)) }
+{
+    match (field_of(known, known.own, d.name.text.as_str()), &d.value) {
+        (Some(f), Some(e)) => {
+            let site = Site {
+                alloc,
+                known,
+                locals: &[],
+            };
+            let value = fitting(site, f.value_type, e);
+            let (front, value) = also(front, value)?;
+            let s = Statement::SetField {
+                target: Expression::Slot(0),
+                field: f.number,
+                value,
+            };
+            Ok(push(front, s)?)
+        }
+        (None, _) => Ok(front),
+        (Some(_), None) => Ok(front),
+    }
+}
+
+fn member_set(
+    alloc: Global,
+    known: Known,
+    before: Vec<Statement>,
+    m: &Member,
+) -> Result<Vec<Statement>, CheckFault>
+    ensures { Gives (λ v. map plain_statement v.items) result (the_member_set (known_of known.entry) (map plain_statement before.items) (placed_member m.now)) }
+{
+    match m {
+        Member::Field(d) => {
+            let mut front = declarator_set(alloc, known, before, &d.first)?;
+            for d in &d.more {
+                front = declarator_set(alloc, known, front, d)?;
+            }
+            Ok(front)
+        }
+        Member::Method(_) => Ok(before),
+        Member::Constructor(_) => Ok(before),
+    }
+}
+
+// The initialisers of a class's fields, as assignments in text order.
+fn initialisers(
+    alloc: Global,
+    known: Known,
+    members: &[Member],
+) -> Result<Vec<Statement>, CheckFault>
+    ensures { Gives (λ v. map plain_statement v.items) result (the_initialisers (known_of known.entry) (map placed_member members.now)) }
+{
+    let mut front = Vec::new(alloc);
+    for m in members {
+        front = member_set(alloc, known, front, m)?;
+    }
+    Ok(front)
+}
+
+// The slot of `this`.
+fn first_slot(alloc: Global, known: Known) -> Result<Vec<ValueType>, AllocError>
+    ensures { IfOk result (λ v. v.items ≡ class_type known.entry.own ∷ []) }
+{
+    let mut slots = Vec::new(alloc);
+    slots.push(ValueType::Class(known.own))?;
+    Ok(slots)
+}
+
+// Whether a method that answers a value can't complete without one.
+fn answered(context: Context, body: &[Statement]) -> Result<(), CheckFault>
+    ensures { (go : Elaborated checked_method) → Leads (λ u. u) (λ u. go) result (unless_broken (is_some context.entry.result && the_all_complete (sequence (map plain_statement body.now))) MissingReturn context.entry.span go) }
+{
+    if context.result.is_some() && all_complete(context.alloc, body)? {
+        return Err(refused_at(Rule::MissingReturn, context.span));
+    }
+    Ok(())
+}
+
+// A method or constructor of this name, whose body begins with the statements of `front`.
+fn method<'t>(
+    context: Context,
+    name: &Name,
+    ps: &'t [Parameter],
+    front: Vec<Statement>,
+    items: &'t [BlockItem],
+) -> Result<Method, CheckFault>
+    requires { context.span ≡ name.now.span }
+    ensures { Gives plain_method result (the_method (known_of context.entry.known) context.entry.result (placed_name name.now) (map placed_parameter ps.entry.now) (map plain_statement front.items) (placed_items items.entry.now)) }
+{
+    let alloc = context.alloc;
+    let (front, mut slots) = also(front, first_slot(alloc, context.known))?;
+    let mut scope = Scope {
+        statements: front,
+        locals: Vec::new(alloc),
+    };
+    parameters(context, &mut scope, &mut slots, ps)?;
+    let round = Round {
+        context,
+        loops: &[],
+    };
+    all_items(round, &mut scope, &mut slots, items)?;
+    answered(context, &scope.statements)?;
+    Ok(Method {
+        class: context.known.own,
+        parameters: ps.len(),
+        slots,
+        result: context.result,
+        body: block_of(scope.statements),
+    })
+}
+
+fn written_method(alloc: Global, known: Known, m: &MethodText) -> Result<Method, CheckFault>
+    ensures { Gives plain_method result (the_written_method (known_of known.entry) (option_map placed_type m.now.result) (placed_name m.now.name) (map placed_parameter m.now.parameters.items) (placed_items m.now.body.items.items)) }
+{
+    let context = Context {
+        alloc,
+        known,
+        result: result_of(known.names, &m.result)?,
+        span: m.name.span,
+    };
+    let front = Vec::new(alloc);
+    method(context, &m.name, &m.parameters, front, &m.body.items)
+}
+
+fn written_constructor(
+    alloc: Global,
+    known: Known,
+    members: &[Member],
+    c: &Constructor,
+) -> Result<Method, CheckFault>
+    ensures { Gives plain_method result (the_written_constructor (known_of known.entry) (map placed_member members.now) (placed_name c.now.name) (map placed_parameter c.now.parameters.items) (placed_items c.now.body.items.items)) }
+{
+    let context = Context {
+        alloc,
+        known,
+        result: None,
+        span: c.name.span,
+    };
+    let front = initialisers(alloc, known, members)?;
+    method(context, &c.name, &c.parameters, front, &c.body.items)
+}
+
+// A method or constructor behind those before it.
+fn one_method(
+    alloc: Global,
+    known: Known,
+    members: &[Member],
+    before: Vec<Method>,
+    m: &Member,
+) -> Result<Vec<Method>, CheckFault>
+    ensures { Gives (λ v. map plain_method v.items) result (the_one_method (known_of known.entry) (map placed_member members.now) (map plain_method before.items) (placed_member m.now)) }
+{
+    let made = match m {
+        Member::Field(_) => return Ok(before),
+        Member::Method(m) => written_method(alloc, known, m),
+        Member::Constructor(c) => written_constructor(alloc, known, members, c),
+    };
+    let (methods, made) = also(before, made)?;
+    Ok(push(methods, made)?)
+}
+
+fn has_constructor(members: &[Member]) -> bool
+    ensures { result ≡ the_has_constructor (map placed_member members.now) }
+{
+    for m in members {
+        if let Member::Constructor(_) = m {
+            return true;
+        }
+    }
+    false
+}
+
+// The constructor of a class that is written with none.
+fn default_constructor(
+    alloc: Global,
+    known: Known,
+    members: &[Member],
+    before: Vec<Method>,
+) -> Result<Vec<Method>, CheckFault>
+    ensures { Gives (λ v. map plain_method v.items) result (the_default_constructor (known_of known.entry) (map placed_member members.now) (map plain_method before.items)) }
+{
+    if has_constructor(members) {
+        return Ok(before);
+    }
+    let front = initialisers(alloc, known, members);
+    let (methods, front) = also(before, front)?;
+    let ((methods, front), slots) = also((methods, front), first_slot(alloc, known))?;
+    let made = Method {
+        class: known.own,
+        parameters: 0,
+        slots,
+        result: None,
+        body: block_of(front),
+    };
+    Ok(push(methods, made)?)
+}
+
+/// The methods and constructors of a class, in text order, behind those of the classes before it.
+pub fn class_methods(
+    alloc: Global,
+    known: Known,
+    before: Vec<Method>,
+    members: &[Member],
+) -> Result<Vec<Method>, CheckFault>
+    ensures { Gives (λ v. map plain_method v.items) result (the_class_methods (known_of known.entry) (map plain_method before.items) (map placed_member members.now)) }
+{
+    let mut methods = before;
+    for m in members {
+        methods = one_method(alloc, known, members, methods, m)?;
+    }
+    default_constructor(alloc, known, members, methods)
+}

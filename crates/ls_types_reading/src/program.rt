@@ -1,0 +1,124 @@
+// Thread programs.
+
+ghost use Rattle.std.specs.Prelude.{◌≡◌, ℕ, IfOk, IfErr, Ok, Some};
+ghost use Rattle.ls_lexer.specs.Lexemes.{lexemes};
+ghost use Rattle.ls_lexer.specs.Places.{Refused};
+ghost use Rattle.ls_types_elaboration.specs.Trees.{File, Text};
+ghost use Rattle.ls_types_elaboration.specs.Elaboration.{Outcome, elaborated};
+ghost use Rattle.ls_checked.specs.PlainProgram.{plain_program};
+ghost use Rattle.ls_types_judgement.specs.WellTyped.{IsWellTypedProgram};
+ghost use Rattle.ls_types.specs.CheckedFile.{outcome_of};
+ghost use Rattle.ls_types_programs.specs.ThreadPrograms.{after, beginning as the_beginning, program_of, program_of_tokens};
+ghost use Rattle.ls_types_programs.specs.Programs.{IsTextOf};
+ghost use Rattle.ls_types_programs.specs.Stops.{stops, unmarked};
+ghost use Rattle.ls_types.specs.ProgramViews.{Gives, Refuses};
+ghost use Rattle.ls_types_reading.specs.ReadingViews.{parts_of, reading_of, StopsAt, StopsWith};
+ghost use Rattle.ls_types.specs.ProgramRefusals.{Stands};
+
+use crate::reading::{Parts, Stage};
+use ls_checked::program::Program;
+use ls_lexer::fault::TextFault;
+use ls_lexer::lexing::lex;
+use ls_lexer::token::Token;
+use ls_types::check::Checked;
+use ls_types::fault::ProgramFault;
+use ls_types_laws::reads_well_typed;
+use std::alloc::{AllocError, Global};
+
+fn beginning(alloc: Global) -> Result<Parts, AllocError>
+    ensures { IfOk result (λ parts. parts_of parts ≡ the_beginning.parts) }
+{
+    Ok(Parts {
+        names: Vec::new(alloc),
+        threads: Vec::new(alloc),
+        name: String::from_str(alloc, "setup")?,
+        calls: Vec::new(alloc),
+    })
+}
+
+// All tokens, behind which the stage is the one that is answered.
+fn read_tokens<'a>(
+    alloc: Global,
+    checked: &Checked,
+    parts: &mut Parts,
+    tokens: &[Token<'a>],
+) -> Result<Stage<'a>, ProgramFault>
+    requires { parts_of parts.old ≡ the_beginning.parts }
+    ensures read { Gives (reading_of parts.new) result (after (outcome_of checked.now) (Some the_beginning) (lexemes tokens.now)) }
+    ensures place { (end : ℕ) → StopsAt end (stops (outcome_of checked.now) end unmarked the_beginning tokens.now) result }
+{
+    let mut stage = Stage::AtSetup;
+    for token in tokens {
+        stage = parts.stepped(alloc, checked, stage, *token)?;
+    }
+    Ok(stage)
+}
+
+// A program ends behind a block; `end` is where the text does.
+fn whole<'a>(
+    alloc: Global,
+    checked: &Checked,
+    tokens: &[Token<'a>],
+    end: usize,
+) -> Result<Program, ProgramFault>
+    ensures read { Gives plain_program result (program_of_tokens (outcome_of checked.now) (Some (lexemes tokens.now))) }
+    ensures place { IfErr result (λ e. StopsWith e (stops (outcome_of checked.now) end unmarked the_beginning tokens.now)) }
+{
+    let mut parts = beginning(alloc)?;
+    let stage = read_tokens(alloc, checked, &mut parts, tokens)?;
+    match stage {
+        Stage::AtThread => Ok(Program {
+            names: parts.names,
+            threads: parts.threads,
+        }),
+        _ => Err(ProgramFault::BadProgram { at: end }),
+    }
+}
+
+#[tactic(auto, using(crate::proofs::Standing::too_long))]
+fn fault_of(fault: TextFault) -> ProgramFault
+    ensures refused { (text : Text) → Refused text fault → (o : Outcome) → Refuses result (program_of o text) }
+    ensures stands { (text : Text) → Refused text fault → (o : Outcome) → Stands o text result }
+{
+    match fault {
+        TextFault::Memory => ProgramFault::Memory,
+        TextFault::TooLong => ProgramFault::ProgramLimit,
+        TextFault::BadByte { at } => ProgramFault::BadProgram { at },
+        TextFault::OpenComment { at } => ProgramFault::BadProgram { at },
+        TextFault::BadNumber { at } => ProgramFault::BadProgram { at },
+        TextFault::Syntax { at } => ProgramFault::BadProgram { at },
+        TextFault::TooDeep { at } => ProgramFault::BadProgram { at },
+    }
+}
+
+#[tactic(auto, using(crate::proofs::Standing::program_stands, crate::proofs::Standing::program_spelled))]
+fn read(alloc: Global, text: &str, checked: &Checked) -> Result<Program, ProgramFault>
+    ensures read { IfOk result (λ p. program_of (outcome_of checked.now) text.now ≡ Some (plain_program p)) }
+    ensures spelled { IfOk result (λ p. IsTextOf (outcome_of checked.now) (plain_program p) text.now) }
+    ensures refused { IfErr result (λ e. Refuses e (program_of (outcome_of checked.now) text.now)) }
+    ensures stands { IfErr result (λ e. Stands (outcome_of checked.now) text.now e) }
+{
+    match lex(alloc, text) {
+        Ok(tokens) => whole(alloc, checked, &tokens, text.len()),
+        Err(fault) => Err(fault_of(fault)),
+    }
+}
+
+/// The thread program that a text is for a checked file: the one that its tokens spell, a well typed program of the file. A fault other than want of memory
+/// says that it is none, and stands there: `BadProgram` at the first token with which no program of any file is spelled (or
+/// the end, or where no token begins), a making in a thread or of a name that is given, and a thread named `all` or as
+/// another; `UnknownThing` at a class, setup name or method that isn't there, a class or method with too few or too many
+/// arguments, and the first argument of another type; `ReferenceResult` at a method that answers a reference;
+/// `ProgramLimit` for more than 262,144 bytes, a seventeenth thread beside the setup, or a call of a thread behind 256.
+pub fn read_program(alloc: Global, text: &str, checked: &Checked) -> Result<Program, ProgramFault>
+    ensures read { IfOk result (λ p. program_of (outcome_of checked.now) text.now ≡ Some (plain_program p)) }
+    ensures typed { IfOk result (λ p. (f : File) → elaborated f ≡ Ok (outcome_of checked.now) → IsWellTypedProgram (outcome_of checked.now).file (plain_program p)) }
+    ensures kept { IfOk result (λ p. ∥ IsWellTypedProgram (outcome_of checked.now).file (plain_program p) ∥₁) }
+    ensures spelled { IfOk result (λ p. IsTextOf (outcome_of checked.now) (plain_program p) text.now) }
+    ensures refused { IfErr result (λ e. Refuses e (program_of (outcome_of checked.now) text.now)) }
+    ensures stands { IfErr result (λ e. Stands (outcome_of checked.now) text.now e) }
+{
+    reads_well_typed();
+    let program = read(alloc, text, checked)?;
+    Ok(program)
+}

@@ -1,0 +1,34 @@
+// A thread program as it is read, token by token.
+
+use ls_checked::program::{ProgramCall, SetupName, ThreadProgram};
+use ls_types::calls::Pending;
+
+/// What comes next.
+#[derive(Drop)]
+pub enum Stage<'a> {
+    AtSetup,
+    AtBlock,
+    AtCall,
+    AfterName(&'a str, usize),
+    AfterAssign(&'a str),
+    AfterNew(&'a str),
+    AfterDot(usize),
+    AtArguments(Pending<'a>),
+    AtFirst(Pending<'a>),
+    AtArgument(Pending<'a>),
+    /// The minus stands at the place.
+    AfterMinus(Pending<'a>, usize),
+    AfterArgument(Pending<'a>),
+    AtSemicolon(Pending<'a>),
+    AtThread,
+    AtThreadName,
+}
+
+/// What is read up to here: the setup names, the threads that are read whole, and the name and calls of the one that is being read.
+#[derive(Drop)]
+pub struct Parts {
+    pub names: Vec<SetupName>,
+    pub threads: Vec<ThreadProgram>,
+    pub name: String,
+    pub calls: Vec<ProgramCall>,
+}

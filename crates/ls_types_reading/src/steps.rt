@@ -1,0 +1,387 @@
+// What each token of a thread program does.
+
+ghost use Rattle.std.specs.Prelude.{◌≡◌, IfErr, IfOk, map, option_copied};
+ghost use Rattle.ls_lexer.specs.Lexemes.{lexeme_of};
+ghost use Rattle.ls_checked.specs.PlainProgram.{plain_thread};
+ghost use Rattle.ls_types.specs.CheckedFile.{outcome_of};
+ghost use Rattle.ls_types_programs.specs.ThreadPrograms.{is_sign as the_sign, is_word as the_word, name_in as the_name_in, number_in as the_number_in, stepped as the_stepped, at_call as the_at_call, after_name as the_after_name, after_new as the_after_new, after_dot as the_after_dot, argument as the_argument, after_minus as the_after_minus, at_first as the_at_first, after_argument as the_after_argument, at_semicolon as the_at_semicolon, at_thread_name as the_at_thread_name, arguments_end as the_arguments_end, thread_named as the_thread_named, closed as the_closed, with_finished as the_with_finished, with_call as the_with_call, is_text as the_is_text, at_thread as the_at_thread};
+ghost use Rattle.ls_types_programs.specs.ThreadPrograms.{AfterArgument as after_argument_stage};
+ghost use Rattle.ls_types_programs.specs.ProgramCalls.{with_argument as the_with_argument};
+ghost use Rattle.ls_types_programs.specs.Stops.{fault_for, Form, TooFew, unmarked, name_mark, callee_mark, minus_mark, why, why_name, why_new, why_dot, why_value, why_argument, why_minus, why_first, why_after, why_semicolon, why_thread, why_thread_name};
+ghost use Rattle.ls_types.specs.ProgramViews.{pending_of, fault_seen, Gives};
+ghost use Rattle.ls_types_reading.specs.ReadingViews.{parts_of, stage_of, reading_of, marks_of, Goes};
+ghost use Rattle.ls_types_reading.specs.declared.reading.Stage.TheVariants.{AtSemicolon as at_semicolon_stage};
+
+use crate::reading::{Parts, Stage};
+use crate::together::passing;
+use ls_checked::program::ThreadProgram;
+use ls_events::value::Value;
+use ls_lexer::sign::Sign;
+use ls_lexer::token::{Token, TokenKind};
+use ls_lexer::word::Word;
+use ls_types::calls::{
+    Pending, call_of, called_on, is_full, maker, minus_number, name_callee, plain_number,
+    setup_named, with_argument,
+};
+use ls_types::check::Checked;
+use ls_types::fault::ProgramFault;
+use std::alloc::{AllocError, Global};
+use std::mem;
+
+/// The most threads beside the setup.
+pub const MOST_THREADS: usize = 16;
+
+/// The most calls of a thread, the setup too.
+pub const MOST_CALLS: usize = 256;
+
+fn is_sign(sign: Sign, kind: TokenKind) -> bool
+    ensures { result ≡ the_sign sign (lexeme_of kind.entry) }
+{
+    match kind {
+        TokenKind::Name(_) => false,
+        TokenKind::Number(_) => false,
+        TokenKind::Word(_) => false,
+        TokenKind::Sign(s) => s == sign,
+    }
+}
+
+fn is_word(word: Word, kind: TokenKind) -> bool
+    ensures { result ≡ the_word word (lexeme_of kind.entry) }
+{
+    match kind {
+        TokenKind::Name(_) => false,
+        TokenKind::Number(_) => false,
+        TokenKind::Word(w) => w == word,
+        TokenKind::Sign(_) => false,
+    }
+}
+
+fn name_in<'a>(kind: TokenKind<'a>) -> Option<&'a str>
+    ensures { option_copied result ≡ the_name_in (lexeme_of kind.entry) }
+{
+    match kind {
+        TokenKind::Name(text) => Some(text),
+        TokenKind::Number(_) => None,
+        TokenKind::Word(_) => None,
+        TokenKind::Sign(_) => None,
+    }
+}
+
+fn number_in<'a>(kind: TokenKind<'a>) -> Option<&'a str>
+    ensures { option_copied result ≡ the_number_in (lexeme_of kind.entry) }
+{
+    match kind {
+        TokenKind::Name(_) => None,
+        TokenKind::Number(text) => Some(text),
+        TokenKind::Word(_) => None,
+        TokenKind::Sign(_) => None,
+    }
+}
+
+fn thread_named(threads: &[ThreadProgram], name: &str) -> bool
+    ensures { result ≡ the_thread_named (map plain_thread threads.now) name.now }
+{
+    match threads {
+        [] => false,
+        [t, rest @ ..] => t.name.as_str() == name || thread_named(rest, name),
+    }
+}
+
+fn is_text(text: &str, name: Option<&str>) -> bool
+    ensures { result ≡ the_is_text text.now (option_copied name.entry) }
+{
+    match name {
+        None => false,
+        Some(name) => name == text,
+    }
+}
+
+impl Parts {
+    /// One more token, in a stage: the next one.
+    pub fn stepped<'a>(
+        &mut self,
+        alloc: Global,
+        checked: &Checked,
+        stage: Stage<'a>,
+        token: Token<'a>,
+    ) -> Result<Stage<'a>, ProgramFault>
+        ensures read { Gives (reading_of self.new) result (the_stepped (outcome_of checked.now) (parts_of self.old) (stage_of stage.entry) (lexeme_of token.entry.kind)) }
+        ensures place { Goes (marks_of stage.entry) token.entry.span.start (why (outcome_of checked.now) (parts_of self.old) (stage_of stage.entry) (lexeme_of token.entry.kind)) result }
+    {
+        let kind = token.kind;
+        let bad = ProgramFault::BadProgram {
+            at: token.span.start,
+        };
+        match stage {
+            Stage::AtSetup => passing(Stage::AtBlock, is_text("setup", name_in(kind)), bad),
+            Stage::AtBlock => passing(Stage::AtCall, is_sign(Sign::OpenBrace, kind), bad),
+            Stage::AtCall => self.at_call(alloc, token),
+            Stage::AfterName(name, at) => self.after_name(name, at, token),
+            Stage::AfterAssign(name) => {
+                passing(Stage::AfterNew(name), is_word(Word::New, kind), bad)
+            }
+            Stage::AfterNew(name) => self.after_new(alloc, checked, name, token),
+            Stage::AfterDot(n) => self.after_dot(alloc, checked, n, token),
+            Stage::AtArguments(p) => passing(
+                Stage::AtFirst(p),
+                is_sign(Sign::OpenParen, kind),
+                bad,
+            ),
+            Stage::AtFirst(p) => self.at_first(p, token),
+            Stage::AtArgument(p) => self.argument(p, token),
+            Stage::AfterMinus(p, minus) => self.after_minus(p, minus, token),
+            Stage::AfterArgument(p) => self.after_argument(p, token),
+            Stage::AtSemicolon(p) => self.at_semicolon(alloc, p, token),
+            Stage::AtThread => self.at_thread(token),
+            Stage::AtThreadName => self.at_thread_name(alloc, token),
+        }
+    }
+
+    // The end of a block.
+    fn close(&mut self, alloc: Global) -> Result<(), AllocError>
+        ensures { IfOk result (λ _. parts_of self.new ≡ the_closed (parts_of self.old)) }
+    {
+        let name = mem::replace(&mut self.name, String::new(alloc));
+        let calls = mem::replace(&mut self.calls, Vec::new(alloc));
+        self.threads.push(ThreadProgram { name, calls })?;
+        Ok(())
+    }
+
+    fn at_call<'a>(&mut self, alloc: Global, token: Token<'a>) -> Result<Stage<'a>, ProgramFault>
+        ensures read { Gives (reading_of self.new) result (the_at_call (parts_of self.old) (lexeme_of token.entry.kind) (the_name_in (lexeme_of token.entry.kind))) }
+        ensures place { Goes unmarked token.entry.span.start Form result }
+    {
+        let at = token.span.start;
+        if let Some(name) = name_in(token.kind) {
+            return Ok(Stage::AfterName(name, at));
+        }
+        if !is_sign(Sign::CloseBrace, token.kind) {
+            return Err(ProgramFault::BadProgram { at });
+        }
+        self.close(alloc)?;
+        Ok(Stage::AtThread)
+    }
+
+    // `=` gives a new name, in the setup alone; `.` uses one that is given.
+    fn after_name<'a>(
+        &self,
+        name: &'a str,
+        at: usize,
+        token: Token<'a>,
+    ) -> Result<Stage<'a>, ProgramFault>
+        ensures read { Gives (reading_of self.now) result (the_after_name (parts_of self.now) name.entry.now (lexeme_of token.entry.kind)) }
+        ensures place { Goes (name_mark at) token.entry.span.start (why_name (lexeme_of token.entry.kind)) result }
+    {
+        if is_sign(Sign::Assign, token.kind) {
+            if self.threads.len() < 1 && setup_named(&self.names, name).is_none() {
+                return Ok(Stage::AfterAssign(name));
+            }
+            return Err(ProgramFault::BadProgram { at });
+        }
+        if !is_sign(Sign::Dot, token.kind) {
+            return Err(ProgramFault::BadProgram {
+                at: token.span.start,
+            });
+        }
+        match setup_named(&self.names, name) {
+            None => Err(ProgramFault::UnknownThing { at }),
+            Some(n) => Ok(Stage::AfterDot(n)),
+        }
+    }
+
+    fn after_new<'a>(
+        &self,
+        alloc: Global,
+        checked: &Checked,
+        name: &'a str,
+        token: Token<'a>,
+    ) -> Result<Stage<'a>, ProgramFault>
+        ensures read { Gives (reading_of self.now) result (the_after_new (outcome_of checked.now) (parts_of self.now) name.entry.now (the_name_in (lexeme_of token.entry.kind))) }
+        ensures place { Goes unmarked token.entry.span.start (why_new (the_name_in (lexeme_of token.entry.kind))) result }
+    {
+        let at = token.span.start;
+        match name_in(token.kind) {
+            None => Err(ProgramFault::BadProgram { at }),
+            Some(class) => Ok(Stage::AtArguments(maker(alloc, checked, name, class, at)?)),
+        }
+    }
+
+    fn after_dot<'a>(
+        &self,
+        alloc: Global,
+        checked: &Checked,
+        n: usize,
+        token: Token<'a>,
+    ) -> Result<Stage<'a>, ProgramFault>
+        ensures read { Gives (reading_of self.now) result (the_after_dot (outcome_of checked.now) (parts_of self.now) n (the_name_in (lexeme_of token.entry.kind))) }
+        ensures place { Goes unmarked token.entry.span.start (why_dot (outcome_of checked.now) (parts_of self.now) n (the_name_in (lexeme_of token.entry.kind))) result }
+    {
+        let at = token.span.start;
+        match name_in(token.kind) {
+            None => Err(ProgramFault::BadProgram { at }),
+            Some(method) => {
+                let p = called_on(alloc, checked, &self.names, n, method, at)?;
+                Ok(Stage::AtArguments(p))
+            }
+        }
+    }
+
+    // An argument's value; the argument stands at `at`.
+    fn valued<'a>(&self, p: Pending<'a>, v: Value, at: usize) -> Result<Stage<'a>, ProgramFault>
+        ensures read { Gives (reading_of self.now) result (the_with_call (parts_of self.now) after_argument_stage (the_with_argument (pending_of p.entry) v)) }
+        ensures place { Goes (callee_mark p.entry.at) at (why_value (pending_of p.entry)) result }
+    {
+        Ok(Stage::AfterArgument(with_argument(p, v, at)?))
+    }
+
+    fn argument<'a>(&self, p: Pending<'a>, token: Token<'a>) -> Result<Stage<'a>, ProgramFault>
+        ensures read { Gives (reading_of self.now) result (the_argument (parts_of self.now) (pending_of p.entry) (lexeme_of token.entry.kind) (the_number_in (lexeme_of token.entry.kind))) }
+        ensures place { Goes (callee_mark p.entry.at) token.entry.span.start (why_argument (pending_of p.entry) (lexeme_of token.entry.kind) (the_number_in (lexeme_of token.entry.kind))) result }
+    {
+        let at = token.span.start;
+        if let Some(digits) = number_in(token.kind) {
+            return match plain_number(digits) {
+                None => Err(ProgramFault::BadProgram { at }),
+                Some(v) => self.valued(p, v, at),
+            };
+        }
+        if is_word(Word::True, token.kind) {
+            return self.valued(p, Value::Boolean(true), at);
+        }
+        if is_word(Word::False, token.kind) {
+            return self.valued(p, Value::Boolean(false), at);
+        }
+        let is_minus = is_sign(Sign::Minus, token.kind);
+        passing(
+            Stage::AfterMinus(p, at),
+            is_minus,
+            ProgramFault::BadProgram { at },
+        )
+    }
+
+    fn after_minus<'a>(
+        &self,
+        p: Pending<'a>,
+        minus: usize,
+        token: Token<'a>,
+    ) -> Result<Stage<'a>, ProgramFault>
+        ensures read { Gives (reading_of self.now) result (the_after_minus (parts_of self.now) (pending_of p.entry) (the_number_in (lexeme_of token.entry.kind))) }
+        ensures place { Goes (minus_mark p.entry.at minus) token.entry.span.start (why_minus (pending_of p.entry) (the_number_in (lexeme_of token.entry.kind))) result }
+    {
+        match number_in(token.kind) {
+            None => Err(ProgramFault::BadProgram {
+                at: token.span.start,
+            }),
+            Some(digits) => self.valued(p, minus_number(digits), minus),
+        }
+    }
+
+    fn arguments_end<'a>(&self, p: Pending<'a>) -> Result<Stage<'a>, ProgramFault>
+        ensures read { Gives (reading_of self.now) result (the_arguments_end (parts_of self.now) (pending_of p.entry)) }
+        ensures stage { IfOk result (λ s. s ≡ at_semicolon_stage p.entry) }
+        ensures place { IfErr result (λ e. e ≡ fault_seen (fault_for (callee_mark p.entry.at) 0 TooFew)) }
+    {
+        let full = is_full(&p);
+        let fault = ProgramFault::UnknownThing { at: p.at };
+        passing(Stage::AtSemicolon(p), full, fault)
+    }
+
+    fn at_first<'a>(&self, p: Pending<'a>, token: Token<'a>) -> Result<Stage<'a>, ProgramFault>
+        ensures read { Gives (reading_of self.now) result (the_at_first (parts_of self.now) (pending_of p.entry) (lexeme_of token.entry.kind)) }
+        ensures place { Goes (callee_mark p.entry.at) token.entry.span.start (why_first (pending_of p.entry) (lexeme_of token.entry.kind)) result }
+    {
+        if is_sign(Sign::CloseParen, token.kind) {
+            self.arguments_end(p)
+        } else {
+            self.argument(p, token)
+        }
+    }
+
+    fn after_argument<'a>(
+        &self,
+        p: Pending<'a>,
+        token: Token<'a>,
+    ) -> Result<Stage<'a>, ProgramFault>
+        ensures read { Gives (reading_of self.now) result (the_after_argument (parts_of self.now) (pending_of p.entry) (lexeme_of token.entry.kind)) }
+        ensures place { Goes (callee_mark p.entry.at) token.entry.span.start (why_after (lexeme_of token.entry.kind)) result }
+    {
+        if is_sign(Sign::CloseParen, token.kind) {
+            return self.arguments_end(p);
+        }
+        let fault = ProgramFault::BadProgram {
+            at: token.span.start,
+        };
+        passing(
+            Stage::AtArgument(p),
+            is_sign(Sign::Comma, token.kind),
+            fault,
+        )
+    }
+
+    // One more call.
+    fn finish(&mut self, alloc: Global, p: Pending) -> Result<(), AllocError>
+        ensures { IfOk result (λ _. parts_of self.new ≡ the_with_finished (parts_of self.old) (pending_of p.entry)) }
+    {
+        let callee = p.callee;
+        let call = call_of(alloc, self.names.len(), p)?;
+        self.calls.push(call)?;
+        name_callee(alloc, &mut self.names, callee)
+    }
+
+    fn at_semicolon<'a>(
+        &mut self,
+        alloc: Global,
+        p: Pending<'a>,
+        token: Token<'a>,
+    ) -> Result<Stage<'a>, ProgramFault>
+        ensures read { Gives (reading_of self.new) result (the_at_semicolon (parts_of self.old) (pending_of p.entry) (lexeme_of token.entry.kind)) }
+        ensures place { Goes (callee_mark p.entry.at) token.entry.span.start (why_semicolon (lexeme_of token.entry.kind)) result }
+    {
+        if !is_sign(Sign::Semicolon, token.kind) {
+            return Err(ProgramFault::BadProgram {
+                at: token.span.start,
+            });
+        }
+        if self.calls.len() >= MOST_CALLS {
+            return Err(ProgramFault::ProgramLimit);
+        }
+        self.finish(alloc, p)?;
+        Ok(Stage::AtCall)
+    }
+
+    // Another thread, where there is room.
+    fn at_thread<'a>(&self, token: Token<'a>) -> Result<Stage<'a>, ProgramFault>
+        ensures read { Gives (reading_of self.now) result (the_at_thread (parts_of self.now) (lexeme_of token.entry.kind)) }
+        ensures place { Goes unmarked token.entry.span.start (why_thread (lexeme_of token.entry.kind)) result }
+    {
+        if !is_text("thread", name_in(token.kind)) {
+            return Err(ProgramFault::BadProgram {
+                at: token.span.start,
+            });
+        }
+        if self.threads.len() > MOST_THREADS {
+            return Err(ProgramFault::ProgramLimit);
+        }
+        Ok(Stage::AtThreadName)
+    }
+
+    fn at_thread_name<'a>(
+        &mut self,
+        alloc: Global,
+        token: Token<'a>,
+    ) -> Result<Stage<'a>, ProgramFault>
+        ensures read { Gives (reading_of self.new) result (the_at_thread_name (parts_of self.old) (the_name_in (lexeme_of token.entry.kind))) }
+        ensures place { Goes unmarked token.entry.span.start (why_thread_name (the_name_in (lexeme_of token.entry.kind))) result }
+    {
+        let at = token.span.start;
+        let Some(name) = name_in(token.kind) else {
+            return Err(ProgramFault::BadProgram { at });
+        };
+        if name == "all" || thread_named(&self.threads, name) {
+            return Err(ProgramFault::BadProgram { at });
+        }
+        self.name = String::from_str(alloc, name)?;
+        self.calls.clear();
+        Ok(Stage::AtBlock)
+    }
+}

@@ -1,6 +1,0 @@
-use Rattle.std.proofs.Common.{◌≡◌, drop}
-use Rattle.ls_types_statements.specs.Left.{has}
-use Rattle.ls_types_statements.proofs.completion.has_innermost.Given as goal
-
-abbrev pub invariant-loop-n : goal.invariant-loop-n
-invariant-loop-n l = has 0 (drop l.n-index l.left) ≡ has 0 l.left

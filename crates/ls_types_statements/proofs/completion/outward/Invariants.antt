@@ -1,6 +1,0 @@
-use Rattle.std.proofs.Common.{◌≡◌, ◌++◌, drop}
-use Rattle.ls_types_statements.specs.Left.{outward}
-use Rattle.ls_types_statements.proofs.completion.outward.Given as goal
-
-abbrev pub invariant-loop-n : goal.invariant-loop-n
-invariant-loop-n l = l.left.items ++ outward (drop l.n-index l.inner) ≡ l.initial.left.items ++ outward l.inner
