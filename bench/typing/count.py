@@ -21,7 +21,7 @@ CONVERT = pathlib.Path(__file__).resolve().parent / 'plain/convert.py'
 REST = '\n%%\nsetup { }\n%%\n'
 # what is printed of a text that is accepted, and of a stopped one
 ANSWERS = ('', r'fault 19 ReservedClass at .*')
-PLAIN_ANSWERS = ('accepted', r'ReservedClass\(.*\)')
+PLAIN_ANSWERS = ('accepted', r'Broken\(Broken { rule: ReservedClass, .*')
 VALGRIND = ['valgrind', '--tool=callgrind', '--callgrind-out-file=/dev/null']
 
 

@@ -16,16 +16,6 @@ impl<V> IndexMap<String, V> {
         self.items.len()
     }
 
-    pub fn get_full(&self, name: &str) -> Option<(usize, &String, &V)> {
-        let index = *self.indices.get(name)?;
-        let (key, value) = &self.items[index];
-        Some((index, key, value))
-    }
-
-    pub fn get(&self, name: &str) -> Option<&V> {
-        self.get_full(name).map(|found| found.2)
-    }
-
     pub fn contains_key(&self, name: &str) -> bool {
         self.indices.contains_key(name)
     }
@@ -35,13 +25,14 @@ impl<V> IndexMap<String, V> {
         self.indices.insert(name.clone(), self.items.len());
         self.items.push((name, value));
     }
+}
 
-    pub fn values(&self) -> impl Iterator<Item = &V> {
-        self.items.iter().map(|item| &item.1)
-    }
+impl<K, V> IntoIterator for IndexMap<K, V> {
+    type Item = (K, V);
+    type IntoIter = std::vec::IntoIter<(K, V)>;
 
-    pub fn iter(&self) -> impl Iterator<Item = (&String, &V)> {
-        self.items.iter().map(|(name, value)| (name, value))
+    fn into_iter(self) -> Self::IntoIter {
+        self.items.into_iter()
     }
 }
 
@@ -62,12 +53,17 @@ impl IndexSet<String> {
         self.map.contains_key(name)
     }
 
-    pub fn get_index_of(&self, name: &str) -> Option<usize> {
-        self.map.get_full(name).map(|found| found.0)
-    }
-
     /// The name is new.
     pub fn insert(&mut self, name: String) {
         self.map.insert(name, ());
+    }
+}
+
+impl<K> IntoIterator for IndexSet<K> {
+    type Item = K;
+    type IntoIter = std::iter::Map<std::vec::IntoIter<(K, ())>, fn((K, ())) -> K>;
+
+    fn into_iter(self) -> Self::IntoIter {
+        self.map.into_iter().map(|item| item.0)
     }
 }

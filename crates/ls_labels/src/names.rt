@@ -1,15 +1,13 @@
 // The names of a text and a program.
 
-ghost use Rattle.std.specs.Prelude.{◌≡◌, ◌++◌, OnOk, [], option_map, slice_get, string_bytes};
+ghost use Rattle.std.specs.Prelude.{◌≡◌, ◌++◌, OnOk, [], map, option_map, slice_get, string_bytes};
 ghost use Rattle.std.specs.Option.{option_map_or};
-ghost use Rattle.ls_types_elaboration.specs.Tables.{field_signs_of, method_signs_of};
+ghost use Rattle.ls_types_elaboration.specs.Tables.{field_sign_of, method_sign_of};
 ghost use Rattle.ls_labels.specs.Names.{class_name, field_name, method_found, method_name, names_of};
 
-use indexmap::{IndexMap, IndexSet};
 use ls_checked::program::Program;
 use ls_checked::tree::File;
-use ls_events::value::ValueType;
-use ls_types_elaboration::known::{ClassSign, MethodSign};
+use ls_types_elaboration::known::{ClassSign, FieldSign, MethodSign};
 use std::alloc::AllocError;
 use std::fmt::Write;
 
@@ -17,7 +15,7 @@ use std::fmt::Write;
 /// file, and the program that is run.
 #[derive(Clone, Copy)]
 pub struct Names<'n> {
-    pub classes: &'n IndexSet<String>,
+    pub classes: &'n [String],
     pub signs: &'n [ClassSign],
     pub file: &'n File,
     pub program: &'n Program,
@@ -27,18 +25,18 @@ pub struct Names<'n> {
 pub fn class_name<'n>(names: Names<'n>, class: usize) -> &'n str
     ensures { result.now ≡ class_name (names_of names.entry) class }
 {
-    match names.classes.get_index(class) {
+    match names.classes.get(class) {
         Some(name) => name.as_str(),
         None => "",
     }
 }
 
 // The name of a field, by its number.
-fn field_at(fields: &IndexMap<String, ValueType>, field: usize) -> &str
-    ensures { result.now ≡ option_map_or (λ f. f.name) (slice_get (field_signs_of fields.now) field) [] }
+fn field_at(fields: &[FieldSign], field: usize) -> &str
+    ensures { result.now ≡ option_map_or (λ f. f.name) (slice_get (map field_sign_of fields.now) field) [] }
 {
-    match fields.get_index(field) {
-        Some((name, _)) => name.as_str(),
+    match fields.get(field) {
+        Some(sign) => sign.name.as_str(),
         None => "",
     }
 }
@@ -54,17 +52,19 @@ pub fn field_name<'n>(names: Names<'n>, class: usize, field: usize) -> &'n str
 }
 
 // The name of the method of a number in the file, among those of its class.
-fn method_found(methods: &IndexMap<String, MethodSign>, number: usize) -> Option<&str>
-    ensures { option_map (λ n. n.now) result ≡ method_found (method_signs_of methods.now) number }
+fn method_found(methods: &[MethodSign], number: usize) -> Option<&str>
+    ensures { option_map (λ n. n.now) result ≡ method_found (map method_sign_of methods.now) number }
 {
-    for index in 0..methods.len() {
-        if let Some((name, sign)) = methods.get_index(index) {
+    match methods {
+        [] => None,
+        [sign, rest @ ..] => {
             if sign.number == number {
-                return Some(name.as_str());
+                Some(sign.name.as_str())
+            } else {
+                method_found(rest, number)
             }
         }
     }
-    None
 }
 
 /// Adds a method of the file, as `SetList.add`, or a constructor, as `new SetList`, by its number.

@@ -13,7 +13,7 @@ file_of c = c.file
 
 -- the names of the classes, and what they declare
 abbrev pub names_of : Checked → List Text
-names_of c = texts_of c.names
+names_of c = texts_of c.names.items
 
 abbrev pub signs_of : Checked → List ClassSign
 signs_of c = map class_sign_of c.signs.items

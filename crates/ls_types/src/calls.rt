@@ -119,7 +119,7 @@ fn is_plain(answers: Option<ValueType>) -> bool
 
 // The method of a name, of the class of what a setup name holds.
 fn method_on<'c>(checked: &'c Checked, n: Option<&SetupName>, name: &str) -> Option<&'c MethodSign>
-    ensures { option_map (λ m. method_sign_of name.now m.now) result ≡ the_method_on (outcome_of checked.entry.now) (option_map (λ s. plain_name s.now) n.entry) name.now }
+    ensures { option_map (λ m. method_sign_of m.now) result ≡ the_method_on (outcome_of checked.entry.now) (option_map (λ s. plain_name s.now) n.entry) name.now }
 {
     match n {
         None => None,

@@ -5,7 +5,6 @@ ghost use Rattle.ls_checked.specs.Plain.{plain_file};
 ghost use Rattle.ls_types_elaboration.specs.Tables.{texts_of, class_sign_of};
 ghost use Rattle.ls_types.specs.Kept.{IsElaborated};
 
-use indexmap::IndexSet;
 use ls_checked::tree::File;
 use ls_types_elaboration::known::ClassSign;
 use ls_types_elaboration::outcome::Outcome;
@@ -14,11 +13,11 @@ pub use ls_types_elaboration::rule::CheckFault;
 /// The checked file of a class text that keeps every rule.
 #[derive(Drop)]
 pub struct Checked {
-    names: IndexSet<String>,
+    names: Vec<String>,
     signs: Vec<ClassSign>,
     file: File,
     /// The file is the elaboration of a tree.
-    pub ghost kept: { ∥ IsElaborated (record { names = texts_of names; signs = map class_sign_of signs.items; file = plain_file file }) ∥₁ },
+    pub ghost kept: { ∥ IsElaborated (record { names = texts_of names.items; signs = map class_sign_of signs.items; file = plain_file file }) ∥₁ },
 }
 
 impl Checked {
@@ -28,7 +27,7 @@ impl Checked {
     /// A checked file of what the elaboration of a tree answers.
     pub fn new(outcome: Outcome) -> Checked
         requires { IsElaborated (outcome_seen outcome) }
-        ensures names { names_of result ≡ texts_of outcome.names }
+        ensures names { names_of result ≡ texts_of outcome.names.items }
         ensures signs { signs_of result ≡ map class_sign_of outcome.signs.items }
         ensures file { file_of result ≡ outcome.file }
     {
@@ -43,7 +42,7 @@ impl Checked {
     }
 
     /// The names of the classes, in text order: a class's number is the index of its name.
-    pub fn class_names(&self) -> &IndexSet<String>
+    pub fn class_names(&self) -> &[String]
         ensures { texts_of result.now ≡ names_of self.now }
     {
         &self.names

@@ -5,7 +5,7 @@ use Rattle.ls_events.specs.declared.value.ValueType.{ValueType}
 use Rattle.ls_events.specs.declared.value.ValueType.TheVariants as types
 use Rattle.ls_types_elaboration.specs.declared.rule.Rule.TheVariants.{UnknownType}
 use Rattle.ls_types_elaboration.specs.declared.known.FoundField.{FoundField}
-use Rattle.ls_types_elaboration.specs.Trees.{Text, Name}
+use Rattle.ls_types_elaboration.specs.Trees.{Text}
 use Rattle.ls_types_elaboration.specs.Trees as parsed
 use Rattle.ls_types_elaboration.specs.Elaborated.{Elaborated, broken, with_ok}
 

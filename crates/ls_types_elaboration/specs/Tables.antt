@@ -1,12 +1,10 @@
 -- What contracts see of the tables of names.
 use Rattle.std.specs.Global.{Global}
 use Rattle.std.specs.Prelude.{List, map, String, string_bytes}
-use Rattle.indexmap.specs.IndexMap.{IndexMap}
-use Rattle.indexmap.specs.IndexSet.{IndexSet}
-use Rattle.ls_events.specs.declared.value.ValueType.{ValueType}
 use Rattle.ls_types_elaboration.specs.Trees.{Text}
 use Rattle.ls_types_elaboration.specs.Known as known
 use Rattle.ls_types_elaboration.specs.declared.known.Local.{Local}
+use Rattle.ls_types_elaboration.specs.declared.known.FieldSign.{FieldSign}
 use Rattle.ls_types_elaboration.specs.declared.known.MethodSign.{MethodSign}
 use Rattle.ls_types_elaboration.specs.declared.known.ClassSign.{ClassSign}
 use Rattle.ls_types_elaboration.specs.declared.known.Known.{Known}
@@ -14,27 +12,21 @@ use Rattle.ls_types_elaboration.specs.declared.known.Known.{Known}
 abbrev pub local_of : Local → known.Local
 local_of l = record { name = l.name.now; type = l.value_type; slot = l.slot }
 
--- the names in a set, by their numbers
-abbrev pub texts_of : {S : Type 0} → IndexSet (String Global) S → List Text
-texts_of names = map string_bytes names.keys
+-- names by their numbers
+abbrev pub texts_of : List (String Global) → List Text
+texts_of names = map string_bytes names
 
-abbrev pub field_sign_of : Text → ValueType → known.FieldSign
-field_sign_of name t = record { name = name; type = t }
+abbrev pub field_sign_of : FieldSign → known.FieldSign
+field_sign_of f = record { name = string_bytes f.name; type = f.value_type }
 
--- the fields, by their numbers
-abbrev pub field_signs_of : {S : Type 0} → IndexMap (String Global) ValueType S → List known.FieldSign
-field_signs_of fields = map (λ f. field_sign_of (string_bytes f.0) f.1) fields.entries
+abbrev pub method_sign_of : MethodSign → known.MethodSign
+method_sign_of m = record { name = string_bytes m.name; number = m.number; parameters = m.parameters.items; result = m.result }
 
-abbrev pub method_sign_of : Text → MethodSign → known.MethodSign
-method_sign_of name m = record { name = name; number = m.number; parameters = m.parameters.items; result = m.result }
-
-abbrev pub method_signs_of : {S : Type 0} → IndexMap (String Global) MethodSign S → List known.MethodSign
-method_signs_of methods = map (λ m. method_sign_of (string_bytes m.0) m.1) methods.entries
-
+-- what a class declares: fields by their numbers
 abbrev pub class_sign_of : ClassSign → known.ClassSign
 class_sign_of c = record {
-  fields = field_signs_of c.fields;
-  methods = method_signs_of c.methods;
+  fields = map field_sign_of c.fields.items;
+  methods = map method_sign_of c.methods.items;
   constructor = c.constructor;
   parameters = c.parameters.items;
 }

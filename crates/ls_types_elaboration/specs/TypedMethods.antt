@@ -5,7 +5,7 @@ use Rattle.ls_events.specs.declared.value.ValueType.TheVariants as types
 use Rattle.ls_checked.specs.CheckedTree as checked
 use Rattle.ls_types_elaboration.specs.declared.rule.Rule.TheVariants.{MissingReturn}
 use Rattle.ls_types_elaboration.specs.declared.known.FoundField.{FoundField}
-use Rattle.ls_types_elaboration.specs.Trees.{Name, Declarator, Declaration, Parameter}
+use Rattle.ls_types_elaboration.specs.Trees.{Name, Declarator, Parameter}
 use Rattle.ls_types_elaboration.specs.Trees as parsed
 use Rattle.ls_types_elaboration.specs.Elaborated.{Elaborated, with_ok, unless_broken, each}
 use Rattle.ls_types_elaboration.specs.Known.{Known, field_of, type_of, result_of}

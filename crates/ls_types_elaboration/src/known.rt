@@ -1,12 +1,11 @@
 // What a text declares, and how names find it.
 
-ghost use Rattle.std.specs.Prelude.{◌≡◌, ◌<◌, IfSome, map, option_map, slice_get};
-ghost use Rattle.indexmap.specs.IndexMap.{index_map_len};
-ghost use Rattle.indexmap.specs.IndexSet.{index_set_len};
+ghost use Rattle.std.specs.List.{position};
+ghost use Rattle.std.specs.Prelude.{◌≡◌, ◌<◌, IfSome, length, map, option_map, slice_get, string_bytes};
+ghost use Rattle.std.specs.Str.{bytes_eq};
 ghost use Rattle.ls_types_elaboration.specs.Known.{local_named as the_local, field_named as the_field, method_named as the_method, number_of as the_number, field_of as the_field_of, method_of as the_method_of};
-ghost use Rattle.ls_types_elaboration.specs.Tables.{local_of, texts_of, field_signs_of, method_sign_of, method_signs_of, class_sign_of, known_of};
+ghost use Rattle.ls_types_elaboration.specs.Tables.{local_of, texts_of, field_sign_of, method_sign_of, class_sign_of, known_of};
 
-use indexmap::{IndexMap, IndexSet};
 use ls_events::value::ValueType;
 
 /// The most slots of a method: `this`, parameters and locals.
@@ -20,20 +19,28 @@ pub struct Local<'t> {
     pub slot: usize,
 }
 
-/// A method: its number in the file, the types of its parameters, and the type that it answers, which is none where it is void.
+#[derive(Drop)]
+pub struct FieldSign {
+    pub name: String,
+    pub value_type: ValueType,
+}
+
+/// A method: its name, its number in the file, the types of its parameters, and the type that it answers, which is none where it is
+/// void.
 #[derive(Drop)]
 pub struct MethodSign {
+    pub name: String,
     pub number: usize,
     pub parameters: Vec<ValueType>,
     pub result: Option<ValueType>,
 }
 
-/// What a class declares, by name, and the number of its constructor with the types of its parameters. A field's number is its
-/// index.
+/// What a class declares, in text order, and the number of its constructor with the types of its parameters. A field's number is
+/// its index.
 #[derive(Drop)]
 pub struct ClassSign {
-    pub fields: IndexMap<String, ValueType>,
-    pub methods: IndexMap<String, MethodSign>,
+    pub fields: Vec<FieldSign>,
+    pub methods: Vec<MethodSign>,
     pub constructor: usize,
     pub parameters: Vec<ValueType>,
 }
@@ -42,7 +49,7 @@ pub struct ClassSign {
 /// its name.
 #[derive(Clone, Copy)]
 pub struct Known<'k> {
-    pub names: &'k IndexSet<String>,
+    pub names: &'k [String],
     pub classes: &'k [ClassSign],
     pub own: usize,
 }
@@ -53,12 +60,19 @@ pub struct FoundField {
     pub value_type: ValueType,
 }
 
-/// The number of a class.
-pub fn number_of(names: &IndexSet<String>, name: &str) -> Option<usize>
-    ensures found { result ≡ the_number (texts_of names.now) name.now }
-    ensures small { IfSome result (λ n. n < index_set_len names.now) }
+fn name_at(names: &[String], name: &str) -> Option<usize>
+    ensures found { result ≡ position (λ n. bytes_eq (string_bytes n) name.now) names.now }
+    ensures small { IfSome result (λ n. n < length names.now) }
 {
-    names.get_index_of(name)
+    names.iter().position(|n| n.as_str() == name)
+}
+
+/// The number of a class.
+pub fn number_of(names: &[String], name: &str) -> Option<usize>
+    ensures found { result ≡ the_number (texts_of names.now) name.now }
+    ensures small { IfSome result (λ n. n < length names.now) }
+{
+    name_at(names, name)
 }
 
 /// A local in scope.
@@ -77,26 +91,39 @@ pub fn local_named<'t>(locals: &[Local<'t>], name: &str) -> Option<Local<'t>>
     }
 }
 
-/// A field among those of a class.
-pub fn field_named(fields: &IndexMap<String, ValueType>, name: &str) -> Option<FoundField>
-    ensures found { result ≡ the_field (field_signs_of fields.now) name.now }
-    ensures small { IfSome result (λ f. f.number < index_map_len fields.now) }
+fn field_at(fields: &[FieldSign], name: &str) -> Option<usize>
+    ensures found { result ≡ position (λ f. bytes_eq (string_bytes f.name) name.now) fields.now }
+    ensures small { IfSome result (λ n. n < length fields.now) }
 {
-    let (number, _, value_type) = fields.get_full(name)?;
+    fields.iter().position(|f| f.name.as_str() == name)
+}
+
+/// A field among those of a class.
+pub fn field_named(fields: &[FieldSign], name: &str) -> Option<FoundField>
+    ensures found { result ≡ the_field (map field_sign_of fields.now) name.now }
+    ensures small { IfSome result (λ f. f.number < length fields.now) }
+{
+    let number = field_at(fields, name)?;
     Some(FoundField {
         number,
-        value_type: *value_type,
+        value_type: fields[number].value_type,
     })
 }
 
 /// A method among those of a class.
-pub fn method_named<'a>(
-    methods: &'a IndexMap<String, MethodSign>,
-    name: &str,
-) -> Option<&'a MethodSign>
-    ensures { option_map (λ m. method_sign_of name.now m.now) result ≡ the_method (method_signs_of methods.now) name.now }
+pub fn method_named<'a>(methods: &'a [MethodSign], name: &str) -> Option<&'a MethodSign>
+    ensures { option_map (λ m. method_sign_of m.now) result ≡ the_method (map method_sign_of methods.now) name.now }
 {
-    methods.get(name)
+    match methods {
+        [] => None,
+        [m, rest @ ..] => {
+            if m.name.as_str() == name {
+                Some(m)
+            } else {
+                method_named(rest, name)
+            }
+        }
+    }
 }
 
 /// The class of a number.
@@ -118,7 +145,7 @@ pub fn field_of(known: Known, class: usize, name: &str) -> Option<FoundField>
 
 /// A method of a class.
 pub fn method_of<'a>(known: Known<'a>, class: usize, name: &str) -> Option<&'a MethodSign>
-    ensures { option_map (λ m. method_sign_of name.now m.now) result ≡ the_method_of (known_of known.entry) class name.now }
+    ensures { option_map (λ m. method_sign_of m.now) result ≡ the_method_of (known_of known.entry) class name.now }
 {
     match class_at(known, class) {
         None => None,

@@ -9,12 +9,11 @@ ghost use Rattle.ls_types_elaboration.specs.Tables.{texts_of};
 
 use crate::known::number_of;
 use crate::rule::{Broken, Rule, broken_at};
-use indexmap::IndexSet;
 use ls_events::value::ValueType;
 use ls_tree::tree::{Name, Type};
 
 /// The type that is written.
-pub fn type_of(names: &IndexSet<String>, t: &Type) -> Result<ValueType, Broken>
+pub fn type_of(names: &[String], t: &Type) -> Result<ValueType, Broken>
     ensures { result ≡ the_type (texts_of names.now) (placed_type t.now) }
 {
     match t {
@@ -29,7 +28,7 @@ pub fn type_of(names: &IndexSet<String>, t: &Type) -> Result<ValueType, Broken>
     }
 }
 
-fn class_type(names: &IndexSet<String>, n: &Name) -> Result<ValueType, Broken>
+fn class_type(names: &[String], n: &Name) -> Result<ValueType, Broken>
     ensures { result ≡ the_type (texts_of names.now) (a_class (placed_name n.now)) }
 {
     if n.text.as_str() == "Lock" || n.text.as_str() == "ReentrantLock" {
@@ -42,7 +41,7 @@ fn class_type(names: &IndexSet<String>, n: &Name) -> Result<ValueType, Broken>
 }
 
 /// What a method answers.
-pub fn result_of(names: &IndexSet<String>, t: &Option<Type>) -> Result<Option<ValueType>, Broken>
+pub fn result_of(names: &[String], t: &Option<Type>) -> Result<Option<ValueType>, Broken>
     ensures { result ≡ the_result (texts_of names.now) (option_map placed_type t.now) }
 {
     match t {

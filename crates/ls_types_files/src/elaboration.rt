@@ -9,7 +9,6 @@ ghost use Rattle.ls_types_files.specs.FileViews.{bodies_of};
 ghost use Rattle.ls_types_elaboration.specs.Answers.{Gives};
 
 use crate::methods::class_methods;
-use indexmap::IndexSet;
 use ls_checked::tree::{File, Method};
 use ls_tree::tree;
 use ls_tree::tree::ClassFile;
@@ -24,7 +23,7 @@ use std::alloc::Global;
 // The methods of all classes.
 fn file_methods(
     alloc: Global,
-    names: &IndexSet<String>,
+    names: &[String],
     signs: &[ClassSign],
     classes: &[tree::Class],
 ) -> Result<Vec<Method>, CheckFault>

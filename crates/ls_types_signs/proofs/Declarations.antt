@@ -10,14 +10,13 @@ use Rattle.indexmap.specs.IndexMap.{insert_entry}
 use Rattle.indexmap.specs.IndexSet.{insert_key}
 use Rattle.ls_events.specs.declared.value.ValueType.{ValueType}
 use Rattle.ls_types_elaboration.specs.declared.rule.Rule.TheVariants.{TwiceDeclared, Limit}
-use Rattle.ls_types_elaboration.specs.declared.known.MethodSign.{MethodSign}
 use Rattle.ls_types_elaboration.specs.Trees.{Name, Declarator, ClassTree}
 use Rattle.ls_types_elaboration.specs.Elaborated.{broken}
 use Rattle.ls_types_signs.specs.declared.signs.Met.{Met}
 use Rattle.ls_types_elaboration.specs.Signs.{is_reserved, most_classes, most_fields, most_methods, one_name, field_met, method_met}
-use Rattle.ls_types_signs.specs.SignViews.{met_of}
-use Rattle.ls_types_elaboration.specs.Tables.{field_sign_of, method_sign_of, field_signs_of, method_signs_of}
-use Rattle.ls_types_elaboration.proofs.Keys.{has, any_number, any_field, any_method, field_at, method_at, insert_key_new, insert_entry_new}
+use Rattle.ls_types_signs.specs.declared.tables.MetMethod.{MetMethod}
+use Rattle.ls_types_signs.specs.SignViews.{met_of, field_entry, method_entry, field_entries_of, method_entries_of}
+use Rattle.ls_types_signs.proofs.Keys.{has, any_number, any_field, any_method, field_at, method_at, insert_key_new, insert_entry_new}
 
 module _ (names : List (String Global)) (c : ClassTree) (free : is_reserved c.name.text ≡ false) where
   pub name_twice : list_any (has c.name.text) names ≡ true → one_name (map string_bytes names) c ≡ broken TwiceDeclared c.name.span
@@ -46,11 +45,11 @@ module _ (t : ValueType) (met : Met) (d : Declarator) where
     pub field_added : (name : String Global) (fields : List (String Global × ValueType)) → string_bytes name ≡ d.name.text → length met.fields.entries < most_fields
         → fields ≡ insert_entry string_eq met.fields.entries name t
         → field_met t (met_of met) d
-        ≡ Ok (record { fields = map field_at fields; methods = method_signs_of met.methods; constructor = met.constructor; parameters = met.parameters.items; next = met.next })
+        ≡ Ok (record { fields = map field_at fields; methods = method_entries_of met.methods; constructor = met.constructor; parameters = met.parameters.items; next = met.next })
     field_added name fields same below after =
         rw (sym (any_field met.fields.entries d.name.text) ∙ new, let e : nat_lt (length (map field_at met.fields.entries)) most_fields ≡ true = rw length-map (lt-ltb _ _ below) in e)
-        (let e = ap (map field_at) after ∙ insert_entry_new field_sign_of met.fields.entries name t d.name.text same new in
-        ap (λ fs. Ok (record { fields = fs; methods = method_signs_of met.methods; constructor = met.constructor; parameters = met.parameters.items; next = met.next })) (sym e))
+        (let e = ap (map field_at) after ∙ insert_entry_new field_entry met.fields.entries name t d.name.text same new in
+        ap (λ fs. Ok (record { fields = fs; methods = method_entries_of met.methods; constructor = met.constructor; parameters = met.parameters.items; next = met.next })) (sym e))
 
 module _ (met : Met) (n : Name) (types : Vec ValueType) (answers : Option ValueType) where
   pub method_twice : is_some (lookup (has n.text) met.methods.entries) ≡ true → method_met (met_of met) n types.items answers ≡ broken TwiceDeclared n.span
@@ -61,11 +60,11 @@ module _ (met : Met) (n : Name) (types : Vec ValueType) (answers : Option ValueT
     method_over above =
         rw (sym (any_method met.methods.entries n.text) ∙ new, let e : nat_lt met.next most_methods ≡ false = le-ltb _ _ above in e) refl
 
-    pub method_added : (name : String Global) (methods : List (String Global × MethodSign)) → string_bytes name ≡ n.text → met.next < most_methods
+    pub method_added : (name : String Global) (methods : List (String Global × MetMethod)) → string_bytes name ≡ n.text → met.next < most_methods
         → methods ≡ insert_entry string_eq met.methods.entries name (record { number = met.next; parameters = types; result = answers })
         → method_met (met_of met) n types.items answers
-        ≡ Ok (record { fields = field_signs_of met.fields; methods = map method_at methods; constructor = met.constructor; parameters = met.parameters.items; next = met.next + 1 })
+        ≡ Ok (record { fields = field_entries_of met.fields; methods = map method_at methods; constructor = met.constructor; parameters = met.parameters.items; next = met.next + 1 })
     method_added name methods same below after =
         rw (sym (any_method met.methods.entries n.text) ∙ new, let e : nat_lt met.next most_methods ≡ true = lt-ltb _ _ below in e)
-        (let e = ap (map method_at) after ∙ insert_entry_new method_sign_of met.methods.entries name (record { number = met.next; parameters = types; result = answers }) n.text same new in
-        ap (λ ms. Ok (record { fields = field_signs_of met.fields; methods = ms; constructor = met.constructor; parameters = met.parameters.items; next = met.next + 1 })) (sym e))
+        (let e = ap (map method_at) after ∙ insert_entry_new method_entry met.methods.entries name (record { number = met.next; parameters = types; result = answers }) n.text same new in
+        ap (λ ms. Ok (record { fields = field_entries_of met.fields; methods = ms; constructor = met.constructor; parameters = met.parameters.items; next = met.next + 1 })) (sym e))

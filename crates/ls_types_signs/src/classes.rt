@@ -3,23 +3,19 @@
 ghost use Rattle.std.specs.Prelude.{◌≡◌, IfOk, map};
 ghost use Rattle.ls_checked.specs.Plain.{plain_class};
 ghost use Rattle.ls_types_elaboration.specs.Elaboration.{checked_class as the_class};
-ghost use Rattle.ls_types_elaboration.specs.Tables.{class_sign_of, field_signs_of};
+ghost use Rattle.ls_types_elaboration.specs.Tables.{class_sign_of, field_sign_of};
 
-use indexmap::IndexMap;
 use ls_checked::tree::Class;
 use ls_events::value::ValueType;
-use ls_types_elaboration::known::ClassSign;
+use ls_types_elaboration::known::{ClassSign, FieldSign};
 use std::alloc::{AllocError, Global};
 
-fn field_types(
-    alloc: Global,
-    fields: &IndexMap<String, ValueType>,
-) -> Result<Vec<ValueType>, AllocError>
-    ensures { IfOk result (λ v. v.items ≡ map (λ f. f.type) (field_signs_of fields.now)) }
+fn field_types(alloc: Global, fields: &[FieldSign]) -> Result<Vec<ValueType>, AllocError>
+    ensures { IfOk result (λ v. v.items ≡ map (λ f. f.type) (map field_sign_of fields.now)) }
 {
     let mut types = Vec::new(alloc);
-    for t in fields.values() {
-        types.push(*t)?;
+    for f in fields {
+        types.push(f.value_type)?;
     }
     Ok(types)
 }

@@ -5,13 +5,14 @@ ghost use Rattle.ls_types_elaboration.specs.Signs.{is_reserved as the_reserved, 
 ghost use Rattle.ls_types_elaboration.specs.Placed.{placed_name};
 ghost use Rattle.ls_types_elaboration.specs.PlacedStatements.{placed_parameter, placed_declarator, placed_member, placed_class, placed_declaration};
 ghost use Rattle.ls_types_elaboration.specs.Tables.{texts_of};
-ghost use Rattle.ls_types_signs.specs.SignViews.{met_of, classes_of};
+ghost use Rattle.ls_types_signs.specs.SignViews.{keys_of, met_of, classes_of};
 ghost use Rattle.ls_types_elaboration.specs.Answers.{Gives, seen};
 
+use crate::tables::{MetMethod, field_signs, method_signs, names_of};
 use indexmap::{IndexMap, IndexSet};
 use ls_events::value::ValueType;
 use ls_tree::tree::{Class, Declaration, Declarator, Member, Name, Parameter};
-use ls_types_elaboration::known::{ClassSign, MOST_SLOTS, MethodSign};
+use ls_types_elaboration::known::{ClassSign, MOST_SLOTS};
 use ls_types_elaboration::rule::{Broken, CheckFault, Rule, broken_at, refused_at};
 use ls_types_elaboration::type_names::{result_of, type_of};
 use std::alloc::Global;
@@ -25,14 +26,14 @@ pub const MOST_FIELDS: usize = 64;
 /// The most methods and constructors of a file, default ones too.
 pub const MOST_METHODS: usize = 512;
 
-/// What has been met of a class, and the number of the next method or constructor.
+// What has been met of a class, and the number of the next method or constructor.
 #[derive(Drop)]
-pub struct Met {
-    pub fields: IndexMap<String, ValueType>,
-    pub methods: IndexMap<String, MethodSign>,
-    pub constructor: Option<usize>,
-    pub parameters: Vec<ValueType>,
-    pub next: usize,
+struct Met {
+    fields: IndexMap<String, ValueType>,
+    methods: IndexMap<String, MetMethod>,
+    constructor: Option<usize>,
+    parameters: Vec<ValueType>,
+    next: usize,
 }
 
 /// The classes so far, and the number of the next method or constructor.
@@ -53,7 +54,7 @@ fn is_reserved(name: &str) -> bool
 
 // One more class's name.
 fn one_name(alloc: Global, names: &mut IndexSet<String>, c: &Class) -> Result<(), CheckFault>
-    ensures { Gives (λ u. texts_of names.new) result (the_one_name (texts_of names.old) (placed_class c.now)) }
+    ensures { Gives (λ u. keys_of names.new) result (the_one_name (keys_of names.old) (placed_class c.now)) }
 {
     let name = c.name.text.as_str();
     if is_reserved(name) {
@@ -69,9 +70,8 @@ fn one_name(alloc: Global, names: &mut IndexSet<String>, c: &Class) -> Result<()
     Ok(())
 }
 
-/// The names of the classes.
-pub fn class_names(alloc: Global, classes: &[Class]) -> Result<IndexSet<String>, CheckFault>
-    ensures { Gives texts_of result (the_class_names (map placed_class classes.now)) }
+fn numbered_names(alloc: Global, classes: &[Class]) -> Result<IndexSet<String>, CheckFault>
+    ensures { Gives keys_of result (the_class_names (map placed_class classes.now)) }
 {
     let mut names = IndexSet::new(alloc);
     for c in classes {
@@ -80,10 +80,17 @@ pub fn class_names(alloc: Global, classes: &[Class]) -> Result<IndexSet<String>,
     Ok(names)
 }
 
+/// The names of the classes, by their numbers.
+pub fn class_names(alloc: Global, classes: &[Class]) -> Result<Vec<String>, CheckFault>
+    ensures { Gives (λ v. texts_of v.items) result (the_class_names (map placed_class classes.now)) }
+{
+    Ok(names_of(alloc, numbered_names(alloc, classes)?)?)
+}
+
 // The types of parameters, which have room beside `this`.
 fn parameter_types(
     alloc: Global,
-    names: &IndexSet<String>,
+    names: &[String],
     n: &Name,
     ps: &[Parameter],
 ) -> Result<Vec<ValueType>, CheckFault>
@@ -129,7 +136,7 @@ fn method_met(
     if met.next >= MOST_METHODS {
         return Err(refused_at(Rule::Limit, n.span));
     }
-    let sign = MethodSign {
+    let sign = MetMethod {
         number: met.next,
         parameters: types,
         result: answers,
@@ -165,7 +172,7 @@ fn constructor_met(
 
 fn fields_met(
     alloc: Global,
-    names: &IndexSet<String>,
+    names: &[String],
     met: &mut Met,
     d: &Declaration,
 ) -> Result<(), CheckFault>
@@ -181,7 +188,7 @@ fn fields_met(
 
 fn member_met(
     alloc: Global,
-    names: &IndexSet<String>,
+    names: &[String],
     class: &Name,
     met: &mut Met,
     m: &Member,
@@ -214,6 +221,8 @@ fn class_met(alloc: Global, classes: &mut Classes, n: &Name, met: Met) -> Result
         parameters,
         next,
     } = met;
+    let fields = field_signs(alloc, fields)?;
+    let methods = method_signs(alloc, methods)?;
     match constructor {
         Some(constructor) => {
             classes.signs.push(ClassSign {
@@ -255,7 +264,7 @@ fn nothing_met(alloc: Global, next: usize) -> Met
 
 fn one_class(
     alloc: Global,
-    names: &IndexSet<String>,
+    names: &[String],
     classes: &mut Classes,
     c: &Class,
 ) -> Result<(), CheckFault>
@@ -269,11 +278,7 @@ fn one_class(
 }
 
 /// What the classes declare.
-pub fn class_signs(
-    alloc: Global,
-    names: &IndexSet<String>,
-    all: &[Class],
-) -> Result<Classes, CheckFault>
+pub fn class_signs(alloc: Global, names: &[String], all: &[Class]) -> Result<Classes, CheckFault>
     ensures { Gives classes_of result (the_class_signs (texts_of names.now) (map placed_class all.now)) }
 {
     let mut classes = Classes {

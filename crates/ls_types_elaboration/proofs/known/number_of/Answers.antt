@@ -1,6 +1,6 @@
 use Rattle.std.proofs.Common.{◌∙◌}
-use Rattle.ls_types_elaboration.proofs.Keys.{position_number}
+use Rattle.ls_types_elaboration.proofs.Named.{number_found}
 use Rattle.ls_types_elaboration.proofs.known.number_of.Goals as goal
 
 pub returns-clause-found : goal.returns-clause-found
-returns-clause-found c = c.get_index_of.ensures.index ∙ position_number c.args.names.now.keys c.args.name.now
+returns-clause-found c = c.name_at.ensures.found ∙ number_found c.args.names.now c.args.name.now

@@ -1,7 +1,7 @@
-use Rattle.std.proofs.Common.{◌≡◌, ◌++◌, map}
-use Rattle.ls_types_elaboration.specs.Tables.{field_signs_of}
+use Rattle.std.proofs.Common.{◌≡◌, take, map}
+use Rattle.ls_types_elaboration.specs.Tables.{field_sign_of}
 use Rattle.ls_types_signs.proofs.classes.field_types.Given as goal
 
-abbrev pub invariant-loop-t : goal.invariant-loop-t
-invariant-loop-t l =
-    l.types.items ++ l.t-iterator ≡ map (λ f. f.type) (field_signs_of l.fields)
+abbrev pub invariant-loop-f : goal.invariant-loop-f
+invariant-loop-f l =
+    l.types.items ≡ map (λ f. f.type) (map field_sign_of (take l.f-index l.fields))
