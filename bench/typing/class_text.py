@@ -6,12 +6,14 @@ Usage: class_text.py BYTES CLASSES [--stopped]
 The text has BYTES bytes. Each class has 64 fields and 7 methods, so 64 classes are the most classes, fields and methods
 (512 with the default constructors) that are accepted. Bodies use fields, methods and locals from all over the text. With
 --stopped the last class has a reserved name, which listset refuses before it looks into any class: what that run takes
-less is what the check takes.
+less is what the check takes. `call_text` is one class of the most methods, which call one another.
 """
 import sys
 
 FIELDS = 64
 METHODS = 7
+# the most methods of a file, beside the default constructor of its one class
+CALLED = 511
 STATEMENTS = [
     'n{a} = o.n{b} + x * {c};',
     'if (o.n{a} < n{b} && !(x == {c})) y = x - n{c}; else y = o.n{a};',
@@ -64,6 +66,20 @@ def class_text(size, classes, stopped):
             methods += method(n, other, room * (n + 1) // METHODS - len(methods))
         text += f'class {name} {{\n{fields}{methods}}}\n'
     return text + ' ' * (size - len(text))
+
+
+def call_text(size, stopped):
+    """A class whose methods have names of one length, each with about as many calls of them as the others; and how many calls."""
+    name, calls = 'Lock' if stopped else 'C000', 0
+    text = f'class {name} {{\n'
+    for own in range(CALLED):
+        text += f'  void m{own:03}() {{\n'
+        while len(text) + len('    m000();\n  }\n}\n') <= size * (own + 1) // CALLED:
+            text += f'    m{calls * 197 % CALLED:03}();\n'
+            calls += 1
+        text += '  }\n'
+    text += '}\n'
+    return text + ' ' * (size - len(text)), calls
 
 
 if __name__ == '__main__':

@@ -5,7 +5,7 @@ Usage: count.py LISTSET
 
 LISTSET is the built program. The plain checker is made from the crates' own text by plain/convert.py. The check is what a
 run takes for a text less what it takes for the same text with a reserved class name, which both programs refuse once the
-text is parsed and the names of the classes are read.
+text is parsed and the names of the classes are read. The last text is that of the most methods and many calls of them.
 """
 import os
 import pathlib
@@ -14,7 +14,7 @@ import subprocess
 import sys
 import tempfile
 
-from class_text import class_text
+from class_text import CALLED, call_text, class_text
 from compare import SIZES
 
 CONVERT = pathlib.Path(__file__).resolve().parent / 'plain/convert.py'
@@ -51,16 +51,23 @@ def check_of(command, texts, answers):
     return counts[0] - counts[1]
 
 
+def compare(name, program, plain, texts):
+    """Prints the line of a text and the same text with a reserved class name."""
+    proved_check = check_of([program, 'source'], [text + REST for text in texts], ANSWERS)
+    plain_check = check_of([plain, 'check'], texts, PLAIN_ANSWERS)
+    print(f'| {name} | {proved_check:,} | {plain_check:,} | {proved_check / plain_check:.2f} |', flush=True)
+
+
 def main():
     program = os.path.abspath(sys.argv[1])
     with tempfile.TemporaryDirectory() as folder:
         plain = plain_program(folder)
         print('| Bytes | Proved | Plain | Ratio |\n|---|---|---|---|')
         for size, classes in SIZES:
-            texts = [class_text(size, classes, stopped) for stopped in (False, True)]
-            proved_check = check_of([program, 'source'], [text + REST for text in texts], ANSWERS)
-            plain_check = check_of([plain, 'check'], texts, PLAIN_ANSWERS)
-            print(f'| {size:,} | {proved_check:,} | {plain_check:,} | {proved_check / plain_check:.2f} |', flush=True)
+            compare(f'{size:,}', program, plain, [class_text(size, classes, stopped) for stopped in (False, True)])
+        size = SIZES[-1][0]
+        (whole, calls), (refused, _) = (call_text(size, stopped) for stopped in (False, True))
+        compare(f'{size:,}, {CALLED} methods, {calls:,} calls', program, plain, [whole, refused])
 
 
 if __name__ == '__main__':

@@ -16,6 +16,16 @@ impl<V> IndexMap<String, V> {
         self.items.len()
     }
 
+    pub fn get_full(&self, name: &str) -> Option<(usize, &String, &V)> {
+        let index = *self.indices.get(name)?;
+        let (key, value) = &self.items[index];
+        Some((index, key, value))
+    }
+
+    pub fn get(&self, name: &str) -> Option<&V> {
+        self.get_full(name).map(|found| found.2)
+    }
+
     pub fn contains_key(&self, name: &str) -> bool {
         self.indices.contains_key(name)
     }
@@ -51,6 +61,10 @@ impl IndexSet<String> {
 
     pub fn contains(&self, name: &str) -> bool {
         self.map.contains_key(name)
+    }
+
+    pub fn get_index_of(&self, name: &str) -> Option<usize> {
+        self.map.get_full(name).map(|found| found.0)
     }
 
     /// The name is new.

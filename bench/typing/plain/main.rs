@@ -18,6 +18,7 @@ mod ls_types;
 mod ls_types_files;
 mod ls_types_operators;
 mod ls_types_signs;
+mod ls_types_tables;
 mod memory;
 
 use memory::Global;

@@ -1,4 +1,4 @@
--- What contracts see of the tables of names.
+-- What contracts see of what a text declares.
 use Rattle.std.specs.Global.{Global}
 use Rattle.std.specs.Prelude.{List, map, String, string_bytes}
 use Rattle.ls_types_elaboration.specs.Trees.{Text}
@@ -7,7 +7,6 @@ use Rattle.ls_types_elaboration.specs.declared.known.Local.{Local}
 use Rattle.ls_types_elaboration.specs.declared.known.FieldSign.{FieldSign}
 use Rattle.ls_types_elaboration.specs.declared.known.MethodSign.{MethodSign}
 use Rattle.ls_types_elaboration.specs.declared.known.ClassSign.{ClassSign}
-use Rattle.ls_types_elaboration.specs.declared.known.Known.{Known}
 
 abbrev pub local_of : Local → known.Local
 local_of l = record { name = l.name.now; type = l.value_type; slot = l.slot }
@@ -30,6 +29,3 @@ class_sign_of c = record {
   constructor = c.constructor;
   parameters = c.parameters.items;
 }
-
-abbrev pub known_of : Known → known.Known
-known_of k = record { names = texts_of k.names.now; classes = map class_sign_of k.classes.now; own = k.own }

@@ -1,10 +1,10 @@
 // What a text declares, and how names find it.
 
 ghost use Rattle.std.specs.List.{position};
-ghost use Rattle.std.specs.Prelude.{◌≡◌, ◌<◌, IfSome, length, map, option_map, slice_get, string_bytes};
+ghost use Rattle.std.specs.Prelude.{◌≡◌, ◌<◌, IfSome, length, map, option_map, string_bytes};
 ghost use Rattle.std.specs.Str.{bytes_eq};
-ghost use Rattle.ls_types_elaboration.specs.Known.{local_named as the_local, field_named as the_field, method_named as the_method, number_of as the_number, field_of as the_field_of, method_of as the_method_of};
-ghost use Rattle.ls_types_elaboration.specs.Tables.{local_of, texts_of, field_sign_of, method_sign_of, class_sign_of, known_of};
+ghost use Rattle.ls_types_elaboration.specs.Known.{local_named as the_local, method_named as the_method, number_of as the_number};
+ghost use Rattle.ls_types_elaboration.specs.Tables.{local_of, texts_of, method_sign_of};
 
 use ls_events::value::ValueType;
 
@@ -19,6 +19,7 @@ pub struct Local<'t> {
     pub slot: usize,
 }
 
+/// A field: its name and its type.
 #[derive(Drop)]
 pub struct FieldSign {
     pub name: String,
@@ -45,15 +46,7 @@ pub struct ClassSign {
     pub parameters: Vec<ValueType>,
 }
 
-/// The names of the classes, what they declare, and the number of the class in which code stands. A class's number is the index of
-/// its name.
-#[derive(Clone, Copy)]
-pub struct Known<'k> {
-    pub names: &'k [String],
-    pub classes: &'k [ClassSign],
-    pub own: usize,
-}
-
+/// A field that is found: its number in its class, and its type.
 #[derive(Clone, Copy)]
 pub struct FoundField {
     pub number: usize,
@@ -91,25 +84,6 @@ pub fn local_named<'t>(locals: &[Local<'t>], name: &str) -> Option<Local<'t>>
     }
 }
 
-fn field_at(fields: &[FieldSign], name: &str) -> Option<usize>
-    ensures found { result ≡ position (λ f. bytes_eq (string_bytes f.name) name.now) fields.now }
-    ensures small { IfSome result (λ n. n < length fields.now) }
-{
-    fields.iter().position(|f| f.name.as_str() == name)
-}
-
-/// A field among those of a class.
-pub fn field_named(fields: &[FieldSign], name: &str) -> Option<FoundField>
-    ensures found { result ≡ the_field (map field_sign_of fields.now) name.now }
-    ensures small { IfSome result (λ f. f.number < length fields.now) }
-{
-    let number = field_at(fields, name)?;
-    Some(FoundField {
-        number,
-        value_type: fields[number].value_type,
-    })
-}
-
 /// A method among those of a class.
 pub fn method_named<'a>(methods: &'a [MethodSign], name: &str) -> Option<&'a MethodSign>
     ensures { option_map (λ m. method_sign_of m.now) result ≡ the_method (map method_sign_of methods.now) name.now }
@@ -123,32 +97,5 @@ pub fn method_named<'a>(methods: &'a [MethodSign], name: &str) -> Option<&'a Met
                 method_named(rest, name)
             }
         }
-    }
-}
-
-/// The class of a number.
-pub fn class_at<'a>(known: Known<'a>, class: usize) -> Option<&'a ClassSign>
-    ensures { option_map (λ c. class_sign_of c.now) result ≡ slice_get (map class_sign_of known.entry.classes.now) class }
-{
-    known.classes.get(class)
-}
-
-/// A field of a class.
-pub fn field_of(known: Known, class: usize, name: &str) -> Option<FoundField>
-    ensures { result ≡ the_field_of (known_of known.entry) class name.now }
-{
-    match class_at(known, class) {
-        None => None,
-        Some(c) => field_named(&c.fields, name),
-    }
-}
-
-/// A method of a class.
-pub fn method_of<'a>(known: Known<'a>, class: usize, name: &str) -> Option<&'a MethodSign>
-    ensures { option_map (λ m. method_sign_of m.now) result ≡ the_method_of (known_of known.entry) class name.now }
-{
-    match class_at(known, class) {
-        None => None,
-        Some(c) => method_named(&c.methods, name),
     }
 }

@@ -8,4 +8,3 @@ pub mod outcome;
 pub mod rule;
 pub mod static_types;
 pub mod together;
-pub mod type_names;

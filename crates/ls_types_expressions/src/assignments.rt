@@ -4,7 +4,7 @@ ghost use Rattle.std.specs.Prelude.{◌≡◌};
 ghost use Rattle.ls_checked.specs.Plain.{plain, plain_statement};
 ghost use Rattle.ls_types_elaboration.specs.TypedStatements.{variable as the_variable, assigned as the_assigned, assignment as the_assignment};
 ghost use Rattle.ls_types_elaboration.specs.Placed.{placed};
-ghost use Rattle.ls_types_elaboration.specs.Tables.{known_of};
+ghost use Rattle.ls_types_tables.specs.ByName.{known_of};
 ghost use Rattle.ls_types_expressions.specs.Views.{locals_of, place_of, seen_variable};
 ghost use Rattle.ls_types_elaboration.specs.Answers.{Gives};
 

@@ -8,9 +8,9 @@ ghost use Rattle.ls_types_elaboration.specs.StaticTypes.{typed_as as typing};
 ghost use Rattle.ls_types_elaboration.specs.TypedExpressions.{typed as the_typed, passed as the_passed, name_of as the_name, field_at as the_field_at, is_integer as the_integer, integer_constant as the_constant, call_of as the_call, number as the_number, fitting as the_fitting};
 ghost use Rattle.ls_types_elaboration.specs.Trees.{Call as a_call, CallOn as a_call_on, New as a_new, NewMarkable as a_new_markable, Item as an_item, Binary as a_binary};
 ghost use Rattle.ls_types_elaboration.specs.Placed.{placed, placed_name, placed_all, placed_target, call_of as call_written};
-ghost use Rattle.ls_types_elaboration.specs.Tables.{known_of};
 ghost use Rattle.ls_types_expressions.specs.Views.{locals_of};
 ghost use Rattle.ls_types_elaboration.specs.Answers.{Gives, typed_of, member_of as seen_member, seen_typed};
+ghost use Rattle.ls_types_tables.specs.ByName.{known_of};
 
 use crate::places::span_of;
 use crate::site::Site;
@@ -18,10 +18,8 @@ use ls_checked::tree::{Expression, Expressions};
 use ls_events::value::{Value, ValueType};
 use ls_lexer::token::Span;
 use ls_tree::tree::{BinaryOp, Expr, Name};
-use ls_types_elaboration::known::{FoundField, Known, field_of, local_named};
-use ls_types_elaboration::members::{
-    Member, made, maker_of, markable_maker, member_of, own_member,
-};
+use ls_types_elaboration::known::{FoundField, local_named};
+use ls_types_elaboration::members::{Member, made};
 use ls_types_elaboration::numbers::digits_of;
 use ls_types_elaboration::rule::{Broken, CheckFault, Rule, broken_at, refused_at};
 use ls_types_elaboration::static_types::{
@@ -29,6 +27,8 @@ use ls_types_elaboration::static_types::{
 };
 use ls_types_elaboration::together::{also, two};
 use ls_types_operators::operators::{Spans, binary_of, unary_of};
+use ls_types_tables::known::{Known, field_of};
+use ls_types_tables::members::{maker_of, markable_maker, member_of, own_member};
 use std::alloc::{AllocError, Global};
 
 fn number(text: &str) -> Expression

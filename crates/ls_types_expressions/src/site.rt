@@ -1,6 +1,7 @@
 // Where an expression stands.
 
-use ls_types_elaboration::known::{Known, Local};
+use ls_types_elaboration::known::Local;
+use ls_types_tables::known::Known;
 use std::alloc::{AllocError, Global};
 
 /// What the file declares, the locals in scope, and memory for what is made.

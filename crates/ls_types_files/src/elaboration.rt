@@ -1,39 +1,42 @@
 // The checked file of a class text's tree.
 
-ghost use Rattle.std.specs.Prelude.{length, map};
-ghost use Rattle.ls_types_elaboration.specs.Elaboration.{file_methods as the_file_methods, elaborated};
+ghost use Rattle.std.specs.Prelude.{◌≡◌, IfOk, length, map};
+ghost use Rattle.ls_checked.specs.Plain.{plain_method};
+ghost use Rattle.ls_types_elaboration.specs.Elaboration.{file_methods as the_file_methods, checked_class, elaborated};
 ghost use Rattle.ls_types_elaboration.specs.PlacedStatements.{placed_class, placed_file};
-ghost use Rattle.ls_types_elaboration.specs.Tables.{texts_of, class_sign_of};
 ghost use Rattle.ls_types_elaboration.specs.Outcomes.{outcome_of};
 ghost use Rattle.ls_types_files.specs.FileViews.{bodies_of};
 ghost use Rattle.ls_types_elaboration.specs.Answers.{Gives};
+ghost use Rattle.ls_types_tables.specs.ByName.{keys_of, class_entry_of};
 
 use crate::methods::class_methods;
+use indexmap::IndexSet;
 use ls_checked::tree::{File, Method};
 use ls_tree::tree;
 use ls_tree::tree::ClassFile;
-use ls_types_elaboration::known::{ClassSign, Known};
 use ls_types_elaboration::outcome::Outcome;
 use ls_types_elaboration::rule::CheckFault;
 use ls_types_elaboration::together::also;
 use ls_types_signs::classes::checked_classes;
-use ls_types_signs::signs::{Classes, class_names, class_signs};
-use std::alloc::Global;
+use ls_types_signs::signs::{Classes, class_names, class_tables};
+use ls_types_tables::known::Known;
+use ls_types_tables::tables::{ClassTables, class_signs, names_of};
+use std::alloc::{AllocError, Global};
 
 // The methods of all classes.
 fn file_methods(
     alloc: Global,
-    names: &[String],
-    signs: &[ClassSign],
+    names: &IndexSet<String>,
+    tables: &[ClassTables],
     classes: &[tree::Class],
 ) -> Result<Vec<Method>, CheckFault>
-    ensures { Gives (bodies_of (length classes.now)) result (the_file_methods (texts_of names.now) (map class_sign_of signs.now) (map placed_class classes.now)) }
+    ensures { Gives (bodies_of (length classes.now)) result (the_file_methods (keys_of names.now) (map class_entry_of tables.now) (map placed_class classes.now)) }
 {
     let mut methods = Vec::new(alloc);
     for (own, c) in classes.iter().enumerate() {
         let known = Known {
             names,
-            classes: signs,
+            classes: tables,
             own,
         };
         methods = class_methods(alloc, known, methods, &c.members)?;
@@ -41,15 +44,19 @@ fn file_methods(
     Ok(methods)
 }
 
-/// The elaboration of a file.
-pub fn elaborate(alloc: Global, parsed: &ClassFile) -> Result<Outcome, CheckFault>
-    ensures { Gives outcome_of result (elaborated (placed_file parsed.now)) }
+// What is handed on: the tables as lists, the classes and the methods.
+fn outcome(
+    alloc: Global,
+    names: IndexSet<String>,
+    tables: Vec<ClassTables>,
+    methods: Vec<Method>,
+) -> Result<Outcome, AllocError>
+    ensures { IfOk result (λ o. outcome_of o ≡ record { names = keys_of names; signs = map class_entry_of tables.items; file = record { classes = map checked_class (map class_entry_of tables.items); methods = map plain_method methods.items } }) }
 {
-    let names = class_names(alloc, &parsed.classes)?;
-    let classes = class_signs(alloc, &names, &parsed.classes);
-    let (names, Classes { signs, .. }) = also(names, classes)?;
-    let methods = file_methods(alloc, &names, &signs, &parsed.classes);
-    let ((names, signs), methods) = also((names, signs), methods)?;
+    let names = names_of(alloc, names);
+    let ((tables, methods), names) = also((tables, methods), names)?;
+    let signs = class_signs(alloc, tables);
+    let ((names, methods), signs) = also((names, methods), signs)?;
     let classes = checked_classes(alloc, &signs);
     let ((names, signs, methods), classes) = also((names, signs, methods), classes)?;
     Ok(Outcome {
@@ -57,4 +64,16 @@ pub fn elaborate(alloc: Global, parsed: &ClassFile) -> Result<Outcome, CheckFaul
         signs,
         file: File { classes, methods },
     })
+}
+
+/// The elaboration of a file.
+pub fn elaborate(alloc: Global, parsed: &ClassFile) -> Result<Outcome, CheckFault>
+    ensures { Gives outcome_of result (elaborated (placed_file parsed.now)) }
+{
+    let names = class_names(alloc, &parsed.classes)?;
+    let classes = class_tables(alloc, &names, &parsed.classes);
+    let (names, Classes { tables, .. }) = also(names, classes)?;
+    let methods = file_methods(alloc, &names, &tables, &parsed.classes);
+    let ((names, tables), methods) = also((names, tables), methods)?;
+    Ok(outcome(alloc, names, tables, methods)?)
 }

@@ -12,7 +12,7 @@ ghost use Rattle.ls_types_elaboration.specs.Elaborated.{Elaborated, each, unless
 ghost use Rattle.ls_types_elaboration.specs.TypedMethods.{parameter as the_parameter, declarator_set as the_declarator_set, member_set as the_member_set, initialisers as the_initialisers, method as the_method, written_method as the_written_method, written_constructor as the_written_constructor, one_method as the_one_method, has_constructor as the_has_constructor, default_constructor as the_default_constructor, class_methods as the_class_methods};
 ghost use Rattle.ls_types_elaboration.specs.Placed.{placed_name};
 ghost use Rattle.ls_types_elaboration.specs.PlacedStatements.{placed_parameter, placed_declarator, placed_member, placed_items, placed_type};
-ghost use Rattle.ls_types_elaboration.specs.Tables.{known_of};
+ghost use Rattle.ls_types_tables.specs.ByName.{known_of};
 ghost use Rattle.ls_types_statements.specs.ScopeViews.{body_of, scope_of};
 
 use crate::completion::all_complete;
@@ -21,14 +21,14 @@ use ls_events::value::ValueType;
 use ls_tree::tree::{
     BlockItem, Constructor, Declarator, Member, Method as MethodText, Name, Parameter,
 };
-use ls_types_elaboration::known::{Known, field_of};
 use ls_types_elaboration::rule::{CheckFault, Rule, refused_at};
 use ls_types_elaboration::together::{also, push};
-use ls_types_elaboration::type_names::{result_of, type_of};
 use ls_types_expressions::expressions::fitting;
 use ls_types_expressions::site::Site;
 use ls_types_statements::scope::{Context, Scope, may_declare, with_variable};
 use ls_types_statements::statements::{Round, all_items, block_of};
+use ls_types_tables::known::{Known, field_of};
+use ls_types_tables::type_names::{result_of, type_of};
 use std::alloc::{AllocError, Global};
 
 // One more parameter in scope.

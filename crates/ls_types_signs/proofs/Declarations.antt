@@ -14,9 +14,10 @@ use Rattle.ls_types_elaboration.specs.Trees.{Name, Declarator, ClassTree}
 use Rattle.ls_types_elaboration.specs.Elaborated.{broken}
 use Rattle.ls_types_signs.specs.declared.signs.Met.{Met}
 use Rattle.ls_types_elaboration.specs.Signs.{is_reserved, most_classes, most_fields, most_methods, one_name, field_met, method_met}
-use Rattle.ls_types_signs.specs.declared.tables.MetMethod.{MetMethod}
-use Rattle.ls_types_signs.specs.SignViews.{met_of, field_entry, method_entry, field_entries_of, method_entries_of}
-use Rattle.ls_types_signs.proofs.Keys.{has, any_number, any_field, any_method, field_at, method_at, insert_key_new, insert_entry_new}
+use Rattle.ls_types_signs.specs.SignViews.{met_of}
+use Rattle.ls_types_tables.specs.declared.tables.MethodEntry.{MethodEntry}
+use Rattle.ls_types_tables.specs.ByName.{field_entry, method_entry, field_entries_of, method_entries_of}
+use Rattle.ls_types_tables.proofs.Keys.{has, any_number, any_field, any_method, field_at, method_at, insert_key_new, insert_entry_new}
 
 module _ (names : List (String Global)) (c : ClassTree) (free : is_reserved c.name.text ≡ false) where
   pub name_twice : list_any (has c.name.text) names ≡ true → one_name (map string_bytes names) c ≡ broken TwiceDeclared c.name.span
@@ -60,7 +61,7 @@ module _ (met : Met) (n : Name) (types : Vec ValueType) (answers : Option ValueT
     method_over above =
         rw (sym (any_method met.methods.entries n.text) ∙ new, let e : nat_lt met.next most_methods ≡ false = le-ltb _ _ above in e) refl
 
-    pub method_added : (name : String Global) (methods : List (String Global × MetMethod)) → string_bytes name ≡ n.text → met.next < most_methods
+    pub method_added : (name : String Global) (methods : List (String Global × MethodEntry)) → string_bytes name ≡ n.text → met.next < most_methods
         → methods ≡ insert_entry string_eq met.methods.entries name (record { number = met.next; parameters = types; result = answers })
         → method_met (met_of met) n types.items answers
         ≡ Ok (record { fields = field_entries_of met.fields; methods = map method_at methods; constructor = met.constructor; parameters = met.parameters.items; next = met.next + 1 })

@@ -3,4 +3,3 @@
 
 pub mod classes;
 pub mod signs;
-mod tables;

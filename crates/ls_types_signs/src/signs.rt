@@ -4,17 +4,17 @@ ghost use Rattle.std.specs.Prelude.{◌≡◌, map, string_bytes};
 ghost use Rattle.ls_types_elaboration.specs.Signs.{is_reserved as the_reserved, one_name as the_one_name, class_names as the_class_names, parameter_types as the_parameter_types, field_met as the_field_met, fields_met as the_fields_met, method_met as the_method_met, constructor_met as the_constructor_met, member_met as the_member_met, nothing_met as the_nothing_met, class_met as the_class_met, one_class as the_one_class, class_signs as the_class_signs};
 ghost use Rattle.ls_types_elaboration.specs.Placed.{placed_name};
 ghost use Rattle.ls_types_elaboration.specs.PlacedStatements.{placed_parameter, placed_declarator, placed_member, placed_class, placed_declaration};
-ghost use Rattle.ls_types_elaboration.specs.Tables.{texts_of};
-ghost use Rattle.ls_types_signs.specs.SignViews.{keys_of, met_of, classes_of};
+ghost use Rattle.ls_types_tables.specs.ByName.{keys_of};
+ghost use Rattle.ls_types_signs.specs.SignViews.{met_of, classes_of};
 ghost use Rattle.ls_types_elaboration.specs.Answers.{Gives, seen};
 
-use crate::tables::{MetMethod, field_signs, method_signs, names_of};
 use indexmap::{IndexMap, IndexSet};
 use ls_events::value::ValueType;
 use ls_tree::tree::{Class, Declaration, Declarator, Member, Name, Parameter};
-use ls_types_elaboration::known::{ClassSign, MOST_SLOTS};
+use ls_types_elaboration::known::MOST_SLOTS;
 use ls_types_elaboration::rule::{Broken, CheckFault, Rule, broken_at, refused_at};
-use ls_types_elaboration::type_names::{result_of, type_of};
+use ls_types_tables::tables::{ClassTables, MethodEntry};
+use ls_types_tables::type_names::{result_of, type_of};
 use std::alloc::Global;
 
 /// The most classes of a file.
@@ -30,7 +30,7 @@ pub const MOST_METHODS: usize = 512;
 #[derive(Drop)]
 struct Met {
     fields: IndexMap<String, ValueType>,
-    methods: IndexMap<String, MetMethod>,
+    methods: IndexMap<String, MethodEntry>,
     constructor: Option<usize>,
     parameters: Vec<ValueType>,
     next: usize,
@@ -39,7 +39,7 @@ struct Met {
 /// The classes so far, and the number of the next method or constructor.
 #[derive(Drop)]
 pub struct Classes {
-    pub signs: Vec<ClassSign>,
+    pub tables: Vec<ClassTables>,
     pub next: usize,
 }
 
@@ -70,7 +70,8 @@ fn one_name(alloc: Global, names: &mut IndexSet<String>, c: &Class) -> Result<()
     Ok(())
 }
 
-fn numbered_names(alloc: Global, classes: &[Class]) -> Result<IndexSet<String>, CheckFault>
+/// The names of the classes, by their numbers.
+pub fn class_names(alloc: Global, classes: &[Class]) -> Result<IndexSet<String>, CheckFault>
     ensures { Gives keys_of result (the_class_names (map placed_class classes.now)) }
 {
     let mut names = IndexSet::new(alloc);
@@ -80,21 +81,14 @@ fn numbered_names(alloc: Global, classes: &[Class]) -> Result<IndexSet<String>, 
     Ok(names)
 }
 
-/// The names of the classes, by their numbers.
-pub fn class_names(alloc: Global, classes: &[Class]) -> Result<Vec<String>, CheckFault>
-    ensures { Gives (λ v. texts_of v.items) result (the_class_names (map placed_class classes.now)) }
-{
-    Ok(names_of(alloc, numbered_names(alloc, classes)?)?)
-}
-
 // The types of parameters, which have room beside `this`.
 fn parameter_types(
     alloc: Global,
-    names: &[String],
+    names: &IndexSet<String>,
     n: &Name,
     ps: &[Parameter],
 ) -> Result<Vec<ValueType>, CheckFault>
-    ensures { Gives (λ v. v.items) result (the_parameter_types (texts_of names.now) (placed_name n.now) (map placed_parameter ps.now)) }
+    ensures { Gives (λ v. v.items) result (the_parameter_types (keys_of names.now) (placed_name n.now) (map placed_parameter ps.now)) }
 {
     if ps.len() >= MOST_SLOTS {
         return Err(refused_at(Rule::Limit, n.span));
@@ -136,7 +130,7 @@ fn method_met(
     if met.next >= MOST_METHODS {
         return Err(refused_at(Rule::Limit, n.span));
     }
-    let sign = MetMethod {
+    let sign = MethodEntry {
         number: met.next,
         parameters: types,
         result: answers,
@@ -172,11 +166,11 @@ fn constructor_met(
 
 fn fields_met(
     alloc: Global,
-    names: &[String],
+    names: &IndexSet<String>,
     met: &mut Met,
     d: &Declaration,
 ) -> Result<(), CheckFault>
-    ensures { Gives (λ u. met_of met.new) result (the_fields_met (texts_of names.now) (met_of met.old) (placed_declaration d.now)) }
+    ensures { Gives (λ u. met_of met.new) result (the_fields_met (keys_of names.now) (met_of met.old) (placed_declaration d.now)) }
 {
     let t = type_of(names, &d.type_name)?;
     field_met(alloc, t, met, &d.first)?;
@@ -188,12 +182,12 @@ fn fields_met(
 
 fn member_met(
     alloc: Global,
-    names: &[String],
+    names: &IndexSet<String>,
     class: &Name,
     met: &mut Met,
     m: &Member,
 ) -> Result<(), CheckFault>
-    ensures { Gives (λ u. met_of met.new) result (the_member_met (texts_of names.now) (string_bytes class.now.text) (met_of met.old) (placed_member m.now)) }
+    ensures { Gives (λ u. met_of met.new) result (the_member_met (keys_of names.now) (string_bytes class.now.text) (met_of met.old) (placed_member m.now)) }
 {
     match m {
         Member::Field(d) => fields_met(alloc, names, met, d),
@@ -221,11 +215,9 @@ fn class_met(alloc: Global, classes: &mut Classes, n: &Name, met: Met) -> Result
         parameters,
         next,
     } = met;
-    let fields = field_signs(alloc, fields)?;
-    let methods = method_signs(alloc, methods)?;
     match constructor {
         Some(constructor) => {
-            classes.signs.push(ClassSign {
+            classes.tables.push(ClassTables {
                 fields,
                 methods,
                 constructor,
@@ -238,7 +230,7 @@ fn class_met(alloc: Global, classes: &mut Classes, n: &Name, met: Met) -> Result
             if next >= MOST_METHODS {
                 return Err(refused_at(Rule::Limit, n.span));
             }
-            classes.signs.push(ClassSign {
+            classes.tables.push(ClassTables {
                 fields,
                 methods,
                 constructor: next,
@@ -264,11 +256,11 @@ fn nothing_met(alloc: Global, next: usize) -> Met
 
 fn one_class(
     alloc: Global,
-    names: &[String],
+    names: &IndexSet<String>,
     classes: &mut Classes,
     c: &Class,
 ) -> Result<(), CheckFault>
-    ensures { Gives (λ u. classes_of classes.new) result (the_one_class (texts_of names.now) (classes_of classes.old) (placed_class c.now)) }
+    ensures { Gives (λ u. classes_of classes.new) result (the_one_class (keys_of names.now) (classes_of classes.old) (placed_class c.now)) }
 {
     let mut met = nothing_met(alloc, classes.next);
     for m in &c.members {
@@ -278,11 +270,15 @@ fn one_class(
 }
 
 /// What the classes declare.
-pub fn class_signs(alloc: Global, names: &[String], all: &[Class]) -> Result<Classes, CheckFault>
-    ensures { Gives classes_of result (the_class_signs (texts_of names.now) (map placed_class all.now)) }
+pub fn class_tables(
+    alloc: Global,
+    names: &IndexSet<String>,
+    all: &[Class],
+) -> Result<Classes, CheckFault>
+    ensures { Gives classes_of result (the_class_signs (keys_of names.now) (map placed_class all.now)) }
 {
     let mut classes = Classes {
-        signs: Vec::new(alloc),
+        tables: Vec::new(alloc),
         next: 0,
     };
     for c in all {

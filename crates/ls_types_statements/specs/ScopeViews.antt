@@ -9,7 +9,8 @@ use Rattle.ls_types_statements.specs.declared.scope.Scope.{Scope}
 use Rattle.ls_types_statements.specs.declared.statements.Round.{Round}
 use Rattle.ls_types_elaboration.specs.Scopes as scopes
 use Rattle.ls_types_elaboration.specs.TypedStatements as typing
-use Rattle.ls_types_elaboration.specs.Tables.{local_of, known_of}
+use Rattle.ls_types_elaboration.specs.Tables.{local_of}
+use Rattle.ls_types_tables.specs.ByName.{known_of}
 
 abbrev pub body_of : Context → scopes.Body
 body_of c = record { known = known_of c.known; result = c.result; span = c.span }

@@ -8,18 +8,19 @@ ghost use Rattle.ls_types_elaboration.specs.Answers.{Gives, unless_refused};
 ghost use Rattle.ls_types_elaboration.specs.Scopes.{start_of as the_start, with_variable as the_variable, with_statement as the_with_statement, initialised as the_initialised, declared as the_declared, declaration as the_declaration, may_declare as the_may_declare, Scope as the_scope};
 ghost use Rattle.ls_types_elaboration.specs.PlacedStatements.{placed_declarator, placed_declaration};
 ghost use Rattle.ls_types_elaboration.specs.Placed.{placed, placed_name};
-ghost use Rattle.ls_types_elaboration.specs.Tables.{known_of};
+ghost use Rattle.ls_types_tables.specs.ByName.{known_of};
 ghost use Rattle.ls_types_statements.specs.ScopeViews.{body_of, scope_of};
 
 use ls_checked::tree::{Expression, Statement};
 use ls_events::value::{Value, ValueType};
 use ls_lexer::token::Span;
 use ls_tree::tree::{Declaration, Declarator, Expr, Name};
-use ls_types_elaboration::known::{Known, Local, MOST_SLOTS, local_named};
+use ls_types_elaboration::known::{Local, MOST_SLOTS, local_named};
 use ls_types_elaboration::rule::{Broken, CheckFault, Rule, broken_at};
-use ls_types_elaboration::type_names::type_of;
 use ls_types_expressions::expressions::fitting;
 use ls_types_expressions::site::Site;
+use ls_types_tables::known::Known;
+use ls_types_tables::type_names::type_of;
 use std::alloc::{AllocError, Global};
 
 /// What is known in a body: memory for what is made, the declarations of the file, what the method answers, and where its name stands.

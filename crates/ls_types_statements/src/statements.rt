@@ -7,7 +7,8 @@ ghost use Rattle.ls_types_elaboration.specs.Trees.{Items, While as while_written
 ghost use Rattle.ls_types_elaboration.specs.TypedStatements.{statement as the_statement, items as the_items, sequence, loop_named as the_loop, is_label as the_is_label, jump as the_jump, label_text, fresh_label as the_fresh_label, returned as the_returned, WithSlots};
 ghost use Rattle.ls_types_elaboration.specs.Placed.{placed, placed_name};
 ghost use Rattle.ls_types_elaboration.specs.PlacedStatements.{placed_statement, placed_items, placed_before, placed_other, if_of};
-ghost use Rattle.ls_types_elaboration.specs.Tables.{local_of, known_of};
+ghost use Rattle.ls_types_elaboration.specs.Tables.{local_of};
+ghost use Rattle.ls_types_tables.specs.ByName.{known_of};
 ghost use Rattle.ls_types_elaboration.specs.Answers.{Gives, Leads, unless_refused};
 ghost use Rattle.ls_types_elaboration.specs.Elaborated.{Elaborated};
 ghost use Rattle.ls_types_expressions.specs.Views.{locals_of};

@@ -3,7 +3,7 @@ use Rattle.ls_types_elaboration.specs.Elaborated.{each}
 use Rattle.ls_checked.specs.Plain.{plain_statement}
 use Rattle.ls_types_elaboration.specs.TypedMethods.{member_set}
 use Rattle.ls_types_elaboration.specs.PlacedStatements.{placed_member}
-use Rattle.ls_types_elaboration.specs.Tables.{known_of}
+use Rattle.ls_types_tables.specs.ByName.{known_of}
 use Rattle.ls_types_files.proofs.methods.initialisers.Given as goal
 
 abbrev pub invariant-loop-m : goal.invariant-loop-m

@@ -1,9 +1,9 @@
 use Rattle.std.proofs.Common.{◌≡◌, drop, map}
 use Rattle.ls_types_elaboration.specs.Elaborated.{each}
 use Rattle.ls_types_elaboration.specs.Signs.{one_name}
-use Rattle.ls_types_signs.specs.SignViews.{keys_of}
+use Rattle.ls_types_tables.specs.ByName.{keys_of}
 use Rattle.ls_types_elaboration.specs.PlacedStatements.{placed_class}
-use Rattle.ls_types_signs.proofs.signs.numbered_names.Given as goal
+use Rattle.ls_types_signs.proofs.signs.class_names.Given as goal
 
 abbrev pub invariant-loop-c : goal.invariant-loop-c
 invariant-loop-c l =

@@ -1,10 +1,11 @@
--- What tables whose keys are names find and take.
-use Rattle.std.proofs.Common.{◌≡◌, ℕ, ◌+◌, Bool, true, false, cond, ◌||◌, List, [], ◌∷◌, ◌++◌, map, Option, None, Some, option_map, is_some, refl, ap, ◌∙◌}
+-- What the tables of names find and take.
+use Rattle.std.proofs.Common.{◌≡◌, ℕ, suc, ◌+◌, Bool, true, false, cond, ◌||◌, nat_lt, List, [], ◌∷◌, ◌++◌, map, length, Option, None, Some, Bor, option_map, option_copied, is_some, refl, sym, ap, ◌∙◌, position, arith}
 use Rattle.std.proofs.lemmas.List.{map-append}
+use Rattle.std.proofs.lemmas.Slice.Eq.{bytes_eq-Decides}
 use Rattle.std.specs.Cmp.Lexicographic.{nat_list_eq_equiv}
 use Rattle.std.specs.Global.{Global}
 use Rattle.std.specs.List.{list_any}
-use Rattle.std.specs.Map.{lookup}
+use Rattle.std.specs.Map.{keys_of, lookup}
 use Rattle.std.specs.Prelude.{if◌then◌else◌, String, string_bytes}
 use Rattle.std.specs.Str.{bytes_eq}
 use Rattle.std.specs.String.{string_eq}
@@ -15,8 +16,9 @@ use Rattle.ls_types_elaboration.specs.Trees.{Text}
 use Rattle.ls_types_elaboration.specs.declared.known.FoundField.{FoundField}
 use Rattle.ls_types_elaboration.specs.Known.{number_of, field_named, method_named}
 use Rattle.ls_types_elaboration.specs.Known as known
-use Rattle.ls_types_signs.specs.declared.tables.MetMethod.{MetMethod}
-use Rattle.ls_types_signs.specs.SignViews.{field_entry, method_entry}
+use Rattle.ls_types_elaboration.proofs.Named.{next, position_from_first}
+use Rattle.ls_types_tables.specs.declared.tables.MethodEntry.{MethodEntry}
+use Rattle.ls_types_tables.specs.ByName.{field_entry, method_entry}
 
 -- the test by which a text finds a key
 abbrev pub has : Text → String Global → Bool
@@ -25,8 +27,12 @@ has name k = bytes_eq name (string_bytes k)
 swapped : (name : Text) (k : String Global) → has name k ≡ bytes_eq (string_bytes k) name
 swapped name k = nat_list_eq_equiv.symm name (string_bytes k)
 
-abbrev next : Option ℕ → Option ℕ
-next i = option_map (λ i. i + 1) i
+-- a name's number
+pub position_number : (ks : List (String Global)) (name : Text) → position (has name) ks ≡ number_of (map string_bytes ks) name
+position_number [] name = refl
+position_number (k ∷ ks) name =
+    position_from_first (has name) k ks
+    ∙ (λ j. if swapped name k j then Some 0 else next (position_number ks name j))
 
 -- a name has a number where it is there
 any_step : (b a : Bool) (i : Option ℕ) → a ≡ is_some i → (b || a) ≡ is_some (if b then Some 0 else next i)
@@ -72,8 +78,38 @@ insert_entry_new view es k v name same absent =
 abbrev pub field_at : String Global × ValueType → known.FieldSign
 field_at f = field_entry (string_bytes f.0) f.1
 
+-- the field that a table finds
+abbrev found_field : Option ℕ → Option ValueType → Option FoundField
+found_field None t = None
+found_field (Some i) None = None
+found_field (Some i) (Some t) = Some (record { number = i; value_type = t })
+
 abbrev next_field : Option FoundField → Option FoundField
 next_field f = option_map (λ x. record { number = x.number + 1; value_type = x.value_type }) f
+
+field_step : (b : Bool) (i : Option ℕ) (first : ValueType) (t : Option ValueType) (f : Option FoundField) → found_field i t ≡ f
+    → found_field (if b then Some 0 else next i) (cond b (Some first) t) ≡ (if b then Some (record { number = 0; value_type = first }) else next_field f)
+field_step true i first t f e = refl
+field_step false None first t f e = ap next_field e
+field_step false (Some i) first None f e = ap next_field e
+field_step false (Some i) first (Some t) f e = ap next_field e
+
+table_field : (es : List (String Global × ValueType)) (name : Text)
+    → found_field (position (has name) (keys_of es)) (lookup (has name) es) ≡ field_named (map field_at es) name
+table_field [] name = refl
+table_field (e ∷ es) name =
+    ap (λ i. found_field i (lookup (has name) (e ∷ es))) (position_from_first (has name) e.0 (keys_of es))
+    ∙ field_step (has name e.0) (position (has name) (keys_of es)) e.1 (lookup (has name) es) (field_named (map field_at es) name) (table_field es name)
+    ∙ (λ j. if swapped name e.0 j then Some (record { number = 0; value_type = e.1 }) else next_field (field_named (map field_at es) name))
+
+pub field_there : (es : List (String Global × ValueType)) (name : Text) (i : ℕ) (t : ValueType)
+    → Some i ≡ position (has name) (keys_of es) → Some t ≡ lookup (has name) es
+    → Some (record { number = i; value_type = t }) ≡ field_named (map field_at es) name
+field_there es name i t at is = (λ j. found_field (at j) (is j)) ∙ table_field es name
+
+pub field_missing : (es : List (String Global × ValueType)) (name : Text) → None ≡ position (has name) (keys_of es)
+    → None ≡ field_named (map field_at es) name
+field_missing es name at = (λ j. found_field (at j) (lookup (has name) es)) ∙ table_field es name
 
 -- a field is found where its name is there
 pub any_field : (es : List (String Global × ValueType)) (name : Text) → is_some (lookup (has name) es) ≡ is_some (field_named (map field_at es) name)
@@ -88,17 +124,34 @@ any_field (e ∷ es) name =
     one false t None h = h
     one false t (Some f) h = h
 
-abbrev pub method_at : String Global × MetMethod → known.MethodSign
+pub types_in_order : (es : List (String Global × ValueType)) → map (λ e. e.1) es ≡ map (λ f. f.type) (map field_at es)
+types_in_order [] = refl
+types_in_order (e ∷ es) = ap (λ ts. e.1 ∷ ts) (types_in_order es)
+
+abbrev pub method_at : String Global × MethodEntry → known.MethodSign
 method_at m = method_entry (string_bytes m.0) m.1
 
--- a method is found where its name is there
-pub any_method : (es : List (String Global × MetMethod)) (name : Text) → is_some (lookup (has name) es) ≡ is_some (method_named (map method_at es) name)
-any_method [] name = refl
-any_method (e ∷ es) name =
-    one (has name e.0) (lookup (has name) es) (method_named (map method_at es) name) (any_method es name)
-    ∙ (λ j. is_some (if swapped name e.0 j then Some (method_at e) else method_named (map method_at es) name))
+-- the method that a table finds
+pub table_method : (es : List (String Global × MethodEntry)) (name : Text)
+    → option_map (method_entry name) (lookup (has name) es) ≡ method_named (map method_at es) name
+table_method [] name = refl
+table_method (e ∷ es) name = by (has name e.0) refl (table_method es name)
   where
-    one : (b : Bool) (t : Option MetMethod) (m : Option known.MethodSign) → is_some t ≡ is_some m
-        → is_some (cond b (Some e.1) t) ≡ is_some (if b then Some (method_at e) else m)
-    one true t m h = refl
-    one false t m h = h
+    by : (b : Bool) → has name e.0 ≡ b
+        → option_map (method_entry name) (lookup (has name) es) ≡ method_named (map method_at es) name
+        → option_map (method_entry name) (lookup (has name) (e ∷ es)) ≡ method_named (map method_at (e ∷ es)) name
+    by true is rest =
+        rw (is, sym (swapped name e.0) ∙ is) (ap (λ n. Some (method_entry n e.1)) ((bytes_eq-Decides name (string_bytes e.0)).0 is))
+    by false is rest = rw (is, sym (swapped name e.0) ∙ is) rest
+
+-- a method is found where its name is there
+pub any_method : (es : List (String Global × MethodEntry)) (name : Text) → is_some (lookup (has name) es) ≡ is_some (method_named (map method_at es) name)
+any_method es name = some_seen (lookup (has name) es) ∙ ap is_some (table_method es name)
+  where
+    some_seen : (m : Option MethodEntry) → is_some m ≡ is_some (option_map (method_entry name) m)
+    some_seen None = refl
+    some_seen (Some m) = refl
+
+pub seen_method : {M X : Type 0} (view : M → X) (m : Option (Bor M)) → option_map (λ m. view m.now) m ≡ option_map view (option_copied m)
+seen_method view None = refl
+seen_method view (Some m) = refl

@@ -5,16 +5,17 @@ ghost use Rattle.ls_types_elaboration.specs.Trees.{Class as a_class};
 ghost use Rattle.ls_types_elaboration.specs.Known.{type_of as the_type, result_of as the_result};
 ghost use Rattle.ls_types_elaboration.specs.PlacedStatements.{placed_type};
 ghost use Rattle.ls_types_elaboration.specs.Placed.{placed_name};
-ghost use Rattle.ls_types_elaboration.specs.Tables.{texts_of};
+ghost use Rattle.ls_types_tables.specs.ByName.{keys_of};
 
 use crate::known::number_of;
-use crate::rule::{Broken, Rule, broken_at};
+use indexmap::IndexSet;
 use ls_events::value::ValueType;
 use ls_tree::tree::{Name, Type};
+use ls_types_elaboration::rule::{Broken, Rule, broken_at};
 
 /// The type that is written.
-pub fn type_of(names: &[String], t: &Type) -> Result<ValueType, Broken>
-    ensures { result ≡ the_type (texts_of names.now) (placed_type t.now) }
+pub fn type_of(names: &IndexSet<String>, t: &Type) -> Result<ValueType, Broken>
+    ensures { result ≡ the_type (keys_of names.now) (placed_type t.now) }
 {
     match t {
         Type::Int => Ok(ValueType::Int),
@@ -28,8 +29,8 @@ pub fn type_of(names: &[String], t: &Type) -> Result<ValueType, Broken>
     }
 }
 
-fn class_type(names: &[String], n: &Name) -> Result<ValueType, Broken>
-    ensures { result ≡ the_type (texts_of names.now) (a_class (placed_name n.now)) }
+fn class_type(names: &IndexSet<String>, n: &Name) -> Result<ValueType, Broken>
+    ensures { result ≡ the_type (keys_of names.now) (a_class (placed_name n.now)) }
 {
     if n.text.as_str() == "Lock" || n.text.as_str() == "ReentrantLock" {
         return Ok(ValueType::Lock);
@@ -41,8 +42,8 @@ fn class_type(names: &[String], n: &Name) -> Result<ValueType, Broken>
 }
 
 /// What a method answers.
-pub fn result_of(names: &[String], t: &Option<Type>) -> Result<Option<ValueType>, Broken>
-    ensures { result ≡ the_result (texts_of names.now) (option_map placed_type t.now) }
+pub fn result_of(names: &IndexSet<String>, t: &Option<Type>) -> Result<Option<ValueType>, Broken>
+    ensures { result ≡ the_result (keys_of names.now) (option_map placed_type t.now) }
 {
     match t {
         None => Ok(None),

@@ -1,8 +1,8 @@
 use Rattle.std.proofs.Common.{◌≡◌, ◌++◌, map}
 use Rattle.std.specs.Prelude.{string_bytes}
 use Rattle.ls_types_elaboration.specs.Tables.{field_sign_of}
-use Rattle.ls_types_signs.specs.SignViews.{field_entry, field_entries_of}
-use Rattle.ls_types_signs.proofs.tables.field_signs.Given as goal
+use Rattle.ls_types_tables.specs.ByName.{field_entry, field_entries_of}
+use Rattle.ls_types_tables.proofs.tables.field_signs.Given as goal
 
 abbrev pub invariant-loop-name : goal.invariant-loop-name
 invariant-loop-name l =

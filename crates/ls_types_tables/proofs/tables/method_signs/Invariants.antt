@@ -1,8 +1,8 @@
 use Rattle.std.proofs.Common.{◌≡◌, ◌++◌, map}
 use Rattle.std.specs.Prelude.{string_bytes}
 use Rattle.ls_types_elaboration.specs.Tables.{method_sign_of}
-use Rattle.ls_types_signs.specs.SignViews.{method_entry, method_entries_of}
-use Rattle.ls_types_signs.proofs.tables.method_signs.Given as goal
+use Rattle.ls_types_tables.specs.ByName.{method_entry, method_entries_of}
+use Rattle.ls_types_tables.proofs.tables.method_signs.Given as goal
 
 abbrev pub invariant-loop-name : goal.invariant-loop-name
 invariant-loop-name l =

@@ -1,0 +1,78 @@
+// How names find what a text declares.
+
+ghost use Rattle.std.specs.Prelude.{◌≡◌, ◌<◌, IfSome, map, option_map, slice_get};
+ghost use Rattle.indexmap.specs.IndexMap.{index_map_len};
+ghost use Rattle.indexmap.specs.IndexSet.{index_set_len};
+ghost use Rattle.ls_types_elaboration.specs.Known.{field_named as the_field, method_named as the_method, number_of as the_number, field_of as the_field_of, method_of as the_method_of};
+ghost use Rattle.ls_types_tables.specs.ByName.{keys_of, field_entries_of, method_entry, method_entries_of, class_entry_of, known_of};
+
+use crate::tables::{ClassTables, MethodEntry};
+use indexmap::{IndexMap, IndexSet};
+use ls_events::value::ValueType;
+use ls_types_elaboration::known::FoundField;
+
+/// The names of the classes, what they declare, and the number of the class in which code stands. A class's number is the index of
+/// its name.
+#[derive(Clone, Copy)]
+pub struct Known<'k> {
+    pub names: &'k IndexSet<String>,
+    pub classes: &'k [ClassTables],
+    pub own: usize,
+}
+
+/// The number of a class.
+pub fn number_of(names: &IndexSet<String>, name: &str) -> Option<usize>
+    ensures found { result ≡ the_number (keys_of names.now) name.now }
+    ensures small { IfSome result (λ n. n < index_set_len names.now) }
+{
+    names.get_index_of(name)
+}
+
+/// A field among those of a class.
+pub fn field_named(fields: &IndexMap<String, ValueType>, name: &str) -> Option<FoundField>
+    ensures found { result ≡ the_field (field_entries_of fields.now) name.now }
+    ensures small { IfSome result (λ f. f.number < index_map_len fields.now) }
+{
+    let (number, _, value_type) = fields.get_full(name)?;
+    Some(FoundField {
+        number,
+        value_type: *value_type,
+    })
+}
+
+/// A method among those of a class.
+pub fn method_named<'a>(
+    methods: &'a IndexMap<String, MethodEntry>,
+    name: &str,
+) -> Option<&'a MethodEntry>
+    ensures { option_map (λ m. method_entry name.now m.now) result ≡ the_method (method_entries_of methods.now) name.now }
+{
+    methods.get(name)
+}
+
+/// The class of a number.
+pub fn class_at<'a>(known: Known<'a>, class: usize) -> Option<&'a ClassTables>
+    ensures { option_map (λ c. class_entry_of c.now) result ≡ slice_get (map class_entry_of known.entry.classes.now) class }
+{
+    known.classes.get(class)
+}
+
+/// A field of a class.
+pub fn field_of(known: Known, class: usize, name: &str) -> Option<FoundField>
+    ensures { result ≡ the_field_of (known_of known.entry) class name.now }
+{
+    match class_at(known, class) {
+        None => None,
+        Some(c) => field_named(&c.fields, name),
+    }
+}
+
+/// A method of a class.
+pub fn method_of<'a>(known: Known<'a>, class: usize, name: &str) -> Option<&'a MethodEntry>
+    ensures { option_map (λ m. method_entry name.now m.now) result ≡ the_method_of (known_of known.entry) class name.now }
+{
+    match class_at(known, class) {
+        None => None,
+        Some(c) => method_named(&c.methods, name),
+    }
+}
