@@ -107,11 +107,13 @@ def refused_alone(program, texts, said):
 
 def is_left_out(text, fault):
     """Whether `compile` refuses what the profile leaves out: the diamond, unary plus, assignments as values, a `;` alone among members,
-    comparing a Lock with a thing of a class."""
+    a label on what isn't `while`, comparing a Lock with a thing of a class."""
     at, _, end = fault.split(" at ")[1].strip().partition("-")
     if end:
         return re.search(r"[=!]= ", text[int(at):int(end)]) is not None
-    return text[:int(at)].endswith("<") or text[int(at):int(at) + 2] in ("+ ", "= ", ";\n")
+    before, behind = text[:int(at)], text[int(at):]
+    labels = re.search(r"\w *: *$", before) is not None and not behind.startswith("while")
+    return labels or before.endswith("<") or behind.startswith(("+ ", "= ", ";\n"))
 
 
 def difference(program, package, text, said):
