@@ -1,19 +1,19 @@
 // The calls of a thread program against the classes of a file.
 
-ghost use Rattle.std.specs.Prelude.{◌≡◌, ◌<◌, [], IfOk, IfSome, length, map, option_map, slice_get, Some};
-ghost use Rattle.ls_checked.specs.PlainProgram.{plain_name, plain_call};
+ghost use Rattle.std.specs.Prelude.{◌≡◌, [], IfOk, option_map, Some};
+ghost use Rattle.ls_checked.specs.PlainProgram.{plain_call};
 ghost use Rattle.ls_types_elaboration.specs.Known.{number_of};
 ghost use Rattle.ls_types_elaboration.specs.Tables.{method_sign_of};
 ghost use Rattle.ls_types.specs.CheckedFile.{outcome_of, names_of};
-ghost use Rattle.ls_types_programs.specs.ProgramCalls.{setup_named as the_setup_named, maker as the_maker, is_plain as the_plain, method_on as the_method_on, called_on as the_called_on, fits as the_fits, with_argument as the_with_argument, is_full as the_full, plain_number as the_plain_number, minus_number as the_minus_number, call_of as the_call_of, names_after as the_names_after};
+ghost use Rattle.ls_types_programs.specs.ProgramCalls.{maker as the_maker, is_plain as the_plain, callable as the_callable, fits as the_fits, with_argument as the_with_argument, is_full as the_full, plain_number as the_plain_number, minus_number as the_minus_number, call_of as the_call_of};
 ghost use Rattle.ls_types_programs.specs.Stops.{Unknown, unmarked, callee_mark, fault_for, why_method, why_value};
 ghost use Rattle.ls_types.specs.ProgramViews.{callee_of, pending_of, Gives, Called};
 
 use crate::check::Checked;
 use crate::fault::ProgramFault;
-use ls_checked::program::{ProgramCall, SetupName};
+use ls_checked::program::ProgramCall;
 use ls_events::value::{Value, ValueType};
-use ls_types_elaboration::known::{MethodSign, method_named, number_of as class_number};
+use ls_types_elaboration::known::{MethodSign, number_of as class_number};
 use ls_types_elaboration::numbers::digits_of;
 use std::alloc::{AllocError, Global};
 
@@ -42,25 +42,6 @@ pub struct Pending<'a> {
     pub values: Vec<Value>,
 }
 
-/// The number of a setup name.
-pub fn setup_named(names: &[SetupName], name: &str) -> Option<usize>
-    ensures found { result ≡ the_setup_named (map plain_name names.now) name.now }
-    ensures small { IfSome result (λ n. n < length names.now) }
-{
-    match names {
-        [] => None,
-        [n, rest @ ..] => {
-            if n.name.as_str() == name {
-                return Some(0);
-            }
-            match setup_named(rest, name) {
-                None => None,
-                Some(i) => Some(i + 1),
-            }
-        }
-    }
-}
-
 fn begun<'a>(
     alloc: Global,
     callee: Callee<'a>,
@@ -78,7 +59,7 @@ fn begun<'a>(
     })
 }
 
-/// A making of a class of the file.
+/// A making of a class of the file. Refused with `UnknownThing` at `at` where there is none of that name, and for want of memory.
 pub fn maker<'a>(
     alloc: Global,
     checked: &Checked,
@@ -117,32 +98,19 @@ fn is_plain(answers: Option<ValueType>) -> bool
     }
 }
 
-// The method of a name, of the class of what a setup name holds.
-fn method_on<'c>(checked: &'c Checked, n: Option<&SetupName>, name: &str) -> Option<&'c MethodSign>
-    ensures { option_map (λ m. method_sign_of m.now) result ≡ the_method_on (outcome_of checked.entry.now) (option_map (λ s. plain_name s.now) n.entry) name.now }
-{
-    match n {
-        None => None,
-        Some(s) => match checked.class_signs().get(s.class) {
-            None => None,
-            Some(c) => method_named(&c.methods, name),
-        },
-    }
-}
-
-/// A method of what a setup name holds.
+/// A call of the method that is found on what setup name `n` holds. Refused with `UnknownThing` where none is, with `ReferenceResult` where it
+/// answers a reference, both at `at`, and for want of memory.
 pub fn called_on<'a>(
     alloc: Global,
-    checked: &Checked,
-    names: &[SetupName],
+    found: Option<&MethodSign>,
     n: usize,
     name: &'a str,
     at: usize,
 ) -> Result<Pending<'a>, ProgramFault>
-    ensures read { Gives pending_of result (the_called_on (outcome_of checked.now) n (slice_get (map plain_name names.now) n) name.entry.now) }
-    ensures place { Called at (fault_for unmarked at (why_method (the_method_on (outcome_of checked.now) (slice_get (map plain_name names.now) n) name.entry.now))) result }
+    ensures read { Gives pending_of result (the_callable n name.entry.now (option_map (λ m. method_sign_of m.now) found.entry)) }
+    ensures place { Called at (fault_for unmarked at (why_method (option_map (λ m. method_sign_of m.now) found.entry))) result }
 {
-    let Some(m) = method_on(checked, names.get(n), name) else {
+    let Some(m) = found else {
         return Err(ProgramFault::UnknownThing { at });
     };
     if !is_plain(m.result) {
@@ -248,19 +216,4 @@ pub fn call_of(alloc: Global, names: usize, p: Pending) -> Result<ProgramCall, A
             })
         }
     }
-}
-
-/// Adds the setup name that a call gives, if it gives one.
-pub fn name_callee(
-    alloc: Global,
-    names: &mut Vec<SetupName>,
-    callee: Callee,
-) -> Result<(), AllocError>
-    ensures { IfOk result (λ _. map plain_name names.new.items ≡ the_names_after (map plain_name names.old.items) (callee_of callee.entry)) }
-{
-    if let Callee::Maker { name, class, .. } = callee {
-        let name = String::from_str(alloc, name)?;
-        names.push(SetupName { name, class })?;
-    }
-    Ok(())
 }

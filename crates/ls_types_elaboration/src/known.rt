@@ -3,8 +3,8 @@
 ghost use Rattle.std.specs.List.{position};
 ghost use Rattle.std.specs.Prelude.{◌≡◌, ◌<◌, IfSome, length, map, option_map, string_bytes};
 ghost use Rattle.std.specs.Str.{bytes_eq};
-ghost use Rattle.ls_types_elaboration.specs.Known.{local_named as the_local, method_named as the_method, number_of as the_number};
-ghost use Rattle.ls_types_elaboration.specs.Tables.{local_of, texts_of, method_sign_of};
+ghost use Rattle.ls_types_elaboration.specs.Known.{local_named as the_local, number_of as the_number};
+ghost use Rattle.ls_types_elaboration.specs.Tables.{local_of, texts_of};
 
 use ls_events::value::ValueType;
 
@@ -79,22 +79,6 @@ pub fn local_named<'t>(locals: &[Local<'t>], name: &str) -> Option<Local<'t>>
                 Some(*l)
             } else {
                 local_named(rest, name)
-            }
-        }
-    }
-}
-
-/// A method among those of a class.
-pub fn method_named<'a>(methods: &'a [MethodSign], name: &str) -> Option<&'a MethodSign>
-    ensures { option_map (λ m. method_sign_of m.now) result ≡ the_method (map method_sign_of methods.now) name.now }
-{
-    match methods {
-        [] => None,
-        [m, rest @ ..] => {
-            if m.name.as_str() == name {
-                Some(m)
-            } else {
-                method_named(rest, name)
             }
         }
     }

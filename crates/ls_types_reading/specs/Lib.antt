@@ -1,1 +1,3 @@
+pub mod ByName
+pub mod MethodsByName
 pub mod ReadingViews

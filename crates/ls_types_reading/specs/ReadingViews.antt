@@ -1,11 +1,10 @@
 -- What contracts see of a program that is being read.
 use Rattle.std.specs.Prelude.{◌≡◌, ℕ, map, string_bytes, Option, Some, Result, Ok, Err, option_map}
-use Rattle.ls_checked.specs.PlainProgram.{plain_name, plain_call, plain_thread}
+use Rattle.ls_checked.specs.PlainProgram.{plain_call, plain_thread}
 use Rattle.ls_types.specs.declared.fault.ProgramFault.{ProgramFault}
 use Rattle.ls_types_reading.specs.declared.reading.Stage.{Stage}
 use Rattle.ls_types_reading.specs.declared.reading.Stage.TheVariants as stages
 use Rattle.ls_types_reading.specs.declared.reading.Parts.{Parts}
-use Rattle.ls_types_programs.specs.ProgramCalls as calls
 use Rattle.ls_types_programs.specs.ThreadPrograms as programs
 use Rattle.ls_types.specs.ProgramRefusals.{Says}
 use Rattle.ls_types_programs.specs.Stops.{Marks, unmarked, name_mark, callee_mark, minus_mark, marked, Why, Fault, fault_for, fault_at_end}
@@ -30,7 +29,7 @@ stage_of stages.AtThreadName = programs.AtThreadName
 
 abbrev pub parts_of : Parts → programs.Parts
 parts_of r = record {
-  names = map plain_name r.names.items;
+  names = r.names;
   threads = map plain_thread r.threads.items;
   name = string_bytes r.name;
   calls = map plain_call r.calls.items;

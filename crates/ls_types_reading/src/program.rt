@@ -15,7 +15,9 @@ ghost use Rattle.ls_types.specs.ProgramViews.{Gives, Refuses};
 ghost use Rattle.ls_types_reading.specs.ReadingViews.{parts_of, reading_of, StopsAt, StopsWith};
 ghost use Rattle.ls_types.specs.ProgramRefusals.{Stands};
 
+use crate::methods::Methods;
 use crate::reading::{Parts, Stage};
+use crate::setup_names::SetupNames;
 use ls_checked::program::Program;
 use ls_lexer::fault::TextFault;
 use ls_lexer::lexing::lex;
@@ -29,7 +31,7 @@ fn beginning(alloc: Global) -> Result<Parts, AllocError>
     ensures { IfOk result (λ parts. parts_of parts ≡ the_beginning.parts) }
 {
     Ok(Parts {
-        names: Vec::new(alloc),
+        names: SetupNames::new(alloc),
         threads: Vec::new(alloc),
         name: String::from_str(alloc, "setup")?,
         calls: Vec::new(alloc),
@@ -39,17 +41,17 @@ fn beginning(alloc: Global) -> Result<Parts, AllocError>
 // All tokens, behind which the stage is the one that is answered.
 fn read_tokens<'a>(
     alloc: Global,
-    checked: &Checked,
+    methods: &Methods,
     parts: &mut Parts,
     tokens: &[Token<'a>],
 ) -> Result<Stage<'a>, ProgramFault>
     requires { parts_of parts.old ≡ the_beginning.parts }
-    ensures read { Gives (reading_of parts.new) result (after (outcome_of checked.now) (Some the_beginning) (lexemes tokens.now)) }
-    ensures place { (end : ℕ) → StopsAt end (stops (outcome_of checked.now) end unmarked the_beginning tokens.now) result }
+    ensures read { Gives (reading_of parts.new) result (after (outcome_of methods.now.checked.now) (Some the_beginning) (lexemes tokens.now)) }
+    ensures place { (end : ℕ) → StopsAt end (stops (outcome_of methods.now.checked.now) end unmarked the_beginning tokens.now) result }
 {
     let mut stage = Stage::AtSetup;
     for token in tokens {
-        stage = parts.stepped(alloc, checked, stage, *token)?;
+        stage = parts.stepped(alloc, methods, stage, *token)?;
     }
     Ok(stage)
 }
@@ -57,18 +59,18 @@ fn read_tokens<'a>(
 // A program ends behind a block; `end` is where the text does.
 fn whole<'a>(
     alloc: Global,
-    checked: &Checked,
+    methods: &Methods,
     tokens: &[Token<'a>],
     end: usize,
 ) -> Result<Program, ProgramFault>
-    ensures read { Gives plain_program result (program_of_tokens (outcome_of checked.now) (Some (lexemes tokens.now))) }
-    ensures place { IfErr result (λ e. StopsWith e (stops (outcome_of checked.now) end unmarked the_beginning tokens.now)) }
+    ensures read { Gives plain_program result (program_of_tokens (outcome_of methods.now.checked.now) (Some (lexemes tokens.now))) }
+    ensures place { IfErr result (λ e. StopsWith e (stops (outcome_of methods.now.checked.now) end unmarked the_beginning tokens.now)) }
 {
     let mut parts = beginning(alloc)?;
-    let stage = read_tokens(alloc, checked, &mut parts, tokens)?;
+    let stage = read_tokens(alloc, methods, &mut parts, tokens)?;
     match stage {
         Stage::AtThread => Ok(Program {
-            names: parts.names,
+            names: parts.names.into_names(),
             threads: parts.threads,
         }),
         _ => Err(ProgramFault::BadProgram { at: end }),
@@ -99,7 +101,10 @@ fn read(alloc: Global, text: &str, checked: &Checked) -> Result<Program, Program
     ensures stands { IfErr result (λ e. Stands (outcome_of checked.now) text.now e) }
 {
     match lex(alloc, text) {
-        Ok(tokens) => whole(alloc, checked, &tokens, text.len()),
+        Ok(tokens) => {
+            let methods = Methods::new(alloc, checked)?;
+            whole(alloc, &methods, &tokens, text.len())
+        }
         Err(fault) => Err(fault_of(fault)),
     }
 }

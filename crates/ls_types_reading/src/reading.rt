@@ -1,6 +1,7 @@
 // A thread program as it is read, token by token.
 
-use ls_checked::program::{ProgramCall, SetupName, ThreadProgram};
+use crate::setup_names::SetupNames;
+use ls_checked::program::{ProgramCall, ThreadProgram};
 use ls_types::calls::Pending;
 
 /// What comes next.
@@ -27,7 +28,7 @@ pub enum Stage<'a> {
 /// What is read up to here: the setup names, the threads that are read whole, and the name and calls of the one that is being read.
 #[derive(Drop)]
 pub struct Parts {
-    pub names: Vec<SetupName>,
+    pub names: SetupNames,
     pub threads: Vec<ThreadProgram>,
     pub name: String,
     pub calls: Vec<ProgramCall>,

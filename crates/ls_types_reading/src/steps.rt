@@ -12,7 +12,9 @@ ghost use Rattle.ls_types.specs.ProgramViews.{pending_of, fault_seen, Gives};
 ghost use Rattle.ls_types_reading.specs.ReadingViews.{parts_of, stage_of, reading_of, marks_of, Goes};
 ghost use Rattle.ls_types_reading.specs.declared.reading.Stage.TheVariants.{AtSemicolon as at_semicolon_stage};
 
+use crate::methods::Methods;
 use crate::reading::{Parts, Stage};
+use crate::setup_names::SetupNames;
 use crate::together::passing;
 use ls_checked::program::ThreadProgram;
 use ls_events::value::Value;
@@ -20,10 +22,8 @@ use ls_lexer::sign::Sign;
 use ls_lexer::token::{Token, TokenKind};
 use ls_lexer::word::Word;
 use ls_types::calls::{
-    Pending, call_of, called_on, is_full, maker, minus_number, name_callee, plain_number,
-    setup_named, with_argument,
+    Pending, call_of, called_on, is_full, maker, minus_number, plain_number, with_argument,
 };
-use ls_types::check::Checked;
 use ls_types::fault::ProgramFault;
 use std::alloc::{AllocError, Global};
 use std::mem;
@@ -101,12 +101,12 @@ impl Parts {
     pub fn stepped<'a>(
         &mut self,
         alloc: Global,
-        checked: &Checked,
+        methods: &Methods,
         stage: Stage<'a>,
         token: Token<'a>,
     ) -> Result<Stage<'a>, ProgramFault>
-        ensures read { Gives (reading_of self.new) result (the_stepped (outcome_of checked.now) (parts_of self.old) (stage_of stage.entry) (lexeme_of token.entry.kind)) }
-        ensures place { Goes (marks_of stage.entry) token.entry.span.start (why (outcome_of checked.now) (parts_of self.old) (stage_of stage.entry) (lexeme_of token.entry.kind)) result }
+        ensures read { Gives (reading_of self.new) result (the_stepped (outcome_of methods.now.checked.now) (parts_of self.old) (stage_of stage.entry) (lexeme_of token.entry.kind)) }
+        ensures place { Goes (marks_of stage.entry) token.entry.span.start (why (outcome_of methods.now.checked.now) (parts_of self.old) (stage_of stage.entry) (lexeme_of token.entry.kind)) result }
     {
         let kind = token.kind;
         let bad = ProgramFault::BadProgram {
@@ -120,8 +120,8 @@ impl Parts {
             Stage::AfterAssign(name) => {
                 passing(Stage::AfterNew(name), is_word(Word::New, kind), bad)
             }
-            Stage::AfterNew(name) => self.after_new(alloc, checked, name, token),
-            Stage::AfterDot(n) => self.after_dot(alloc, checked, n, token),
+            Stage::AfterNew(name) => self.after_new(alloc, methods, name, token),
+            Stage::AfterDot(n) => self.after_dot(alloc, methods, n, token),
             Stage::AtArguments(p) => passing(
                 Stage::AtFirst(p),
                 is_sign(Sign::OpenParen, kind),
@@ -173,7 +173,7 @@ impl Parts {
         ensures place { Goes (name_mark at) token.entry.span.start (why_name (lexeme_of token.entry.kind)) result }
     {
         if is_sign(Sign::Assign, token.kind) {
-            if self.threads.len() < 1 && setup_named(&self.names, name).is_none() {
+            if self.threads.len() < 1 && self.names.number_of(name).is_none() {
                 return Ok(Stage::AfterAssign(name));
             }
             return Err(ProgramFault::BadProgram { at });
@@ -183,7 +183,7 @@ impl Parts {
                 at: token.span.start,
             });
         }
-        match setup_named(&self.names, name) {
+        match self.names.number_of(name) {
             None => Err(ProgramFault::UnknownThing { at }),
             Some(n) => Ok(Stage::AfterDot(n)),
         }
@@ -192,35 +192,36 @@ impl Parts {
     fn after_new<'a>(
         &self,
         alloc: Global,
-        checked: &Checked,
+        methods: &Methods,
         name: &'a str,
         token: Token<'a>,
     ) -> Result<Stage<'a>, ProgramFault>
-        ensures read { Gives (reading_of self.now) result (the_after_new (outcome_of checked.now) (parts_of self.now) name.entry.now (the_name_in (lexeme_of token.entry.kind))) }
+        ensures read { Gives (reading_of self.now) result (the_after_new (outcome_of methods.now.checked.now) (parts_of self.now) name.entry.now (the_name_in (lexeme_of token.entry.kind))) }
         ensures place { Goes unmarked token.entry.span.start (why_new (the_name_in (lexeme_of token.entry.kind))) result }
     {
         let at = token.span.start;
         match name_in(token.kind) {
             None => Err(ProgramFault::BadProgram { at }),
-            Some(class) => Ok(Stage::AtArguments(maker(alloc, checked, name, class, at)?)),
+            Some(class) => Ok(Stage::AtArguments(maker(alloc, methods.checked, name, class, at)?)),
         }
     }
 
     fn after_dot<'a>(
         &self,
         alloc: Global,
-        checked: &Checked,
+        methods: &Methods,
         n: usize,
         token: Token<'a>,
     ) -> Result<Stage<'a>, ProgramFault>
-        ensures read { Gives (reading_of self.now) result (the_after_dot (outcome_of checked.now) (parts_of self.now) n (the_name_in (lexeme_of token.entry.kind))) }
-        ensures place { Goes unmarked token.entry.span.start (why_dot (outcome_of checked.now) (parts_of self.now) n (the_name_in (lexeme_of token.entry.kind))) result }
+        ensures read { Gives (reading_of self.now) result (the_after_dot (outcome_of methods.now.checked.now) (parts_of self.now) n (the_name_in (lexeme_of token.entry.kind))) }
+        ensures place { Goes unmarked token.entry.span.start (why_dot (outcome_of methods.now.checked.now) (parts_of self.now) n (the_name_in (lexeme_of token.entry.kind))) result }
     {
         let at = token.span.start;
         match name_in(token.kind) {
             None => Err(ProgramFault::BadProgram { at }),
             Some(method) => {
-                let p = called_on(alloc, checked, &self.names, n, method, at)?;
+                let found = methods.method_on(self.names.get(n), method);
+                let p = called_on(alloc, found, n, method, at)?;
                 Ok(Stage::AtArguments(p))
             }
         }
@@ -325,7 +326,9 @@ impl Parts {
         let callee = p.callee;
         let call = call_of(alloc, self.names.len(), p)?;
         self.calls.push(call)?;
-        name_callee(alloc, &mut self.names, callee)
+        let names = mem::replace(&mut self.names, SetupNames::new(alloc));
+        self.names = names.with_callee(alloc, callee)?;
+        Ok(())
     }
 
     fn at_semicolon<'a>(

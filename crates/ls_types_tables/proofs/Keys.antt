@@ -1,5 +1,5 @@
 -- What the tables of names find and take.
-use Rattle.std.proofs.Common.{◌≡◌, ℕ, suc, ◌+◌, Bool, true, false, cond, ◌||◌, nat_lt, List, [], ◌∷◌, ◌++◌, map, length, Option, None, Some, Bor, option_map, option_copied, is_some, refl, sym, ap, ◌∙◌, position, arith}
+use Rattle.std.proofs.Common.{◌≡◌, ℕ, ◌+◌, Bool, true, false, cond, ◌||◌, List, [], ◌∷◌, ◌++◌, map, Option, None, Some, Bor, option_map, option_copied, is_some, refl, sym, ap, ◌∙◌, position}
 use Rattle.std.proofs.lemmas.List.{map-append}
 use Rattle.std.proofs.lemmas.Slice.Eq.{bytes_eq-Decides}
 use Rattle.std.specs.Cmp.Lexicographic.{nat_list_eq_equiv}
@@ -24,7 +24,7 @@ use Rattle.ls_types_tables.specs.ByName.{field_entry, method_entry}
 abbrev pub has : Text → String Global → Bool
 has name k = bytes_eq name (string_bytes k)
 
-swapped : (name : Text) (k : String Global) → has name k ≡ bytes_eq (string_bytes k) name
+pub swapped : (name : Text) (k : String Global) → has name k ≡ bytes_eq (string_bytes k) name
 swapped name k = nat_list_eq_equiv.symm name (string_bytes k)
 
 -- a name's number
@@ -123,10 +123,6 @@ any_field (e ∷ es) name =
     one true t f h = refl
     one false t None h = h
     one false t (Some f) h = h
-
-pub types_in_order : (es : List (String Global × ValueType)) → map (λ e. e.1) es ≡ map (λ f. f.type) (map field_at es)
-types_in_order [] = refl
-types_in_order (e ∷ es) = ap (λ ts. e.1 ∷ ts) (types_in_order es)
 
 abbrev pub method_at : String Global × MethodEntry → known.MethodSign
 method_at m = method_entry (string_bytes m.0) m.1
