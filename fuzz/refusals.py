@@ -28,6 +28,8 @@ ALLOWED = ("might not have been initialized", "might already have been assigned"
     "illegal forward reference", "ReentrantLock", "isHeldByCurrentThread", "cannot assign a value to final", "should be declared in a file named",
     "illegal combination")
 PARSED = "illegal start of expression"
+# Behind a statement that isn't reached javac goes on as if it were, so it misses a `return` there too.
+UNREACHED, MISSED = "unreachable statement", "missing return statement"
 
 
 def changed(r, text):
@@ -107,13 +109,14 @@ def refused_alone(program, texts, said):
 
 def is_left_out(text, fault):
     """Whether `compile` refuses what the profile leaves out: the diamond, unary plus, assignments as values, a `;` alone among members,
-    a label on what isn't `while`, comparing a Lock with a thing of a class."""
+    a block among members, a label on what isn't `while`, comparing a Lock with a thing of a class."""
     at, _, end = fault.split(" at ")[1].strip().partition("-")
     if end:
         return re.search(r"[=!]= ", text[int(at):int(end)]) is not None
     before, behind = text[:int(at)], text[int(at):]
     labels = re.search(r"\w *: *$", before) is not None and not behind.startswith("while")
-    return labels or before.endswith("<") or behind.startswith(("+ ", "= ", ";\n"))
+    blocks = behind.startswith("{") and before.count("{") == before.count("}") + 1
+    return labels or blocks or before.endswith("<") or behind.startswith(("+ ", "= ", ";\n"))
 
 
 def difference(program, package, text, said):
@@ -121,7 +124,8 @@ def difference(program, package, text, said):
     done = run(program, ["compile"], joined(text.encode(), b"setup { }\n"))
     if done.status == 0 and package in said:
         first = said[package][0].split("\n")[0]
-        allowed = first == PARSED or all(any(word in message for word in ALLOWED) for message in said[package])
+        taken = ALLOWED + ((MISSED,) if any(UNREACHED in message for message in said[package]) else ())
+        allowed = first == PARSED or all(any(word in message for word in taken) for message in said[package])
         return ("allowed: " if allowed else "javac alone refuses: ") + re.sub(r"(?<=variable )[\w$]+", "..", first)
     if done.status != 0 and package not in said and fault_of(done) not in (30, 31, 32, 33):
         fault = done.errors.decode()
