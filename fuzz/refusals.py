@@ -28,7 +28,6 @@ ALLOWED = ("might not have been initialized", "might already have been assigned"
     "illegal forward reference", "ReentrantLock", "isHeldByCurrentThread", "cannot assign a value to final", "should be declared in a file named",
     "illegal combination")
 PARSED = "illegal start of expression"
-# Behind a statement that isn't reached javac goes on as if it were, so it misses a `return` there too.
 UNREACHED, MISSED = "unreachable statement", "missing return statement"
 
 
@@ -82,6 +81,13 @@ def line_moved(r, body):
     return b"\n".join(lines)
 
 
+def follows(text, line, unreached):
+    """Whether a `return` that javac misses at a line follows from a statement of that member that isn't reached, behind which javac goes on
+    as if it were."""
+    lines = text.split("\n")
+    return any(not any(re.match(r"  \w.*\{$", it) for it in lines[at:line]) for at in unreached if at < line)
+
+
 def refused_by_javac(texts):
     """What javac says first of each of the texts that it refuses, by package."""
     folder = tempfile.mkdtemp(prefix="listset-javac-")
@@ -93,9 +99,14 @@ def refused_by_javac(texts):
         errors = subprocess.run(words, capture_output=True, check=False).stderr.decode(errors="replace")
     finally:
         shutil.rmtree(folder)
-    said = {}
-    for package, message in re.findall(r"/(p[0-9]+)/Classes\.java:[0-9]+: error: (.*(?:\n  (?:symbol|required|found).*)*)", errors):
-        said.setdefault(package, []).append(message)
+    found = re.findall(r"/(p[0-9]+)/Classes\.java:([0-9]+): error: (.*(?:\n  (?:symbol|required|found).*)*)", errors)
+    said, unreached = {}, {}
+    for package, line, message in found:
+        if UNREACHED in message:
+            unreached.setdefault(package, []).append(int(line))
+    for package, line, message in found:
+        if not (MISSED in message and follows(texts[package], int(line), unreached.get(package, []))):
+            said.setdefault(package, []).append(message)
     return said
 
 
@@ -115,7 +126,7 @@ def is_left_out(text, fault):
         return re.search(r"[=!]= ", text[int(at):int(end)]) is not None
     before, behind = text[:int(at)], text[int(at):]
     labels = re.search(r"\w *: *$", before) is not None and not behind.startswith("while")
-    blocks = behind.startswith("{") and before.count("{") == before.count("}") + 1
+    blocks = behind.startswith("{") and before.rstrip().endswith((";", "{", "}")) and before.count("{") == before.count("}") + 1
     return labels or blocks or before.endswith("<") or behind.startswith(("+ ", "= ", ";\n"))
 
 
@@ -124,8 +135,7 @@ def difference(program, package, text, said):
     done = run(program, ["compile"], joined(text.encode(), b"setup { }\n"))
     if done.status == 0 and package in said:
         first = said[package][0].split("\n")[0]
-        taken = ALLOWED + ((MISSED,) if any(UNREACHED in message for message in said[package]) else ())
-        allowed = first == PARSED or all(any(word in message for word in taken) for message in said[package])
+        allowed = first == PARSED or all(any(word in message for word in ALLOWED) for message in said[package])
         return ("allowed: " if allowed else "javac alone refuses: ") + re.sub(r"(?<=variable )[\w$]+", "..", first)
     if done.status != 0 and package not in said and fault_of(done) not in (30, 31, 32, 33):
         fault = done.errors.decode()
