@@ -1,5 +1,5 @@
 -- The statements of a block as a list.
-use Rattle.std.proofs.Common.{◌≡◌, refl, ap, ◌∙◌, List, [], ◌∷◌}
+use Rattle.std.proofs.Common.{◌≡◌, refl, ap, ◌∙◌}
 use Rattle.std.specs.Global.{Vec}
 use Rattle.ls_checked.specs.CheckedTree.{Block, Then}
 use Rattle.ls_checked.specs.declared.tree.Statement.{Statement, Row_of-Statement, end_of-Statement, more_of-Statement, items-the_row-Statement, items_hidden-the_row-Statement-0}

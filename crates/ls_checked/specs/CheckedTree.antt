@@ -36,6 +36,8 @@ mutual
     Block : (body : Statements) → Statement
     SetSlot : (number : ℕ) → (value : Expression) → Statement
     SetField : (target : Expression) → (field : ℕ) → (value : Expression) → Statement
+    -- adds to an int field of an object
+    AddField : (target : Expression) → (field : ℕ) → (value : Expression) → Statement
     SetItem : (array index value : Expression) → Statement
     Evaluate : (value : Expression) → Statement
     If : (condition : Expression) → (first second : Statement) → Statement

@@ -2,3 +2,4 @@ pub mod CheckedTree
 pub mod CheckedProgram
 pub mod Plain
 pub mod PlainProgram
+pub mod Limits

@@ -1,5 +1,5 @@
 -- The plain data that a checked tree of the code stands for.
-use Rattle.std.specs.Prelude.{ℕ, List, [], ◌∷◌, map}
+use Rattle.std.specs.Prelude.{List, [], ◌∷◌, map}
 use Rattle.ls_checked.specs.CheckedTree as checked
 use Rattle.ls_checked.specs.declared.tree.Expression.{Expression}
 use Rattle.ls_checked.specs.declared.tree.Expression.TheVariants as forms
@@ -37,6 +37,7 @@ abbrev mutual
   plain_statement (statements.Block' shape row) = checked.Block (row_statements row)
   plain_statement (statements.SetSlot n e) = checked.SetSlot n (plain e)
   plain_statement (statements.SetField target field value) = checked.SetField (plain target) field (plain value)
+  plain_statement (statements.AddField target field value) = checked.AddField (plain target) field (plain value)
   plain_statement (statements.SetItem array index value) = checked.SetItem (plain array) (plain index) (plain value)
   plain_statement (statements.Evaluate e) = checked.Evaluate (plain e)
   plain_statement (statements.If' e p a q b) = checked.If (plain e) (plain_statement a) (plain_statement b)

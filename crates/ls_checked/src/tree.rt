@@ -29,8 +29,9 @@ impl Clone for Operator {
     }
 }
 
-/// What a call runs: a method of the file, or an operation of a lock or of a markable reference. An operation that
-/// answers what a markable holds has the number of the class that it holds references to.
+/// What a call runs: a method of the file, or an operation of a lock, of the monitor of an object, or of a markable
+/// reference. An operation of a monitor has the number of the object's class, and one that answers what a markable holds
+/// that of the class that it holds references to.
 #[derive(Copy)]
 pub enum Called {
     Method(usize),
@@ -38,6 +39,8 @@ pub enum Called {
     UnlockIt,
     TryIt,
     AskIt,
+    HoldMonitor(usize),
+    FreeMonitor(usize),
     GetReference(usize),
     IsMarked(usize),
     GetBoth(usize),
@@ -92,6 +95,12 @@ pub enum Statement {
     Block(Vec<Statement>),
     SetSlot(usize, Expression),
     SetField {
+        target: Expression,
+        field: usize,
+        value: Expression,
+    },
+    /// What is added to an int field of an object, whose target is evaluated once.
+    AddField {
         target: Expression,
         field: usize,
         value: Expression,

@@ -61,7 +61,7 @@ is_stuck = refl
 
 -- lock() and unlock() of the lock under the one name, by load and exchange
 locking : Code
-locking = record code { instructions = op.GetName 0 ∷ op.See 1 ∷ op.Take 1 ∷ op.JumpIfFalse 1 ∷ op.See 3 ∷ op.DropLock ∷ op.Push 9 ∷ op.PutName 0 ∷ op.Halt ∷ [] }
+locking = record code { instructions = op.GetName 0 ∷ op.See 1 ∷ op.Take 1 ∷ op.JumpIfFalse 1 ∷ op.See 3 ∷ op.DropLock 0 ∷ op.Push 9 ∷ op.PutName 0 ∷ op.Halt ∷ [] }
 
 locker : Thread
 locker = started (record { place = 0; need = 2; calls = [] })
@@ -89,3 +89,23 @@ asks_write = refl
 throws_unlock : fed locking 1 5 5 locker (Gives 3 ∷ Gives 0 ∷ Gives 1 ∷ Gives 12884901889 ∷ []) ≡ Lost
 unfolding locking code locker
 throws_unlock = refl
+
+-- the same of the monitor of the object under the one name
+monitoring : Code
+monitoring = record code { instructions = op.GetName 0 ∷ op.See 4 ∷ op.Take 4 ∷ op.JumpIfFalse 1 ∷ op.See 5 ∷ op.DropLock 1 ∷ op.Push 9 ∷ op.PutName 0 ∷ op.Halt ∷ [] }
+
+asks_monitor : (fed monitoring 1 5 5 locker (Gives 3 ∷ []) ≡ Asked (act.LockMonitor 3)) × (fed monitoring 1 5 5 locker (Gives 3 ∷ Gives 12884901889 ∷ []) ≡ Asked (act.LockMonitor 3)) × (fed monitoring 1 5 5 locker (Gives 3 ∷ Gives 0 ∷ Gives 0 ∷ []) ≡ Asked (act.LockMonitor 3))
+unfolding monitoring code locker
+asks_monitor = (refl, refl, refl)
+
+leaves_monitor : (fed monitoring 1 5 5 locker (Gives 3 ∷ Gives 0 ∷ Gives 1 ∷ []) ≡ Asked (act.UnlockMonitor 3)) × (fed monitoring 1 5 5 locker (Gives 3 ∷ Gives 0 ∷ Gives 1 ∷ Gives 8589934593 ∷ []) ≡ Asked (act.WriteName 0 9)) × (fed monitoring 1 5 5 locker (Gives 3 ∷ Gives 0 ∷ Gives 1 ∷ Gives 12884901889 ∷ []) ≡ Lost)
+unfolding monitoring code locker
+leaves_monitor = (refl, refl, refl)
+
+-- DROP of a monitor where SEE began an unlock isn't that of this table
+mismatched : Code
+mismatched = record code { instructions = op.GetName 0 ∷ op.DropLock 2 ∷ op.Halt ∷ [] }
+
+stuck_drop : fed mismatched 1 5 5 locker (Gives 3 ∷ []) ≡ Lost
+unfolding mismatched code locker
+stuck_drop = refl

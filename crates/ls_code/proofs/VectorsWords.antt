@@ -129,6 +129,11 @@ held : (effect (cells (0 ∷ [])) 1 (act.Lock 1) ≡ Answers (cells (8589934593 
 unfolding cells
 held = (refl, refl, refl, refl, refl, refl)
 
+-- an object's first cell is its monitor's word; its field 0 stands in the next
+monitored : (effect (cells (0 ∷ 7 ∷ [])) 1 (act.LockMonitor 1) ≡ Answers (cells (8589934593 ∷ 7 ∷ [])) Done) × (effect (cells (8589934593 ∷ 7 ∷ [])) 2 (act.LockMonitor 1) ≡ Waits) × (effect (cells (8589934593 ∷ 7 ∷ [])) 1 (act.UnlockMonitor 1) ≡ Answers (cells (0 ∷ 7 ∷ [])) Done) × (effect (cells (8589934593 ∷ 7 ∷ [])) 2 (act.UnlockMonitor 1) ≡ Answers (cells (8589934593 ∷ 7 ∷ [])) (Fails IllegalMonitorState)) × (effect (cells (8589934593 ∷ 7 ∷ [])) 2 (act.ReadField 1 1) ≡ Answers (cells (8589934593 ∷ 7 ∷ [])) (Gives 7))
+unfolding cells
+monitored = (refl, refl, refl, refl, refl)
+
 -- an exchange compares reference and mark, an attempt the reference alone
 exchanges : (effect (cells (11 ∷ [])) 1 (act.SwapPair 1 10 4) ≡ Answers (cells (11 ∷ [])) (Gives 0)) × (effect (cells (11 ∷ [])) 1 (act.SwapPair 1 11 4) ≡ Answers (cells (4 ∷ [])) (Gives 1)) × (effect (cells (10 ∷ [])) 1 (act.AttemptMark 1 5 true) ≡ Answers (cells (11 ∷ [])) (Gives 1)) × (effect (cells (10 ∷ [])) 1 (act.AttemptMark 1 4 true) ≡ Answers (cells (10 ∷ [])) (Gives 0))
 unfolding cells

@@ -1,5 +1,5 @@
--- Locks by load and exchange: SEE, TAKE and DROP.
-use Rattle.std.specs.Prelude.{ℕ, List, ◌∷◌, length, Option, Some, None, ◌==◌, nat_lt, if◌then◌else◌}
+-- Locks and monitors by load and exchange: SEE, TAKE and DROP. The word of a lock, and of an object's monitor, stands in its first cell.
+use Rattle.std.specs.Prelude.{ℕ, List, ◌∷◌, length, Option, Some, None, ◌||◌, ◌==◌, nat_lt, if◌then◌else◌}
 use Rattle.ls_code.specs.Frame.{Frame}
 use Rattle.ls_code.specs.Moves.{pushed, settled, discarded}
 use Rattle.ls_code.specs.Locks.{taken_of, left_of, is_own}
@@ -41,12 +41,17 @@ thrown_to t (Some r) = Some (with_frames t r.0 r.1)
 abbrev pub throwing : Code → Thread → Kind → Option Thread
 throwing p t kind = thrown_to t (thrown p.handlers kind (t.top ∷ t.below))
 
--- the operation that the operand of SEE names: 1 lock, 2 tryLock, 3 unlock; that of TAKE: 1 lock, 2 tryLock
+-- the operation that the operand of SEE names: 1 lock, 2 tryLock, 3 unlock, 4 and 5 lock and unlock of a monitor; that of TAKE:
+-- 1 lock, 2 tryLock, 4 lock of a monitor; that of DROP: 0 unlock, 1 unlock of a monitor
 abbrev pub seeing_action : ℕ → ℕ → Option (Action ℕ)
-seeing_action x lock = if x == 1 then Some (act.Lock lock) else (if x == 2 then Some (act.TryLock lock) else (if x == 3 then Some (act.Unlock lock) else None))
+seeing_action x lock =
+    if x == 1 then Some (act.Lock lock) else (if x == 2 then Some (act.TryLock lock) else (if x == 3 then Some (act.Unlock lock) else (if x == 4 then Some (act.LockMonitor lock) else (if x == 5 then Some (act.UnlockMonitor lock) else None))))
 
 abbrev pub taking_action : ℕ → ℕ → Option (Action ℕ)
-taking_action x lock = if x == 1 then Some (act.Lock lock) else (if x == 2 then Some (act.TryLock lock) else None)
+taking_action x lock = if x == 1 then Some (act.Lock lock) else (if x == 2 then Some (act.TryLock lock) else (if x == 4 then Some (act.LockMonitor lock) else None))
+
+abbrev pub dropping_action : ℕ → ℕ → Option (Action ℕ)
+dropping_action x lock = if x == 0 then Some (act.Unlock lock) else (if x == 1 then Some (act.UnlockMonitor lock) else None)
 
 abbrev pub taking_answer : ℕ → Answer ℕ
 taking_answer x = if x == 2 then Gives 1 else Done
@@ -54,15 +59,15 @@ taking_answer x = if x == 2 then Gives 1 else Done
 abbrev pub with_word : Thread → ℕ → Option Thread
 with_word t word = Some (with_top t (pushed t.top word))
 
--- SEE: the word is pushed; a tryLock where another thread owns the lock, and an unlock where this thread doesn't, are over here
-abbrev pub saw : Code → Thread → ℕ → ℕ → ℕ → ℕ → Seen
-saw p t n x lock word =
-    if x == 2 then (elim (taken_of word n) as (λ _. Seen) [ taken.Other ↦ Reports (act.TryLock lock) (Gives 0) (with_word t word) | taken.Taken next ↦ Quietly (with_word t word) | taken.TooMany ↦ Quietly (with_word t word) ]) else (if x == 3 then (if is_own word n then Quietly (with_word t word) else Reports (act.Unlock lock) (Fails IllegalMonitorState) (throwing p t IllegalMonitorState)) else Quietly (with_word t word))
+-- SEE: the word is pushed; a tryLock where another thread owns the lock, and an unlock where this thread doesn't own it, are over here
+abbrev pub saw : Code → Thread → ℕ → ℕ → Action ℕ → ℕ → Seen
+saw p t n x operation word =
+    if x == 2 then (elim (taken_of word n) as (λ _. Seen) [ taken.Other ↦ Reports operation (Gives 0) (with_word t word) | taken.Taken next ↦ Quietly (with_word t word) | taken.TooMany ↦ Quietly (with_word t word) ]) else (if x == 3 || x == 5 then (if is_own word n then Quietly (with_word t word) else Reports operation (Fails IllegalMonitorState) (throwing p t IllegalMonitorState)) else Quietly (with_word t word))
 
 abbrev pub see_named : Code → Thread → ℕ → ℕ → ℕ → Option (Action ℕ) → Plan
 see_named p t n x lock None = stuck
 see_named p t n x lock (Some operation) =
-    if lock == 0 then Says (Quietly (throwing p t NullPointer)) else (if nat_lt (length t.top.operands) t.top.need then Touches operation (act.ReadPair lock) (saw p t n x lock) else stuck)
+    if lock == 0 then Says (Quietly (throwing p t NullPointer)) else (if nat_lt (length t.top.operands) t.top.need then Touches operation (act.ReadPair lock) (saw p t n x operation) else stuck)
 
 abbrev pub see_at : Code → Thread → ℕ → ℕ → Option ℕ → Plan
 see_at p t n x None = stuck
@@ -89,10 +94,14 @@ take_at p t n x None = stuck
 take_at p t n x (Some r) = take_named p t n x r.0 r.1 (taking_action x r.0)
 
 -- DROP: the word after one unlock is stored
-abbrev pub drop_to : Thread → ℕ → Left → Plan
-drop_to t lock left.NotOwner = stuck
-drop_to t lock (left.Left next) = Stores (act.SetPair lock next) (Reports (act.Unlock lock) Done (Some (with_top t (discarded t.top 2))))
+abbrev pub drop_to : Thread → Action ℕ → ℕ → Left → Plan
+drop_to t operation lock left.NotOwner = stuck
+drop_to t operation lock (left.Left next) = Stores (act.SetPair lock next) (Reports operation Done (Some (with_top t (discarded t.top 2))))
 
-abbrev pub drop_at : Thread → ℕ → Option (ℕ × ℕ) → Plan
-drop_at t n None = stuck
-drop_at t n (Some r) = drop_to t r.0 (left_of r.1 n)
+abbrev pub drop_named : Thread → ℕ → ℕ → ℕ → Option (Action ℕ) → Plan
+drop_named t n lock word None = stuck
+drop_named t n lock word (Some operation) = drop_to t operation lock (left_of word n)
+
+abbrev pub drop_at : Thread → ℕ → ℕ → Option (ℕ × ℕ) → Plan
+drop_at t n x None = stuck
+drop_at t n x (Some r) = drop_named t n r.0 r.1 (dropping_action x r.0)

@@ -12,7 +12,7 @@ table x =
     ∷ op.Jump x ∷ op.JumpIfFalse x ∷ op.JumpIfTrue x ∷ op.Turn x
     ∷ op.GetField x ∷ op.PutField x ∷ op.GetItem ∷ op.PutItem ∷ op.GetName x ∷ op.PutName x
     ∷ op.NewObject x ∷ op.NewLock ∷ op.NewMarkable ∷ op.NewArray
-    ∷ op.Lock ∷ op.Unlock ∷ op.TryLock ∷ op.IsHeld ∷ op.See x ∷ op.Take x ∷ op.DropLock
+    ∷ op.Lock ∷ op.Unlock ∷ op.TryLock ∷ op.IsHeld ∷ op.See x ∷ op.Take x ∷ op.DropLock x
     ∷ op.ReadPair ∷ op.ReferenceOf ∷ op.MarkOf ∷ op.Pack ∷ op.SetPair ∷ op.SwapPair ∷ op.AttemptMark
     ∷ op.Enter x ∷ op.Leave ∷ op.LeaveWith ∷ op.Throw ∷ op.Call x ∷ op.Result x ∷ op.Trap ∷ []
 
@@ -61,7 +61,7 @@ opcode_of op.TryLock = 35
 opcode_of op.IsHeld = 36
 opcode_of (op.See x) = 37
 opcode_of (op.Take x) = 38
-opcode_of op.DropLock = 39
+opcode_of (op.DropLock x) = 39
 opcode_of op.ReadPair = 40
 opcode_of op.ReferenceOf = 41
 opcode_of op.MarkOf = 42
@@ -117,7 +117,7 @@ operand_of op.TryLock = 0
 operand_of op.IsHeld = 0
 operand_of (op.See x) = x
 operand_of (op.Take x) = x
-operand_of op.DropLock = 0
+operand_of (op.DropLock x) = x
 operand_of op.ReadPair = 0
 operand_of op.ReferenceOf = 0
 operand_of op.MarkOf = 0

@@ -16,3 +16,4 @@ pub mod Machine
 pub mod Fed
 pub mod Laws
 pub mod Reading
+pub mod Limits

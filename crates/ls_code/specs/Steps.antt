@@ -105,7 +105,7 @@ wide_move p t (wide.Result x) = result_move t x
 wide_move p t wide.Trap = trap_move t
 wide_move p t (wide.See x) = Plans (λ n. see_at p t n x (top_one t.top.operands))
 wide_move p t (wide.Take x) = Plans (λ n. take_at p t n x (top_two t.top.operands))
-wide_move p t wide.DropLock = Plans (λ n. drop_at t n (top_two t.top.operands))
+wide_move p t (wide.DropLock x) = Plans (λ n. drop_at t n x (top_two t.top.operands))
 
 abbrev pub of_frame : Code → Thread → FrameMove → Move
 of_frame p t (Next f) = Silent (with_top t f)

@@ -47,7 +47,7 @@ pub enum Instruction {
     IsHeld,
     See(u32),
     Take(u32),
-    DropLock,
+    DropLock(u32),
     ReadPair,
     ReferenceOf,
     MarkOf,
@@ -122,7 +122,7 @@ impl Instruction {
             Instruction::IsHeld => 36,
             Instruction::See(_) => 37,
             Instruction::Take(_) => 38,
-            Instruction::DropLock => 39,
+            Instruction::DropLock(_) => 39,
             Instruction::ReadPair => 40,
             Instruction::ReferenceOf => 41,
             Instruction::MarkOf => 42,
@@ -159,6 +159,7 @@ impl Instruction {
             Instruction::NewObject(x) => x,
             Instruction::See(x) => x,
             Instruction::Take(x) => x,
+            Instruction::DropLock(x) => x,
             Instruction::Enter(x) => x,
             Instruction::Call(x) => x,
             Instruction::Result(x) => x,
@@ -187,7 +188,6 @@ impl Instruction {
             | Instruction::Unlock
             | Instruction::TryLock
             | Instruction::IsHeld
-            | Instruction::DropLock
             | Instruction::ReadPair
             | Instruction::ReferenceOf
             | Instruction::MarkOf
@@ -216,7 +216,7 @@ pub enum ThreadInstruction {
     Trap,
     See(u32),
     Take(u32),
-    DropLock,
+    DropLock(u32),
 }
 
 impl Clone for ThreadInstruction {
@@ -286,7 +286,7 @@ fn table(x: u32) -> [Instruction; 54]
         Instruction::IsHeld,
         Instruction::See(x),
         Instruction::Take(x),
-        Instruction::DropLock,
+        Instruction::DropLock(x),
         Instruction::ReadPair,
         Instruction::ReferenceOf,
         Instruction::MarkOf,

@@ -4,7 +4,7 @@ use Rattle.std.specs.Fmt.{decimal}
 use Rattle.ls_events.specs.declared.value.Value.{Value}
 use Rattle.ls_checked.specs.CheckedProgram.{SetupName}
 use Rattle.ls_meaning.specs.Values.{reference_of, mark_of}
-use Rattle.ls_meaning.specs.Store.{Store, Thing, Object, FreeLock, HeldLock, Markable, Array, name_at}
+use Rattle.ls_meaning.specs.Store.{Store, Hold, Free, HeldBy, Thing, Object, LockOf, Markable, Array, name_at}
 use Rattle.ls_report.specs.Events.{Text}
 use Rattle.ls_report.specs.Lines.{boolean_text}
 use Rattle.ls_labels.specs.declared.label.Label.{Label}
@@ -39,18 +39,24 @@ field_row names ls o field v = row_text names ls (field_name_of names ls o field
 abbrev pub reference_row : ℕ → Text
 reference_row target = if target == 0 then codes "|reference = null" else codes "|<f0> reference"
 
+-- the monitor that a thread owns
+abbrev pub monitor_row : Names → Hold → Text
+monitor_row names Free = []
+monitor_row names (HeldBy owner holds) = codes "|monitor " ++ held_text names.program owner holds
+
 -- the rows under an object's name
 abbrev pub rows_text : Names → List Label → ℕ → Thing → Text
-rows_text names ls o (Object fields) = numbered (field_row names ls o) 0 fields
-rows_text names ls o FreeLock = codes "|free"
-rows_text names ls o (HeldLock owner holds) = codes "|" ++ held_text names.program owner holds
+rows_text names ls o (Object monitor fields) = numbered (field_row names ls o) 0 fields ++ monitor_row names monitor
+rows_text names ls o (LockOf Free) = codes "|free"
+rows_text names ls o (LockOf (HeldBy owner holds)) = codes "|" ++ held_text names.program owner holds
 rows_text names ls o (Markable pair) =
     codes "|mark = " ++ (boolean_text (mark_of pair) ++ reference_row (reference_of pair))
 rows_text names ls o (Array size items) = codes "|" ++ array_text size items
 
--- a lock that a thread owns is filled
+-- a lock that a thread owns is filled, and so is an object whose monitor it owns
 abbrev pub fill_text : Thing → Text
-fill_text (HeldLock owner holds) = codes ", style=filled, fillcolor=lightgray"
+fill_text (LockOf (HeldBy owner holds)) = codes ", style=filled, fillcolor=lightgray"
+fill_text (Object (HeldBy owner holds) fields) = codes ", style=filled, fillcolor=lightgray"
 fill_text _ = []
 
 abbrev pub head_text : ℕ → Text → Text
@@ -77,7 +83,7 @@ abbrev pub mark_style : Bool → Text
 mark_style mark = if mark then codes " [style=dashed, color=red, label=marked]" else []
 
 abbrev pub arrows_text : ℕ → Thing → Text
-arrows_text o (Object fields) = numbered (field_arrow o) 0 fields
+arrows_text o (Object monitor fields) = numbered (field_arrow o) 0 fields
 arrows_text o (Markable pair) = port_arrow o 0 (mark_style (mark_of pair)) (reference_of pair)
 arrows_text o _ = []
 

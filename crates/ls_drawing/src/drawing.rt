@@ -4,8 +4,8 @@ ghost use Rattle.std.specs.Prelude.{◌≡◌, ◌++◌, IfOk, OnOk, [], string_
 ghost use Rattle.ls_checked.specs.PlainProgram.{plain_name};
 ghost use Rattle.ls_labels.specs.Names.{names_of};
 ghost use Rattle.ls_labels.specs.Objects.{object_text};
-ghost use Rattle.ls_source_store.specs.SeenThing.{thing_of};
-ghost use Rattle.ls_drawing.specs.Drawing.{arrow_text, arrows_text, drawing_text, drawn_name, drawn_name_of, drawn_thing, field_arrow, field_row, fill_text, head_text, label_text, mark_style, name_node, node_text, null_text, port_arrow, reference_row, row_text, rows_text};
+ghost use Rattle.ls_source_store.specs.SeenThing.{hold_of, thing_of};
+ghost use Rattle.ls_drawing.specs.Drawing.{arrow_text, arrows_text, drawing_text, drawn_name, drawn_name_of, drawn_thing, field_arrow, field_row, fill_text, head_text, label_text, mark_style, monitor_row, name_node, node_text, null_text, port_arrow, reference_row, row_text, rows_text};
 ghost use Rattle.ls_state.specs.Parts.{numbered};
 ghost use Rattle.ls_state.specs.Seen.{names_in, scene_seen};
 
@@ -13,7 +13,7 @@ use ls_checked::program::SetupName;
 use ls_events::value::Value;
 use ls_labels::names::Names;
 use ls_labels::objects::{push_object, push_value};
-use ls_source_store::thing::Thing;
+use ls_source_store::thing::{Hold, Thing};
 use ls_source_values::value::{mark_of, reference_of};
 use ls_state::array::push_array;
 use ls_state::objects::{field_name_of, push_held};
@@ -66,15 +66,32 @@ fn reference_row(target: u64) -> &'static str
     }
 }
 
+// Adds the monitor that a thread owns.
+fn push_monitor(out: &mut String, scene: &Scene, monitor: Hold) -> Result<(), AllocError>
+    ensures { OnOk result (string_bytes out.new
+        ≡ string_bytes out.old ++ monitor_row (names_in scene.now) (hold_of monitor)) }
+{
+    match monitor {
+        Hold::Free => Ok(()),
+        Hold::HeldBy { owner, holds } => {
+            out.push_str("|monitor ")?;
+            push_held(out, scene.names.program, owner, holds)
+        }
+    }
+}
+
 // Adds the rows under an object's name.
 fn push_rows(out: &mut String, scene: &Scene, object: u64, thing: &Thing) -> Result<(), AllocError>
     ensures { OnOk result (string_bytes out.new
         ≡ string_bytes out.old ++ rows_text (names_in scene.now) (scene_seen scene.now).labels object (thing_of thing.now)) }
 {
     match thing {
-        Thing::Object(fields) => push_field_rows(out, scene, object, fields),
-        Thing::FreeLock => out.push_str("|free"),
-        Thing::HeldLock { owner, holds } => {
+        Thing::Object { monitor, fields } => {
+            push_field_rows(out, scene, object, fields)?;
+            push_monitor(out, scene, *monitor)
+        }
+        Thing::Lock(Hold::Free) => out.push_str("|free"),
+        Thing::Lock(Hold::HeldBy { owner, holds }) => {
             out.push_str("|")?;
             push_held(out, scene.names.program, *owner, *holds)
         }
@@ -90,12 +107,16 @@ fn push_rows(out: &mut String, scene: &Scene, object: u64, thing: &Thing) -> Res
     }
 }
 
-// A lock that a thread owns is filled.
+// A lock that a thread owns is filled, and so is an object whose monitor it owns.
 fn fill_of(thing: &Thing) -> &'static str
     ensures { result.now ≡ fill_text (thing_of thing.now) }
 {
     match thing {
-        Thing::HeldLock { .. } => ", style=filled, fillcolor=lightgray",
+        Thing::Lock(Hold::HeldBy { .. })
+        | Thing::Object {
+            monitor: Hold::HeldBy { .. },
+            ..
+        } => ", style=filled, fillcolor=lightgray",
         _ => "",
     }
 }
@@ -169,7 +190,7 @@ fn push_arrows(out: &mut String, object: u64, thing: &Thing) -> Result<(), Alloc
     ensures { OnOk result (string_bytes out.new ≡ string_bytes out.old ++ arrows_text object (thing_of thing.now)) }
 {
     match thing {
-        Thing::Object(fields) => push_field_arrows(out, object, fields),
+        Thing::Object { fields, .. } => push_field_arrows(out, object, fields),
         Thing::Markable(pair) => {
             push_arrow(
                 out,

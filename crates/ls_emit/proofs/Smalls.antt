@@ -1,6 +1,6 @@
 -- The numbers of an emittable tree are operands.
 use Rattle.std.proofs.Common.{ℕ, suc, ◌+◌, ◌<◌, ◌≤◌, ◌^◌, arith}
-use Rattle.ls_lowered.specs.LoweredTree.{Expression, Word, Local, Unary, Binary, And, Or, Hold, Keep, After, Field, Item, SetFirst, ReadPair, SetPair, SwapPair, AttemptMark, OnLock, Call, MakeObject, MakeLock, MakeMarkable, MakeArray, Expressions, End, More, Statement, Block, SetLocal, SetField, SetItem, Evaluate, If, While, Return, Try, Guarded, Throw, Leavable, Leave, Statements, Done, Then, File}
+use Rattle.ls_lowered.specs.LoweredTree.{Expression, Word, Local, Unary, Binary, And, Or, Hold, Keep, After, Field, Item, SetFirst, ReadPair, SetPair, SwapPair, AttemptMark, OnLock, Call, MakeObject, MakeLock, MakeMarkable, MakeArray, Expressions, End, More, Statement, Block, SetLocal, SetField, AddField, SetItem, Evaluate, If, While, Return, Try, Guarded, Throw, Leavable, Leave, Statements, Done, Then, File}
 use Rattle.ls_emit_laws.specs.Emittable.{statement_count, IsEmittable, AreEmittable, IsEmittableStatement, AreEmittableStatements}
 use Rattle.ls_emit.specs.Small.{IsSmall, AreSmall, IsSmallStatement, AreSmallStatements}
 
@@ -42,6 +42,7 @@ module _ (ms : File) (k : ℕ) (few : k ≤ 65536) where
     small_statement (Block ss) exits h = all_small_statements ss exits h
     small_statement (SetLocal n e) exits h = (below k n few h.0, small e h.1)
     small_statement (SetField e f a) exits h = (h.0, small e h.1, small a h.2)
+    small_statement (AddField e f a) exits h = (h.0, small e h.1, small a h.2)
     small_statement (SetItem a i e) exits h = (small a h.0, small i h.1, small e h.2)
     small_statement (Evaluate e) exits h = small e h
     small_statement (If e a b) exits h = (small e h.0, small_statement a exits h.1, small_statement b exits h.2)

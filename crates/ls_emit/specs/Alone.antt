@@ -1,11 +1,12 @@
 -- The statements without others in them.
-use Rattle.ls_lowered.specs.LoweredTree.{Statement, Block, SetLocal, SetField, SetItem, Evaluate, If, While, Return, Try, Guarded, Throw, Leavable, Leave}
+use Rattle.ls_lowered.specs.LoweredTree.{Statement, Block, SetLocal, SetField, AddField, SetItem, Evaluate, If, While, Return, Try, Guarded, Throw, Leavable, Leave}
 
 -- a `try` has no code, and so nothing in it counts
 abbrev pub IsAlone : Statement → Type 0
 IsAlone (Block ss) = ⊥
 IsAlone (SetLocal n e) = Unit {0}
 IsAlone (SetField e f a) = Unit {0}
+IsAlone (AddField e f a) = Unit {0}
 IsAlone (SetItem a i e) = Unit {0}
 IsAlone (Evaluate e) = Unit {0}
 IsAlone (If e a b) = ⊥

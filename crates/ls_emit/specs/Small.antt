@@ -1,6 +1,6 @@
 -- The trees whose numbers are operands: each is below 2 ^ 32.
-use Rattle.std.specs.Prelude.{◌<◌, ◌^◌}
-use Rattle.ls_lowered.specs.LoweredTree.{Expression, Word, Local, Unary, Binary, And, Or, Hold, Keep, After, Field, Item, SetFirst, ReadPair, SetPair, SwapPair, AttemptMark, OnLock, Call, MakeObject, MakeLock, MakeMarkable, MakeArray, Expressions, End, More, Statement, Block, SetLocal, SetField, SetItem, Evaluate, If, While, Return, Try, Guarded, Throw, Leavable, Leave, Statements, Done, Then}
+use Rattle.std.specs.Prelude.{◌<◌, ◌^◌, ◌+◌}
+use Rattle.ls_lowered.specs.LoweredTree.{Expression, Word, Local, Unary, Binary, And, Or, Hold, Keep, After, Field, Item, SetFirst, ReadPair, SetPair, SwapPair, AttemptMark, OnLock, Call, MakeObject, MakeLock, MakeMarkable, MakeArray, Expressions, End, More, Statement, Block, SetLocal, SetField, AddField, SetItem, Evaluate, If, While, Return, Try, Guarded, Throw, Leavable, Leave, Statements, Done, Then}
 
 abbrev mutual
   pub IsSmall : Expression → Type 0
@@ -13,7 +13,7 @@ abbrev mutual
   IsSmall (Hold a n b) = IsSmall a × (n < 2 ^ 32) × IsSmall b
   IsSmall (Keep n a b) = IsSmall a × (n < 2 ^ 32) × IsSmall b
   IsSmall (After a b) = IsSmall a × IsSmall b
-  IsSmall (Field e f) = IsSmall e × (f < 2 ^ 32)
+  IsSmall (Field e f) = IsSmall e × (f + 1 < 2 ^ 32)
   IsSmall (Item a i) = IsSmall a × IsSmall i
   IsSmall (SetFirst a e) = IsSmall a × IsSmall e
   IsSmall (ReadPair e) = IsSmall e
@@ -35,7 +35,8 @@ abbrev mutual
   pub IsSmallStatement : Statement → Type 0
   IsSmallStatement (Block ss) = AreSmallStatements ss
   IsSmallStatement (SetLocal n e) = (n < 2 ^ 32) × IsSmall e
-  IsSmallStatement (SetField e f a) = (f < 2 ^ 32) × IsSmall e × IsSmall a
+  IsSmallStatement (SetField e f a) = (f + 1 < 2 ^ 32) × IsSmall e × IsSmall a
+  IsSmallStatement (AddField e f a) = (f + 1 < 2 ^ 32) × IsSmall e × IsSmall a
   IsSmallStatement (SetItem a i e) = IsSmall a × IsSmall i × IsSmall e
   IsSmallStatement (Evaluate e) = IsSmall e
   IsSmallStatement (If e a b) = IsSmall e × IsSmallStatement a × IsSmallStatement b

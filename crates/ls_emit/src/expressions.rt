@@ -79,7 +79,12 @@ pub fn emit_expression(
         Expression::Local(number) => emit_one(out, place, Instruction::Load(*number as u32)),
         Expression::MakeLock => emit_one(out, place, Instruction::NewLock),
         Expression::Unary(op, e) => emit_on(out, place, e, unary_instruction(*op)),
-        Expression::Field(e, field) => emit_on(out, place, e, Instruction::GetField(*field as u32)),
+        Expression::Field(e, field) => emit_on(
+            out,
+            place,
+            e,
+            Instruction::GetField((*field + 1) as u32),
+        ),
         Expression::ReadPair(e) => emit_on(out, place, e, Instruction::ReadPair),
         Expression::MakeMarkable(e) => emit_on(out, place, e, Instruction::NewMarkable),
         Expression::MakeArray(e) => emit_on(out, place, e, Instruction::NewArray),

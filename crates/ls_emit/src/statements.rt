@@ -47,6 +47,7 @@ pub fn emit_statement(
         Statement::Leavable(body, exits) => emit_leavable(out, &*around, at, body, exits),
         Statement::SetLocal(_, _)
         | Statement::SetField(_, _, _)
+        | Statement::AddField(_, _, _)
         | Statement::SetItem(_, _, _)
         | Statement::Evaluate(_)
         | Statement::Return(_)
@@ -54,6 +55,26 @@ pub fn emit_statement(
         | Statement::Throw(_)
         | Statement::Leave(_) => emit_alone(&mut out.instructions, around, at.place, s),
     }
+}
+
+// What is added to a field: its object stands twice while the field is read.
+fn emit_addition(
+    out: &mut Vec<Instruction>,
+    place: usize,
+    object: &Expression,
+    field: u32,
+    value: &Expression,
+) -> Result<(), AllocError>
+    requires room { place + size (plain object.now) + size (plain value.now) + 4 ≤ 65536 }
+    requires small { IsSmall (plain object.now) × IsSmall (plain value.now) }
+    ensures { OnOk result (out.new.items ≡ out.old.items ++ (code place (plain object.now) ++ op.Dup ∷ op.GetField field ∷ code (place + size (plain object.now) + 2) (plain value.now) ++ op.Add ∷ op.PutField field ∷ [])) }
+{
+    let next = emit_expression(out, place, object)?;
+    put(out, Instruction::Dup)?;
+    put(out, Instruction::GetField(field))?;
+    emit_expression(out, next + 2, value)?;
+    put(out, Instruction::Add)?;
+    put(out, Instruction::PutField(field))
 }
 
 // A statement without others in it. It stands apart so that the frames of the recursion stay small.
@@ -79,9 +100,12 @@ fn emit_alone(
                 place,
                 object,
                 value,
-                Instruction::PutField(*field as u32),
+                Instruction::PutField((*field + 1) as u32),
             )?;
             Ok(())
+        }
+        Statement::AddField(object, field, value) => {
+            emit_addition(out, place, object, (*field + 1) as u32, value)
         }
         Statement::SetItem(array, index, value) => {
             emit_on_three(out, place, array, index, value, Instruction::PutItem)?;

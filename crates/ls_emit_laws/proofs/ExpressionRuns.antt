@@ -101,8 +101,8 @@ module _ (s : Setting) (enter : EnterRuns s) where
         (narrow s p (p + (size a + size b + 1)) (c + 1) (c + 1 + size b) q q1 h (omega arith) (omega arith) l1 catches)))
     runs (Field e f) p ls stack q go h has fits room le el takes catches =
         let c = p + size e in
-        first_run s e p (op.GetField f ∷ []) (λ x ls q. unless_null x ls q (ask (act.ReadField x f) ls q)) ls stack q go h (runs e p) has fits.0 room (omega arith) el (narrow s p (p + (size e + 1)) p c q q h (omega arith) (omega arith) (omega arith) catches)
-        (λ x ls1 q1 e1 l1. object_run s (act.ReadField x f) (then.Settle 1) c (op.GetField f) x ls1 (x ∷ stack) stack q1 go h (behind s e p (op.GetField f ∷ []) has).0 refl (λ w. refl) (omega arith) e1 (fewer s (p + (size e + 1)) (c + 1) stack q q1 go (omega arith) l1 takes) (narrow s p (p + (size e + 1)) c (c + 1) q q1 h (omega arith) (omega arith) l1 catches))
+        first_run s e p (op.GetField (f + 1) ∷ []) (λ x ls q. unless_null x ls q (ask (act.ReadField x (f + 1)) ls q)) ls stack q go h (runs e p) has fits.0 room (omega arith) el (narrow s p (p + (size e + 1)) p c q q h (omega arith) (omega arith) (omega arith) catches)
+        (λ x ls1 q1 e1 l1. object_run s (act.ReadField x (f + 1)) (then.Settle 1) c (op.GetField (f + 1)) x ls1 (x ∷ stack) stack q1 go h (behind s e p (op.GetField (f + 1) ∷ []) has).0 refl (λ w. refl) (omega arith) e1 (fewer s (p + (size e + 1)) (c + 1) stack q q1 go (omega arith) l1 takes) (narrow s p (p + (size e + 1)) c (c + 1) q q1 h (omega arith) (omega arith) l1 catches))
     runs (Item a i) p ls stack q go h has0 fits room le el takes catches =
         let has = has_two s.code.instructions p (code p a) (code (p + size a) i) (op.GetItem ∷ []) has0 in
         let c = p + size a + size i in

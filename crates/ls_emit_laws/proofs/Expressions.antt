@@ -10,7 +10,7 @@ use Rattle.ls_code.specs.declared.instruction.Resume.{Resume}
 use Rattle.ls_code.specs.declared.instruction.Resume.TheVariants as then
 use Rattle.ls_code.specs.Moves.{FrameMove, Asks as FrameAsks, frame_move, resumed}
 use Rattle.ls_lowered.specs.declared.tree.LockOperation.{LockOperation}
-use Rattle.ls_lowered.specs.declared.tree.LockOperation.TheVariants.{Lock, Unlock, TryLock, IsHeld}
+use Rattle.ls_lowered.specs.declared.tree.LockOperation.TheVariants.{Lock, Unlock, TryLock, IsHeld, LockMonitor, UnlockMonitor}
 use Rattle.ls_lowered.specs.LoweredTree.{Expression, Word, Local, Unary, Binary, And, Or, Hold, Keep, After as Afterwards, Field, Item, SetFirst, ReadPair, SetPair, SwapPair, AttemptMark, OnLock, Call, MakeObject, MakeLock, MakeMarkable, MakeArray, Expressions}
 use Rattle.ls_lowered.specs.Words.{int_of}
 use Rattle.ls_lowered.specs.Course.{Answers, Course, Outcome, Ends, Throws, and_then, ask, perform, unless_null, returned}
@@ -127,11 +127,11 @@ module _ (s : Setting) where
     abbrev t : Thread
     t = here s c ls (x ∷ stack)
 
-    see_plan : (k : ℕ) (o : Action ℕ) → slice_get s.code.instructions c ≡ Some (op.See k) → seeing_action k x ≡ Some o → whole_move s.code s.number t ≡ planned_move s.code s.number t (if nat_eq x 0 then Says (Quietly (throwing s.code t NullPointer)) else Touches o (act.ReadPair x) (saw s.code t s.number k x))
+    see_plan : (k : ℕ) (o : Action ℕ) → slice_get s.code.instructions c ≡ Some (op.See k) → seeing_action k x ≡ Some o → whole_move s.code s.number t ≡ planned_move s.code s.number t (if nat_eq x 0 then Says (Quietly (throwing s.code t NullPointer)) else Touches o (act.ReadPair x) (saw s.code t s.number k o))
     see_plan k o has eo =
         ap (λ z. read_move s.code s.number t (fetched_move s.code t z)) has
         ∙ ap (λ z. planned_move s.code s.number t (see_named s.code t s.number k x z)) eo
-        ∙ ap (λ r. planned_move s.code s.number t (if nat_eq x 0 then Says (Quietly (throwing s.code t NullPointer)) else (if r then Touches o (act.ReadPair x) (saw s.code t s.number k x) else no_plan))) (lt-ltb (suc (length stack)) s.base.top.need room)
+        ∙ ap (λ r. planned_move s.code s.number t (if nat_eq x 0 then Says (Quietly (throwing s.code t NullPointer)) else (if r then Touches o (act.ReadPair x) (saw s.code t s.number k o) else no_plan))) (lt-ltb (suc (length stack)) s.base.top.need room)
 
     operation_run : (b : Bool) (f : ℕ → Seen) (o : Action ℕ) (after : Answer ℕ → Option Thread) (course : Course (Outcome ℕ)) (q : Answers) (go : After ℕ) (h : After Kind) → whole_move s.code s.number t ≡ planned_move s.code s.number t (if b then Says (Quietly (throwing s.code t NullPointer)) else Touches o (act.ReadPair x) f) → operation s.code s.number t o ≡ ThreadAsks o after → c < s.budget → Catches s c (c + 1) q h → resume s.code s.number s.bound q (Paused o after) ≡ out course go h → Reaches s c (Some t) q (out (if b then Ends (Throws NullPointer) ls q else course) go h)
     operation_run b f o after course q go h e eo lt catches r zero le = absurd (let g : ⊥ = omega arith in g)
@@ -226,19 +226,64 @@ module _ (s : Setting) where
         ∙ ap (λ b. if b then ThreadAsks (act.Lock x) (after_lock s.code s.number t) else Still) (eq-eqb c c refl)
 
     unlocking_is : HasAt s.code.instructions c (lock_code c Unlock) → operation s.code s.number t (act.Unlock x) ≡ ThreadAsks (act.Unlock x) (after_unlock s.code t)
-    unlocking_is has = ap (λ z. if is_drop z then ThreadAsks (act.Unlock x) (after_unlock s.code t) else Still) has.1.0
+    unlocking_is has = ap (λ z. if is_drop 0 z then ThreadAsks (act.Unlock x) (after_unlock s.code t) else Still) has.1.0
+
+    monitor_on : (rest : Answers) (go : After ℕ) → HasAt s.code.instructions c (lock_code c LockMonitor) → c + 5 ≤ s.budget → Takes s (c + 5) stack rest go → resume s.code s.number s.bound rest (quiet_from s.code s.number s.bound (Some (exchanged t 1))) ≡ go 0 ls rest
+    monitor_on rest go has le takes =
+        went_run (c + 1 + 1) (1 ∷ x ∷ stack) rest (go 0 ls rest)
+        (next s (c + 1 + 1) (c + 1 + 1 + 1) (op.JumpIfFalse c) ls (1 ∷ x ∷ stack) ls (x ∷ stack) rest (go 0 ls rest) has.1.1.0 refl (omega arith)
+        (pop_run s (c + 1 + 1 + 1) x ls stack rest (go 0 ls rest) has.1.1.1.0 (omega arith)
+        (push_run s (c + 1 + 1 + 1 + 1) 0 ls stack rest (go 0 ls rest) has.1.1.1.1.0 (omega arith) (omega arith)
+        (fewer s (c + 5) (c + 1 + 1 + 1 + 1 + 1) stack rest rest go (omega arith) (omega arith) takes 0 ls rest el (omega arith)))))
+
+    monitor_answers : (q : Answers) (go : After ℕ) (h : After Kind) → HasAt s.code.instructions c (lock_code c LockMonitor) → c + 5 ≤ s.budget → Takes s (c + 5) stack q go → Catches s c (c + 5) q h → resume s.code s.number s.bound q (Paused (act.LockMonitor x) (after_lock s.code s.number t)) ≡ out (perform (act.LockMonitor x) ls q) go h
+    monitor_answers [] go h has le takes catches = refl
+    monitor_answers (Done ∷ rest) go h has le takes catches = monitor_on rest go has le (λ w ls1 q1 e l. takes w ls1 q1 e (omega arith))
+    monitor_answers (Gives w ∷ rest) go h has le takes catches = monitor_on rest go has le (λ w ls1 q1 e l. takes w ls1 q1 e (omega arith))
+    monitor_answers (Fails kind ∷ rest) go h has le takes catches =
+        thrown_run (c + 1) (full_word s.number ∷ x ∷ stack) kind (Fails kind ∷ rest) rest h (narrow s c (c + 5) (c + 1) (c + 1 + 1) (Fails kind ∷ rest) (Fails kind ∷ rest) h (omega arith) (omega arith) (omega arith) catches) (omega arith)
+
+    leave_on : (rest : Answers) (go : After ℕ) → HasAt s.code.instructions c (lock_code c UnlockMonitor) → c + 3 ≤ s.budget → Takes s (c + 3) stack rest go → resume s.code s.number s.bound rest (quiet_from s.code s.number s.bound (Some (here s (c + 1 + 1) ls stack))) ≡ go 0 ls rest
+    leave_on rest go has le takes =
+        went_run (c + 1 + 1) stack rest (go 0 ls rest)
+        (push_run s (c + 1 + 1) 0 ls stack rest (go 0 ls rest) has.1.1.0 (omega arith) (omega arith)
+        (fewer s (c + 3) (c + 1 + 1 + 1) stack rest rest go (omega arith) (omega arith) takes 0 ls rest el (omega arith)))
+
+    leave_answers : (q : Answers) (go : After ℕ) (h : After Kind) → HasAt s.code.instructions c (lock_code c UnlockMonitor) → c + 3 ≤ s.budget → Takes s (c + 3) stack q go → Catches s c (c + 3) q h → resume s.code s.number s.bound q (Paused (act.UnlockMonitor x) (after_unlock s.code t)) ≡ out (perform (act.UnlockMonitor x) ls q) go h
+    leave_answers [] go h has le takes catches = refl
+    leave_answers (Done ∷ rest) go h has le takes catches = leave_on rest go has le (λ w ls1 q1 e l. takes w ls1 q1 e (omega arith))
+    leave_answers (Gives w ∷ rest) go h has le takes catches = leave_on rest go has le (λ w ls1 q1 e l. takes w ls1 q1 e (omega arith))
+    leave_answers (Fails kind ∷ rest) go h has le takes catches =
+        thrown_run c (x ∷ stack) kind (Fails kind ∷ rest) rest h (narrow s c (c + 3) c (c + 1) (Fails kind ∷ rest) (Fails kind ∷ rest) h (omega arith) (omega arith) (omega arith) catches) (omega arith)
+
+    monitor_is : HasAt s.code.instructions c (lock_code c LockMonitor) → operation s.code s.number t (act.LockMonitor x) ≡ ThreadAsks (act.LockMonitor x) (after_lock s.code s.number t)
+    monitor_is has =
+        ap (λ z. if is_take 4 z && is_back_to c (slice_get s.code.instructions (c + 1 + 1)) then ThreadAsks (act.LockMonitor x) (after_lock s.code s.number t) else Still) has.1.0
+        ∙ ap (λ z. if is_back_to c z then ThreadAsks (act.LockMonitor x) (after_lock s.code s.number t) else Still) has.1.1.0
+        ∙ ap (λ b. if b then ThreadAsks (act.LockMonitor x) (after_lock s.code s.number t) else Still) (eq-eqb c c refl)
+
+    leaving_is : HasAt s.code.instructions c (lock_code c UnlockMonitor) → operation s.code s.number t (act.UnlockMonitor x) ≡ ThreadAsks (act.UnlockMonitor x) (after_unlock s.code t)
+    leaving_is has = ap (λ z. if is_drop 1 z then ThreadAsks (act.UnlockMonitor x) (after_unlock s.code t) else Still) has.1.0
 
   pub lock_run : (o : LockOperation) (c x : ℕ) (ls stack : List ℕ) (q : Answers) (go : After ℕ) (h : After Kind) → HasAt s.code.instructions c (lock_code c o) → c + lock_size o ≤ s.budget → suc (length stack) < s.base.top.need → length ls ≡ s.wide → Takes s (c + lock_size o) stack q go → Catches s c (c + lock_size o) q h → Reaches s c (Some (here s c ls (x ∷ stack))) q (out (unless_null x ls q (operate_lock o x ls q)) go h)
   lock_run Lock c x ls stack q go h has le room el takes catches =
-      operation_run c x ls stack room el (nat_eq x 0) (saw s.code (here s c ls (x ∷ stack)) s.number 1 x) (act.Lock x) (after_lock s.code s.number (here s c ls (x ∷ stack))) (perform (act.Lock x) ls q) q go h
+      operation_run c x ls stack room el (nat_eq x 0) (saw s.code (here s c ls (x ∷ stack)) s.number 1 (act.Lock x)) (act.Lock x) (after_lock s.code s.number (here s c ls (x ∷ stack))) (perform (act.Lock x) ls q) q go h
       (see_plan c x ls stack room el 1 (act.Lock x) has.0 refl) (locking_is c x ls stack room el has) (omega arith) (narrow s c (c + 5) c (c + 1) q q h (omega arith) (omega arith) (omega arith) catches)
       (lock_answers c x ls stack room el q go h has le takes catches)
   lock_run Unlock c x ls stack q go h has le room el takes catches =
-      operation_run c x ls stack room el (nat_eq x 0) (saw s.code (here s c ls (x ∷ stack)) s.number 3 x) (act.Unlock x) (after_unlock s.code (here s c ls (x ∷ stack))) (perform (act.Unlock x) ls q) q go h
+      operation_run c x ls stack room el (nat_eq x 0) (saw s.code (here s c ls (x ∷ stack)) s.number 3 (act.Unlock x)) (act.Unlock x) (after_unlock s.code (here s c ls (x ∷ stack))) (perform (act.Unlock x) ls q) q go h
       (see_plan c x ls stack room el 3 (act.Unlock x) has.0 refl) (unlocking_is c x ls stack room el has) (omega arith) (narrow s c (c + 3) c (c + 1) q q h (omega arith) (omega arith) (omega arith) catches)
       (unlock_answers c x ls stack room el q go h has le takes catches)
+  lock_run LockMonitor c x ls stack q go h has le room el takes catches =
+      operation_run c x ls stack room el (nat_eq x 0) (saw s.code (here s c ls (x ∷ stack)) s.number 4 (act.LockMonitor x)) (act.LockMonitor x) (after_lock s.code s.number (here s c ls (x ∷ stack))) (perform (act.LockMonitor x) ls q) q go h
+      (see_plan c x ls stack room el 4 (act.LockMonitor x) has.0 refl) (monitor_is c x ls stack room el has) (omega arith) (narrow s c (c + 5) c (c + 1) q q h (omega arith) (omega arith) (omega arith) catches)
+      (monitor_answers c x ls stack room el q go h has le takes catches)
+  lock_run UnlockMonitor c x ls stack q go h has le room el takes catches =
+      operation_run c x ls stack room el (nat_eq x 0) (saw s.code (here s c ls (x ∷ stack)) s.number 5 (act.UnlockMonitor x)) (act.UnlockMonitor x) (after_unlock s.code (here s c ls (x ∷ stack))) (perform (act.UnlockMonitor x) ls q) q go h
+      (see_plan c x ls stack room el 5 (act.UnlockMonitor x) has.0 refl) (leaving_is c x ls stack room el has) (omega arith) (narrow s c (c + 3) c (c + 1) q q h (omega arith) (omega arith) (omega arith) catches)
+      (leave_answers c x ls stack room el q go h has le takes catches)
   lock_run TryLock c x ls stack q go h has le room el takes catches =
-      operation_run c x ls stack room el (nat_eq x 0) (saw s.code (here s c ls (x ∷ stack)) s.number 2 x) (act.TryLock x) (after_try s.code s.number (here s c ls (x ∷ stack))) (operate_lock TryLock x ls q) q go h
+      operation_run c x ls stack room el (nat_eq x 0) (saw s.code (here s c ls (x ∷ stack)) s.number 2 (act.TryLock x)) (act.TryLock x) (after_try s.code s.number (here s c ls (x ∷ stack))) (operate_lock TryLock x ls q) q go h
       (see_plan c x ls stack room el 2 (act.TryLock x) has.0 refl) (trying_is c x ls stack room el has) (omega arith) (narrow s c (c + 4) c (c + 1) q q h (omega arith) (omega arith) (omega arith) catches)
       (try_answers c x ls stack room el q go h has le takes catches)
   lock_run IsHeld c x ls stack q go h has le room el takes catches =

@@ -8,7 +8,7 @@ use Rattle.ls_lowered.specs.declared.tree.UnaryOperator.TheVariants.{Negate, Not
 use Rattle.ls_lowered.specs.declared.tree.BinaryOperator.{BinaryOperator}
 use Rattle.ls_lowered.specs.declared.tree.BinaryOperator.TheVariants as binary
 use Rattle.ls_lowered.specs.declared.tree.LockOperation.{LockOperation}
-use Rattle.ls_lowered.specs.declared.tree.LockOperation.TheVariants.{Lock, Unlock, TryLock, IsHeld}
+use Rattle.ls_lowered.specs.declared.tree.LockOperation.TheVariants.{Lock, Unlock, TryLock, IsHeld, LockMonitor, UnlockMonitor}
 use Rattle.ls_lowered.specs.LoweredTree.{Expression, Word, Local, Unary, Binary, And, Or, Hold, Keep, After, Field, Item, SetFirst, ReadPair, SetPair, SwapPair, AttemptMark, OnLock, Call, MakeObject, MakeLock, MakeMarkable, MakeArray, Expressions, End, More}
 use Rattle.ls_locks.specs.LockCode.{lock_code}
 use Rattle.ls_emit_laws.specs.Expressions.{unary_code, binary_code, size, code, all_code}
@@ -56,6 +56,8 @@ module _ (start : ℕ) where
   lock_stays Unlock p q e = refl
   lock_stays TryLock p q e = refl
   lock_stays IsHeld p q e = refl
+  lock_stays LockMonitor p q e = cons (op.See 4) _ (op.Take 4 ∷ op.JumpIfFalse p ∷ op.Pop ∷ op.Push 0 ∷ []) _ refl (cons (op.Take 4) _ (op.JumpIfFalse p ∷ op.Pop ∷ op.Push 0 ∷ []) _ refl (cons (op.JumpIfFalse p) _ (op.Pop ∷ op.Push 0 ∷ []) _ (jump_if_false p q e) refl))
+  lock_stays UnlockMonitor p q e = refl
 
   mutual
     pub moves : (e : Expression) (p q : ℕ) → q ≡ start + p → map (moved start) (code p e) ≡ code q e
@@ -76,7 +78,7 @@ module _ (start : ℕ) where
     moves (Hold a n b) p q x = last (code p a ++ code (p + size a) b) (code q a ++ code (q + size a) b) (op.Store n) (join (code p a) (code q a) (code (p + size a) b) (code (q + size a) b) (moves a p q x) (moves b (p + size a) (q + size a) (omega arith))) refl
     moves (Keep n a b) p q x = join (code p a) (code q a) (op.Store n ∷ code (p + size a + 1) b) (op.Store n ∷ code (q + size a + 1) b) (moves a p q x) (cons (op.Store n) (op.Store n) (code (p + size a + 1) b) (code (q + size a + 1) b) refl (moves b (p + size a + 1) (q + size a + 1) (omega arith)))
     moves (After a b) p q x = join (code p a) (code q a) (op.Pop ∷ code (p + size a + 1) b) (op.Pop ∷ code (q + size a + 1) b) (moves a p q x) (cons op.Pop op.Pop (code (p + size a + 1) b) (code (q + size a + 1) b) refl (moves b (p + size a + 1) (q + size a + 1) (omega arith)))
-    moves (Field e f) p q x = last (code p e) (code q e) (op.GetField f) (moves e p q x) refl
+    moves (Field e f) p q x = last (code p e) (code q e) (op.GetField (f + 1)) (moves e p q x) refl
     moves (Item a i) p q x = last (code p a ++ code (p + size a) i) (code q a ++ code (q + size a) i) op.GetItem (join (code p a) (code q a) (code (p + size a) i) (code (q + size a) i) (moves a p q x) (moves i (p + size a) (q + size a) (omega arith))) refl
     moves (SetFirst a e) p q x =
         join (code p a ++ op.Push 0 ∷ code (p + size a + 1) e) (code q a ++ op.Push 0 ∷ code (q + size a + 1) e) (op.PutItem ∷ op.Push 0 ∷ []) (op.PutItem ∷ op.Push 0 ∷ [])

@@ -51,7 +51,7 @@ mutual
   size_is (Hold a n b) p = simp (length-append, size_is a p, size_is b (p + size a)) (omega arith)
   size_is (Keep n a b) p = simp (length-append, size_is a p, size_is b (p + size a + 1)) (omega arith)
   size_is (After a b) p = simp (length-append, size_is a p, size_is b (p + size a + 1)) (omega arith)
-  size_is (Field e f) p = both (code p e) (op.GetField f ∷ []) _ _ (size_is e p) refl
+  size_is (Field e f) p = both (code p e) (op.GetField (f + 1) ∷ []) _ _ (size_is e p) refl
   size_is (Item a i) p = simp (length-append, size_is a p, size_is i (p + size a)) (omega arith)
   size_is (SetFirst a e) p = simp (length-append, size_is a p, size_is e (p + size a + 1)) (omega arith)
   size_is (ReadPair e) p = both (code p e) (op.ReadPair ∷ []) _ _ (size_is e p) refl

@@ -4,7 +4,7 @@ use Rattle.std.proofs.lemmas.List.{map-append}
 use Rattle.ls_code.specs.declared.code.HandlerRow.{HandlerRow}
 use Rattle.ls_code.specs.declared.instruction.Instruction.{Instruction}
 use Rattle.ls_code.specs.declared.instruction.Instruction.TheVariants as op
-use Rattle.ls_lowered.specs.LoweredTree.{Statement, Block, SetLocal, SetField, SetItem, Evaluate, If, While, Return, Try, Guarded, Throw, Leavable, Leave, Statements, Done, Then, Method, File}
+use Rattle.ls_lowered.specs.LoweredTree.{Statement, Block, SetLocal, SetField, AddField, SetItem, Evaluate, If, While, Return, Try, Guarded, Throw, Leavable, Leave, Statements, Done, Then, Method, File}
 use Rattle.ls_emit_laws.specs.Expressions.{size, code}
 use Rattle.ls_emit_laws.specs.Statements.{Targets, target_of, statement_size, exits_size, places, statement_code, statements_code, exits_code, row_of, statement_rows, statements_rows, exits_rows}
 use Rattle.ls_emit_laws.specs.Units.{moved, moved_row, method_code, method_rows}
@@ -32,7 +32,14 @@ module _ (start : ℕ) where
       pub statement_moves : (s : Statement) (t t' : Targets) (p q : ℕ) → q ≡ start + p → Follow t t' → IsEmittableStatement file wide (length t) s → map (moved start) (statement_code t p s) ≡ statement_code t' q s
       statement_moves (Block ss) t t' p q e x fits = statements_move ss t t' p q e x fits
       statement_moves (SetLocal n a) t t' p q e x fits = last start (code p a) (code q a) (op.Store n) (moves start a p q e) refl
-      statement_moves (SetField a f b) t t' p q e x fits = last start (code p a ++ code (p + size a) b) (code q a ++ code (q + size a) b) (op.PutField f) (join start (code p a) (code q a) (code (p + size a) b) (code (q + size a) b) (moves start a p q e) (moves start b (p + size a) (q + size a) (omega arith))) refl
+      statement_moves (SetField a f b) t t' p q e x fits = last start (code p a ++ code (p + size a) b) (code q a ++ code (q + size a) b) (op.PutField (f + 1)) (join start (code p a) (code q a) (code (p + size a) b) (code (q + size a) b) (moves start a p q e) (moves start b (p + size a) (q + size a) (omega arith))) refl
+      statement_moves (AddField a f b) t t' p q e x fits =
+          let pb = p + size a + 2 in
+          let qb = q + size a + 2 in
+          join start (code p a ++ op.Dup ∷ op.GetField (f + 1) ∷ code pb b) (code q a ++ op.Dup ∷ op.GetField (f + 1) ∷ code qb b) (op.Add ∷ op.PutField (f + 1) ∷ []) (op.Add ∷ op.PutField (f + 1) ∷ [])
+          (join start (code p a) (code q a) (op.Dup ∷ op.GetField (f + 1) ∷ code pb b) (op.Dup ∷ op.GetField (f + 1) ∷ code qb b) (moves start a p q e)
+          (cons start op.Dup op.Dup (op.GetField (f + 1) ∷ code pb b) (op.GetField (f + 1) ∷ code qb b) refl
+          (cons start (op.GetField (f + 1)) (op.GetField (f + 1)) (code pb b) (code qb b) refl (moves start b pb qb (omega arith))))) refl
       statement_moves (SetItem a i b) t t' p q e x fits =
           last start (code p a ++ code (p + size a) i ++ code (p + size a + size i) b) (code q a ++ code (q + size a) i ++ code (q + size a + size i) b) op.PutItem
           (join start (code p a ++ code (p + size a) i) (code q a ++ code (q + size a) i) (code (p + size a + size i) b) (code (q + size a + size i) b)
@@ -120,6 +127,7 @@ module _ (start : ℕ) where
     rows_move (Block ss) p q e = all_rows_move ss p q e
     rows_move (SetLocal n a) p q e = refl
     rows_move (SetField a f b) p q e = refl
+    rows_move (AddField a f b) p q e = refl
     rows_move (SetItem a i b) p q e = refl
     rows_move (Evaluate a) p q e = refl
     rows_move (If a b d) p q e = row_join (statement_rows (p + size a + 1) b) (statement_rows (q + size a + 1) b) (statement_rows (p + size a + statement_size b + 2) d) (statement_rows (q + size a + statement_size b + 2) d) (rows_move b (p + size a + 1) (q + size a + 1) (omega arith)) (rows_move d (p + size a + statement_size b + 2) (q + size a + statement_size b + 2) (omega arith))

@@ -3,7 +3,7 @@ use Rattle.std.proofs.Common.{◌≡◌, ℕ, suc, ◌+◌, ◌<◌, ◌≤◌, 
 use Rattle.std.proofs.lemmas.Bool.{le-leb, lt-leb, lt-ltb, le-ltb, cases_lt}
 use Rattle.ls_code.specs.Throws.{find_row}
 use Rattle.ls_code.specs.declared.code.HandlerRow.{HandlerRow}
-use Rattle.ls_lowered.specs.LoweredTree.{Statement, Block, SetLocal, SetField, SetItem, Evaluate, If, While, Return, Try, Guarded, Throw, Leavable, Leave, Statements, Done, Then}
+use Rattle.ls_lowered.specs.LoweredTree.{Statement, Block, SetLocal, SetField, AddField, SetItem, Evaluate, If, While, Return, Try, Guarded, Throw, Leavable, Leave, Statements, Done, Then}
 use Rattle.ls_emit_laws.specs.Expressions.{size}
 use Rattle.ls_emit_laws.specs.Statements.{Targets, statement_size, statements_size, exits_size, places, statement_code, statements_code, exits_code, row_of, statement_rows, statements_rows, exits_rows}
 use Rattle.ls_emit_laws.specs.Emittable.{statement_count}
@@ -14,6 +14,7 @@ mutual
   statement_size_is (Block ss) t p = statements_size_is ss t p
   statement_size_is (SetLocal n e) t p = simp (length-append, size_is e p) (omega arith)
   statement_size_is (SetField e f a) t p = simp (length-append, size_is e p, size_is a (p + size e)) (omega arith)
+  statement_size_is (AddField e f a) t p = simp (length-append, size_is e p, size_is a (p + size e + 2)) (omega arith)
   statement_size_is (SetItem a i e) t p = simp (length-append, size_is a p, size_is i (p + size a), size_is e (p + size a + size i)) (omega arith)
   statement_size_is (Evaluate e) t p = simp (length-append, size_is e p) (omega arith)
   statement_size_is (If e a b) t p = simp (length-append, size_is e p, statement_size_is a t (p + size e + 1), statement_size_is b t (p + size e + statement_size a + 2)) (omega arith)
@@ -76,6 +77,7 @@ mutual
   rows_before (Block ss) p c l = all_before ss p c l
   rows_before (SetLocal n e) p c l = tt
   rows_before (SetField e f a) p c l = tt
+  rows_before (AddField e f a) p c l = tt
   rows_before (SetItem a i e) p c l = tt
   rows_before (Evaluate e) p c l = tt
   rows_before (If e a b) p c l = no_row-append c (statement_rows (p + size e + 1) a) (statement_rows (p + size e + statement_size a + 2) b) (rows_before a (p + size e + 1) c (omega arith)) (rows_before b (p + size e + statement_size a + 2) c (omega arith))
@@ -100,6 +102,7 @@ mutual
   rows_past (Block ss) p c l = all_past ss p c l
   rows_past (SetLocal n e) p c l = tt
   rows_past (SetField e f a) p c l = tt
+  rows_past (AddField e f a) p c l = tt
   rows_past (SetItem a i e) p c l = tt
   rows_past (Evaluate e) p c l = tt
   rows_past (If e a b) p c l = no_row-append c (statement_rows (p + size e + 1) a) (statement_rows (p + size e + statement_size a + 2) b) (rows_past a (p + size e + 1) c (omega arith)) (rows_past b (p + size e + statement_size a + 2) c (omega arith))

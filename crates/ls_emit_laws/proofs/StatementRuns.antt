@@ -7,20 +7,21 @@ use Rattle.ls_code.specs.declared.instruction.Instruction.TheVariants as op
 use Rattle.ls_code.specs.declared.instruction.Resume.TheVariants as then
 use Rattle.ls_code.specs.Throws.{kind_word}
 use Rattle.ls_code.specs.Fed.{Fed}
-use Rattle.ls_lowered.specs.LoweredTree.{Expression, Statement, Block, SetLocal, SetField, SetItem, Evaluate, If, While, Return, Try, Guarded, Throw, Leavable, Leave, Statements, Done, Then}
+use Rattle.ls_lowered.specs.LoweredTree.{Expression, Statement, Block, SetLocal, SetField, AddField, SetItem, Evaluate, If, While, Return, Try, Guarded, Throw, Leavable, Leave, Statements, Done, Then}
 use Rattle.ls_lowered.specs.Words.{int_of}
-use Rattle.ls_lowered.specs.Course.{Answers, Course, Asks, Ends, finish, and_then, perform, unless_null}
-use Rattle.ls_lowered.specs.Expressions.{find}
+use Rattle.ls_lowered.specs.declared.tree.BinaryOperator.TheVariants as binary
+use Rattle.ls_lowered.specs.Course.{Answers, Course, Asks, Ends, finish, and_then, ask, perform, unless_null}
+use Rattle.ls_lowered.specs.Expressions.{operate, find}
 use Rattle.ls_lowered.specs.Statements.{Completion, Normal, Returned, Threw, Left, on_body, turn_back, one_turn, turns, execute, execute_all, leave_to}
 use Rattle.ls_emit_laws.specs.Expressions.{size, code}
 use Rattle.ls_emit_laws.specs.Needs.{statement_need, statements_need}
 use Rattle.ls_emit_laws.specs.Emittable.{IsEmittableStatement, AreEmittableStatements}
 use Rattle.ls_emit_laws.specs.Statements.{Targets, target_of, statement_size, statements_size, exits_size, places, statement_code, statements_code, exits_code, row_of, statement_rows, statements_rows, exits_rows}
 use Rattle.ls_emit_laws.proofs.Places.{HasAt, has_front, has_after, has_two, has_three, has_at}
-use Rattle.ls_emit_laws.proofs.Told.{Go, end, end_word, end_normal, end_thrown, end_left, end_body, if_normal, if_thrown, if_left}
+use Rattle.ls_emit_laws.proofs.Told.{out, out_then, Go, end, end_word, end_normal, end_thrown, end_left, end_body, if_normal, if_thrown, if_left}
 use Rattle.ls_emit_laws.proofs.Steps.{Setting, here, Reaches, renamed, later, at_place}
-use Rattle.ls_emit_laws.proofs.Runs.{load_run, pop_run, store_run, jump_run, branch_run}
-use Rattle.ls_emit_laws.proofs.Expressions.{EnterRuns, first_run, two_run, behind, behind_two}
+use Rattle.ls_emit_laws.proofs.Runs.{dup_run, load_run, pop_run, store_run, jump_run, branch_run, binary_run}
+use Rattle.ls_emit_laws.proofs.Expressions.{EnterRuns, first_run, two_run, behind, behind_two, object_run}
 use Rattle.ls_emit_laws.proofs.ExpressionRuns.{runs}
 use Rattle.ls_emit_laws.proofs.StatementPlaces.{statement_size_is, targets_within, NoRow, no_row-append, rows_before, rows_past, all_before, exits_before}
 use Rattle.ls_emit_laws.proofs.Exits.{Exits, ending_at, narrowed, others_normal, others_thrown, others_left, catches_by, Owns, owns_front, owns_back, caught_at}
@@ -125,13 +126,44 @@ module _ (s : Setting) where
       executes (SetField e f a) t p ls q g has0 fits room le owns el x =
           let c = p + size e + size a in
           let p' = p + (size e + size a + 1) in
-          let has = has_two s.code.instructions p (code p e) (code (p + size e) a) (op.PutField f ∷ []) has0 in
-          renamed s p ls [] q _ _ (sym (end_word (and_then (find s.calls e ls q) (λ y ls q. and_then (find s.calls a ls q) (λ z ls q. unless_null y ls q (perform (act.WriteField y f z) ls q)))) (λ w ls q. Ends Normal ls q) g))
-          (two_run s e a p (op.PutField f ∷ []) (λ y z ls q. unless_null y ls q (perform (act.WriteField y f z) ls q)) ls [] q (λ w ls q. g Normal ls q) (λ kind ls q. g (Threw kind) ls q) (runs s enter e p) (runs s enter a (p + size e)) has fits.1 fits.2 (omega arith) (omega arith) el
+          let has = has_two s.code.instructions p (code p e) (code (p + size e) a) (op.PutField (f + 1) ∷ []) has0 in
+          renamed s p ls [] q _ _ (sym (end_word (and_then (find s.calls e ls q) (λ y ls q. and_then (find s.calls a ls q) (λ z ls q. unless_null y ls q (perform (act.WriteField y (f + 1) z) ls q)))) (λ w ls q. Ends Normal ls q) g))
+          (two_run s e a p (op.PutField (f + 1) ∷ []) (λ y z ls q. unless_null y ls q (perform (act.WriteField y (f + 1) z) ls q)) ls [] q (λ w ls q. g Normal ls q) (λ kind ls q. g (Threw kind) ls q) (runs s enter e p) (runs s enter a (p + size e)) has fits.1 fits.2 (omega arith) (omega arith) el
           (catches_by s p p' p c [] t q q g (omega arith) (omega arith) (omega arith) (λ d l1 l2. tt) x.others)
-          (λ y z ls1 q1 e1 l1. object_does s (act.WriteField y f z) (then.Discard 2) c (op.PutField f) y ls1 (z ∷ y ∷ []) q1 (λ w ls q. g Normal ls q) (λ kind ls q. g (Threw kind) ls q) (behind_two s e a p (op.PutField f ∷ []) has).0 refl (λ w. refl) (omega arith) e1
+          (λ y z ls1 q1 e1 l1. object_does s (act.WriteField y (f + 1) z) (then.Discard 2) c (op.PutField (f + 1)) y ls1 (z ∷ y ∷ []) q1 (λ w ls q. g Normal ls q) (λ kind ls q. g (Threw kind) ls q) (behind_two s e a p (op.PutField (f + 1) ∷ []) has).0 refl (λ w. refl) (omega arith) e1
           (λ rest l2. ending_at s p' (c + 1) q q g (omega arith) (omega arith) x.normal ls1 rest e1 (omega arith))
           (catches_by s p p' c (c + 1) [] t q q1 g (omega arith) (omega arith) l1 (λ d m1 m2. tt) x.others)))
+      executes (AddField e f a) t p ls q g has0 fits room le owns el ex =
+          let c = p + size e in
+          let pa = c + 2 in
+          let d = pa + size a in
+          let p' = p + (size e + size a + 4) in
+          let has = has_two s.code.instructions p (code p e) (op.Dup ∷ op.GetField (f + 1) ∷ code pa a) (op.Add ∷ op.PutField (f + 1) ∷ []) has0 in
+          let back = behind s e p _ has in
+          let has_a = has_at s.code.instructions (c + 1 + 1) pa (code pa a ++ op.Add ∷ op.PutField (f + 1) ∷ []) (omega arith) back.1.1 in
+          let at_add = behind s a pa (op.Add ∷ op.PutField (f + 1) ∷ []) has_a in
+          let go = λ (w : ℕ) (ls : List ℕ) (q : Answers). g Normal ls q in
+          let h = λ (kind : Kind) (ls : List ℕ) (q : Answers). g (Threw kind) ls q in
+          let written = λ (x w : ℕ) (ls : List ℕ) (q : Answers). unless_null x ls q (perform (act.WriteField x (f + 1) w) ls q) in
+          let summed = λ (x y z : ℕ) (ls : List ℕ) (q : Answers). and_then (operate binary.Add y z ls q) (written x) in
+          let added = λ (x y : ℕ) (ls : List ℕ) (q : Answers). and_then (find s.calls a ls q) (summed x y) in
+          let read = λ (x : ℕ) (ls : List ℕ) (q : Answers). and_then (unless_null x ls q (ask (act.ReadField x (f + 1)) ls q)) (added x) in
+          renamed s p ls [] q _ _ (sym (end_word (and_then (find s.calls e ls q) read) (λ w ls q. Ends Normal ls q) g))
+          (first_run s e p (op.Dup ∷ op.GetField (f + 1) ∷ (code pa a ++ op.Add ∷ op.PutField (f + 1) ∷ [])) read ls [] q go h (runs s enter e p) has fits.1 (omega arith) (omega arith) el
+          (catches_by s p p' p c [] t q q g (omega arith) (omega arith) (omega arith) (λ d l1 l2. tt) ex.others)
+          (λ x ls1 q1 e1 l1. dup_run s c x ls1 [] q1 _ back.0 (omega arith) (omega arith)
+          (renamed s (c + 1) ls1 (x ∷ x ∷ []) q1 _ _ (sym (out_then (unless_null x ls1 q1 (ask (act.ReadField x (f + 1)) ls1 q1)) (added x) go h))
+          (object_run s (act.ReadField x (f + 1)) (then.Settle 1) (c + 1) (op.GetField (f + 1)) x ls1 (x ∷ x ∷ []) (x ∷ []) q1 (λ y ls q. out (added x y ls q) go h) h back.1.0 refl (λ w. refl) (omega arith) e1
+          (λ y ls2 q2 e2 l2. at_place s pa (c + 1 + 1) ls2 (y ∷ x ∷ []) q2 _ (omega arith)
+          (first_run s a pa (op.Add ∷ op.PutField (f + 1) ∷ []) (summed x y) ls2 (y ∷ x ∷ []) q2 go h (runs s enter a pa) has_a fits.2 (omega arith) (omega arith) e2
+          (catches_by s p p' pa d [] t q q2 g (omega arith) (omega arith) (omega arith) (λ d m1 m2. tt) ex.others)
+          (λ z ls3 q3 e3 l3. renamed s d ls3 (z ∷ y ∷ x ∷ []) q3 _ _ (sym (out_then (operate binary.Add y z ls3 q3) (written x) go h))
+          (binary_run s binary.Add d y z ls3 (x ∷ []) q3 (λ w ls q. out (written x w ls q) go h) h at_add.0 (omega arith) e3
+          (λ w ls4 q4 e4 l4. object_does s (act.WriteField x (f + 1) w) (then.Discard 2) (d + 1) (op.PutField (f + 1)) x ls4 (w ∷ x ∷ []) q4 go h at_add.1.0 refl (λ w. refl) (omega arith) e4
+          (λ rest l5. ending_at s p' (d + 1 + 1) q q g (omega arith) (omega arith) ex.normal ls4 rest e4 (omega arith))
+          (catches_by s p p' (d + 1) (d + 1 + 1) [] t q q4 g (omega arith) (omega arith) (omega arith) (λ d m1 m2. tt) ex.others))
+          (catches_by s p p' d (d + 1) [] t q q3 g (omega arith) (omega arith) (omega arith) (λ d m1 m2. tt) ex.others)))))
+          (catches_by s p p' (c + 1) (c + 1 + 1) [] t q q1 g (omega arith) (omega arith) (omega arith) (λ d m1 m2. tt) ex.others)))))
       executes (SetItem a i e) t p ls q g has0 fits room le owns el x =
           let c = p + size a + size i + size e in
           let p' = p + (size a + size i + size e + 1) in

@@ -1,6 +1,6 @@
 -- The trees that have code: each number of a tree is there, and no `try` is left.
 use Rattle.std.specs.Prelude.{◌≡◌, ◌<◌, ◌≤◌, ℕ, suc, ◌+◌, ◌^◌, List, [], ◌∷◌, Option, Some, None, slice_get}
-use Rattle.ls_lowered.specs.LoweredTree.{Expression, Word, Local, Unary, Binary, And, Or, Hold, Keep, After, Field, Item, SetFirst, ReadPair, SetPair, SwapPair, AttemptMark, OnLock, Call, MakeObject, MakeLock, MakeMarkable, MakeArray, Expressions, End, More, Statement, Block, SetLocal, SetField, SetItem, Evaluate, If, While, Return, Try, Guarded, Throw, Leavable, Leave, Statements, Done, Then, Method, File}
+use Rattle.ls_lowered.specs.LoweredTree.{Expression, Word, Local, Unary, Binary, And, Or, Hold, Keep, After, Field, Item, SetFirst, ReadPair, SetPair, SwapPair, AttemptMark, OnLock, Call, MakeObject, MakeLock, MakeMarkable, MakeArray, Expressions, End, More, Statement, Block, SetLocal, SetField, AddField, SetItem, Evaluate, If, While, Return, Try, Guarded, Throw, Leavable, Leave, Statements, Done, Then, Method, File}
 
 abbrev pub count : Expressions → ℕ
 count End = 0
@@ -30,7 +30,7 @@ abbrev mutual
   IsEmittable ms k (Hold a n b) = IsEmittable ms k a × (n < k) × IsEmittable ms k b
   IsEmittable ms k (Keep n a b) = IsEmittable ms k a × (n < k) × IsEmittable ms k b
   IsEmittable ms k (After a b) = IsEmittable ms k a × IsEmittable ms k b
-  IsEmittable ms k (Field e f) = IsEmittable ms k e × (f < 2 ^ 32)
+  IsEmittable ms k (Field e f) = IsEmittable ms k e × (f + 1 < 2 ^ 32)
   IsEmittable ms k (Item a i) = IsEmittable ms k a × IsEmittable ms k i
   IsEmittable ms k (SetFirst a e) = IsEmittable ms k a × IsEmittable ms k e
   IsEmittable ms k (ReadPair e) = IsEmittable ms k e
@@ -53,7 +53,8 @@ abbrev mutual
   pub IsEmittableStatement : File → ℕ → ℕ → Statement → Type 0
   IsEmittableStatement ms k exits (Block ss) = AreEmittableStatements ms k exits ss
   IsEmittableStatement ms k exits (SetLocal n e) = (n < k) × IsEmittable ms k e
-  IsEmittableStatement ms k exits (SetField e f a) = (f < 2 ^ 32) × IsEmittable ms k e × IsEmittable ms k a
+  IsEmittableStatement ms k exits (SetField e f a) = (f + 1 < 2 ^ 32) × IsEmittable ms k e × IsEmittable ms k a
+  IsEmittableStatement ms k exits (AddField e f a) = (f + 1 < 2 ^ 32) × IsEmittable ms k e × IsEmittable ms k a
   IsEmittableStatement ms k exits (SetItem a i e) = IsEmittable ms k a × IsEmittable ms k i × IsEmittable ms k e
   IsEmittableStatement ms k exits (Evaluate e) = IsEmittable ms k e
   IsEmittableStatement ms k exits (If e a b) = IsEmittable ms k e × IsEmittableStatement ms k exits a × IsEmittableStatement ms k exits b

@@ -75,7 +75,7 @@ abbrev mutual
   code p (Hold a n b) = code p a ++ code (p + size a) b ++ op.Store n ∷ []
   code p (Keep n a b) = code p a ++ op.Store n ∷ code (p + size a + 1) b
   code p (After a b) = code p a ++ op.Pop ∷ code (p + size a + 1) b
-  code p (Field e f) = code p e ++ op.GetField f ∷ []
+  code p (Field e f) = code p e ++ op.GetField (f + 1) ∷ []
   code p (Item a i) = code p a ++ code (p + size a) i ++ op.GetItem ∷ []
   code p (SetFirst a e) = code p a ++ op.Push 0 ∷ code (p + size a + 1) e ++ op.PutItem ∷ op.Push 0 ∷ []
   code p (ReadPair e) = code p e ++ op.ReadPair ∷ []

@@ -1,6 +1,6 @@
 -- How many operands a tree's code has at most at one time.
 use Rattle.std.specs.Prelude.{ℕ, ◌+◌, max}
-use Rattle.ls_lowered.specs.LoweredTree.{Expression, Word, Local, Unary, Binary, And, Or, Hold, Keep, After, Field, Item, SetFirst, ReadPair, SetPair, SwapPair, AttemptMark, OnLock, Call, MakeObject, MakeLock, MakeMarkable, MakeArray, Expressions, End, More, Statement, Block, SetLocal, SetField, SetItem, Evaluate, If, While, Return, Try, Guarded, Throw, Leavable, Leave, Statements, Done, Then}
+use Rattle.ls_lowered.specs.LoweredTree.{Expression, Word, Local, Unary, Binary, And, Or, Hold, Keep, After, Field, Item, SetFirst, ReadPair, SetPair, SwapPair, AttemptMark, OnLock, Call, MakeObject, MakeLock, MakeMarkable, MakeArray, Expressions, End, More, Statement, Block, SetLocal, SetField, AddField, SetItem, Evaluate, If, While, Return, Try, Guarded, Throw, Leavable, Leave, Statements, Done, Then}
 
 abbrev mutual
   pub need : Expression → ℕ
@@ -36,6 +36,7 @@ abbrev mutual
   statement_need (Block ss) = statements_need ss
   statement_need (SetLocal n e) = need e
   statement_need (SetField e f a) = max (need e) (1 + need a)
+  statement_need (AddField e f a) = max (need e) (2 + need a)
   statement_need (SetItem a i e) = max (need a) (max (1 + need i) (2 + need e))
   statement_need (Evaluate e) = need e
   statement_need (If e a b) = max (need e) (max (statement_need a) (statement_need b))

@@ -62,7 +62,7 @@ reader = method 1 0 (Return (Field (Local 0) 2))
 
 abbrev pub whole : ℕ → Code
 whole this = record {
-  instructions = op.Push this ∷ op.Enter 0 ∷ op.Halt ∷ op.Load 0 ∷ op.GetField 2 ∷ op.LeaveWith ∷ op.Push 0 ∷ op.LeaveWith ∷ [];
+  instructions = op.Push this ∷ op.Enter 0 ∷ op.Halt ∷ op.Load 0 ∷ op.GetField 3 ∷ op.LeaveWith ∷ op.Push 0 ∷ op.LeaveWith ∷ [];
   handlers = [];
   methods = record { start = 3; arguments = 1; more = 0; need = 1 } ∷ [];
   sizes = [];
@@ -79,7 +79,7 @@ runs this answers = fed (whole this) 0 8 8 caller answers
 -- what the thread asks for and how it ends, and what the method's course comes to; at null it is stuck, since nothing catches the throw
 abbrev pub Runs : Type 0
 Runs =
-    (runs 9 [] ≡ fed.Asked (act.Enter 0)) × (runs 9 (Answered ∷ []) ≡ fed.Asked (act.ReadField 9 2)) × (runs 9 (Answered ∷ Gives 5 ∷ []) ≡ fed.Ended)
+    (runs 9 [] ≡ fed.Asked (act.Enter 0)) × (runs 9 (Answered ∷ []) ≡ fed.Asked (act.ReadField 9 3)) × (runs 9 (Answered ∷ Gives 5 ∷ []) ≡ fed.Ended)
     × (runs 9 (Answered ∷ Fails NullPointer ∷ []) ≡ fed.Lost) × (runs 0 [] ≡ fed.Lost)
     × (invoke (reader ∷ []) 64 0 (9 ∷ []) (Answered ∷ Gives 5 ∷ []) ≡ course.Gave 5 []) × (invoke (reader ∷ []) 64 0 (9 ∷ []) (Answered ∷ Fails NullPointer ∷ []) ≡ course.Raised NullPointer [])
 

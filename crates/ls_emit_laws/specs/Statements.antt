@@ -3,7 +3,7 @@ use Rattle.std.specs.Prelude.{ℕ, ◌+◌, List, [], ◌∷◌, ◌++◌, Optio
 use Rattle.ls_code.specs.declared.instruction.Instruction.{Instruction}
 use Rattle.ls_code.specs.declared.instruction.Instruction.TheVariants as op
 use Rattle.ls_code.specs.declared.code.HandlerRow.{HandlerRow}
-use Rattle.ls_lowered.specs.LoweredTree.{Statement, Block, SetLocal, SetField, SetItem, Evaluate, If, While, Return, Try, Guarded, Throw, Leavable, Leave, Statements, Done, Then}
+use Rattle.ls_lowered.specs.LoweredTree.{Statement, Block, SetLocal, SetField, AddField, SetItem, Evaluate, If, While, Return, Try, Guarded, Throw, Leavable, Leave, Statements, Done, Then}
 use Rattle.ls_emit_laws.specs.Expressions.{size, code}
 
 -- where leaves out of a statement lead, by their numbers
@@ -23,6 +23,7 @@ abbrev mutual
   statement_size (Block ss) = statements_size ss
   statement_size (SetLocal n e) = size e + 1
   statement_size (SetField e f a) = size e + size a + 1
+  statement_size (AddField e f a) = size e + size a + 4
   statement_size (SetItem a i e) = size a + size i + size e + 1
   statement_size (Evaluate e) = size e + 1
   statement_size (If e a b) = size e + statement_size a + statement_size b + 2
@@ -53,7 +54,9 @@ abbrev mutual
   pub statement_code : Targets → ℕ → Statement → List Instruction
   statement_code t p (Block ss) = statements_code t p ss
   statement_code t p (SetLocal n e) = code p e ++ op.Store n ∷ []
-  statement_code t p (SetField e f a) = code p e ++ code (p + size e) a ++ op.PutField f ∷ []
+  statement_code t p (SetField e f a) = code p e ++ code (p + size e) a ++ op.PutField (f + 1) ∷ []
+  statement_code t p (AddField e f a) =
+      code p e ++ op.Dup ∷ op.GetField (f + 1) ∷ code (p + size e + 2) a ++ op.Add ∷ op.PutField (f + 1) ∷ []
   statement_code t p (SetItem a i e) = code p a ++ code (p + size a) i ++ code (p + size a + size i) e ++ op.PutItem ∷ []
   statement_code t p (Evaluate e) = code p e ++ op.Pop ∷ []
   statement_code t p (If e a b) =
@@ -90,6 +93,7 @@ abbrev mutual
   statement_rows p (Block ss) = statements_rows p ss
   statement_rows p (SetLocal n e) = []
   statement_rows p (SetField e f a) = []
+  statement_rows p (AddField e f a) = []
   statement_rows p (SetItem a i e) = []
   statement_rows p (Evaluate e) = []
   statement_rows p (If e a b) = statement_rows (p + size e + 1) a ++ statement_rows (p + size e + statement_size a + 2) b

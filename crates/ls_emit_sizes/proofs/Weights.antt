@@ -1,6 +1,6 @@
 -- How much there is to do at a statement.
 use Rattle.std.proofs.Common.{ℕ, ◌+◌, ◌≤◌, arith}
-use Rattle.ls_lowered.specs.LoweredTree.{Statement, Block, SetLocal, SetField, SetItem, Evaluate, If, While, Return, Try, Guarded, Throw, Leavable, Leave, Statements, Done, Then}
+use Rattle.ls_lowered.specs.LoweredTree.{Statement, Block, SetLocal, SetField, AddField, SetItem, Evaluate, If, While, Return, Try, Guarded, Throw, Leavable, Leave, Statements, Done, Then}
 use Rattle.ls_emit_laws.specs.Statements.{statements_size, exits_size}
 
 abbrev mutual
@@ -8,6 +8,7 @@ abbrev mutual
   weight (Block ss) = weights ss + 1
   weight (SetLocal n e) = 0
   weight (SetField e f a) = 0
+  weight (AddField e f a) = 0
   weight (SetItem a i e) = 0
   weight (Evaluate e) = 0
   weight (If e a b) = weight a + weight b + 1

@@ -72,6 +72,7 @@ pub fn statement_need(s: &Statement) -> usize
         Statement::Block(statements) => statements_need(statements),
         Statement::SetLocal(_, e) | Statement::Evaluate(e) | Statement::Return(e) => need(e),
         Statement::SetField(object, _, value) => larger(need(object), 1 + need(value)),
+        Statement::AddField(object, _, value) => larger(need(object), 2 + need(value)),
         Statement::SetItem(array, index, value) => {
             larger(need(array), larger(1 + need(index), 2 + need(value)))
         }

@@ -26,6 +26,9 @@ fn count_statement(so_far: usize, s: &Statement) -> usize
         Statement::SetField(object, _, value) => {
             more(count_expression(count_expression(so_far, object), value), 1)
         }
+        Statement::AddField(object, _, value) => {
+            more(count_expression(count_expression(so_far, object), value), 4)
+        }
         Statement::SetItem(array, index, value) => {
             let so_far = count_expression(count_expression(so_far, array), index);
             more(count_expression(so_far, value), 1)

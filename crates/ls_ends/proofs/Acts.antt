@@ -3,7 +3,7 @@ use Rattle.std.proofs.lemmas.Bool.Decides.{nat_tests}
 use Rattle.std.proofs.lemmas.List.{length-map}
 use Rattle.std.proofs.Common.{◌≡◌, ◌<◌, ℕ, zero, suc, ◌+◌, Bool, true, false, [], length, Option, Some, None, refl, sym, ap, ◌∙◌, subst, arith, slice_get, nat_le, if◌then◌else◌}
 use Rattle.ls_events.specs.declared.value.Value.{Value}
-use Rattle.ls_events.specs.declared.value.ValueType.TheVariants as type
+use Rattle.ls_events.specs.declared.value.ValueType.{ValueType}
 use Rattle.ls_events.specs.declared.action.Action.{Action}
 use Rattle.ls_events.specs.declared.action.Answer.{Answer}
 use Rattle.ls_checked.specs.CheckedTree.{File}
@@ -27,7 +27,7 @@ use Rattle.ls_headline.specs.Translations.{most_silent, to_source}
 use Rattle.ls_headline.proofs.Lists.{get_there, index_there}
 use Rattle.ls_headline.proofs.Meaning.{Means}
 use Rattle.ls_headline.proofs.LockCells.{full_is}
-use Rattle.ls_headline.proofs.Others.{lock_on, lock_word, lock_renamed, renamed_lock, lock_named, LockNamed, word_there}
+use Rattle.ls_headline.proofs.Others.{IsHeldType, lock_on, lock_word, lock_renamed, renamed_lock, lock_named, LockNamed, word_there}
 use Rattle.ls_headline.proofs.Middle.{Here}
 use Rattle.ls_headline.proofs.Effects.{renaming, thing_there, Agrees}
 use Rattle.ls_headline.proofs.Following
@@ -87,23 +87,23 @@ module _ (file : File) (program : Program) (code : Code) (asks : Asks file progr
             Answered c w both.0 ee both.1
 
     -- the lock that it is on
-    some_lock : (o : Option ℕ) (lock : ℕ) → LockNamed h.sorts o → renamed_lock (renaming names s.store) o ≡ Some lock → (n : ℕ) × Names h.sorts n type.Lock × (renaming names s.store n ≡ lock)
+    some_lock : (o : Option ℕ) (lock : ℕ) → LockNamed h.sorts o → renamed_lock (renaming names s.store) o ≡ Some lock → (n : ℕ) × (q : ValueType) × IsHeldType q × Names h.sorts n q × (renaming names s.store n ≡ lock)
     some_lock None lock named e = cc
-    some_lock (Some n) lock named e = (n, named, cc)
+    some_lock (Some n) lock named e = (n, named.0, named.1, named.2, cc)
 
-    named_word : (n lock : ℕ) → Names h.sorts n type.Lock → renaming names s.store n ≡ lock → Word m.cells t lock
-    named_word zero lock named e = absurd named
-    named_word (suc k) lock named e =
-        let r = thing_there file.classes h.sorts s.store.things h.sorts k type.Lock h.holds.typed named in (
+    named_word : (n lock : ℕ) (q : ValueType) → IsHeldType q → Names h.sorts n q → renaming names s.store n ≡ lock → Word m.cells t lock
+    named_word zero lock q held named e = absurd named
+    named_word (suc k) lock q held named e =
+        let r = thing_there file.classes h.sorts s.store.things h.sorts k q h.holds.typed named in (
           lock_word r.0,
-          ap (λ z. cells.cell_at m.cells z 0) (sym e) ∙ word_there file.classes (Following.named file program code asks sound room within.most) code.sizes room h.sorts s.store m.cells h.holds k r.0 r.1 r.2,
-          full_is file.classes h.sorts r.0 t r.2,
+          ap (λ z. cells.cell_at m.cells z 0) (sym e) ∙ word_there file.classes (Following.named file program code asks sound room within.most) code.sizes room h.sorts s.store m.cells h.holds k r.0 q r.1 held r.2,
+          full_is file.classes h.sorts r.0 q t r.2,
         )
 
     word : (lock : ℕ) → lock_on (acts_as s a) ≡ Some lock → Word m.cells t lock
     word lock on =
         let l = some_lock (lock_on a) lock (lock_named file program h.sorts t a q has) (sym (lock_renamed (renaming names s.store) (written (renaming names s.store)) a) ∙ on) in
-        named_word l.0 lock l.1 l.2
+        named_word l.0 lock l.1 l.2 l.3 l.4
 
     acts_by : IsOpen m t → (d : Pause) → stands t each.3 ≡ d → InWords (renaming names s.store) (Goes a q) d → (st : Store) (y : Answer Value) → effect file.classes s.store t a ≡ Does st y → Acting (roomy st) (first_did (suc bound) m t)
     acts_by is_open (Paused b go) stood w st y does =

@@ -2,7 +2,6 @@
 use Rattle.std.proofs.Common.{◌≡◌, ◌≢◌, ◌<◌, ℕ, zero, suc, Bool, true, false, ◌&&◌, ◌||◌, [], length, replicate, Option, Some, None, refl, sym, ap, ◌∙◌, subst, arith, slice_get, slice_set, nat_eq, if◌then◌else◌}
 use Rattle.std.proofs.lemmas.Bool.Decides.{nat_tests}
 use Rattle.ls_events.specs.declared.action.Action.{Action}
-use Rattle.ls_events.specs.declared.action.Action.TheVariants as act
 use Rattle.ls_events.specs.declared.action.Answer.{Answer}
 use Rattle.ls_checked.specs.CheckedTree.{File}
 use Rattle.ls_checked.specs.CheckedProgram.{Program}
@@ -145,7 +144,7 @@ module _ (code : Code) (t : ℕ) where
       machine_state (machine_run m (replicate n t)) t ≡ mode_state z
   over_middle z n m image goes ready y x there (Here ex) e = ends_quietly z n m image goes ready x there (ap (quiet code t n) ex ∙ e)
   over_middle z n m image goes ready y x there (Saw r b go lock w em h l ex s o) e = absurd (asking_over z n y b go r em e)
-  over_middle z n m image goes ready y x there (Lost r a go em h ex) e = absurd (asking_over z n y (act.Lock a) go r em e)
+  over_middle z n m image goes ready y x there (Lost r a b l go em h ex) e = absurd (asking_over z n y b go r em e)
   over_middle z n m image goes ready y x there (Told r u a w h ey ex k) e =
       told_over z n m image goes ready x y (exchanged u 0) there (same_mode code m.cells t y x (Told r u a w h ey ex k) ∙ r) r
       (ap (λ v. performed m.cells t v (thread_move code v)) ex ∙ h.told m.cells w k) (ap (whole_move code t) ey ∙ h.told_whole (word_of_another t) (another_is t)) e

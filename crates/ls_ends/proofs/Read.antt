@@ -1,7 +1,6 @@
 -- A thread that is read to come to an action, which doesn't wait: by its own instructions it acts in time.
 use Rattle.std.proofs.Common.{◌≡◌, ◌<◌, ◌≤◌, ◌⊎◌, inl, inr, ℕ, zero, suc, Bool, true, false, length, Option, Some, None, refl, sym, ap, ◌∙◌, subst, arith, slice_get}
 use Rattle.ls_events.specs.declared.action.Action.{Action}
-use Rattle.ls_events.specs.declared.action.Action.TheVariants as act
 use Rattle.ls_events.specs.declared.action.Answer.{Answer}
 use Rattle.ls_code.specs.Code.{Code}
 use Rattle.ls_code.specs.Thread.{Thread}
@@ -132,14 +131,14 @@ module _ (room : Bool) (code : Code) (t : ℕ) (c : Cells) (b : Action ℕ) (go 
       subst (Comes room code t c (suc bound)) (sym is)
       (longer room code t c 4 (suc bound) (seen y w) (some_code y planned)
       (has_seen room code t c y r b go parts replies word lock w (sym (ap lock_on eb) ∙ on) sees (subst (OwnFor t w) eb own)))
-  in_middle y x (Lost r a go' em planned is) e =
-      let same = begun_same y r (act.Lock a) go' em e in
-      let eb : act.Lock a ≡ b = same_action (act.Lock a) b go' go same in
-      let parts = parts_are_there code t y (act.Lock a) go' planned em in
-      let l = word a (sym (ap lock_on eb)) in
+  in_middle y x (Lost r a b' locks go' em planned is) e =
+      let same = begun_same y r b' go' em e in
+      let eb : b' ≡ b = same_action b' b go' go same in
+      let parts = locks.parts code t y go' (parts_are_there code t y b' go' planned em) in
+      let l = word a (sym (ap lock_on eb) ∙ locks.on) in
       subst (Comes room code t c (suc bound)) (sym is)
       (longer room code t c 3 (suc bound) (exchanged y 0) (let some = some_code y planned in omega arith)
-      (lock_back room code t c y r a l.0 l.1 l.2 parts.0 (subst (Replies room c t (act.Lock a)) (sym (same_going (act.Lock a) b go' go same) ∙ parts.1) (subst (λ z. Replies room c t z go) (sym eb) replies))))
+      (lock_back room code t c y r a l.0 l.1 l.2 b' locks parts.0 (subst (Replies room c t b') (sym (same_going b' b go' go same) ∙ parts.1) (subst (λ z. Replies room c t z go) (sym eb) replies))))
   in_middle y x (Told r z a w parts ey ex ek) e =
       told bound x y (exchanged z 0) (same_mode code c t y x (Told r z a w parts ey ex ek) ∙ r) r
       (ap (one code t c) ex ∙ parts.told c w ek) (ap (whole_move code t) ey ∙ parts.told_whole (word_of_another t) (another_is t)) e

@@ -109,13 +109,13 @@ after_lost place = record {
   instructions =
       op.Call 1 ∷ op.NewObject 0 ∷ op.Dup ∷ op.Enter 1 ∷ op.PutName 0 ∷ op.Result 1 ∷ op.Halt
       ∷ op.Call 1 ∷ op.GetName 0 ∷ op.Enter 0 ∷ op.Result 1 ∷ op.Halt ∷ op.Trap
-      ∷ op.Load 0 ∷ op.GetField 0 ∷ op.See 1 ∷ op.Take 1 ∷ op.JumpIfFalse place ∷ op.Pop
-      ∷ op.Load 0 ∷ op.GetField 0 ∷ op.See 3 ∷ op.DropLock ∷ op.Leave
-      ∷ op.Load 0 ∷ op.NewLock ∷ op.PutField 0 ∷ op.Leave
+      ∷ op.Load 0 ∷ op.GetField 1 ∷ op.See 1 ∷ op.Take 1 ∷ op.JumpIfFalse place ∷ op.Pop
+      ∷ op.Load 0 ∷ op.GetField 1 ∷ op.See 3 ∷ op.DropLock 0 ∷ op.Leave
+      ∷ op.Load 0 ∷ op.NewLock ∷ op.PutField 1 ∷ op.Leave
       ∷ op.Jump 28 ∷ [];
   handlers = [];
   methods = record { start = 13; arguments = 1; more = 0; need = 2 } ∷ record { start = 24; arguments = 1; more = 0; need = 2 } ∷ [];
-  sizes = 1 ∷ [];
+  sizes = 2 ∷ [];
   starts =
       record { place = 0; need = 2; calls = Nothing ∷ [] }
       ∷ record { place = 7; need = 1; calls = Nothing ∷ [] }

@@ -36,6 +36,8 @@ pub enum Action<V> {
     Unlock(u64),
     TryLock(u64),
     IsHeld(u64),
+    LockMonitor(u64),
+    UnlockMonitor(u64),
     ReadPair(u64),
     SetPair(u64, V),
     SwapPair {

@@ -1,5 +1,5 @@
 -- Expressions on locals that agree below k end alike, and keep the locals above.
-use Rattle.std.proofs.Common.{◌≡◌, ℕ, ◌<◌, ◌≤◌, ⊎_elim, Bool, true, false, List, [], ◌∷◌, length, refl, sym, ap, ◌∙◌, subst, arith, nat_eq, if◌then◌else◌, pos}
+use Rattle.std.proofs.Common.{◌≡◌, ℕ, ◌<◌, ◌≤◌, ⊎_elim, Bool, true, false, List, [], ◌∷◌, length, refl, sym, ap, ◌∙◌, subst, arith, nat_eq, if◌then◌else◌, pos, ◌+◌}
 use Rattle.std.specs.Prelude.{slice_index, slice_set, int_lt, ◌%◌, ◌^◌}
 use Rattle.std.proofs.lemmas.List.{length-set, get_or-set_same, get_or-set_other}
 use Rattle.std.proofs.lemmas.Bool.{cases_lt}
@@ -114,7 +114,7 @@ local_alike k n lt = record { is = λ old ls new q g g' a u s. ap (λ w. g' (Res
 divided_alike : (k : ℕ) (o : BinaryOperator) (x y : ℕ) → Alike k (λ ls q. divided o x y ls q)
 divided_alike k o x y = if_alike k (nat_eq (y % 2 ^ 32) 0) (λ ls q. Ends (Throws Arithmetic) ls q) (λ ls q. Ends (Results (binary_word o x y)) ls q) (ends_alike k (Throws Arithmetic)) (ends_alike k (Results (binary_word o x y)))
 
-operate_alike : (k : ℕ) (o : BinaryOperator) (x y : ℕ) → Alike k (λ ls q. operate o x y ls q)
+pub operate_alike : (k : ℕ) (o : BinaryOperator) (x y : ℕ) → Alike k (λ ls q. operate o x y ls q)
 operate_alike k op.Divide x y = record { is = (divided_alike k op.Divide x y).is }
 operate_alike k op.Remainder x y = record { is = (divided_alike k op.Remainder x y).is }
 operate_alike k op.Add x y = record { is = (ends_alike k (Results (binary_word op.Add x y))).is }
@@ -133,6 +133,8 @@ lock_alike k lock.Lock x = record { is = (perform_alike k (act.Lock x)).is }
 lock_alike k lock.Unlock x = record { is = (perform_alike k (act.Unlock x)).is }
 lock_alike k lock.TryLock x = record { is = (then_alike k (λ ls q. ask (act.TryLock x) ls q) (λ w ls q. Ends (Results (flag_word w)) ls q) (ask_alike k (act.TryLock x)) (λ w. ends_alike k (Results (flag_word w)))).is }
 lock_alike k lock.IsHeld x = record { is = (ask_alike k (act.IsHeld x)).is }
+lock_alike k lock.LockMonitor x = record { is = (perform_alike k (act.LockMonitor x)).is }
+lock_alike k lock.UnlockMonitor x = record { is = (perform_alike k (act.UnlockMonitor x)).is }
 
 array_alike : (k n : ℕ) → Alike k (λ ls q. make_array n ls q)
 array_alike k n = if_alike k (int_lt (int_of n) (pos 0)) (λ ls q. Ends (Throws NegativeArraySize) ls q) (λ ls q. ask (act.NewArray (int_of n)) ls q) (ends_alike k (Throws NegativeArraySize)) (ask_alike k (act.NewArray (int_of n)))
@@ -149,7 +151,7 @@ module _ (calls : Calls) (k : ℕ) where
     found_alike (Hold a n b) t = then_alike k (find calls a) _ (found_alike a t.1) (λ x. then_alike k (find calls b) _ (found_alike b t.2) (λ y. set_alike k n y (λ ls q. Ends (Results x) ls q) t.0 (ends_alike k (Results x))))
     found_alike (Keep n a b) t = then_alike k (find calls a) _ (found_alike a t.1) (λ x. set_alike k n x (find calls b) t.0 (found_alike b t.2))
     found_alike (After a b) t = then_alike k (find calls a) _ (found_alike a t.0) (λ x. found_alike b t.1)
-    found_alike (Field e f) t = then_alike k (find calls e) _ (found_alike e t) (λ x. null_alike k x (λ ls q. ask (act.ReadField x f) ls q) (ask_alike k (act.ReadField x f)))
+    found_alike (Field e f) t = then_alike k (find calls e) _ (found_alike e t) (λ x. null_alike k x (λ ls q. ask (act.ReadField x (f + 1)) ls q) (ask_alike k (act.ReadField x (f + 1))))
     found_alike (Item a i) t = then_alike k (find calls a) _ (found_alike a t.0) (λ x. then_alike k (find calls i) _ (found_alike i t.1) (λ n. null_alike k x (λ ls q. ask (act.ReadItem x (int_of n)) ls q) (ask_alike k (act.ReadItem x (int_of n)))))
     found_alike (SetFirst a e) t = then_alike k (find calls a) _ (found_alike a t.0) (λ x. then_alike k (find calls e) _ (found_alike e t.1) (λ y. null_alike k x (λ ls q. perform (act.WriteItem x (pos 0) y) ls q) (perform_alike k (act.WriteItem x (pos 0) y))))
     found_alike (ReadPair e) t = then_alike k (find calls e) _ (found_alike e t) (λ x. null_alike k x (λ ls q. ask (act.ReadPair x) ls q) (ask_alike k (act.ReadPair x)))

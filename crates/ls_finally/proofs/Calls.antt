@@ -1,9 +1,10 @@
 -- Trees whose calls have as many arguments as their methods don't see what calls do with other numbers of arguments.
-use Rattle.std.proofs.Common.{◌≡◌, ℕ, zero, suc, List, [], ◌∷◌, length, refl, sym, ap, ap₂, subst, ◌∙◌, nat_eq, if◌then◌else◌, pos}
+use Rattle.std.proofs.Common.{◌≡◌, ℕ, zero, suc, List, [], ◌∷◌, length, refl, sym, ap, ap₂, subst, ◌∙◌, nat_eq, if◌then◌else◌, pos, ◌+◌}
 use Rattle.std.proofs.Math.Path.{fun_ext}
 use Rattle.std.specs.Prelude.{slice_set}
 use Rattle.ls_events.specs.declared.action.Action.TheVariants as act
-use Rattle.ls_lowered.specs.LoweredTree.{Expression, Word, Local, Unary, Binary, And, Or, Hold, Keep, After, Field, Item, SetFirst, ReadPair, SetPair, SwapPair, AttemptMark, OnLock, Call, MakeObject, MakeLock, MakeMarkable, MakeArray, Expressions, End, More, Statement, Block, SetLocal, SetField, SetItem, Evaluate, If, While, Return, Try, Guarded, Throw, Leavable, Leave, Statements, Done, Then, File}
+use Rattle.ls_lowered.specs.LoweredTree.{Expression, Word, Local, Unary, Binary, And, Or, Hold, Keep, After, Field, Item, SetFirst, ReadPair, SetPair, SwapPair, AttemptMark, OnLock, Call, MakeObject, MakeLock, MakeMarkable, MakeArray, Expressions, End, More, Statement, Block, SetLocal, SetField, AddField, SetItem, Evaluate, If, While, Return, Try, Guarded, Throw, Leavable, Leave, Statements, Done, Then, File}
+use Rattle.ls_lowered.specs.declared.tree.BinaryOperator.TheVariants as op
 use Rattle.ls_lowered.specs.Words.{int_of, bool_of}
 use Rattle.ls_lowered.specs.Course.{Answers, Course, Ends, Outcome, Results, Throws, Calls, finish, on_result, and_then, ask, perform, unless_null, returned}
 use Rattle.ls_lowered.specs.Expressions.{find, find_all, unary_word, operate, operate_lock, make_array}
@@ -57,7 +58,7 @@ module _ (ms : File) (calls calls' : Calls) (agree : (m : ℕ) (ws : List ℕ) (
     found (Hold a n b) t = ap₂ (λ (f g : Finds). λ ls q. and_then (f ls q) (λ x ls q. and_then (g ls q) (λ y ls q. Ends (Results x) (slice_set ls n y) q))) (found a t.0) (found b t.1)
     found (Keep n a b) t = ap₂ (λ (f g : Finds). λ ls q. and_then (f ls q) (λ x ls q. g (slice_set ls n x) q)) (found a t.0) (found b t.1)
     found (After a b) t = ap₂ (λ (f g : Finds). λ ls q. and_then (f ls q) (λ x ls q. g ls q)) (found a t.0) (found b t.1)
-    found (Field e n) t = ap (λ (f : Finds). λ ls q. and_then (f ls q) (λ x ls q. unless_null x ls q (ask (act.ReadField x n) ls q))) (found e t)
+    found (Field e n) t = ap (λ (f : Finds). λ ls q. and_then (f ls q) (λ x ls q. unless_null x ls q (ask (act.ReadField x (n + 1)) ls q))) (found e t)
     found (Item a i) t = ap₂ (λ (f g : Finds). λ ls q. and_then (f ls q) (λ x ls q. and_then (g ls q) (λ n ls q. unless_null x ls q (ask (act.ReadItem x (int_of n)) ls q)))) (found a t.0) (found i t.1)
     found (SetFirst a e) t = ap₂ (λ (f g : Finds). λ ls q. and_then (f ls q) (λ x ls q. and_then (g ls q) (λ y ls q. unless_null x ls q (perform (act.WriteItem x (pos 0) y) ls q)))) (found a t.0) (found e t.1)
     found (ReadPair e) t = ap (λ (f : Finds). λ ls q. and_then (f ls q) (λ x ls q. unless_null x ls q (ask (act.ReadPair x) ls q))) (found e t)
@@ -92,7 +93,8 @@ module _ (ms : File) (calls calls' : Calls) (agree : (m : ℕ) (ws : List ℕ) (
       pub runs : (s : Statement) → IsPlacedStatement ms k s → execute calls' s ≡ execute calls s
       runs (Block ss) t = all_run ss t
       runs (SetLocal n e) t = ap (λ (f : Finds). λ ls q. finish (f ls q) (on_word (λ w ls q. Ends Normal (slice_set ls n w) q))) (found e t.1.1)
-      runs (SetField e n a) t = ap₂ (λ (f g : Finds). λ ls q. and_normal (and_then (f ls q) (λ x ls q. and_then (g ls q) (λ y ls q. unless_null x ls q (perform (act.WriteField x n y) ls q))))) (found e t.0.1) (found a t.1.1)
+      runs (SetField e n a) t = ap₂ (λ (f g : Finds). λ ls q. and_normal (and_then (f ls q) (λ x ls q. and_then (g ls q) (λ y ls q. unless_null x ls q (perform (act.WriteField x (n + 1) y) ls q))))) (found e t.0.1) (found a t.1.1)
+      runs (AddField e n a) t = ap₂ (λ (f g : Finds). λ ls q. and_normal (and_then (f ls q) (λ x ls q. and_then (unless_null x ls q (ask (act.ReadField x (n + 1)) ls q)) (λ y ls q. and_then (g ls q) (λ z ls q. and_then (operate op.Add y z ls q) (λ w ls q. unless_null x ls q (perform (act.WriteField x (n + 1) w) ls q))))))) (found e t.0.1) (found a t.1.1)
       runs (SetItem a i e) t =
           ap₂ (λ (f g : Finds). λ ls q. and_normal (and_then (f ls q) (λ x ls q. and_then (g ls q) (λ n ls q. and_then (find calls' e ls q) (λ y ls q. unless_null x ls q (perform (act.WriteItem x (int_of n) y) ls q)))))) (found a t.0.1) (found i t.1.1)
           ∙ ap (λ (h : Finds). λ ls q. and_normal (and_then (find calls a ls q) (λ x ls q. and_then (find calls i ls q) (λ n ls q. and_then (h ls q) (λ y ls q. unless_null x ls q (perform (act.WriteItem x (int_of n) y) ls q)))))) (found e t.2.1)

@@ -1,6 +1,6 @@
 -- The lowered tree speaks of its locals alone.
 use Rattle.std.proofs.Common.{ℕ, suc, ◌+◌, ◌*◌, ◌<◌, ◌≤◌, List, [], ◌∷◌, length, Option, Some, None, arith}
-use Rattle.ls_lowered.specs.LoweredTree.{Expression, Word, Local, Unary, Binary, And, Or, Hold, Keep, After, Field, Item, SetFirst, ReadPair, SetPair, SwapPair, AttemptMark, OnLock, Call, MakeObject, MakeLock, MakeMarkable, MakeArray, Expressions, End, More, Statement, Block, SetLocal, SetField, SetItem, Evaluate, If, While, Return, Try, Guarded, Throw, Leavable, Leave, Statements, Done, Then, File}
+use Rattle.ls_lowered.specs.LoweredTree.{Expression, Word, Local, Unary, Binary, And, Or, Hold, Keep, After, Field, Item, SetFirst, ReadPair, SetPair, SwapPair, AttemptMark, OnLock, Call, MakeObject, MakeLock, MakeMarkable, MakeArray, Expressions, End, More, Statement, Block, SetLocal, SetField, AddField, SetItem, Evaluate, If, While, Return, Try, Guarded, Throw, Leavable, Leave, Statements, Done, Then, File}
 use Rattle.ls_finally_exits.specs.Exits.{outward, count, Exit, LeaveOut, ReturnOut, exits, or_leave, replaced, all_replaced, exit_of, ways, finally_of}
 use Rattle.ls_finally.specs.Flat.{tries, all_tries, flat, all_flat}
 use Rattle.ls_finally.specs.Agreement.{IsBelow, AreBelow, Fits, AllFit}
@@ -41,6 +41,7 @@ module _ (k m : ℕ) (le : k ≤ m) where
     fits_more (Block ss) t = all_fit_more ss t
     fits_more (SetLocal n x) t = (omega (arith, t.0), below_more x t.1)
     fits_more (SetField x f a) t = (below_more x t.0, below_more a t.1)
+    fits_more (AddField x f a) t = (below_more x t.0, below_more a t.1)
     fits_more (SetItem a i x) t = (below_more a t.0, below_more i t.1, below_more x t.2)
     fits_more (Evaluate x) t = below_more x t
     fits_more (If x a b) t = (below_more x t.0, fits_more a t.1, fits_more b t.2)
@@ -66,6 +67,7 @@ module _ (r k m : ℕ) (le : k ≤ m) (lt : r < m) where
     replaced_fits (Block ss) l j t = all_replaced_fit ss l j t
     replaced_fits (SetLocal i x) l j t = fits_more k m le (SetLocal i x) t
     replaced_fits (SetField x f a) l j t = fits_more k m le (SetField x f a) t
+    replaced_fits (AddField x f a) l j t = fits_more k m le (AddField x f a) t
     replaced_fits (SetItem a i x) l j t = fits_more k m le (SetItem a i x) t
     replaced_fits (Evaluate x) l j t = fits_more k m le (Evaluate x) t
     replaced_fits (If x a b) l j t = (below_more k m le x t.0, replaced_fits a l j t.1, replaced_fits b l (j + length (exits l a)) t.2)
@@ -103,6 +105,7 @@ module _ (ms : File) (m : ℕ) where
     flat_fits (Block ss) k h t = all_flat_fit ss k h t
     flat_fits (SetLocal n e) k h t = (omega (arith, t.0), below_more m (k + 2 * 0) (omega arith) e t.1.0)
     flat_fits (SetField e f a) k h t = (below_more m (k + 2 * 0) (omega arith) e t.0.0, below_more m (k + 2 * 0) (omega arith) a t.1.0)
+    flat_fits (AddField e f a) k h t = (below_more m (k + 2 * 0) (omega arith) e t.0.0, below_more m (k + 2 * 0) (omega arith) a t.1.0)
     flat_fits (SetItem a i e) k h t = (below_more m (k + 2 * 0) (omega arith) a t.0.0, below_more m (k + 2 * 0) (omega arith) i t.1.0, below_more m (k + 2 * 0) (omega arith) e t.2.0)
     flat_fits (Evaluate e) k h t = below_more m (k + 2 * 0) (omega arith) e t.0
     flat_fits (If e a b) k h t = (

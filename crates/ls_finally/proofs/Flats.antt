@@ -3,7 +3,7 @@ use Rattle.std.proofs.Common.{◌≡◌, ℕ, zero, suc, ◌+◌, ◌*◌, ◌�
 use Rattle.std.specs.Prelude.{slice_set}
 use Rattle.std.proofs.lemmas.List.{length-set}
 use Rattle.ls_events.specs.declared.action.Action.TheVariants as act
-use Rattle.ls_lowered.specs.LoweredTree.{Statement, Block, SetLocal, SetField, SetItem, Evaluate, If, While, Return, Try, Guarded, Throw, Leavable, Leave, Statements, Done, Then, File}
+use Rattle.ls_lowered.specs.LoweredTree.{Statement, Block, SetLocal, SetField, AddField, SetItem, Evaluate, If, While, Return, Try, Guarded, Throw, Leavable, Leave, Statements, Done, Then, File}
 use Rattle.ls_lowered.specs.Course.{Answers, Course, Asks, Ends, Outcome, Calls, finish}
 use Rattle.ls_lowered.specs.Expressions.{find}
 use Rattle.ls_lowered.specs.Statements.{Completion, Normal, Returned, Threw, Left, Go, on_normal, on_any, on_leave, on_body, one_turn, turns, execute, execute_all, leave_to}
@@ -11,7 +11,7 @@ use Rattle.ls_finally.specs.Flat.{tries, all_tries, flat, all_flat}
 use Rattle.ls_finally.specs.Agreement.{Agree}
 use Rattle.ls_finally.specs.Placed.{IsPlacedStatement, ArePlaced}
 use Rattle.ls_finally.proofs.Agreeing.{finish_finish, agree_set, Alike, found_alike}
-use Rattle.ls_finally.proofs.Alike.{field_alike, item_alike}
+use Rattle.ls_finally.proofs.Alike.{field_alike, addition_alike, item_alike}
 use Rattle.ls_finally.proofs.Replaced.{Both, word_both, if_both, back_both}
 use Rattle.ls_finally.proofs.Copies.{copies_ok}
 use Rattle.ls_finally.proofs.Fitting.{fits_more, flat_fits}
@@ -67,6 +67,7 @@ module _ (m room : ℕ) where
       flat_ok (Block ss) k g g' t le lt h = all_flat_ok ss k g g' t le lt h
       flat_ok (SetLocal n e) k g g' t le lt h = word_both m room (find calls e) _ _ g g' (found_alike calls m e t.1.0) (λ w ls new q e2 a. h Normal (slice_set ls n w) (slice_set new n w) q (length-set new n w ∙ e2) (agree_set m n w ls new t.0 a)) (λ kind ls new q e a. h (Threw kind) ls new q e a)
       flat_ok (SetField e f a) k g g' t le lt h = word_both m room _ _ _ g g' (field_alike calls m e a f t.0.0 t.1.0) (λ w ls new q e a. h Normal ls new q e a) (λ kind ls new q e a. h (Threw kind) ls new q e a)
+      flat_ok (AddField e f a) k g g' t le lt h = word_both m room _ _ _ g g' (addition_alike calls m e a f t.0.0 t.1.0) (λ w ls new q e a. h Normal ls new q e a) (λ kind ls new q e a. h (Threw kind) ls new q e a)
       flat_ok (SetItem a i e) k g g' t le lt h = word_both m room _ _ _ g g' (item_alike calls m a i e t.0.0 t.1.0 t.2.0) (λ w ls new q e a. h Normal ls new q e a) (λ kind ls new q e a. h (Threw kind) ls new q e a)
       flat_ok (Evaluate e) k g g' t le lt h = word_both m room (find calls e) _ _ g g' (found_alike calls m e t.0) (λ w ls new q e a. h Normal ls new q e a) (λ kind ls new q e a. h (Threw kind) ls new q e a)
       flat_ok (If e a b) k g g' t le lt h = word_both m room (find calls e) _ _ g g' (found_alike calls m e t.0.0)

@@ -4,7 +4,7 @@ use Rattle.std.specs.Prelude.{slice_index, slice_set}
 use Rattle.std.proofs.lemmas.List.{length-set, get_or-set_same}
 use Rattle.ls_events.specs.declared.kind.Kind.{Kind}
 use Rattle.ls_events.specs.declared.action.Action.TheVariants as act
-use Rattle.ls_lowered.specs.LoweredTree.{Expression, Statement, Block, SetLocal, SetField, SetItem, Evaluate, If, While, Return, Try, Guarded, Throw, Leavable, Leave, Statements, Done, Then}
+use Rattle.ls_lowered.specs.LoweredTree.{Expression, Statement, Block, SetLocal, SetField, AddField, SetItem, Evaluate, If, While, Return, Try, Guarded, Throw, Leavable, Leave, Statements, Done, Then}
 use Rattle.ls_lowered.specs.Words.{kind_word, kind_of}
 use Rattle.ls_events.specs.declared.action.Answer.TheVariants as answers
 use Rattle.ls_lowered.specs.Course.{Answers, Course, Asks, Ends, Outcome, Results, Throws, Calls, finish}
@@ -13,7 +13,7 @@ use Rattle.ls_lowered.specs.Statements.{Completion, Normal, Returned, Threw, Lef
 use Rattle.ls_finally_exits.specs.Exits.{outward, count, Exit, LeaveOut, ReturnOut, leave_exit, exits, all_exits, or_leave, replaced, all_replaced}
 use Rattle.ls_finally.specs.Agreement.{Agree, IsBelow, Fits, AllFit}
 use Rattle.ls_finally.proofs.Agreeing.{finish_finish, Above, above_refl, agree_set, agree_slot, Alike, found_alike}
-use Rattle.ls_finally.proofs.Alike.{field_alike, item_alike}
+use Rattle.ls_finally.proofs.Alike.{field_alike, addition_alike, item_alike}
 
 -- a number that isn't beyond so many is below them
 inward : (l n : ℕ) → outward l n ≡ None → n < l
@@ -187,6 +187,7 @@ module _ (k r room : ℕ) (le : k ≤ r) (lt : r < room) where
       replaced_ok (SetLocal n e) l j g g' t h = word_both k room (find calls e) _ _ g g' (found_alike calls k e t.1)
           (λ w ls new q e2 a. h.normal (slice_set ls n w) (slice_set new n w) q (length-set new n w ∙ e2) (agree_set k n w ls new t.0 a)) h.threw
       replaced_ok (SetField e f a) l j g g' t h = word_both k room _ _ _ g g' (field_alike calls k e a f t.0 t.1) (λ w. h.normal) h.threw
+      replaced_ok (AddField e f a) l j g g' t h = word_both k room _ _ _ g g' (addition_alike calls k e a f t.0 t.1) (λ w. h.normal) h.threw
       replaced_ok (SetItem a i e) l j g g' t h = word_both k room _ _ _ g g' (item_alike calls k a i e t.0 t.1 t.2) (λ w. h.normal) h.threw
       replaced_ok (Evaluate e) l j g g' t h = word_both k room (find calls e) _ _ g g' (found_alike calls k e t) (λ w. h.normal) h.threw
       replaced_ok (If e a b) l j g g' t h = word_both k room (find calls e) _ _ g g' (found_alike calls k e t.0)

@@ -1,6 +1,6 @@
 -- Locals that agree, and statements that speak of low locals alone.
 use Rattle.std.specs.Prelude.{◌≡◌, ℕ, ◌<◌, ◌≤◌, List, length, slice_index}
-use Rattle.ls_lowered.specs.LoweredTree.{Expression, Word, Local, Unary, Binary, And, Or, Hold, Keep, After, Field, Item, SetFirst, ReadPair, SetPair, SwapPair, AttemptMark, OnLock, Call, MakeObject, MakeLock, MakeMarkable, MakeArray, Expressions, End, More, Statement, Block, SetLocal, SetField, SetItem, Evaluate, If, While, Return, Try, Guarded, Throw, Leavable, Leave, Statements, Done, Then}
+use Rattle.ls_lowered.specs.LoweredTree.{Expression, Word, Local, Unary, Binary, And, Or, Hold, Keep, After, Field, Item, SetFirst, ReadPair, SetPair, SwapPair, AttemptMark, OnLock, Call, MakeObject, MakeLock, MakeMarkable, MakeArray, Expressions, End, More, Statement, Block, SetLocal, SetField, AddField, SetItem, Evaluate, If, While, Return, Try, Guarded, Throw, Leavable, Leave, Statements, Done, Then}
 
 -- the locals below k are there and the same
 pub record Agree (k : ℕ) (ls new : List ℕ) : Type 0 where
@@ -44,6 +44,7 @@ abbrev mutual
   Fits k (Block ss) = AllFit k ss
   Fits k (SetLocal n e) = (n < k) × IsBelow k e
   Fits k (SetField e f a) = IsBelow k e × IsBelow k a
+  Fits k (AddField e f a) = IsBelow k e × IsBelow k a
   Fits k (SetItem a i e) = IsBelow k a × IsBelow k i × IsBelow k e
   Fits k (Evaluate e) = IsBelow k e
   Fits k (If e a b) = IsBelow k e × Fits k a × Fits k b

@@ -1,6 +1,6 @@
 -- The tree without `try`. Inner statements are lowered first.
 use Rattle.std.specs.Prelude.{ℕ, ◌+◌, ◌*◌, map}
-use Rattle.ls_lowered.specs.LoweredTree.{Statement, Block, SetLocal, SetField, SetItem, Evaluate, If, While, Return, Try, Guarded, Throw, Leavable, Leave, Statements, Done, Then, Method, File}
+use Rattle.ls_lowered.specs.LoweredTree.{Statement, Block, SetLocal, SetField, AddField, SetItem, Evaluate, If, While, Return, Try, Guarded, Throw, Leavable, Leave, Statements, Done, Then, Method, File}
 use Rattle.ls_finally_exits.specs.Exits.{finally_of}
 
 -- the try statements
@@ -24,6 +24,7 @@ abbrev mutual
   flat k (Block ss) = Block (all_flat k ss)
   flat k (SetLocal n e) = SetLocal n e
   flat k (SetField e f a) = SetField e f a
+  flat k (AddField e f a) = AddField e f a
   flat k (SetItem a i e) = SetItem a i e
   flat k (Evaluate e) = Evaluate e
   flat k (If e a b) = If e (flat k a) (flat (k + 2 * tries a) b)

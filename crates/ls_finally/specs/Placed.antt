@@ -1,6 +1,6 @@
 -- What lowering asks of a tree: each local is there, each call has as many arguments as its method, and nothing is guarded yet.
 use Rattle.std.specs.Prelude.{◌≡◌, ℕ, suc, ◌+◌, ◌<◌, List, [], ◌∷◌, Option, Some, None, slice_get}
-use Rattle.ls_lowered.specs.LoweredTree.{Expression, Word, Local, Unary, Binary, And, Or, Hold, Keep, After, Field, Item, SetFirst, ReadPair, SetPair, SwapPair, AttemptMark, OnLock, Call, MakeObject, MakeLock, MakeMarkable, MakeArray, Expressions, End, More, Statement, Block, SetLocal, SetField, SetItem, Evaluate, If, While, Return, Try, Guarded, Throw, Leavable, Leave, Statements, Done, Then, Method, File}
+use Rattle.ls_lowered.specs.LoweredTree.{Expression, Word, Local, Unary, Binary, And, Or, Hold, Keep, After, Field, Item, SetFirst, ReadPair, SetPair, SwapPair, AttemptMark, OnLock, Call, MakeObject, MakeLock, MakeMarkable, MakeArray, Expressions, End, More, Statement, Block, SetLocal, SetField, AddField, SetItem, Evaluate, If, While, Return, Try, Guarded, Throw, Leavable, Leave, Statements, Done, Then, Method, File}
 use Rattle.ls_finally.specs.Agreement.{IsBelow}
 
 abbrev pub count : Expressions → ℕ
@@ -53,6 +53,7 @@ abbrev mutual
   IsPlacedStatement ms k (Block ss) = ArePlaced ms k ss
   IsPlacedStatement ms k (SetLocal n e) = (n < k) × IsPlaced ms k e
   IsPlacedStatement ms k (SetField e f a) = IsPlaced ms k e × IsPlaced ms k a
+  IsPlacedStatement ms k (AddField e f a) = IsPlaced ms k e × IsPlaced ms k a
   IsPlacedStatement ms k (SetItem a i e) = IsPlaced ms k a × IsPlaced ms k i × IsPlaced ms k e
   IsPlacedStatement ms k (Evaluate e) = IsPlaced ms k e
   IsPlacedStatement ms k (If e a b) = IsPlaced ms k e × IsPlacedStatement ms k a × IsPlacedStatement ms k b

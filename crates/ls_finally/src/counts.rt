@@ -43,6 +43,7 @@ fn count_tries(s: &Statement, so_far: usize) -> Option<usize>
         }
         Statement::SetLocal(_, _)
         | Statement::SetField(_, _, _)
+        | Statement::AddField(_, _, _)
         | Statement::SetItem(_, _, _)
         | Statement::Evaluate(_)
         | Statement::Return(_)

@@ -88,6 +88,7 @@ impl Lowering {
             Statement::Leavable(body, own) => self.flat_leavable(alloc, body, own),
             Statement::SetLocal(_, _)
             | Statement::SetField(_, _, _)
+            | Statement::AddField(_, _, _)
             | Statement::SetItem(_, _, _)
             | Statement::Evaluate(_)
             | Statement::Return(_)

@@ -201,6 +201,10 @@ pub fn copy_statement(alloc: Global, s: &Statement) -> Result<Statement, AllocEr
             let (object, value) = copy_two(alloc, object, value)?;
             Ok(Statement::SetField(object, *field, value))
         }
+        Statement::AddField(object, field, value) => {
+            let (object, value) = copy_two(alloc, object, value)?;
+            Ok(Statement::AddField(object, *field, value))
+        }
         Statement::SetItem(array, index, value) => {
             let (array, (index, value)) = copy_three(alloc, array, index, value)?;
             Ok(Statement::SetItem(array, index, value))

@@ -1,6 +1,6 @@
 -- What is counted of a statement is what it comes to without `try`.
 use Rattle.std.proofs.Common.{◌≡◌, ℕ, zero, suc, ◌+◌, ◌*◌, Bool, true, false, cond, List, [], ◌∷◌, ◌++◌, length, Option, Some, None, refl, ap, sym, ◌∙◌, arith, length-append, is_some}
-use Rattle.ls_lowered.specs.LoweredTree.{Statement, Block, SetLocal, SetField, SetItem, Evaluate, If, While, Return, Try, Guarded, Throw, Leavable, Leave, Statements, Done, Then}
+use Rattle.ls_lowered.specs.LoweredTree.{Statement, Block, SetLocal, SetField, AddField, SetItem, Evaluate, If, While, Return, Try, Guarded, Throw, Leavable, Leave, Statements, Done, Then}
 use Rattle.ls_finally_exits.specs.Exits.{outward, count, leave_exit, exits, all_exits}
 use Rattle.ls_finally.specs.Flat.{tries, flat, all_flat}
 use Rattle.ls_finally.specs.Counts.{copies, all_copies}
@@ -84,6 +84,7 @@ mutual
   ways_right (Block ss) k l = all_ways_right ss k l
   ways_right (SetLocal n e) k l = refl
   ways_right (SetField e f a) k l = refl
+  ways_right (AddField e f a) k l = refl
   ways_right (SetItem a i e) k l = refl
   ways_right (Evaluate e) k l = refl
   ways_right (If e a b) k l =
@@ -133,6 +134,7 @@ mutual
   copied_right (Block ss) k = all_copied_right ss k
   copied_right (SetLocal n e) k = refl
   copied_right (SetField e f a) k = refl
+  copied_right (AddField e f a) k = refl
   copied_right (SetItem a i e) k = refl
   copied_right (Evaluate e) k = refl
   copied_right (If e a b) k = omega (arith, copied_right a k, copied_right b (k + 2 * tries a))
@@ -155,6 +157,7 @@ mutual
   size_right (Block ss) k = all_size_right ss k
   size_right (SetLocal n e) k = refl
   size_right (SetField e f a) k = refl
+  size_right (AddField e f a) k = refl
   size_right (SetItem a i e) k = refl
   size_right (Evaluate e) k = refl
   size_right (If e a b) k = omega (arith, size_right a k, size_right b (k + 2 * tries a))

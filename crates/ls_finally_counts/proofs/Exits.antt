@@ -1,6 +1,6 @@
 -- How many exits `try b finally f` has by copies of f.
 use Rattle.std.proofs.Common.{◌≡◌, ℕ, suc, ◌+◌, ◌*◌, ◌≤◌, List, [], ◌∷◌, ◌++◌, length, Option, Some, None, refl, ap, ◌∙◌, arith, length-append}
-use Rattle.ls_lowered.specs.LoweredTree.{Statement, Block, SetLocal, SetField, SetItem, Evaluate, If, While, Return, Try, Guarded, Throw, Leavable, Leave, Statements, Done, Then}
+use Rattle.ls_lowered.specs.LoweredTree.{Statement, Block, SetLocal, SetField, AddField, SetItem, Evaluate, If, While, Return, Try, Guarded, Throw, Leavable, Leave, Statements, Done, Then}
 use Rattle.ls_finally_exits.specs.Exits.{outward, count, Exit, LeaveOut, ReturnOut, leave_exit, exits, all_exits, or_leave, replaced, all_replaced, exit_of, ways, finally_of}
 use Rattle.ls_finally_exits.proofs.Numbers.{is_inside}
 use Rattle.ls_finally_ways.specs.Ways.{both}
@@ -22,6 +22,7 @@ mutual
   inside (Block ss) r l j m t h = all_inside ss r l j m t h
   inside (SetLocal n e) r l j m t h = refl
   inside (SetField e f a) r l j m t h = refl
+  inside (AddField e f a) r l j m t h = refl
   inside (SetItem a i e) r l j m t h = refl
   inside (Evaluate e) r l j m t h = refl
   inside (If e a b) r l j m t h =
@@ -80,6 +81,7 @@ mutual
   composed (Block ss) m l = all_composed ss m l
   composed (SetLocal n e) m l = refl
   composed (SetField e f a) m l = refl
+  composed (AddField e f a) m l = refl
   composed (SetItem a i e) m l = refl
   composed (Evaluate e) m l = refl
   composed (If e a b) m l = omega (arith, outs_append l (exits m a) (exits m b), length-append (exits (m + l) a) (exits (m + l) b), composed a m l, composed b m l)

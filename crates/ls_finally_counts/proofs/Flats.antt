@@ -1,6 +1,6 @@
 -- No tree that is made has a `try`.
 use Rattle.std.proofs.Common.{ℕ, ◌+◌, ◌*◌, suc, List, [], ◌∷◌, length, Option, Some, None}
-use Rattle.ls_lowered.specs.LoweredTree.{Statement, Block, SetLocal, SetField, SetItem, Evaluate, If, While, Return, Try, Guarded, Throw, Leavable, Leave, Statements, Done, Then}
+use Rattle.ls_lowered.specs.LoweredTree.{Statement, Block, SetLocal, SetField, AddField, SetItem, Evaluate, If, While, Return, Try, Guarded, Throw, Leavable, Leave, Statements, Done, Then}
 use Rattle.ls_finally_exits.specs.Exits.{outward, count, Exit, LeaveOut, ReturnOut, exits, or_leave, replaced, all_replaced, exit_of, ways, finally_of}
 use Rattle.ls_finally.specs.Flat.{tries, flat, all_flat}
 
@@ -27,6 +27,7 @@ mutual
   replaced_none (Block ss) r l j t = all_replaced_none ss r l j t
   replaced_none (SetLocal n e) r l j t = tt
   replaced_none (SetField e f a) r l j t = tt
+  replaced_none (AddField e f a) r l j t = tt
   replaced_none (SetItem a i e) r l j t = tt
   replaced_none (Evaluate e) r l j t = tt
   replaced_none (If e a b) r l j t = (replaced_none a r l j t.0, replaced_none b r l (j + length (exits l a)) t.1)
@@ -59,6 +60,7 @@ mutual
   flat_none (Block ss) k = all_flat_none ss k
   flat_none (SetLocal n e) k = tt
   flat_none (SetField e f a) k = tt
+  flat_none (AddField e f a) k = tt
   flat_none (SetItem a i e) k = tt
   flat_none (Evaluate e) k = tt
   flat_none (If e a b) k = (flat_none a k, flat_none b (k + 2 * tries a))

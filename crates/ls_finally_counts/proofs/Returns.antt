@@ -1,6 +1,6 @@
 -- How many returns a statement has, and its exits.
 use Rattle.std.proofs.Common.{◌≡◌, ℕ, suc, ◌+◌, ◌*◌, List, [], ◌∷◌, ◌++◌, length, Option, Some, None, refl, arith}
-use Rattle.ls_lowered.specs.LoweredTree.{Statement, Block, SetLocal, SetField, SetItem, Evaluate, If, While, Return, Try, Guarded, Throw, Leavable, Leave, Statements, Done, Then}
+use Rattle.ls_lowered.specs.LoweredTree.{Statement, Block, SetLocal, SetField, AddField, SetItem, Evaluate, If, While, Return, Try, Guarded, Throw, Leavable, Leave, Statements, Done, Then}
 use Rattle.ls_finally_exits.specs.Exits.{outward, count, Exit, LeaveOut, ReturnOut, leave_exit, exits, all_exits, or_leave, replaced, all_replaced, exit_of, ways, finally_of}
 use Rattle.ls_finally.specs.Flat.{tries, flat, all_flat}
 use Rattle.ls_finally_counts.specs.declared.ways.Way.{Way}
@@ -46,6 +46,7 @@ mutual
   exits_return (Block ss) l = all_exits_return ss l
   exits_return (SetLocal n e) l = refl
   exits_return (SetField e f a) l = refl
+  exits_return (AddField e f a) l = refl
   exits_return (SetItem a i e) l = refl
   exits_return (Evaluate e) l = refl
   exits_return (If e a b) l = omega (arith, return_append (exits l a) (exits l b), exits_return a l, exits_return b l)
@@ -73,6 +74,7 @@ mutual
   replaced_returns (Block ss) r l j t = all_replaced_returns ss r l j t
   replaced_returns (SetLocal n e) r l j t = refl
   replaced_returns (SetField e f a) r l j t = refl
+  replaced_returns (AddField e f a) r l j t = refl
   replaced_returns (SetItem a i e) r l j t = refl
   replaced_returns (Evaluate e) r l j t = refl
   replaced_returns (If e a b) r l j t = omega (arith, replaced_returns a r l j t.0, replaced_returns b r l (j + length (exits l a)) t.1)
@@ -136,6 +138,7 @@ mutual
   returned_right (Block ss) k x = all_returned_right ss k x
   returned_right (SetLocal n e) k x = refl
   returned_right (SetField e f a) k x = refl
+  returned_right (AddField e f a) k x = refl
   returned_right (SetItem a i e) k x = refl
   returned_right (Evaluate e) k x = refl
   returned_right (If e a b) k x = omega (arith, returned_append (ways_of a) (ways_of b), returned_right a k x, returned_right b (k + 2 * tries a) x)

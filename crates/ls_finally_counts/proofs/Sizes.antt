@@ -1,6 +1,6 @@
 -- How long the code of `try b finally f` by copies of f is.
 use Rattle.std.proofs.Common.{◌≡◌, ℕ, suc, ◌+◌, ◌*◌, List, [], ◌∷◌, length, Option, Some, None, refl, arith}
-use Rattle.ls_lowered.specs.LoweredTree.{Statement, Block, SetLocal, SetField, SetItem, Evaluate, If, While, Return, Try, Guarded, Throw, Leavable, Leave, Statements, Done, Then}
+use Rattle.ls_lowered.specs.LoweredTree.{Statement, Block, SetLocal, SetField, AddField, SetItem, Evaluate, If, While, Return, Try, Guarded, Throw, Leavable, Leave, Statements, Done, Then}
 use Rattle.ls_finally_exits.specs.Exits.{outward, count, Exit, LeaveOut, ReturnOut, exits, or_leave, replaced, all_replaced, exit_of, ways, finally_of}
 use Rattle.ls_emit_laws.specs.Statements.{statement_size, statements_size, exits_size}
 use Rattle.ls_finally_counts.proofs.Flats.{HasNoTry, HaveNoTry}
@@ -17,6 +17,7 @@ mutual
   replaced_size (Block ss) r l j t = all_replaced_size ss r l j t
   replaced_size (SetLocal n e) r l j t = omega arith
   replaced_size (SetField e f a) r l j t = omega arith
+  replaced_size (AddField e f a) r l j t = omega arith
   replaced_size (SetItem a i e) r l j t = omega arith
   replaced_size (Evaluate e) r l j t = omega arith
   replaced_size (If e a b) r l j t = omega (arith, replaced_size a r l j t.0, replaced_size b r l (j + length (exits l a)) t.1)

@@ -1,6 +1,6 @@
 -- What a statement comes to without `try`, by the statement with it.
 use Rattle.std.specs.Prelude.{ℕ, suc, ◌+◌, ◌*◌, List, [], ◌∷◌, ◌++◌, Option, Some, None, min}
-use Rattle.ls_lowered.specs.LoweredTree.{Statement, Block, SetLocal, SetField, SetItem, Evaluate, If, While, Return, Try, Guarded, Throw, Leavable, Leave, Statements, Done, Then}
+use Rattle.ls_lowered.specs.LoweredTree.{Statement, Block, SetLocal, SetField, AddField, SetItem, Evaluate, If, While, Return, Try, Guarded, Throw, Leavable, Leave, Statements, Done, Then}
 use Rattle.ls_finally_exits.specs.Exits.{outward, count}
 use Rattle.ls_emit_laws.specs.Expressions.{size}
 use Rattle.ls_finally_counts.specs.declared.ways.Way.{Way}
@@ -84,6 +84,7 @@ abbrev mutual
   flat_size (Block ss) = all_flat_size ss
   flat_size (SetLocal n e) = size e + 1
   flat_size (SetField e f a) = size e + size a + 1
+  flat_size (AddField e f a) = size e + size a + 4
   flat_size (SetItem a i e) = size a + size i + size e + 1
   flat_size (Evaluate e) = size e + 1
   flat_size (If e a b) = size e + flat_size a + flat_size b + 2
@@ -103,6 +104,7 @@ abbrev mutual
 abbrev pub own_size : Statement → ℕ
 own_size (SetLocal n e) = size e + 1
 own_size (SetField e f a) = size e + size a + 1
+own_size (AddField e f a) = size e + size a + 4
 own_size (SetItem a i e) = size a + size i + size e + 1
 own_size (Evaluate e) = size e + 1
 own_size (If e a b) = size e + 2

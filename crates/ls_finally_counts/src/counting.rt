@@ -107,6 +107,11 @@ impl Counting {
                 self.add_expression(value);
                 self.add(1);
             }
+            Statement::AddField(object, _, value) => {
+                self.add_expression(object);
+                self.add_expression(value);
+                self.add(4);
+            }
             Statement::SetItem(array, index, value) => {
                 self.add_expression(array);
                 self.add_expression(index);
@@ -165,6 +170,7 @@ impl Counting {
             }
             Statement::SetLocal(_, _)
             | Statement::SetField(_, _, _)
+            | Statement::AddField(_, _, _)
             | Statement::SetItem(_, _, _)
             | Statement::Evaluate(_)
             | Statement::Throw(_) => {

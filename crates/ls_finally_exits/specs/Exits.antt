@@ -2,7 +2,7 @@
 -- none of them lies in the region that is guarded.
 use Rattle.std.specs.Prelude.{ℕ, zero, suc, ◌+◌, List, [], ◌∷◌, ◌++◌, length, Option, Some, None}
 use Rattle.ls_finally_ways.specs.Ways.{both, guarded, first_ways}
-use Rattle.ls_lowered.specs.LoweredTree.{Statement, Block, SetLocal, SetField, SetItem, Evaluate, If, While, Return, Try, Guarded, Throw, Leavable, Leave, Statements, Done, Then, Local}
+use Rattle.ls_lowered.specs.LoweredTree.{Statement, Block, SetLocal, SetField, AddField, SetItem, Evaluate, If, While, Return, Try, Guarded, Throw, Leavable, Leave, Statements, Done, Then, Local}
 
 -- how far a leave goes beyond so many numbers
 abbrev pub outward : (inside n : ℕ) → Option ℕ
@@ -30,6 +30,7 @@ abbrev mutual
   exits l (Block ss) = all_exits l ss
   exits l (SetLocal n e) = []
   exits l (SetField e f a) = []
+  exits l (AddField e f a) = []
   exits l (SetItem a i e) = []
   exits l (Evaluate e) = []
   exits l (If e a b) = exits l a ++ exits l b
@@ -56,6 +57,7 @@ abbrev mutual
   replaced r l j (Block ss) = Block (all_replaced r l j ss)
   replaced r l j (SetLocal n e) = SetLocal n e
   replaced r l j (SetField e f a) = SetField e f a
+  replaced r l j (AddField e f a) = AddField e f a
   replaced r l j (SetItem a i e) = SetItem a i e
   replaced r l j (Evaluate e) = Evaluate e
   replaced r l j (If e a b) = If e (replaced r l j a) (replaced r l (j + length (exits l a)) b)

@@ -81,6 +81,7 @@ pub fn collect_exits(s: &Statement, inside: usize, out: &mut Vec<Exit>) -> Resul
         }
         Statement::SetLocal(_, _)
         | Statement::SetField(_, _, _)
+        | Statement::AddField(_, _, _)
         | Statement::SetItem(_, _, _)
         | Statement::Evaluate(_)
         | Statement::Throw(_) => Ok(()),

@@ -192,6 +192,7 @@ fn replace_exits(
         },
         Statement::SetLocal(_, _)
         | Statement::SetField(_, _, _)
+        | Statement::AddField(_, _, _)
         | Statement::SetItem(_, _, _)
         | Statement::Evaluate(_)
         | Statement::Throw(_) => copy_statement(alloc, s),

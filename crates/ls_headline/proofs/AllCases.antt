@@ -2,28 +2,29 @@
 use Rattle.std.proofs.Common.{◌≡◌, ◌≢◌, ℕ, zero, suc, ◌+◌, ◌<◌, ◌≤◌, pos, negsuc, Bool, true, false, List, [], ◌∷◌, ◌++◌, length, map, replicate, Option, Some, None, refl, sym, ap, ◌∙◌, subst, arith, append_assoc, length-append, slice_get, nat_le, if◌then◌else◌, rules}
 use Rattle.std.proofs.lemmas.List.{length-replicate, length-map}
 use Rattle.std.proofs.lemmas.Bool.Decides.{nat_tests}
+use Rattle.ls_code.specs.Limits.{most_cells}
 use Rattle.ls_events.specs.declared.value.Value.{Value}
 use Rattle.ls_events.specs.declared.value.Value.TheVariants.{Boolean}
 use Rattle.ls_events.specs.declared.value.ValueType.{ValueType}
 use Rattle.ls_events.specs.declared.value.ValueType.TheVariants as type
 use Rattle.ls_events.specs.declared.action.Action.{Action}
-use Rattle.ls_events.specs.declared.action.Action.TheVariants.{ReadField, WriteField, ReadItem, WriteItem, ReadName, WriteName, New, NewLock, NewMarkable, NewArray, Lock, Unlock, TryLock, IsHeld, ReadPair, SetPair, SwapPair, AttemptMark, Turn, Enter, Call, Return, Trap}
+use Rattle.ls_events.specs.declared.action.Action.TheVariants.{ReadField, WriteField, ReadItem, WriteItem, ReadName, WriteName, New, NewLock, NewMarkable, NewArray, Lock, Unlock, TryLock, IsHeld, LockMonitor, UnlockMonitor, ReadPair, SetPair, SwapPair, AttemptMark, Turn, Enter, Call, Return, Trap}
 use Rattle.ls_events.specs.declared.action.Answer.TheVariants.{Done, Gives}
 use Rattle.ls_checked.specs.CheckedTree.{Class, File}
 use Rattle.ls_checked.specs.CheckedProgram.{Program, SetupName}
 use Rattle.ls_meaning.specs.declared.sort.Sort.{Sort}
 use Rattle.ls_meaning.specs.declared.sort.Sort.TheVariants.{NoValue, ValueOf, NewOf, PairOf}
 use Rattle.ls_meaning.specs.Values.{start_of}
-use Rattle.ls_meaning.specs.Store.{Thing, Object, FreeLock, HeldLock, Markable, Array, Store, with_new}
+use Rattle.ls_meaning.specs.Store.{Free, Thing, Object, LockOf, Markable, Array, Store, with_new}
 use Rattle.ls_meaning.specs.Effect.{Effect, Does, making, fields_in, effect}
 use Rattle.ls_code.specs.Cells.{Cells, with_words, on_cell}
 use Rattle.ls_code.specs.Cells as machine
 use Rattle.ls_headline.specs.InWords.{written, map_action}
 use Rattle.ls_headline.specs.Sorts.{Refers, HasSortBy, HasType, NameHas, fields_by, fields_of, ActionHas}
-use Rattle.ls_headline.specs.Threads.{at_least_one}
+use Rattle.ls_headline.specs.Threads.{object_cells}
 use Rattle.ls_headline.specs.Same.{size_of, total}
 use Rattle.ls_headline.proofs.Lists.{get_end, get_there}
-use Rattle.ls_headline.proofs.Cells.{sizes_of, address, listed, padded, cells_of, laid, all_cells, AgreeTo, length_all, laid-append, address-append, address_new, written_agree, pair_agree}
+use Rattle.ls_headline.proofs.Cells.{sizes_of, address, listed, hold_word, cells_of, laid, all_cells, AgreeTo, length_all, laid-append, address-append, address_new, written_agree, pair_agree}
 use Rattle.ls_headline.proofs.Effects.{HaveTypes, ThingHas, ThingsHave, thing_more, things_more, things_end, things_length, thing_there, many_length, many_more, extends_end, renaming, Holds, Agrees}
 use Rattle.ls_headline.proofs.FieldCases as cases
 use Rattle.ls_headline.proofs.ThingCases as more
@@ -44,10 +45,6 @@ start_word ρ z (type.Markable c) = z
 start_words : (ρ : ℕ → ℕ) → ρ 0 ≡ 0 → (ss : List ValueType) → map (written ρ) (map start_of ss) ≡ replicate (length ss) 0
 start_words ρ z [] = refl
 start_words ρ z (s ∷ ss) = let e = start_word ρ z s in let e' = start_words ρ z ss in ap (λ w. w ∷ map (written ρ) (map start_of ss)) e ∙ ap (λ l. 0 ∷ l) e'
-
-padded_zeros : (n : ℕ) → padded (replicate n 0) ≡ replicate (at_least_one n) 0
-padded_zeros zero = refl
-padded_zeros (suc n) = refl
 
 start_has : (σ : List ValueType) (s : ValueType) → HasType σ (start_of s) s
 start_has σ type.Int = search rules
@@ -70,7 +67,7 @@ fields_same : (o : Option Class) → fields_in o ≡ map start_of (fields_by o)
 fields_same None = refl
 fields_same (Some k) = refl
 
-module _ (classes : List Class) (named : List ValueType) (sizes : List ℕ) (room : ℕ) (small : room ≤ 1048576) (σ : List ValueType) (st : Store) (c : Cells) (holds : Holds classes named sizes room σ st c) where
+module _ (classes : List Class) (named : List ValueType) (sizes : List ℕ) (room : ℕ) (small : room ≤ most_cells) (σ : List ValueType) (st : Store) (c : Cells) (holds : Holds classes named sizes room σ st c) where
   abbrev ρ : ℕ → ℕ
   ρ = renaming (length named) st
 
@@ -89,15 +86,14 @@ module _ (classes : List Class) (named : List ValueType) (sizes : List ℕ) (roo
   names_agree (v ∷ vs) (s ∷ ss) ρ' a h = let e = written_agree σ ρ ρ' v s a h.0 in let e' = names_agree vs ss ρ' a h.1 in cc
 
   thing_agree : (ρ' : ℕ → ℕ) (o : Thing) (s : ValueType) → AgreeTo (length σ) ρ ρ' → ThingHas classes σ o s → cells_of ρ o ≡ cells_of ρ' o
-  thing_agree ρ' (Object vs) (type.Class k) a h = ap padded (names_agree vs (fields_of classes k) ρ' a h.1)
+  thing_agree ρ' (Object m vs) (type.Class k) a h = ap (λ l. hold_word m ∷ l) (names_agree vs (fields_of classes k) ρ' a h.1)
   thing_agree ρ' (Markable v) (type.Markable k) a h = ap (λ w. w ∷ []) (pair_agree σ ρ ρ' v k a h)
   thing_agree ρ' (Array n items) type.BooleanArray a h = ap (λ l. n ∷ l) (alike n (λ i. written ρ (items i)) (λ i. written ρ' (items i)) (λ i l. written_agree σ ρ ρ' (items i) type.Boolean a (h i l)))
     where
       alike : (n : ℕ) (f g : ℕ → ℕ) → ((i : ℕ) → i < n → f i ≡ g i) → listed n f ≡ listed n g
       alike zero f g h = refl
       alike (suc n) f g h = ap (λ x. x ∷ listed n (λ i. f (suc i))) (h 0 (omega arith)) ∙ ap (λ l. g 0 ∷ l) (alike n (λ i. f (suc i)) (λ i. g (suc i)) (λ i l. h (suc i) (omega arith)))
-  thing_agree ρ' FreeLock s a h = refl
-  thing_agree ρ' (HeldLock t m) s a h = refl
+  thing_agree ρ' (LockOf g) s a h = refl
   thing_agree ρ' _ _ a h = absurd h
 
   laid_agree : (ρ' : ℕ → ℕ) (os : List Thing) (ss : List ValueType) → AgreeTo (length σ) ρ ρ' → ThingsHave classes σ os ss → laid ρ os ≡ laid ρ' os
@@ -149,23 +145,25 @@ module _ (classes : List Class) (named : List ValueType) (sizes : List ℕ) (roo
   new_case : (o : Thing) (s : ValueType) (ws : List ℕ) (a : Action Value) → ThingHas classes σ o s → length ws ≡ size_of o → cells_of (renaming (length named) (with_new st o)) o ≡ ws → Agree a (NewOf s) (making st o) (machine.making c ws)
   new_case o s ws a has size cells = new_test o s ws a has size cells (nat_le (length c.words + length ws) c.limit) refl
 
-  object_case : ((k : ℕ) (class : Class) → slice_get classes k ≡ Some class → slice_get sizes k ≡ Some (at_least_one (length class.fields))) → (t k : ℕ) → k < length classes → Agree (New k) (NewOf (type.Class k)) (effect classes st t (New k)) (machine.effect c t (New k))
+  object_case : ((k : ℕ) (class : Class) → slice_get classes k ≡ Some class → slice_get sizes k ≡ Some (object_cells (length class.fields))) → (t k : ℕ) → k < length classes → Agree (New k) (NewOf (type.Class k)) (effect classes st t (New k)) (machine.effect c t (New k))
   object_case table t k there =
       let found = get_there classes k there in
       let ss = fields_of classes k in
-      let o = Object (map start_of ss) in
-      let ws = replicate (at_least_one (length ss)) 0 in
-      let has : ThingHas classes σ o (type.Class k) = (there, starts_have σ ss) in
-      let size : length ws ≡ size_of o = length-replicate {A = ℕ} (at_least_one (length ss)) 0 ∙ ap at_least_one (sym (length-map ss start_of)) in
-      let cells : cells_of (renaming (length named) (with_new st o)) o ≡ ws = ap padded (start_words (renaming (length named) (with_new st o)) refl ss) ∙ padded_zeros (length ss) in
+      let o = Object Free (map start_of ss) in
+      let ws = replicate (object_cells (length ss)) 0 in
+      let has : ThingHas classes σ o (type.Class k) = (there, starts_have σ ss, tt) in
+      let size : length ws ≡ size_of o = length-replicate {A = ℕ} (object_cells (length ss)) 0 ∙ ap object_cells (sym (length-map ss start_of)) in
+      let more : length ss + 1 ≡ suc (length ss) = omega arith in
+      let cells : cells_of (renaming (length named) (with_new st o)) o ≡ ws =
+      ap (λ l. 0 ∷ l) (start_words (renaming (length named) (with_new st o)) refl ss) ∙ ap (λ n. replicate n 0) (sym more) in
       let fields : length found.0.fields ≡ length ss = ap (λ z. length (fields_by z)) (sym found.1) in
-      let row : slice_get c.sizes k ≡ Some (at_least_one (length ss)) = ap (λ l. slice_get l k) holds.table ∙ table k found.0 found.1 ∙ ap (λ n. Some (at_least_one n)) fields in
-      agree_at (New k) (NewOf (type.Class k)) _ (making st o) _ _ (ap (λ l. making st (Object l)) (fields_same (slice_get classes k)))
+      let row : slice_get c.sizes k ≡ Some (object_cells (length ss)) = ap (λ l. slice_get l k) holds.table ∙ table k found.0 found.1 ∙ ap (λ n. Some (object_cells n)) fields in
+      agree_at (New k) (NewOf (type.Class k)) _ (making st o) _ _ (ap (λ l. making st (Object Free l)) (fields_same (slice_get classes k)))
       (ap (λ z. on_cell z (λ size. machine.making c (replicate size 0))) row)
       (new_case o (type.Class k) ws (New k) has size cells)
 
   lock_made : (t : ℕ) → Agree NewLock (NewOf type.Lock) (effect classes st t NewLock) (machine.effect c t NewLock)
-  lock_made t = new_case FreeLock type.Lock (0 ∷ []) NewLock tt refl refl
+  lock_made t = new_case (LockOf Free) type.Lock (0 ∷ []) NewLock tt refl refl
 
   markable_made : (t k : ℕ) (v : Value) → HasSortBy (Refers σ) v (PairOf k) → Agree (NewMarkable v) (NewOf (type.Markable k)) (effect classes st t (NewMarkable v)) (machine.effect c t (NewMarkable (written ρ v)))
   markable_made t k v has =
@@ -198,7 +196,7 @@ names_of program = map (λ x. type.Class x.class) program.names
 pub name_typed : (program : Program) (n : ℕ) (t : ValueType) → NameHas program n t → slice_get (names_of program) n ≡ Some t
 name_typed program n t h = name_in program.names n t (slice_get program.names n) refl h
 
-module _ (file : File) (program : Program) (sizes : List ℕ) (room : ℕ) (small : room ≤ 1048576) (table : (k : ℕ) (class : Class) → slice_get file.classes k ≡ Some class → slice_get sizes k ≡ Some (at_least_one (length class.fields))) (σ : List ValueType) (st : Store) (c : Cells) (holds : Holds file.classes (names_of program) sizes room σ st c) where
+module _ (file : File) (program : Program) (sizes : List ℕ) (room : ℕ) (small : room ≤ most_cells) (table : (k : ℕ) (class : Class) → slice_get file.classes k ≡ Some class → slice_get sizes k ≡ Some (object_cells (length class.fields))) (σ : List ValueType) (st : Store) (c : Cells) (holds : Holds file.classes (names_of program) sizes room σ st c) where
   abbrev named : List ValueType
   named = names_of program
 
@@ -253,6 +251,10 @@ module _ (file : File) (program : Program) (sizes : List ℕ) (room : ℕ) (smal
   effects_agree t (TryLock (suc n)) s h = let o = named_thing n type.Lock h.0 in at t (TryLock (suc n)) s (ValueOf type.Boolean) h.1 (more.try_case file.classes named sizes room small σ st c holds t n h.0 o.0 o.1 o.2)
   effects_agree t (IsHeld zero) s h = absurd h.0
   effects_agree t (IsHeld (suc n)) s h = let o = named_thing n type.Lock h.0 in at t (IsHeld (suc n)) s (ValueOf type.Boolean) h.1 (more.held_case file.classes named sizes room small σ st c holds t n o.0 o.1 o.2)
+  effects_agree t (LockMonitor zero) s h = absurd h.1
+  effects_agree t (LockMonitor (suc n)) s h = let o = named_thing n (type.Class h.0) h.1 in at t (LockMonitor (suc n)) s NoValue h.2 (more.monitor_case file.classes named sizes room small σ st c holds t n h.0 h.1 o.0 o.1 o.2)
+  effects_agree t (UnlockMonitor zero) s h = absurd h.1
+  effects_agree t (UnlockMonitor (suc n)) s h = let o = named_thing n (type.Class h.0) h.1 in at t (UnlockMonitor (suc n)) s NoValue h.2 (more.leave_case file.classes named sizes room small σ st c holds t n h.0 h.1 o.0 o.1 o.2)
   effects_agree t (ReadPair zero) s h = absurd h.1
   effects_agree t (ReadPair (suc n)) s h = let o = named_thing n (type.Markable h.0) h.1 in at t (ReadPair (suc n)) s (PairOf h.0) h.2 (more.pair_case file.classes named sizes room small σ st c holds t n h.0 o.0 o.1 o.2)
   effects_agree t (SetPair zero v) s h = absurd h.1

@@ -1,12 +1,12 @@
 -- Answers that suit, under more things and other names.
-use Rattle.std.proofs.Common.{◌≡◌, ℕ, zero, suc, List, [], ◌∷◌, ◌++◌, length, map, Option, Some, None, refl, sym, ap, ◌∙◌, subst, arith}
+use Rattle.std.proofs.Common.{◌≡◌, ℕ, zero, suc, ◌+◌, List, [], ◌∷◌, ◌++◌, length, map, Option, Some, None, refl, sym, ap, ◌∙◌, subst, arith}
 use Rattle.ls_events.specs.declared.kind.Kind.{Kind}
 use Rattle.ls_events.specs.declared.value.Value.{Value}
 use Rattle.ls_events.specs.declared.value.Value.TheVariants.{Int, Boolean, Reference, Pair}
 use Rattle.ls_events.specs.declared.value.ValueType.{ValueType}
 use Rattle.ls_events.specs.declared.value.ValueType.TheVariants as type
 use Rattle.ls_events.specs.declared.action.Action.{Action}
-use Rattle.ls_events.specs.declared.action.Action.TheVariants.{ReadField, WriteField, ReadItem, WriteItem, ReadName, WriteName, New, NewLock, NewMarkable, NewArray, Lock, Unlock, TryLock, IsHeld, ReadPair, SetPair, SwapPair, AttemptMark, Turn, Enter, Call, Return, Trap}
+use Rattle.ls_events.specs.declared.action.Action.TheVariants.{ReadField, WriteField, ReadItem, WriteItem, ReadName, WriteName, New, NewLock, NewMarkable, NewArray, Lock, Unlock, TryLock, IsHeld, LockMonitor, UnlockMonitor, ReadPair, SetPair, SwapPair, AttemptMark, Turn, Enter, Call, Return, Trap}
 use Rattle.ls_events.specs.declared.action.Answer.{Answer}
 use Rattle.ls_events.specs.declared.action.Answer.TheVariants.{Done, Gives, Fails}
 use Rattle.ls_checked.specs.CheckedTree.{File}
@@ -18,18 +18,18 @@ use Rattle.ls_meaning.specs.Threads.{Next, Goes, Ended, Trapped}
 use Rattle.ls_headline.specs.InWords.{word_of, written, map_option, map_action, map_answer}
 use Rattle.ls_meaning.specs.Renamings.{renamed}
 use Rattle.ls_headline.specs.Sorts.{Refers, Names, HasTypeBy, HasSortBy, Returns, ActionHas, CanFail, Suits, Suited, call_at}
-use Rattle.ls_meaning.specs.Renamings.{renamed_next}
+use Rattle.ls_meaning.specs.Renamings.{renamed_result, renamed_action, renamed_next}
 use Rattle.ls_headline.proofs.Cells.{IsOneToOne}
 use Rattle.ls_headline.proofs.Lists.{get_within}
 use Rattle.ls_headline.proofs.Cells.{AgreeTo, refers_within, written_agree, pair_agree, sort_agree}
 use Rattle.ls_headline.proofs.Effects.{sort_more}
 
 -- words of a renamed thing
-option_words : (ρ : ℕ → ℕ) (v : Option Value) → map_option word_of (map_option (renamed ρ) v) ≡ map_option (written ρ) v
+option_words : (ρ : ℕ → ℕ) (v : Option Value) → map_option word_of (renamed_result ρ v) ≡ map_option (written ρ) v
 option_words ρ None = refl
 option_words ρ (Some v) = refl
 
-pub action_words : (ρ : ℕ → ℕ) (a : Action Value) → map_action (λ n. n) word_of (map_action ρ (renamed ρ) a) ≡ map_action ρ (written ρ) a
+pub action_words : (ρ : ℕ → ℕ) (a : Action Value) → map_action (λ n. n) word_of (renamed_action ρ a) ≡ map_action ρ (written ρ) a
 action_words ρ (ReadField n f) = refl
 action_words ρ (WriteField n f v) = refl
 action_words ρ (ReadItem n i) = refl
@@ -44,6 +44,8 @@ action_words ρ (Lock n) = refl
 action_words ρ (Unlock n) = refl
 action_words ρ (TryLock n) = refl
 action_words ρ (IsHeld n) = refl
+action_words ρ (LockMonitor n) = refl
+action_words ρ (UnlockMonitor n) = refl
 action_words ρ (ReadPair n) = refl
 action_words ρ (SetPair n v) = refl
 action_words ρ (SwapPair n e d) = refl
@@ -96,12 +98,14 @@ sort_renamed P Q ρ z one f (Reference n) (NewOf t) h = ((λ e. h.0 (one n 0 (e 
 sort_renamed P Q ρ z one f (Pair n m) (PairOf c) h = f n (type.Class c) h
 sort_renamed P Q ρ z one f _ _ h = absurd h
 
-fails_renamed : (ρ : ℕ → ℕ) (a : Action Value) (k : Kind) → CanFail a k → CanFail (map_action ρ (renamed ρ) a) k
+fails_renamed : (ρ : ℕ → ℕ) (a : Action Value) (k : Kind) → CanFail a k → CanFail (renamed_action ρ a) k
 fails_renamed ρ (ReadItem n i) k h = h
 fails_renamed ρ (WriteItem n i v) k h = h
 fails_renamed ρ (Lock n) k h = h
 fails_renamed ρ (TryLock n) k h = h
 fails_renamed ρ (Unlock n) k h = h
+fails_renamed ρ (LockMonitor n) k h = h
+fails_renamed ρ (UnlockMonitor n) k h = h
 fails_renamed ρ _ k h = absurd h
 
 suits_renamed : (P Q : ℕ → ValueType → Type 0) (ρ : ℕ → ℕ) → ρ 0 ≡ 0 → IsOneToOne ρ → ((n : ℕ) (s : ValueType) → P n s → Q (ρ n) s) → (d : Next) (x : Answer Value) → Suits P d x → Suits Q (renamed_next ρ d) (map_answer (renamed ρ) x)
@@ -145,9 +149,9 @@ returns_agree ρ ρ' a (Some (Calling n m t (Some type.Boolean) vs)) (Some v) h 
 returns_agree ρ ρ' a (Some (Calling n m t (Some _) vs)) (Some v) h = absurd h
 
 pub action_agree : (file : File) (program : Program) (σ : List ValueType) (ρ ρ' : ℕ → ℕ) → AgreeTo (length σ) ρ ρ' → (t : ℕ) (a : Action Value) (s : Sort) → ActionHas file program σ t a s → map_action ρ (written ρ) a ≡ map_action ρ' (written ρ') a
-action_agree file program σ ρ ρ' g t (ReadField n f) s h = ap (λ m. ReadField m f) (names_agree σ ρ ρ' g n (type.Class h.0) h.2)
+action_agree file program σ ρ ρ' g t (ReadField n f) s h = ap (λ m. ReadField m (f + 1)) (names_agree σ ρ ρ' g n (type.Class h.0) h.2)
 action_agree file program σ ρ ρ' g t (WriteField n f v) s h =
-    ap (λ m. WriteField m f (written ρ v)) (names_agree σ ρ ρ' g n (type.Class h.0) h.2) ∙ ap (WriteField (ρ' n) f) (written_agree σ ρ ρ' v h.1 g h.4)
+    ap (λ m. WriteField m (f + 1) (written ρ v)) (names_agree σ ρ ρ' g n (type.Class h.0) h.2) ∙ ap (WriteField (ρ' n) (f + 1)) (written_agree σ ρ ρ' v h.1 g h.4)
 action_agree file program σ ρ ρ' g t (ReadItem n i) s h = ap (λ m. ReadItem m i) (names_agree σ ρ ρ' g n type.BooleanArray h.0)
 action_agree file program σ ρ ρ' g t (WriteItem n i v) s h =
     ap (λ m. WriteItem m i (written ρ v)) (names_agree σ ρ ρ' g n type.BooleanArray h.0) ∙ ap (WriteItem (ρ' n) i) (written_agree σ ρ ρ' v type.Boolean g h.1)
@@ -161,6 +165,8 @@ action_agree file program σ ρ ρ' g t (Lock n) s h = ap Lock (names_agree σ �
 action_agree file program σ ρ ρ' g t (Unlock n) s h = ap Unlock (names_agree σ ρ ρ' g n type.Lock h.0)
 action_agree file program σ ρ ρ' g t (TryLock n) s h = ap TryLock (names_agree σ ρ ρ' g n type.Lock h.0)
 action_agree file program σ ρ ρ' g t (IsHeld n) s h = ap IsHeld (names_agree σ ρ ρ' g n type.Lock h.0)
+action_agree file program σ ρ ρ' g t (LockMonitor n) s h = ap LockMonitor (names_agree σ ρ ρ' g n (type.Class h.0) h.1)
+action_agree file program σ ρ ρ' g t (UnlockMonitor n) s h = ap UnlockMonitor (names_agree σ ρ ρ' g n (type.Class h.0) h.1)
 action_agree file program σ ρ ρ' g t (ReadPair n) s h = ap ReadPair (names_agree σ ρ ρ' g n (type.Markable h.0) h.1)
 action_agree file program σ ρ ρ' g t (SetPair n v) s h =
     ap (λ m. SetPair m (written ρ v)) (names_agree σ ρ ρ' g n (type.Markable h.0) h.1) ∙ ap (SetPair (ρ' n)) (pair_agree σ ρ ρ' v h.0 g h.2)
@@ -195,6 +201,8 @@ says file program σ t (Lock n) s h = tt
 says file program σ t (Unlock n) s h = tt
 says file program σ t (TryLock n) s h = tt
 says file program σ t (IsHeld n) s h = tt
+says file program σ t (LockMonitor n) s h = tt
+says file program σ t (UnlockMonitor n) s h = tt
 says file program σ t (ReadPair n) s h = tt
 says file program σ t (SetPair n v) s h = tt
 says file program σ t (SwapPair n e d) s h = tt

@@ -1,5 +1,6 @@
 -- The addresses of the things are the answers of the makings.
 use Rattle.std.proofs.Common.{◌≡◌, ℕ, zero, suc, ◌+◌, ◌<◌, ◌≤◌, Bool, true, false, List, [], ◌∷◌, ◌++◌, length, map, refl, sym, ap, ◌∙◌, arith, append_assoc, append-nil, if◌then◌else◌}
+use Rattle.ls_code.specs.Limits.{most_cells}
 use Rattle.ls_events.specs.declared.value.Value.{Value}
 use Rattle.ls_events.specs.declared.action.Action.{Action}
 use Rattle.ls_events.specs.declared.action.Action.TheVariants.{New, NewLock, NewMarkable, NewArray}
@@ -75,7 +76,7 @@ address_within names os zero h = omega arith
 address_within names os (suc n) h = let below = offset_below os n (omega arith) in omega arith
 
 -- the addresses differ
-pub addresses_differ : (names : ℕ) (os : List Thing) → names + total os ≤ 1048576 → ArePlaces (length (addresses names (sizes_of os))) (numbered (addresses names (sizes_of os)))
+pub addresses_differ : (names : ℕ) (os : List Thing) → names + total os ≤ most_cells → ArePlaces (length (addresses names (sizes_of os))) (numbered (addresses names (sizes_of os)))
 addresses_differ names os room =
     let long : length (addresses names (sizes_of os)) ≡ length os = length-addresses names (sizes_of os) ∙ length-sizes os in
     record {

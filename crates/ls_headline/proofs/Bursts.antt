@@ -1,6 +1,7 @@
 -- The instructions of a thread up to and with the one that acts, for one action of the source.
 use Rattle.std.proofs.Common.{◌≡◌, ◌≢◌, ◌⊎◌, inl, inr, ℕ, zero, suc, ◌+◌, ◌≤◌, Bool, true, false, ◌&&◌, ◌||◌, List, [], ◌∷◌, ◌++◌, length, Option, Some, None, refl, sym, ap, ◌∙◌, subst, arith, slice_get, slice_set, nat_eq}
 use Rattle.std.proofs.lemmas.Bool.Decides.{nat_tests}
+use Rattle.ls_code.specs.Limits.{most_cells}
 use Rattle.ls_events.specs.declared.event.Event.{Event}
 use Rattle.ls_events.specs.declared.value.Value.{Value}
 use Rattle.ls_events.specs.declared.value.ValueType.{ValueType}
@@ -30,16 +31,15 @@ use Rattle.ls_code.specs.declared.lock_word.Left.TheVariants as left
 use Rattle.ls_events.specs.declared.kind.Kind.TheVariants.{IllegalMonitorState, Error}
 use Rattle.ls_events.specs.declared.action.Action.TheVariants as act
 use Rattle.ls_events.specs.declared.action.Answer.TheVariants.{Done as AnswerDone, Gives, Fails}
-use Rattle.ls_events.specs.declared.value.ValueType.TheVariants as type
 use Rattle.ls_headline.specs.InWords.{map_answer, written, map_action, in_words}
 use Rattle.ls_headline.specs.Sorts.{Names, Refers, Suits, Known, ActionHas}
-use Rattle.ls_code.specs.Reading.{seen, exchanged, word_of_another, after_lock, after_try, after_unlock, whole_move, begins_early, carry, quiet, quiet_from}
+use Rattle.ls_code.specs.Reading.{seen, exchanged, full_word, word_of_another, after_lock, after_try, after_unlock, whole_move, begins_early, carry, quiet, quiet_from}
 use Rattle.ls_headline.specs.Parts.{one, LockParts, TryParts, UnlockParts, IsPlanned, Parts}
 use Rattle.ls_headline.proofs.PartsThere.{parts_are_there}
 use Rattle.ls_headline.proofs.LockWords.{own_left, not_left}
 use Rattle.ls_headline.proofs.LockCells.{lock_is, unlock_is, store_is, won_is, another_is, full_is}
-use Rattle.ls_headline.proofs.Others.{lock_on, lock_word, word_there}
-use Rattle.ls_headline.proofs.Middle.{Here}
+use Rattle.ls_headline.proofs.Others.{IsHeldType, lock_on, lock_word, word_there}
+use Rattle.ls_headline.proofs.Middle.{Here, Locking, Unlocking, of_lock, of_monitor, off_lock, off_monitor}
 use Rattle.ls_headline.proofs.Cells.{AgreeTo}
 use Rattle.ls_headline.proofs.Lists.{set_here, each_set, map_end, length-set, set_same, set_other}
 use Rattle.ls_headline.proofs.Effects.{Extends, refers_more, things_length, thing_there, renaming, Grows, Agrees}
@@ -59,7 +59,7 @@ use Rattle.ls_headline.specs.Same.{total}
 use Rattle.ls_headline.proofs.Feeding.{IsLoud, silent_keeps, beginning, asked_by, silent_is, NoPlan, none, ended, trapped, still, Stands, at_end, more, told_one, stand-append}
 use Rattle.ls_headline.proofs.Following
 
-module _ (file : File) (program : Program) (code : Code) (asks : Asks file program code) (sound : Means file program) (room : ℕ) (small : room ≤ 1048576) where
+module _ (file : File) (program : Program) (code : Code) (asks : Asks file program code) (sound : Means file program) (room : ℕ) (small : room ≤ most_cells) where
   abbrev named : List ValueType
   named = names_of program
 
@@ -325,18 +325,18 @@ module _ (file : File) (program : Program) (code : Code) (asks : Asks file progr
           (λ y' e. is y' e ∙ ap (λ z. machine_steps.outcome_of y' c' (did.Acted z w)) eb) k none_)
 
       abbrev Word : ℕ → Type 0
-      Word lock = (o : Thing) × effects.ThingHas file.classes h.sorts o type.Lock × (cells.cell_at c lock 0 ≡ Some (lock_word o))
+      Word lock = (o : Thing) × (taken_of (lock_word o) t ≡ taken.TooMany → lock_word o ≡ full_word t) × (cells.cell_at c lock 0 ≡ Some (lock_word o))
 
-      named_word : (i lock : ℕ) → Names h.sorts i type.Lock → renaming names s.store i ≡ lock → Word lock
-      named_word zero lock is e = absurd is
-      named_word (suc i) lock is e =
-          let r = thing_there file.classes h.sorts s.store.things h.sorts i type.Lock h.holds.typed is in
-          (r.0, r.2, ap (λ z. cells.cell_at c z 0) (sym e) ∙ word_there file.classes named code.sizes room h.sorts s.store c h.holds i r.0 r.1 r.2)
+      named_word : (i lock : ℕ) (q : ValueType) → IsHeldType q → Names h.sorts i q → renaming names s.store i ≡ lock → Word lock
+      named_word zero lock q held is e = absurd is
+      named_word (suc i) lock q held is e =
+          let r = thing_there file.classes h.sorts s.store.things h.sorts i q h.holds.typed is in
+          (r.0, full_is file.classes h.sorts r.0 q t r.2, ap (λ z. cells.cell_at c z 0) (sym e) ∙ word_there file.classes named code.sizes room h.sorts s.store c h.holds i r.0 q r.1 held r.2)
 
       word_of : (b : Action ℕ) → whole_move code t x ≡ MoveAsks b go → (lock : ℕ) → lock_on b ≡ Some lock → Word lock
       word_of b em lock on =
           let l = Following.lock_of file program code asks sound room small h.sorts s.store c h.holds t had x (each_back c h.sorts (renaming names s.store) t had x each) runs b go em lock on in
-          named_word l.0 lock l.1 l.2
+          named_word l.0 lock l.1 l.2 l.3 l.4
 
       -- the effect that the source's action has isn't a wait
       not_waiting : (b : Action ℕ) → b ≡ acts_as s a → cells.effect c t b ≡ cells.Waits → ⊥
@@ -352,17 +352,17 @@ module _ (file : File) (program : Program) (code : Code) (asks : Asks file progr
       went_so : (b : Action ℕ) (w : Answer ℕ) (c' : cells.Cells) (z z' : Thread) → go w ≡ Some z' → one code t c z ≡ machine_steps.outcome_of z' c' (did.Acted b w) → (y' : Thread) → go w ≡ Some y' → one code t c z ≡ machine_steps.outcome_of y' c' (did.Acted b w)
       went_so b w c' z z' ez is y' e = (let same : z' ≡ y' = (let both_ : Some z' ≡ Some y' = sym ez ∙ e in cc) in is ∙ ap (λ p. machine_steps.outcome_of p c' (did.Acted b w)) same)
 
-      lock_acts : (lock : ℕ) → whole_move code t x ≡ MoveAsks (act.Lock lock) go → act.Lock lock ≡ acts_as s a → stands t x ≡ Paused (act.Lock lock) go → LockParts code t x lock → go ≡ after_lock code t x → (r : Word lock) → (z : Taken) → taken_of (lock_word r.0) t ≡ z → Acting m k
-      lock_acts lock em eb stood parts eg r taken.Other ek = absurd (not_waiting (act.Lock lock) eb (lock_is c lock t (lock_word r.0) taken.Other AnswerDone cells.Waits r.2 ek))
-      lock_acts lock em eb stood parts eg r taken.TooMany ek =
+      lock_acts : (lock : ℕ) (b : Action ℕ) → Locking lock b → whole_move code t x ≡ MoveAsks b go → b ≡ acts_as s a → stands t x ≡ Paused b go → LockParts code t x lock b → go ≡ after_lock code t x → (r : Word lock) → (z : Taken) → taken_of (lock_word r.0) t ≡ z → Acting m k
+      lock_acts lock b locks em eb stood parts eg r taken.Other ek = absurd (not_waiting b eb (locks.does c t ∙ lock_is c lock t (lock_word r.0) taken.Other AnswerDone cells.Waits r.2 ek))
+      lock_acts lock b locks em eb stood parts eg r taken.TooMany ek =
           let w = lock_word r.0 in
-          at_take (act.Lock lock) eb stood w (parts.see c w r.2) c (Fails Error) (lock_is c lock t w taken.TooMany AnswerDone cells.Waits r.2 ek)
-          (thrown_so (act.Lock lock) (Fails Error) (seen x w) (throwing code (seen x w) Error) (ap (λ f. f (Fails Error)) eg ∙ ap (λ v. throwing code (seen x v) Error) (sym (full_is file.classes h.sorts r.0 t r.1 ek))) (parts.full c w ek))
-      lock_acts lock em eb stood parts eg r (taken.Taken v) ek =
+          at_take b eb stood w (parts.see c w r.2) c (Fails Error) (locks.does c t ∙ lock_is c lock t w taken.TooMany AnswerDone cells.Waits r.2 ek)
+          (thrown_so b (Fails Error) (seen x w) (throwing code (seen x w) Error) (ap (λ f. f (Fails Error)) eg ∙ ap (λ v. throwing code (seen x v) Error) (sym (r.1 ek))) (parts.full c w ek))
+      lock_acts lock b locks em eb stood parts eg r (taken.Taken v) ek =
           let w = lock_word r.0 in
           let st = store_is c lock v w r.2 in
-          at_take (act.Lock lock) eb stood w (parts.see c w r.2) st.0 AnswerDone (lock_is c lock t w (taken.Taken v) AnswerDone cells.Waits r.2 ek ∙ st.1 AnswerDone)
-          (went_so (act.Lock lock) AnswerDone st.0 (seen x w) (exchanged x 1) (ap (λ f. f AnswerDone) eg) (parts.won c st.0 w v ek (won_is c st.0 lock t w v r.2 st.1)))
+          at_take b eb stood w (parts.see c w r.2) st.0 AnswerDone (locks.does c t ∙ lock_is c lock t w (taken.Taken v) AnswerDone cells.Waits r.2 ek ∙ st.1 AnswerDone)
+          (went_so b AnswerDone st.0 (seen x w) (exchanged x 1) (ap (λ f. f AnswerDone) eg) (parts.won c st.0 w v ek (won_is c st.0 lock t w v r.2 st.1)))
 
       -- a told tryLock goes on in silence, whichever word it saw
       same_told : (w v : ℕ) (i : ℕ) → whole_move code t (seen x w) ≡ Silent (exchanged x 0) → whole_move code t (seen x v) ≡ Silent (exchanged x 0) → quiet code t i (seen x w) ≡ quiet code t i (seen x v)
@@ -383,30 +383,32 @@ module _ (file : File) (program : Program) (code : Code) (asks : Asks file progr
       try_acts lock em eb stood parts eg r taken.TooMany ek =
           let w = lock_word r.0 in
           at_take (act.TryLock lock) eb stood w (parts.see_full c w r.2 ek) c (Fails Error) (lock_is c lock t w taken.TooMany (Gives 1) (cells.Answers c (Gives 0)) r.2 ek)
-          (thrown_so (act.TryLock lock) (Fails Error) (seen x w) (throwing code (seen x w) Error) (ap (λ f. f (Fails Error)) eg ∙ ap (λ v. throwing code (seen x v) Error) (sym (full_is file.classes h.sorts r.0 t r.1 ek))) (parts.full c w ek))
+          (thrown_so (act.TryLock lock) (Fails Error) (seen x w) (throwing code (seen x w) Error) (ap (λ f. f (Fails Error)) eg ∙ ap (λ v. throwing code (seen x v) Error) (sym (r.1 ek))) (parts.full c w ek))
       try_acts lock em eb stood parts eg r (taken.Taken v) ek =
           let w = lock_word r.0 in
           let st = store_is c lock v w r.2 in
           at_take (act.TryLock lock) eb stood w (parts.see c w v r.2 ek) st.0 (Gives 1) (lock_is c lock t w (taken.Taken v) (Gives 1) (cells.Answers c (Gives 0)) r.2 ek ∙ st.1 (Gives 1))
           (went_so (act.TryLock lock) (Gives 1) st.0 (seen x w) (exchanged x 1) (ap (λ f. f (Gives 1)) eg) (parts.won c st.0 w v ek (won_is c st.0 lock t w v r.2 st.1)))
 
-      unlock_acts : (lock : ℕ) → whole_move code t x ≡ MoveAsks (act.Unlock lock) go → act.Unlock lock ≡ acts_as s a → stands t x ≡ Paused (act.Unlock lock) go → UnlockParts code t x lock → go ≡ after_unlock code x → (r : Word lock) → (z : Bool) → is_own (lock_word r.0) t ≡ z → Acting m k
-      unlock_acts lock em eb stood parts eg r false ez =
+      unlock_acts : (lock : ℕ) (b : Action ℕ) → Unlocking lock b → whole_move code t x ≡ MoveAsks b go → b ≡ acts_as s a → stands t x ≡ Paused b go → UnlockParts code t x lock b → go ≡ after_unlock code x → (r : Word lock) → (z : Bool) → is_own (lock_word r.0) t ≡ z → Acting m k
+      unlock_acts lock b unlocks em eb stood parts eg r false ez =
           let w = lock_word r.0 in
           let ek = not_left w t ez in
-          at_see (act.Unlock lock) eb stood c (Fails IllegalMonitorState) (unlock_is c lock t w left.NotOwner r.2 ek) (λ z. z) (λ y' e. refl)
-          (thrown_so (act.Unlock lock) (Fails IllegalMonitorState) x (throwing code x IllegalMonitorState) (ap (λ f. f (Fails IllegalMonitorState)) eg) (parts.see_other c w r.2 ek))
-      unlock_acts lock em eb stood parts eg r true ez =
+          at_see b eb stood c (Fails IllegalMonitorState) (unlocks.does c t ∙ unlock_is c lock t w left.NotOwner r.2 ek) (λ z. z) (λ y' e. refl)
+          (thrown_so b (Fails IllegalMonitorState) x (throwing code x IllegalMonitorState) (ap (λ f. f (Fails IllegalMonitorState)) eg) (parts.see_other c w r.2 ek))
+      unlock_acts lock b unlocks em eb stood parts eg r true ez =
           let w = lock_word r.0 in
           let ek = own_left w t ez in
           let st = store_is c lock _ w r.2 in
-          at_take (act.Unlock lock) eb stood w (parts.see c w _ r.2 ek) st.0 AnswerDone (unlock_is c lock t w (left.Left _) r.2 ek ∙ st.1 AnswerDone)
-          (went_so (act.Unlock lock) AnswerDone st.0 (seen x w) _ (ap (λ f. f AnswerDone) eg) (parts.drop c st.0 w _ ek (st.1 AnswerDone) _ refl))
+          at_take b eb stood w (parts.see c w _ r.2 ek) st.0 AnswerDone (unlocks.does c t ∙ unlock_is c lock t w (left.Left _) r.2 ek ∙ st.1 AnswerDone)
+          (went_so b AnswerDone st.0 (seen x w) _ (ap (λ f. f AnswerDone) eg) (parts.drop c st.0 w _ ek (st.1 AnswerDone) _ refl))
 
       any_acts : (b : Action ℕ) → whole_move code t x ≡ MoveAsks b go → b ≡ acts_as s a → stands t x ≡ Paused b go → Parts code t x b go → Acting m k
-      any_acts (act.Lock o) em eb stood parts = (let r = word_of (act.Lock o) em o refl in lock_acts o em eb stood parts.0 parts.1 r (taken_of (lock_word r.0) t) refl)
+      any_acts (act.Lock o) em eb stood parts = (let r = word_of (act.Lock o) em o refl in lock_acts o (act.Lock o) (of_lock o) em eb stood parts.0 parts.1 r (taken_of (lock_word r.0) t) refl)
+      any_acts (act.LockMonitor o) em eb stood parts = (let r = word_of (act.LockMonitor o) em o refl in lock_acts o (act.LockMonitor o) (of_monitor o) em eb stood parts.0 parts.1 r (taken_of (lock_word r.0) t) refl)
       any_acts (act.TryLock o) em eb stood parts = (let r = word_of (act.TryLock o) em o refl in try_acts o em eb stood parts.0 parts.1 r (taken_of (lock_word r.0) t) refl)
-      any_acts (act.Unlock o) em eb stood parts = (let r = word_of (act.Unlock o) em o refl in unlock_acts o em eb stood parts.0 parts.1 r (is_own (lock_word r.0) t) refl)
+      any_acts (act.Unlock o) em eb stood parts = (let r = word_of (act.Unlock o) em o refl in unlock_acts o (act.Unlock o) (off_lock o) em eb stood parts.0 parts.1 r (is_own (lock_word r.0) t) refl)
+      any_acts (act.UnlockMonitor o) em eb stood parts = (let r = word_of (act.UnlockMonitor o) em o refl in unlock_acts o (act.UnlockMonitor o) (off_monitor o) em eb stood parts.0 parts.1 r (is_own (lock_word r.0) t) refl)
       any_acts (act.ReadField o i) em eb stood parts = absurd parts
       any_acts (act.WriteField o i v) em eb stood parts = absurd parts
       any_acts (act.ReadItem o i) em eb stood parts = absurd parts

@@ -8,7 +8,7 @@ use Rattle.ls_events.specs.declared.value.ValueType.{ValueType}
 use Rattle.ls_events.specs.declared.value.ValueType.TheVariants as type
 use Rattle.ls_meaning.specs.declared.sort.Sort.{Sort}
 use Rattle.ls_meaning.specs.declared.sort.Sort.TheVariants.{ValueOf, NewOf, PairOf}
-use Rattle.ls_meaning.specs.Store.{Thing, Object, FreeLock, HeldLock, Markable, Array}
+use Rattle.ls_meaning.specs.Store.{Hold, Free, HeldBy, Thing, Object, LockOf, Markable, Array}
 use Rattle.ls_meaning.specs.Effect.{with_item}
 use Rattle.ls_code.specs.Words.{bool_word, pair_word}
 use Rattle.ls_headline.specs.InWords.{written}
@@ -39,17 +39,17 @@ abbrev pub listed : {A : Type 0} → ℕ → (ℕ → A) → List A
 listed zero f = []
 listed (suc n) f = f 0 ∷ listed n (λ i. f (suc i))
 
-abbrev pub padded : List ℕ → List ℕ
-padded [] = 0 ∷ []
-padded (w ∷ ws) = w ∷ ws
-
 abbrev pub held_word : ℕ → ℕ → ℕ
 held_word owner holds = (owner + 1) * 2 ^ 32 + holds
 
+-- the word of a lock or of a monitor
+abbrev pub hold_word : Hold → ℕ
+hold_word Free = 0
+hold_word (HeldBy owner holds) = held_word owner holds
+
 abbrev pub cells_of : (ℕ → ℕ) → Thing → List ℕ
-cells_of ρ (Object vs) = padded (map (written ρ) vs)
-cells_of ρ FreeLock = 0 ∷ []
-cells_of ρ (HeldLock owner holds) = held_word owner holds ∷ []
+cells_of ρ (Object monitor vs) = hold_word monitor ∷ map (written ρ) vs
+cells_of ρ (LockOf hold) = hold_word hold ∷ []
 cells_of ρ (Markable v) = written ρ v ∷ []
 cells_of ρ (Array size items) = size ∷ listed size (λ i. written ρ (items i))
 
@@ -89,10 +89,8 @@ item_other items i v j d = let e : nat_eq j i ≡ false = grind (arith, nat_test
 
 -- sizes and offsets
 pub size_pos : (o : Thing) → 1 ≤ size_of o
-size_pos (Object []) = omega arith
-size_pos (Object (v ∷ vs)) = omega arith
-size_pos FreeLock = omega arith
-size_pos (HeldLock t m) = omega arith
+size_pos (Object m vs) = omega arith
+size_pos (LockOf h) = omega arith
 size_pos (Markable v) = omega arith
 size_pos (Array n items) = omega arith
 
@@ -127,10 +125,8 @@ offset_end (o ∷ os) = ap (λ k. size_of o + k) (offset_end os)
 
 -- the length of what is laid out
 length_cells : (ρ : ℕ → ℕ) (o : Thing) → length (cells_of ρ o) ≡ size_of o
-length_cells ρ (Object []) = refl
-length_cells ρ (Object (v ∷ vs)) = ap suc (length-map vs (written ρ))
-length_cells ρ FreeLock = refl
-length_cells ρ (HeldLock t m) = refl
+length_cells ρ (Object m vs) = omega (arith, length-map vs (written ρ))
+length_cells ρ (LockOf h) = refl
 length_cells ρ (Markable v) = refl
 length_cells ρ (Array n items) = omega (arith, length_listed n (λ i. written ρ (items i)))
 

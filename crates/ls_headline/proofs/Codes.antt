@@ -30,14 +30,14 @@ all_get P xs n x h e = subst P (index_there xs n x x e) (h n x (get_within xs n 
 abbrev pub IsWhole : Instruction → Type 0
 IsWhole (op.See p) = ⊥
 IsWhole (op.Take p) = ⊥
-IsWhole op.DropLock = ⊥
+IsWhole (op.DropLock x) = ⊥
 IsWhole i = Unit {0}
 
 -- a frame has no instruction on a lock's word
 abbrev IsPlain : FrameMove → Type 0
 IsPlain (Beyond (wide.See x)) = ⊥
 IsPlain (Beyond (wide.Take x)) = ⊥
-IsPlain (Beyond wide.DropLock) = ⊥
+IsPlain (Beyond (wide.DropLock x)) = ⊥
 IsPlain _ = Unit {0}
 
 one_plain : (o : Option ℕ) (go : ℕ → FrameMove) → ((a : ℕ) → IsPlain (go a)) → IsPlain (on_one o go)
@@ -109,7 +109,7 @@ frame_plain op.AttemptMark f h = three_plain (top_three f.operands) _ (λ a r m.
 frame_plain op.Halt f h = tt
 frame_plain (op.See x) f h = absurd h
 frame_plain (op.Take x) f h = absurd h
-frame_plain op.DropLock f h = absurd h
+frame_plain (op.DropLock x) f h = absurd h
 frame_plain (op.Enter x) f h = tt
 frame_plain op.Leave f h = tt
 frame_plain op.LeaveWith f h = tt
@@ -169,13 +169,13 @@ of_none p t (Beyond (wide.Result x)) h = if_none (t.pending && (x == t.ended + 1
 of_none p t (Beyond wide.Trap) h = if_none t.pending _ _ (top_none (top_one t.top.operands) _ (λ w. kind_none (kind_of w) _ (λ k. tt))) tt
 of_none p t (Beyond (wide.See x)) h = absurd h
 of_none p t (Beyond (wide.Take x)) h = absurd h
-of_none p t (Beyond wide.DropLock) h = absurd h
+of_none p t (Beyond (wide.DropLock x)) h = absurd h
 
 -- an instruction on a lock's word, or another
 pub data Word (i : Instruction) : Type 0 where
   IsSee : (x : ℕ) → i ≡ op.See x → Word i
   IsTake : (x : ℕ) → i ≡ op.Take x → Word i
-  IsDrop : i ≡ op.DropLock → Word i
+  IsDrop : (x : ℕ) → i ≡ op.DropLock x → Word i
   IsAnother : IsWhole i → Word i
 
 pub word_of : (i : Instruction) → Word i
@@ -218,7 +218,7 @@ word_of op.TryLock = IsAnother tt
 word_of op.IsHeld = IsAnother tt
 word_of (op.See x) = IsSee x refl
 word_of (op.Take x) = IsTake x refl
-word_of op.DropLock = IsDrop refl
+word_of (op.DropLock x) = IsDrop x refl
 word_of op.ReadPair = IsAnother tt
 word_of op.ReferenceOf = IsAnother tt
 word_of op.MarkOf = IsAnother tt
@@ -278,7 +278,7 @@ take_there x (Some op.TryLock) e = cc
 take_there x (Some op.IsHeld) e = cc
 take_there x (Some (op.See y)) e = cc
 take_there x (Some (op.Take y)) e = (let s : y ≡ x = grind (arith, nat_tests) in ap (λ z. Some (op.Take z)) s)
-take_there x (Some op.DropLock) e = cc
+take_there x (Some (op.DropLock y)) e = cc
 take_there x (Some op.ReadPair) e = cc
 take_there x (Some op.ReferenceOf) e = cc
 take_there x (Some op.MarkOf) e = cc
@@ -335,7 +335,7 @@ back_there x (Some op.TryLock) e = cc
 back_there x (Some op.IsHeld) e = cc
 back_there x (Some (op.See y)) e = cc
 back_there x (Some (op.Take y)) e = cc
-back_there x (Some op.DropLock) e = cc
+back_there x (Some (op.DropLock y)) e = cc
 back_there x (Some op.ReadPair) e = cc
 back_there x (Some op.ReferenceOf) e = cc
 back_there x (Some op.MarkOf) e = cc
@@ -351,59 +351,59 @@ back_there x (Some (op.Call y)) e = cc
 back_there x (Some (op.Result y)) e = cc
 back_there x (Some op.Trap) e = cc
 
-pub drop_there : (o : Option Instruction) → is_drop o ≡ true → o ≡ Some op.DropLock
-drop_there None e = cc
-drop_there (Some op.Halt) e = cc
-drop_there (Some (op.Push y)) e = cc
-drop_there (Some (op.Load y)) e = cc
-drop_there (Some (op.Store y)) e = cc
-drop_there (Some op.Pop) e = cc
-drop_there (Some op.Dup) e = cc
-drop_there (Some op.Add) e = cc
-drop_there (Some op.Sub) e = cc
-drop_there (Some op.Mul) e = cc
-drop_there (Some op.Div) e = cc
-drop_there (Some op.Rem) e = cc
-drop_there (Some op.Neg) e = cc
-drop_there (Some op.Lt) e = cc
-drop_there (Some op.Le) e = cc
-drop_there (Some op.Gt) e = cc
-drop_there (Some op.Ge) e = cc
-drop_there (Some op.Eq) e = cc
-drop_there (Some op.Ne) e = cc
-drop_there (Some op.Not) e = cc
-drop_there (Some (op.Jump y)) e = cc
-drop_there (Some (op.JumpIfFalse y)) e = cc
-drop_there (Some (op.JumpIfTrue y)) e = cc
-drop_there (Some (op.Turn y)) e = cc
-drop_there (Some (op.GetField y)) e = cc
-drop_there (Some (op.PutField y)) e = cc
-drop_there (Some op.GetItem) e = cc
-drop_there (Some op.PutItem) e = cc
-drop_there (Some (op.GetName y)) e = cc
-drop_there (Some (op.PutName y)) e = cc
-drop_there (Some (op.NewObject y)) e = cc
-drop_there (Some op.NewLock) e = cc
-drop_there (Some op.NewMarkable) e = cc
-drop_there (Some op.NewArray) e = cc
-drop_there (Some op.Lock) e = cc
-drop_there (Some op.Unlock) e = cc
-drop_there (Some op.TryLock) e = cc
-drop_there (Some op.IsHeld) e = cc
-drop_there (Some (op.See y)) e = cc
-drop_there (Some (op.Take y)) e = cc
-drop_there (Some op.DropLock) e = refl
-drop_there (Some op.ReadPair) e = cc
-drop_there (Some op.ReferenceOf) e = cc
-drop_there (Some op.MarkOf) e = cc
-drop_there (Some op.Pack) e = cc
-drop_there (Some op.SetPair) e = cc
-drop_there (Some op.SwapPair) e = cc
-drop_there (Some op.AttemptMark) e = cc
-drop_there (Some (op.Enter y)) e = cc
-drop_there (Some op.Leave) e = cc
-drop_there (Some op.LeaveWith) e = cc
-drop_there (Some op.Throw) e = cc
-drop_there (Some (op.Call y)) e = cc
-drop_there (Some (op.Result y)) e = cc
-drop_there (Some op.Trap) e = cc
+pub drop_there : (x : ℕ) (o : Option Instruction) → is_drop x o ≡ true → o ≡ Some (op.DropLock x)
+drop_there x None e = cc
+drop_there x (Some op.Halt) e = cc
+drop_there x (Some (op.Push y)) e = cc
+drop_there x (Some (op.Load y)) e = cc
+drop_there x (Some (op.Store y)) e = cc
+drop_there x (Some op.Pop) e = cc
+drop_there x (Some op.Dup) e = cc
+drop_there x (Some op.Add) e = cc
+drop_there x (Some op.Sub) e = cc
+drop_there x (Some op.Mul) e = cc
+drop_there x (Some op.Div) e = cc
+drop_there x (Some op.Rem) e = cc
+drop_there x (Some op.Neg) e = cc
+drop_there x (Some op.Lt) e = cc
+drop_there x (Some op.Le) e = cc
+drop_there x (Some op.Gt) e = cc
+drop_there x (Some op.Ge) e = cc
+drop_there x (Some op.Eq) e = cc
+drop_there x (Some op.Ne) e = cc
+drop_there x (Some op.Not) e = cc
+drop_there x (Some (op.Jump y)) e = cc
+drop_there x (Some (op.JumpIfFalse y)) e = cc
+drop_there x (Some (op.JumpIfTrue y)) e = cc
+drop_there x (Some (op.Turn y)) e = cc
+drop_there x (Some (op.GetField y)) e = cc
+drop_there x (Some (op.PutField y)) e = cc
+drop_there x (Some op.GetItem) e = cc
+drop_there x (Some op.PutItem) e = cc
+drop_there x (Some (op.GetName y)) e = cc
+drop_there x (Some (op.PutName y)) e = cc
+drop_there x (Some (op.NewObject y)) e = cc
+drop_there x (Some op.NewLock) e = cc
+drop_there x (Some op.NewMarkable) e = cc
+drop_there x (Some op.NewArray) e = cc
+drop_there x (Some op.Lock) e = cc
+drop_there x (Some op.Unlock) e = cc
+drop_there x (Some op.TryLock) e = cc
+drop_there x (Some op.IsHeld) e = cc
+drop_there x (Some (op.See y)) e = cc
+drop_there x (Some (op.Take y)) e = cc
+drop_there x (Some (op.DropLock y)) e = (let s : y ≡ x = grind (arith, nat_tests) in ap (λ z. Some (op.DropLock z)) s)
+drop_there x (Some op.ReadPair) e = cc
+drop_there x (Some op.ReferenceOf) e = cc
+drop_there x (Some op.MarkOf) e = cc
+drop_there x (Some op.Pack) e = cc
+drop_there x (Some op.SetPair) e = cc
+drop_there x (Some op.SwapPair) e = cc
+drop_there x (Some op.AttemptMark) e = cc
+drop_there x (Some (op.Enter y)) e = cc
+drop_there x (Some op.Leave) e = cc
+drop_there x (Some op.LeaveWith) e = cc
+drop_there x (Some op.Throw) e = cc
+drop_there x (Some (op.Call y)) e = cc
+drop_there x (Some (op.Result y)) e = cc
+drop_there x (Some op.Trap) e = cc

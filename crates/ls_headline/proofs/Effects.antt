@@ -9,7 +9,7 @@ use Rattle.ls_events.specs.declared.action.Answer.{Answer}
 use Rattle.ls_checked.specs.CheckedTree.{Class}
 use Rattle.ls_meaning.specs.declared.sort.Sort.{Sort}
 use Rattle.ls_meaning.specs.declared.sort.Sort.TheVariants.{ValueOf, NewOf, PairOf}
-use Rattle.ls_meaning.specs.Store.{Thing, Object, FreeLock, HeldLock, Markable, Array, Store}
+use Rattle.ls_meaning.specs.Store.{Hold, Free, HeldBy, Thing, Object, LockOf, Markable, Array, Store}
 use Rattle.ls_meaning.specs.Effect.{Effect, Waits, Does}
 use Rattle.ls_meaning.specs.Threads.{Goes}
 use Rattle.ls_code.specs.Cells.{Cells}
@@ -25,10 +25,14 @@ HaveTypes σ [] [] = Unit {0}
 HaveTypes σ (v ∷ vs) (s ∷ ss) = HasType σ v s × HaveTypes σ vs ss
 HaveTypes σ _ _ = ⊥
 
+-- a hold that can come about
+abbrev pub IsHold : Hold → Type 0
+IsHold Free = Unit {0}
+IsHold (HeldBy owner holds) = (1 ≤ holds) × (holds ≤ 2147483647)
+
 abbrev pub ThingHas : List Class → List ValueType → Thing → ValueType → Type 0
-ThingHas classes σ (Object vs) (type.Class c) = (c < length classes) × HaveTypes σ vs (fields_of classes c)
-ThingHas classes σ FreeLock type.Lock = Unit {0}
-ThingHas classes σ (HeldLock owner holds) type.Lock = (1 ≤ holds) × (holds ≤ 2147483647)
+ThingHas classes σ (Object monitor vs) (type.Class c) = (c < length classes) × HaveTypes σ vs (fields_of classes c) × IsHold monitor
+ThingHas classes σ (LockOf hold) type.Lock = IsHold hold
 ThingHas classes σ (Markable v) (type.Markable c) = HasSortBy (Refers σ) v (PairOf c)
 ThingHas classes σ (Array size items) type.BooleanArray = (i : ℕ) → i < size → HasType σ (items i) type.Boolean
 ThingHas classes σ _ _ = ⊥
@@ -75,9 +79,8 @@ many_length σ (v ∷ vs) (s ∷ ss) h = ap suc (many_length σ vs ss h.1)
 
 module _ (classes : List Class) where
   pub thing_more : (σ σ' : List ValueType) → Extends σ σ' → (o : Thing) (s : ValueType) → ThingHas classes σ o s → ThingHas classes σ' o s
-  thing_more σ σ' e (Object vs) (type.Class c) h = (h.0, many_more σ σ' e vs (fields_of classes c) h.1)
-  thing_more σ σ' e FreeLock type.Lock h = tt
-  thing_more σ σ' e (HeldLock t m) type.Lock h = h
+  thing_more σ σ' e (Object monitor vs) (type.Class c) h = (h.0, many_more σ σ' e vs (fields_of classes c) h.1, h.2)
+  thing_more σ σ' e (LockOf hold) type.Lock h = h
   thing_more σ σ' e (Markable v) (type.Markable c) h = sort_more (Refers σ) (Refers σ') (refers_more σ σ' e) v (PairOf c) h
   thing_more σ σ' e (Array n items) type.BooleanArray h = λ i l. type_more (Refers σ) (Refers σ') (refers_more σ σ' e) (items i) type.Boolean (h i l)
   thing_more σ σ' e _ _ h = absurd h

@@ -31,7 +31,7 @@ use Rattle.ls_code.specs.declared.code.CallResult.TheVariants as result
 use Rattle.ls_code.specs.declared.step.Mode.TheVariants as mode
 use Rattle.ls_headline.specs.InWords.{word_of, map_answer}
 use Rattle.ls_headline.specs.Sorts.{Suits, Suited, InKind}
-use Rattle.ls_headline.specs.Threads.{told, Asks, calls_of, at_least_one}
+use Rattle.ls_headline.specs.Threads.{told, Asks, calls_of, object_cells}
 use Rattle.ls_headline.specs.ByWords.{IsExchanged}
 use Rattle.ls_headline.specs.Example.{file, program, code}
 use Rattle.ls_headline.proofs.Feeding.{asking}
@@ -106,7 +106,7 @@ work_enters n k h =
 
 work_locks : (n k j : ℕ) → k ≢ 0 → quiet code 1 (suc j) (locking n k) ≡ Paused (act.Lock k) (goes_on code 1 (locking n k))
 work_locks n k j h =
-    ap (λ b. carry true true (planned_move code 1 (locking n k) (if b then Says (Quietly (throwing code (locking n k) NullPointer)) else Touches (act.Lock k) (act.ReadPair k) (saw code (locking n k) 1 1 k))) (quiet code 1 j)) (not_null k h)
+    ap (λ b. carry true true (planned_move code 1 (locking n k) (if b then Says (Quietly (throwing code (locking n k) NullPointer)) else Touches (act.Lock k) (act.ReadPair k) (saw code (locking n k) 1 1 (act.Lock k)))) (quiet code 1 j)) (not_null k h)
 
 work_on : (x : Answer Value) (n : ℕ) (rest : Answers) → n ≢ 0 → fed code 1 bound bound (started work_start) (words (x ∷ (Gives (Reference n) ∷ rest))) ≡ resume code 1 bound (words rest) (Paused (act.Enter 0) (λ answer. Some (with_callee method_at (at_work (lowest (n ∷ [])) []))))
 work_on x n rest h = ap (λ q. resume code 1 bound (words rest) q) (work_enters n 1408 h)
@@ -202,8 +202,8 @@ threads_all zero = refl
 threads_all (suc zero) = refl
 threads_all (suc (suc t)) = tt
 
-sizes_all : (c : ℕ) (class : Class) → slice_get file.classes c ≡ Some class → slice_get code.sizes c ≡ Some (at_least_one (length class.fields))
-sizes_all zero class e = let e' : record { fields = []; constructor = 1 } ≡ class = cc in ap (λ z. Some (at_least_one (length z.fields))) e'
+sizes_all : (c : ℕ) (class : Class) → slice_get file.classes c ≡ Some class → slice_get code.sizes c ≡ Some (object_cells (length class.fields))
+sizes_all zero class e = let e' : record { fields = []; constructor = 1 } ≡ class = cc in ap (λ z. Some (object_cells (length z.fields))) e'
 sizes_all (suc c) class e = cc
 
 pub example_asks : Asks file program code

@@ -101,7 +101,7 @@ frame_plain op.AttemptMark f h = three_plain (top_three f.operands) _ (λ a r m.
 frame_plain op.Halt f h = tt
 frame_plain (op.See x) f h = tt
 frame_plain (op.Take x) f h = tt
-frame_plain op.DropLock f h = tt
+frame_plain (op.DropLock x) f h = tt
 frame_plain (op.Enter x) f h = tt
 frame_plain op.Leave f h = tt
 frame_plain op.LeaveWith f h = tt
@@ -163,7 +163,7 @@ of_none p t (Beyond (wide.Result x)) h = if_none (t.pending && (x == t.ended + 1
 of_none p t (Beyond wide.Trap) h = if_none t.pending _ _ (top_none (top_one t.top.operands) _ (λ w. kind_none (kind_of w) _ (λ k. refl))) tt
 of_none p t (Beyond (wide.See x)) h = tt
 of_none p t (Beyond (wide.Take x)) h = tt
-of_none p t (Beyond wide.DropLock) h = tt
+of_none p t (Beyond (wide.DropLock x)) h = tt
 
 fetched_none : (p : Code) (t : Thread) (o : Option Instruction) → ((i : Instruction) → o ≡ Some i → IsExchanged i) → AsksPlainly (fetched_move p t o)
 fetched_none p t None h = tt

@@ -27,7 +27,7 @@ use Rattle.ls_headline.proofs.Codes.{take_there, back_there, drop_there}
 use Rattle.ls_headline.proofs.Feeding.{more}
 use Rattle.ls_headline.proofs.PartsThere.{and_both, take_move, take_plan, Begins}
 use Rattle.ls_headline.proofs.OwnParts.{sees_is, take_is, drop_is, back_is}
-use Rattle.ls_headline.proofs.Meets.{Meets, BothOver, BothAct, LockBegins, TryBegins, UnlockBegins, Loses, meets, stuck_lost}
+use Rattle.ls_headline.proofs.Meets.{Meets, BothOver, BothAct, LockBegins, TryBegins, UnlockBegins, MonitorBegins, LeaveBegins, Loses, meets, stuck_lost}
 
 same_nat : (a b : ℕ) → (a == b) ≡ true → a ≡ b
 same_nat a b e = grind (arith, nat_tests)
@@ -50,18 +50,18 @@ module _ (p : Code) (n b : ℕ) (whole : All IsExchanged p.instructions) where
   -- a thread at the SEE of its operation, and one that has seen a word
   abbrev LockSees : List (Answer ℕ) → Type 0
   LockSees xs =
-      (y : Thread) (a : ℕ) → y.mode ≡ mode.Running → Begins p n y 1 a (act.Lock a) (is_locking p y.top.counter) →
-      Same xs (Waits (Paused (act.Lock a) (after_lock p n y))) (Paused (act.Lock a) (after_lock p n y)) (Paused (act.Lock a) (told_word (saw p y n 1 a)))
+      (y : Thread) (a : ℕ) → y.mode ≡ mode.Running → Begins p n y 1 a (act.Lock a) (is_locking p 1 y.top.counter) →
+      Same xs (Waits (Paused (act.Lock a) (after_lock p n y))) (Paused (act.Lock a) (after_lock p n y)) (Paused (act.Lock a) (told_word (saw p y n 1 (act.Lock a))))
 
   abbrev LockTakes : List (Answer ℕ) → Type 0
   LockTakes xs =
-      (y : Thread) (a w : ℕ) → y.mode ≡ mode.Running → Begins p n y 1 a (act.Lock a) (is_locking p y.top.counter) →
+      (y : Thread) (a w : ℕ) → y.mode ≡ mode.Running → Begins p n y 1 a (act.Lock a) (is_locking p 1 y.top.counter) →
       Same xs (Exchanges (act.Lock a) (after_lock p n y)) (Paused (act.Lock a) (after_lock p n y)) (Paused (act.Lock a) (told_word (took (seen y w) 1 (act.Lock a))))
 
   abbrev TrySees : List (Answer ℕ) → Type 0
   TrySees xs =
       (y : Thread) (a : ℕ) → y.mode ≡ mode.Running → Begins p n y 2 a (act.TryLock a) (is_trying p y.top.counter) →
-      Same xs (Waits (Paused (act.TryLock a) (after_try p n y))) (Paused (act.TryLock a) (after_try p n y)) (Paused (act.TryLock a) (told_word (saw p y n 2 a)))
+      Same xs (Waits (Paused (act.TryLock a) (after_try p n y))) (Paused (act.TryLock a) (after_try p n y)) (Paused (act.TryLock a) (told_word (saw p y n 2 (act.TryLock a))))
 
   abbrev TryTakes : List (Answer ℕ) → Type 0
   TryTakes xs =
@@ -70,8 +70,23 @@ module _ (p : Code) (n b : ℕ) (whole : All IsExchanged p.instructions) where
 
   abbrev UnlockSees : List (Answer ℕ) → Type 0
   UnlockSees xs =
-      (y : Thread) (a : ℕ) → y.mode ≡ mode.Running → Begins p n y 3 a (act.Unlock a) (is_unlocking p y.top.counter) →
-      Same xs (Waits (Paused (act.Unlock a) (after_unlock p y))) (Paused (act.Unlock a) (after_unlock p y)) (Paused (act.Unlock a) (told_word (saw p y n 3 a)))
+      (y : Thread) (a : ℕ) → y.mode ≡ mode.Running → Begins p n y 3 a (act.Unlock a) (is_unlocking p 0 y.top.counter) →
+      Same xs (Waits (Paused (act.Unlock a) (after_unlock p y))) (Paused (act.Unlock a) (after_unlock p y)) (Paused (act.Unlock a) (told_word (saw p y n 3 (act.Unlock a))))
+
+  abbrev MonitorSees : List (Answer ℕ) → Type 0
+  MonitorSees xs =
+      (y : Thread) (a : ℕ) → y.mode ≡ mode.Running → Begins p n y 4 a (act.LockMonitor a) (is_locking p 4 y.top.counter) →
+      Same xs (Waits (Paused (act.LockMonitor a) (after_lock p n y))) (Paused (act.LockMonitor a) (after_lock p n y)) (Paused (act.LockMonitor a) (told_word (saw p y n 4 (act.LockMonitor a))))
+
+  abbrev MonitorTakes : List (Answer ℕ) → Type 0
+  MonitorTakes xs =
+      (y : Thread) (a w : ℕ) → y.mode ≡ mode.Running → Begins p n y 4 a (act.LockMonitor a) (is_locking p 4 y.top.counter) →
+      Same xs (Exchanges (act.LockMonitor a) (after_lock p n y)) (Paused (act.LockMonitor a) (after_lock p n y)) (Paused (act.LockMonitor a) (told_word (took (seen y w) 4 (act.LockMonitor a))))
+
+  abbrev LeaveSees : List (Answer ℕ) → Type 0
+  LeaveSees xs =
+      (y : Thread) (a : ℕ) → y.mode ≡ mode.Running → Begins p n y 5 a (act.UnlockMonitor a) (is_unlocking p 1 y.top.counter) →
+      Same xs (Waits (Paused (act.UnlockMonitor a) (after_unlock p y))) (Paused (act.UnlockMonitor a) (after_unlock p y)) (Paused (act.UnlockMonitor a) (told_word (saw p y n 5 (act.UnlockMonitor a))))
 
   abbrev Acts : List (Answer ℕ) → Type 0
   Acts xs = (a : Action ℕ) (go : Answer ℕ → Option Thread) → is_on_lock a ≡ false → Same xs (Waits (Paused a go)) (Paused a go) (Paused a go)
@@ -86,6 +101,9 @@ module _ (p : Code) (n b : ℕ) (whole : All IsExchanged p.instructions) where
     try_sees : TrySees xs
     try_takes : TryTakes xs
     unlock_sees : UnlockSees xs
+    monitor_sees : MonitorSees xs
+    monitor_takes : MonitorTakes xs
+    leave_sees : LeaveSees xs
 
   -- where the words are used up
   none_left : (stage : Stage) (a : Action ℕ) (go f : Answer ℕ → Option Thread) → Same [] stage (Paused a go) (Paused a f)
@@ -102,17 +120,21 @@ module _ (p : Code) (n b : ℕ) (whole : All IsExchanged p.instructions) where
   moved : (xs : List (Answer ℕ)) (r r' o o' : Pause) → r ≡ r' → o ≡ o' → Same xs (Waits r') r' o' → Same xs (Waits r) r o
   moved xs r r' o o' er eo h = subst (λ z. Same xs (Waits z) z o) (sym er) (subst (Same xs (Waits r') r') (sym eo) h)
 
-  waits_by : (xs : List (Answer ℕ)) → Acts xs → LockSees xs → TrySees xs → UnlockSees xs → AllWait xs
-  waits_by xs acts lock try unlock r o (BothOver m er eo) answers e ne =
+  waits_by : (xs : List (Answer ℕ)) → Acts xs → LockSees xs → TrySees xs → UnlockSees xs → MonitorSees xs → LeaveSees xs → AllWait xs
+  waits_by xs acts lock try unlock monitor leave r o (BothOver m er eo) answers e ne =
       ap (own.resume p n bound xs) eo ∙ own_over_is xs m ∙ sym (ap (resume p n bound answers) er ∙ over_is answers m)
-  waits_by xs acts lock try unlock r o (BothAct a go plain er eo) answers e ne = moved xs r _ o _ er eo (acts a go plain) answers e ne
-  waits_by xs acts lock try unlock r o (LockBegins y a j run g er eo) answers e ne =
-      moved xs r _ o _ er (eo ∙ sees_is p n y a run 1 (act.Lock a) (is_locking p y.top.counter) g j) (lock y a run g) answers e ne
-  waits_by xs acts lock try unlock r o (TryBegins y a j run g er eo) answers e ne =
+  waits_by xs acts lock try unlock monitor leave r o (BothAct a go plain er eo) answers e ne = moved xs r _ o _ er eo (acts a go plain) answers e ne
+  waits_by xs acts lock try unlock monitor leave r o (LockBegins y a j run g er eo) answers e ne =
+      moved xs r _ o _ er (eo ∙ sees_is p n y a run 1 (act.Lock a) (is_locking p 1 y.top.counter) g j) (lock y a run g) answers e ne
+  waits_by xs acts lock try unlock monitor leave r o (TryBegins y a j run g er eo) answers e ne =
       moved xs r _ o _ er (eo ∙ sees_is p n y a run 2 (act.TryLock a) (is_trying p y.top.counter) g j) (try y a run g) answers e ne
-  waits_by xs acts lock try unlock r o (UnlockBegins y a j run g er eo) answers e ne =
-      moved xs r _ o _ er (eo ∙ sees_is p n y a run 3 (act.Unlock a) (is_unlocking p y.top.counter) g j) (unlock y a run g) answers e ne
-  waits_by xs acts lock try unlock r o (Loses f) answers e ne = absurd (ne (f answers))
+  waits_by xs acts lock try unlock monitor leave r o (UnlockBegins y a j run g er eo) answers e ne =
+      moved xs r _ o _ er (eo ∙ sees_is p n y a run 3 (act.Unlock a) (is_unlocking p 0 y.top.counter) g j) (unlock y a run g) answers e ne
+  waits_by xs acts lock try unlock monitor leave r o (MonitorBegins y a j run g er eo) answers e ne =
+      moved xs r _ o _ er (eo ∙ sees_is p n y a run 4 (act.LockMonitor a) (is_locking p 4 y.top.counter) g j) (monitor y a run g) answers e ne
+  waits_by xs acts lock try unlock monitor leave r o (LeaveBegins y a j run g er eo) answers e ne =
+      moved xs r _ o _ er (eo ∙ sees_is p n y a run 5 (act.UnlockMonitor a) (is_unlocking p 1 y.top.counter) g j) (leave y a run g) answers e ne
+  waits_by xs acts lock try unlock monitor leave r o (Loses f) answers e ne = absurd (ne (f answers))
 
   -- after an action
   passed_act : (o : Pause) (a : Action ℕ) (f : Answer ℕ → Option Thread) → o ≡ Paused a f → own.passed p n bound o ≡ o
@@ -126,14 +148,20 @@ module _ (p : Code) (n b : ℕ) (whole : All IsExchanged p.instructions) where
     passing r o (BothOver m er eo) answers e ne = ap (own.resume p n bound xs) (passed_over o m eo) ∙ known.waits r o (BothOver m er eo) answers e ne
     passing r o (BothAct a go plain er eo) answers e ne = ap (own.resume p n bound xs) (passed_act o a go eo) ∙ known.waits r o (BothAct a go plain er eo) answers e ne
     passing r o (LockBegins y a j run g er eo) answers e ne =
-        ap (own.resume p n bound xs) (passed_act o (act.Lock a) (told_word (saw p y n 1 a)) (eo ∙ sees_is p n y a run 1 (act.Lock a) (is_locking p y.top.counter) g j))
+        ap (own.resume p n bound xs) (passed_act o (act.Lock a) (told_word (saw p y n 1 (act.Lock a))) (eo ∙ sees_is p n y a run 1 (act.Lock a) (is_locking p 1 y.top.counter) g j))
         ∙ known.waits r o (LockBegins y a j run g er eo) answers e ne
     passing r o (TryBegins y a j run g er eo) answers e ne =
-        ap (own.resume p n bound xs) (passed_act o (act.TryLock a) (told_word (saw p y n 2 a)) (eo ∙ sees_is p n y a run 2 (act.TryLock a) (is_trying p y.top.counter) g j))
+        ap (own.resume p n bound xs) (passed_act o (act.TryLock a) (told_word (saw p y n 2 (act.TryLock a))) (eo ∙ sees_is p n y a run 2 (act.TryLock a) (is_trying p y.top.counter) g j))
         ∙ known.waits r o (TryBegins y a j run g er eo) answers e ne
     passing r o (UnlockBegins y a j run g er eo) answers e ne =
-        ap (own.resume p n bound xs) (passed_act o (act.Unlock a) (told_word (saw p y n 3 a)) (eo ∙ sees_is p n y a run 3 (act.Unlock a) (is_unlocking p y.top.counter) g j))
+        ap (own.resume p n bound xs) (passed_act o (act.Unlock a) (told_word (saw p y n 3 (act.Unlock a))) (eo ∙ sees_is p n y a run 3 (act.Unlock a) (is_unlocking p 0 y.top.counter) g j))
         ∙ known.waits r o (UnlockBegins y a j run g er eo) answers e ne
+    passing r o (MonitorBegins y a j run g er eo) answers e ne =
+        ap (own.resume p n bound xs) (passed_act o (act.LockMonitor a) (told_word (saw p y n 4 (act.LockMonitor a))) (eo ∙ sees_is p n y a run 4 (act.LockMonitor a) (is_locking p 4 y.top.counter) g j))
+        ∙ known.waits r o (MonitorBegins y a j run g er eo) answers e ne
+    passing r o (LeaveBegins y a j run g er eo) answers e ne =
+        ap (own.resume p n bound xs) (passed_act o (act.UnlockMonitor a) (told_word (saw p y n 5 (act.UnlockMonitor a))) (eo ∙ sees_is p n y a run 5 (act.UnlockMonitor a) (is_unlocking p 1 y.top.counter) g j))
+        ∙ known.waits r o (LeaveBegins y a j run g er eo) answers e ne
     passing r o (Loses f) answers e ne = absurd (ne (f answers))
 
     goes : (s : Option Thread) → Same xs (Waits (quiet_from p n bound s)) (quiet_from p n bound s) (own.quiet_from p n bound s)
@@ -169,23 +197,23 @@ module _ (p : Code) (n b : ℕ) (whole : All IsExchanged p.instructions) where
 
     module _ (y : Thread) (a : ℕ) (run : y.mode ≡ mode.Running) where
       -- `lock()`
-      module _ (g : Begins p n y 1 a (act.Lock a) (is_locking p y.top.counter)) where
+      module _ (g : Begins p n y 1 a (act.Lock a) (is_locking p 1 y.top.counter)) where
         lock_shape : (is_take 1 (slice_get p.instructions (y.top.counter + 1)) ≡ true) × (is_back_to y.top.counter (slice_get p.instructions (y.top.counter + 1 + 1)) ≡ true)
         lock_shape = and_both (is_take 1 (slice_get p.instructions (y.top.counter + 1))) (is_back_to y.top.counter (slice_get p.instructions (y.top.counter + 1 + 1))) g.shaped
 
-        again : (k : ℕ) → own.quiet p n (suc k) (exchanged y 0) ≡ Paused (act.Lock a) (told_word (saw p y n 1 a))
-        again k = back_is p n y a run (back_there y.top.counter _ lock_shape.1) k ∙ sees_is p n y a run 1 (act.Lock a) (is_locking p y.top.counter) g k
+        again : (k : ℕ) → own.quiet p n (suc k) (exchanged y 0) ≡ Paused (act.Lock a) (told_word (saw p y n 1 (act.Lock a)))
+        again k = back_is p n y a run (back_there y.top.counter _ lock_shape.1) k ∙ sees_is p n y a run 1 (act.Lock a) (is_locking p 1 y.top.counter) g k
 
         lock_word : (w : ℕ) (t : Taken) → taken_of w n ≡ t → (answers : List (Answer ℕ)) → seen_by_lock p n bound (act.Lock a) (after_lock p n y) w t (come_to p n bound xs) ≡ Some answers →
             resume p n bound answers (Paused (act.Lock a) (after_lock p n y)) ≢ Lost → own.resume p n bound xs (own.passed p n bound (own.quiet p n bound (seen y w))) ≡ resume p n bound answers (Paused (act.Lock a) (after_lock p n y))
         lock_word w (taken.Taken next) et answers e ne =
-            ap (λ o. own.resume p n bound xs (own.passed p n bound o)) (take_is p n y a run 1 (act.Lock a) (is_locking p y.top.counter) g (take_there 1 _ lock_shape.0) refl w (taken.Taken next) et bound)
+            ap (λ o. own.resume p n bound xs (own.passed p n bound o)) (take_is p n y a run 1 (act.Lock a) (is_locking p 1 y.top.counter) g (take_there 1 _ lock_shape.0) refl w (taken.Taken next) et bound)
             ∙ known.lock_takes y a w run g answers e ne
         lock_word w taken.Other et answers e ne =
-            ap (λ o. own.resume p n bound xs (own.passed p n bound o)) (take_is p n y a run 1 (act.Lock a) (is_locking p y.top.counter) g (take_there 1 _ lock_shape.0) refl w taken.Other et bound ∙ again b)
+            ap (λ o. own.resume p n bound xs (own.passed p n bound o)) (take_is p n y a run 1 (act.Lock a) (is_locking p 1 y.top.counter) g (take_there 1 _ lock_shape.0) refl w taken.Other et bound ∙ again b)
             ∙ known.lock_sees y a run g answers e ne
         lock_word w taken.TooMany et answers e ne =
-            ap (λ o. own.resume p n bound xs (own.passed p n bound o)) (take_is p n y a run 1 (act.Lock a) (is_locking p y.top.counter) g (take_there 1 _ lock_shape.0) refl w taken.TooMany et bound)
+            ap (λ o. own.resume p n bound xs (own.passed p n bound o)) (take_is p n y a run 1 (act.Lock a) (is_locking p 1 y.top.counter) g (take_there 1 _ lock_shape.0) refl w taken.TooMany et bound)
             ∙ full (act.Lock a) (after_lock p n y) y w (goes (throwing p (seen y (full_word n)) Error)) (w == full_word n) refl answers e ne
 
         lock_won : (w : ℕ) (c : Bool) (answers : List (Answer ℕ)) → (if c then ends_with p n bound (after_lock p n y) Done (come_to p n bound xs) else come_to p n bound xs (Waits (Paused (act.Lock a) (after_lock p n y)))) ≡ Some answers →
@@ -230,14 +258,50 @@ module _ (p : Code) (n b : ℕ) (whole : All IsExchanged p.instructions) where
         try_won w false answers e ne = close (act.TryLock a) (after_try p n y) (Gives 0) _ (after_false bound (omega arith)) answers e ne
 
       -- `unlock()`
-      unlock_word : Begins p n y 3 a (act.Unlock a) (is_unlocking p y.top.counter) → (w : ℕ) (c : Bool) → is_own w n ≡ c → (answers : List (Answer ℕ)) →
+      unlock_word : Begins p n y 3 a (act.Unlock a) (is_unlocking p 0 y.top.counter) → (w : ℕ) (c : Bool) → is_own w n ≡ c → (answers : List (Answer ℕ)) →
           (if c then ends_with p n bound (after_unlock p y) Done (come_to p n bound xs) else ends_with p n bound (after_unlock p y) (Fails IllegalMonitorState) (come_to p n bound xs)) ≡ Some answers →
           resume p n bound answers (Paused (act.Unlock a) (after_unlock p y)) ≢ Lost →
           own.resume p n bound xs (own.passed p n bound (own.quiet_from p n bound (seen_thread (if c then Quietly (with_word y w) else Reports (act.Unlock a) (Fails IllegalMonitorState) (throwing p y IllegalMonitorState))))) ≡ resume p n bound answers (Paused (act.Unlock a) (after_unlock p y))
       unlock_word g w true ec answers e ne =
-          ap (λ o. own.resume p n bound xs (own.passed p n bound o)) (drop_is p n y a run 3 (act.Unlock a) (is_unlocking p y.top.counter) g (drop_there _ g.shaped) w _ (own_left w n ec) bound)
+          ap (λ o. own.resume p n bound xs (own.passed p n bound o)) (drop_is p n y a run 3 0 (act.Unlock a) (is_unlocking p 0 y.top.counter) g (drop_there 0 _ g.shaped) refl w _ (own_left w n ec) bound)
           ∙ close (act.Unlock a) (after_unlock p y) Done _ (goes (Some (with_top (seen y 0) (discarded (seen y 0).top 2)))) answers e ne
       unlock_word g w false ec answers e ne = close (act.Unlock a) (after_unlock p y) (Fails IllegalMonitorState) _ (goes_past (throwing p y IllegalMonitorState)) answers e ne
+
+      -- the lock of a monitor
+      module _ (g : Begins p n y 4 a (act.LockMonitor a) (is_locking p 4 y.top.counter)) where
+        monitor_shape : (is_take 4 (slice_get p.instructions (y.top.counter + 1)) ≡ true) × (is_back_to y.top.counter (slice_get p.instructions (y.top.counter + 1 + 1)) ≡ true)
+        monitor_shape = and_both (is_take 4 (slice_get p.instructions (y.top.counter + 1))) (is_back_to y.top.counter (slice_get p.instructions (y.top.counter + 1 + 1))) g.shaped
+
+        monitor_again : (k : ℕ) → own.quiet p n (suc k) (exchanged y 0) ≡ Paused (act.LockMonitor a) (told_word (saw p y n 4 (act.LockMonitor a)))
+        monitor_again k = back_is p n y a run (back_there y.top.counter _ monitor_shape.1) k ∙ sees_is p n y a run 4 (act.LockMonitor a) (is_locking p 4 y.top.counter) g k
+
+        monitor_word : (w : ℕ) (t : Taken) → taken_of w n ≡ t → (answers : List (Answer ℕ)) → seen_by_lock p n bound (act.LockMonitor a) (after_lock p n y) w t (come_to p n bound xs) ≡ Some answers →
+            resume p n bound answers (Paused (act.LockMonitor a) (after_lock p n y)) ≢ Lost → own.resume p n bound xs (own.passed p n bound (own.quiet p n bound (seen y w))) ≡ resume p n bound answers (Paused (act.LockMonitor a) (after_lock p n y))
+        monitor_word w (taken.Taken next) et answers e ne =
+            ap (λ o. own.resume p n bound xs (own.passed p n bound o)) (take_is p n y a run 4 (act.LockMonitor a) (is_locking p 4 y.top.counter) g (take_there 4 _ monitor_shape.0) refl w (taken.Taken next) et bound)
+            ∙ known.monitor_takes y a w run g answers e ne
+        monitor_word w taken.Other et answers e ne =
+            ap (λ o. own.resume p n bound xs (own.passed p n bound o)) (take_is p n y a run 4 (act.LockMonitor a) (is_locking p 4 y.top.counter) g (take_there 4 _ monitor_shape.0) refl w taken.Other et bound ∙ monitor_again b)
+            ∙ known.monitor_sees y a run g answers e ne
+        monitor_word w taken.TooMany et answers e ne =
+            ap (λ o. own.resume p n bound xs (own.passed p n bound o)) (take_is p n y a run 4 (act.LockMonitor a) (is_locking p 4 y.top.counter) g (take_there 4 _ monitor_shape.0) refl w taken.TooMany et bound)
+            ∙ full (act.LockMonitor a) (after_lock p n y) y w (goes (throwing p (seen y (full_word n)) Error)) (w == full_word n) refl answers e ne
+
+        monitor_won : (w : ℕ) (c : Bool) (answers : List (Answer ℕ)) → (if c then ends_with p n bound (after_lock p n y) Done (come_to p n bound xs) else come_to p n bound xs (Waits (Paused (act.LockMonitor a) (after_lock p n y)))) ≡ Some answers →
+            resume p n bound answers (Paused (act.LockMonitor a) (after_lock p n y)) ≢ Lost →
+            own.resume p n bound xs (own.passed p n bound (own.quiet_from p n bound (seen_thread (if c then Reports (act.LockMonitor a) (taking_answer 4) (replaced (seen y w) 1) else Quietly (replaced (seen y w) 0))))) ≡ resume p n bound answers (Paused (act.LockMonitor a) (after_lock p n y))
+        monitor_won w true answers e ne = close (act.LockMonitor a) (after_lock p n y) Done _ (goes_past (Some (exchanged y 1))) answers e ne
+        monitor_won w false answers e ne = ap (λ o. own.resume p n bound xs (own.passed p n bound o)) (monitor_again (suc b)) ∙ known.monitor_sees y a run g answers e ne
+
+      -- the unlock of a monitor
+      leave_word : Begins p n y 5 a (act.UnlockMonitor a) (is_unlocking p 1 y.top.counter) → (w : ℕ) (c : Bool) → is_own w n ≡ c → (answers : List (Answer ℕ)) →
+          (if c then ends_with p n bound (after_unlock p y) Done (come_to p n bound xs) else ends_with p n bound (after_unlock p y) (Fails IllegalMonitorState) (come_to p n bound xs)) ≡ Some answers →
+          resume p n bound answers (Paused (act.UnlockMonitor a) (after_unlock p y)) ≢ Lost →
+          own.resume p n bound xs (own.passed p n bound (own.quiet_from p n bound (seen_thread (if c then Quietly (with_word y w) else Reports (act.UnlockMonitor a) (Fails IllegalMonitorState) (throwing p y IllegalMonitorState))))) ≡ resume p n bound answers (Paused (act.UnlockMonitor a) (after_unlock p y))
+      leave_word g w true ec answers e ne =
+          ap (λ o. own.resume p n bound xs (own.passed p n bound o)) (drop_is p n y a run 5 1 (act.UnlockMonitor a) (is_unlocking p 1 y.top.counter) g (drop_there 1 _ g.shaped) refl w _ (own_left w n ec) bound)
+          ∙ close (act.UnlockMonitor a) (after_unlock p y) Done _ (goes (Some (with_top (seen y 0) (discarded (seen y 0).top 2)))) answers e ne
+      leave_word g w false ec answers e ne = close (act.UnlockMonitor a) (after_unlock p y) (Fails IllegalMonitorState) _ (goes_past (throwing p y IllegalMonitorState)) answers e ne
 
     lock_sees : (x : Answer ℕ) → LockSees (x ∷ xs)
     lock_sees Done y a run g answers e ne = cc
@@ -264,28 +328,51 @@ module _ (p : Code) (n b : ℕ) (whole : All IsExchanged p.instructions) where
     unlock_sees (Fails k) y a run g answers e ne = cc
     unlock_sees (Gives w) y a run g answers e ne = unlock_word y a run g w (is_own w n) refl answers e ne
 
+    monitor_sees : (x : Answer ℕ) → MonitorSees (x ∷ xs)
+    monitor_sees Done y a run g answers e ne = cc
+    monitor_sees (Fails k) y a run g answers e ne = cc
+    monitor_sees (Gives w) y a run g answers e ne = monitor_word y a run g w (taken_of w n) refl answers e ne
+
+    monitor_takes : (x : Answer ℕ) → MonitorTakes (x ∷ xs)
+    monitor_takes Done y a w run g answers e ne = cc
+    monitor_takes (Fails k) y a w run g answers e ne = cc
+    monitor_takes (Gives v) y a w run g answers e ne = monitor_won y a run g w (v == 1) answers e ne
+
+    leave_sees : (x : Answer ℕ) → LeaveSees (x ∷ xs)
+    leave_sees Done y a run g answers e ne = cc
+    leave_sees (Fails k) y a run g answers e ne = cc
+    leave_sees (Gives w) y a run g answers e ne = leave_word y a run g w (is_own w n) refl answers e ne
+
     one_more : (x : Answer ℕ) → Known (x ∷ xs)
     one_more x = record {
-      waits = waits_by (x ∷ xs) (acts x) (lock_sees x) (try_sees x) (unlock_sees x);
+      waits = waits_by (x ∷ xs) (acts x) (lock_sees x) (try_sees x) (unlock_sees x) (monitor_sees x) (leave_sees x);
       lock_sees = lock_sees x;
       lock_takes = lock_takes x;
       try_sees = try_sees x;
       try_takes = try_takes x;
       unlock_sees = unlock_sees x;
+      monitor_sees = monitor_sees x;
+      monitor_takes = monitor_takes x;
+      leave_sees = leave_sees x;
     }
 
   nothing : Known []
   nothing =
-      let lock : LockSees [] = λ y a run g. none_left (Waits (Paused (act.Lock a) (after_lock p n y))) (act.Lock a) (after_lock p n y) (told_word (saw p y n 1 a)) in
-      let try : TrySees [] = λ y a run g. none_left (Waits (Paused (act.TryLock a) (after_try p n y))) (act.TryLock a) (after_try p n y) (told_word (saw p y n 2 a)) in
-      let unlock : UnlockSees [] = λ y a run g. none_left (Waits (Paused (act.Unlock a) (after_unlock p y))) (act.Unlock a) (after_unlock p y) (told_word (saw p y n 3 a)) in
+      let lock : LockSees [] = λ y a run g. none_left (Waits (Paused (act.Lock a) (after_lock p n y))) (act.Lock a) (after_lock p n y) (told_word (saw p y n 1 (act.Lock a))) in
+      let try : TrySees [] = λ y a run g. none_left (Waits (Paused (act.TryLock a) (after_try p n y))) (act.TryLock a) (after_try p n y) (told_word (saw p y n 2 (act.TryLock a))) in
+      let unlock : UnlockSees [] = λ y a run g. none_left (Waits (Paused (act.Unlock a) (after_unlock p y))) (act.Unlock a) (after_unlock p y) (told_word (saw p y n 3 (act.Unlock a))) in
+      let monitor : MonitorSees [] = λ y a run g. none_left (Waits (Paused (act.LockMonitor a) (after_lock p n y))) (act.LockMonitor a) (after_lock p n y) (told_word (saw p y n 4 (act.LockMonitor a))) in
+      let leave : LeaveSees [] = λ y a run g. none_left (Waits (Paused (act.UnlockMonitor a) (after_unlock p y))) (act.UnlockMonitor a) (after_unlock p y) (told_word (saw p y n 5 (act.UnlockMonitor a))) in
       record {
-        waits = waits_by [] (λ a go plain. none_left (Waits (Paused a go)) a go go) lock try unlock;
+        waits = waits_by [] (λ a go plain. none_left (Waits (Paused a go)) a go go) lock try unlock monitor leave;
         lock_sees = lock;
         lock_takes = λ y a w run g. none_left (Exchanges (act.Lock a) (after_lock p n y)) (act.Lock a) (after_lock p n y) (told_word (took (seen y w) 1 (act.Lock a)));
         try_sees = try;
         try_takes = λ y a w run g. none_left (Exchanges (act.TryLock a) (after_try p n y)) (act.TryLock a) (after_try p n y) (told_word (took (seen y w) 2 (act.TryLock a)));
         unlock_sees = unlock;
+        monitor_sees = monitor;
+        monitor_takes = λ y a w run g. none_left (Exchanges (act.LockMonitor a) (after_lock p n y)) (act.LockMonitor a) (after_lock p n y) (told_word (took (seen y w) 4 (act.LockMonitor a)));
+        leave_sees = leave;
       }
 
   known : (xs : List (Answer ℕ)) → Known xs

@@ -99,9 +99,11 @@ module _ (p : Code) (number : ℕ) where
   if_tells x d false a go = tt
 
   operation_tells : (x : Thread) (d : Move) (a : Action ℕ) → Tells x d (operation p number x a)
-  operation_tells x d (act.Lock o) = if_tells x d (is_locking p x.top.counter) _ _
+  operation_tells x d (act.Lock o) = if_tells x d (is_locking p 1 x.top.counter) _ _
   operation_tells x d (act.TryLock o) = if_tells x d (is_trying p x.top.counter) _ _
-  operation_tells x d (act.Unlock o) = if_tells x d (is_unlocking p x.top.counter) _ _
+  operation_tells x d (act.Unlock o) = if_tells x d (is_unlocking p 0 x.top.counter) _ _
+  operation_tells x d (act.LockMonitor o) = if_tells x d (is_locking p 4 x.top.counter) _ _
+  operation_tells x d (act.UnlockMonitor o) = if_tells x d (is_unlocking p 1 x.top.counter) _ _
   operation_tells x d (act.ReadField o i) = tt
   operation_tells x d (act.WriteField o i v) = tt
   operation_tells x d (act.ReadItem o i) = tt
@@ -143,6 +145,8 @@ module _ (p : Code) (number : ℕ) where
   plan_tells x d (Touches a (act.NewMarkable v) go) f = tt
   plan_tells x d (Touches a (act.NewArray o) go) f = tt
   plan_tells x d (Touches a (act.IsHeld o) go) f = tt
+  plan_tells x d (Touches a (act.LockMonitor o) go) f = tt
+  plan_tells x d (Touches a (act.UnlockMonitor o) go) f = tt
   plan_tells x d (Touches a (act.SetPair o v) go) f = tt
   plan_tells x d (Touches a (act.SwapPair o v w) go) f = tt
   plan_tells x d (Touches a (act.AttemptMark o r m) go) f = tt
@@ -181,9 +185,11 @@ module _ (p : Code) (number : ℕ) where
   none_if false a go = tt
 
   none_operation : (x : Thread) (a : Action ℕ) → NoPlan (operation p number x a)
-  none_operation x (act.Lock o) = none_if (is_locking p x.top.counter) _ _
+  none_operation x (act.Lock o) = none_if (is_locking p 1 x.top.counter) _ _
   none_operation x (act.TryLock o) = none_if (is_trying p x.top.counter) _ _
-  none_operation x (act.Unlock o) = none_if (is_unlocking p x.top.counter) _ _
+  none_operation x (act.Unlock o) = none_if (is_unlocking p 0 x.top.counter) _ _
+  none_operation x (act.LockMonitor o) = none_if (is_locking p 4 x.top.counter) _ _
+  none_operation x (act.UnlockMonitor o) = none_if (is_unlocking p 1 x.top.counter) _ _
   none_operation x (act.ReadField o i) = tt
   none_operation x (act.WriteField o i v) = tt
   none_operation x (act.ReadItem o i) = tt
@@ -225,6 +231,8 @@ module _ (p : Code) (number : ℕ) where
   none_plan x (Touches a (act.NewMarkable v) go) = tt
   none_plan x (Touches a (act.NewArray o) go) = tt
   none_plan x (Touches a (act.IsHeld o) go) = tt
+  none_plan x (Touches a (act.LockMonitor o) go) = tt
+  none_plan x (Touches a (act.UnlockMonitor o) go) = tt
   none_plan x (Touches a (act.SetPair o v) go) = tt
   none_plan x (Touches a (act.SwapPair o v w) go) = tt
   none_plan x (Touches a (act.AttemptMark o r m) go) = tt

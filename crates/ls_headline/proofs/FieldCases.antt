@@ -13,17 +13,16 @@ use Rattle.ls_checked.specs.CheckedTree.{Class}
 use Rattle.ls_meaning.specs.declared.sort.Sort.{Sort}
 use Rattle.ls_meaning.specs.declared.sort.Sort.TheVariants.{NoValue, ValueOf}
 use Rattle.ls_meaning.specs.Values.{nothing}
-use Rattle.ls_meaning.specs.Store.{Thing, Object, FreeLock, HeldLock, Markable, Array, Store, thing_at, with_thing, with_name}
+use Rattle.ls_meaning.specs.Store.{Thing, Object, LockOf, Markable, Array, Store, thing_at, with_thing, with_name}
 use Rattle.ls_meaning.specs.Effect.{Effect, Does, Leaves, change, on_thing, at_thing, put_back, in_range, effect}
 use Rattle.ls_meaning.specs.Threads.{Goes}
 use Rattle.ls_code.specs.Cells.{Cells, place_at, word_at, cell_at, with_words, on_cell, written_at, on_name, on_item}
 use Rattle.ls_code.specs.Cells as machine
 use Rattle.ls_headline.specs.InWords.{written, map_answer}
 use Rattle.ls_headline.specs.Sorts.{Refers, HasType, fields_of, Suits}
-use Rattle.ls_headline.specs.Threads.{at_least_one}
 use Rattle.ls_headline.specs.Same.{size_of, total}
 use Rattle.ls_headline.proofs.Lists.{set_here, get_left, set_left, get_within, get_map, set_map, index_there, length-set}
-use Rattle.ls_headline.proofs.Cells.{offset, sizes_of, address, padded, cells_of, laid, all_cells, length_all, sizes-set, cells_get, cells_set, cells_within}
+use Rattle.ls_headline.proofs.Cells.{offset, sizes_of, address, hold_word, cells_of, laid, all_cells, length_all, sizes-set, cells_get, cells_set, cells_within}
 use Rattle.ls_headline.proofs.Effects.{HaveTypes, ThingHas, ThingsHave, Extends, many_length, things_set, value_there, values_set, renaming, Holds, Grows, Agrees}
 use Rattle.ls_headline.proofs.Effects as effects
 
@@ -31,19 +30,6 @@ pub total-set : (os : List Thing) (n : ℕ) (o o' : Thing) → slice_get os n �
 total-set [] n o o' h e = refl
 total-set (x ∷ os) zero o o' h e = let e1 : x ≡ o = cc in ap (λ k. k + total os) (e ∙ ap size_of (sym e1))
 total-set (x ∷ os) (suc n) o o' h e = ap (λ k. size_of x + k) (total-set os n o o' h e)
-
-padded_get : (ws : List ℕ) (i : ℕ) (w : ℕ) → slice_get ws i ≡ Some w → slice_get (padded ws) i ≡ Some w
-padded_get [] i w h = cc
-padded_get (x ∷ ws) i w h = h
-
-padded_set : (ws : List ℕ) (i : ℕ) (v w : ℕ) → slice_get ws i ≡ Some v → padded (slice_set ws i w) ≡ slice_set (padded ws) i w
-padded_set [] i v w h = cc
-padded_set (x ∷ ws) zero v w h = refl
-padded_set (x ∷ ws) (suc i) v w h = refl
-
-at_least : (n i : ℕ) → i < n → i < at_least_one n
-at_least zero i h = absurd (omega arith)
-at_least (suc n) i h = h
 
 pub range_same : (i : ℤ) (n : ℕ) → machine.in_range i n ≡ in_range i n
 range_same (pos k) n = refl
@@ -137,33 +123,33 @@ module _ (classes : List Class) (named : List ValueType) (sizes : List ℕ) (roo
       ap (λ b. if b then machine.Answers (with_cell n i w) v else machine.Unfit) test
 
   -- fields
-  pub read_case : (t n f : ℕ) (s : ValueType) (k : ℕ) → slice_get σ n ≡ Some (type.Class k) → slice_get (fields_of classes k) f ≡ Some s → (o : Thing) → slice_get st.things n ≡ Some o → ThingHas classes σ o (type.Class k) → Agree (ReadField (suc n) f) (ValueOf s) (on_thing st (suc n) t (ReadField (suc n) f)) (machine.effect c t (ReadField (ρ (suc n)) f))
-  read_case t n f s k sort field (Object vs) at has =
+  pub read_case : (t n f : ℕ) (s : ValueType) (k : ℕ) → slice_get σ n ≡ Some (type.Class k) → slice_get (fields_of classes k) f ≡ Some s → (o : Thing) → slice_get st.things n ≡ Some o → ThingHas classes σ o (type.Class k) → Agree (ReadField (suc n) f) (ValueOf s) (on_thing st (suc n) t (ReadField (suc n) f)) (machine.effect c t (ReadField (ρ (suc n)) (f + 1)))
+  read_case t n f s k sort field (Object m vs) at has =
       let there = value_there σ vs (fields_of classes k) f s has.1 field in
-      let is = padded_get (map (written ρ) vs) f _ (get_map (written ρ) vs f there.0 there.1) in
-      let within = at_least (length vs) f (get_within vs f there.0 there.1) in
+      let next : f + 1 ≡ suc f = omega arith in
+      let is : slice_get (cells_of ρ (Object m vs)) (f + 1) ≡ Some (written ρ there.0) = ap (slice_get (cells_of ρ (Object m vs))) next ∙ get_map (written ρ) vs f there.0 there.1 in
+      let within : f + 1 < size_of (Object m vs) = omega (arith, get_within vs f there.0 there.1) in
       agree_at (ReadField (suc n) f) (ValueOf s) _ _ _ _
-      (on_is st n t (ReadField (suc n) f) (Object vs) at ∙ back_is st n (Object vs) _ ∙ ap (λ v. Does (put st n (Object vs)) (Gives v)) (index_there vs f there.0 nothing there.1))
-      (ap (λ z. on_cell z (λ word. machine.Answers c (Gives word))) (cell_is n f _ (Object vs) at within is))
-      (unchanged (ReadField (suc n) f) (ValueOf s) n (Object vs) (Gives there.0) (Gives (written ρ there.0)) at there.2 refl)
-  read_case t n f s k sort field FreeLock at has = absurd has
-  read_case t n f s k sort field (HeldLock u m) at has = absurd has
+      (on_is st n t (ReadField (suc n) f) (Object m vs) at ∙ back_is st n (Object m vs) _ ∙ ap (λ v. Does (put st n (Object m vs)) (Gives v)) (index_there vs f there.0 nothing there.1))
+      (ap (λ z. on_cell z (λ word. machine.Answers c (Gives word))) (cell_is n (f + 1) _ (Object m vs) at within is))
+      (unchanged (ReadField (suc n) f) (ValueOf s) n (Object m vs) (Gives there.0) (Gives (written ρ there.0)) at there.2 refl)
+  read_case t n f s k sort field (LockOf h) at has = absurd has
   read_case t n f s k sort field (Markable v) at has = absurd has
   read_case t n f s k sort field (Array m items) at has = absurd has
 
-  pub write_case : (t n f : ℕ) (v : Value) (q : ValueType) (k : ℕ) → slice_get σ n ≡ Some (type.Class k) → slice_get (fields_of classes k) f ≡ Some q → HasType σ v q → (o : Thing) → slice_get st.things n ≡ Some o → ThingHas classes σ o (type.Class k) → Agree (WriteField (suc n) f v) NoValue (on_thing st (suc n) t (WriteField (suc n) f v)) (machine.effect c t (WriteField (ρ (suc n)) f (written ρ v)))
-  write_case t n f v q k sort field hasv (Object vs) at has =
+  pub write_case : (t n f : ℕ) (v : Value) (q : ValueType) (k : ℕ) → slice_get σ n ≡ Some (type.Class k) → slice_get (fields_of classes k) f ≡ Some q → HasType σ v q → (o : Thing) → slice_get st.things n ≡ Some o → ThingHas classes σ o (type.Class k) → Agree (WriteField (suc n) f v) NoValue (on_thing st (suc n) t (WriteField (suc n) f v)) (machine.effect c t (WriteField (ρ (suc n)) (f + 1) (written ρ v)))
+  write_case t n f v q k sort field hasv (Object m vs) at has =
       let there = value_there σ vs (fields_of classes k) f q has.1 field in
-      let here = get_map (written ρ) vs f there.0 there.1 in
-      let within = at_least (length vs) f (get_within vs f there.0 there.1) in
-      let size : at_least_one (length (slice_set vs f v)) ≡ at_least_one (length vs) = ap at_least_one (length-set vs f v) in
-      let cells : padded (map (written ρ) (slice_set vs f v)) ≡ slice_set (padded (map (written ρ) vs)) f (written ρ v) = ap padded (set_map (written ρ) vs f v) ∙ padded_set (map (written ρ) vs) f _ (written ρ v) here in
+      let next : f + 1 ≡ suc f = omega arith in
+      let within : f + 1 < size_of (Object m vs) = omega (arith, get_within vs f there.0 there.1) in
+      let size : size_of (Object m (slice_set vs f v)) ≡ size_of (Object m vs) = ap (λ l. l + 1) (length-set vs f v) in
+      let cells : cells_of ρ (Object m (slice_set vs f v)) ≡ slice_set (cells_of ρ (Object m vs)) (f + 1) (written ρ v) =
+      ap (λ l. hold_word m ∷ l) (set_map (written ρ) vs f v) ∙ ap (λ i. slice_set (cells_of ρ (Object m vs)) i (written ρ v)) (sym next) in
       agree_at (WriteField (suc n) f v) NoValue _ _ _ _
-      (on_is st n t (WriteField (suc n) f v) (Object vs) at ∙ back_is st n (Object (slice_set vs f v)) Done)
-      (write_is n f (written ρ v) (Object vs) Done at within)
-      (one_cell n f (written ρ v) (Object vs) (Object (slice_set vs f v)) (type.Class k) at sort (has.0, values_set σ vs (fields_of classes k) f v q has.1 field hasv) size within cells (WriteField (suc n) f v) NoValue Done Done refl refl)
-  write_case t n f v q k sort field hasv FreeLock at has = absurd has
-  write_case t n f v q k sort field hasv (HeldLock u m) at has = absurd has
+      (on_is st n t (WriteField (suc n) f v) (Object m vs) at ∙ back_is st n (Object m (slice_set vs f v)) Done)
+      (write_is n (f + 1) (written ρ v) (Object m vs) Done at within)
+      (one_cell n (f + 1) (written ρ v) (Object m vs) (Object m (slice_set vs f v)) (type.Class k) at sort (has.0, values_set σ vs (fields_of classes k) f v q has.1 field hasv, has.2) size within cells (WriteField (suc n) f v) NoValue Done Done refl refl)
+  write_case t n f v q k sort field hasv (LockOf h) at has = absurd has
   write_case t n f v q k sort field hasv (Markable w) at has = absurd has
   write_case t n f v q k sort field hasv (Array m items) at has = absurd has
 

@@ -1,9 +1,9 @@
 -- A machine that follows a state of the source, and an action that both perform.
 use Rattle.std.proofs.Common.{◌≡◌, ℕ, zero, suc, ◌+◌, ◌<◌, ◌≤◌, ◌^◌, ◌≢◌, Bool, true, false, ◌&&◌, ◌||◌, List, [], ◌∷◌, ◌++◌, length, map, Option, Some, None, refl, sym, ap, ◌∙◌, subst, arith, slice_get, slice_set, nat_eq, if◌then◌else◌}
+use Rattle.ls_code.specs.Limits.{most_cells}
 use Rattle.ls_events.specs.declared.event.Event.{Event}
 use Rattle.ls_events.specs.declared.value.Value.{Value}
 use Rattle.ls_events.specs.declared.value.ValueType.{ValueType}
-use Rattle.ls_events.specs.declared.value.ValueType.TheVariants as type
 use Rattle.ls_events.specs.declared.action.Action.{Action}
 use Rattle.ls_events.specs.declared.action.Answer.{Answer}
 use Rattle.ls_checked.specs.CheckedTree.{File}
@@ -23,14 +23,14 @@ use Rattle.ls_code.specs.Cells as cells
 use Rattle.ls_code.specs.Steps.{Asks as MoveAsks}
 use Rattle.ls_code.specs.Fed.{Pause, Paused, Passes, IsOver, IsStuck, TooLong}
 use Rattle.ls_code.specs.Reading.{whole_move, quiet_from, resume}
-use Rattle.ls_headline.proofs.Others.{Sees, lock_on, lock_renamed, renamed_lock, lock_named, LockNamed, sees_kept}
+use Rattle.ls_headline.proofs.Others.{Sees, IsHeldType, lock_on, lock_renamed, renamed_lock, lock_named, LockNamed, sees_kept}
 use Rattle.ls_headline.proofs.Middle.{Middle, same_mode, middle_kept}
 use Rattle.ls_code.specs.Machine.{Machine, Entry, started, is_running, setup_ended, is_due}
 use Rattle.ls_code.specs.Machine as machine
 use Rattle.ls_code.specs.declared.step.Mode.{Mode}
 use Rattle.ls_code.specs.declared.step.Mode.TheVariants as mode
 use Rattle.ls_headline.specs.InWords.{word_of, written, map_action, map_answer, in_words}
-use Rattle.ls_meaning.specs.Renamings.{renamed, renamed_next}
+use Rattle.ls_meaning.specs.Renamings.{renamed, renamed_action, renamed_next}
 use Rattle.ls_headline.specs.Sorts.{Names, Refers, ActionHas, Suits, InKind, Known}
 use Rattle.ls_headline.specs.Threads.{told, Asks}
 use Rattle.ls_headline.proofs.Meaning.{Means}
@@ -44,7 +44,7 @@ use Rattle.ls_headline.proofs.Effects as effects
 use Rattle.ls_headline.proofs.AllCases.{names_of, effects_agree}
 use Rattle.ls_headline.proofs.Answers.{action_words, answers_words, suited_end, suited_more, suited_renamed, answer_agree, answers_agree, action_agree, Says, says}
 
-module _ (file : File) (program : Program) (code : Code) (asks : Asks file program code) (sound : Means file program) (room : ℕ) (small : room ≤ 1048576) where
+module _ (file : File) (program : Program) (code : Code) (asks : Asks file program code) (sound : Means file program) (room : ℕ) (small : room ≤ most_cells) where
   abbrev pub named : List ValueType
   named = names_of program
 
@@ -88,7 +88,7 @@ module _ (file : File) (program : Program) (code : Code) (asks : Asks file progr
   InWords ρ _ _ = ⊥
 
   in_words_at : (ρ : ℕ → ℕ) (t : ℕ) (d : Next) (q : Pause) → resume code t bound [] q ≡ told (renamed_next ρ d) → InWords ρ d q
-  in_words_at ρ t (Goes a s) (Paused b go) h = (let e : b ≡ map_action (λ n. n) word_of (map_action ρ (renamed ρ) a) = cc in e ∙ action_words ρ a)
+  in_words_at ρ t (Goes a s) (Paused b go) h = (let e : b ≡ map_action (λ n. n) word_of (renamed_action ρ a) = cc in e ∙ action_words ρ a)
   in_words_at ρ t (Goes a s) (Passes x) h = cc
   in_words_at ρ t (Goes a s) (IsOver mode.Running) h = cc
   in_words_at ρ t (Goes a s) (IsOver mode.Ended) h = cc
@@ -212,13 +212,13 @@ module _ (file : File) (program : Program) (code : Code) (asks : Asks file progr
       runs mode.Ended e = cc
       runs mode.Trapped e = cc
 
-  -- the lock that a thread's operation is on
+  -- the lock, or the object with the monitor, that a thread's operation is on
   abbrev pub LockThere : List ValueType → Store → Cells → ℕ → Type 0
-  LockThere σ st c lock = (n : ℕ) × Names σ n type.Lock × (renaming names st n ≡ lock)
+  LockThere σ st c lock = (n : ℕ) × (q : ValueType) × IsHeldType q × Names σ n q × (renaming names st n ≡ lock)
 
-  some_lock : (σ : List ValueType) (ρ : ℕ → ℕ) (o : Option ℕ) (lock : ℕ) → LockNamed σ o → renamed_lock ρ o ≡ Some lock → (n : ℕ) × Names σ n type.Lock × (ρ n ≡ lock)
+  some_lock : (σ : List ValueType) (ρ : ℕ → ℕ) (o : Option ℕ) (lock : ℕ) → LockNamed σ o → renamed_lock ρ o ≡ Some lock → (n : ℕ) × (q : ValueType) × IsHeldType q × Names σ n q × (ρ n ≡ lock)
   some_lock σ ρ None lock h e = cc
-  some_lock σ ρ (Some n) lock h e = (n, h, cc)
+  some_lock σ ρ (Some n) lock h e = (n, h.0, h.1, h.2, cc)
 
   lock_there : (σ : List ValueType) (st : Store) (c : Cells) (t : ℕ) (had : Answers) → Known file program σ t had → (b : Action ℕ) (go : Answer ℕ → Option Thread) (lock : ℕ) → lock_on b ≡ Some lock → (d : Next) → next file program t had ≡ d → InWords (renaming names st) d (Paused b go) → LockThere σ st c lock
   lock_there σ st c t had known b go lock on Ended ed w = absurd w
@@ -236,13 +236,13 @@ module _ (file : File) (program : Program) (code : Code) (asks : Asks file progr
       lock_there σ st c t had each.2 b go lock on (next file program t had) refl
       (subst (λ q. InWords (renaming names st) (next file program t had) q) (began σ st c holds t had x each runs b go em) (stands_so σ st c holds t had x each))
 
-  names_more : (σ σ' : List ValueType) → Extends σ σ' → (n : ℕ) → Names σ n type.Lock → Names σ' n type.Lock
-  names_more σ σ' e zero h = absurd h
-  names_more σ σ' e (suc n) h = e n type.Lock h
+  names_more : (σ σ' : List ValueType) → Extends σ σ' → (n : ℕ) (q : ValueType) → Names σ n q → Names σ' n q
+  names_more σ σ' e zero q h = absurd h
+  names_more σ σ' e (suc n) q h = e n q h
 
-  names_within : (σ : List ValueType) (n : ℕ) → Names σ n type.Lock → n ≤ length σ
-  names_within σ zero h = absurd h
-  names_within σ (suc n) h = get_within σ n type.Lock h
+  names_within : (σ : List ValueType) (n : ℕ) (q : ValueType) → Names σ n q → n ≤ length σ
+  names_within σ zero q h = absurd h
+  names_within σ (suc n) q h = get_within σ n q h
 
   -- what another thread's action leaves of a thread
   each_more : (σ σ' : List ValueType) (st st' : Store) (c c' : Cells) → StoreHolds σ st c → StoreHolds σ' st' c' → Extends σ σ' → AgreeTo (length σ) (renaming names st) (renaming names st') → (t : ℕ) (a : Action Value) (y : Answer Value) → effect file.classes st t a ≡ Does st' y → (u : ℕ) → u ≢ t → (o : Option Answers) (p : Option Thread) → Each c σ (renaming names st) u o p → Each c' σ' (renaming names st') u o p
@@ -257,8 +257,8 @@ module _ (file : File) (program : Program) (code : Code) (asks : Asks file progr
     h.4 ∙ ap (fed_to u h.0) (answers_agree σ (renaming names st) (renaming names st') ag (next file program u) had h.2),
     middle_kept code c u h.3 x c' (λ runs b go lock w em on sees.
         let l = lock_of σ st c holds u had x h runs b go em lock on in
-        subst (λ z. Sees c' u z w) l.2
-        (sees_kept file.classes named code.sizes room σ σ' st st' c c' holds holds' u t (λ z. d (sym z)) a y does l.0 l.1 (names_more σ σ' e l.0 l.1) (ag l.0 (names_within σ l.0 l.1)) w (subst (λ z. Sees c u z w) (sym l.2) sees))) h.5,
+        subst (λ z. Sees c' u z w) l.4
+        (sees_kept file.classes named code.sizes room σ σ' st st' c c' holds holds' u t (λ z. d (sym z)) a y does l.0 l.1 l.2 l.3 (names_more σ σ' e l.0 l.1 l.3) (ag l.0 (names_within σ l.0 l.1 l.3)) w (subst (λ z. Sees c u z w) (sym l.4) sees))) h.5,
   )
 
   -- what is kept of an entry, whatever is made later

@@ -10,7 +10,7 @@ use Rattle.ls_events.specs.declared.value.Value.{Value}
 use Rattle.ls_events.specs.declared.value.Value.TheVariants.{Int, Boolean, Reference, Pair}
 use Rattle.ls_events.specs.declared.value.ValueType.TheVariants as type
 use Rattle.ls_events.specs.declared.action.Action.{Action}
-use Rattle.ls_events.specs.declared.action.Action.TheVariants.{ReadField, WriteField, ReadItem, WriteItem, ReadName, WriteName, New, NewLock, NewMarkable, NewArray, Lock, Unlock, TryLock, IsHeld, ReadPair, SetPair, SwapPair, AttemptMark, Turn, Enter, Call, Return, Trap}
+use Rattle.ls_events.specs.declared.action.Action.TheVariants.{ReadField, WriteField, ReadItem, WriteItem, ReadName, WriteName, New, NewLock, NewMarkable, NewArray, Lock, Unlock, TryLock, IsHeld, LockMonitor, UnlockMonitor, ReadPair, SetPair, SwapPair, AttemptMark, Turn, Enter, Call, Return, Trap}
 use Rattle.ls_checked.specs.CheckedProgram.{Program, ThreadProgram, ProgramCall, Making, Calling}
 use Rattle.ls_meaning.specs.Threads.{calls_in}
 use Rattle.ls_meaning.specs.Steps as source
@@ -139,6 +139,8 @@ module _ (program : Program) (code : Code) (calls : (t : ℕ) → calls_of (slic
   event_back t (Unlock n) h = refl
   event_back t (TryLock n) h = refl
   event_back t (IsHeld n) h = refl
+  event_back t (LockMonitor n) h = refl
+  event_back t (UnlockMonitor n) h = refl
   event_back t (ReadPair n) h = refl
   event_back t (SetPair n v) h = refl
   event_back t (SwapPair n e d) h = refl

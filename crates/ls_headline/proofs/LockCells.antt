@@ -7,9 +7,8 @@ use Rattle.ls_events.specs.declared.action.Action.TheVariants as act
 use Rattle.ls_events.specs.declared.action.Answer.{Answer}
 use Rattle.ls_events.specs.declared.action.Answer.TheVariants.{Done, Gives, Fails}
 use Rattle.ls_events.specs.declared.value.ValueType.{ValueType}
-use Rattle.ls_events.specs.declared.value.ValueType.TheVariants as type
 use Rattle.ls_checked.specs.CheckedTree.{Class}
-use Rattle.ls_meaning.specs.Store.{Thing, Object, FreeLock, HeldLock, Markable, Array}
+use Rattle.ls_meaning.specs.Store.{Hold, Free, HeldBy, Thing}
 use Rattle.ls_code.specs.Locks.{taken_of, left_of}
 use Rattle.ls_code.specs.Cells.{Cells, Effect, Answers, effect, cell_at, on_cell, with_words, written, lock_effect, unlock_effect, Unfit}
 use Rattle.ls_code.specs.declared.lock_word.Taken.{Taken}
@@ -18,9 +17,9 @@ use Rattle.ls_code.specs.declared.lock_word.Left.{Left}
 use Rattle.ls_code.specs.declared.lock_word.Left.TheVariants as left
 use Rattle.ls_code.specs.Reading.{full_word, word_of_another}
 use Rattle.ls_headline.proofs.Lists.{get_within}
-use Rattle.ls_headline.proofs.Effects.{ThingHas}
-use Rattle.ls_headline.proofs.Cells.{held_word}
-use Rattle.ls_headline.proofs.Others.{lock_word}
+use Rattle.ls_headline.proofs.Effects.{IsHold, ThingHas}
+use Rattle.ls_headline.proofs.Cells.{held_word, hold_word}
+use Rattle.ls_headline.proofs.Others.{hold_in, lock_word, hold_has}
 use Rattle.ls_headline.proofs.LockWords.{TakenBy, IsFree, IsOwn, IsFull, IsOthers, taken_by, own_is}
 
 abbrev pub by_taken : Cells → ℕ → Answer ℕ → Effect → Taken → Effect
@@ -62,15 +61,15 @@ another_is t = by_word (taken_by (word_of_another t) t)
     by_word (IsOthers n o x) = x
 
 -- the one word with too many holds
-pub full_is : (classes : List Class) (σ : List ValueType) (o : Thing) (t : ℕ) → ThingHas classes σ o type.Lock → taken_of (lock_word o) t ≡ taken.TooMany → lock_word o ≡ full_word t
-full_is classes σ FreeLock t h e = cc
-full_is classes σ (HeldLock owner holds) t h e = by_word (taken_by (held_word owner holds) t)
+full_hold : (h : Hold) (t : ℕ) → IsHold h → taken_of (hold_word h) t ≡ taken.TooMany → hold_word h ≡ full_word t
+full_hold Free t h e = cc
+full_hold (HeldBy owner holds) t h e = by_word (taken_by (held_word owner holds) t)
   where
     by_word : TakenBy (held_word owner holds) t → held_word owner holds ≡ full_word t
     by_word (IsFree z x) = cc
     by_word (IsOwn n o l x) = cc
     by_word (IsFull n o l x) = let q = own_is (held_word owner holds) t o in omega (arith, h.1)
     by_word (IsOthers n o x) = cc
-full_is classes σ (Object vs) t h e = absurd h
-full_is classes σ (Markable v) t h e = absurd h
-full_is classes σ (Array size items) t h e = absurd h
+
+pub full_is : (classes : List Class) (σ : List ValueType) (o : Thing) (s : ValueType) (t : ℕ) → ThingHas classes σ o s → taken_of (lock_word o) t ≡ taken.TooMany → lock_word o ≡ full_word t
+full_is classes σ o s t h e = full_hold (hold_in o) t (hold_has classes σ o s h) e

@@ -22,9 +22,11 @@ use Rattle.ls_headline.proofs.OwnParts.{rest, at}
 pub data Meets (p : Code) (n bound : ℕ) (r o : Pause) : Type 0 where
   BothOver : (m : Mode) → r ≡ IsOver m → o ≡ IsOver m → Meets p n bound r o
   BothAct : (a : Action ℕ) (go : Answer ℕ → Option Thread) → is_on_lock a ≡ false → r ≡ Paused a go → o ≡ Paused a go → Meets p n bound r o
-  LockBegins : (y : Thread) (a j : ℕ) → y.mode ≡ mode.Running → Begins p n y 1 a (act.Lock a) (is_locking p y.top.counter) → r ≡ Paused (act.Lock a) (after_lock p n y) → o ≡ own.quiet p n j y → Meets p n bound r o
+  LockBegins : (y : Thread) (a j : ℕ) → y.mode ≡ mode.Running → Begins p n y 1 a (act.Lock a) (is_locking p 1 y.top.counter) → r ≡ Paused (act.Lock a) (after_lock p n y) → o ≡ own.quiet p n j y → Meets p n bound r o
   TryBegins : (y : Thread) (a j : ℕ) → y.mode ≡ mode.Running → Begins p n y 2 a (act.TryLock a) (is_trying p y.top.counter) → r ≡ Paused (act.TryLock a) (after_try p n y) → o ≡ own.quiet p n j y → Meets p n bound r o
-  UnlockBegins : (y : Thread) (a j : ℕ) → y.mode ≡ mode.Running → Begins p n y 3 a (act.Unlock a) (is_unlocking p y.top.counter) → r ≡ Paused (act.Unlock a) (after_unlock p y) → o ≡ own.quiet p n j y → Meets p n bound r o
+  UnlockBegins : (y : Thread) (a j : ℕ) → y.mode ≡ mode.Running → Begins p n y 3 a (act.Unlock a) (is_unlocking p 0 y.top.counter) → r ≡ Paused (act.Unlock a) (after_unlock p y) → o ≡ own.quiet p n j y → Meets p n bound r o
+  MonitorBegins : (y : Thread) (a j : ℕ) → y.mode ≡ mode.Running → Begins p n y 4 a (act.LockMonitor a) (is_locking p 4 y.top.counter) → r ≡ Paused (act.LockMonitor a) (after_lock p n y) → o ≡ own.quiet p n j y → Meets p n bound r o
+  LeaveBegins : (y : Thread) (a j : ℕ) → y.mode ≡ mode.Running → Begins p n y 5 a (act.UnlockMonitor a) (is_unlocking p 1 y.top.counter) → r ≡ Paused (act.UnlockMonitor a) (after_unlock p y) → o ≡ own.quiet p n j y → Meets p n bound r o
   Loses : ((xs : List (Answer ℕ)) → resume p n bound xs r ≡ Lost) → Meets p n bound r o
 
 module _ (p : Code) (number : ℕ) where
@@ -40,9 +42,11 @@ module _ (p : Code) (number : ℕ) where
   if_tells x d false a go = tt
 
   operation_tells : (x : Thread) (d : Move) (a : Action ℕ) → Tells x d (operation p number x a)
-  operation_tells x d (act.Lock o) = if_tells x d (is_locking p x.top.counter) _ _
+  operation_tells x d (act.Lock o) = if_tells x d (is_locking p 1 x.top.counter) _ _
   operation_tells x d (act.TryLock o) = if_tells x d (is_trying p x.top.counter) _ _
-  operation_tells x d (act.Unlock o) = if_tells x d (is_unlocking p x.top.counter) _ _
+  operation_tells x d (act.Unlock o) = if_tells x d (is_unlocking p 0 x.top.counter) _ _
+  operation_tells x d (act.LockMonitor o) = if_tells x d (is_locking p 4 x.top.counter) _ _
+  operation_tells x d (act.UnlockMonitor o) = if_tells x d (is_unlocking p 1 x.top.counter) _ _
   operation_tells x d (act.ReadField o i) = tt
   operation_tells x d (act.WriteField o i v) = tt
   operation_tells x d (act.ReadItem o i) = tt
@@ -84,6 +88,8 @@ module _ (p : Code) (number : ℕ) where
   plan_tells x d (Touches a (act.NewMarkable v) go) f = tt
   plan_tells x d (Touches a (act.NewArray o) go) f = tt
   plan_tells x d (Touches a (act.IsHeld o) go) f = tt
+  plan_tells x d (Touches a (act.LockMonitor o) go) f = tt
+  plan_tells x d (Touches a (act.UnlockMonitor o) go) f = tt
   plan_tells x d (Touches a (act.SetPair o v) go) f = tt
   plan_tells x d (Touches a (act.SwapPair o v w) go) f = tt
   plan_tells x d (Touches a (act.AttemptMark o r m) go) f = tt
@@ -121,6 +127,8 @@ module _ (p : Code) (n bound : ℕ) where
   begun y (act.Lock a) go j r o run b er eo = LockBegins y a j run b.0 (er ∙ ap (Paused (act.Lock a)) b.1) eo
   begun y (act.TryLock a) go j r o run b er eo = TryBegins y a j run b.0 (er ∙ ap (Paused (act.TryLock a)) b.1) eo
   begun y (act.Unlock a) go j r o run b er eo = UnlockBegins y a j run b.0 (er ∙ ap (Paused (act.Unlock a)) b.1) eo
+  begun y (act.LockMonitor a) go j r o run b er eo = MonitorBegins y a j run b.0 (er ∙ ap (Paused (act.LockMonitor a)) b.1) eo
+  begun y (act.UnlockMonitor a) go j r o run b er eo = LeaveBegins y a j run b.0 (er ∙ ap (Paused (act.UnlockMonitor a)) b.1) eo
   begun y (act.ReadField o i) go j q z run b er eo = absurd b
   begun y (act.WriteField o i v) go j q z run b er eo = absurd b
   begun y (act.ReadItem o i) go j q z run b er eo = absurd b

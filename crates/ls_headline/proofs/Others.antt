@@ -12,106 +12,143 @@ use Rattle.ls_events.specs.declared.action.Answer.TheVariants.{Done, Fails}
 use Rattle.ls_checked.specs.CheckedTree.{Class, File}
 use Rattle.ls_checked.specs.CheckedProgram.{Program}
 use Rattle.ls_meaning.specs.declared.sort.Sort.{Sort}
-use Rattle.ls_meaning.specs.Store.{Thing, Object, FreeLock, HeldLock, Markable, Array, Store, thing_at, with_thing, with_new}
-use Rattle.ls_meaning.specs.Effect.{Does, Change, Stays, Leaves, change, put_back, at_thing, on_thing, effect}
+use Rattle.ls_meaning.specs.Store.{Hold, Free, HeldBy, Thing, Object, LockOf, Markable, Array, Store, thing_at, with_thing, with_new}
+use Rattle.ls_meaning.specs.Effect.{Does, Change, Stays, Leaves, Holding, Awaits, Becomes, with_hold, locking, trying, unlocking, asking_held, change, put_back, at_thing, on_thing, effect}
 use Rattle.ls_code.specs.Locks.{is_own}
 use Rattle.ls_code.specs.Cells.{Cells, cell_at}
 use Rattle.ls_headline.specs.InWords.{map_action}
 use Rattle.ls_headline.specs.Sorts.{Names, ActionHas}
 use Rattle.ls_headline.proofs.Lists.{set_same, set_other, get_within, get_left}
-use Rattle.ls_headline.proofs.Cells.{held_word}
-use Rattle.ls_headline.proofs.Effects.{ThingHas, thing_there, renaming, Holds}
+use Rattle.ls_headline.proofs.Cells.{hold_word}
+use Rattle.ls_headline.proofs.Effects.{IsHold, ThingHas, thing_there, renaming, Holds}
 use Rattle.ls_headline.proofs.FieldCases.{thing_is, put_is, cell_is}
 use Rattle.ls_headline.proofs.ThingCases.{held_own}
 use Rattle.ls_headline.proofs.LockWords.{Fresh, fresh_apart, zero_not_own}
 
-abbrev pub IsLock : Thing → Type 0
-IsLock FreeLock = Unit {0}
-IsLock (HeldLock owner holds) = Unit {0}
-IsLock (Object vs) = ⊥
-IsLock (Markable v) = ⊥
-IsLock (Array size items) = ⊥
+-- the hold of a thing; what has none is as if it were free
+abbrev pub hold_in : Thing → Hold
+hold_in (Object monitor vs) = monitor
+hold_in (LockOf hold) = hold
+hold_in (Markable v) = Free
+hold_in (Array size items) = Free
 
-abbrev pub NotHeldBy : ℕ → Thing → Type 0
-NotHeldBy t (HeldLock owner holds) = owner ≢ t
-NotHeldBy t FreeLock = Unit {0}
-NotHeldBy t (Object vs) = Unit {0}
-NotHeldBy t (Markable v) = Unit {0}
-NotHeldBy t (Array size items) = Unit {0}
+abbrev pub CanBeHeld : Thing → Type 0
+CanBeHeld (Object monitor vs) = Unit {0}
+CanBeHeld (LockOf hold) = Unit {0}
+CanBeHeld (Markable v) = ⊥
+CanBeHeld (Array size items) = ⊥
 
--- a lock stays, or isn't held by this thread before and after
+abbrev pub NotHeldBy : ℕ → Hold → Type 0
+NotHeldBy t Free = Unit {0}
+NotHeldBy t (HeldBy owner holds) = owner ≢ t
+
+-- a hold stays, or isn't this thread's before and after
+abbrev HoldApart : ℕ → Hold → Hold → Type 0
+HoldApart t g g' = (g' ≡ g) ⊎ (NotHeldBy t g × NotHeldBy t g')
+
 abbrev pub Apart : ℕ → Thing → Thing → Type 0
-Apart t o o' = (o' ≡ o) ⊎ (NotHeldBy t o × NotHeldBy t o')
+Apart t o o' = HoldApart t (hold_in o) (hold_in o')
 
 abbrev ApartIn : ℕ → Thing → Change → Type 0
 ApartIn t o Stays = Unit {0}
 ApartIn t o (Leaves o' x) = Apart t o o'
 
+abbrev HoldApartIn : ℕ → Hold → Holding → Type 0
+HoldApartIn t g Awaits = Unit {0}
+HoldApartIn t g (Becomes g' x) = HoldApart t g g'
+
 module _ (t u : ℕ) (d : u ≢ t) where
-  own_if : (owner holds : ℕ) (b : Bool) → nat_eq owner u ≡ b → (mine away : Change) → (owner ≡ u → ApartIn t (HeldLock owner holds) mine) → ApartIn t (HeldLock owner holds) away → ApartIn t (HeldLock owner holds) (if b then mine else away)
+  own_if : (owner holds : ℕ) (b : Bool) → nat_eq owner u ≡ b → (mine away : Holding) → (owner ≡ u → HoldApartIn t (HeldBy owner holds) mine) → HoldApartIn t (HeldBy owner holds) away → HoldApartIn t (HeldBy owner holds) (if b then mine else away)
   own_if owner holds true e mine away f g = f (grind (arith, nat_tests))
   own_if owner holds false e mine away f g = g
 
-  more_apart : (owner holds : ℕ) (x : Answer Value) (b : Bool) → owner ≡ u → ApartIn t (HeldLock owner holds) (if b then Leaves (HeldLock u (holds + 1)) x else Leaves (HeldLock u holds) (Fails Error))
+  more_apart : (owner holds : ℕ) (x : Answer Value) (b : Bool) → owner ≡ u → HoldApartIn t (HeldBy owner holds) (if b then Becomes (HeldBy u (holds + 1)) x else Becomes (HeldBy u holds) (Fails Error))
   more_apart owner holds x true e = inr (λ z. d (sym e ∙ z), d)
   more_apart owner holds x false e = inr (λ z. d (sym e ∙ z), d)
 
-  less_apart : (holds : ℕ) (b : Bool) → NotHeldBy t (if b then HeldLock u (holds - 1) else FreeLock)
+  less_apart : (holds : ℕ) (b : Bool) → NotHeldBy t (if b then HeldBy u (holds - 1) else Free)
   less_apart holds true = d
   less_apart holds false = tt
 
-  change_apart : (a : Action Value) (o : Thing) → IsLock o → ApartIn t o (change u a o)
-  change_apart a (Object vs) h = absurd h
+  lock_holds : (g : Hold) → HoldApartIn t g (locking u g)
+  lock_holds Free = inr (tt, d)
+  lock_holds (HeldBy owner holds) = own_if owner holds (nat_eq owner u) refl _ _ (λ e. more_apart owner holds _ (nat_lt holds 2147483647) e) tt
+
+  try_holds : (g : Hold) → HoldApartIn t g (trying u g)
+  try_holds Free = inr (tt, d)
+  try_holds (HeldBy owner holds) = own_if owner holds (nat_eq owner u) refl _ _ (λ e. more_apart owner holds _ (nat_lt holds 2147483647) e) (inl refl)
+
+  unlock_holds : (g : Hold) → HoldApartIn t g (unlocking u g)
+  unlock_holds Free = inl refl
+  unlock_holds (HeldBy owner holds) = own_if owner holds (nat_eq owner u) refl _ _ (λ e. inr (λ z. d (sym e ∙ z), less_apart holds (nat_lt 1 holds))) (inl refl)
+
+  ask_holds : (g : Hold) → HoldApartIn t g (asking_held u g)
+  ask_holds Free = inl refl
+  ask_holds (HeldBy owner holds) = inl refl
+
+  in_lock : (g : Hold) (x : Holding) → HoldApartIn t g x → ApartIn t (LockOf g) (with_hold LockOf x)
+  in_lock g Awaits h = tt
+  in_lock g (Becomes g' y) h = h
+
+  in_object : (vs : List Value) (g : Hold) (x : Holding) → HoldApartIn t g x → ApartIn t (Object g vs) (with_hold (λ h. Object h vs) x)
+  in_object vs g Awaits h = tt
+  in_object vs g (Becomes g' y) h = h
+
+  change_apart : (a : Action Value) (o : Thing) → CanBeHeld o → ApartIn t o (change u a o)
   change_apart a (Markable v) h = absurd h
   change_apart a (Array size items) h = absurd h
-  change_apart (act.ReadField o i) FreeLock h = inl refl
-  change_apart (act.ReadField o i) (HeldLock owner holds) h = inl refl
-  change_apart (act.WriteField o i v) FreeLock h = inl refl
-  change_apart (act.WriteField o i v) (HeldLock owner holds) h = inl refl
-  change_apart (act.ReadItem o i) FreeLock h = inl refl
-  change_apart (act.ReadItem o i) (HeldLock owner holds) h = inl refl
-  change_apart (act.WriteItem o i v) FreeLock h = inl refl
-  change_apart (act.WriteItem o i v) (HeldLock owner holds) h = inl refl
-  change_apart (act.ReadName o) FreeLock h = inl refl
-  change_apart (act.ReadName o) (HeldLock owner holds) h = inl refl
-  change_apart (act.WriteName o v) FreeLock h = inl refl
-  change_apart (act.WriteName o v) (HeldLock owner holds) h = inl refl
-  change_apart (act.New o) FreeLock h = inl refl
-  change_apart (act.New o) (HeldLock owner holds) h = inl refl
-  change_apart act.NewLock FreeLock h = inl refl
-  change_apart act.NewLock (HeldLock owner holds) h = inl refl
-  change_apart (act.NewMarkable v) FreeLock h = inl refl
-  change_apart (act.NewMarkable v) (HeldLock owner holds) h = inl refl
-  change_apart (act.NewArray o) FreeLock h = inl refl
-  change_apart (act.NewArray o) (HeldLock owner holds) h = inl refl
-  change_apart (act.Lock o) FreeLock h = inr (tt, d)
-  change_apart (act.Lock o) (HeldLock owner holds) h = own_if owner holds (nat_eq owner u) refl _ _ (λ e. more_apart owner holds _ (nat_lt holds 2147483647) e) tt
-  change_apart (act.Unlock o) FreeLock h = inl refl
-  change_apart (act.Unlock o) (HeldLock owner holds) h = own_if owner holds (nat_eq owner u) refl _ _ (λ e. inr (λ z. d (sym e ∙ z), less_apart holds (nat_lt 1 holds))) (inl refl)
-  change_apart (act.TryLock o) FreeLock h = inr (tt, d)
-  change_apart (act.TryLock o) (HeldLock owner holds) h = own_if owner holds (nat_eq owner u) refl _ _ (λ e. more_apart owner holds _ (nat_lt holds 2147483647) e) (inl refl)
-  change_apart (act.IsHeld o) FreeLock h = inl refl
-  change_apart (act.IsHeld o) (HeldLock owner holds) h = inl refl
-  change_apart (act.ReadPair o) FreeLock h = inl refl
-  change_apart (act.ReadPair o) (HeldLock owner holds) h = inl refl
-  change_apart (act.SetPair o v) FreeLock h = inl refl
-  change_apart (act.SetPair o v) (HeldLock owner holds) h = inl refl
-  change_apart (act.SwapPair o v w) FreeLock h = inl refl
-  change_apart (act.SwapPair o v w) (HeldLock owner holds) h = inl refl
-  change_apart (act.AttemptMark o r m) FreeLock h = inl refl
-  change_apart (act.AttemptMark o r m) (HeldLock owner holds) h = inl refl
-  change_apart act.Turn FreeLock h = inl refl
-  change_apart act.Turn (HeldLock owner holds) h = inl refl
-  change_apart (act.Enter o) FreeLock h = inl refl
-  change_apart (act.Enter o) (HeldLock owner holds) h = inl refl
-  change_apart (act.Call o) FreeLock h = inl refl
-  change_apart (act.Call o) (HeldLock owner holds) h = inl refl
-  change_apart (act.Return o v) FreeLock h = inl refl
-  change_apart (act.Return o v) (HeldLock owner holds) h = inl refl
-  change_apart (act.Trap o v) FreeLock h = inl refl
-  change_apart (act.Trap o v) (HeldLock owner holds) h = inl refl
+  change_apart (act.ReadField o i) (LockOf g) h = inl refl
+  change_apart (act.ReadField o i) (Object g vs) h = inl refl
+  change_apart (act.WriteField o i v) (LockOf g) h = inl refl
+  change_apart (act.WriteField o i v) (Object g vs) h = inl refl
+  change_apart (act.ReadItem o i) (LockOf g) h = inl refl
+  change_apart (act.ReadItem o i) (Object g vs) h = inl refl
+  change_apart (act.WriteItem o i v) (LockOf g) h = inl refl
+  change_apart (act.WriteItem o i v) (Object g vs) h = inl refl
+  change_apart (act.ReadName o) (LockOf g) h = inl refl
+  change_apart (act.ReadName o) (Object g vs) h = inl refl
+  change_apart (act.WriteName o v) (LockOf g) h = inl refl
+  change_apart (act.WriteName o v) (Object g vs) h = inl refl
+  change_apart (act.New o) (LockOf g) h = inl refl
+  change_apart (act.New o) (Object g vs) h = inl refl
+  change_apart act.NewLock (LockOf g) h = inl refl
+  change_apart act.NewLock (Object g vs) h = inl refl
+  change_apart (act.NewMarkable v) (LockOf g) h = inl refl
+  change_apart (act.NewMarkable v) (Object g vs) h = inl refl
+  change_apart (act.NewArray o) (LockOf g) h = inl refl
+  change_apart (act.NewArray o) (Object g vs) h = inl refl
+  change_apart (act.Lock o) (LockOf g) h = in_lock g (locking u g) (lock_holds g)
+  change_apart (act.Lock o) (Object g vs) h = inl refl
+  change_apart (act.Unlock o) (LockOf g) h = in_lock g (unlocking u g) (unlock_holds g)
+  change_apart (act.Unlock o) (Object g vs) h = inl refl
+  change_apart (act.TryLock o) (LockOf g) h = in_lock g (trying u g) (try_holds g)
+  change_apart (act.TryLock o) (Object g vs) h = inl refl
+  change_apart (act.IsHeld o) (LockOf g) h = in_lock g (asking_held u g) (ask_holds g)
+  change_apart (act.IsHeld o) (Object g vs) h = inl refl
+  change_apart (act.LockMonitor o) (LockOf g) h = inl refl
+  change_apart (act.LockMonitor o) (Object g vs) h = in_object vs g (locking u g) (lock_holds g)
+  change_apart (act.UnlockMonitor o) (LockOf g) h = inl refl
+  change_apart (act.UnlockMonitor o) (Object g vs) h = in_object vs g (unlocking u g) (unlock_holds g)
+  change_apart (act.ReadPair o) (LockOf g) h = inl refl
+  change_apart (act.ReadPair o) (Object g vs) h = inl refl
+  change_apart (act.SetPair o v) (LockOf g) h = inl refl
+  change_apart (act.SetPair o v) (Object g vs) h = inl refl
+  change_apart (act.SwapPair o v w) (LockOf g) h = inl refl
+  change_apart (act.SwapPair o v w) (Object g vs) h = inl refl
+  change_apart (act.AttemptMark o r m) (LockOf g) h = inl refl
+  change_apart (act.AttemptMark o r m) (Object g vs) h = inl refl
+  change_apart act.Turn (LockOf g) h = inl refl
+  change_apart act.Turn (Object g vs) h = inl refl
+  change_apart (act.Enter o) (LockOf g) h = inl refl
+  change_apart (act.Enter o) (Object g vs) h = inl refl
+  change_apart (act.Call o) (LockOf g) h = inl refl
+  change_apart (act.Call o) (Object g vs) h = inl refl
+  change_apart (act.Return o v) (LockOf g) h = inl refl
+  change_apart (act.Return o v) (Object g vs) h = inl refl
+  change_apart (act.Trap o v) (LockOf g) h = inl refl
+  change_apart (act.Trap o v) (Object g vs) h = inl refl
 
-  module _ (classes : List Class) (st st' : Store) (y : Answer Value) (k : ℕ) (o : Thing) (at : slice_get st.things k ≡ Some o) (lock : IsLock o) where
+  module _ (classes : List Class) (st st' : Store) (y : Answer Value) (k : ℕ) (o : Thing) (at : slice_get st.things k ≡ Some o) (lock : CanBeHeld o) where
     abbrev After : Type 0
     After = (o' : Thing) × (slice_get st'.things k ≡ Some o') × Apart t o o'
 
@@ -143,7 +180,7 @@ module _ (t u : ℕ) (d : u ≢ t) where
     on_apart zero a e = (let none : thing_at st zero ≡ None = refl in stays st refl Done (sym (ap (λ q. at_thing st zero q (change u a)) none) ∙ e))
     on_apart (suc j) a e = on_place j a (slice_get st.things j) refl (sym (ap (λ q. at_thing st (suc j) q (change u a)) (thing_is st j)) ∙ e)
 
-    -- what another thread's action leaves of a lock
+    -- what another thread's action leaves of a lock or of a monitor
     pub lock_apart : (a : Action Value) → effect classes st u a ≡ Does st' y → After
     lock_apart (act.ReadField o i) e = on_apart o (act.ReadField o i) e
     lock_apart (act.WriteField o i v) e = on_apart o (act.WriteField o i v) e
@@ -159,6 +196,8 @@ module _ (t u : ℕ) (d : u ≢ t) where
     lock_apart (act.Unlock o) e = on_apart o (act.Unlock o) e
     lock_apart (act.TryLock o) e = on_apart o (act.TryLock o) e
     lock_apart (act.IsHeld o) e = on_apart o (act.IsHeld o) e
+    lock_apart (act.LockMonitor o) e = on_apart o (act.LockMonitor o) e
+    lock_apart (act.UnlockMonitor o) e = on_apart o (act.UnlockMonitor o) e
     lock_apart (act.ReadPair o) e = on_apart o (act.ReadPair o) e
     lock_apart (act.SetPair o v) e = on_apart o (act.SetPair o v) e
     lock_apart (act.SwapPair o v w) e = on_apart o (act.SwapPair o v w) e
@@ -169,67 +208,75 @@ module _ (t u : ℕ) (d : u ≢ t) where
     lock_apart (act.Return o v) e = stays st refl _ e
     lock_apart (act.Trap o v) e = stays st refl _ e
 
--- a lock's word
+-- the word of a lock or of a monitor
 abbrev pub lock_word : Thing → ℕ
-lock_word FreeLock = 0
-lock_word (HeldLock owner holds) = held_word owner holds
-lock_word (Object vs) = 0
-lock_word (Markable v) = 0
-lock_word (Array size items) = 0
+lock_word o = hold_word (hold_in o)
 
-pub is_lock : (classes : List Class) (σ : List ValueType) (o : Thing) → ThingHas classes σ o type.Lock → IsLock o
-is_lock classes σ FreeLock h = tt
-is_lock classes σ (HeldLock owner holds) h = tt
-is_lock classes σ (Object vs) h = absurd h
-is_lock classes σ (Markable v) h = absurd h
-is_lock classes σ (Array size items) h = absurd h
+-- the types of things that can be held
+abbrev pub IsHeldType : ValueType → Type 0
+IsHeldType (type.Class c) = Unit {0}
+IsHeldType type.Lock = Unit {0}
+IsHeldType _ = ⊥
 
-not_own : (classes : List Class) (σ : List ValueType) (t : ℕ) (o : Thing) → ThingHas classes σ o type.Lock → NotHeldBy t o → is_own (lock_word o) t ≡ false
-not_own classes σ t FreeLock h n = zero_not_own t
-not_own classes σ t (HeldLock owner holds) h n = (let e : nat_eq owner t ≡ false = grind (arith, nat_tests) in held_own owner holds t h.1 ∙ e)
-not_own classes σ t (Object vs) h n = absurd h
-not_own classes σ t (Markable v) h n = absurd h
-not_own classes σ t (Array size items) h n = absurd h
+can_be_held : (classes : List Class) (σ : List ValueType) (o : Thing) (s : ValueType) → IsHeldType s → ThingHas classes σ o s → CanBeHeld o
+can_be_held classes σ (LockOf g) s i h = tt
+can_be_held classes σ (Object g vs) s i h = tt
+can_be_held classes σ (Markable v) (type.Markable c) i h = absurd i
+can_be_held classes σ (Array size items) type.BooleanArray i h = absurd i
+can_be_held classes σ _ _ i h = absurd h
+
+pub hold_has : (classes : List Class) (σ : List ValueType) (o : Thing) (s : ValueType) → ThingHas classes σ o s → IsHold (hold_in o)
+hold_has classes σ (LockOf g) type.Lock h = h
+hold_has classes σ (Object g vs) (type.Class c) h = h.2
+hold_has classes σ (Markable v) s h = tt
+hold_has classes σ (Array size items) s h = tt
+hold_has classes σ _ _ h = absurd h
+
+not_own : (t : ℕ) (g : Hold) → IsHold g → NotHeldBy t g → is_own (hold_word g) t ≡ false
+not_own t Free h n = zero_not_own t
+not_own t (HeldBy owner holds) h n = (let e : nat_eq owner t ≡ false = grind (arith, nat_tests) in held_own owner holds t h.1 ∙ e)
 
 -- a thread has seen a lock's word, and this is so of the word that stands there now
 abbrev pub Sees : Cells → ℕ → ℕ → ℕ → Type 0
 Sees c t lock seen = (now : ℕ) × (cell_at c lock 0 ≡ Some now) × Fresh t seen now
 
 module _ (classes : List Class) (named : List ValueType) (sizes : List ℕ) (room : ℕ) where
-  pub word_there : (σ : List ValueType) (st : Store) (c : Cells) → Holds classes named sizes room σ st c → (k : ℕ) (o : Thing) → slice_get st.things k ≡ Some o → ThingHas classes σ o type.Lock → cell_at c (renaming (length named) st (suc k)) 0 ≡ Some (lock_word o)
-  word_there σ st c holds k FreeLock at h = cell_is classes named sizes room σ st c holds k 0 0 FreeLock at (omega arith) refl
-  word_there σ st c holds k (HeldLock owner n) at h = cell_is classes named sizes room σ st c holds k 0 (held_word owner n) (HeldLock owner n) at (omega arith) refl
-  word_there σ st c holds k (Object vs) at h = absurd h
-  word_there σ st c holds k (Markable v) at h = absurd h
-  word_there σ st c holds k (Array size items) at h = absurd h
+  pub word_there : (σ : List ValueType) (st : Store) (c : Cells) → Holds classes named sizes room σ st c → (k : ℕ) (o : Thing) (s : ValueType) → slice_get st.things k ≡ Some o → IsHeldType s → ThingHas classes σ o s → cell_at c (renaming (length named) st (suc k)) 0 ≡ Some (lock_word o)
+  word_there σ st c holds k (LockOf g) s at i h = cell_is classes named sizes room σ st c holds k 0 (hold_word g) (LockOf g) at (omega arith) refl
+  word_there σ st c holds k (Object g vs) s at i h = cell_is classes named sizes room σ st c holds k 0 (hold_word g) (Object g vs) at (omega arith) refl
+  word_there σ st c holds k (Markable v) (type.Markable n) at i h = absurd i
+  word_there σ st c holds k (Array size items) type.BooleanArray at i h = absurd i
+  word_there σ st c holds k _ _ at i h = absurd h
 
   -- it stays so, whatever another thread does
-  pub sees_kept : (σ σ' : List ValueType) (st st' : Store) (c c' : Cells) → Holds classes named sizes room σ st c → Holds classes named sizes room σ' st' c' → (t u : ℕ) → u ≢ t → (a : Action Value) (y : Answer Value) → effect classes st u a ≡ Does st' y → (n : ℕ) → Names σ n type.Lock → Names σ' n type.Lock → renaming (length named) st n ≡ renaming (length named) st' n → (w : ℕ) → Sees c t (renaming (length named) st n) w → Sees c' t (renaming (length named) st n) w
-  sees_kept σ σ' st st' c c' holds holds' t u d a y does zero is is' same w sees = absurd is
-  sees_kept σ σ' st st' c c' holds holds' t u d a y does (suc k) is is' same w (now, ec, fresh) =
-      let r = thing_there classes σ st.things σ k type.Lock holds.typed is in
+  pub sees_kept : (σ σ' : List ValueType) (st st' : Store) (c c' : Cells) → Holds classes named sizes room σ st c → Holds classes named sizes room σ' st' c' → (t u : ℕ) → u ≢ t → (a : Action Value) (y : Answer Value) → effect classes st u a ≡ Does st' y → (n : ℕ) (s : ValueType) → IsHeldType s → Names σ n s → Names σ' n s → renaming (length named) st n ≡ renaming (length named) st' n → (w : ℕ) → Sees c t (renaming (length named) st n) w → Sees c' t (renaming (length named) st n) w
+  sees_kept σ σ' st st' c c' holds holds' t u d a y does zero s i is is' same w sees = absurd is
+  sees_kept σ σ' st st' c c' holds holds' t u d a y does (suc k) s i is is' same w (now, ec, fresh) =
+      let r = thing_there classes σ st.things σ k s holds.typed is in
       let o = r.0 in
-      let r' = thing_there classes σ' st'.things σ' k type.Lock holds'.typed is' in
-      let after = lock_apart t u d classes st st' y k o r.1 (is_lock classes σ o r.2) a does in
+      let r' = thing_there classes σ' st'.things σ' k s holds'.typed is' in
+      let after = lock_apart t u d classes st st' y k o r.1 (can_be_held classes σ o s i r.2) a does in
       let one : r'.0 ≡ after.0 = (let z : Some r'.0 ≡ Some after.0 = sym r'.1 ∙ after.1 in cc) in
-      let has' : ThingHas classes σ' after.0 type.Lock = subst (λ z. ThingHas classes σ' z type.Lock) one r'.2 in
-      let here : now ≡ lock_word o = (let z : Some now ≡ Some (lock_word o) = sym ec ∙ word_there σ st c holds k o r.1 r.2 in cc) in
-      (lock_word after.0, ap (λ z. cell_at c' z 0) same ∙ word_there σ' st' c' holds' k after.0 after.1 has', freshly o after.0 r.2 has' here after.2)
+      let has' : ThingHas classes σ' after.0 s = subst (λ z. ThingHas classes σ' z s) one r'.2 in
+      let here : now ≡ lock_word o = (let z : Some now ≡ Some (lock_word o) = sym ec ∙ word_there σ st c holds k o s r.1 i r.2 in cc) in
+      (lock_word after.0, ap (λ z. cell_at c' z 0) same ∙ word_there σ' st' c' holds' k after.0 s after.1 i has', freshly (hold_in o) (hold_in after.0) (hold_has classes σ o s r.2) (hold_has classes σ' after.0 s has') here after.2)
     where
-      freshly : (o o' : Thing) → ThingHas classes σ o type.Lock → ThingHas classes σ' o' type.Lock → now ≡ lock_word o → Apart t o o' → Fresh t w (lock_word o')
-      freshly o o' h h' here (inl e) = subst (Fresh t w) (here ∙ ap lock_word (sym e)) fresh
-      freshly o o' h h' here (inr n) = fresh_apart t w now (lock_word o') fresh (ap (λ z. is_own z t) here ∙ not_own classes σ t o h n.0, not_own classes σ' t o' h' n.1)
+      freshly : (g g' : Hold) → IsHold g → IsHold g' → now ≡ hold_word g → HoldApart t g g' → Fresh t w (hold_word g')
+      freshly g g' h h' here (inl e) = subst (Fresh t w) (here ∙ ap hold_word (sym e)) fresh
+      freshly g g' h h' here (inr n) = fresh_apart t w now (hold_word g') fresh (ap (λ z. is_own z t) here ∙ not_own t g h n.0, not_own t g' h' n.1)
 
--- the lock that an operation is on
+-- the lock, or the object with the monitor, that an operation is on
 abbrev pub lock_on : {V : Type 0} → Action V → Option ℕ
 lock_on (act.Lock o) = Some o
 lock_on (act.Unlock o) = Some o
 lock_on (act.TryLock o) = Some o
+lock_on (act.LockMonitor o) = Some o
+lock_on (act.UnlockMonitor o) = Some o
 lock_on _ = None
 
 abbrev pub LockNamed : List ValueType → Option ℕ → Type 0
 LockNamed σ None = Unit {0}
-LockNamed σ (Some o) = Names σ o type.Lock
+LockNamed σ (Some o) = (s : ValueType) × IsHeldType s × Names σ o s
 
 abbrev pub renamed_lock : (ℕ → ℕ) → Option ℕ → Option ℕ
 renamed_lock ρ None = None
@@ -250,6 +297,8 @@ lock_renamed ρ f (act.Lock o) = refl
 lock_renamed ρ f (act.Unlock o) = refl
 lock_renamed ρ f (act.TryLock o) = refl
 lock_renamed ρ f (act.IsHeld o) = refl
+lock_renamed ρ f (act.LockMonitor o) = refl
+lock_renamed ρ f (act.UnlockMonitor o) = refl
 lock_renamed ρ f (act.ReadPair o) = refl
 lock_renamed ρ f (act.SetPair o v) = refl
 lock_renamed ρ f (act.SwapPair o v w) = refl
@@ -271,10 +320,12 @@ lock_named file program σ t (act.New o) q h = tt
 lock_named file program σ t act.NewLock q h = tt
 lock_named file program σ t (act.NewMarkable v) q h = tt
 lock_named file program σ t (act.NewArray o) q h = tt
-lock_named file program σ t (act.Lock o) q h = h.0
-lock_named file program σ t (act.Unlock o) q h = h.0
-lock_named file program σ t (act.TryLock o) q h = h.0
+lock_named file program σ t (act.Lock o) q h = (type.Lock, tt, h.0)
+lock_named file program σ t (act.Unlock o) q h = (type.Lock, tt, h.0)
+lock_named file program σ t (act.TryLock o) q h = (type.Lock, tt, h.0)
 lock_named file program σ t (act.IsHeld o) q h = tt
+lock_named file program σ t (act.LockMonitor o) q h = (type.Class h.0, tt, h.1)
+lock_named file program σ t (act.UnlockMonitor o) q h = (type.Class h.0, tt, h.1)
 lock_named file program σ t (act.ReadPair o) q h = tt
 lock_named file program σ t (act.SetPair o v) q h = tt
 lock_named file program σ t (act.SwapPair o v w) q h = tt

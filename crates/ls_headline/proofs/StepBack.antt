@@ -1,9 +1,9 @@
 -- One step of the machine, and what the source does for it.
 use Rattle.std.proofs.Common.{◌≡◌, ℕ, zero, suc, ◌≤◌, ◌==◌, ◌≢◌, ◌⊎◌, inl, inr, Bool, true, false, List, length, Option, Some, None, refl, sym, ap, ◌∙◌, subst, slice_get}
 use Rattle.std.proofs.lemmas.Bool.Decides.{eqb_tells}
+use Rattle.ls_code.specs.Limits.{most_cells}
 use Rattle.ls_events.specs.declared.value.Value.{Value}
 use Rattle.ls_events.specs.declared.value.ValueType.{ValueType}
-use Rattle.ls_events.specs.declared.value.ValueType.TheVariants as type
 use Rattle.ls_events.specs.declared.action.Action.{Action}
 use Rattle.ls_events.specs.declared.action.Answer.{Answer}
 use Rattle.ls_checked.specs.CheckedTree.{File}
@@ -37,8 +37,8 @@ use Rattle.ls_headline.specs.Parts.{one, LockParts, TryParts, UnlockParts, IsPla
 use Rattle.ls_headline.proofs.PartsThere.{parts_are_there}
 use Rattle.ls_headline.proofs.LockWords.{fresh_now, lost_other, full_now, own_left, not_left}
 use Rattle.ls_headline.proofs.LockCells.{lock_is, unlock_is, store_is, won_is, lost_is, another_is, full_is}
-use Rattle.ls_headline.proofs.Others.{Sees, lock_on, lock_word, word_there}
-use Rattle.ls_headline.proofs.Middle.{Middle, Here, Saw, Lost, Told, OwnFor}
+use Rattle.ls_headline.proofs.Others.{Sees, IsHeldType, lock_on, lock_word, word_there}
+use Rattle.ls_headline.proofs.Middle.{Middle, Here, Saw, Lost, Told, OwnFor, Locking, Unlocking, of_lock, of_monitor, off_lock, off_monitor}
 use Rattle.ls_code.specs.Machine.{Machine, Entry, is_due, due_step, open_step}
 use Rattle.ls_code.specs.Machine as machine
 use Rattle.ls_code.specs.declared.step.Mode.TheVariants as mode
@@ -51,10 +51,9 @@ use Rattle.ls_headline.proofs.Following
 use Rattle.ls_headline.proofs.LiftBack
 use Rattle.ls_headline.proofs.Feeding.{IsLoud, silent_keeps, asking, asked_by, silent_is, still, NoPlan, none}
 use Rattle.ls_headline.proofs.Effects.{thing_there, renaming, Agrees}
-use Rattle.ls_headline.proofs.Effects as effects
 use Rattle.ls_headline.proofs.AllCases.{names_of}
 
-module _ (file : File) (program : Program) (code : Code) (asks : Asks file program code) (sound : Means file program) (room : ℕ) (small : room ≤ 1048576) where
+module _ (file : File) (program : Program) (code : Code) (asks : Asks file program code) (sound : Means file program) (room : ℕ) (small : room ≤ most_cells) where
   abbrev named : List ValueType
   named = names_of program
 
@@ -196,16 +195,16 @@ module _ (file : File) (program : Program) (code : Code) (asks : Asks file progr
 
       -- the lock, and its word
       abbrev Word : ℕ → Type 0
-      Word a = (o : Thing) × effects.ThingHas file.classes h.sorts o type.Lock × (cells.cell_at m.cells a 0 ≡ Some (lock_word o))
+      Word a = (o : Thing) × (taken_of (lock_word o) t ≡ taken.TooMany → lock_word o ≡ full_word t) × (cells.cell_at m.cells a 0 ≡ Some (lock_word o))
 
-      named_word : (n a : ℕ) → Names h.sorts n type.Lock → renaming names s.store n ≡ a → Word a
-      named_word zero a is e = absurd is
-      named_word (suc k) a is e =
-          let r = thing_there file.classes h.sorts s.store.things h.sorts k type.Lock h.holds.typed is in
-          (r.0, r.2, ap (λ z. cells.cell_at m.cells z 0) (sym e) ∙ word_there file.classes named code.sizes room h.sorts s.store m.cells h.holds k r.0 r.1 r.2)
+      named_word : (n a : ℕ) (q : ValueType) → IsHeldType q → Names h.sorts n q → renaming names s.store n ≡ a → Word a
+      named_word zero a q held is e = absurd is
+      named_word (suc k) a q held is e =
+          let r = thing_there file.classes h.sorts s.store.things h.sorts k q h.holds.typed is in
+          (r.0, full_is file.classes h.sorts r.0 q t r.2, ap (λ z. cells.cell_at m.cells z 0) (sym e) ∙ word_there file.classes named code.sizes room h.sorts s.store m.cells h.holds k r.0 q r.1 held r.2)
 
       word_of_lock : (a : ℕ) → lock_on b ≡ Some a → Word a
-      word_of_lock a on = (let l = Following.lock_of file program code asks sound room small h.sorts s.store m.cells h.holds t had x each runs b go em a on in named_word l.0 a l.1 l.2)
+      word_of_lock a on = (let l = Following.lock_of file program code asks sound room small h.sorts s.store m.cells h.holds t had x each runs b go em a on in named_word l.0 a l.1 l.2 l.3 l.4)
 
       sees_now : (a w : ℕ) → cells.cell_at m.cells a 0 ≡ Some w → Sees m.cells t a w
       sees_now a w ec = (w, ec, fresh_now t w)
@@ -233,27 +232,27 @@ module _ (file : File) (program : Program) (code : Code) (asks : Asks file progr
           let silent : whole_move code t y' ≡ Silent (exchanged y 0) = ap (whole_move code t) is ∙ parts.told_whole (word_of_another t) (another_is t) in
           (exchanged y 0, silent_keeps code t bound y' (exchanged y 0) (ap (λ z. z.mode) is ∙ runs) silent l, Here refl)
 
-      module _ (go : Answer ℕ → Option Thread) (em : whole_move code t y ≡ MoveAsks (act.Lock a) go) (parts : LockParts code t y a) (eg : go ≡ after_lock code t y) where
+      module _ (b : Action ℕ) (locks : Locking a b) (go : Answer ℕ → Option Thread) (em : whole_move code t y ≡ MoveAsks b go) (parts : LockParts code t y a b) (eg : go ≡ after_lock code t y) where
         see_lock : x ≡ y → Comes (one code t c x)
         see_lock here =
-            let r = word_of_lock s m h t had start at y runs (act.Lock a) go em planned x there start_ es known way mid a refl in
+            let r = word_of_lock s m h t had start at y runs b go em planned x there start_ es known way mid a locks.on in
             subst Comes (sym (ap (one code t c) here ∙ parts.see c (lock_word r.0) r.2))
-            (saw s m h t had start at y runs (act.Lock a) go em planned x there start_ es known way mid a (lock_word r.0) refl (sees_now s m h t had start at y runs (act.Lock a) go em planned x there start_ es known way mid a (lock_word r.0) r.2) tt)
+            (saw s m h t had start at y runs b go em planned x there start_ es known way mid a (lock_word r.0) locks.on (sees_now s m h t had start at y runs b go em planned x there start_ es known way mid a (lock_word r.0) r.2) (locks.own t (lock_word r.0)))
 
         lost_lock : Comes (machine_steps.outcome_of (exchanged y 0) c did.Silent)
-        lost_lock = comes_to s m h t had start at x (exchanged y 0) there (start_, es, known, y, way, mid) y refl (Lost runs a go em planned refl)
+        lost_lock = comes_to s m h t had start at x (exchanged y 0) there (start_, es, known, y, way, mid) y refl (Lost runs a b locks go em planned refl)
 
         take_lock : (w : ℕ) → x ≡ seen y w → Sees c t a w → (k : Taken) → taken_of w t ≡ k → Comes (one code t c x)
         take_lock w is sees taken.Other ek = subst Comes (sym (ap (one code t c) is ∙ parts.other c w ek)) lost_lock
         take_lock w is (now, ec, fresh) taken.TooMany ek =
             let same : now ≡ w = full_now t w now fresh ek in
-            let r = word_of_lock s m h t had start at y runs (act.Lock a) go em planned x there start_ es known way mid a refl in
+            let r = word_of_lock s m h t had start at y runs b go em planned x there start_ es known way mid a locks.on in
             let word : lock_word r.0 ≡ w = (let z : Some (lock_word r.0) ≡ Some now = sym r.2 ∙ ec in (let e : lock_word r.0 ≡ now = cc in e ∙ same)) in
-            let full : w ≡ full_word t = sym word ∙ full_is file.classes h.sorts r.0 t r.1 (ap (λ z. taken_of z t) word ∙ ek) in
+            let full : w ≡ full_word t = sym word ∙ r.1 (ap (λ z. taken_of z t) word ∙ ek) in
             subst Comes (sym (ap (one code t c) is ∙ parts.full c w ek))
-            (subst (λ z. Comes (machine_steps.ended_so c z (throwing code (seen y w) Error) (did.Acted (act.Lock a) (Fails Error)))) is
-            (acts_thrown s m h t had start at y runs (act.Lock a) go em planned x there start_ es known way mid c (Fails Error)
-            (lock_is c a t now taken.TooMany AnswerDone cells.Waits ec (ap (λ z. taken_of z t) same ∙ ek))
+            (subst (λ z. Comes (machine_steps.ended_so c z (throwing code (seen y w) Error) (did.Acted b (Fails Error)))) is
+            (acts_thrown s m h t had start at y runs b go em planned x there start_ es known way mid c (Fails Error)
+            (locks.does c t ∙ lock_is c a t now taken.TooMany AnswerDone cells.Waits ec (ap (λ z. taken_of z t) same ∙ ek))
             (throwing code (seen y w) Error) (ap (λ f. f (Fails Error)) eg ∙ ap (λ z. throwing code (seen y z) Error) (sym full))))
         take_lock w is (now, ec, fresh) (taken.Taken next_) ek = by_test (eqb_tells now w)
           where
@@ -262,8 +261,8 @@ module _ (file : File) (program : Program) (code : Code) (asks : Asks file progr
                 let ew : cells.cell_at c a 0 ≡ Some w = ec ∙ ap Some same in
                 let st = store_is c a next_ w ew in
                 subst Comes (sym (ap (one code t c) is ∙ parts.won c st.0 w next_ ek (won_is c st.0 a t w next_ ew st.1)))
-                (acts_so s m h t had start at y runs (act.Lock a) go em planned x there start_ es known way mid st.0 AnswerDone
-                (lock_is c a t w (taken.Taken next_) AnswerDone cells.Waits ew ek ∙ st.1 AnswerDone) (exchanged y 1) (ap (λ f. f AnswerDone) eg))
+                (acts_so s m h t had start at y runs b go em planned x there start_ es known way mid st.0 AnswerDone
+                (locks.does c t ∙ lock_is c a t w (taken.Taken next_) AnswerDone cells.Waits ew ek ∙ st.1 AnswerDone) (exchanged y 1) (ap (λ f. f AnswerDone) eg))
             by_test (inr (bt, apart)) =
                 subst Comes (sym (ap (one code t c) is ∙ parts.lost c c w next_ ek (lost_is c a t w next_ now ec bt))) lost_lock
 
@@ -296,7 +295,7 @@ module _ (file : File) (program : Program) (code : Code) (asks : Asks file progr
             let same : now ≡ w = full_now t w now fresh ek in
             let r = word_of_lock s m h t had start at y runs (act.TryLock a) go em planned x there start_ es known way mid a refl in
             let word : lock_word r.0 ≡ w = (let z : Some (lock_word r.0) ≡ Some now = sym r.2 ∙ ec in (let e : lock_word r.0 ≡ now = cc in e ∙ same)) in
-            let full : w ≡ full_word t = sym word ∙ full_is file.classes h.sorts r.0 t r.1 (ap (λ z. taken_of z t) word ∙ ek) in
+            let full : w ≡ full_word t = sym word ∙ r.1 (ap (λ z. taken_of z t) word ∙ ek) in
             subst Comes (sym (ap (one code t c) is ∙ parts.full c w ek))
             (subst (λ z. Comes (machine_steps.ended_so c z (throwing code (seen y w) Error) (did.Acted (act.TryLock a) (Fails Error)))) is
             (acts_thrown s m h t had start at y runs (act.TryLock a) go em planned x there start_ es known way mid c (Fails Error)
@@ -316,39 +315,41 @@ module _ (file : File) (program : Program) (code : Code) (asks : Asks file progr
                 (acts_here s m h t had start at y runs (act.TryLock a) go em planned x there start_ es known way mid c (Gives 0)
                 (lock_is c a t now taken.Other (Gives 1) (cells.Answers c (Gives 0)) ec (lost_other t w now next_ fresh ek apart)) (λ z. exchanged y 0) (lost_mids go eg parts)).2
 
-      module _ (go : Answer ℕ → Option Thread) (em : whole_move code t y ≡ MoveAsks (act.Unlock a) go) (parts : UnlockParts code t y a) (eg : go ≡ after_unlock code y) where
+      module _ (b : Action ℕ) (unlocks : Unlocking a b) (go : Answer ℕ → Option Thread) (em : whole_move code t y ≡ MoveAsks b go) (parts : UnlockParts code t y a b) (eg : go ≡ after_unlock code y) where
         see_unlock : x ≡ y → Comes (one code t c x)
         see_unlock here = by_owner (is_own (lock_word r.0) t) refl
           where
-            r : Word s m h t had start at y runs (act.Unlock a) go em planned x there start_ es known way mid a
-            r = word_of_lock s m h t had start at y runs (act.Unlock a) go em planned x there start_ es known way mid a refl
+            r : Word s m h t had start at y runs b go em planned x there start_ es known way mid a
+            r = word_of_lock s m h t had start at y runs b go em planned x there start_ es known way mid a unlocks.on
 
             by_owner : (z : Bool) → is_own (lock_word r.0) t ≡ z → Comes (one code t c x)
             by_owner true ez =
                 subst Comes (sym (ap (one code t c) here ∙ parts.see c (lock_word r.0) _ r.2 (own_left (lock_word r.0) t ez)))
-                (saw s m h t had start at y runs (act.Unlock a) go em planned x there start_ es known way mid a (lock_word r.0) refl (sees_now s m h t had start at y runs (act.Unlock a) go em planned x there start_ es known way mid a (lock_word r.0) r.2) ez)
+                (saw s m h t had start at y runs b go em planned x there start_ es known way mid a (lock_word r.0) unlocks.on (sees_now s m h t had start at y runs b go em planned x there start_ es known way mid a (lock_word r.0) r.2) (unlocks.own t (lock_word r.0) ez))
             by_owner false ez =
                 subst Comes (sym (ap (one code t c) here ∙ parts.see_other c (lock_word r.0) r.2 (not_left (lock_word r.0) t ez)))
-                (subst (λ z. Comes (machine_steps.ended_so c z (throwing code y IllegalMonitorState) (did.Acted (act.Unlock a) (Fails IllegalMonitorState)))) here
-                (acts_thrown s m h t had start at y runs (act.Unlock a) go em planned x there start_ es known way mid c (Fails IllegalMonitorState)
-                (unlock_is c a t (lock_word r.0) left.NotOwner r.2 (not_left (lock_word r.0) t ez)) (throwing code y IllegalMonitorState) (ap (λ f. f (Fails IllegalMonitorState)) eg)))
+                (subst (λ z. Comes (machine_steps.ended_so c z (throwing code y IllegalMonitorState) (did.Acted b (Fails IllegalMonitorState)))) here
+                (acts_thrown s m h t had start at y runs b go em planned x there start_ es known way mid c (Fails IllegalMonitorState)
+                (unlocks.does c t ∙ unlock_is c a t (lock_word r.0) left.NotOwner r.2 (not_left (lock_word r.0) t ez)) (throwing code y IllegalMonitorState) (ap (λ f. f (Fails IllegalMonitorState)) eg)))
 
         drop_unlock : (w : ℕ) → x ≡ seen y w → Sees c t a w → is_own w t ≡ true → (next_ : ℕ) → left_of w t ≡ left.Left next_ → Comes (one code t c x)
         drop_unlock w is (now, ec, fresh) own next_ ek =
             let same : now ≡ w = fresh.0 own in
             let st = store_is c a next_ now ec in
             subst Comes (sym (ap (one code t c) is ∙ parts.drop c st.0 w next_ ek (st.1 AnswerDone) _ refl))
-            (acts_so s m h t had start at y runs (act.Unlock a) go em planned x there start_ es known way mid st.0 AnswerDone
-            (unlock_is c a t now (left.Left next_) ec (ap (λ z. left_of z t) same ∙ ek) ∙ st.1 AnswerDone) _ (ap (λ f. f AnswerDone) eg))
+            (acts_so s m h t had start at y runs b go em planned x there start_ es known way mid st.0 AnswerDone
+            (unlocks.does c t ∙ unlock_is c a t now (left.Left next_) ec (ap (λ z. left_of z t) same ∙ ek) ∙ st.1 AnswerDone) _ (ap (λ f. f AnswerDone) eg))
 
     same_lock : (a lock w : ℕ) → Some a ≡ Some lock → Sees m.cells t lock w → Sees m.cells t a w
     same_lock a lock w e sees = (let z : lock ≡ a = cc in subst (λ v. Sees m.cells t v w) z sees)
 
     -- SEE, by the operation
     see_any : (b : Action ℕ) (go : Answer ℕ → Option Thread) → whole_move code t y ≡ MoveAsks b go → IsPlanned (thread_move code y) → Parts code t y b go → x ≡ y → Comes (one code t m.cells x)
-    see_any (act.Lock a) go em planned parts here = see_lock a planned go em parts.0 parts.1 here
+    see_any (act.Lock a) go em planned parts here = see_lock a planned (act.Lock a) (of_lock a) go em parts.0 parts.1 here
+    see_any (act.LockMonitor a) go em planned parts here = see_lock a planned (act.LockMonitor a) (of_monitor a) go em parts.0 parts.1 here
     see_any (act.TryLock a) go em planned parts here = see_try a planned go em parts.0 parts.1 here
-    see_any (act.Unlock a) go em planned parts here = see_unlock a planned go em parts.0 parts.1 here
+    see_any (act.Unlock a) go em planned parts here = see_unlock a planned (act.Unlock a) (off_lock a) go em parts.0 parts.1 here
+    see_any (act.UnlockMonitor a) go em planned parts here = see_unlock a planned (act.UnlockMonitor a) (off_monitor a) go em parts.0 parts.1 here
     see_any (act.ReadField o i) go em planned parts here = absurd parts
     see_any (act.WriteField o i v) go em planned parts here = absurd parts
     see_any (act.ReadItem o i) go em planned parts here = absurd parts
@@ -372,9 +373,11 @@ module _ (file : File) (program : Program) (code : Code) (asks : Asks file progr
 
     -- TAKE and DROP, by the operation
     take_any : (b : Action ℕ) (go : Answer ℕ → Option Thread) → whole_move code t y ≡ MoveAsks b go → IsPlanned (thread_move code y) → Parts code t y b go → (lock w : ℕ) → lock_on b ≡ Some lock → x ≡ seen y w → Sees m.cells t lock w → OwnFor t w b → Comes (one code t m.cells x)
-    take_any (act.Lock a) go em planned parts lock w on is sees own = take_lock a planned go em parts.0 parts.1 w is (same_lock a lock w on sees) (taken_of w t) refl
+    take_any (act.LockMonitor a) go em planned parts lock w on is sees own = take_lock a planned (act.LockMonitor a) (of_monitor a) go em parts.0 parts.1 w is (same_lock a lock w on sees) (taken_of w t) refl
+    take_any (act.Lock a) go em planned parts lock w on is sees own = take_lock a planned (act.Lock a) (of_lock a) go em parts.0 parts.1 w is (same_lock a lock w on sees) (taken_of w t) refl
     take_any (act.TryLock a) go em planned parts lock w on is sees own = take_try a planned go em parts.0 parts.1 w is (same_lock a lock w on sees) own (taken_of w t) refl
-    take_any (act.Unlock a) go em planned parts lock w on is sees own = drop_unlock a planned go em parts.0 parts.1 w is (same_lock a lock w on sees) own _ (own_left w t own)
+    take_any (act.UnlockMonitor a) go em planned parts lock w on is sees own = drop_unlock a planned (act.UnlockMonitor a) (off_monitor a) go em parts.0 parts.1 w is (same_lock a lock w on sees) own _ (own_left w t own)
+    take_any (act.Unlock a) go em planned parts lock w on is sees own = drop_unlock a planned (act.Unlock a) (off_lock a) go em parts.0 parts.1 w is (same_lock a lock w on sees) own _ (own_left w t own)
     take_any (act.ReadField o i) go em planned parts lock w on is sees own = absurd parts
     take_any (act.WriteField o i v) go em planned parts lock w on is sees own = absurd parts
     take_any (act.ReadItem o i) go em planned parts lock w on is sees own = absurd parts
@@ -417,9 +420,9 @@ module _ (file : File) (program : Program) (code : Code) (asks : Asks file progr
       back_whole s m h t had start at each.3 (sym (ap (λ z. z.mode) e) ∙ runs) x there each.0 each.1 each.2 each.4 (Here e) e (whole_move code t each.3) refl
   back_middle s m h t had start at x runs there each (Saw r b go lock w em planned on is sees own) =
       take_any s m h t had start at each.3 r x there each.0 each.1 each.2 each.4 (Saw r b go lock w em planned on is sees own) b go em planned (parts_are_there code t each.3 b go planned em) lock w on is sees own
-  back_middle s m h t had start at x runs there each (Lost r a go em planned is) =
-      let parts = parts_are_there code t each.3 (act.Lock a) go planned em in
-      back_lock s m h t had start at each.3 r x there each.0 each.1 each.2 each.4 (Lost r a go em planned is) a planned go em parts.0 parts.1 is
+  back_middle s m h t had start at x runs there each (Lost r a b locks go em planned is) =
+      let parts = locks.parts code t each.3 go (parts_are_there code t each.3 b go planned em) in
+      back_lock s m h t had start at each.3 r x there each.0 each.1 each.2 each.4 (Lost r a b locks go em planned is) a planned b locks go em parts.0 parts.1 is
   back_middle s m h t had start at x runs there each (Told r z a w parts ey ex ek) =
       let silent : whole_move code t each.3 ≡ Silent (exchanged z 0) = ap (whole_move code t) ey ∙ parts.told_whole (word_of_another t) (another_is t) in
       subst (λ o. BackStep s m t (so t (moved m t o))) (sym (ap (one code t m.cells) ex ∙ parts.told m.cells w ek))

@@ -1,5 +1,6 @@
 -- One step of the source, and what the machine does for it.
 use Rattle.std.proofs.Common.{◌≡◌, ℕ, zero, suc, ◌+◌, ◌<◌, ◌≤◌, Bool, true, false, ◌||◌, List, [], ◌∷◌, ◌++◌, length, Option, Some, None, refl, sym, ap, ◌∙◌, subst, arith, slice_get, nat_eq, if◌then◌else◌}
+use Rattle.ls_code.specs.Limits.{most_cells}
 use Rattle.ls_events.specs.declared.value.Value.{Value}
 use Rattle.ls_events.specs.declared.value.ValueType.{ValueType}
 use Rattle.ls_events.specs.declared.action.Action.{Action}
@@ -38,7 +39,7 @@ use Rattle.ls_headline.proofs.AllCases.{names_of}
 use Rattle.ls_headline.proofs.Following
 use Rattle.ls_headline.proofs.Bursts
 
-module _ (file : File) (program : Program) (code : Code) (asks : Asks file program code) (sound : Means file program) (room : ℕ) (small : room ≤ 1048576) where
+module _ (file : File) (program : Program) (code : Code) (asks : Asks file program code) (sound : Means file program) (room : ℕ) (small : room ≤ most_cells) where
   abbrev names : ℕ
   names = length (names_of program)
 

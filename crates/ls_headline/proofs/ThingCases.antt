@@ -1,21 +1,22 @@
 -- The acting cases of arrays, locks and markables.
-use Rattle.std.proofs.Common.{◌≡◌, ◌≢◌, ◌⊎◌, inl, inr, ℕ, zero, suc, ◌+◌, ◌-◌, ◌*◌, ◌/◌, ◌%◌, ◌<◌, ◌≤◌, ◌^◌, ◌==◌, ℤ, pos, negsuc, Bool, true, false, not, ◌&&◌, List, [], ◌∷◌, length, Some, refl, sym, ap, ◌∙◌, arith, slice_get, slice_set, nat_eq, nat_lt, nat_le, unsigned_abs, if◌then◌else◌}
+use Rattle.std.proofs.Common.{◌≡◌, ◌≢◌, ◌⊎◌, inl, inr, ℕ, zero, suc, ◌+◌, ◌-◌, ◌*◌, ◌/◌, ◌%◌, ◌<◌, ◌≤◌, ◌^◌, ◌==◌, ℤ, pos, negsuc, Bool, true, false, not, ◌&&◌, List, [], ◌∷◌, length, Some, refl, sym, ap, ◌∙◌, arith, slice_get, slice_set, nat_eq, nat_lt, nat_le, unsigned_abs, if◌then◌else◌, map}
 use Rattle.std.proofs.lemmas.Bool.{eq-eqb}
 use Rattle.std.proofs.lemmas.Bool.Decides.{eqb_tells, nat_tests}
+use Rattle.ls_code.specs.Limits.{most_cells}
 use Rattle.ls_events.specs.declared.kind.Kind.TheVariants.{ArrayIndexOutOfBounds, IllegalMonitorState, Error}
 use Rattle.ls_events.specs.declared.value.Value.{Value}
 use Rattle.ls_events.specs.declared.value.Value.TheVariants.{Int, Boolean, Reference, Pair}
 use Rattle.ls_events.specs.declared.value.ValueType.{ValueType}
 use Rattle.ls_events.specs.declared.value.ValueType.TheVariants as type
 use Rattle.ls_events.specs.declared.action.Action.{Action}
-use Rattle.ls_events.specs.declared.action.Action.TheVariants.{ReadItem, WriteItem, Lock, Unlock, TryLock, IsHeld, ReadPair, SetPair, SwapPair, AttemptMark}
+use Rattle.ls_events.specs.declared.action.Action.TheVariants.{ReadItem, WriteItem, Lock, Unlock, TryLock, IsHeld, LockMonitor, UnlockMonitor, ReadPair, SetPair, SwapPair, AttemptMark}
 use Rattle.ls_events.specs.declared.action.Answer.{Answer}
 use Rattle.ls_events.specs.declared.action.Answer.TheVariants.{Done, Gives, Fails}
 use Rattle.ls_checked.specs.CheckedTree.{Class}
 use Rattle.ls_meaning.specs.declared.sort.Sort.{Sort}
 use Rattle.ls_meaning.specs.declared.sort.Sort.TheVariants.{NoValue, ValueOf, PairOf}
-use Rattle.ls_meaning.specs.Store.{Thing, Object, FreeLock, HeldLock, Markable, Array, Store}
-use Rattle.ls_meaning.specs.Effect.{Effect, Does, Change, Stays, Leaves, on_thing, put_back, with_item, same_mark, trying}
+use Rattle.ls_meaning.specs.Store.{Hold, Free, HeldBy, Thing, Object, LockOf, Markable, Array, Store}
+use Rattle.ls_meaning.specs.Effect.{Effect, Does, Change, Leaves, Holding, Awaits, Becomes, on_thing, put_back, with_item, same_mark, with_hold, locking, trying, unlocking}
 use Rattle.ls_meaning.specs.Threads.{Goes}
 use Rattle.ls_code.specs.Words.{bool_word, pair_word}
 use Rattle.ls_code.specs.Locks.{is_own, taken_of, left_of}
@@ -29,8 +30,8 @@ use Rattle.ls_headline.specs.InWords.{written, map_answer}
 use Rattle.ls_headline.specs.Sorts.{Refers, HasSortBy, HasType, Suits}
 use Rattle.ls_headline.specs.Same.{size_of, total}
 use Rattle.ls_headline.proofs.Lists.{get_within}
-use Rattle.ls_headline.proofs.Cells.{held_word, cells_of, length_all, get_listed, set_listed, item_same, item_other, address_one, offset_below}
-use Rattle.ls_headline.proofs.Effects.{ThingHas, things_length, many_length, renaming, Holds, Agrees}
+use Rattle.ls_headline.proofs.Cells.{held_word, hold_word, cells_of, size_pos, length_all, get_listed, set_listed, item_same, item_other, address_one, offset_below}
+use Rattle.ls_headline.proofs.Effects.{IsHold, ThingHas, things_length, many_length, renaming, Holds, Agrees}
 use Rattle.ls_headline.proofs.FieldCases.{range_same, put, on_is, back_is}
 use Rattle.ls_headline.proofs.FieldCases as cases
 
@@ -110,7 +111,7 @@ half : (k : ℕ) (m : Bool) → k < 2 ^ 32 → pair_word k (bool_word m) / 2 ≡
 half k true h = omega arith
 half k false h = omega arith
 
-module _ (classes : List Class) (named : List ValueType) (sizes : List ℕ) (room : ℕ) (small : room ≤ 1048576) (σ : List ValueType) (st : Store) (c : Cells) (holds : Holds classes named sizes room σ st c) where
+module _ (classes : List Class) (named : List ValueType) (sizes : List ℕ) (room : ℕ) (small : room ≤ most_cells) (σ : List ValueType) (st : Store) (c : Cells) (holds : Holds classes named sizes room σ st c) where
   abbrev ρ : ℕ → ℕ
   ρ = renaming (length named) st
 
@@ -184,9 +185,8 @@ module _ (classes : List Class) (named : List ValueType) (sizes : List ℕ) (roo
       (on_is st n t (ReadItem (suc n) (negsuc k)) (Array size items) at ∙ back_is st n (Array size items) (Fails ArrayIndexOutOfBounds))
       (ap (λ z. on_cell z (λ count. if machine.in_range (negsuc k) count then machine.read_effect c (ρ (suc n)) (unsigned_abs (negsuc k) + 1) else machine.Answers c (Fails ArrayIndexOutOfBounds))) (size_cell n size items at))
       (unchanged (ReadItem (suc n) (negsuc k)) (ValueOf type.Boolean) n (Array size items) (Fails ArrayIndexOutOfBounds) (Fails ArrayIndexOutOfBounds) at refl refl)
-  item_case t n i (Object vs) at has = absurd has
-  item_case t n i FreeLock at has = absurd has
-  item_case t n i (HeldLock u m) at has = absurd has
+  item_case t n i (Object _ vs) at has = absurd has
+  item_case t n i (LockOf _) at has = absurd has
   item_case t n i (Markable v) at has = absurd has
 
   abbrev writes_item : ℤ → Value → ℕ → (ℕ → Value) → Bool → Change
@@ -222,122 +222,155 @@ module _ (classes : List Class) (named : List ValueType) (sizes : List ℕ) (roo
       (on_is st n t (WriteItem (suc n) (negsuc k) v) (Array size items) at ∙ back_is st n (Array size items) (Fails ArrayIndexOutOfBounds))
       (ap (λ z. on_cell z (λ count. if machine.in_range (negsuc k) count then machine.written c (ρ (suc n)) (unsigned_abs (negsuc k) + 1) (written ρ v) Done else machine.Answers c (Fails ArrayIndexOutOfBounds))) (size_cell n size items at))
       (unchanged (WriteItem (suc n) (negsuc k) v) NoValue n (Array size items) (Fails ArrayIndexOutOfBounds) (Fails ArrayIndexOutOfBounds) at refl refl)
-  set_item_case t n i v sort hv (Object vs) at has = absurd has
-  set_item_case t n i v sort hv FreeLock at has = absurd has
-  set_item_case t n i v sort hv (HeldLock u m) at has = absurd has
+  set_item_case t n i v sort hv (Object _ vs) at has = absurd has
+  set_item_case t n i v sort hv (LockOf _) at has = absurd has
   set_item_case t n i v sort hv (Markable w) at has = absurd has
 
-  -- locks
+  -- locks and monitors
   abbrev locked_by : ℕ → Answer ℕ → machine.Effect → Taken → machine.Effect
   locked_by a won other (taken.Taken next) = machine.written c a 0 next won
   locked_by a won other taken.Other = other
   locked_by a won other taken.TooMany = machine.Answers c (Fails Error)
 
-  lock_mine : (a : Action Value) (s : Sort) (x : Answer Value) (won : Answer ℕ) (waiting : Change) (other : machine.Effect) (n t owner holds : ℕ) → Suits (Refers σ) (Goes a s) x → won ≡ map_answer (written ρ) x → Suits (Refers σ) (Goes a s) (Fails Error) → Agree a s (put_back st (suc n) waiting) other → slice_get σ n ≡ Some type.Lock → slice_get st.things n ≡ Some (HeldLock owner holds) → (1 ≤ holds) × (holds ≤ 2147483647) → (b d : Bool) → nat_eq owner t ≡ b → nat_lt holds 2147483647 ≡ d → Agree a s (put_back st (suc n) (if b then (if d then Leaves (HeldLock t (holds + 1)) x else Leaves (HeldLock t holds) (Fails Error)) else waiting)) (locked_by (ρ (suc n)) won other (if b then (if d then taken.Taken (held_word owner holds + 1) else taken.TooMany) else taken.Other))
-  lock_mine a s x won waiting other n t owner holds suit word fail away sort at has false d eb ed = away
-  lock_mine a s x won waiting other n t owner holds suit word fail away sort at has true true eb ed =
-      let same : owner ≡ t = grind (arith, nat_tests) in
-      let less : holds < 2147483647 = grind (arith, nat_tests) in
-      let cells : held_word t (holds + 1) ≡ held_word owner holds + 1 = omega arith in
-      let good : (1 ≤ holds + 1) × (holds + 1 ≤ 2147483647) = (omega arith, omega arith) in
-      agree_at a s _ _ _ _ (back_is st n (HeldLock t (holds + 1)) x) (write_is n 0 (held_word owner holds + 1) (HeldLock owner holds) won at (omega arith))
-      (one_cell n 0 (held_word owner holds + 1) (HeldLock owner holds) (HeldLock t (holds + 1)) type.Lock at sort good refl (omega arith) (ap (λ w. w ∷ []) cells) a s x won suit word)
-  lock_mine a s x won waiting other n t owner holds suit word fail away sort at has true false eb ed =
-      let same : owner ≡ t = grind (arith, nat_tests) in
-      agree_at a s _ _ _ (machine.Answers c (Fails Error)) (back_is st n (HeldLock t holds) (Fails Error)) refl
-      (unchanged a s n (HeldLock t holds) (Fails Error) (Fails Error) (at ∙ ap (λ z. Some (HeldLock z holds)) same) fail refl)
-
-  -- a lock that is taken where it can be, and else does this
-  abbrev locking_as : ℕ → Answer Value → (ℕ → ℕ → Change) → Thing → Change
-  locking_as t x away FreeLock = Leaves (HeldLock t 1) x
-  locking_as t x away (HeldLock owner holds) = if nat_eq owner t then (if nat_lt holds 2147483647 then Leaves (HeldLock t (holds + 1)) x else Leaves (HeldLock t holds) (Fails Error)) else away owner holds
-  locking_as t x away o = Leaves o Done
-
-  taking : (a : Action Value) (s : Sort) (x : Answer Value) (won : Answer ℕ) (away : ℕ → ℕ → Change) (other : machine.Effect) (n t : ℕ) → Suits (Refers σ) (Goes a s) x → won ≡ map_answer (written ρ) x → Suits (Refers σ) (Goes a s) (Fails Error) → ((owner holds : ℕ) → slice_get st.things n ≡ Some (HeldLock owner holds) → Agree a s (put_back st (suc n) (away owner holds)) other) → slice_get σ n ≡ Some type.Lock → (o : Thing) → slice_get st.things n ≡ Some o → ThingHas classes σ o type.Lock → Agree a s (put_back st (suc n) (locking_as t x away o)) (machine.lock_effect c (ρ (suc n)) t won other)
-  taking a s x won away other n t suit word fail else_ sort FreeLock at has =
-      let good : (1 ≤ 1) × (1 ≤ 2147483647) = (omega arith, omega arith) in
-      agree_at a s _ _ _ _ (back_is st n (HeldLock t 1) x)
-      (ap (λ z. on_cell z (λ word. locked_by (ρ (suc n)) won other (taken_of word t))) (cell_is n 0 0 FreeLock at (omega arith) refl)
-      ∙ write_is n 0 ((t + 1) * 2 ^ 32 + 1) FreeLock won at (omega arith))
-      (one_cell n 0 ((t + 1) * 2 ^ 32 + 1) FreeLock (HeldLock t 1) type.Lock at sort good refl (omega arith) refl a s x won suit word)
-  taking a s x won away other n t suit word fail else_ sort (HeldLock owner holds) at has =
-      agree_at a s _ (put_back st (suc n) (locking_as t x away (HeldLock owner holds))) _ _ refl
-      (ap (λ z. on_cell z (λ word. locked_by (ρ (suc n)) won other (taken_of word t))) (cell_is n 0 (held_word owner holds) (HeldLock owner holds) at (omega arith) refl)
-      ∙ ap (locked_by (ρ (suc n)) won other) (held_taken owner holds t (nat_eq owner t) (nat_lt holds 2147483647) refl refl has.1))
-      (lock_mine a s x won (away owner holds) other n t owner holds suit word fail (else_ owner holds at) sort at has (nat_eq owner t) (nat_lt holds 2147483647) refl refl)
-  taking a s x won away other n t suit word fail else_ sort (Object vs) at has = absurd has
-  taking a s x won away other n t suit word fail else_ sort (Markable v) at has = absurd has
-  taking a s x won away other n t suit word fail else_ sort (Array m items) at has = absurd has
-
-  pub lock_case : (t n : ℕ) → slice_get σ n ≡ Some type.Lock → (o : Thing) → slice_get st.things n ≡ Some o → ThingHas classes σ o type.Lock → Agree (Lock (suc n)) NoValue (on_thing st (suc n) t (Lock (suc n))) (machine.effect c t (Lock (ρ (suc n))))
-  lock_case t n sort FreeLock at has =
-      agree_at (Lock (suc n)) NoValue _ _ _ (machine.effect c t (Lock (ρ (suc n)))) (on_is st n t (Lock (suc n)) FreeLock at) refl
-      (taking (Lock (suc n)) NoValue Done Done (λ owner holds. Stays) machine.Waits n t refl refl refl (λ owner holds h. tt) sort FreeLock at has)
-  lock_case t n sort (HeldLock owner holds) at has =
-      agree_at (Lock (suc n)) NoValue _ _ _ (machine.effect c t (Lock (ρ (suc n)))) (on_is st n t (Lock (suc n)) (HeldLock owner holds) at) refl
-      (taking (Lock (suc n)) NoValue Done Done (λ owner holds. Stays) machine.Waits n t refl refl refl (λ owner holds h. tt) sort (HeldLock owner holds) at has)
-  lock_case t n sort (Object vs) at has = absurd has
-  lock_case t n sort (Markable v) at has = absurd has
-  lock_case t n sort (Array m items) at has = absurd has
-
-  pub try_case : (t n : ℕ) → slice_get σ n ≡ Some type.Lock → (o : Thing) → slice_get st.things n ≡ Some o → ThingHas classes σ o type.Lock → Agree (TryLock (suc n)) (ValueOf type.Boolean) (on_thing st (suc n) t (TryLock (suc n))) (machine.effect c t (TryLock (ρ (suc n))))
-  try_case t n sort o at has =
-      agree_at (TryLock (suc n)) (ValueOf type.Boolean) _ _ _ (machine.effect c t (TryLock (ρ (suc n)))) (on_is st n t (TryLock (suc n)) o at ∙ same o) refl
-      (taking (TryLock (suc n)) (ValueOf type.Boolean) (Gives (Boolean true)) (Gives 1) (λ owner holds. Leaves (HeldLock owner holds) (Gives (Boolean false))) (machine.Answers c (Gives 0)) n t tt refl refl
-      (λ owner holds h. agree_at (TryLock (suc n)) (ValueOf type.Boolean) _ _ _ (machine.Answers c (Gives 0)) (back_is st n (HeldLock owner holds) (Gives (Boolean false))) refl (unchanged (TryLock (suc n)) (ValueOf type.Boolean) n (HeldLock owner holds) (Gives (Boolean false)) (Gives 0) h tt refl)) sort o at has)
-    where
-      same : (o : Thing) → put_back st (suc n) (trying t o) ≡ put_back st (suc n) (locking_as t (Gives (Boolean true)) (λ owner holds. Leaves (HeldLock owner holds) (Gives (Boolean false))) o)
-      same FreeLock = refl
-      same (HeldLock owner holds) = refl
-      same (Object vs) = refl
-      same (Markable v) = refl
-      same (Array m items) = refl
-
   abbrev unlocked_by : ℕ → Left → machine.Effect
   unlocked_by a (left.Left next) = machine.written c a 0 next Done
   unlocked_by a left.NotOwner = machine.Answers c (Fails IllegalMonitorState)
 
-  unlock_mine : (n t owner holds : ℕ) → slice_get σ n ≡ Some type.Lock → slice_get st.things n ≡ Some (HeldLock owner holds) → (1 ≤ holds) × (holds ≤ 2147483647) → (b d : Bool) → nat_eq owner t ≡ b → nat_lt 1 holds ≡ d → Agree (Unlock (suc n)) NoValue (put_back st (suc n) (if b then Leaves (if d then HeldLock t (holds - 1) else FreeLock) Done else Leaves (HeldLock owner holds) (Fails IllegalMonitorState))) (unlocked_by (ρ (suc n)) (if b then left.Left (if d then held_word owner holds - 1 else 0) else left.NotOwner))
-  unlock_mine n t owner holds sort at has false d eb ed =
-      agree_at (Unlock (suc n)) NoValue _ _ _ (machine.Answers c (Fails IllegalMonitorState)) (back_is st n (HeldLock owner holds) (Fails IllegalMonitorState)) refl
-      (unchanged (Unlock (suc n)) NoValue n (HeldLock owner holds) (Fails IllegalMonitorState) (Fails IllegalMonitorState) at refl refl)
-  unlock_mine n t owner holds sort at has true true eb ed =
-      let same : owner ≡ t = grind (arith, nat_tests) in
-      let more : 1 < holds = grind (arith, nat_tests) in
-      let least : 1 ≤ holds = has.0 in
-      let most : holds ≤ 2147483647 = has.1 in
-      let cells : held_word t (holds - 1) ≡ held_word owner holds - 1 = omega arith in
-      let good : (1 ≤ holds - 1) × (holds - 1 ≤ 2147483647) = (omega arith, omega arith) in
-      agree_at (Unlock (suc n)) NoValue _ _ _ _ (back_is st n (HeldLock t (holds - 1)) Done) (write_is n 0 (held_word owner holds - 1) (HeldLock owner holds) Done at (omega arith))
-      (one_cell n 0 (held_word owner holds - 1) (HeldLock owner holds) (HeldLock t (holds - 1)) type.Lock at sort good refl (omega arith) (ap (λ w. w ∷ []) cells) (Unlock (suc n)) NoValue Done Done refl refl)
-  unlock_mine n t owner holds sort at has true false eb ed =
-      agree_at (Unlock (suc n)) NoValue _ _ _ _ (back_is st n FreeLock Done) (write_is n 0 0 (HeldLock owner holds) Done at (omega arith))
-      (one_cell n 0 0 (HeldLock owner holds) FreeLock type.Lock at sort tt refl (omega arith) refl (Unlock (suc n)) NoValue Done Done refl refl)
+  -- a hold that is taken where it can be, and else does this
+  abbrev locking_as : ℕ → Answer Value → (ℕ → ℕ → Holding) → Hold → Holding
+  locking_as t x away Free = Becomes (HeldBy t 1) x
+  locking_as t x away (HeldBy owner holds) = if nat_eq owner t then (if nat_lt holds 2147483647 then Becomes (HeldBy t (holds + 1)) x else Becomes (HeldBy t holds) (Fails Error)) else away owner holds
+
+  -- of a thing whose first cell is the word of its hold
+  module _ (thing : Hold → Thing) (kind : ValueType) (rest : List ℕ) (is : (h : Hold) → cells_of ρ (thing h) ≡ hold_word h ∷ rest) (size : (g h : Hold) → size_of (thing g) ≡ size_of (thing h)) (good : (h : Hold) → IsHold h → ThingHas classes σ (thing h) kind) (n : ℕ) (sort : slice_get σ n ≡ Some kind) where
+    hold_is : (h : Hold) → slice_get st.things n ≡ Some (thing h) → cell_at c (ρ (suc n)) 0 ≡ Some (hold_word h)
+    hold_is h at = cell_is n 0 (hold_word h) (thing h) at (omega (arith, size_pos (thing h))) (ap (λ l. slice_get l 0) (is h))
+
+    becomes : (a : Action Value) (s : Sort) (x : Answer Value) (v : Answer ℕ) (w : ℕ) (g h : Hold) → Suits (Refers σ) (Goes a s) x → v ≡ map_answer (written ρ) x → slice_get st.things n ≡ Some (thing g) → IsHold h → w ≡ hold_word h → Agree a s (put_back st (suc n) (Leaves (thing h) x)) (machine.written c (ρ (suc n)) 0 w v)
+    becomes a s x v w g h suit word at ok ew =
+        agree_at a s _ _ _ _ (back_is st n (thing h) x) (ap (λ z. machine.written c (ρ (suc n)) 0 z v) ew ∙ write_is n 0 (hold_word h) (thing g) v at (omega (arith, size_pos (thing g))))
+        (one_cell n 0 (hold_word h) (thing g) (thing h) kind at sort (good h ok) (size h g) (omega (arith, size_pos (thing g))) (is h ∙ ap (λ l. slice_set l 0 (hold_word h)) (sym (is g))) a s x v suit word)
+
+    keeps : (a : Action Value) (s : Sort) (x : Answer Value) (v : Answer ℕ) (h : Hold) → Suits (Refers σ) (Goes a s) x → v ≡ map_answer (written ρ) x → slice_get st.things n ≡ Some (thing h) → Agree a s (put_back st (suc n) (Leaves (thing h) x)) (machine.Answers c v)
+    keeps a s x v h suit word at = agree_at a s _ _ _ (machine.Answers c v) (back_is st n (thing h) x) refl (unchanged a s n (thing h) x v at suit word)
+
+    lock_mine : (a : Action Value) (s : Sort) (x : Answer Value) (won : Answer ℕ) (waiting : Holding) (other : machine.Effect) (t owner holds : ℕ) → Suits (Refers σ) (Goes a s) x → won ≡ map_answer (written ρ) x → Suits (Refers σ) (Goes a s) (Fails Error) → Agree a s (put_back st (suc n) (with_hold thing waiting)) other → slice_get st.things n ≡ Some (thing (HeldBy owner holds)) → (1 ≤ holds) × (holds ≤ 2147483647) → (b d : Bool) → nat_eq owner t ≡ b → nat_lt holds 2147483647 ≡ d → Agree a s (put_back st (suc n) (with_hold thing (if b then (if d then Becomes (HeldBy t (holds + 1)) x else Becomes (HeldBy t holds) (Fails Error)) else waiting))) (locked_by (ρ (suc n)) won other (if b then (if d then taken.Taken (held_word owner holds + 1) else taken.TooMany) else taken.Other))
+    lock_mine a s x won waiting other t owner holds suit word fail away at has false d eb ed = away
+    lock_mine a s x won waiting other t owner holds suit word fail away at has true true eb ed =
+        let same : owner ≡ t = grind (arith, nat_tests) in
+        let less : holds < 2147483647 = grind (arith, nat_tests) in
+        let cells : held_word owner holds + 1 ≡ held_word t (holds + 1) = omega arith in
+        let good : (1 ≤ holds + 1) × (holds + 1 ≤ 2147483647) = (omega arith, omega arith) in
+        becomes a s x won (held_word owner holds + 1) (HeldBy owner holds) (HeldBy t (holds + 1)) suit word at good cells
+    lock_mine a s x won waiting other t owner holds suit word fail away at has true false eb ed =
+        let same : owner ≡ t = grind (arith, nat_tests) in
+        keeps a s (Fails Error) (Fails Error) (HeldBy t holds) fail refl (at ∙ ap (λ z. Some (thing (HeldBy z holds))) same)
+
+    taking : (a : Action Value) (s : Sort) (x : Answer Value) (won : Answer ℕ) (away : ℕ → ℕ → Holding) (other : machine.Effect) (t : ℕ) → Suits (Refers σ) (Goes a s) x → won ≡ map_answer (written ρ) x → Suits (Refers σ) (Goes a s) (Fails Error) → ((owner holds : ℕ) → slice_get st.things n ≡ Some (thing (HeldBy owner holds)) → Agree a s (put_back st (suc n) (with_hold thing (away owner holds))) other) → (h : Hold) → slice_get st.things n ≡ Some (thing h) → IsHold h → Agree a s (put_back st (suc n) (with_hold thing (locking_as t x away h))) (machine.lock_effect c (ρ (suc n)) t won other)
+    taking a s x won away other t suit word fail else_ Free at has =
+        agree_at a s _ (put_back st (suc n) (with_hold thing (locking_as t x away Free))) _ _ refl
+        (ap (λ z. on_cell z (λ word. locked_by (ρ (suc n)) won other (taken_of word t))) (hold_is Free at))
+        (becomes a s x won ((t + 1) * 2 ^ 32 + 1) Free (HeldBy t 1) suit word at (omega arith, omega arith) refl)
+    taking a s x won away other t suit word fail else_ (HeldBy owner holds) at has =
+        agree_at a s _ (put_back st (suc n) (with_hold thing (locking_as t x away (HeldBy owner holds)))) _ _ refl
+        (ap (λ z. on_cell z (λ word. locked_by (ρ (suc n)) won other (taken_of word t))) (hold_is (HeldBy owner holds) at)
+        ∙ ap (locked_by (ρ (suc n)) won other) (held_taken owner holds t (nat_eq owner t) (nat_lt holds 2147483647) refl refl has.1))
+        (lock_mine a s x won (away owner holds) other t owner holds suit word fail (else_ owner holds at) at has (nat_eq owner t) (nat_lt holds 2147483647) refl refl)
+
+    -- waits for another
+    waiting : (a : Action Value) (t : ℕ) → Suits (Refers σ) (Goes a NoValue) (Fails Error) → (h : Hold) → slice_get st.things n ≡ Some (thing h) → IsHold h → Agree a NoValue (put_back st (suc n) (with_hold thing (locking t h))) (machine.lock_effect c (ρ (suc n)) t Done machine.Waits)
+    waiting a t fail h at has =
+        agree_at a NoValue _ _ _ (machine.lock_effect c (ρ (suc n)) t Done machine.Waits) (ap (λ z. put_back st (suc n) (with_hold thing z)) (same h)) refl
+        (taking a NoValue Done Done (λ owner holds. Awaits) machine.Waits t refl refl fail (λ owner holds h. tt) h at has)
+      where
+        same : (h : Hold) → locking t h ≡ locking_as t Done (λ owner holds. Awaits) h
+        same Free = refl
+        same (HeldBy owner holds) = refl
+
+    -- doesn't wait for another
+    trying_it : (a : Action Value) (t : ℕ) → Suits (Refers σ) (Goes a (ValueOf type.Boolean)) (Fails Error) → (h : Hold) → slice_get st.things n ≡ Some (thing h) → IsHold h → Agree a (ValueOf type.Boolean) (put_back st (suc n) (with_hold thing (trying t h))) (machine.lock_effect c (ρ (suc n)) t (Gives 1) (machine.Answers c (Gives 0)))
+    trying_it a t fail h at has =
+        agree_at a (ValueOf type.Boolean) _ _ _ (machine.lock_effect c (ρ (suc n)) t (Gives 1) (machine.Answers c (Gives 0))) (ap (λ z. put_back st (suc n) (with_hold thing z)) (same h)) refl
+        (taking a (ValueOf type.Boolean) (Gives (Boolean true)) (Gives 1) (λ owner holds. Becomes (HeldBy owner holds) (Gives (Boolean false))) (machine.Answers c (Gives 0)) t tt refl fail
+        (λ owner holds h. keeps a (ValueOf type.Boolean) (Gives (Boolean false)) (Gives 0) (HeldBy owner holds) tt refl h) h at has)
+      where
+        same : (h : Hold) → trying t h ≡ locking_as t (Gives (Boolean true)) (λ owner holds. Becomes (HeldBy owner holds) (Gives (Boolean false))) h
+        same Free = refl
+        same (HeldBy owner holds) = refl
+
+    unlock_mine : (a : Action Value) (t owner holds : ℕ) → Suits (Refers σ) (Goes a NoValue) (Fails IllegalMonitorState) → slice_get st.things n ≡ Some (thing (HeldBy owner holds)) → (1 ≤ holds) × (holds ≤ 2147483647) → (b d : Bool) → nat_eq owner t ≡ b → nat_lt 1 holds ≡ d → Agree a NoValue (put_back st (suc n) (with_hold thing (if b then Becomes (if d then HeldBy t (holds - 1) else Free) Done else Becomes (HeldBy owner holds) (Fails IllegalMonitorState)))) (unlocked_by (ρ (suc n)) (if b then left.Left (if d then held_word owner holds - 1 else 0) else left.NotOwner))
+    unlock_mine a t owner holds fail at has false d eb ed = keeps a NoValue (Fails IllegalMonitorState) (Fails IllegalMonitorState) (HeldBy owner holds) fail refl at
+    unlock_mine a t owner holds fail at has true true eb ed =
+        let same : owner ≡ t = grind (arith, nat_tests) in
+        let more : 1 < holds = grind (arith, nat_tests) in
+        let least : 1 ≤ holds = has.0 in
+        let most : holds ≤ 2147483647 = has.1 in
+        let cells : held_word owner holds - 1 ≡ held_word t (holds - 1) = omega arith in
+        let good : (1 ≤ holds - 1) × (holds - 1 ≤ 2147483647) = (omega arith, omega arith) in
+        becomes a NoValue Done Done (held_word owner holds - 1) (HeldBy owner holds) (HeldBy t (holds - 1)) refl refl at good cells
+    unlock_mine a t owner holds fail at has true false eb ed = becomes a NoValue Done Done 0 (HeldBy owner holds) Free refl refl at tt refl
+
+    leaving : (a : Action Value) (t : ℕ) → Suits (Refers σ) (Goes a NoValue) (Fails IllegalMonitorState) → (h : Hold) → slice_get st.things n ≡ Some (thing h) → IsHold h → Agree a NoValue (put_back st (suc n) (with_hold thing (unlocking t h))) (machine.unlock_effect c (ρ (suc n)) t)
+    leaving a t fail Free at has =
+        agree_at a NoValue _ (put_back st (suc n) (with_hold thing (unlocking t Free))) _ (machine.Answers c (Fails IllegalMonitorState)) refl
+        (ap (λ z. on_cell z (λ word. unlocked_by (ρ (suc n)) (left_of word t))) (hold_is Free at) ∙ ap (unlocked_by (ρ (suc n))) (free_left t))
+        (keeps a NoValue (Fails IllegalMonitorState) (Fails IllegalMonitorState) Free fail refl at)
+    leaving a t fail (HeldBy owner holds) at has =
+        agree_at a NoValue _ (put_back st (suc n) (with_hold thing (unlocking t (HeldBy owner holds)))) _ _ refl
+        (ap (λ z. on_cell z (λ word. unlocked_by (ρ (suc n)) (left_of word t))) (hold_is (HeldBy owner holds) at) ∙ ap (unlocked_by (ρ (suc n))) (held_left owner holds t (nat_eq owner t) (nat_lt 1 holds) refl refl has.1))
+        (unlock_mine a t owner holds fail at has (nat_eq owner t) (nat_lt 1 holds) refl refl)
+
+  pub lock_case : (t n : ℕ) → slice_get σ n ≡ Some type.Lock → (o : Thing) → slice_get st.things n ≡ Some o → ThingHas classes σ o type.Lock → Agree (Lock (suc n)) NoValue (on_thing st (suc n) t (Lock (suc n))) (machine.effect c t (Lock (ρ (suc n))))
+  lock_case t n sort (LockOf h) at has =
+      agree_at (Lock (suc n)) NoValue _ _ _ (machine.effect c t (Lock (ρ (suc n)))) (on_is st n t (Lock (suc n)) (LockOf h) at) refl
+      (waiting LockOf type.Lock [] (λ h. refl) (λ g h. refl) (λ h i. i) n sort (Lock (suc n)) t refl h at has)
+  lock_case t n sort (Object _ vs) at has = absurd has
+  lock_case t n sort (Markable v) at has = absurd has
+  lock_case t n sort (Array m items) at has = absurd has
+
+  pub try_case : (t n : ℕ) → slice_get σ n ≡ Some type.Lock → (o : Thing) → slice_get st.things n ≡ Some o → ThingHas classes σ o type.Lock → Agree (TryLock (suc n)) (ValueOf type.Boolean) (on_thing st (suc n) t (TryLock (suc n))) (machine.effect c t (TryLock (ρ (suc n))))
+  try_case t n sort (LockOf h) at has =
+      agree_at (TryLock (suc n)) (ValueOf type.Boolean) _ _ _ (machine.effect c t (TryLock (ρ (suc n)))) (on_is st n t (TryLock (suc n)) (LockOf h) at) refl
+      (trying_it LockOf type.Lock [] (λ h. refl) (λ g h. refl) (λ h i. i) n sort (TryLock (suc n)) t refl h at has)
+  try_case t n sort (Object _ vs) at has = absurd has
+  try_case t n sort (Markable v) at has = absurd has
+  try_case t n sort (Array m items) at has = absurd has
 
   pub unlock_case : (t n : ℕ) → slice_get σ n ≡ Some type.Lock → (o : Thing) → slice_get st.things n ≡ Some o → ThingHas classes σ o type.Lock → Agree (Unlock (suc n)) NoValue (on_thing st (suc n) t (Unlock (suc n))) (machine.effect c t (Unlock (ρ (suc n))))
-  unlock_case t n sort FreeLock at has =
-      agree_at (Unlock (suc n)) NoValue _ _ _ _ (on_is st n t (Unlock (suc n)) FreeLock at ∙ back_is st n FreeLock (Fails IllegalMonitorState))
-      (ap (λ z. on_cell z (λ word. unlocked_by (ρ (suc n)) (left_of word t))) (cell_is n 0 0 FreeLock at (omega arith) refl) ∙ ap (unlocked_by (ρ (suc n))) (free_left t))
-      (unchanged (Unlock (suc n)) NoValue n FreeLock (Fails IllegalMonitorState) (Fails IllegalMonitorState) at refl refl)
-  unlock_case t n sort (HeldLock owner holds) at has =
-      agree_at (Unlock (suc n)) NoValue _ _ _ _ (on_is st n t (Unlock (suc n)) (HeldLock owner holds) at)
-      (ap (λ z. on_cell z (λ word. unlocked_by (ρ (suc n)) (left_of word t))) (cell_is n 0 (held_word owner holds) (HeldLock owner holds) at (omega arith) refl) ∙ ap (unlocked_by (ρ (suc n))) (held_left owner holds t (nat_eq owner t) (nat_lt 1 holds) refl refl has.1))
-      (unlock_mine n t owner holds sort at has (nat_eq owner t) (nat_lt 1 holds) refl refl)
-  unlock_case t n sort (Object vs) at has = absurd has
+  unlock_case t n sort (LockOf h) at has =
+      agree_at (Unlock (suc n)) NoValue _ _ _ (machine.effect c t (Unlock (ρ (suc n)))) (on_is st n t (Unlock (suc n)) (LockOf h) at) refl
+      (leaving LockOf type.Lock [] (λ h. refl) (λ g h. refl) (λ h i. i) n sort (Unlock (suc n)) t refl h at has)
+  unlock_case t n sort (Object _ vs) at has = absurd has
   unlock_case t n sort (Markable v) at has = absurd has
   unlock_case t n sort (Array m items) at has = absurd has
 
+  pub monitor_case : (t n k : ℕ) → slice_get σ n ≡ Some (type.Class k) → (o : Thing) → slice_get st.things n ≡ Some o → ThingHas classes σ o (type.Class k) → Agree (LockMonitor (suc n)) NoValue (on_thing st (suc n) t (LockMonitor (suc n))) (machine.effect c t (LockMonitor (ρ (suc n))))
+  monitor_case t n k sort (Object h vs) at has =
+      agree_at (LockMonitor (suc n)) NoValue _ _ _ (machine.effect c t (LockMonitor (ρ (suc n)))) (on_is st n t (LockMonitor (suc n)) (Object h vs) at) refl
+      (waiting (λ h. Object h vs) (type.Class k) (map (written ρ) vs) (λ h. refl) (λ g h. refl) (λ h i. (has.0, has.1, i)) n sort (LockMonitor (suc n)) t refl h at has.2)
+  monitor_case t n k sort (LockOf _) at has = absurd has
+  monitor_case t n k sort (Markable v) at has = absurd has
+  monitor_case t n k sort (Array m items) at has = absurd has
+
+  pub leave_case : (t n k : ℕ) → slice_get σ n ≡ Some (type.Class k) → (o : Thing) → slice_get st.things n ≡ Some o → ThingHas classes σ o (type.Class k) → Agree (UnlockMonitor (suc n)) NoValue (on_thing st (suc n) t (UnlockMonitor (suc n))) (machine.effect c t (UnlockMonitor (ρ (suc n))))
+  leave_case t n k sort (Object h vs) at has =
+      agree_at (UnlockMonitor (suc n)) NoValue _ _ _ (machine.effect c t (UnlockMonitor (ρ (suc n)))) (on_is st n t (UnlockMonitor (suc n)) (Object h vs) at) refl
+      (leaving (λ h. Object h vs) (type.Class k) (map (written ρ) vs) (λ h. refl) (λ g h. refl) (λ h i. (has.0, has.1, i)) n sort (UnlockMonitor (suc n)) t refl h at has.2)
+  leave_case t n k sort (LockOf _) at has = absurd has
+  leave_case t n k sort (Markable v) at has = absurd has
+  leave_case t n k sort (Array m items) at has = absurd has
+
   pub held_case : (t n : ℕ) → (o : Thing) → slice_get st.things n ≡ Some o → ThingHas classes σ o type.Lock → Agree (IsHeld (suc n)) (ValueOf type.Boolean) (on_thing st (suc n) t (IsHeld (suc n))) (machine.effect c t (IsHeld (ρ (suc n))))
-  held_case t n FreeLock at has =
+  held_case t n (LockOf Free) at has =
       let e : is_own 0 t ≡ false = grind (arith, nat_tests) in
-      agree_at (IsHeld (suc n)) (ValueOf type.Boolean) _ _ _ _ (on_is st n t (IsHeld (suc n)) FreeLock at ∙ back_is st n FreeLock (Gives (Boolean false)))
-      (ap (λ z. on_cell z (λ word. machine.Answers c (Gives (bool_word (is_own word t))))) (cell_is n 0 0 FreeLock at (omega arith) refl) ∙ ap (λ b. machine.Answers c (Gives (bool_word b))) e)
-      (unchanged (IsHeld (suc n)) (ValueOf type.Boolean) n FreeLock (Gives (Boolean false)) (Gives 0) at tt refl)
-  held_case t n (HeldLock owner holds) at has =
-      agree_at (IsHeld (suc n)) (ValueOf type.Boolean) _ _ _ _ (on_is st n t (IsHeld (suc n)) (HeldLock owner holds) at ∙ back_is st n (HeldLock owner holds) (Gives (Boolean (nat_eq owner t))))
-      (ap (λ z. on_cell z (λ word. machine.Answers c (Gives (bool_word (is_own word t))))) (cell_is n 0 (held_word owner holds) (HeldLock owner holds) at (omega arith) refl) ∙ ap (λ b. machine.Answers c (Gives (bool_word b))) (held_own owner holds t has.1))
-      (unchanged (IsHeld (suc n)) (ValueOf type.Boolean) n (HeldLock owner holds) (Gives (Boolean (nat_eq owner t))) (Gives (bool_word (nat_eq owner t))) at tt refl)
-  held_case t n (Object vs) at has = absurd has
+      agree_at (IsHeld (suc n)) (ValueOf type.Boolean) _ _ _ _ (on_is st n t (IsHeld (suc n)) (LockOf Free) at ∙ back_is st n (LockOf Free) (Gives (Boolean false)))
+      (ap (λ z. on_cell z (λ word. machine.Answers c (Gives (bool_word (is_own word t))))) (cell_is n 0 0 (LockOf Free) at (omega arith) refl) ∙ ap (λ b. machine.Answers c (Gives (bool_word b))) e)
+      (unchanged (IsHeld (suc n)) (ValueOf type.Boolean) n (LockOf Free) (Gives (Boolean false)) (Gives 0) at tt refl)
+  held_case t n (LockOf (HeldBy owner holds)) at has =
+      agree_at (IsHeld (suc n)) (ValueOf type.Boolean) _ _ _ _ (on_is st n t (IsHeld (suc n)) (LockOf (HeldBy owner holds)) at ∙ back_is st n (LockOf (HeldBy owner holds)) (Gives (Boolean (nat_eq owner t))))
+      (ap (λ z. on_cell z (λ word. machine.Answers c (Gives (bool_word (is_own word t))))) (cell_is n 0 (held_word owner holds) (LockOf (HeldBy owner holds)) at (omega arith) refl) ∙ ap (λ b. machine.Answers c (Gives (bool_word b))) (held_own owner holds t has.1))
+      (unchanged (IsHeld (suc n)) (ValueOf type.Boolean) n (LockOf (HeldBy owner holds)) (Gives (Boolean (nat_eq owner t))) (Gives (bool_word (nat_eq owner t))) at tt refl)
+  held_case t n (Object _ vs) at has = absurd has
   held_case t n (Markable v) at has = absurd has
   held_case t n (Array m items) at has = absurd has
 
@@ -347,9 +380,8 @@ module _ (classes : List Class) (named : List ValueType) (sizes : List ℕ) (roo
       agree_at (ReadPair (suc n)) (PairOf k) _ _ _ _ (on_is st n t (ReadPair (suc n)) (Markable v) at ∙ back_is st n (Markable v) (Gives v))
       (ap (λ z. on_cell z (λ word. machine.Answers c (Gives word))) (cell_is n 0 (written ρ v) (Markable v) at (omega arith) refl))
       (unchanged (ReadPair (suc n)) (PairOf k) n (Markable v) (Gives v) (Gives (written ρ v)) at has refl)
-  pair_case t n k (Object vs) at has = absurd has
-  pair_case t n k FreeLock at has = absurd has
-  pair_case t n k (HeldLock u m) at has = absurd has
+  pair_case t n k (Object _ vs) at has = absurd has
+  pair_case t n k (LockOf _) at has = absurd has
   pair_case t n k (Array m items) at has = absurd has
 
   set_cell : (a : Action Value) (s : Sort) (n k : ℕ) (v u : Value) (x : Answer Value) (w : Answer ℕ) → slice_get σ n ≡ Some (type.Markable k) → HasSortBy (Refers σ) v (PairOf k) → slice_get st.things n ≡ Some (Markable u) → Suits (Refers σ) (Goes a s) x → w ≡ map_answer (written ρ) x → Agree a s (put_back st (suc n) (Leaves (Markable v) x)) (machine.written c (ρ (suc n)) 0 (written ρ v) w)
@@ -361,9 +393,8 @@ module _ (classes : List Class) (named : List ValueType) (sizes : List ℕ) (roo
   set_case t n k v sort hv (Markable u) at has =
       agree_at (SetPair (suc n) v) NoValue _ _ _ (machine.effect c t (SetPair (ρ (suc n)) (written ρ v))) (on_is st n t (SetPair (suc n) v) (Markable u) at) refl
       (set_cell (SetPair (suc n) v) NoValue n k v u Done Done sort hv at refl refl)
-  set_case t n k v sort hv (Object vs) at has = absurd has
-  set_case t n k v sort hv FreeLock at has = absurd has
-  set_case t n k v sort hv (HeldLock u m) at has = absurd has
+  set_case t n k v sort hv (Object _ vs) at has = absurd has
+  set_case t n k v sort hv (LockOf _) at has = absurd has
   set_case t n k v sort hv (Array m items) at has = absurd has
 
   pair_eq : (r er : ℕ) (m em : Bool) → (2 * ρ r + bool_word m == 2 * ρ er + bool_word em) ≡ (r == er && same_mark m em)
@@ -393,9 +424,8 @@ module _ (classes : List Class) (named : List ValueType) (sizes : List ℕ) (roo
   swap_case t n k (Boolean b) v sort he hv o at has = absurd he
   swap_case t n k (Reference r) v sort he hv o at has = absurd he
   swap_case t n k (Pair er em) v sort he hv (Markable _) at has = absurd has
-  swap_case t n k (Pair er em) v sort he hv (Object vs) at has = absurd has
-  swap_case t n k (Pair er em) v sort he hv FreeLock at has = absurd has
-  swap_case t n k (Pair er em) v sort he hv (HeldLock u m) at has = absurd has
+  swap_case t n k (Pair er em) v sort he hv (Object _ vs) at has = absurd has
+  swap_case t n k (Pair er em) v sort he hv (LockOf _) at has = absurd has
   swap_case t n k (Pair er em) v sort he hv (Array m items) at has = absurd has
 
   half_eq : (r q k : ℕ) (m : Bool) → Refers σ r (type.Class k) → (written ρ (Pair r m) / 2 == ρ q) ≡ nat_eq r q
@@ -412,7 +442,6 @@ module _ (classes : List Class) (named : List ValueType) (sizes : List ℕ) (roo
       ∙ ap (λ b. if b then machine.written c (ρ (suc n)) 0 (pair_word (ρ q) (bool_word m)) (Gives 1) else machine.Answers c (Gives 0)) (half_eq r q k u has))
       (set_where (AttemptMark (suc n) q m) n k (Pair q m) (Pair r u) sort hq at (nat_eq r q))
   mark_case t n k q m sort hq (Markable _) at has = absurd has
-  mark_case t n k q m sort hq (Object vs) at has = absurd has
-  mark_case t n k q m sort hq FreeLock at has = absurd has
-  mark_case t n k q m sort hq (HeldLock u h) at has = absurd has
+  mark_case t n k q m sort hq (Object _ vs) at has = absurd has
+  mark_case t n k q m sort hq (LockOf _) at has = absurd has
   mark_case t n k q m sort hq (Array h items) at has = absurd has

@@ -1,15 +1,14 @@
 -- No action takes cells away, and a making takes the next ones.
-use Rattle.std.proofs.Common.{◌≡◌, ℕ, zero, suc, ◌+◌, ◌-◌, Bool, true, false, List, [], ◌∷◌, ◌++◌, length, Option, Some, None, refl, sym, ap, ◌∙◌, subst, arith, length-append, slice_get, nat_eq, nat_lt, if◌then◌else◌}
+use Rattle.std.proofs.Common.{◌≡◌, ℕ, zero, suc, ◌+◌, Bool, true, false, List, [], ◌∷◌, ◌++◌, length, Option, Some, None, refl, sym, ap, ◌∙◌, subst, arith, length-append, slice_get, nat_eq, if◌then◌else◌}
 use Rattle.ls_events.specs.declared.value.Value.{Value}
 use Rattle.ls_events.specs.declared.value.Value.TheVariants.{Reference}
 use Rattle.ls_events.specs.declared.action.Action.{Action}
-use Rattle.ls_events.specs.declared.action.Action.TheVariants.{ReadField, WriteField, ReadItem, WriteItem, ReadName, WriteName, New, NewLock, NewMarkable, NewArray, Lock, Unlock, TryLock, IsHeld, ReadPair, SetPair, SwapPair, AttemptMark, Turn, Enter, Call, Return, Trap}
-use Rattle.ls_events.specs.declared.action.Answer.{Answer}
+use Rattle.ls_events.specs.declared.action.Action.TheVariants.{ReadField, WriteField, ReadItem, WriteItem, ReadName, WriteName, New, NewLock, NewMarkable, NewArray, Lock, Unlock, TryLock, IsHeld, LockMonitor, UnlockMonitor, ReadPair, SetPair, SwapPair, AttemptMark, Turn, Enter, Call, Return, Trap}
 use Rattle.ls_events.specs.declared.action.Answer.TheVariants.{Gives}
 use Rattle.ls_checked.specs.CheckedTree.{Class}
-use Rattle.ls_meaning.specs.Store.{Thing, Object, FreeLock, HeldLock, Markable, Array, Store, thing_at}
-use Rattle.ls_meaning.specs.Effect.{Effect, Waits, Does, Change, Stays, Leaves, change, put_back, at_thing, on_thing, making, effect, locking, trying, unlocking, held_more, held_less, in_range, same_pair}
-use Rattle.ls_headline.specs.Threads.{at_least_one}
+use Rattle.ls_meaning.specs.Store.{Hold, Free, Thing, Object, LockOf, Markable, Array, Store, thing_at}
+use Rattle.ls_meaning.specs.Effect.{Effect, Waits, Does, Change, Stays, Leaves, change, put_back, at_thing, on_thing, making, effect, Holding, Awaits, Becomes, with_hold, locking, trying, unlocking, asking_held, in_range, same_pair}
+use Rattle.ls_headline.specs.Threads.{object_cells}
 use Rattle.ls_headline.specs.Same.{size_of}
 use Rattle.ls_headline.proofs.Lists.{length-set}
 use Rattle.ls_headline.proofs.Cells.{sizes_of, sizes-set}
@@ -24,83 +23,70 @@ if_keeps : (n : ℕ) (b : Bool) (d e : Change) → KeepsSize n d → KeepsSize n
 if_keeps n true d e h g = h
 if_keeps n false d e h g = g
 
-more_keeps : (t holds : ℕ) (x : Answer Value) → KeepsSize 1 (held_more t holds x)
-more_keeps t holds x = if_keeps 1 (nat_lt holds 2147483647) _ _ refl refl
+hold_keeps : (thing : Hold → Thing) (n : ℕ) → ((h : Hold) → size_of (thing h) ≡ n) → (x : Holding) → KeepsSize n (with_hold thing x)
+hold_keeps thing n e Awaits = tt
+hold_keeps thing n e (Becomes h y) = e h
 
-less_size : (t holds : ℕ) (b : Bool) → size_of (if b then HeldLock t (holds - 1) else FreeLock) ≡ 1
-less_size t holds true = refl
-less_size t holds false = refl
-
-lock_keeps : (t : ℕ) (o : Thing) → KeepsSize (size_of o) (locking t o)
-lock_keeps t FreeLock = refl
-lock_keeps t (HeldLock owner holds) = if_keeps 1 (nat_eq owner t) (held_more t holds _) Stays (more_keeps t holds _) tt
-lock_keeps t (Object vs) = refl
-lock_keeps t (Markable v) = refl
-lock_keeps t (Array n items) = refl
-
-try_keeps : (t : ℕ) (o : Thing) → KeepsSize (size_of o) (trying t o)
-try_keeps t FreeLock = refl
-try_keeps t (HeldLock owner holds) = if_keeps 1 (nat_eq owner t) (held_more t holds _) (Leaves (HeldLock owner holds) _) (more_keeps t holds _) refl
-try_keeps t (Object vs) = refl
-try_keeps t (Markable v) = refl
-try_keeps t (Array n items) = refl
-
-unlock_keeps : (t : ℕ) (o : Thing) → KeepsSize (size_of o) (unlocking t o)
-unlock_keeps t FreeLock = refl
-unlock_keeps t (HeldLock owner holds) = if_keeps 1 (nat_eq owner t) (Leaves (held_less t holds) _) (Leaves (HeldLock owner holds) _) (less_size t holds (nat_lt 1 holds)) refl
-unlock_keeps t (Object vs) = refl
-unlock_keeps t (Markable v) = refl
-unlock_keeps t (Array n items) = refl
+lock_keeps : (vs : List Value) (x : Holding) → KeepsSize (object_cells (length vs)) (with_hold (λ h. Object h vs) x)
+lock_keeps vs x = hold_keeps (λ h. Object h vs) (object_cells (length vs)) (λ h. refl) x
 
 -- every change keeps the size of its thing
 pub change_keeps : (t : ℕ) (a : Action Value) (o : Thing) → KeepsSize (size_of o) (change t a o)
-change_keeps t (ReadField n f) (Object vs) = refl
-change_keeps t (ReadField n f) FreeLock = refl
-change_keeps t (ReadField n f) (HeldLock u h) = refl
+change_keeps t (ReadField n f) (Object g vs) = refl
+change_keeps t (ReadField n f) (LockOf h) = refl
 change_keeps t (ReadField n f) (Markable v) = refl
 change_keeps t (ReadField n f) (Array s items) = refl
-change_keeps t (WriteField n f v) (Object vs) = ap at_least_one (length-set vs f v)
-change_keeps t (WriteField n f v) FreeLock = refl
-change_keeps t (WriteField n f v) (HeldLock u h) = refl
+change_keeps t (WriteField n f v) (Object g vs) = ap object_cells (length-set vs f v)
+change_keeps t (WriteField n f v) (LockOf h) = refl
 change_keeps t (WriteField n f v) (Markable w) = refl
 change_keeps t (WriteField n f v) (Array s items) = refl
 change_keeps t (ReadItem n i) (Array s items) = if_keeps (s + 1) (in_range i s) _ _ refl refl
-change_keeps t (ReadItem n i) (Object vs) = refl
-change_keeps t (ReadItem n i) FreeLock = refl
-change_keeps t (ReadItem n i) (HeldLock u h) = refl
+change_keeps t (ReadItem n i) (Object g vs) = refl
+change_keeps t (ReadItem n i) (LockOf h) = refl
 change_keeps t (ReadItem n i) (Markable v) = refl
 change_keeps t (WriteItem n i v) (Array s items) = if_keeps (s + 1) (in_range i s) _ _ refl refl
-change_keeps t (WriteItem n i v) (Object vs) = refl
-change_keeps t (WriteItem n i v) FreeLock = refl
-change_keeps t (WriteItem n i v) (HeldLock u h) = refl
+change_keeps t (WriteItem n i v) (Object g vs) = refl
+change_keeps t (WriteItem n i v) (LockOf h) = refl
 change_keeps t (WriteItem n i v) (Markable w) = refl
-change_keeps t (Lock n) o = lock_keeps t o
-change_keeps t (Unlock n) o = unlock_keeps t o
-change_keeps t (TryLock n) o = try_keeps t o
-change_keeps t (IsHeld n) (Object vs) = refl
-change_keeps t (IsHeld n) FreeLock = refl
-change_keeps t (IsHeld n) (HeldLock u h) = refl
+change_keeps t (Lock n) (LockOf h) = hold_keeps LockOf 1 (λ h. refl) (locking t h)
+change_keeps t (Lock n) (Object g vs) = refl
+change_keeps t (Lock n) (Markable v) = refl
+change_keeps t (Lock n) (Array s items) = refl
+change_keeps t (Unlock n) (LockOf h) = hold_keeps LockOf 1 (λ h. refl) (unlocking t h)
+change_keeps t (Unlock n) (Object g vs) = refl
+change_keeps t (Unlock n) (Markable v) = refl
+change_keeps t (Unlock n) (Array s items) = refl
+change_keeps t (TryLock n) (LockOf h) = hold_keeps LockOf 1 (λ h. refl) (trying t h)
+change_keeps t (TryLock n) (Object g vs) = refl
+change_keeps t (TryLock n) (Markable v) = refl
+change_keeps t (TryLock n) (Array s items) = refl
+change_keeps t (IsHeld n) (LockOf h) = hold_keeps LockOf 1 (λ h. refl) (asking_held t h)
+change_keeps t (IsHeld n) (Object g vs) = refl
 change_keeps t (IsHeld n) (Markable v) = refl
 change_keeps t (IsHeld n) (Array s items) = refl
-change_keeps t (ReadPair n) (Object vs) = refl
-change_keeps t (ReadPair n) FreeLock = refl
-change_keeps t (ReadPair n) (HeldLock u h) = refl
+change_keeps t (LockMonitor n) (LockOf h) = refl
+change_keeps t (LockMonitor n) (Object g vs) = lock_keeps vs (locking t g)
+change_keeps t (LockMonitor n) (Markable v) = refl
+change_keeps t (LockMonitor n) (Array s items) = refl
+change_keeps t (UnlockMonitor n) (LockOf h) = refl
+change_keeps t (UnlockMonitor n) (Object g vs) = lock_keeps vs (unlocking t g)
+change_keeps t (UnlockMonitor n) (Markable v) = refl
+change_keeps t (UnlockMonitor n) (Array s items) = refl
+change_keeps t (ReadPair n) (Object g vs) = refl
+change_keeps t (ReadPair n) (LockOf h) = refl
 change_keeps t (ReadPair n) (Markable v) = refl
 change_keeps t (ReadPair n) (Array s items) = refl
-change_keeps t (SetPair n v) (Object vs) = refl
-change_keeps t (SetPair n v) FreeLock = refl
-change_keeps t (SetPair n v) (HeldLock u h) = refl
+change_keeps t (SetPair n v) (Object g vs) = refl
+change_keeps t (SetPair n v) (LockOf h) = refl
 change_keeps t (SetPair n v) (Markable w) = refl
 change_keeps t (SetPair n v) (Array s items) = refl
 change_keeps t (SwapPair n e v) (Markable w) = if_keeps 1 (same_pair w e) _ _ refl refl
-change_keeps t (SwapPair n e v) (Object vs) = refl
-change_keeps t (SwapPair n e v) FreeLock = refl
-change_keeps t (SwapPair n e v) (HeldLock u h) = refl
+change_keeps t (SwapPair n e v) (Object g vs) = refl
+change_keeps t (SwapPair n e v) (LockOf h) = refl
 change_keeps t (SwapPair n e v) (Array s items) = refl
 change_keeps t (AttemptMark n r m) (Markable w) = if_keeps 1 (nat_eq _ r) _ _ refl refl
-change_keeps t (AttemptMark n r m) (Object vs) = refl
-change_keeps t (AttemptMark n r m) FreeLock = refl
-change_keeps t (AttemptMark n r m) (HeldLock u h) = refl
+change_keeps t (AttemptMark n r m) (Object g vs) = refl
+change_keeps t (AttemptMark n r m) (LockOf h) = refl
 change_keeps t (AttemptMark n r m) (Array s items) = refl
 change_keeps t (ReadName n) o = refl
 change_keeps t (WriteName n v) o = refl
@@ -163,13 +149,15 @@ module _ (st : Store) where
   keeps classes t (ReadName n) = refl
   keeps classes t (WriteName n v) = refl
   keeps classes t (New k) = one_more _
-  keeps classes t NewLock = one_more FreeLock
+  keeps classes t NewLock = one_more (LockOf Free)
   keeps classes t (NewMarkable v) = one_more (Markable v)
   keeps classes t (NewArray n) = one_more _
   keeps classes t (Lock n) = on_keeps n t (Lock n)
   keeps classes t (Unlock n) = on_keeps n t (Unlock n)
   keeps classes t (TryLock n) = on_keeps n t (TryLock n)
   keeps classes t (IsHeld n) = on_keeps n t (IsHeld n)
+  keeps classes t (LockMonitor n) = on_keeps n t (LockMonitor n)
+  keeps classes t (UnlockMonitor n) = on_keeps n t (UnlockMonitor n)
   keeps classes t (ReadPair n) = on_keeps n t (ReadPair n)
   keeps classes t (SetPair n v) = on_keeps n t (SetPair n v)
   keeps classes t (SwapPair n e v) = on_keeps n t (SwapPair n e v)

@@ -39,6 +39,8 @@ abbrev pub is_on_lock : Action ℕ → Bool
 is_on_lock (act.Lock lock) = true
 is_on_lock (act.TryLock lock) = true
 is_on_lock (act.Unlock lock) = true
+is_on_lock (act.LockMonitor object) = true
+is_on_lock (act.UnlockMonitor object) = true
 is_on_lock a = false
 
 -- what the next of the words is for: for the action of a pause, or for the exchange of an operation that has seen a word
@@ -63,7 +65,7 @@ ends_with p n bound go x next = in_front x (next (Waits (quiet_from p n bound (g
 abbrev pub too_many : Code → ℕ → ℕ → (Answer ℕ → Option Thread) → ℕ → (Stage → Read) → Read
 too_many p n bound go word next = if word == full_word n then ends_with p n bound go (Fails Error) next else None
 
--- `lock()` looks again where another thread owns the lock; `tryLock()` is over then
+-- `lock()`, and the lock of a monitor, looks again where another thread is the owner; `tryLock()` is over then
 abbrev pub seen_by_lock : Code → ℕ → ℕ → Action ℕ → (Answer ℕ → Option Thread) → ℕ → Taken → (Stage → Read) → Read
 seen_by_lock p n bound a go word (taken.Taken changed) next = next (Exchanges a go)
 seen_by_lock p n bound a go word taken.Other next = next (Waits (Paused a go))
@@ -80,6 +82,9 @@ sees p n bound (act.Lock lock) go word next = seen_by_lock p n bound (act.Lock l
 sees p n bound (act.TryLock lock) go word next = seen_by_try p n bound (act.TryLock lock) go word (taken_of word n) next
 sees p n bound (act.Unlock lock) go word next =
     if is_own word n then ends_with p n bound go Done next else ends_with p n bound go (Fails IllegalMonitorState) next
+sees p n bound (act.LockMonitor object) go word next = seen_by_lock p n bound (act.LockMonitor object) go word (taken_of word n) next
+sees p n bound (act.UnlockMonitor object) go word next =
+    if is_own word n then ends_with p n bound go Done next else ends_with p n bound go (Fails IllegalMonitorState) next
 sees p n bound a go word next = None
 
 -- the outcome of TAKE: 1 where it is won; `lock()` looks again where it is lost
@@ -88,6 +93,8 @@ exchanges p n bound (act.Lock lock) go won next =
     if won == 1 then ends_with p n bound go Done next else next (Waits (Paused (act.Lock lock) go))
 exchanges p n bound (act.TryLock lock) go won next =
     if won == 1 then ends_with p n bound go (Gives 1) next else ends_with p n bound go (Gives 0) next
+exchanges p n bound (act.LockMonitor object) go won next =
+    if won == 1 then ends_with p n bound go Done next else next (Waits (Paused (act.LockMonitor object) go))
 exchanges p n bound a go won next = None
 
 abbrev pub on_word : Answer ℕ → (ℕ → Read) → Read

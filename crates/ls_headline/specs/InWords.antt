@@ -1,9 +1,9 @@
 -- Values, actions, answers and traces of the source, written in machine words.
-use Rattle.std.specs.Prelude.{◌≡◌, ℕ, zero, suc, ◌≤◌, List, [], ◌∷◌, map, Option, Some, None, ◌<◌, ◌^◌}
+use Rattle.std.specs.Prelude.{◌≡◌, ℕ, zero, suc, ◌+◌, ◌≤◌, List, [], ◌∷◌, map, Option, Some, None, ◌<◌, ◌^◌}
 use Rattle.ls_events.specs.declared.value.Value.{Value}
 use Rattle.ls_events.specs.declared.value.Value.TheVariants.{Int, Boolean, Reference, Pair}
 use Rattle.ls_events.specs.declared.action.Action.{Action}
-use Rattle.ls_events.specs.declared.action.Action.TheVariants.{ReadField, WriteField, ReadItem, WriteItem, ReadName, WriteName, New, NewLock, NewMarkable, NewArray, Lock, Unlock, TryLock, IsHeld, ReadPair, SetPair, SwapPair, AttemptMark, Turn, Enter, Call, Return, Trap}
+use Rattle.ls_events.specs.declared.action.Action.TheVariants.{ReadField, WriteField, ReadItem, WriteItem, ReadName, WriteName, New, NewLock, NewMarkable, NewArray, Lock, Unlock, TryLock, IsHeld, LockMonitor, UnlockMonitor, ReadPair, SetPair, SwapPair, AttemptMark, Turn, Enter, Call, Return, Trap}
 use Rattle.ls_events.specs.declared.action.Answer.{Answer}
 use Rattle.ls_events.specs.declared.action.Answer.TheVariants.{Done, Gives, Fails}
 use Rattle.ls_meaning.specs.Renamings.{renamed}
@@ -27,10 +27,10 @@ abbrev pub map_option : {V W : Type 0} → (V → W) → Option V → Option W
 map_option f None = None
 map_option f (Some v) = Some (f v)
 
--- an action with its objects and its values replaced
+-- an action with its objects and its values replaced, and a field by its cell: an object's first cell is its monitor's
 abbrev pub map_action : {V W : Type 0} → (ℕ → ℕ) → (V → W) → Action V → Action W
-map_action ρ f (ReadField o i) = ReadField (ρ o) i
-map_action ρ f (WriteField o i v) = WriteField (ρ o) i (f v)
+map_action ρ f (ReadField o i) = ReadField (ρ o) (i + 1)
+map_action ρ f (WriteField o i v) = WriteField (ρ o) (i + 1) (f v)
 map_action ρ f (ReadItem o i) = ReadItem (ρ o) i
 map_action ρ f (WriteItem o i v) = WriteItem (ρ o) i (f v)
 map_action ρ f (ReadName n) = ReadName n
@@ -43,6 +43,8 @@ map_action ρ f (Lock o) = Lock (ρ o)
 map_action ρ f (Unlock o) = Unlock (ρ o)
 map_action ρ f (TryLock o) = TryLock (ρ o)
 map_action ρ f (IsHeld o) = IsHeld (ρ o)
+map_action ρ f (LockMonitor o) = LockMonitor (ρ o)
+map_action ρ f (UnlockMonitor o) = UnlockMonitor (ρ o)
 map_action ρ f (ReadPair o) = ReadPair (ρ o)
 map_action ρ f (SetPair o v) = SetPair (ρ o) (f v)
 map_action ρ f (SwapPair o e d) = SwapPair (ρ o) (f e) (f d)

@@ -20,11 +20,12 @@ use Rattle.ls_code.specs.Reading.{seen, exchanged, after_lock, after_try, after_
 abbrev pub one : Code → ℕ → Cells → Thread → Outcome
 one p n c x = performed c n x (thread_move p x)
 
-pub record LockParts (p : Code) (n : ℕ) (y : Thread) (a : ℕ) : Type 0 where
+-- of an operation that locks, and of one that unlocks
+pub record LockParts (p : Code) (n : ℕ) (y : Thread) (a : ℕ) (b : Action ℕ) : Type 0 where
   pub see : (c : Cells) (w : ℕ) → cell_at c a 0 ≡ Some w → one p n c y ≡ outcome_of (seen y w) c did.Silent
   pub other : (c : Cells) (w : ℕ) → taken_of w n ≡ taken.Other → one p n c (seen y w) ≡ outcome_of (exchanged y 0) c did.Silent
-  pub full : (c : Cells) (w : ℕ) → taken_of w n ≡ taken.TooMany → one p n c (seen y w) ≡ ended_so c (seen y w) (throwing p (seen y w) Error) (did.Acted (act.Lock a) (Fails Error))
-  pub won : (c d : Cells) (w next : ℕ) → taken_of w n ≡ taken.Taken next → effect c n (act.SwapPair a w next) ≡ Answers d (Gives 1) → one p n c (seen y w) ≡ outcome_of (exchanged y 1) d (did.Acted (act.Lock a) Done)
+  pub full : (c : Cells) (w : ℕ) → taken_of w n ≡ taken.TooMany → one p n c (seen y w) ≡ ended_so c (seen y w) (throwing p (seen y w) Error) (did.Acted b (Fails Error))
+  pub won : (c d : Cells) (w next : ℕ) → taken_of w n ≡ taken.Taken next → effect c n (act.SwapPair a w next) ≡ Answers d (Gives 1) → one p n c (seen y w) ≡ outcome_of (exchanged y 1) d (did.Acted b Done)
   pub lost : (c d : Cells) (w next : ℕ) → taken_of w n ≡ taken.Taken next → effect c n (act.SwapPair a w next) ≡ Answers d (Gives 0) → one p n c (seen y w) ≡ outcome_of (exchanged y 0) d did.Silent
   pub back : (c : Cells) → one p n c (exchanged y 0) ≡ outcome_of y c did.Silent
 
@@ -39,19 +40,21 @@ pub record TryParts (p : Code) (n : ℕ) (y : Thread) (a : ℕ) : Type 0 where
   pub told : (c : Cells) (w : ℕ) → taken_of w n ≡ taken.Other → one p n c (seen y w) ≡ outcome_of (exchanged y 0) c did.Silent
   pub told_whole : (w : ℕ) → taken_of w n ≡ taken.Other → whole_move p n (seen y w) ≡ Silent (exchanged y 0)
 
-pub record UnlockParts (p : Code) (n : ℕ) (y : Thread) (a : ℕ) : Type 0 where
+pub record UnlockParts (p : Code) (n : ℕ) (y : Thread) (a : ℕ) (b : Action ℕ) : Type 0 where
   pub see : (c : Cells) (w next : ℕ) → cell_at c a 0 ≡ Some w → left_of w n ≡ left.Left next → one p n c y ≡ outcome_of (seen y w) c did.Silent
-  pub see_other : (c : Cells) (w : ℕ) → cell_at c a 0 ≡ Some w → left_of w n ≡ left.NotOwner → one p n c y ≡ ended_so c y (throwing p y IllegalMonitorState) (did.Acted (act.Unlock a) (Fails IllegalMonitorState))
-  pub drop : (c d : Cells) (w next : ℕ) → left_of w n ≡ left.Left next → effect c n (act.SetPair a next) ≡ Answers d Done → (s : Thread) → after_unlock p y Done ≡ Some s → one p n c (seen y w) ≡ outcome_of s d (did.Acted (act.Unlock a) Done)
+  pub see_other : (c : Cells) (w : ℕ) → cell_at c a 0 ≡ Some w → left_of w n ≡ left.NotOwner → one p n c y ≡ ended_so c y (throwing p y IllegalMonitorState) (did.Acted b (Fails IllegalMonitorState))
+  pub drop : (c d : Cells) (w next : ℕ) → left_of w n ≡ left.Left next → effect c n (act.SetPair a next) ≡ Answers d Done → (s : Thread) → after_unlock p y Done ≡ Some s → one p n c (seen y w) ≡ outcome_of s d (did.Acted b Done)
 
 abbrev pub IsPlanned : Move → Type 0
 IsPlanned (Plans go) = Unit {0}
 IsPlanned _ = ⊥
 
 abbrev pub Parts : Code → ℕ → Thread → Action ℕ → (Answer ℕ → Option Thread) → Type 0
-Parts p n y (act.Lock a) go = LockParts p n y a × (go ≡ after_lock p n y)
+Parts p n y (act.Lock a) go = LockParts p n y a (act.Lock a) × (go ≡ after_lock p n y)
 Parts p n y (act.TryLock a) go = TryParts p n y a × (go ≡ after_try p n y)
-Parts p n y (act.Unlock a) go = UnlockParts p n y a × (go ≡ after_unlock p y)
+Parts p n y (act.Unlock a) go = UnlockParts p n y a (act.Unlock a) × (go ≡ after_unlock p y)
+Parts p n y (act.LockMonitor a) go = LockParts p n y a (act.LockMonitor a) × (go ≡ after_lock p n y)
+Parts p n y (act.UnlockMonitor a) go = UnlockParts p n y a (act.UnlockMonitor a) × (go ≡ after_unlock p y)
 Parts p n y _ go = ⊥
 
 -- where the reading asks for an operation at SEE, its instructions do this

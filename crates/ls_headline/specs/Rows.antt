@@ -3,7 +3,7 @@ use Rattle.std.specs.Prelude.{◌≡◌, ◌++◌, pos, negsuc, true, false, [],
 use Rattle.ls_events.specs.declared.value.Value.TheVariants.{Int, Boolean, Reference, Pair}
 use Rattle.ls_events.specs.declared.kind.Kind.TheVariants.{Error}
 use Rattle.ls_events.specs.declared.action.Answer.TheVariants.{Done, Gives, Fails}
-use Rattle.ls_meaning.specs.Store.{Object, FreeLock, Array}
+use Rattle.ls_meaning.specs.Store.{Free, Object, LockOf, Array}
 use Rattle.ls_code.specs.Machine.{loaded, machine_trace, started}
 use Rattle.ls_code.specs.Reading.{quiet}
 use Rattle.ls_code.specs.declared.code.CallResult.TheVariants.{Nothing}
@@ -18,9 +18,9 @@ use Rattle.ls_headline.specs.Example.{file, program, code}
 abbrev pub WordsOfValues : Type 0
 WordsOfValues = (word_of (Int (negsuc 0)) ≡ 4294967295) × (word_of (Boolean true) ≡ 1) × (word_of (Reference 0) ≡ 0) × (word_of (Pair 3 true) ≡ 7)
 
--- an object without fields has a cell, and an array of three items four
+-- an object without fields has a cell, and so has a lock, and an array of three items has four
 abbrev pub CellsOfThings : Type 0
-CellsOfThings = total (Object [] ∷ FreeLock ∷ Array 3 (λ i. Boolean false) ∷ []) ≡ 6
+CellsOfThings = total (Object Free [] ∷ LockOf Free ∷ Array 3 (λ i. Boolean false) ∷ []) ≡ 6
 
 -- each acting instruction is one source step; a step that isn't due yet, a silent one and one after the end are none
 abbrev pub ScheduleToSource : Type 0

@@ -1,20 +1,20 @@
 -- An image is the same as its source.
 use Rattle.std.specs.Prelude.{◌≡◌, ℕ, ◌+◌, ◌≤◌, List, [], ◌∷◌, length}
+use Rattle.ls_code.specs.Limits.{most_cells}
 use Rattle.ls_checked.specs.CheckedTree.{File}
 use Rattle.ls_checked.specs.CheckedProgram.{Program}
-use Rattle.ls_meaning.specs.Store.{Thing, Object, FreeLock, HeldLock, Markable, Array}
+use Rattle.ls_meaning.specs.Store.{Thing, Object, LockOf, Markable, Array}
 use Rattle.ls_meaning.specs.Runs.{source_run, source_trace, source_history}
 use Rattle.ls_code.specs.Code.{Code}
 use Rattle.ls_code.specs.Machine.{loaded, machine_trace, machine_history}
 use Rattle.ls_headline.specs.InWords.{births, numbered, ArePlaces, Agree}
-use Rattle.ls_headline.specs.Threads.{at_least_one}
+use Rattle.ls_headline.specs.Threads.{object_cells}
 use Rattle.ls_headline.specs.Translations.{to_source, to_machine}
 
--- the cells of a thing: an object its fields and at least 1, a lock 1, a markable 1, an array 1 and its items
+-- the cells of a thing: an object 1 and its fields, a lock 1, a markable 1, an array 1 and its items
 abbrev pub size_of : Thing → ℕ
-size_of (Object fields) = at_least_one (length fields)
-size_of FreeLock = 1
-size_of (HeldLock owner holds) = 1
+size_of (Object monitor fields) = object_cells (length fields)
+size_of (LockOf hold) = 1
 size_of (Markable pair) = 1
 size_of (Array size items) = size + 1
 
@@ -29,7 +29,7 @@ Fits file program cells schedule = length program.names + total (source_run file
 -- a number of cells with which a machine can be made of an image
 pub record IsCells (code : Code) (cells : ℕ) : Type 0 where
   pub some : 1 ≤ cells
-  pub most : cells ≤ 1048576
+  pub most : cells ≤ most_cells
   pub names : code.names ≤ cells
 
 -- A schedule of the machine with so many cells, and one of the source, come to the same: the actions in their order with

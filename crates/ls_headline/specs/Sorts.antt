@@ -8,7 +8,7 @@ use Rattle.ls_events.specs.declared.value.Value.TheVariants.{Int, Boolean, Refer
 use Rattle.ls_events.specs.declared.value.ValueType.{ValueType}
 use Rattle.ls_events.specs.declared.value.ValueType.TheVariants as type
 use Rattle.ls_events.specs.declared.action.Action.{Action}
-use Rattle.ls_events.specs.declared.action.Action.TheVariants.{ReadField, WriteField, ReadItem, WriteItem, ReadName, WriteName, New, NewLock, NewMarkable, NewArray, Lock, Unlock, TryLock, IsHeld, ReadPair, SetPair, SwapPair, AttemptMark, Turn, Enter, Call, Return, Trap}
+use Rattle.ls_events.specs.declared.action.Action.TheVariants.{ReadField, WriteField, ReadItem, WriteItem, ReadName, WriteName, New, NewLock, NewMarkable, NewArray, Lock, Unlock, TryLock, IsHeld, LockMonitor, UnlockMonitor, ReadPair, SetPair, SwapPair, AttemptMark, Turn, Enter, Call, Return, Trap}
 use Rattle.ls_events.specs.declared.action.Answer.{Answer}
 use Rattle.ls_events.specs.declared.action.Answer.TheVariants.{Done, Gives, Fails}
 use Rattle.ls_checked.specs.CheckedTree.{Class, File}
@@ -93,6 +93,8 @@ ActionHas file program things thread (Lock n) s = Names things n type.Lock × (s
 ActionHas file program things thread (Unlock n) s = Names things n type.Lock × (s ≡ NoValue)
 ActionHas file program things thread (TryLock n) s = Names things n type.Lock × (s ≡ ValueOf type.Boolean)
 ActionHas file program things thread (IsHeld n) s = Names things n type.Lock × (s ≡ ValueOf type.Boolean)
+ActionHas file program things thread (LockMonitor n) s = (c : ℕ) × Names things n (type.Class c) × (s ≡ NoValue)
+ActionHas file program things thread (UnlockMonitor n) s = (c : ℕ) × Names things n (type.Class c) × (s ≡ NoValue)
 ActionHas file program things thread (ReadPair n) s = (c : ℕ) × Names things n (type.Markable c) × (s ≡ PairOf c)
 ActionHas file program things thread (SetPair n v) s = (c : ℕ) × Names things n (type.Markable c) × HasSortBy (Refers things) v (PairOf c) × (s ≡ NoValue)
 ActionHas file program things thread (SwapPair n e d) s =
@@ -112,6 +114,8 @@ CanFail (WriteItem n i v) k = k ≡ ArrayIndexOutOfBounds
 CanFail (Lock n) k = k ≡ Error
 CanFail (TryLock n) k = k ≡ Error
 CanFail (Unlock n) k = k ≡ IllegalMonitorState
+CanFail (LockMonitor n) k = k ≡ Error
+CanFail (UnlockMonitor n) k = k ≡ IllegalMonitorState
 CanFail _ k = ⊥
 
 -- an answer that what a thread asks for can have

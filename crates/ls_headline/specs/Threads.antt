@@ -1,5 +1,5 @@
 -- What is asked of an image and of the meaning, so that the image's runs are the source's.
-use Rattle.std.specs.Prelude.{◌≡◌, ℕ, zero, suc, List, length, map, Option, Some, None, slice_get}
+use Rattle.std.specs.Prelude.{◌≡◌, ℕ, ◌+◌, List, length, map, Option, Some, None, slice_get}
 use Rattle.ls_events.specs.declared.value.Value.{Value}
 use Rattle.ls_events.specs.declared.value.ValueType.{ValueType}
 use Rattle.ls_events.specs.declared.value.ValueType.TheVariants as type
@@ -26,10 +26,9 @@ told (Goes action sort) = fed.Asked (map_action (λ n. n) word_of action)
 told Ended = fed.Ended
 told Trapped = fed.Trapped
 
--- an object has at least one cell
-abbrev pub at_least_one : ℕ → ℕ
-at_least_one zero = 1
-at_least_one (suc n) = suc n
+-- the cells of an object: one for its monitor, and one for each field
+abbrev pub object_cells : ℕ → ℕ
+object_cells fields = fields + 1
 
 -- what a call answers, as the image's table of calls has it
 abbrev pub result_type : Option ValueType → CallResult
@@ -57,7 +56,7 @@ pub record Asks (file : File) (program : Program) (code : Code) : Type 0 where
   pub threads : (t : ℕ) → calls_of (slice_get code.starts t) (slice_get program.threads t)
   pub names : code.names ≡ length program.names
   -- the cells of an object of each class
-  pub sizes : (c : ℕ) (class : Class) → slice_get file.classes c ≡ Some class → slice_get code.sizes c ≡ Some (at_least_one (length class.fields))
+  pub sizes : (c : ℕ) (class : Class) → slice_get file.classes c ≡ Some class → slice_get code.sizes c ≡ Some (object_cells (length class.fields))
 
 -- what the meaning of a file and a program promises
 pub record IsSound (file : File) (program : Program) : Type 0 where

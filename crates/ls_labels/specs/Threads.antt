@@ -3,9 +3,9 @@ use Rattle.std.specs.Prelude.{ℕ, Bool, List, [], ◌++◌, Option, Some, None,
 use Rattle.std.specs.Option.{option_map_or}
 use Rattle.ls_events.specs.declared.value.Value.{Value}
 use Rattle.ls_events.specs.declared.action.Action.{Action}
-use Rattle.ls_events.specs.declared.action.Action.TheVariants.{Lock}
+use Rattle.ls_events.specs.declared.action.Action.TheVariants.{Lock, LockMonitor}
 use Rattle.ls_checked.specs.CheckedProgram.{Program}
-use Rattle.ls_meaning.specs.Store.{Store, Thing, HeldLock, thing_at}
+use Rattle.ls_meaning.specs.Store.{Store, Thing, HeldBy, Object, LockOf, thing_at}
 use Rattle.ls_meaning.specs.Threads.{next}
 use Rattle.ls_meaning.specs.Runs.{State, answers_of}
 use Rattle.ls_source.specs.Ends.{has_trapped}
@@ -32,17 +32,19 @@ start_text setup_has_trapped =
     then codes " never starts: the setup has ended with a trap"
     else codes " hasn't started: the setup hasn't ended"
 
--- the thread that owns a lock
+-- the thread that owns a lock, or the monitor of an object
 abbrev pub owner_of : Option Thing → Option ℕ
-owner_of (Some (HeldLock owner holds)) = Some owner
+owner_of (Some (LockOf (HeldBy owner holds))) = Some owner
+owner_of (Some (Object (HeldBy owner holds) fields)) = Some owner
 owner_of _ = None
 
--- as `waits for ReentrantLock#2, which A owns`
-abbrev pub awaited_text : Names → List Label → ℕ → ℕ → Text
-awaited_text names ls lock owner =
-    codes "waits for " ++ (object_text names ls lock ++ (codes ", which " ++ (thread_name names.program owner ++ codes " owns")))
+-- as `waits for ReentrantLock#2, which A owns`, and `waits for the monitor of Counter#1, which A owns`
+abbrev pub awaited_text : Names → List Label → Text → ℕ → ℕ → Text
+awaited_text names ls what lock owner =
+    what ++ (object_text names ls lock ++ (codes ", which " ++ (thread_name names.program owner ++ codes " owns")))
 
--- what a thread waits for that asks for an action: a lock that a thread owns
+-- what a thread waits for that asks for an action: a lock or a monitor that a thread owns
 abbrev pub wait_text : Names → List Label → Store → Action Value → Text
-wait_text names ls s (Lock o) = option_map_or (awaited_text names ls o) (owner_of (thing_at s o)) []
+wait_text names ls s (Lock o) = option_map_or (awaited_text names ls (codes "waits for ") o) (owner_of (thing_at s o)) []
+wait_text names ls s (LockMonitor o) = option_map_or (awaited_text names ls (codes "waits for the monitor of ") o) (owner_of (thing_at s o)) []
 wait_text names ls s _ = []

@@ -30,12 +30,14 @@ field_text names ls o field = object_text names ls o ++ (46 ∷ option_map_or (f
 abbrev pub item_text : Names → List Label → ℕ → ℤ → Text
 item_text names ls array index = object_text names ls array ++ (91 ∷ (signed_decimal index ++ 93 ∷ []))
 
--- the operations of locks and markables
+-- the operations of locks, monitors and markables
 abbrev pub operation_text : Names → List Label → Action Value → Text
 operation_text names ls (actions.Lock o) = codes "locks " ++ object_text names ls o
 operation_text names ls (actions.Unlock o) = codes "unlocks " ++ object_text names ls o
 operation_text names ls (actions.TryLock o) = codes "tries " ++ object_text names ls o
 operation_text names ls (actions.IsHeld o) = codes "asks whether it holds " ++ object_text names ls o
+operation_text names ls (actions.LockMonitor o) = codes "locks the monitor of " ++ object_text names ls o
+operation_text names ls (actions.UnlockMonitor o) = codes "unlocks the monitor of " ++ object_text names ls o
 operation_text names ls (actions.ReadPair o) = codes "reads " ++ object_text names ls o
 operation_text names ls (actions.SetPair o pair) =
     codes "sets " ++ (object_text names ls o ++ (codes " to " ++ value_text names ls pair))

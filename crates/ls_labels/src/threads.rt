@@ -15,7 +15,7 @@ use ls_checked::program::Program;
 use ls_events::action::Action;
 use ls_events::value::Value;
 use ls_source::run::SourceRun;
-use ls_source_store::thing::Thing;
+use ls_source_store::thing::{Hold, Thing};
 use std::alloc::AllocError;
 use std::fmt::Write;
 
@@ -51,34 +51,41 @@ pub fn start_words(setup_has_trapped: bool) -> &'static str
     }
 }
 
-/// The thread that owns a lock.
+/// The thread that owns a lock, or the monitor of an object.
 pub fn owner_of(thing: Option<&Thing>) -> Option<usize>
     ensures { result ≡ owner_of (option_map thing_of (option_copied thing.entry)) }
 {
     match thing {
-        Some(Thing::HeldLock { owner, .. }) => Some(*owner),
+        Some(Thing::Lock(Hold::HeldBy { owner, .. })) => Some(*owner),
+        Some(
+            Thing::Object {
+                monitor: Hold::HeldBy { owner, .. },
+                ..
+            },
+        ) => Some(*owner),
         _ => None,
     }
 }
 
-// Adds that a lock is waited for which a thread owns.
+// Adds that a lock or a monitor is waited for which a thread owns.
 fn push_awaited(
     out: &mut String,
     names: Names,
     labels: &[Label],
+    what: &str,
     lock: u64,
     owner: usize,
 ) -> Result<(), AllocError>
-    ensures { OnOk result (string_bytes out.new ≡ string_bytes out.old ++ awaited_text (names_of names.entry) labels.now lock owner) }
+    ensures { OnOk result (string_bytes out.new ≡ string_bytes out.old ++ awaited_text (names_of names.entry) labels.now what.now lock owner) }
 {
-    out.push_str("waits for ")?;
+    out.push_str(what)?;
     push_object(out, names, labels, lock)?;
     let name = thread_name(names.program, owner);
     write!(out, ", which {name} owns")
 }
 
 /// Adds what a thread waits for that asks for an action, as `waits for ReentrantLock#2, which A owns`; nothing where that is no
-/// lock that a thread owns.
+/// lock and no monitor that a thread owns.
 pub fn push_wait(
     out: &mut String,
     names: Names,
@@ -89,11 +96,22 @@ pub fn push_wait(
     ensures { OnOk result (string_bytes out.new
         ≡ string_bytes out.old ++ wait_text (names_of names.entry) labels.now (progress_of run.now).state.store action) }
 {
-    let Action::Lock(lock) = action else {
-        return Ok(());
-    };
-    match owner_of(run.thing(lock)) {
-        Some(owner) => push_awaited(out, names, labels, lock, owner),
-        None => Ok(()),
+    match action {
+        Action::Lock(lock) => match owner_of(run.thing(lock)) {
+            Some(owner) => push_awaited(out, names, labels, "waits for ", lock, owner),
+            None => Ok(()),
+        },
+        Action::LockMonitor(object) => match owner_of(run.thing(object)) {
+            Some(owner) => push_awaited(
+                out,
+                names,
+                labels,
+                "waits for the monitor of ",
+                object,
+                owner,
+            ),
+            None => Ok(()),
+        },
+        _ => Ok(()),
     }
 }

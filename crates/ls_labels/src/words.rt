@@ -76,7 +76,7 @@ fn push_with(
     push_value(out, names, labels, value)
 }
 
-// An operation of a lock or a markable.
+// An operation of a lock, a monitor or a markable.
 fn push_operation(
     out: &mut String,
     names: Names,
@@ -90,6 +90,8 @@ fn push_operation(
         Action::Unlock(o) => push_on(out, names, labels, "unlocks ", o),
         Action::TryLock(o) => push_on(out, names, labels, "tries ", o),
         Action::IsHeld(o) => push_on(out, names, labels, "asks whether it holds ", o),
+        Action::LockMonitor(o) => push_on(out, names, labels, "locks the monitor of ", o),
+        Action::UnlockMonitor(o) => push_on(out, names, labels, "unlocks the monitor of ", o),
         Action::ReadPair(o) => push_on(out, names, labels, "reads ", o),
         Action::SetPair(o, pair) => {
             push_on(out, names, labels, "sets ", o)?;

@@ -56,6 +56,8 @@ fn thread_numbers(action: Action<u64>) -> [u64; 4] {
         Action::Return(call, None) => [21, call as u64, 0, 0],
         Action::Return(call, Some(word)) => [22, call as u64, word, 0],
         Action::Trap(call, kind) => [23, call as u64, kind as u64, 0],
+        Action::LockMonitor(object) => [25, object, 0, 0],
+        Action::UnlockMonitor(object) => [26, object, 0, 0],
         _ => [24, 0, 0, 0],
     }
 }

@@ -20,11 +20,11 @@ use std::alloc::{AllocError, Global};
 /// The most instructions of an image.
 pub const MOST_INSTRUCTIONS: usize = 65_536;
 
-/// The cells of an object: one for each field, and at least one.
+/// The cells of an object: one for its monitor, and one for each field.
 fn class_size(class: &Class) -> usize
     ensures { result ≡ the_size (plain_class class.now) }
 {
-    class.fields.len().max(1)
+    class.fields.len() + 1
 }
 
 fn sizes_of(alloc: Global, classes: &[Class]) -> Result<Vec<usize>, AllocError>

@@ -15,8 +15,8 @@ use Rattle.ls_lowered.specs.declared.tree.UnaryOperator.TheVariants.{Negate, Not
 use Rattle.ls_lowered.specs.declared.tree.BinaryOperator.{BinaryOperator}
 use Rattle.ls_lowered.specs.declared.tree.BinaryOperator.TheVariants as binary
 use Rattle.ls_lowered.specs.declared.tree.LockOperation.{LockOperation}
-use Rattle.ls_lowered.specs.declared.tree.LockOperation.TheVariants.{Lock, Unlock, TryLock, IsHeld}
-use Rattle.ls_lowered.specs.LoweredTree.{Expression, Word, Local, Unary, Binary, And, Or, Hold, Keep, After, Field, Item, SetFirst, ReadPair, SetPair, SwapPair, AttemptMark, OnLock, Call, MakeObject, MakeLock, MakeMarkable, MakeArray, Expressions, End, More, Statement, Block, SetLocal, SetField, SetItem, Evaluate, If, While, Return, Try, Guarded, Throw, Leavable, Leave, Statements, Done, Then, Method, File}
+use Rattle.ls_lowered.specs.declared.tree.LockOperation.TheVariants.{Lock, Unlock, TryLock, IsHeld, LockMonitor, UnlockMonitor}
+use Rattle.ls_lowered.specs.LoweredTree.{Expression, Word, Local, Unary, Binary, And, Or, Hold, Keep, After, Field, Item, SetFirst, ReadPair, SetPair, SwapPair, AttemptMark, OnLock, Call, MakeObject, MakeLock, MakeMarkable, MakeArray, Expressions, End, More, Statement, Block, SetLocal, SetField, AddField, SetItem, Evaluate, If, While, Return, Try, Guarded, Throw, Leavable, Leave, Statements, Done, Then, Method, File}
 use Rattle.ls_locks.specs.LockCode.{lock_code}
 use Rattle.ls_emit_laws.specs.Expressions.{unary_code, binary_code, size, code, all_code}
 use Rattle.ls_emit_laws.specs.Statements.{Targets, places, statement_size, exits_size, statement_code, statements_code, exits_code}
@@ -59,6 +59,8 @@ lock_exchanges Lock p = (tt, (tt, (tt, (tt, (tt, tt)))))
 lock_exchanges Unlock p = (tt, (tt, (tt, tt)))
 lock_exchanges TryLock p = (tt, (tt, (tt, (tt, tt))))
 lock_exchanges IsHeld p = (tt, tt)
+lock_exchanges LockMonitor p = (tt, (tt, (tt, (tt, (tt, tt)))))
+lock_exchanges UnlockMonitor p = (tt, (tt, (tt, tt)))
 
 mutual
   exchanges : (e : Expression) (p : ℕ) → Exchanges (code p e)
@@ -94,6 +96,7 @@ mutual
   statement_exchanges (Block ss) t p = statements_exchange ss t p
   statement_exchanges (SetLocal n e) t p = both (code p e) _ (exchanges e p) (tt, tt)
   statement_exchanges (SetField e f a) t p = both _ _ (both _ _ (exchanges e p) (exchanges a (p + size e))) (tt, tt)
+  statement_exchanges (AddField e f a) t p = both _ _ (both _ (op.Dup ∷ op.GetField (f + 1) ∷ code (p + size e + 2) a) (exchanges e p) (tt, (tt, exchanges a (p + size e + 2)))) (tt, (tt, tt))
   statement_exchanges (SetItem a i e) t p = both _ _ (both _ _ (both _ _ (exchanges a p) (exchanges i (p + size a))) (exchanges e (p + size a + size i))) (tt, tt)
   statement_exchanges (Evaluate e) t p = both (code p e) _ (exchanges e p) (tt, tt)
   statement_exchanges (If e a b) t p =

@@ -1,5 +1,5 @@
 -- The two ways to write values, answers and actions in words agree.
-use Rattle.std.proofs.Common.{◌≡◌, List, [], ◌∷◌, map, Some, None, refl, ap, ◌∙◌}
+use Rattle.std.proofs.Common.{◌≡◌, List, [], ◌∷◌, map, Some, None, refl, ap, ◌∙◌, ◌+◌}
 use Rattle.ls_events.specs.declared.value.Value.{Value}
 use Rattle.ls_events.specs.declared.value.Value.TheVariants.{Int, Boolean, Reference, Pair}
 use Rattle.ls_events.specs.declared.action.Action.{Action}
@@ -32,7 +32,7 @@ answers_are (x ∷ q) = ap (λ y. y ∷ map (map_answer word_of) q) (answer_is x
 
 pub action_is : (a : Action Value) → action_word a ≡ map_action (λ n. n) word_of a
 action_is (act.ReadField o i) = refl
-action_is (act.WriteField o i v) = ap (act.WriteField o i) (value_is v)
+action_is (act.WriteField o i v) = ap (act.WriteField o (i + 1)) (value_is v)
 action_is (act.ReadItem o i) = refl
 action_is (act.WriteItem o i v) = ap (act.WriteItem o i) (value_is v)
 action_is (act.ReadName n) = refl
@@ -45,6 +45,8 @@ action_is (act.Lock o) = refl
 action_is (act.Unlock o) = refl
 action_is (act.TryLock o) = refl
 action_is (act.IsHeld o) = refl
+action_is (act.LockMonitor o) = refl
+action_is (act.UnlockMonitor o) = refl
 action_is (act.ReadPair o) = refl
 action_is (act.SetPair o v) = ap (act.SetPair o) (value_is v)
 action_is (act.SwapPair o e d) = ap (λ w. act.SwapPair o w (value_word d)) (value_is e) ∙ ap (act.SwapPair o (word_of e)) (value_is d)

@@ -7,7 +7,7 @@ use Rattle.ls_code.specs.declared.instruction.Instruction.{Instruction}
 use Rattle.ls_code.specs.declared.instruction.Instruction.TheVariants as op
 use Rattle.ls_code.specs.declared.code.HandlerRow.{HandlerRow}
 use Rattle.ls_code.specs.declared.code.Method.{Method as MethodRow}
-use Rattle.ls_lowered.specs.LoweredTree.{Statement, Block, SetLocal, SetField, SetItem, Evaluate, If, While, Return, Try, Guarded, Throw, Leavable, Leave, Statements, Done, Then, Method, File}
+use Rattle.ls_lowered.specs.LoweredTree.{Statement, Block, SetLocal, SetField, AddField, SetItem, Evaluate, If, While, Return, Try, Guarded, Throw, Leavable, Leave, Statements, Done, Then, Method, File}
 use Rattle.ls_emit_laws.specs.Expressions.{size}
 use Rattle.ls_emit_laws.specs.Statements.{row_of, statement_size, statements_size, exits_size, statement_code, statement_rows, statements_rows, exits_rows}
 use Rattle.ls_emit_laws.specs.Units.{CodeUnit, moved, moved_row, method_code, units_of, LiesAt, LieIn}
@@ -21,6 +21,7 @@ mutual
   rows_end (Block ss) p = all_rows_end ss p
   rows_end (SetLocal n e) p = tt
   rows_end (SetField e f a) p = tt
+  rows_end (AddField e f a) p = tt
   rows_end (SetItem a i e) p = tt
   rows_end (Evaluate e) p = tt
   rows_end (If e a b) p =

@@ -52,7 +52,7 @@ code = record {
       ∷ record { from = 10; to = 18; handler = 18; depth = 0 }
       ∷ record { from = 19; to = 26; handler = 26; depth = 0 } ∷ [];
   methods = record { start = 0; arguments = 1; more = 0; need = 1 } ∷ record { start = 2; arguments = 2; more = 1; need = 1 } ∷ [];
-  sizes = 2 ∷ [];
+  sizes = 3 ∷ [];
   starts = record { place = 10; need = 2; calls = Nothing ∷ [] } ∷ record { place = 19; need = 2; calls = Nothing ∷ [] } ∷ [];
   names = 1;
 }

@@ -7,7 +7,7 @@ use Rattle.ls_code.specs.declared.instruction.Instruction.{Instruction}
 use Rattle.ls_code.specs.declared.code.HandlerRow.{HandlerRow}
 use Rattle.ls_code.specs.declared.code.Method.{Method as MethodRow}
 use Rattle.ls_emit_laws.specs.Units.{CodeUnit, moved, moved_row}
-use Rattle.ls_headline.specs.Threads.{at_least_one}
+use Rattle.ls_headline.specs.Threads.{object_cells}
 use Rattle.ls_linker_laws.specs.Threads.{thread_code, thread_size, thread_row, start_of}
 
 -- the words of all units
@@ -46,7 +46,7 @@ starts classes p (t ∷ ts) = start_of p t ∷ starts classes (p + thread_size c
 
 -- an object has a cell for each field, and at least one
 abbrev pub class_size : Class → ℕ
-class_size c = at_least_one (length c.fields)
+class_size c = object_cells (length c.fields)
 
 abbrev pub linked : File → Program → List CodeUnit → Code
 linked file program units = record {

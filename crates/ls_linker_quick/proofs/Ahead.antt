@@ -9,8 +9,8 @@ use Rattle.ls_lowered.specs.declared.tree.UnaryOperator.TheVariants.{Negate, Not
 use Rattle.ls_lowered.specs.declared.tree.BinaryOperator.{BinaryOperator}
 use Rattle.ls_lowered.specs.declared.tree.BinaryOperator.TheVariants as binary
 use Rattle.ls_lowered.specs.declared.tree.LockOperation.{LockOperation}
-use Rattle.ls_lowered.specs.declared.tree.LockOperation.TheVariants.{Lock, Unlock, TryLock, IsHeld}
-use Rattle.ls_lowered.specs.LoweredTree.{Expression, Word, Local, Unary, Binary, And, Or, Hold, Keep, After, Field, Item, SetFirst, ReadPair, SetPair, SwapPair, AttemptMark, OnLock, Call, MakeObject, MakeLock, MakeMarkable, MakeArray, Expressions, End, More, Statement, Block, SetLocal, SetField, SetItem, Evaluate, If, While, Return, Try, Guarded, Throw, Leavable, Leave, Statements, Done, Then, Method, File}
+use Rattle.ls_lowered.specs.declared.tree.LockOperation.TheVariants.{Lock, Unlock, TryLock, IsHeld, LockMonitor, UnlockMonitor}
+use Rattle.ls_lowered.specs.LoweredTree.{Expression, Word, Local, Unary, Binary, And, Or, Hold, Keep, After, Field, Item, SetFirst, ReadPair, SetPair, SwapPair, AttemptMark, OnLock, Call, MakeObject, MakeLock, MakeMarkable, MakeArray, Expressions, End, More, Statement, Block, SetLocal, SetField, AddField, SetItem, Evaluate, If, While, Return, Try, Guarded, Throw, Leavable, Leave, Statements, Done, Then, Method, File}
 use Rattle.ls_locks.specs.LockCode.{lock_code, lock_size}
 use Rattle.ls_emit_laws.specs.Expressions.{unary_code, binary_code, size, all_size, code, all_code}
 use Rattle.ls_emit_laws.specs.Statements.{Targets, place_by, target_of, places, statement_size, statements_size, exits_size, statement_code, statements_code, exits_code, row_of, statement_rows, statements_rows, exits_rows}
@@ -20,6 +20,10 @@ use Rattle.ls_emit_laws.proofs.Places.{size_is, all_size_is}
 use Rattle.ls_emit_laws.proofs.StatementPlaces.{statement_size_is, targets_within}
 
 -- with a limit that no place reaches
+-- is a SEE, with whichever operand
+abbrev pub IsASee : Option Instruction → Type 0
+IsASee a = (y : ℕ) × (a ≡ Some (op.See y))
+
 module _ (n : ℕ) where
   -- An instruction at a place leads ahead, where it is silent, or is a jump back to a place that is known; the ones that no unit has are none of these.
   abbrev pub Ahead : (ℕ → Type 0) → ℕ → Instruction → Type 0
@@ -38,7 +42,7 @@ module _ (n : ℕ) where
 
   -- the place two before, where SEE is known to stand
   abbrev pub Back : Option Instruction → ℕ → ℕ → Type 0
-  Back a p x = (x + 2 ≡ p) × (a ≡ Some (op.See 1))
+  Back a p x = (x + 2 ≡ p) × IsASee a
 
   -- behind two instructions that are known, or aren't
   abbrev pub AllBehind : Option Instruction → Option Instruction → ℕ → List Instruction → Type 0
@@ -92,7 +96,7 @@ module _ (n : ℕ) where
   turned B C f p op.IsHeld h = h
   turned B C f p (op.See x) h = h
   turned B C f p (op.Take x) h = h
-  turned B C f p op.DropLock h = h
+  turned B C f p (op.DropLock x) h = h
   turned B C f p op.ReadPair h = h
   turned B C f p op.ReferenceOf h = h
   turned B C f p op.MarkOf h = h
@@ -110,14 +114,14 @@ module _ (n : ℕ) where
 
   -- more is known
   abbrev Keeps : Option Instruction → Option Instruction → Type 0
-  Keeps a b = a ≡ Some (op.See 1) → b ≡ Some (op.See 1)
+  Keeps a b = IsASee a → IsASee b
 
   knowing : (a b c d : Option Instruction) (p : ℕ) (xs : List Instruction) → Keeps a c → Keeps b d → AllBehind a b p xs → AllBehind c d p xs
   knowing a b c d p [] f g h = tt
   knowing a b c d p (i ∷ is) f g h = (turned (Back a p) (Back c p) (λ x e. (e.0, f e.1)) p i h.0, knowing b (Some i) d (Some i) (p + 1) is g (λ e. e) h.1)
 
   none_known : (c : Option Instruction) → Keeps None c
-  none_known c e = absurd (none-some (op.See 1) e)
+  none_known c e = absurd (none-some (op.See e.0) e.1)
 
   on : (a b : Option Instruction) (p : ℕ) (xs : List Instruction) → AllAt p xs → AllBehind a b p xs
   on a b p xs h = knowing None None a b p xs (none_known a) (none_known b) h
@@ -164,10 +168,12 @@ module _ (n : ℕ) where
   binary_at binary.Pack B p l = l
 
   lock_at : (o : LockOperation) (p : ℕ) → p + lock_size o < n → AllAt p (lock_code p o)
-  lock_at Lock p l = (omega arith, (omega arith, ((omega arith, inr (omega arith, refl)), (omega arith, (omega arith, tt)))))
+  lock_at Lock p l = (omega arith, (omega arith, ((omega arith, inr (omega arith, (1, refl))), (omega arith, (omega arith, tt)))))
   lock_at Unlock p l = (omega arith, (omega arith, (omega arith, tt)))
   lock_at TryLock p l = (omega arith, (omega arith, (omega arith, (omega arith, tt))))
   lock_at IsHeld p l = (omega arith, tt)
+  lock_at LockMonitor p l = (omega arith, (omega arith, ((omega arith, inr (omega arith, (4, refl))), (omega arith, (omega arith, tt)))))
+  lock_at UnlockMonitor p l = (omega arith, (omega arith, (omega arith, tt)))
 
   one_more : (i : Instruction) (xs : List Instruction) (k : ℕ) → length xs ≡ k → length (i ∷ xs) ≡ k + 1
   one_more i xs k e = omega (arith, e)
@@ -189,7 +195,7 @@ module _ (n : ℕ) where
         three_at p (size a) (size b) (code p a) (code (p + size a) b) (op.Store k ∷ []) (size_is a p) (size_is b (p + size a)) (ahead a p (omega arith)) (ahead b (p + size a) (omega arith)) (omega arith, tt)
     ahead (Keep k a b) p l = two_at p (size a) (code p a) (op.Store k ∷ code (p + size a + 1) b) (size_is a p) (ahead a p (omega arith)) (omega arith, on _ _ (p + size a + 1) (code (p + size a + 1) b) (ahead b (p + size a + 1) (omega arith)))
     ahead (After a b) p l = two_at p (size a) (code p a) (op.Pop ∷ code (p + size a + 1) b) (size_is a p) (ahead a p (omega arith)) (omega arith, on _ _ (p + size a + 1) (code (p + size a + 1) b) (ahead b (p + size a + 1) (omega arith)))
-    ahead (Field e f) p l = two_at p (size e) (code p e) (op.GetField f ∷ []) (size_is e p) (ahead e p (omega arith)) (omega arith, tt)
+    ahead (Field e f) p l = two_at p (size e) (code p e) (op.GetField (f + 1) ∷ []) (size_is e p) (ahead e p (omega arith)) (omega arith, tt)
     ahead (Item a i) p l =
         three_at p (size a) (size i) (code p a) (code (p + size a) i) (op.GetItem ∷ []) (size_is a p) (size_is i (p + size a)) (ahead a p (omega arith)) (ahead i (p + size a) (omega arith)) (omega arith, tt)
     ahead (SetFirst a e) p l =
@@ -250,7 +256,14 @@ module _ (n : ℕ) where
       statement_ahead (Block ss) t p fit h l = statements_ahead ss t p fit h l
       statement_ahead (SetLocal k e) t p fit h l = two_at p (size e) (code p e) (op.Store k ∷ []) (size_is e p) (ahead e p (omega arith)) (omega arith, tt)
       statement_ahead (SetField e f a) t p fit h l =
-          three_at p (size e) (size a) (code p e) (code (p + size e) a) (op.PutField f ∷ []) (size_is e p) (size_is a (p + size e)) (ahead e p (omega arith)) (ahead a (p + size e) (omega arith)) (omega arith, tt)
+          three_at p (size e) (size a) (code p e) (code (p + size e) a) (op.PutField (f + 1) ∷ []) (size_is e p) (size_is a (p + size e)) (ahead e p (omega arith)) (ahead a (p + size e) (omega arith)) (omega arith, tt)
+      statement_ahead (AddField e f a) t p fit h l =
+          let pa = p + size e + 2 in
+          three_at p (size e) (size a + 1 + 1) (code p e) (op.Dup ∷ op.GetField (f + 1) ∷ code pa a) (op.Add ∷ op.PutField (f + 1) ∷ []) (size_is e p)
+          (one_more op.Dup (op.GetField (f + 1) ∷ code pa a) (size a + 1) (one_more (op.GetField (f + 1)) (code pa a) (size a) (size_is a pa)))
+          (ahead e p (omega arith))
+          (omega arith, (omega arith, on _ _ (p + size e + 1 + 1) (code pa a) (at pa (p + size e + 1 + 1) (code pa a) (omega arith) (ahead a pa (omega arith)))))
+          (omega arith, (omega arith, tt))
       statement_ahead (SetItem a i e) t p fit h l =
           four_at p (size a) (size i) (size e) (code p a) (code (p + size a) i) (code (p + size a + size i) e) (op.PutItem ∷ []) (size_is a p) (size_is i (p + size a)) (size_is e (p + size a + size i))
           (ahead a p (omega arith)) (ahead i (p + size a) (omega arith)) (ahead e (p + size a + size i) (omega arith)) (omega arith, tt)
@@ -324,6 +337,7 @@ module _ (n : ℕ) where
     rows_lead (Block ss) p l = all_rows_lead ss p l
     rows_lead (SetLocal k e) p l = tt
     rows_lead (SetField e f a) p l = tt
+    rows_lead (AddField e f a) p l = tt
     rows_lead (SetItem a i e) p l = tt
     rows_lead (Evaluate e) p l = tt
     rows_lead (If e a b) p l = rows_append (statement_rows (p + size e + 1) a) (statement_rows (p + size e + statement_size a + 2) b) (rows_lead a (p + size e + 1) (omega arith)) (rows_lead b (p + size e + statement_size a + 2) (omega arith))

@@ -9,7 +9,7 @@ use Rattle.ls_code.specs.declared.code.HandlerRow.{HandlerRow}
 use Rattle.ls_code.specs.declared.code.Method.{Method as MethodRow}
 use Rattle.ls_code.specs.declared.instruction.Instruction.{Instruction}
 use Rattle.ls_code.specs.declared.instruction.Instruction.TheVariants as op
-use Rattle.ls_lowered.specs.LoweredTree.{Statement, Block, SetLocal, SetField, SetItem, Evaluate, If, While, Return, Try, Guarded, Throw, Leavable, Leave, Statements, Done, Then, Method, File}
+use Rattle.ls_lowered.specs.LoweredTree.{Statement, Block, SetLocal, SetField, AddField, SetItem, Evaluate, If, While, Return, Try, Guarded, Throw, Leavable, Leave, Statements, Done, Then, Method, File}
 use Rattle.ls_emit_laws.specs.Expressions.{size}
 use Rattle.ls_emit_laws.specs.Statements.{statement_size, statement_code, row_of, statement_rows, statements_rows, exits_rows}
 use Rattle.ls_emit_laws.specs.Units.{CodeUnit, method_size, method_code, method_rows, unit_of, units_of, LieIn}
@@ -21,12 +21,12 @@ use Rattle.ls_emit_laws.proofs.Placed.{row_at, Placed, placed}
 use Rattle.ls_linker_laws.specs.Quick.{InFrame, FramesAreQuick}
 use Rattle.ls_code.specs.Exchanges.{Plan}
 use Rattle.ls_code.specs.Steps.{Move, Silent, Plans, thread_move, fetched_move}
-use Rattle.ls_linker_quick.proofs.Ahead.{Ahead, Back, AllBehind, AllAt, RowsLead, turned, rows_lead, method_ahead}
+use Rattle.ls_linker_quick.proofs.Ahead.{IsASee, Ahead, Back, AllBehind, AllAt, RowsLead, turned, rows_lead, method_ahead}
 use Rattle.ls_linker_quick.proofs.Onward.{Onto, silent_on, find_leads}
 
 -- SEE stands at a place
 abbrev IsSee : List Instruction → ℕ → Type 0
-IsSee whole x = slice_get whole x ≡ Some (op.See 1)
+IsSee whole x = IsASee (slice_get whole x)
 
 -- the instruction at a place
 abbrev Found : ℕ → List Instruction → ℕ → Type 0
@@ -37,7 +37,7 @@ look_by n whole start p i has a e = subst (Found n whole) e (i, has, a)
 
 -- what is known of the instructions two places and one place before
 abbrev Knows : List Instruction → ℕ → Option Instruction → Option Instruction → Type 0
-Knows whole start a b = ((x : ℕ) → x + 2 ≡ start → a ≡ Some (op.See 1) → IsSee whole x) × ((x : ℕ) → x + 1 ≡ start → b ≡ Some (op.See 1) → IsSee whole x)
+Knows whole start a b = ((x : ℕ) → x + 2 ≡ start → IsASee a → IsSee whole x) × ((x : ℕ) → x + 1 ≡ start → IsASee b → IsSee whole x)
 
 look : (n : ℕ) (whole : List Instruction) (a b : Option Instruction) (start : ℕ) (code : List Instruction) → HasAt whole start code → Knows whole start a b → AllBehind n a b start code → (p k : ℕ) → p ≡ start + k → k < length code → Found n whole p
 look n whole a b start [] has knows all p k e l = absurd (let no : ⊥ = omega (arith, l) in no)
@@ -45,12 +45,12 @@ look n whole a b start (i ∷ is) has knows all p zero e l =
     look_by n whole start p i has.0 (turned n (Back n a start) (IsSee whole) (λ x h. knows.0 x h.0 h.1) start i all.0) (omega (arith, e))
 look n whole a b start (i ∷ is) has knows all p (suc k) e l =
     look n whole b (Some i) (start + 1) is has.1
-    (λ x h. knows.1 x (omega (arith, h)), λ x h s. let here : start ≡ x = omega (arith, h) in subst (IsSee whole) here (has.0 ∙ s)) all.1 p k (omega (arith, e)) (omega (arith, l))
+    (λ x h. knows.1 x (omega (arith, h)), λ x h s. let here : start ≡ x = omega (arith, h) in subst (IsSee whole) here (s.0, has.0 ∙ s.1)) all.1 p k (omega (arith, e)) (omega (arith, l))
 
 -- no step from SEE is silent by the thread alone
 see_stops : (c : Code) (k : ℕ) (t t' : Thread) → IsSee c.instructions t.top.counter → InFrame c k t t' → k ≡ 0
 see_stops c zero t t' is h = refl
-see_stops c (suc k) t t' is h = absurd (silent_or_plans (thread_move c t) (ap (fetched_move c t) is) h.2)
+see_stops c (suc k) t t' is h = absurd (silent_or_plans (thread_move c t) (ap (fetched_move c t) is.1) h.2)
   where
     silent_or_plans : (d : Move) {go : ℕ → Plan} → d ≡ Plans go → d ≡ Silent h.1 → ⊥
     silent_or_plans d e f = cc
@@ -73,7 +73,7 @@ module _ (n : ℕ) (c : Code) (start : ℕ) (code : List Instruction) (rows : Li
   rises zero t t' l1 l2 h = omega (arith, l2)
   rises (suc k) t t' l1 l2 h =
       let a = apart start t.top.counter l1 in
-      let i = look n c.instructions None None start code has (λ x e s. absurd (none-some (op.See 1) s), λ x e s. absurd (none-some (op.See 1) s)) all t.top.counter a.0 a.1 (omega (arith, a.1, l2, ends)) in
+      let i = look n c.instructions None None start code has (λ x e s. absurd (none-some (op.See s.0) s.1), λ x e s. absurd (none-some (op.See s.0) s.1)) all t.top.counter a.0 a.1 (omega (arith, a.1, l2, ends)) in
       let o = silent_on n (IsSee c.instructions) c t rows lead (guards t.top.counter l1 l2) i.0 i.1 i.2 h.1 h.2 h.3 in
       rises_by k t h.1 t' l1 o h.4 (λ l3 l4. rises k h.1 t' l3 l4 h.4)
 
@@ -95,6 +95,7 @@ mutual
   rows_from lo (Block ss) p l = all_rows_from lo ss p l
   rows_from lo (SetLocal k e) p l = tt
   rows_from lo (SetField e f a) p l = tt
+  rows_from lo (AddField e f a) p l = tt
   rows_from lo (SetItem a i e) p l = tt
   rows_from lo (Evaluate e) p l = tt
   rows_from lo (If e a b) p l = from_append lo (statement_rows (p + size e + 1) a) (statement_rows (p + size e + statement_size a + 2) b) (rows_from lo a (p + size e + 1) (omega arith)) (rows_from lo b (p + size e + statement_size a + 2) (omega arith))

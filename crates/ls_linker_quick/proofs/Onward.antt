@@ -76,7 +76,7 @@ module _ (n : ℕ) (B : ℕ → Type 0) where
   GoesOn p (Beyond wide.Throw) = Unit {0}
   GoesOn p (Beyond (wide.See x)) = Unit {0}
   GoesOn p (Beyond (wide.Take x)) = Unit {0}
-  GoesOn p (Beyond wide.DropLock) = Unit {0}
+  GoesOn p (Beyond (wide.DropLock x)) = Unit {0}
   GoesOn p (Beyond _) = ⊥
 
   one_on : (p : ℕ) (o : Option ℕ) (go : ℕ → FrameMove) → ((a : ℕ) → GoesOn p (go a)) → GoesOn p (on_one o go)
@@ -158,7 +158,7 @@ module _ (n : ℕ) (B : ℕ → Type 0) where
   frame_on op.Halt f h = absurd h
   frame_on (op.See x) f h = tt
   frame_on (op.Take x) f h = tt
-  frame_on op.DropLock f h = tt
+  frame_on (op.DropLock x) f h = tt
   frame_on (op.Enter x) f h = tt
   frame_on op.Leave f h = absurd h
   frame_on op.LeaveWith f h = tt
@@ -238,7 +238,7 @@ module _ (n : ℕ) (B : ℕ → Type 0) where
     of_on (Beyond wide.Trap) h = absurd h
     of_on (Beyond (wide.See x)) h = tt
     of_on (Beyond (wide.Take x)) h = tt
-    of_on (Beyond wide.DropLock) h = tt
+    of_on (Beyond (wide.DropLock x)) h = tt
 
     pub silent_on : (i : Instruction) → slice_get c.instructions t.top.counter ≡ Some i → Ahead n B t.top.counter i → (s : Thread) → thread_move c t ≡ Silent s → Leads s
     silent_on i is h s e =

@@ -181,7 +181,7 @@ module _ (c : Code) (t : Thread) (trap : ℕ) where
     by_own op.IsHeld own = absurd own
     by_own (op.See x) own = absurd own
     by_own (op.Take x) own = absurd own
-    by_own op.DropLock own = absurd own
+    by_own (op.DropLock x) own = absurd own
     by_own op.ReadPair own = absurd own
     by_own op.ReferenceOf own = absurd own
     by_own op.MarkOf own = absurd own

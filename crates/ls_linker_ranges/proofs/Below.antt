@@ -2,7 +2,7 @@
 use Rattle.std.proofs.Common.{ℕ, ◌+◌, ◌≤◌, ◌<◌, List, [], ◌∷◌, length, arith}
 use Rattle.ls_events.specs.declared.value.ValueType.{ValueType}
 use Rattle.ls_events.specs.declared.value.ValueType.TheVariants as types
-use Rattle.ls_checked.specs.declared.tree.Called.TheVariants.{Method as OfMethod, LockIt, UnlockIt, TryIt, AskIt, GetReference, IsMarked, GetBoth, SetBoth, CompareAndSet, Attempt}
+use Rattle.ls_checked.specs.declared.tree.Called.TheVariants.{Method as OfMethod, LockIt, UnlockIt, TryIt, AskIt, HoldMonitor, FreeMonitor, GetReference, IsMarked, GetBoth, SetBoth, CompareAndSet, Attempt}
 use Rattle.ls_checked.specs.CheckedTree.{File, Expression, Literal, Slot, Field, Item, Negate, Not, Binary, And, Or, Call, MakeObject, MakeLock, MakeMarkable, MakeArray, Expressions, End, More}
 use Rattle.ls_meaning.specs.declared.sort.Sort.{Sort}
 use Rattle.ls_types_judgement.specs.Typing.{IsTyped, AreTyped}
@@ -38,6 +38,8 @@ module _ (file : File) (slots : List ValueType) (k : ℕ) where
     below free s (Call e UnlockIt es) fits room h = below (free + 0) _ e (omega (arith, fits)) (omega (arith, room)) h.1
     below free s (Call e TryIt es) fits room h = below (free + 0) _ e (omega (arith, fits)) (omega (arith, room)) h.1
     below free s (Call e AskIt es) fits room h = below (free + 0) _ e (omega (arith, fits)) (omega (arith, room)) h.1
+    below free s (Call e (HoldMonitor c) es) fits room h = below (free + 0) _ e (omega (arith, fits)) (omega (arith, room)) h.1
+    below free s (Call e (FreeMonitor c) es) fits room h = below (free + 0) _ e (omega (arith, fits)) (omega (arith, room)) h.1
     below free s (Call e (GetReference c) es) fits room h = below (free + 0) _ e (omega (arith, fits)) (omega (arith, room)) h.1
     below free s (Call e (IsMarked c) es) fits room h = below (free + 0) _ e (omega (arith, fits)) (omega (arith, room)) h.1
     below free s (Call e (GetBoth c) End) fits room h = absurd h.2

@@ -3,7 +3,7 @@ use Rattle.std.proofs.Common.{◌≡◌, ℕ, suc, ◌+◌, List, [], ◌∷◌,
 use Rattle.std.specs.Prelude.{slice_get}
 use Rattle.ls_events.specs.declared.value.ValueType.{ValueType}
 use Rattle.ls_events.specs.declared.value.ValueType.TheVariants as types
-use Rattle.ls_checked.specs.declared.tree.Called.TheVariants.{Method as OfMethod, LockIt, UnlockIt, TryIt, AskIt, GetReference, IsMarked, GetBoth, SetBoth, CompareAndSet, Attempt}
+use Rattle.ls_checked.specs.declared.tree.Called.TheVariants.{Method as OfMethod, LockIt, UnlockIt, TryIt, AskIt, HoldMonitor, FreeMonitor, GetReference, IsMarked, GetBoth, SetBoth, CompareAndSet, Attempt}
 use Rattle.ls_checked.specs.CheckedTree.{Method, File, Expression, Literal, Slot, Field, Item, Negate, Not, Binary, And, Or, Call, MakeObject, MakeLock, MakeMarkable, MakeArray, Expressions, End, More}
 use Rattle.ls_meaning.specs.declared.sort.Sort.{Sort}
 use Rattle.ls_meaning.specs.Expressions.{constructor_of}
@@ -58,6 +58,8 @@ module _ (file : File) (typed : IsTypedFile file) (slots : List ValueType) where
     calls free s (Call e UnlockIt es) h = calls _ _ e h.1
     calls free s (Call e TryIt es) h = calls _ _ e h.1
     calls free s (Call e AskIt es) h = calls _ _ e h.1
+    calls free s (Call e (HoldMonitor c) es) h = calls _ _ e h.1
+    calls free s (Call e (FreeMonitor c) es) h = calls _ _ e h.1
     calls free s (Call e (GetReference c) es) h = calls _ _ e h.1
     calls free s (Call e (IsMarked c) es) h = calls _ _ e h.1
     calls free s (Call e (GetBoth c) End) h = absurd h.2

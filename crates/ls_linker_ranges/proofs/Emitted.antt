@@ -1,9 +1,9 @@
 -- The lowered form of a typed expression has code, where its locals are there and its calls have their arguments.
-use Rattle.std.proofs.Common.{◌≡◌, ℕ, ◌<◌, ◌^◌, List, [], ◌∷◌, length, Option, Some, None, option_map, refl, sym, subst, arith}
+use Rattle.std.proofs.Common.{◌≡◌, ℕ, ◌+◌, ◌<◌, ◌^◌, List, [], ◌∷◌, length, Option, Some, None, option_map, refl, sym, subst, arith}
 use Rattle.std.specs.Prelude.{slice_get}
 use Rattle.std.proofs.lemmas.Option.{slice_get-map}
 use Rattle.ls_events.specs.declared.value.ValueType.{ValueType}
-use Rattle.ls_checked.specs.declared.tree.Called.TheVariants.{Method as OfMethod, LockIt, UnlockIt, TryIt, AskIt, GetReference, IsMarked, GetBoth, SetBoth, CompareAndSet, Attempt}
+use Rattle.ls_checked.specs.declared.tree.Called.TheVariants.{Method as OfMethod, LockIt, UnlockIt, TryIt, AskIt, HoldMonitor, FreeMonitor, GetReference, IsMarked, GetBoth, SetBoth, CompareAndSet, Attempt}
 use Rattle.ls_checked.specs.CheckedTree.{Class, Method, File, Expression, Literal, Slot, Field, Item, Negate, Not, Binary, And, Or, Call, MakeObject, MakeLock, MakeMarkable, MakeArray, Expressions, End, More}
 use Rattle.ls_meaning.specs.declared.sort.Sort.{Sort}
 use Rattle.ls_meaning.specs.declared.sort.Sort.TheVariants.{NoValue, ValueOf}
@@ -34,7 +34,7 @@ field_there : (fields : List ValueType) (f : ℕ) (t : ValueType) (o : Option Va
 field_there fields f t None is e = absurd (no_value t e)
 field_there fields f t (Some u) is e = in_range fields f u is
 
-pub field_small : (file : File) → IsRanged file → (c f : ℕ) (t : ValueType) (o : Option Class) → slice_get file.classes c ≡ o → field_in o f ≡ ValueOf t → f < 2 ^ 32
+pub field_small : (file : File) → IsRanged file → (c f : ℕ) (t : ValueType) (o : Option Class) → slice_get file.classes c ≡ o → field_in o f ≡ ValueOf t → f + 1 < 2 ^ 32
 field_small file ranged c f t None is e = absurd (no_value t e)
 field_small file ranged c f t (Some class) is e =
     let there = field_there class.fields f t (slice_get class.fields f) refl e in
@@ -71,6 +71,8 @@ module _ (file : File) (typed : IsTypedFile file) (its : HasItsClasses file) (ra
     emitted free s (Call e UnlockIt es) h b w = emitted _ _ e h.1 b w
     emitted free s (Call e TryIt es) h b w = emitted _ _ e h.1 b w
     emitted free s (Call e AskIt es) h b w = emitted _ _ e h.1 b w
+    emitted free s (Call e (HoldMonitor c) es) h b w = emitted _ _ e h.1 b w
+    emitted free s (Call e (FreeMonitor c) es) h b w = emitted _ _ e h.1 b w
     emitted free s (Call e (GetReference c) es) h b w = emitted _ _ e h.1 b w
     emitted free s (Call e (IsMarked c) es) h b w = emitted _ _ e h.1 b w
     emitted free s (Call e (GetBoth c) End) h b w = absurd h.2

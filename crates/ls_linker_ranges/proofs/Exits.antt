@@ -2,7 +2,7 @@
 use Rattle.std.proofs.Common.{◌≡◌, ℕ, zero, suc, ◌+◌, ◌≤◌, ◌<◌, List, [], ◌∷◌, ◌++◌, length, Option, Some, None, refl, sym, ap, arith}
 use Rattle.std.proofs.lemmas.List.{length-append}
 use Rattle.std.proofs.lemmas.Option.{none-some}
-use Rattle.ls_lowered.specs.LoweredTree.{Statement, Block, SetLocal, SetField, SetItem, Evaluate, If, While, Return, Try, Guarded, Throw, Leavable, Leave, Statements, Done, Then, File}
+use Rattle.ls_lowered.specs.LoweredTree.{Statement, Block, SetLocal, SetField, AddField, SetItem, Evaluate, If, While, Return, Try, Guarded, Throw, Leavable, Leave, Statements, Done, Then, File}
 use Rattle.ls_finally_exits.specs.Exits.{outward, count, Exit, LeaveOut, ReturnOut, leave_exit, exits, all_exits, or_leave, replaced, all_replaced, exit_of, ways, finally_of}
 use Rattle.ls_emit_laws.specs.Emittable.{statement_count, IsEmittableStatement, AreEmittableStatements}
 
@@ -50,6 +50,7 @@ module _ (ms : File) (k : ℕ) where
     exits_lead inner around all (Block ss) e h = all_exits_lead inner around all ss e h
     exits_lead inner around all (SetLocal n v) e h = tt
     exits_lead inner around all (SetField o f v) e h = tt
+    exits_lead inner around all (AddField o f v) e h = tt
     exits_lead inner around all (SetItem a i v) e h = tt
     exits_lead inner around all (Evaluate v) e h = tt
     exits_lead inner around all (If c a b) e h = lead_both around (exits inner a) (exits inner b) (exits_lead inner around all a e h.1) (exits_lead inner around all b e h.2)
@@ -77,6 +78,7 @@ module _ (ms : File) (k : ℕ) where
     replaced_in r inner j before after (Block ss) rk room h = all_replaced_in r inner j before after ss rk room h
     replaced_in r inner j before after (SetLocal n v) rk room h = h
     replaced_in r inner j before after (SetField o f v) rk room h = h
+    replaced_in r inner j before after (AddField o f v) rk room h = h
     replaced_in r inner j before after (SetItem a i v) rk room h = h
     replaced_in r inner j before after (Evaluate v) rk room h = h
     replaced_in r inner j before after (If c a b) rk room h =

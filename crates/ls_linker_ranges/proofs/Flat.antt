@@ -1,6 +1,6 @@
 -- The form without `try` of a tree in range has code.
 use Rattle.std.proofs.Common.{◌≡◌, ℕ, suc, ◌+◌, ◌*◌, ◌≤◌, refl, ap, subst, arith}
-use Rattle.ls_lowered.specs.LoweredTree.{Statement, Block, SetLocal, SetField, SetItem, Evaluate, If, While, Return, Try, Guarded, Throw, Leavable, Leave, Statements, Done, Then, File}
+use Rattle.ls_lowered.specs.LoweredTree.{Statement, Block, SetLocal, SetField, AddField, SetItem, Evaluate, If, While, Return, Try, Guarded, Throw, Leavable, Leave, Statements, Done, Then, File}
 use Rattle.ls_finally.specs.Flat.{tries, all_tries, flat, all_flat}
 use Rattle.ls_emit_laws.specs.Emittable.{statement_count, IsEmittableStatement, AreEmittableStatements}
 use Rattle.ls_linker_ranges.proofs.Flattens.{Flattens, AllFlatten}
@@ -16,6 +16,7 @@ module _ (ms : File) (k : ℕ) where
     flat_in j around (Block ss) room h = all_flat_in j around ss room h
     flat_in j around (SetLocal n e) room h = h
     flat_in j around (SetField e f a) room h = h
+    flat_in j around (AddField e f a) room h = h
     flat_in j around (SetItem a i e) room h = h
     flat_in j around (Evaluate e) room h = h
     flat_in j around (If e a b) room h =

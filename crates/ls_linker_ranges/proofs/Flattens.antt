@@ -1,6 +1,6 @@
 -- The trees whose form without `try` has code: each number is there, and nothing is guarded yet.
 use Rattle.std.specs.Prelude.{ℕ, suc, ◌+◌, ◌<◌, ◌^◌}
-use Rattle.ls_lowered.specs.LoweredTree.{Statement, Block, SetLocal, SetField, SetItem, Evaluate, If, While, Return, Try, Guarded, Throw, Leavable, Leave, Statements, Done, Then, File}
+use Rattle.ls_lowered.specs.LoweredTree.{Statement, Block, SetLocal, SetField, AddField, SetItem, Evaluate, If, While, Return, Try, Guarded, Throw, Leavable, Leave, Statements, Done, Then, File}
 use Rattle.ls_emit_laws.specs.Emittable.{statement_count, IsEmittable}
 
 -- a statement of a method with k locals, round which so many numbers can be left; the calls are to methods of the first
@@ -8,7 +8,8 @@ abbrev mutual
   pub Flattens : File → ℕ → ℕ → Statement → Type 0
   Flattens ms k around (Block ss) = AllFlatten ms k around ss
   Flattens ms k around (SetLocal n e) = (n < k) × IsEmittable ms k e
-  Flattens ms k around (SetField e f a) = (f < 2 ^ 32) × IsEmittable ms k e × IsEmittable ms k a
+  Flattens ms k around (SetField e f a) = (f + 1 < 2 ^ 32) × IsEmittable ms k e × IsEmittable ms k a
+  Flattens ms k around (AddField e f a) = (f + 1 < 2 ^ 32) × IsEmittable ms k e × IsEmittable ms k a
   Flattens ms k around (SetItem a i e) = IsEmittable ms k a × IsEmittable ms k i × IsEmittable ms k e
   Flattens ms k around (Evaluate e) = IsEmittable ms k e
   Flattens ms k around (If e a b) = IsEmittable ms k e × Flattens ms k around a × Flattens ms k around b

@@ -11,7 +11,7 @@ use Rattle.ls_lowered.specs.declared.tree.BinaryOperator.{BinaryOperator}
 use Rattle.ls_lowered.specs.declared.tree.BinaryOperator.TheVariants as binary
 use Rattle.ls_lowered.specs.declared.tree.LockOperation.{LockOperation}
 use Rattle.ls_lowered.specs.declared.tree.LockOperation.TheVariants as lock
-use Rattle.ls_lowered.specs.LoweredTree.{Expression, Word, Local, Unary, Binary, And, Or, Hold, Keep, After, Field, Item, SetFirst, ReadPair, SetPair, SwapPair, AttemptMark, OnLock, Call, MakeObject, MakeLock, MakeMarkable, MakeArray, Expressions, End, More, Statement, Block, SetLocal, SetField, SetItem, Evaluate, If, While, Return, Try, Guarded, Throw, Leavable, Leave, Statements, Done, Then, Method, File}
+use Rattle.ls_lowered.specs.LoweredTree.{Expression, Word, Local, Unary, Binary, And, Or, Hold, Keep, After, Field, Item, SetFirst, ReadPair, SetPair, SwapPair, AttemptMark, OnLock, Call, MakeObject, MakeLock, MakeMarkable, MakeArray, Expressions, End, More, Statement, Block, SetLocal, SetField, AddField, SetItem, Evaluate, If, While, Return, Try, Guarded, Throw, Leavable, Leave, Statements, Done, Then, Method, File}
 use Rattle.ls_locks.specs.LockCode.{lock_code}
 use Rattle.ls_emit_laws.specs.Expressions.{unary_code, binary_code, size, all_size, code, all_code}
 use Rattle.ls_emit_laws.specs.Statements.{Targets, target_of, places, statement_size, statements_size, exits_size, statement_code, statements_code, exits_code, row_of, statement_rows, statements_rows, exits_rows}
@@ -70,6 +70,8 @@ module _ (n : ℕ) where
   lock_lands lock.Unlock p room = (tt, (tt, (tt, tt)))
   lock_lands lock.TryLock p room = (tt, (tt, (tt, (tt, tt))))
   lock_lands lock.IsHeld p room = (tt, tt)
+  lock_lands lock.LockMonitor p room = (tt, (tt, (jump_if_false p room, (tt, (tt, tt)))))
+  lock_lands lock.UnlockMonitor p room = (tt, (tt, (tt, tt)))
 
   mutual
     code_lands : (p : ℕ) (e : Expression) → p + size e ≤ n → AllLand (code p e)
@@ -82,7 +84,7 @@ module _ (n : ℕ) where
     code_lands p (Hold a n b) room = joined (code p a ++ code (p + size a) b) (op.Store n ∷ []) (joined (code p a) (code (p + size a) b) (code_lands p a (omega (arith, room))) (code_lands (p + size a) b (omega (arith, room)))) ((tt, tt))
     code_lands p (Keep n a b) room = joined (code p a) (op.Store n ∷ code (p + size a + 1) b) (code_lands p a (omega (arith, room))) ((tt, code_lands (p + size a + 1) b (omega (arith, room))))
     code_lands p (After a b) room = joined (code p a) (op.Pop ∷ code (p + size a + 1) b) (code_lands p a (omega (arith, room))) ((tt, code_lands (p + size a + 1) b (omega (arith, room))))
-    code_lands p (Field e f) room = joined (code p e) (op.GetField f ∷ []) (code_lands p e (omega (arith, room))) ((tt, tt))
+    code_lands p (Field e f) room = joined (code p e) (op.GetField (f + 1) ∷ []) (code_lands p e (omega (arith, room))) ((tt, tt))
     code_lands p (Item a i) room = joined (code p a ++ code (p + size a) i) (op.GetItem ∷ []) (joined (code p a) (code (p + size a) i) (code_lands p a (omega (arith, room))) (code_lands (p + size a) i (omega (arith, room)))) ((tt, tt))
     code_lands p (SetFirst a e) room = joined (code p a ++ op.Push 0 ∷ code (p + size a + 1) e) (op.PutItem ∷ op.Push 0 ∷ []) (joined (code p a) (op.Push 0 ∷ code (p + size a + 1) e) (code_lands p a (omega (arith, room))) ((tt, code_lands (p + size a + 1) e (omega (arith, room))))) ((tt, (tt, tt)))
     code_lands p (ReadPair e) room = joined (code p e) (op.ReadPair ∷ []) (code_lands p e (omega (arith, room))) ((tt, tt))
@@ -120,7 +122,8 @@ module _ (n : ℕ) where
     statement_lands : (t : Targets) (p : ℕ) (s : Statement) → AllLead t → p + statement_size s ≤ n → AllLand (statement_code t p s)
     statement_lands t p (Block ss) lead room = statements_land t p ss lead (omega (arith, room))
     statement_lands t p (SetLocal n e) lead room = joined (code p e) (op.Store n ∷ []) (code_lands p e (omega (arith, room))) ((tt, tt))
-    statement_lands t p (SetField e f a) lead room = joined (code p e ++ code (p + size e) a) (op.PutField f ∷ []) (joined (code p e) (code (p + size e) a) (code_lands p e (omega (arith, room))) (code_lands (p + size e) a (omega (arith, room)))) ((tt, tt))
+    statement_lands t p (SetField e f a) lead room = joined (code p e ++ code (p + size e) a) (op.PutField (f + 1) ∷ []) (joined (code p e) (code (p + size e) a) (code_lands p e (omega (arith, room))) (code_lands (p + size e) a (omega (arith, room)))) ((tt, tt))
+    statement_lands t p (AddField e f a) lead room = joined (code p e ++ op.Dup ∷ op.GetField (f + 1) ∷ code (p + size e + 2) a) (op.Add ∷ op.PutField (f + 1) ∷ []) (joined (code p e) (op.Dup ∷ op.GetField (f + 1) ∷ code (p + size e + 2) a) (code_lands p e (omega (arith, room))) ((tt, (tt, code_lands (p + size e + 2) a (omega (arith, room)))))) ((tt, (tt, tt)))
     statement_lands t p (SetItem a i e) lead room = joined (code p a ++ code (p + size a) i ++ code (p + size a + size i) e) (op.PutItem ∷ []) (joined (code p a ++ code (p + size a) i) (code (p + size a + size i) e) (joined (code p a) (code (p + size a) i) (code_lands p a (omega (arith, room))) (code_lands (p + size a) i (omega (arith, room)))) (code_lands (p + size a + size i) e (omega (arith, room)))) ((tt, tt))
     statement_lands t p (Evaluate e) lead room = joined (code p e) (op.Pop ∷ []) (code_lands p e (omega (arith, room))) ((tt, tt))
     statement_lands t p (If e a b) lead room = joined (code p e ++ op.JumpIfFalse (p + size e + statement_size a + 2) ∷ statement_code t (p + size e + 1) a) (op.Jump (p + size e + statement_size a + statement_size b + 2) ∷ statement_code t (p + size e + statement_size a + 2) b) (joined (code p e) (op.JumpIfFalse (p + size e + statement_size a + 2) ∷ statement_code t (p + size e + 1) a) (code_lands p e (omega (arith, room))) ((jump_if_false (p + size e + statement_size a + 2) (omega (arith, room)), statement_lands t (p + size e + 1) a lead (omega (arith, room))))) ((jump (p + size e + statement_size a + statement_size b + 2) (omega (arith, room)), statement_lands t (p + size e + statement_size a + 2) b lead (omega (arith, room))))
@@ -151,6 +154,7 @@ module _ (n : ℕ) where
     rows_land p (Block ss) room = all_rows_land p ss room
     rows_land p (SetLocal i e) room = tt
     rows_land p (SetField e f a) room = tt
+    rows_land p (AddField e f a) room = tt
     rows_land p (SetItem a i e) room = tt
     rows_land p (Evaluate e) room = tt
     rows_land p (If e a b) room =

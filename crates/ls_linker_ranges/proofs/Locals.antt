@@ -2,7 +2,7 @@
 use Rattle.std.proofs.Common.{◌≡◌, ℕ, ◌+◌, ◌≤◌, ◌<◌, List, length, refl, ap₂, ◌∙◌, arith}
 use Rattle.std.specs.Prelude.{slice_index_or}
 use Rattle.std.proofs.lemmas.List.Elements.{All-map}
-use Rattle.ls_checked.specs.CheckedTree.{Class, Method, File, Statement, Block, SetSlot, SetField, SetItem, Evaluate, If, While, Break, Continue, ReturnNothing, ReturnValue, Try, Statements, Done, Then}
+use Rattle.ls_checked.specs.CheckedTree.{Class, Method, File, Statement, Block, SetSlot, SetField, AddField, SetItem, Evaluate, If, While, Break, Continue, ReturnNothing, ReturnValue, Try, Statements, Done, Then}
 use Rattle.ls_refs_expressions.specs.Lowered.{lowered_statement, lowered_block, lowered_method, lowered_file}
 use Rattle.ls_refs_expressions.specs.Temporaries as refs
 use Rattle.ls_refs.specs.Refused.{AllFit, AllSlotted}
@@ -16,6 +16,7 @@ mutual
   tries_same classes free (Block ss) = all_tries_same classes free ss
   tries_same classes free (SetSlot n e) = refl
   tries_same classes free (SetField e f v) = refl
+  tries_same classes free (AddField e f v) = refl
   tries_same classes free (SetItem a i v) = refl
   tries_same classes free (Evaluate e) = refl
   tries_same classes free (If e a b) = ap₂ (λ x y. x + y) (tries_same classes _ a) (tries_same classes _ b)

@@ -5,7 +5,7 @@ use Rattle.ls_events.specs.declared.value.Value.{Value}
 use Rattle.ls_events.specs.declared.value.Value.TheVariants as values
 use Rattle.ls_checked.specs.CheckedTree as checked
 use Rattle.ls_checked.specs.CheckedProgram.{Program, ProgramCall, Making, Calling}
-use Rattle.ls_lowered.specs.LoweredTree.{Expression, Word, Local, Unary, Binary, And, Or, Hold, Keep, After, Field, Item, SetFirst, ReadPair, SetPair, SwapPair, AttemptMark, OnLock, Call, MakeObject, MakeLock, MakeMarkable, MakeArray, Expressions, End, More, Statement, Block, SetLocal, SetField, SetItem, Evaluate, If, While, Return, Try, Guarded, Throw, Leavable, Leave, Statements, Done, Then, Method, File}
+use Rattle.ls_lowered.specs.LoweredTree.{Expression, Word, Local, Unary, Binary, And, Or, Hold, Keep, After, Field, Item, SetFirst, ReadPair, SetPair, SwapPair, AttemptMark, OnLock, Call, MakeObject, MakeLock, MakeMarkable, MakeArray, Expressions, End, More, Statement, Block, SetLocal, SetField, AddField, SetItem, Evaluate, If, While, Return, Try, Guarded, Throw, Leavable, Leave, Statements, Done, Then, Method, File}
 use Rattle.ls_finally.specs.Agreement.{IsBelow, AreBelow}
 use Rattle.ls_finally.specs.Placed as placed
 use Rattle.ls_finally.specs.Placed.{CallsWell, AllCallWell, IsPlacedStatement, ArePlaced, AllPlaced}
@@ -84,6 +84,7 @@ mutual
   statement_placed ms k (Block ss) = statements_placed ms k ss
   statement_placed ms k (SetLocal n e) = hlevel (props, below k e, calls ms e)
   statement_placed ms k (SetField e f a) = hlevel (below k e, calls ms e, below k a, calls ms a)
+  statement_placed ms k (AddField e f a) = hlevel (below k e, calls ms e, below k a, calls ms a)
   statement_placed ms k (SetItem a i e) = hlevel (below k a, calls ms a, below k i, calls ms i, below k e, calls ms e)
   statement_placed ms k (Evaluate e) = hlevel (below k e, calls ms e)
   statement_placed ms k (If e a b) = hlevel (below k e, calls ms e, statement_placed ms k a, statement_placed ms k b)
@@ -141,6 +142,7 @@ mutual
   statement_emittable ms k exits (Block ss) = statements_emittable ms k exits ss
   statement_emittable ms k exits (SetLocal n e) = hlevel (props, emittable ms k e)
   statement_emittable ms k exits (SetField e f a) = hlevel (props, emittable ms k e, emittable ms k a)
+  statement_emittable ms k exits (AddField e f a) = hlevel (props, emittable ms k e, emittable ms k a)
   statement_emittable ms k exits (SetItem a i e) = hlevel (emittable ms k a, emittable ms k i, emittable ms k e)
   statement_emittable ms k exits (Evaluate e) = emittable ms k e
   statement_emittable ms k exits (If e a b) = hlevel (emittable ms k e, statement_emittable ms k exits a, statement_emittable ms k exits b)

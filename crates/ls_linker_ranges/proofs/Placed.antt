@@ -2,7 +2,7 @@
 use Rattle.std.proofs.Common.{◌≡◌, ℕ, suc, ◌+◌, ◌-◌, ◌≤◌, ◌<◌, List, [], ◌∷◌, length, map, Option, Some, refl, ap, arith}
 use Rattle.std.specs.Prelude.{slice_get}
 use Rattle.ls_events.specs.declared.value.ValueType.{ValueType}
-use Rattle.ls_checked.specs.CheckedTree.{Method, File, Expression, Statement, Block, SetSlot, SetField, SetItem, Evaluate, If, While, Break, Continue, ReturnNothing, ReturnValue, Try, Statements, Done, Then}
+use Rattle.ls_checked.specs.CheckedTree.{Method, File, Expression, Statement, Block, SetSlot, SetField, AddField, SetItem, Evaluate, If, While, Break, Continue, ReturnNothing, ReturnValue, Try, Statements, Done, Then}
 use Rattle.ls_meaning.specs.declared.sort.Sort.{Sort}
 use Rattle.ls_types_judgement.specs.Typing.{IsTyped, IsTypedStatement, AreTypedStatements, IsTypedMethod, IsTypedFile}
 use Rattle.ls_refs_expressions.specs.Temporaries.{temporaries, statement_temporaries, block_temporaries}
@@ -26,6 +26,7 @@ module _ (file : File) (typed : IsTypedFile file) (slots : List ValueType) (r : 
         let slot : n < k = omega (arith, there, fits, room) in
         (slot, placed free _ e fits room h.2)
     placed_statement free (SetField e f v) fits room h = (placed free _ e fits (omega (arith, room)) h.3, placed (free + temporaries e) _ v (omega (arith, fits)) (omega (arith, room)) h.4)
+    placed_statement free (AddField e f v) fits room h = (placed free _ e fits (omega (arith, room)) h.2, placed (free + temporaries e) _ v (omega (arith, fits)) (omega (arith, room)) h.3)
     placed_statement free (SetItem a i v) fits room h = (
       placed free _ a fits (omega (arith, room)) h.0,
       placed (free + temporaries a) _ i (omega (arith, fits)) (omega (arith, room)) h.1,

@@ -2,7 +2,8 @@
 use Rattle.std.proofs.Common.{◌≡◌, ℕ, suc, ◌+◌, ◌*◌, ◌≤◌, ◌<◌, List, [], ◌∷◌, length, map, Option, Some, refl, ap, lit<, arith}
 use Rattle.std.specs.Prelude.{slice_get}
 use Rattle.ls_events.specs.declared.value.ValueType.{ValueType}
-use Rattle.ls_checked.specs.CheckedTree.{Method, File, Expression, Statement, Block, SetSlot, SetField, SetItem, Evaluate, If, While, Break, Continue, ReturnNothing, ReturnValue, Try, Statements, Done, Then}
+use Rattle.ls_events.specs.declared.value.ValueType.TheVariants as types
+use Rattle.ls_checked.specs.CheckedTree.{Method, File, Expression, Statement, Block, SetSlot, SetField, AddField, SetItem, Evaluate, If, While, Break, Continue, ReturnNothing, ReturnValue, Try, Statements, Done, Then}
 use Rattle.ls_types_completion.specs.Jumps.{JumpsInLoops, JumpInLoops}
 use Rattle.ls_meaning.specs.declared.sort.Sort.{Sort}
 use Rattle.ls_types_judgement.specs.Typing.{IsTyped, IsTypedStatement, AreTypedStatements, IsTypedMethod, IsTypedFile}
@@ -42,6 +43,11 @@ module _ (file : File) (typed : IsTypedFile file) (its : HasItsClasses file) (ra
       field_small file ranged h.0 f h.1 (slice_get file.classes h.0) refl h.2,
       has_code free _ e fits (omega (arith, room)) h.3,
       has_code (free + temporaries e) _ v (omega (arith, fits)) (omega (arith, room)) h.4,
+    )
+    flattens free loops around (AddField e f v) two fits room h j = (
+      field_small file ranged h.0 f types.Int (slice_get file.classes h.0) refl h.1,
+      has_code free _ e fits (omega (arith, room)) h.2,
+      has_code (free + temporaries e) _ v (omega (arith, fits)) (omega (arith, room)) h.3,
     )
     flattens free loops around (SetItem a i v) two fits room h j = (
       has_code free _ a fits (omega (arith, room)) h.0,

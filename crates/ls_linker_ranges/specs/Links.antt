@@ -1,6 +1,7 @@
 -- Threads whose numbers and values are operands.
-use Rattle.std.specs.Prelude.{◌<◌, ◌≤◌, ◌^◌, List, length}
+use Rattle.std.specs.Prelude.{◌<◌, ◌≤◌, ◌^◌, suc, List, length}
 use Rattle.std.specs.List.{All}
+use Rattle.ls_checked.specs.Limits.{most_threads}
 use Rattle.ls_events.specs.declared.value.Value.{Value}
 use Rattle.ls_events.specs.declared.value.Value.TheVariants as values
 use Rattle.ls_checked.specs.CheckedTree.{Class, File}
@@ -28,5 +29,5 @@ pub record ThreadLinks (classes : List Class) (t : ThreadProgram) : Type 0 where
 pub record Links (file : File) (program : Program) (units : List CodeUnit) : Type 0 where
   pub few : length units ≤ 512
   pub all : All UnitLands units
-  pub few_threads : length program.threads ≤ 17
+  pub few_threads : length program.threads ≤ suc most_threads
   pub threads : All (ThreadLinks file.classes) program.threads

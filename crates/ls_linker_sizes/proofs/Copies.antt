@@ -1,7 +1,7 @@
 -- Nodes of trees without `try`, by the copies of finally blocks.
 use Rattle.std.proofs.Common.{◌≡◌, ℕ, zero, suc, ◌+◌, ◌*◌, ◌≤◌, List, [], ◌∷◌, length, Option, Some, None, arith, length-append}
 use Rattle.ls_checked.specs.CheckedTree as checked
-use Rattle.ls_lowered.specs.LoweredTree.{Statement, Block, SetLocal, SetField, SetItem, Evaluate, If, While, Return, Try, Guarded, Throw, Leavable, Leave, Statements, Done, Then}
+use Rattle.ls_lowered.specs.LoweredTree.{Statement, Block, SetLocal, SetField, AddField, SetItem, Evaluate, If, While, Return, Try, Guarded, Throw, Leavable, Leave, Statements, Done, Then}
 use Rattle.ls_finally_exits.specs.Exits.{Exit, LeaveOut, ReturnOut, outward, count, exits, all_exits, or_leave, replaced, all_replaced, exit_of, ways, finally_of}
 use Rattle.ls_finally.specs.Flat.{tries, flat, all_flat}
 use Rattle.ls_finally.specs.Counts.{copies, all_copies}
@@ -23,6 +23,7 @@ mutual
   replaced_few (Block ss) r l j = omega (arith, all_replaced_few ss r l j)
   replaced_few (SetLocal n e) r l j = omega arith
   replaced_few (SetField e f a) r l j = omega arith
+  replaced_few (AddField e f a) r l j = omega arith
   replaced_few (SetItem a i e) r l j = omega arith
   replaced_few (Evaluate e) r l j = omega arith
   replaced_few (If e a b) r l j = omega (arith, replaced_few a r l j, replaced_few b r l (j + length (exits l a)), length-append (exits l a) (exits l b))
@@ -91,6 +92,7 @@ module _ (most : ℕ) where
     flat_few (Block ss) k le = omega (arith, all_flat_few ss k (omega (arith, le)))
     flat_few (SetLocal n e) k le = omega arith
     flat_few (SetField e f a) k le = omega arith
+    flat_few (AddField e f a) k le = omega arith
     flat_few (SetItem a i e) k le = omega arith
     flat_few (Evaluate e) k le = omega arith
     flat_few (If e a b) k le =

@@ -1,7 +1,7 @@
 -- Nodes of lowered trees.
 use Rattle.std.proofs.Common.{◌≡◌, ℕ, ◌+◌, ◌*◌, ◌≤◌, List, arith}
 use Rattle.ls_checked.specs.declared.tree.Called.{Called}
-use Rattle.ls_checked.specs.declared.tree.Called.TheVariants.{Method as OfMethod, LockIt, UnlockIt, TryIt, AskIt, GetReference, IsMarked, GetBoth, SetBoth, CompareAndSet, Attempt}
+use Rattle.ls_checked.specs.declared.tree.Called.TheVariants.{Method as OfMethod, LockIt, UnlockIt, TryIt, AskIt, HoldMonitor, FreeMonitor, GetReference, IsMarked, GetBoth, SetBoth, CompareAndSet, Attempt}
 use Rattle.ls_checked.specs.CheckedTree as checked
 use Rattle.ls_lowered.specs.LoweredTree.{Expression, Expressions, End, More, Statement, Statements, Done, Then}
 use Rattle.ls_refs_calls.specs.Calls.{own_temporaries, first_of, rest_of, lowered_call}
@@ -30,6 +30,8 @@ call_few free LockIt o es = omega arith
 call_few free UnlockIt o es = omega arith
 call_few free TryIt o es = omega arith
 call_few free AskIt o es = omega arith
+call_few free (HoldMonitor c) o es = omega arith
+call_few free (FreeMonitor c) o es = omega arith
 call_few free (GetReference class) o es = omega arith
 call_few free (IsMarked class) o es = omega arith
 call_few free (GetBoth class) o es = omega (arith, split es)
@@ -65,6 +67,7 @@ module _ (classes : List checked.Class) where
     statement_few (checked.Block ss) free = omega (arith, block_few ss free)
     statement_few (checked.SetSlot n e) free = omega (arith, few e free)
     statement_few (checked.SetField e field v) free = omega (arith, few e free, few v (free + temporaries e))
+    statement_few (checked.AddField e field v) free = omega (arith, few e free, few v (free + temporaries e))
     statement_few (checked.SetItem a i v) free = omega (arith, few a free, few i (free + temporaries a), few v (free + temporaries a + temporaries i))
     statement_few (checked.Evaluate e) free = omega (arith, few e free)
     statement_few (checked.If e a b) free = omega (arith, few e free, statement_few a (free + temporaries e), statement_few b (free + temporaries e + statement_temporaries a))

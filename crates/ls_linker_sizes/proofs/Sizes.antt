@@ -1,8 +1,8 @@
 -- Instructions by nodes.
 use Rattle.std.proofs.Common.{◌+◌, ◌*◌, ◌≤◌, arith}
 use Rattle.ls_lowered.specs.declared.tree.LockOperation.{LockOperation}
-use Rattle.ls_lowered.specs.declared.tree.LockOperation.TheVariants.{Lock, Unlock, TryLock, IsHeld}
-use Rattle.ls_lowered.specs.LoweredTree.{Expression, Word, Local, Unary, Binary, And, Or, Hold, Keep, After, Field, Item, SetFirst, ReadPair, SetPair, SwapPair, AttemptMark, OnLock, Call, MakeObject, MakeLock, MakeMarkable, MakeArray, Expressions, End, More, Statement, Block, SetLocal, SetField, SetItem, Evaluate, If, While, Return, Try, Guarded, Throw, Leavable, Leave, Statements, Done, Then, Method}
+use Rattle.ls_lowered.specs.declared.tree.LockOperation.TheVariants.{Lock, Unlock, TryLock, IsHeld, LockMonitor, UnlockMonitor}
+use Rattle.ls_lowered.specs.LoweredTree.{Expression, Word, Local, Unary, Binary, And, Or, Hold, Keep, After, Field, Item, SetFirst, ReadPair, SetPair, SwapPair, AttemptMark, OnLock, Call, MakeObject, MakeLock, MakeMarkable, MakeArray, Expressions, End, More, Statement, Block, SetLocal, SetField, AddField, SetItem, Evaluate, If, While, Return, Try, Guarded, Throw, Leavable, Leave, Statements, Done, Then, Method}
 use Rattle.ls_locks.specs.LockCode.{lock_size}
 use Rattle.ls_emit_laws.specs.Expressions.{size, all_size}
 use Rattle.ls_emit_laws.specs.Statements.{statement_size, statements_size, exits_size}
@@ -14,6 +14,8 @@ lock_few Lock = omega arith
 lock_few Unlock = omega arith
 lock_few TryLock = omega arith
 lock_few IsHeld = omega arith
+lock_few LockMonitor = omega arith
+lock_few UnlockMonitor = omega arith
 
 mutual
   sized : (e : Expression) → size e ≤ 5 * nodes e
@@ -50,6 +52,7 @@ mutual
   statement_sized (Block ss) = omega (arith, statements_sized ss)
   statement_sized (SetLocal n e) = omega (arith, sized e)
   statement_sized (SetField e f a) = omega (arith, sized e, sized a)
+  statement_sized (AddField e f a) = omega (arith, sized e, sized a)
   statement_sized (SetItem a i e) = omega (arith, sized a, sized i, sized e)
   statement_sized (Evaluate e) = omega (arith, sized e)
   statement_sized (If e a b) = omega (arith, sized e, statement_sized a, statement_sized b)

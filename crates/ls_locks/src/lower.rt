@@ -1,7 +1,7 @@
 // The code of one operation on a lock.
 
 ghost use Rattle.std.specs.Prelude.{◌≡◌, ◌<◌, ◌≤◌, ◌^◌, ◌++◌, OnOk};
-ghost use Rattle.ls_locks.specs.LockCode.{lock_code, lock_size as size_of_lock};
+ghost use Rattle.ls_locks.specs.LockCode.{leaving_code, lock_code, lock_size as size_of_lock, waiting_code};
 
 use ls_code::instruction::Instruction;
 use ls_lowered::tree::LockOperation;
@@ -17,7 +17,32 @@ pub fn lock_size(operation: LockOperation) -> usize
         LockOperation::Unlock => 3,
         LockOperation::TryLock => 4,
         LockOperation::IsHeld => 1,
+        LockOperation::LockMonitor => 5,
+        LockOperation::UnlockMonitor => 3,
     }
+}
+
+// Puts the code of an operation that waits until it is won behind the code that is there.
+fn push_waiting(code: &mut Vec<Instruction>, place: usize, which: u32) -> Result<(), AllocError>
+    requires { place < 2 ^ 32 }
+    ensures { OnOk result (code.new.items ≡ code.old.items ++ waiting_code place which) }
+{
+    code.push(Instruction::See(which))?;
+    code.push(Instruction::Take(which))?;
+    code.push(Instruction::JumpIfFalse(place as u32))?;
+    code.push(Instruction::Pop)?;
+    code.push(Instruction::Push(0))?;
+    Ok(())
+}
+
+// Puts the code of an unlock behind the code that is there.
+fn push_leaving(code: &mut Vec<Instruction>, seen: u32, dropped: u32) -> Result<(), AllocError>
+    ensures { OnOk result (code.new.items ≡ code.old.items ++ leaving_code seen dropped) }
+{
+    code.push(Instruction::See(seen))?;
+    code.push(Instruction::DropLock(dropped))?;
+    code.push(Instruction::Push(0))?;
+    Ok(())
 }
 
 /// Puts the code of an operation behind the code that is there. The place is where its first instruction stands.
@@ -30,18 +55,8 @@ pub fn lower_lock(
     ensures { OnOk result (code.new.items ≡ code.old.items ++ lock_code place operation) }
 {
     match operation {
-        LockOperation::Lock => {
-            code.push(Instruction::See(1))?;
-            code.push(Instruction::Take(1))?;
-            code.push(Instruction::JumpIfFalse(place as u32))?;
-            code.push(Instruction::Pop)?;
-            code.push(Instruction::Push(0))?;
-        }
-        LockOperation::Unlock => {
-            code.push(Instruction::See(3))?;
-            code.push(Instruction::DropLock)?;
-            code.push(Instruction::Push(0))?;
-        }
+        LockOperation::Lock => push_waiting(code, place, 1)?,
+        LockOperation::Unlock => push_leaving(code, 3, 0)?,
         LockOperation::TryLock => {
             code.push(Instruction::See(2))?;
             code.push(Instruction::Take(2))?;
@@ -49,6 +64,8 @@ pub fn lower_lock(
             code.push(Instruction::MarkOf)?;
         }
         LockOperation::IsHeld => code.push(Instruction::IsHeld)?,
+        LockOperation::LockMonitor => push_waiting(code, place, 4)?,
+        LockOperation::UnlockMonitor => push_leaving(code, 5, 1)?,
     }
     Ok(())
 }

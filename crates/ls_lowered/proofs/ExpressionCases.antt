@@ -120,7 +120,7 @@ kept = refl
 after : at (After MakeLock (Word 3)) (answer.Gives 8 ∷ []) ≡ is 3
 after = refl
 
-field : at (Field (Local 0) 2) [] ≡ Asks (act.ReadField 7 2)
+field : at (Field (Local 0) 2) [] ≡ Asks (act.ReadField 7 3)
 field = refl
 
 field_of_null : at (Field (Local 1) 2) [] ≡ Ends (Throws NullPointer) (7 ∷ 0 ∷ 4 ∷ []) []

@@ -5,7 +5,7 @@ use Rattle.ls_events.specs.declared.kind.Kind.TheVariants.{Arithmetic, NullPoint
 use Rattle.ls_events.specs.declared.action.Action.TheVariants as act
 use Rattle.ls_events.specs.declared.action.Answer.TheVariants as answer
 use Rattle.ls_lowered.specs.declared.tree.BinaryOperator.TheVariants as op
-use Rattle.ls_lowered.specs.LoweredTree.{Word, Local, Binary, Call, End, MakeLock, Statement, Block, SetLocal, SetField, SetItem, Evaluate, If, While, Return, Try, Guarded, Throw, Leavable, Leave, Statements, Done, Then, Method}
+use Rattle.ls_lowered.specs.LoweredTree.{Word, Local, Binary, Call, End, MakeLock, Statement, Block, SetLocal, SetField, AddField, SetItem, Evaluate, If, While, Return, Try, Guarded, Throw, Leavable, Leave, Statements, Done, Then, Method}
 use Rattle.ls_lowered.specs.Course.{Answers, Course, Asks, Ends, Stuck, Told, Asked, Gave, Raised, Lost}
 use Rattle.ls_lowered.specs.Statements.{Completion, Normal, Returned, Threw, Left, execute}
 use Rattle.ls_lowered.specs.Methods.{invoke}
@@ -33,12 +33,22 @@ block = refl
 block_left : at (both (Leave 2) (SetLocal 2 (Local 1))) [] ≡ ends (Left 2) 0 4
 block_left = refl
 
-field_set : at (SetField (Local 0) 3 (Word 5)) [] ≡ Asks (act.WriteField 7 3 5)
+field_set : at (SetField (Local 0) 3 (Word 5)) [] ≡ Asks (act.WriteField 7 4 5)
 field_set = refl
 
 -- the value stands before the test for null
 field_of_null : at (SetField (Local 1) 3 MakeLock) [] ≡ Asks act.NewLock
 field_of_null = refl
+
+field_added_to : at (AddField (Local 0) 3 (Word 5)) [] ≡ Asks (act.ReadField 7 4)
+field_added_to = refl
+
+field_and_sum : at (AddField (Local 0) 3 (Word 5)) (answer.Gives 4294967294 ∷ []) ≡ Asks (act.WriteField 7 4 3)
+field_and_sum = refl
+
+-- the test for null stands before the value
+none_added_to : at (AddField (Local 1) 3 MakeLock) [] ≡ ends (Threw NullPointer) 0 4
+none_added_to = refl
 
 item_set : at (SetItem (Local 0) (Word 3) (Word 1)) [] ≡ Asks (act.WriteItem 7 (pos 3) 1)
 item_set = refl

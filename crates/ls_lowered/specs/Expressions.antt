@@ -1,5 +1,5 @@
 -- The courses of expressions. Operands go from left to right, and the test for null comes after them.
-use Rattle.std.specs.Prelude.{ℕ, zero, suc, ◌/◌, ◌%◌, ◌^◌, pos, List, [], ◌∷◌, nat_eq, int_lt, slice_index, slice_set, if◌then◌else◌}
+use Rattle.std.specs.Prelude.{ℕ, zero, suc, ◌/◌, ◌%◌, ◌^◌, pos, List, [], ◌∷◌, nat_eq, int_lt, slice_index, slice_set, if◌then◌else◌, ◌+◌}
 use Rattle.ls_events.specs.declared.kind.Kind.TheVariants.{Arithmetic, NegativeArraySize}
 use Rattle.ls_events.specs.declared.action.Action.TheVariants as act
 use Rattle.ls_lowered.specs.declared.tree.UnaryOperator.{UnaryOperator}
@@ -7,7 +7,7 @@ use Rattle.ls_lowered.specs.declared.tree.UnaryOperator.TheVariants.{Negate, Not
 use Rattle.ls_lowered.specs.declared.tree.BinaryOperator.{BinaryOperator}
 use Rattle.ls_lowered.specs.declared.tree.BinaryOperator.TheVariants as op
 use Rattle.ls_lowered.specs.declared.tree.LockOperation.{LockOperation}
-use Rattle.ls_lowered.specs.declared.tree.LockOperation.TheVariants.{Lock, Unlock, TryLock, IsHeld}
+use Rattle.ls_lowered.specs.declared.tree.LockOperation.TheVariants.{Lock, Unlock, TryLock, IsHeld, LockMonitor, UnlockMonitor}
 use Rattle.ls_lowered.specs.LoweredTree.{Expression, Word, Local, Unary, Binary, And, Or, Hold, Keep, After, Field, Item, SetFirst, ReadPair, SetPair, SwapPair, AttemptMark, OnLock, Call, MakeObject, MakeLock, MakeMarkable, MakeArray, Expressions, End, More}
 use Rattle.ls_lowered.specs.Words.{bool_of, int_of, sum_word, difference_word, product_word, quotient_word, remainder_word, negative_word, less_word, at_most_word, same_word, not_word, other_word, pair_word}
 use Rattle.ls_lowered.specs.Course.{Answers, Course, Ends, Outcome, Results, Throws, Calls, and_then, ask, perform, unless_null, returned}
@@ -46,12 +46,14 @@ abbrev pub flag_word : ℕ → ℕ
 flag_word zero = 0
 flag_word (suc n) = 1
 
--- an operation of the lock at an address; lock and unlock give no word, and tryLock 0 or 1
+-- an operation of the lock at an address, or of the monitor of the object there; lock and unlock give no word, and tryLock 0 or 1
 abbrev pub operate_lock : LockOperation → ℕ → List ℕ → Answers → Course (Outcome ℕ)
 operate_lock Lock x locals rest = perform (act.Lock x) locals rest
 operate_lock Unlock x locals rest = perform (act.Unlock x) locals rest
 operate_lock TryLock x locals rest = and_then (ask (act.TryLock x) locals rest) (λ w ls q. Ends (Results (flag_word w)) ls q)
 operate_lock IsHeld x locals rest = ask (act.IsHeld x) locals rest
+operate_lock LockMonitor x locals rest = perform (act.LockMonitor x) locals rest
+operate_lock UnlockMonitor x locals rest = perform (act.UnlockMonitor x) locals rest
 
 -- a length below 0 makes nothing
 abbrev pub make_array : ℕ → List ℕ → Answers → Course (Outcome ℕ)
@@ -71,7 +73,7 @@ abbrev mutual
   find calls (Keep n a b) ls q = and_then (find calls a ls q) (λ x ls q. find calls b (slice_set ls n x) q)
   find calls (After a b) ls q = and_then (find calls a ls q) (λ x ls q. find calls b ls q)
   find calls (Field e f) ls q =
-      and_then (find calls e ls q) (λ x ls q. unless_null x ls q (ask (act.ReadField x f) ls q))
+      and_then (find calls e ls q) (λ x ls q. unless_null x ls q (ask (act.ReadField x (f + 1)) ls q))
   find calls (Item a i) ls q =
       and_then (find calls a ls q) (λ x ls q. and_then (find calls i ls q) (λ n ls q.
       unless_null x ls q (ask (act.ReadItem x (int_of n)) ls q)))

@@ -18,6 +18,7 @@ mutual
     Keep : (number : ℕ) → (value second : Expression) → Expression
     -- the first, then the second
     After : (first second : Expression) → Expression
+    -- a field of an object, whose first cell is its monitor's
     Field : (object : Expression) → (field : ℕ) → Expression
     Item : (array index : Expression) → Expression
     -- writes element 0 of an array
@@ -26,7 +27,7 @@ mutual
     SetPair : (markable pair : Expression) → Expression
     SwapPair : (markable expected new : Expression) → Expression
     AttemptMark : (markable reference mark : Expression) → Expression
-    -- an operation called on a lock object, and the same on the word of the lock at an address
+    -- an operation of the lock at an address, or of the monitor of the object there
     OnLock : (op : LockOperation) → (lock : Expression) → Expression
     Call : (method : ℕ) → (target : Expression) → (arguments : Expressions) → Expression
     MakeObject : (class constructor : ℕ) → (arguments : Expressions) → Expression
@@ -45,6 +46,8 @@ mutual
     Block : (body : Statements) → Statement
     SetLocal : (number : ℕ) → (value : Expression) → Statement
     SetField : (object : Expression) → (field : ℕ) → (value : Expression) → Statement
+    -- adds to an int field of an object
+    AddField : (object : Expression) → (field : ℕ) → (value : Expression) → Statement
     SetItem : (array index value : Expression) → Statement
     Evaluate : (value : Expression) → Statement
     If : (condition : Expression) → (first second : Statement) → Statement

@@ -44,6 +44,7 @@ abbrev mutual
   plain_statement (statements.Block' shape row) = lowered.Block (row_statements row)
   plain_statement (statements.SetLocal n e) = lowered.SetLocal n (plain e)
   plain_statement (statements.SetField object field value) = lowered.SetField (plain object) field (plain value)
+  plain_statement (statements.AddField object field value) = lowered.AddField (plain object) field (plain value)
   plain_statement (statements.SetItem array index value) = lowered.SetItem (plain array) (plain index) (plain value)
   plain_statement (statements.Evaluate e) = lowered.Evaluate (plain e)
   plain_statement (statements.If' e p a q b) = lowered.If (plain e) (plain_statement a) (plain_statement b)

@@ -1,12 +1,13 @@
 -- The courses of statements.
-use Rattle.std.specs.Prelude.{ℕ, zero, suc, List, [], ◌∷◌, length, nat_eq, Option, Some, None, slice_index, slice_set, if◌then◌else◌}
+use Rattle.std.specs.Prelude.{ℕ, zero, suc, List, [], ◌∷◌, length, nat_eq, Option, Some, None, slice_index, slice_set, if◌then◌else◌, ◌+◌}
 use Rattle.ls_events.specs.declared.kind.Kind.{Kind}
 use Rattle.ls_events.specs.declared.action.Action.TheVariants as act
 use Rattle.ls_events.specs.declared.action.Answer.TheVariants.{Done as Answered, Gives, Fails}
-use Rattle.ls_lowered.specs.LoweredTree.{Statement, Block, SetLocal, SetField, SetItem, Evaluate, If, While, Return, Try, Guarded, Throw, Leavable, Leave, Statements, Done, Then}
+use Rattle.ls_lowered.specs.LoweredTree.{Statement, Block, SetLocal, SetField, AddField, SetItem, Evaluate, If, While, Return, Try, Guarded, Throw, Leavable, Leave, Statements, Done, Then}
 use Rattle.ls_lowered.specs.Words.{int_of, kind_word, kind_of}
-use Rattle.ls_lowered.specs.Course.{Answers, Course, Asks, Ends, Stuck, Outcome, Results, Throws, Calls, finish, and_then, perform, unless_null}
-use Rattle.ls_lowered.specs.Expressions.{find}
+use Rattle.ls_lowered.specs.Course.{Answers, Course, Asks, Ends, Stuck, Outcome, Results, Throws, Calls, finish, and_then, ask, perform, unless_null}
+use Rattle.ls_lowered.specs.declared.tree.BinaryOperator.TheVariants as op
+use Rattle.ls_lowered.specs.Expressions.{operate, find}
 
 -- how a statement completes; `Left n` goes on at exit n of the leavable statement round it, or further out
 pub data Completion : Type 0 where
@@ -87,7 +88,11 @@ abbrev mutual
   execute calls (SetLocal n e) ls q = finish (find calls e ls q) (on_word (λ w ls q. Ends Normal (slice_set ls n w) q))
   execute calls (SetField e f e') ls q =
       and_normal (and_then (find calls e ls q) (λ x ls q. and_then (find calls e' ls q) (λ y ls q.
-      unless_null x ls q (perform (act.WriteField x f y) ls q))))
+      unless_null x ls q (perform (act.WriteField x (f + 1) y) ls q))))
+  execute calls (AddField e f e') ls q =
+      and_normal (and_then (find calls e ls q) (λ x ls q. and_then (unless_null x ls q (ask (act.ReadField x (f + 1)) ls q)) (λ y ls q.
+      and_then (find calls e' ls q) (λ z ls q. and_then (operate op.Add y z ls q) (λ w ls q.
+      unless_null x ls q (perform (act.WriteField x (f + 1) w) ls q))))))
   execute calls (SetItem a i e) ls q =
       and_normal (and_then (find calls a ls q) (λ x ls q. and_then (find calls i ls q) (λ n ls q. and_then (find calls e ls q) (λ y ls q.
       unless_null x ls q (perform (act.WriteItem x (int_of n) y) ls q)))))

@@ -54,6 +54,8 @@ pub enum LockOperation {
     Unlock,
     TryLock,
     IsHeld,
+    LockMonitor,
+    UnlockMonitor,
 }
 
 impl Clone for LockOperation {
@@ -88,7 +90,7 @@ pub enum Expression {
     SwapPair(Box<Expression>, Box<Expression>, Box<Expression>),
     /// The markable, the expected reference and the new mark.
     AttemptMark(Box<Expression>, Box<Expression>, Box<Expression>),
-    /// An operation on the lock at an address.
+    /// An operation on the lock at an address, or on the monitor of the object there.
     OnLock(LockOperation, Box<Expression>),
     /// A method, on an object, with further arguments.
     Call(usize, Box<Expression>, Box<Expressions>),
@@ -116,6 +118,8 @@ pub enum Statement {
     Block(Vec<Statement>),
     SetLocal(usize, Expression),
     SetField(Expression, usize, Expression),
+    /// What is added to an int field of an object.
+    AddField(Expression, usize, Expression),
     SetItem(Expression, Expression, Expression),
     Evaluate(Expression),
     If(Expression, Box<Statement>, Box<Statement>),

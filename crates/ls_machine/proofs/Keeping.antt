@@ -1,5 +1,5 @@
 -- What a step leaves alone: its thread's calls, and all of the cells but their words.
-use Rattle.std.proofs.Common.{◌≡◌, ℕ, ◌+◌, ◌-◌, ◌==◌, List, [], ◌∷◌, ◌++◌, ◌/◌, length, replicate, slice_set, unsigned_abs, Option, Some, None, Bool, true, false, not, ◌&&◌, nat_le, nat_lt, slice_get, refl, if◌then◌else◌, ℤ}
+use Rattle.std.proofs.Common.{◌≡◌, ℕ, ◌+◌, ◌-◌, ◌==◌, List, [], ◌∷◌, ◌++◌, ◌/◌, length, replicate, slice_set, unsigned_abs, Option, Some, None, Bool, true, false, not, ◌&&◌, ◌||◌, nat_le, nat_lt, slice_get, refl, if◌then◌else◌, ℤ}
 use Rattle.ls_code.specs.Code.{Code}
 use Rattle.ls_code.specs.Frame.{Frame, top_one, top_two}
 use Rattle.ls_code.specs.Thread.{Thread, with_frames}
@@ -9,7 +9,7 @@ use Rattle.ls_code.specs.Calls.{CallMove, Calls, CallThrows, CallStuck, enter_mo
 use Rattle.ls_code.specs.Cells.{Cells, Effect, Answers, Waits, Stops, Unfit, effect, on_cell, on_item, on_name, read_effect, written, written_at, place_at, making, cell_at, lock_effect, with_words, in_range}
 use Rattle.ls_code.specs.Locks.{taken_of, left_of, is_own}
 use Rattle.ls_code.specs.Words.{bool_word, pair_word}
-use Rattle.ls_code.specs.Exchanges.{Seen, Quietly, Reports, Plan, Says, Touches, Stores, see_at, see_named, seeing_action, saw, throwing, thrown_to, with_word, stuck, replaced, taking_answer, take_at, take_named, take_from, taking_action, took, drop_at, drop_to}
+use Rattle.ls_code.specs.Exchanges.{Seen, Quietly, Reports, Plan, Says, Touches, Stores, see_at, see_named, seeing_action, saw, throwing, thrown_to, with_word, stuck, replaced, taking_answer, take_at, take_named, take_from, taking_action, dropping_action, took, drop_at, drop_named, drop_to}
 use Rattle.ls_code.specs.Moves.{FrameMove, Next, Throws, Stuck, Asks as FrameAsks, Beyond, frame_move, pushed}
 use Rattle.ls_code.specs.Steps.{Move, Silent, Still, Asks, Plans, Outcome, silent_or_still, thrown_thread, throw_move, answered, call_move, on_top, on_kind, begin_move, value_move, found_move, wide_move, of_frame, fetched_move, thread_move, replied, settled, ended_so, seen_outcome, touched, planned, performed}
 use Rattle.ls_code.specs.declared.code.Method.{Method}
@@ -98,6 +98,8 @@ module _ (c : Cells) where
   effect_keeps n (act.Unlock lock) = cell_keeps (cell_at c lock 0) _ (λ w. left_keeps lock (left_of w n))
   effect_keeps n (act.TryLock lock) = lock_keeps lock n (Gives 1) _ same
   effect_keeps n (act.IsHeld lock) = cell_keeps (cell_at c lock 0) _ (λ w. same)
+  effect_keeps n (act.LockMonitor object) = lock_keeps object n Done Waits tt
+  effect_keeps n (act.UnlockMonitor object) = cell_keeps (cell_at c object 0) _ (λ w. left_keeps object (left_of w n))
   effect_keeps n (act.ReadPair markable) = read_keeps markable 0
   effect_keeps n (act.SetPair markable word) = written_keeps markable 0 word Done
   effect_keeps n (act.SwapPair markable expected word) = cell_keeps (cell_at c markable 0) _ (λ old. if_keeps (old == expected) (written c markable 0 word (Gives 1)) (Answers c (Gives 0)) (written_keeps markable 0 word (Gives 1)) same)
@@ -208,25 +210,25 @@ module _ (p : Code) (t : Thread) where
   plan_if true x y h k = h
   plan_if false x y h k = k
 
-  saw_taken : (lock word : ℕ) (k : Taken) → SeenKeeps (elim k as (λ _. Seen) [ taken.Other ↦ Reports (act.TryLock lock) (Gives 0) (with_word t word) | taken.Taken next ↦ Quietly (with_word t word) | taken.TooMany ↦ Quietly (with_word t word) ])
-  saw_taken lock word taken.Other = refl
-  saw_taken lock word (taken.Taken next) = refl
-  saw_taken lock word taken.TooMany = refl
+  saw_taken : (operation : Action ℕ) (word : ℕ) (k : Taken) → SeenKeeps (elim k as (λ _. Seen) [ taken.Other ↦ Reports operation (Gives 0) (with_word t word) | taken.Taken next ↦ Quietly (with_word t word) | taken.TooMany ↦ Quietly (with_word t word) ])
+  saw_taken operation word taken.Other = refl
+  saw_taken operation word (taken.Taken next) = refl
+  saw_taken operation word taken.TooMany = refl
 
-  saw_keeps : (n x lock word : ℕ) → SeenKeeps (saw p t n x lock word)
-  saw_keeps n x lock word =
+  saw_keeps : (n x : ℕ) (operation : Action ℕ) (word : ℕ) → SeenKeeps (saw p t n x operation word)
+  saw_keeps n x operation word =
       let on : Seen = Quietly (with_word t word) in
-      let off : Seen = Reports (act.Unlock lock) (Fails IllegalMonitorState) (throwing p t IllegalMonitorState) in
+      let off : Seen = Reports operation (Fails IllegalMonitorState) (throwing p t IllegalMonitorState) in
       let other : Seen = if is_own word n then on else off in
-      let third : Seen = if x == 3 then other else on in
-      seen_if (x == 2) _ third (saw_taken lock word (taken_of word n)) (seen_if (x == 3) other on (seen_if (is_own word n) on off refl (throwing_keeps (thrown p.handlers IllegalMonitorState (t.top ∷ t.below)))) refl)
+      let third : Seen = if x == 3 || x == 5 then other else on in
+      seen_if (x == 2) _ third (saw_taken operation word (taken_of word n)) (seen_if (x == 3 || x == 5) other on (seen_if (is_own word n) on off refl (throwing_keeps (thrown p.handlers IllegalMonitorState (t.top ∷ t.below)))) refl)
 
   see_named_keeps : (n x lock : ℕ) (o : Option (Action ℕ)) → PlanKeeps (see_named p t n x lock o)
   see_named_keeps n x lock None = tt
   see_named_keeps n x lock (Some operation) =
-      let fits : Plan = Touches operation (act.ReadPair lock) (saw p t n x lock) in
+      let fits : Plan = Touches operation (act.ReadPair lock) (saw p t n x operation) in
       let b : Bool = nat_lt (length t.top.operands) t.top.need in
-      plan_if (lock == 0) (Says (Quietly (throwing p t NullPointer))) (if b then fits else stuck) (throwing_keeps (thrown p.handlers NullPointer (t.top ∷ t.below))) (plan_if b fits stuck (λ w. saw_keeps n x lock w) tt)
+      plan_if (lock == 0) (Says (Quietly (throwing p t NullPointer))) (if b then fits else stuck) (throwing_keeps (thrown p.handlers NullPointer (t.top ∷ t.below))) (plan_if b fits stuck (λ w. saw_keeps n x operation w) tt)
 
   see_keeps : (n x : ℕ) (o : Option ℕ) → PlanKeeps (see_at p t n x o)
   see_keeps n x None = tt
@@ -251,13 +253,17 @@ module _ (p : Code) (t : Thread) where
   take_keeps n x None = tt
   take_keeps n x (Some r) = take_named_keeps n x r.0 r.1 (taking_action x r.0)
 
-  drop_to_keeps : (lock : ℕ) (l : Left) → PlanKeeps (drop_to t lock l)
-  drop_to_keeps lock left.NotOwner = tt
-  drop_to_keeps lock (left.Left next) = refl
+  drop_to_keeps : (o : Action ℕ) (lock : ℕ) (l : Left) → PlanKeeps (drop_to t o lock l)
+  drop_to_keeps o lock left.NotOwner = tt
+  drop_to_keeps o lock (left.Left next) = refl
 
-  drop_keeps : (n : ℕ) (o : Option (ℕ × ℕ)) → PlanKeeps (drop_at t n o)
-  drop_keeps n None = tt
-  drop_keeps n (Some r) = drop_to_keeps r.0 (left_of r.1 n)
+  drop_named_keeps : (n lock word : ℕ) (o : Option (Action ℕ)) → PlanKeeps (drop_named t n lock word o)
+  drop_named_keeps n lock word None = tt
+  drop_named_keeps n lock word (Some o) = drop_to_keeps o lock (left_of word n)
+
+  drop_keeps : (n x : ℕ) (o : Option (ℕ × ℕ)) → PlanKeeps (drop_at t n x o)
+  drop_keeps n x None = tt
+  drop_keeps n x (Some r) = drop_named_keeps n r.0 r.1 (dropping_action x r.0)
 
   begin_keeps : (x : ℕ) → MoveKeeps (begin_move t x)
   begin_keeps x =
@@ -281,7 +287,7 @@ module _ (p : Code) (t : Thread) where
   wide_keeps wide.Trap = trap_keeps t.pending
   wide_keeps (wide.See x) = λ n. see_keeps n x (top_one t.top.operands)
   wide_keeps (wide.Take x) = λ n. take_keeps n x (top_two t.top.operands)
-  wide_keeps wide.DropLock = λ n. drop_keeps n (top_two t.top.operands)
+  wide_keeps (wide.DropLock x) = λ n. drop_keeps n x (top_two t.top.operands)
 
   frame_keeps : (m : FrameMove) → MoveKeeps (of_frame p t m)
   frame_keeps (Next f) = refl

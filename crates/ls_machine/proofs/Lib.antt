@@ -3,3 +3,4 @@ pub mod Whole
 pub mod Starting
 pub mod Keeping
 pub mod Back
+pub mod SameAt

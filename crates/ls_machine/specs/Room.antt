@@ -1,6 +1,7 @@
 -- A machine's memory, and when it is refused.
 use Rattle.std.specs.Prelude.{◌≡◌, ℕ, ◌+◌, ◌<◌, ◌≤◌, ◌^◌, ◌⊎◌, List, length}
 use Rattle.std.specs.List.{All, sum_by}
+use Rattle.ls_code.specs.Limits.{most_cells}
 use Rattle.ls_code.specs.Code.{Code}
 use Rattle.ls_machine_threads.specs.Memory.{KeptThread, MethodsFit, events_left}
 
@@ -12,4 +13,4 @@ pub record HasMemory (p : Code) (threads : List KeptThread) (events limit : ℕ)
 
 -- no cells, too many, or fewer than the setup names
 abbrev pub AreBadCells : ℕ → ℕ → Type 0
-AreBadCells names cells = (cells ≡ 0) ⊎ (2 ^ 20 < cells) ⊎ (cells < names)
+AreBadCells names cells = (cells ≡ 0) ⊎ (most_cells < cells) ⊎ (cells < names)

@@ -1,9 +1,9 @@
 // Locks by load and exchange.
 
 ghost use Rattle.std.specs.Prelude.{◌≡◌, ℕ, ◌+◌, ◌<◌, ◌≤◌, ◌^◌, length, IfSome};
-ghost use Rattle.ls_code.specs.Exchanges.{Reports, throwing, seeing_action, saw, see_named, see_at, taking_action, took, take_from, take_at, drop_at};
+ghost use Rattle.ls_code.specs.Exchanges.{Reports, throwing, seeing_action, saw, see_named, see_at, taking_action, took, take_from, take_at, dropping_action, drop_to, drop_at};
 ghost use Rattle.ls_code.specs.Frame.{top_one, top_two};
-ghost use Rattle.ls_code.specs.Locks.{taken_of};
+ghost use Rattle.ls_code.specs.Locks.{taken_of, left_of};
 ghost use Rattle.ls_code.specs.Steps.{seen_outcome, planned};
 ghost use Rattle.ls_machine.specs.Outcomes.{Came};
 ghost use Rattle.ls_machine_moves.specs.Flows.{IsQuiet};
@@ -58,12 +58,15 @@ fn fail(
 
 /// The operation on a lock that the operand of `See` names.
 fn seen_operation(which: u32, lock: u64) -> Option<Action<u64>>
-    ensures { result ≡ seeing_action which lock }
+    ensures operation { result ≡ seeing_action which lock }
+    ensures quiet { IfSome result (λ operation. IsQuiet operation) }
 {
     match which {
         1 => Some(Action::Lock(lock)),
         2 => Some(Action::TryLock(lock)),
         3 => Some(Action::Unlock(lock)),
+        4 => Some(Action::LockMonitor(lock)),
+        5 => Some(Action::UnlockMonitor(lock)),
         _ => None,
     }
 }
@@ -76,6 +79,19 @@ fn taken_operation(which: u32, lock: u64) -> Option<Action<u64>>
     match which {
         1 => Some(Action::Lock(lock)),
         2 => Some(Action::TryLock(lock)),
+        4 => Some(Action::LockMonitor(lock)),
+        _ => None,
+    }
+}
+
+/// The operation on a lock that the operand of `DropLock` names.
+fn dropped_operation(which: u32, lock: u64) -> Option<Action<u64>>
+    ensures operation { result ≡ dropping_action which lock }
+    ensures quiet { IfSome result (λ operation. IsQuiet operation) }
+{
+    match which {
+        0 => Some(Action::Unlock(lock)),
+        1 => Some(Action::UnlockMonitor(lock)),
         _ => None,
     }
 }
@@ -86,31 +102,32 @@ fn saw_word(code: &Code, cells: &mut Cells, number: usize, thread: &mut Thread, 
     requires number { number ≤ 64 }
     requires place { thread.old.thread.top.counter + 1 < 2 ^ 64 }
     requires room { length thread.old.thread.top.operands < thread.old.thread.top.need }
-    ensures came { Came (seen_outcome cells.old thread.old.thread (saw code.now thread.old.thread number seen.which seen.lock seen.word)) thread.old thread.new cells.new result }
+    requires quiet { IsQuiet seen.operation }
+    ensures came { Came (seen_outcome cells.old thread.old.thread (saw code.now thread.old.thread number seen.which seen.operation seen.word)) thread.old thread.new cells.new result }
     ensures events { TakesEvents code.now number result thread.old.thread thread.new.thread }
     ensures unseen { IsUnseen result }
 {
     let Sight {
         which,
-        lock,
+        operation,
         word,
         ..
     } = seen;
     if which == 2 {
         thread.resume(Resume::Push, word);
         return match lock_word(word, number) {
-            Taken::Other => Did::Acted(Action::TryLock(lock), Answer::Gives(0)),
+            Taken::Other => Did::Acted(operation, Answer::Gives(0)),
             Taken::Taken(_) => Did::Silent,
             Taken::TooMany => Did::Silent,
         };
     }
-    if which == 3 && !is_own_word(word, number) {
+    if (which == 3 || which == 5) && !is_own_word(word, number) {
         return fail(
             code,
             cells,
             number,
             thread,
-            Action::Unlock(lock),
+            operation,
             Kind::IllegalMonitorState,
         );
     }
@@ -263,24 +280,55 @@ pub fn take(code: &Code, cells: &mut Cells, number: usize, thread: &mut Thread, 
 
 /// The thread stores the word after one unlock.
 #[inline(always)]
-pub fn drop_lock(code: &Code, cells: &mut Cells, number: usize, thread: &mut Thread) -> Did
+fn drop_word(code: &Code, cells: &mut Cells, number: usize, thread: &mut Thread, seen: Sight) -> Did
     requires number { number ≤ 64 }
     requires place { thread.old.thread.top.counter + 1 < 2 ^ 64 }
-    ensures came { Came (planned cells.old number thread.old.thread (drop_at thread.old.thread number (top_two thread.old.thread.top.operands))) thread.old thread.new cells.new result }
+    requires there { 2 ≤ length thread.old.thread.top.operands }
+    requires quiet { IsQuiet seen.operation }
+    ensures came { Came (planned cells.old number thread.old.thread (drop_to thread.old.thread seen.operation seen.lock (left_of seen.word number))) thread.old thread.new cells.new result }
+    ensures events { TakesEvents code.now number result thread.old.thread thread.new.thread }
+    ensures unseen { IsUnseen result }
+{
+    match unlock_word(seen.word, number) {
+        Left::NotOwner => Did::Silent,
+        Left::Left(next) => match cells.write(seen.lock, 0, next, Answer::Done) {
+            Reply::Answered(Answer::Done) => {
+                thread.resume(Resume::Discard(2), 0);
+                Did::Acted(seen.operation, Answer::Done)
+            }
+            _ => Did::Silent,
+        },
+    }
+}
+
+/// The thread leaves the lock below the word on top, which it saw.
+#[inline(always)]
+pub fn drop_lock(
+    code: &Code,
+    cells: &mut Cells,
+    number: usize,
+    thread: &mut Thread,
+    which: u32,
+) -> Did
+    requires number { number ≤ 64 }
+    requires place { thread.old.thread.top.counter + 1 < 2 ^ 64 }
+    ensures came { Came (planned cells.old number thread.old.thread (drop_at thread.old.thread number which (top_two thread.old.thread.top.operands))) thread.old thread.new cells.new result }
     ensures events { TakesEvents code.now number result thread.old.thread thread.new.thread }
     ensures unseen { IsUnseen result }
 {
     match thread.two() {
         None => Did::Silent,
-        Some((lock, word)) => match unlock_word(word, number) {
-            Left::NotOwner => Did::Silent,
-            Left::Left(next) => match cells.write(lock, 0, next, Answer::Done) {
-                Reply::Answered(Answer::Done) => {
-                    thread.resume(Resume::Discard(2), 0);
-                    Did::Acted(Action::Unlock(lock), Answer::Done)
-                }
-                _ => Did::Silent,
-            },
+        Some((lock, word)) => match dropped_operation(which, lock) {
+            None => Did::Silent,
+            Some(operation) => {
+                let seen = Sight {
+                    which,
+                    operation,
+                    lock,
+                    word,
+                };
+                drop_word(code, cells, number, thread, seen)
+            }
         },
     }
 }

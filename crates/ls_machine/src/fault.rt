@@ -6,7 +6,7 @@ use thiserror::Error;
 /// A refusal of `Machine::load`.
 #[derive(Clone, Copy, Debug, PartialEq, Eq, Error)]
 pub enum LoadFault {
-    /// No cells, more than 1,048,576, or fewer than setup names.
+    /// No cells, more than 4,194,304, or fewer than setup names.
     #[error("bad number of cells")]
     BadCells,
     /// Memory ran out.

@@ -6,6 +6,7 @@ mod exchanges;
 mod fault;
 pub mod laws;
 mod machine;
+pub mod sameness;
 mod steps;
 
 pub use fault::LoadFault;

@@ -1,7 +1,8 @@
 // The parallel machine.
 
-ghost use Rattle.std.specs.Prelude.{◌≡◌, ℕ, ◌+◌, ◌<◌, ◌≤◌, ◌^◌, ◌++◌, ◌↔◌, List, [], length, map, slice_get, slice_index_or, vec_len, vec_capacity, IfOk, IsErrOf, ◌*◌};
+ghost use Rattle.std.specs.Prelude.{◌≡◌, ℕ, ◌+◌, ◌<◌, ◌≤◌, ◌^◌, ◌++◌, ◌↔◌, List, [], length, map, slice_get, slice_index_or, vec_len, vec_capacity, IfOk, IsErrOf, ◌*◌, IsTrue};
 ghost use Rattle.std.specs.List.{All, sum_by};
+ghost use Rattle.ls_code.specs.Limits.{most_cells};
 ghost use Rattle.ls_code.specs.Events.{events_of, result_of, result_value};
 ghost use Rattle.ls_code.specs.Machine.{loaded, machine_step, machine_run, machine_state, setup_ended, is_due as due};
 ghost use Rattle.ls_machine.specs.Back.{all_back};
@@ -9,6 +10,7 @@ ghost use Rattle.ls_machine_threads.specs.Memory.{no_thread, started_kept};
 ghost use Rattle.ls_machine.specs.Room.{AreBadCells};
 
 use crate::fault::LoadFault;
+use crate::sameness::are_same_events;
 use crate::steps;
 use ls_code::code::{CallResult, Code, Method, Start};
 use ls_code::step::{Did, Mode, ThreadState, is_stop};
@@ -23,7 +25,7 @@ use std::alloc::{AllocError, Global};
 use std::marker::Model;
 
 /// The most cells of a machine.
-pub const MOST_CELLS: usize = 1_048_576;
+pub const MOST_CELLS: usize = 4_194_304;
 
 /// A machine that runs an image, with all the memory that any run of it takes.
 #[derive(Drop)]
@@ -174,6 +176,32 @@ impl Machine {
         forget(&mut self.history);
     }
 
+    /// Whether this machine is the other, which runs the same code. True only where it is.
+    pub fn is_same(&self, other: &Machine) -> bool
+        requires { self.now.code ≡ other.now.code }
+        ensures { IsTrue result → self.now ≡ other.now }
+    {
+        if self.stopped != other.stopped {
+            return false;
+        }
+        if !are_same_events(&self.history, &other.history) {
+            return false;
+        }
+        if !self.cells.is_same(&other.cells) {
+            return false;
+        }
+        are_same(&self.threads, &other.threads)
+    }
+
+    /// A number that machines which are the same have in common.
+    pub fn mix(&self) -> u64 {
+        let mut mixed = self.cells.mix(self.history.len() as u64);
+        for thread in &self.threads {
+            mixed = thread.mix(mixed);
+        }
+        mixed
+    }
+
     /// Takes the steps of a schedule. It takes no memory, and always succeeds.
     pub fn run(&mut self, schedule: &Schedule)
         ensures { self.new ≡ machine_run self.old schedule.now }
@@ -187,7 +215,7 @@ impl Machine {
 /// The machine of an image at its start.
 fn load_all(alloc: Global, code: &Code, cells: usize) -> Result<Machine, AllocError>
     requires names { code.now.names ≤ cells }
-    requires few { cells ≤ 2 ^ 20 }
+    requires few { cells ≤ most_cells }
     ensures { IfOk result (λ m. m ≡ loaded code.now cells) }
 {
     let code = code.copied(alloc)?;
@@ -217,6 +245,23 @@ fn copied_sizes(alloc: Global, sizes: &[usize]) -> Result<Vec<usize>, AllocError
     ensures { IfOk result (λ copy. copy.items ≡ sizes.now) }
 {
     sizes.iter().copied().collect(alloc)
+}
+
+/// Whether threads are the same, one by one, up to their memory. True only where they are.
+fn are_same(threads: &[Thread], others: &[Thread]) -> bool
+    requires { map (λ t. t.thread.calls) threads.now ≡ map (λ t. t.thread.calls) others.now }
+    ensures { IsTrue result → map (λ t. t.thread) threads.now ≡ map (λ t. t.thread) others.now }
+{
+    if threads.len() != others.len() {
+        return false;
+    }
+    for i in 0..threads.len() {
+        let thread = &threads[i];
+        if !thread.is_same(&others[i]) {
+            return false;
+        }
+    }
+    true
 }
 
 /// Whether a thread goes on and, but for the setup, the setup has ended.

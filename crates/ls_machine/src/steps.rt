@@ -233,7 +233,7 @@ fn beyond(
         ThreadInstruction::Trap => trap(code, cells, number, thread),
         ThreadInstruction::See(x) => see(code, cells, number, thread, x),
         ThreadInstruction::Take(x) => take(code, cells, number, thread, x),
-        ThreadInstruction::DropLock => drop_lock(code, cells, number, thread),
+        ThreadInstruction::DropLock(x) => drop_lock(code, cells, number, thread, x),
     }
 }
 
@@ -351,7 +351,7 @@ pub fn find_acting(code: &Code, thread: &Thread) -> Option<Acting>
         Instruction::LeaveWith => Some(Acting::LeaveWith),
         Instruction::See(x) => Some(Acting::See(x)),
         Instruction::Take(x) => Some(Acting::Take(x)),
-        Instruction::DropLock => Some(Acting::DropLock),
+        Instruction::DropLock(x) => Some(Acting::DropLock(x)),
         _ => None,
     }
 }
@@ -384,7 +384,7 @@ pub fn act(
         Acting::LeaveWith => leave_with(code, cells, number, thread),
         Acting::See(x) => see(code, cells, number, thread, x),
         Acting::Take(x) => take(code, cells, number, thread, x),
-        Acting::DropLock => drop_lock(code, cells, number, thread),
+        Acting::DropLock(x) => drop_lock(code, cells, number, thread, x),
     }
 }
 

@@ -107,7 +107,7 @@ pub fn advance(frame: &Frame, instruction: Instruction) -> Flow
         Instruction::Halt => Flow::Beyond(ThreadInstruction::Halt),
         Instruction::See(p) => Flow::Beyond(ThreadInstruction::See(p)),
         Instruction::Take(p) => Flow::Beyond(ThreadInstruction::Take(p)),
-        Instruction::DropLock => Flow::Beyond(ThreadInstruction::DropLock),
+        Instruction::DropLock(x) => Flow::Beyond(ThreadInstruction::DropLock(x)),
         Instruction::Enter(x) => Flow::Beyond(ThreadInstruction::Enter(x)),
         Instruction::Leave => Flow::Beyond(ThreadInstruction::Leave),
         Instruction::LeaveWith => Flow::Beyond(ThreadInstruction::LeaveWith),

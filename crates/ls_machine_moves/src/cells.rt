@@ -1,11 +1,13 @@
 // The cells that all threads share.
 ghost use Rattle.std.specs.Prelude.{◌≡◌, ℕ, ◌+◌, ◌-◌, ◌*◌, ◌^◌, ◌<◌, ◌≤◌, List, [], ◌∷◌, replicate, IfOk};
-ghost use Rattle.std.specs.Prelude.{unsigned_abs, MatchOption, slice_set, slice_get, IsSome, None, length, Some};
+ghost use Rattle.std.specs.Prelude.{unsigned_abs, MatchOption, slice_set, slice_get, IsSome, IsTrue, None, length, Some};
 ghost use Rattle.ls_code.specs.Cells.{place_at, written_at, cell_at, read_effect, written, making, new_effect, on_item, on_name, array_effect, unlock_effect, swap_effect, mark_effect, effect};
+ghost use Rattle.ls_code.specs.Limits.{most_cells};
 ghost use Rattle.ls_code.specs.Machine.{first_cells};
 ghost use Rattle.ls_machine_moves.specs.Replies.{cells_after, reply_of};
 
 use crate::flow::Reply;
+use crate::stirring::stir_all;
 use crate::words;
 use ls_code::lock_word::{Left, Taken, is_own_word, lock_word, unlock_word};
 use ls_events::action::{Action, Answer};
@@ -23,14 +25,15 @@ pub struct Cells {
 }
 
 impl Model for Cells {
-    ghost use Rattle.std.specs.Prelude.{ℕ, ◌-◌, ◌≤◌, ◌^◌, length, vec_capacity, vec_len};
+    ghost use Rattle.std.specs.Prelude.{ℕ, ◌-◌, ◌≤◌, length, vec_capacity, vec_len};
     ghost use Rattle.ls_code.specs.Cells.{Cells as CellsValue};
+    ghost use Rattle.ls_code.specs.Limits.{most_cells};
 
     ghost Value = { CellsValue };
 
     ghost view = { λ c. record { words = c.words.items; limit = c.limit; names = c.names; sizes = c.sizes.items } };
 
-    ghost invariant = { λ c. (vec_len c.words ≤ c.limit) × (c.limit ≤ vec_capacity c.words) × (c.limit ≤ 2 ^ 20) };
+    ghost invariant = { λ c. (vec_len c.words ≤ c.limit) × (c.limit ≤ vec_capacity c.words) × (c.limit ≤ most_cells) };
 }
 
 impl Cells {
@@ -42,7 +45,7 @@ impl Cells {
         sizes: Vec<usize>,
     ) -> Result<Cells, AllocError>
         requires names { names ≤ limit }
-        requires few { limit ≤ 2 ^ 20 }
+        requires few { limit ≤ most_cells }
         ensures { IfOk result (λ c. c ≡ first_cells names limit sizes.items) }
     {
         let mut words = Vec::with_capacity(alloc, limit)?;
@@ -315,6 +318,20 @@ impl Cells {
         }
     }
 
+    /// Whether these cells are the others. True only where they are.
+    pub fn is_same(&self, other: &Cells) -> bool
+        requires names { self.now.names ≡ other.now.names }
+        requires sizes { self.now.sizes ≡ other.now.sizes }
+        ensures { IsTrue result → self.now ≡ other.now }
+    {
+        self.limit == other.limit && self.words.as_slice() == other.words.as_slice()
+    }
+
+    /// A number that cells which are the same have in common, made of another.
+    pub fn mix(&self, seed: u64) -> u64 {
+        stir_all(seed, self.words.as_slice())
+    }
+
     /// What a thread's action does to the cells, and their answer.
     #[inline]
     pub fn perform(&mut self, thread: usize, action: Action<u64>) -> Reply
@@ -345,6 +362,8 @@ impl Cells {
             Action::Unlock(lock) => self.unlock(lock, thread),
             Action::TryLock(lock) => self.try_lock(lock, thread),
             Action::IsHeld(lock) => self.is_held(lock, thread),
+            Action::LockMonitor(object) => self.lock(object, thread),
+            Action::UnlockMonitor(object) => self.unlock(object, thread),
             Action::ReadPair(object) => self.read(object, 0),
             Action::SetPair(object, word) => self.write(object, 0, word, Answer::Done),
             Action::SwapPair {

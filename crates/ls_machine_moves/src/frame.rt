@@ -6,6 +6,7 @@ ghost use Rattle.ls_code.specs.Moves.{stored};
 ghost use Rattle.ls_code.specs.Throws.{caught};
 ghost use Rattle.ls_code.specs.Calls.{entered, calling};
 
+use crate::stirring::{stir, stir_all};
 use crate::words;
 use ls_code::code::{HandlerRow, Method};
 use ls_events::kind::Kind;
@@ -271,6 +272,51 @@ impl Frame {
         self.top = self.operands.len();
         self.floor = self.top - method.need;
     }
+
+    /// How many operands it may have.
+    fn need(&self) -> usize
+        ensures { result ≡ self.now.frame.need }
+    {
+        self.operands.len() - self.floor
+    }
+
+    /// The locals.
+    fn locals(&self) -> &[u64]
+        ensures { result.now ≡ self.now.frame.locals }
+    {
+        &self.locals[..self.count]
+    }
+
+    /// The operands, the top first.
+    fn operands(&self) -> &[u64]
+        ensures { result.now ≡ self.now.frame.operands }
+    {
+        &self.operands[self.top..]
+    }
+
+    /// Whether this frame is the other, up to the memory of both. True only where it is.
+    pub fn is_same(&self, other: &Frame) -> bool
+        ensures { IsTrue result → self.now.frame ≡ other.now.frame }
+    {
+        self.counter() == other.counter()
+            && self.need() == other.need()
+            && are_same(self.locals(), other.locals())
+            && are_same(self.operands(), other.operands())
+    }
+
+    /// A number that frames which are the same have in common, made of another.
+    pub fn mix(&self, seed: u64) -> u64 {
+        let start = stir(seed, self.counter as u64);
+        let locals = stir_all(start, self.locals());
+        stir_all(locals, self.operands())
+    }
+}
+
+/// Whether words are the same, one by one. True only where they are.
+fn are_same(words: &[u64], others: &[u64]) -> bool
+    ensures { IsTrue result → words.now ≡ others.now }
+{
+    words == others
 }
 
 /// Makes words so many at least, in memory that is there.

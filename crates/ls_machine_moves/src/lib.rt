@@ -6,4 +6,5 @@ pub mod cells;
 pub mod flow;
 pub mod frame;
 pub mod silent;
+pub mod stirring;
 pub mod words;

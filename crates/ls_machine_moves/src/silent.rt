@@ -196,7 +196,7 @@ pub fn quick(frame: &mut Frame, instruction: Instruction) -> Quick
         | Instruction::IsHeld
         | Instruction::See(_)
         | Instruction::Take(_)
-        | Instruction::DropLock
+        | Instruction::DropLock(_)
         | Instruction::ReadPair
         | Instruction::SetPair
         | Instruction::SwapPair

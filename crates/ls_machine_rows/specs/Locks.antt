@@ -113,7 +113,7 @@ SeeSticks =
     × (Sticks (op.See 1) (1 ∷ 1 ∷ 1 ∷ []) 0)
     × (Sticks (op.See 1) (2 ∷ []) 0)
     × (Sticks (op.See 0) (1 ∷ []) 0)
-    × (Sticks (op.See 4) (1 ∷ []) 0)
+    × (Sticks (op.See 6) (1 ∷ []) 0)
 
 -- TAKE wins its exchange: a free lock is taken, an own one has a hold more
 abbrev pub TakeWins : Type 0
@@ -154,29 +154,51 @@ TakeSticks =
     × (Sticks (op.Take 1) (0 ∷ 2 ∷ []) 0)
     × (Sticks (op.Take 0) (0 ∷ 1 ∷ []) 0)
     × (Sticks (op.Take 3) (0 ∷ 1 ∷ []) 0)
+    × (Sticks (op.Take 5) (0 ∷ 1 ∷ []) 0)
 
 -- DROP: one hold less, and none left frees the lock
 abbrev pub Drops : Type 0
 Drops =
-    (Goes op.DropLock (once ∷ 1 ∷ []) once (did.Acted (act.Unlock 1) Done) 1 [] 0)
-    × (Goes op.DropLock (twice ∷ 1 ∷ []) twice (did.Acted (act.Unlock 1) Done) 1 [] once)
-    × (Goes op.DropLock (most ∷ 1 ∷ []) most (did.Acted (act.Unlock 1) Done) 1 [] almost)
+    (Goes (op.DropLock 0) (once ∷ 1 ∷ []) once (did.Acted (act.Unlock 1) Done) 1 [] 0)
+    × (Goes (op.DropLock 0) (twice ∷ 1 ∷ []) twice (did.Acted (act.Unlock 1) Done) 1 [] once)
+    × (Goes (op.DropLock 0) (most ∷ 1 ∷ []) most (did.Acted (act.Unlock 1) Done) 1 [] almost)
 
--- DROP of a word that isn't the thread's own, without two operands, and at no cell
+-- DROP of a word that isn't the thread's own, without two operands, at no cell, and for no operation
 abbrev pub DropSticks : Type 0
 DropSticks =
-    (Sticks op.DropLock (0 ∷ 1 ∷ []) 0)
-    × (Sticks op.DropLock (other ∷ 1 ∷ []) other)
-    × (Sticks op.DropLock (once ∷ []) once)
-    × (Sticks op.DropLock (once ∷ 2 ∷ []) once)
+    (Sticks (op.DropLock 0) (0 ∷ 1 ∷ []) 0)
+    × (Sticks (op.DropLock 0) (other ∷ 1 ∷ []) other)
+    × (Sticks (op.DropLock 0) (once ∷ []) once)
+    × (Sticks (op.DropLock 0) (once ∷ 2 ∷ []) once)
+    × (Sticks (op.DropLock 2) (once ∷ 1 ∷ []) once)
+
+-- SEE, TAKE and DROP of a monitor do what those of lock() and unlock() do
+abbrev pub LockOfMonitor : Type 0
+LockOfMonitor =
+    (Goes (op.See 4) (1 ∷ []) 0 did.Silent 1 (0 ∷ 1 ∷ []) 0)
+    × (Goes (op.See 4) (1 ∷ []) other did.Silent 1 (other ∷ 1 ∷ []) other)
+    × (Goes (op.See 4) (0 ∷ []) once did.Silent 20 (2 ∷ []) once)
+    × (Goes (op.Take 4) (0 ∷ 1 ∷ []) 0 (did.Acted (act.LockMonitor 1) Done) 1 (1 ∷ 1 ∷ []) once)
+    × (Goes (op.Take 4) (once ∷ 1 ∷ []) once (did.Acted (act.LockMonitor 1) Done) 1 (1 ∷ 1 ∷ []) twice)
+    × (Goes (op.Take 4) (0 ∷ 1 ∷ []) other did.Silent 1 (0 ∷ 1 ∷ []) other)
+    × (Goes (op.Take 4) (other ∷ 1 ∷ []) other did.Silent 1 (0 ∷ 1 ∷ []) other)
+    × (Goes (op.Take 4) (most ∷ 1 ∷ []) most (did.Acted (act.LockMonitor 1) (Fails kinds.Error)) 20 (7 ∷ []) most)
+
+abbrev pub UnlockOfMonitor : Type 0
+UnlockOfMonitor =
+    (Goes (op.See 5) (1 ∷ []) once did.Silent 1 (once ∷ 1 ∷ []) once)
+    × (Goes (op.See 5) (1 ∷ []) other (did.Acted (act.UnlockMonitor 1) (Fails kinds.IllegalMonitorState)) 20 (5 ∷ []) other)
+    × (Goes (op.See 5) (1 ∷ []) 0 (did.Acted (act.UnlockMonitor 1) (Fails kinds.IllegalMonitorState)) 20 (5 ∷ []) 0)
+    × (Goes (op.DropLock 1) (once ∷ 1 ∷ []) once (did.Acted (act.UnlockMonitor 1) Done) 1 [] 0)
+    × (Goes (op.DropLock 1) (twice ∷ 1 ∷ []) twice (did.Acted (act.UnlockMonitor 1) Done) 1 [] once)
 
 -- lock(); lock(); unlock(); unlock(), each by load and exchange
 abbrev pub locks_twice : List Instruction
 locks_twice =
     op.Push 1 ∷ op.See 1 ∷ op.Take 1 ∷ op.JumpIfFalse 1 ∷ op.Pop
     ∷ op.Push 1 ∷ op.See 1 ∷ op.Take 1 ∷ op.JumpIfFalse 6 ∷ op.Pop
-    ∷ op.Push 1 ∷ op.See 3 ∷ op.DropLock
-    ∷ op.Push 1 ∷ op.See 3 ∷ op.DropLock ∷ op.Halt ∷ []
+    ∷ op.Push 1 ∷ op.See 3 ∷ op.DropLock 0
+    ∷ op.Push 1 ∷ op.See 3 ∷ op.DropLock 0 ∷ op.Halt ∷ []
 
 -- threads 1 and 2 both do so
 abbrev pub both : Machine

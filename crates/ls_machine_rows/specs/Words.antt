@@ -36,7 +36,6 @@ WithoutOperand =
     × HasWord op.Unlock 34
     × HasWord op.TryLock 35
     × HasWord op.IsHeld 36
-    × HasWord op.DropLock 39
     × HasWord op.ReadPair 40
     × HasWord op.ReferenceOf 41
     × HasWord op.MarkOf 42
@@ -66,6 +65,7 @@ LeastOperands =
     × HasWord (op.NewObject 0) 29
     × HasWord (op.See 0) 37
     × HasWord (op.Take 0) 38
+    × HasWord (op.DropLock 0) 39
     × HasWord (op.Enter 0) 47
     × HasWord (op.Call 0) 51
     × HasWord (op.Result 0) 52
@@ -87,6 +87,7 @@ GreatestOperands =
     × HasWord (op.NewObject 4294967295) 1099511627549
     × HasWord (op.See 4294967295) 1099511627557
     × HasWord (op.Take 4294967295) 1099511627558
+    × HasWord (op.DropLock 4294967295) 1099511627559
     × HasWord (op.Enter 4294967295) 1099511627567
     × HasWord (op.Call 4294967295) 1099511627571
     × HasWord (op.Result 4294967295) 1099511627572

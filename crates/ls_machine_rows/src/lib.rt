@@ -4,7 +4,7 @@
 #![tactic(auto)]
 
 ghost use Rattle.ls_machine_rows.specs.Words.{WithoutOperand, LeastOperands, GreatestOperands, OtherOperands, NoInstruction};
-ghost use Rattle.ls_machine_rows.specs.Locks.{SeeForLock, SeeForTry, SeeForUnlock, SeeOfNull, SeeSticks, TakeWins, TakeLoses, TakeOfAnother, TakePastTheMost, TakeSticks, Drops, DropSticks, TwoHoldsDropped};
+ghost use Rattle.ls_machine_rows.specs.Locks.{SeeForLock, SeeForTry, SeeForUnlock, SeeOfNull, SeeSticks, TakeWins, TakeLoses, TakeOfAnother, TakePastTheMost, TakeSticks, Drops, DropSticks, LockOfMonitor, UnlockOfMonitor, TwoHoldsDropped};
 ghost use Rattle.ls_machine_rows.specs.Silent.{Words, Locals, Arithmetic, Divisions, Comparisons, Equality, Jumps, Pairs, Nulls};
 ghost use Rattle.ls_machine_rows.specs.Acting.{Fields, Items, Names, Makings, LocksInOneStep, Markables};
 ghost use Rattle.ls_machine_rows.specs.Frames.{Enters, EntersNoDeeper, Leaves, Throws, Begins, Returns, Stops};
@@ -19,7 +19,7 @@ pub fn words()
     ensures no_instruction { NoInstruction }
 {}
 
-/// Locks by load and exchange.
+/// Locks and monitors by load and exchange.
 pub fn locks()
     ensures see_for_lock { SeeForLock }
     ensures see_for_try { SeeForTry }
@@ -33,6 +33,8 @@ pub fn locks()
     ensures take_sticks { TakeSticks }
     ensures drops { Drops }
     ensures drop_sticks { DropSticks }
+    ensures lock_of_monitor { LockOfMonitor }
+    ensures unlock_of_monitor { UnlockOfMonitor }
     ensures two_holds_dropped { TwoHoldsDropped }
 {}
 

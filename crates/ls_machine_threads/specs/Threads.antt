@@ -40,4 +40,4 @@ instruction_of (acting.Enter x) = op.Enter x
 instruction_of acting.LeaveWith = op.LeaveWith
 instruction_of (acting.See x) = op.See x
 instruction_of (acting.Take x) = op.Take x
-instruction_of acting.DropLock = op.DropLock
+instruction_of (acting.DropLock x) = op.DropLock x

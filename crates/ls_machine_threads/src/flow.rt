@@ -27,7 +27,7 @@ pub enum Acting {
     LeaveWith,
     See(u32),
     Take(u32),
-    DropLock,
+    DropLock(u32),
 }
 
 impl Clone for Acting {

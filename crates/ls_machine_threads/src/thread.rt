@@ -18,6 +18,7 @@ use ls_code::step::Mode;
 use ls_events::kind::Kind;
 use ls_machine_moves::flow::{Flow, Quick};
 use ls_machine_moves::frame::Frame;
+use ls_machine_moves::stirring::stir;
 use ls_machine_moves::{acting, silent};
 use std::alloc::{AllocError, Global};
 use std::marker::Model;
@@ -311,6 +312,26 @@ impl Thread {
         self.pending = false;
     }
 
+    /// Whether this thread is the other, up to the memory of both. True only where it is.
+    pub fn is_same(&self, other: &Thread) -> bool
+        requires { self.now.thread.calls ≡ other.now.thread.calls }
+        ensures { IsTrue result → self.now.thread ≡ other.now.thread }
+    {
+        self.ended == other.ended
+            && self.pending == other.pending
+            && self.mode == other.mode
+            && are_same(&self.frames[self.inner..], &other.frames[other.inner..])
+    }
+
+    /// A number that threads which are the same have in common, made of another.
+    pub fn mix(&self, seed: u64) -> u64 {
+        let mut mixed = stir(seed, self.ended as u64);
+        for frame in &self.frames[self.inner..] {
+            mixed = frame.mix(mixed);
+        }
+        mixed
+    }
+
     /// The pending call traps.
     pub fn trap(&mut self)
         requires { self.old.thread.pending ≡ true }
@@ -321,6 +342,22 @@ impl Thread {
         self.ended += 1;
         self.pending = false;
     }
+}
+
+/// Whether frames are the same, one by one, up to their memory. True only where they are.
+fn are_same(frames: &[Frame], others: &[Frame]) -> bool
+    ensures { IsTrue result → map (λ k. k.frame) frames.now ≡ map (λ k. k.frame) others.now }
+{
+    if frames.len() != others.len() {
+        return false;
+    }
+    for i in 0..frames.len() {
+        let frame = &frames[i];
+        if !frame.is_same(&others[i]) {
+            return false;
+        }
+    }
+    true
 }
 
 /// Makes the frame above this one that of a method.

@@ -11,7 +11,7 @@ use Rattle.ls_events.specs.declared.value.Value.TheVariants.{Int, Boolean, Refer
 use Rattle.ls_events.specs.declared.value.ValueType.TheVariants as types
 use Rattle.ls_events.specs.declared.kind.Kind.TheVariants.{NullPointer, Arithmetic}
 use Rattle.ls_events.specs.declared.action.Action.{Action}
-use Rattle.ls_events.specs.declared.action.Action.TheVariants.{ReadField, ReadItem, WriteItem, New, NewLock, NewMarkable, NewArray, Lock, Unlock, TryLock, IsHeld, ReadPair, SetPair, SwapPair, AttemptMark}
+use Rattle.ls_events.specs.declared.action.Action.TheVariants.{ReadField, ReadItem, WriteItem, New, NewLock, NewMarkable, NewArray, Lock, Unlock, TryLock, IsHeld, LockMonitor, UnlockMonitor, ReadPair, SetPair, SwapPair, AttemptMark}
 use Rattle.ls_events.specs.declared.action.Answer.TheVariants.{Done, Gives, Fails}
 use Rattle.ls_checked.specs.declared.tree.Operator.{Operator}
 use Rattle.ls_checked.specs.declared.tree.Operator.TheVariants as operators
@@ -179,7 +179,7 @@ module _ (names : ℕ → ℕ) (is : IsRenaming names) where
   operated_other operators.Equal x y = ap Boolean (same_other x y)
   operated_other operators.NotEqual x y = ap (λ b. Boolean (not b)) (same_other x y)
 
-  operate_other : (op : Operator) (x y : Value) (rest : Answers) → Renames (renamed names) (operate op x y rest) (operate op (renamed names x) (renamed names y) (other rest))
+  pub operate_other : (op : Operator) (x y : Value) (rest : Answers) → Renames (renamed names) (operate op x y rest) (operate op (renamed names x) (renamed names y) (other rest))
   operate_other op x y rest =
       if_other (renamed names) (divides_by_zero op y) (divides_by_zero op (renamed names y)) (Throws Arithmetic rest) (Throws Arithmetic (other rest)) (Results (operated op x y) rest) (Results (operated op (renamed names x) (renamed names y)) (other rest)) (zero_other op y) refl
       (results_other (renamed names) (operated op x y) (operated op (renamed names x) (renamed names y)) rest (operated_other op x y))
@@ -216,6 +216,8 @@ module _ (names : ℕ → ℕ) (is : IsRenaming names) where
   call_other calls k called.UnlockIt o vs rest = asked_other Unlock o NoValue rest (λ n. refl)
   call_other calls k called.TryIt o vs rest = asked_other TryLock o (ValueOf types.Boolean) rest (λ n. refl)
   call_other calls k called.AskIt o vs rest = asked_other IsHeld o (ValueOf types.Boolean) rest (λ n. refl)
+  call_other calls k (called.HoldMonitor c) o vs rest = asked_other LockMonitor o NoValue rest (λ n. refl)
+  call_other calls k (called.FreeMonitor c) o vs rest = asked_other UnlockMonitor o NoValue rest (λ n. refl)
   call_other calls k (called.GetReference c) o vs rest =
       then_other (renamed names) (renamed names) _ _ _ _ (asked_other ReadPair o (PairOf c) rest (λ n. refl)) (λ pair rest.
       results_other (renamed names) (Reference (reference_of pair)) (Reference (reference_of (renamed names pair))) rest (ap Reference (reference_other pair)))

@@ -2,18 +2,20 @@
 use Rattle.std.proofs.Common.{◌≡◌, ℕ, zero, suc, Bool, true, false, cond, List, length, refl, sym, ap, ◌∙◌}
 use Rattle.std.proofs.lemmas.List.{map-set, length-map}
 use Rattle.ls_events.specs.declared.value.Value.{Value}
-use Rattle.ls_events.specs.declared.action.Action.TheVariants.{WriteField, WriteItem, Turn}
-use Rattle.ls_checked.specs.CheckedTree.{Class, Statement, Block, SetSlot, SetField, SetItem, Evaluate, If, While, Break, Continue, ReturnNothing, ReturnValue, Try, Statements, Done, Then}
+use Rattle.ls_events.specs.declared.action.Action.TheVariants.{ReadField, WriteField, WriteItem, Turn}
+use Rattle.ls_events.specs.declared.value.ValueType.TheVariants as types
+use Rattle.ls_checked.specs.declared.tree.Operator.TheVariants.{Add}
+use Rattle.ls_checked.specs.CheckedTree.{Class, Statement, Block, SetSlot, SetField, AddField, SetItem, Evaluate, If, While, Break, Continue, ReturnNothing, ReturnValue, Try, Statements, Done, Then}
 use Rattle.ls_meaning.specs.declared.completion.Completion.{Completion}
 use Rattle.ls_meaning.specs.declared.completion.Completion.TheVariants.{Normal, Broke, Continued, Returned, Threw}
-use Rattle.ls_meaning.specs.declared.sort.Sort.TheVariants.{NoValue}
+use Rattle.ls_meaning.specs.declared.sort.Sort.TheVariants.{NoValue, ValueOf}
 use Rattle.ls_meaning.specs.Values.{int_of, reference_of, truth_of}
-use Rattle.ls_meaning.specs.Course.{Answers, Evaluated, Asks, Results, Throws, tell}
-use Rattle.ls_meaning.specs.Expressions.{Calls, evaluate}
+use Rattle.ls_meaning.specs.Course.{Answers, Evaluated, Asks, Results, Throws, tell, on_object}
+use Rattle.ls_meaning.specs.Expressions.{Calls, operate, evaluate}
 use Rattle.ls_meaning.specs.Statements.{Executed, AsksFor, Completes, on_value, and_normal, then_do, finally_do, turn_back, after_body, one_turn, turns, execute, execute_all}
 use Rattle.ls_meaning.specs.Renamings.{IsRenaming, renamed, renamed_result, renamed_action}
 use Rattle.ls_meaning.specs.Constants.{UsesConstants, UseConstants}
-use Rattle.ls_meaning.proofs.Renames.{other, others, all_renamed, Renames, CallsRename, reference_other, truth_other, int_other, tell_other, then_other, on_object_other, evaluate_other}
+use Rattle.ls_meaning.proofs.Renames.{other, others, all_renamed, Renames, CallsRename, reference_other, truth_other, int_other, tell_other, then_other, on_object_other, operate_other, evaluate_other}
 
 module _ (names : ℕ → ℕ) (is : IsRenaming names) where
   abbrev pub completion_other : Completion Value → Completion Value
@@ -105,6 +107,13 @@ module _ (names : ℕ → ℕ) (is : IsRenaming names) where
           then_other names is (renamed names) (renamed names) _ _ _ _ (evaluate_other names is classes calls k e h.0 ls qs) (λ o rest.
           then_other names is (renamed names) (renamed names) _ _ _ _ (evaluate_other names is classes calls k v h.1 ls rest) (λ w rest.
           on_object_other names is o (WriteField (reference_of o) f w) (WriteField (reference_of (renamed names o)) f (renamed names w)) NoValue rest (ap (λ n. WriteField n f (renamed names w)) (reference_other names is o)))))
+      execute_other (AddField e f v) h ls qs =
+          normal_other _ _ ls (
+          then_other names is (renamed names) (renamed names) _ _ _ _ (evaluate_other names is classes calls k e h.0 ls qs) (λ o rest.
+          then_other names is (renamed names) (renamed names) _ _ _ _ (on_object_other names is o (ReadField (reference_of o) f) (ReadField (reference_of (renamed names o)) f) (ValueOf types.Int) rest (ap (λ n. ReadField n f) (reference_other names is o))) (λ x rest.
+          then_other names is (renamed names) (renamed names) _ _ _ _ (evaluate_other names is classes calls k v h.1 ls rest) (λ y rest.
+          then_other names is (renamed names) (renamed names) (operate Add x y rest) _ _ (λ w. on_object (renamed names o) (WriteField (reference_of (renamed names o)) f w) NoValue) (operate_other names is Add x y rest) (λ w rest.
+          on_object_other names is o (WriteField (reference_of o) f w) (WriteField (reference_of (renamed names o)) f (renamed names w)) NoValue rest (ap (λ n. WriteField n f (renamed names w)) (reference_other names is o)))))))
       execute_other (SetItem a i v) h ls qs =
           normal_other _ _ ls (
           then_other names is (renamed names) (renamed names) _ _ _ _ (evaluate_other names is classes calls k a h.0 ls qs) (λ o rest.

@@ -2,7 +2,7 @@
 use Rattle.std.specs.Prelude.{◌≡◌, ℕ, List, [], ◌∷◌, Some, slice_get}
 use Rattle.ls_events.specs.declared.value.Value.{Value}
 use Rattle.ls_events.specs.declared.value.Value.TheVariants.{Int, Boolean, Reference, Pair}
-use Rattle.ls_checked.specs.CheckedTree.{Expression, Literal, Slot, Field, Item, Negate, Not, Binary, And, Or, Call, MakeObject, MakeLock, MakeMarkable, MakeArray, Expressions, End, More, Statement, Block, SetSlot, SetField, SetItem, Evaluate, If, While, Break, Continue, ReturnNothing, ReturnValue, Try, Statements, Done, Then, Method, File}
+use Rattle.ls_checked.specs.CheckedTree.{Expression, Literal, Slot, Field, Item, Negate, Not, Binary, And, Or, Call, MakeObject, MakeLock, MakeMarkable, MakeArray, Expressions, End, More, Statement, Block, SetSlot, SetField, AddField, SetItem, Evaluate, If, While, Break, Continue, ReturnNothing, ReturnValue, Try, Statements, Done, Then, Method, File}
 use Rattle.ls_checked.specs.CheckedProgram.{Program, ThreadProgram, ProgramCall, Making, Calling}
 
 -- an int, a boolean or null (JLS 15.8.1)
@@ -38,6 +38,7 @@ abbrev mutual
   UsesConstants (Block ss) = UseConstants ss
   UsesConstants (SetSlot n e) = HasConstants e
   UsesConstants (SetField e f v) = HasConstants e × HasConstants v
+  UsesConstants (AddField e f v) = HasConstants e × HasConstants v
   UsesConstants (SetItem a i v) = HasConstants a × HasConstants i × HasConstants v
   UsesConstants (Evaluate e) = HasConstants e
   UsesConstants (If e a b) = HasConstants e × UsesConstants a × UsesConstants b

@@ -4,12 +4,12 @@ use Rattle.ls_events.specs.declared.value.Value.{Value}
 use Rattle.ls_events.specs.declared.value.Value.TheVariants.{Boolean, Reference, Pair}
 use Rattle.ls_events.specs.declared.kind.Kind.TheVariants.{ArrayIndexOutOfBounds, IllegalMonitorState, Error}
 use Rattle.ls_events.specs.declared.action.Action.{Action}
-use Rattle.ls_events.specs.declared.action.Action.TheVariants.{ReadField, WriteField, ReadItem, WriteItem, ReadName, WriteName, New, NewLock, NewMarkable, NewArray, Lock, Unlock, TryLock, IsHeld, ReadPair, SetPair, SwapPair, AttemptMark, Turn, Enter, Call, Return, Trap}
+use Rattle.ls_events.specs.declared.action.Action.TheVariants.{ReadField, WriteField, ReadItem, WriteItem, ReadName, WriteName, New, NewLock, NewMarkable, NewArray, Lock, Unlock, TryLock, IsHeld, LockMonitor, UnlockMonitor, ReadPair, SetPair, SwapPair, AttemptMark, Turn, Enter, Call, Return, Trap}
 use Rattle.ls_events.specs.declared.action.Answer.{Answer}
 use Rattle.ls_events.specs.declared.action.Answer.TheVariants.{Done, Gives, Fails}
 use Rattle.ls_checked.specs.CheckedTree.{Class}
 use Rattle.ls_meaning.specs.Values.{nothing, start_of, reference_of, mark_of}
-use Rattle.ls_meaning.specs.Store.{Thing, Object, FreeLock, HeldLock, Markable, Array, Store, thing_at, with_thing, with_new, new_number, with_name, name_at}
+use Rattle.ls_meaning.specs.Store.{Hold, Free, HeldBy, Thing, Object, LockOf, Markable, Array, Store, thing_at, with_thing, with_new, new_number, with_name, name_at}
 
 -- an action waits and changes nothing, or it leaves a store and has an answer
 pub data Effect : Type 0 where
@@ -21,13 +21,18 @@ pub data Change : Type 0 where
   Stays : Change
   Leaves : (thing : Thing) (answer : Answer Value) → Change
 
+-- and of the hold of a lock or of a monitor
+pub data Holding : Type 0 where
+  Awaits : Holding
+  Becomes : (hold : Hold) (answer : Answer Value) → Holding
+
 -- fields (JLS 15.11.1, 15.26.1)
 abbrev pub reading_field : ℕ → Thing → Change
-reading_field f (Object fields) = Leaves (Object fields) (Gives (slice_index_or fields f nothing))
+reading_field f (Object monitor fields) = Leaves (Object monitor fields) (Gives (slice_index_or fields f nothing))
 reading_field f t = Leaves t Done
 
 abbrev pub writing_field : ℕ → Value → Thing → Change
-writing_field f v (Object fields) = Leaves (Object (slice_set fields f v)) Done
+writing_field f v (Object monitor fields) = Leaves (Object monitor (slice_set fields f v)) Done
 writing_field f v t = Leaves t Done
 
 -- an index is in range from 0 to one below the size (JLS 10.4)
@@ -54,50 +59,60 @@ writing_item i v (Array size items) =
     else Leaves (Array size items) (Fails ArrayIndexOutOfBounds)
 writing_item i v t = Leaves t Done
 
--- the most times that a lock may be held (ReentrantLock)
+-- the most times that a lock or a monitor may be held (ReentrantLock)
 abbrev pub most_holds : ℕ
 most_holds = 2147483647
 
 -- one more hold by the owner, which past the most throws Error (ReentrantLock)
-abbrev pub held_more : ℕ → ℕ → Answer Value → Change
+abbrev pub held_more : ℕ → ℕ → Answer Value → Holding
 held_more thread holds answer =
     if nat_lt holds most_holds
-    then Leaves (HeldLock thread (holds + 1)) answer
-    else Leaves (HeldLock thread holds) (Fails Error)
+    then Becomes (HeldBy thread (holds + 1)) answer
+    else Becomes (HeldBy thread holds) (Fails Error)
 
--- lock(): takes a free lock, adds a hold for its owner, and else waits
-abbrev pub locking : ℕ → Thing → Change
-locking thread FreeLock = Leaves (HeldLock thread 1) Done
-locking thread (HeldLock owner holds) = if nat_eq owner thread then held_more thread holds Done else Stays
-locking thread t = Leaves t Done
+-- lock(), and the lock of a monitor: takes what is free, adds a hold for its owner, and else waits (ReentrantLock, JLS 17.1)
+abbrev pub locking : ℕ → Hold → Holding
+locking thread Free = Becomes (HeldBy thread 1) Done
+locking thread (HeldBy owner holds) = if nat_eq owner thread then held_more thread holds Done else Awaits
 
 -- tryLock(): the same, but false where lock() would wait
-abbrev pub trying : ℕ → Thing → Change
-trying thread FreeLock = Leaves (HeldLock thread 1) (Gives (Boolean true))
-trying thread (HeldLock owner holds) =
+abbrev pub trying : ℕ → Hold → Holding
+trying thread Free = Becomes (HeldBy thread 1) (Gives (Boolean true))
+trying thread (HeldBy owner holds) =
     if nat_eq owner thread
     then held_more thread holds (Gives (Boolean true))
-    else Leaves (HeldLock owner holds) (Gives (Boolean false))
-trying thread t = Leaves t Done
+    else Becomes (HeldBy owner holds) (Gives (Boolean false))
 
--- one hold less, and none left frees the lock
-abbrev pub held_less : ℕ → ℕ → Thing
-held_less thread holds = if nat_lt 1 holds then HeldLock thread (holds - 1) else FreeLock
+-- one hold less, and with none left it is free
+abbrev pub held_less : ℕ → ℕ → Hold
+held_less thread holds = if nat_lt 1 holds then HeldBy thread (holds - 1) else Free
 
--- unlock(): by the owner alone, else IllegalMonitorStateException
-abbrev pub unlocking : ℕ → Thing → Change
-unlocking thread FreeLock = Leaves FreeLock (Fails IllegalMonitorState)
-unlocking thread (HeldLock owner holds) =
+-- unlock(), and the unlock of a monitor: by the owner alone, else IllegalMonitorStateException
+abbrev pub unlocking : ℕ → Hold → Holding
+unlocking thread Free = Becomes Free (Fails IllegalMonitorState)
+unlocking thread (HeldBy owner holds) =
     if nat_eq owner thread
-    then Leaves (held_less thread holds) Done
-    else Leaves (HeldLock owner holds) (Fails IllegalMonitorState)
-unlocking thread t = Leaves t Done
+    then Becomes (held_less thread holds) Done
+    else Becomes (HeldBy owner holds) (Fails IllegalMonitorState)
 
 -- isHeldByCurrentThread()
-abbrev pub asking_held : ℕ → Thing → Change
-asking_held thread FreeLock = Leaves FreeLock (Gives (Boolean false))
-asking_held thread (HeldLock owner holds) = Leaves (HeldLock owner holds) (Gives (Boolean (nat_eq owner thread)))
-asking_held thread t = Leaves t Done
+abbrev pub asking_held : ℕ → Hold → Holding
+asking_held thread Free = Becomes Free (Gives (Boolean false))
+asking_held thread (HeldBy owner holds) = Becomes (HeldBy owner holds) (Gives (Boolean (nat_eq owner thread)))
+
+-- a thing whose hold becomes another
+abbrev pub with_hold : (Hold → Thing) → Holding → Change
+with_hold thing Awaits = Stays
+with_hold thing (Becomes hold answer) = Leaves (thing hold) answer
+
+-- an operation of a lock, and of an object's monitor
+abbrev pub on_lock : (Hold → Holding) → Thing → Change
+on_lock go (LockOf hold) = with_hold LockOf (go hold)
+on_lock go t = Leaves t Done
+
+abbrev pub on_monitor : (Hold → Holding) → Thing → Change
+on_monitor go (Object monitor fields) = with_hold (λ hold. Object hold fields) (go monitor)
+on_monitor go t = Leaves t Done
 
 -- a markable's pair, read and set (AtomicMarkableReference)
 abbrev pub reading_pair : Thing → Change
@@ -140,10 +155,12 @@ change thread (ReadField o f) t = reading_field f t
 change thread (WriteField o f v) t = writing_field f v t
 change thread (ReadItem o i) t = reading_item i t
 change thread (WriteItem o i v) t = writing_item i v t
-change thread (Lock o) t = locking thread t
-change thread (Unlock o) t = unlocking thread t
-change thread (TryLock o) t = trying thread t
-change thread (IsHeld o) t = asking_held thread t
+change thread (Lock o) t = on_lock (locking thread) t
+change thread (Unlock o) t = on_lock (unlocking thread) t
+change thread (TryLock o) t = on_lock (trying thread) t
+change thread (IsHeld o) t = on_lock (asking_held thread) t
+change thread (LockMonitor o) t = on_monitor (locking thread) t
+change thread (UnlockMonitor o) t = on_monitor (unlocking thread) t
 change thread (ReadPair o) t = reading_pair t
 change thread (SetPair o v) t = setting_pair v t
 change thread (SwapPair o expected new) t = swapping expected new t
@@ -187,15 +204,17 @@ effect classes s thread (WriteItem o i v) = on_thing s o thread (WriteItem o i v
 -- setup names
 effect classes s thread (ReadName n) = Does s (Gives (name_at s n))
 effect classes s thread (WriteName n v) = Does (with_name s n v) Done
--- makings: fields and elements at their start values (JLS 4.12.5, 12.5, 15.9.4, 15.10.2), a lock that is free
-effect classes s thread (New c) = making s (Object (fields_in (slice_get classes c)))
-effect classes s thread NewLock = making s FreeLock
+-- makings: fields and elements at their start values (JLS 4.12.5, 12.5, 15.9.4, 15.10.2), a monitor or a lock that is free
+effect classes s thread (New c) = making s (Object Free (fields_in (slice_get classes c)))
+effect classes s thread NewLock = making s (LockOf Free)
 effect classes s thread (NewMarkable p) = making s (Markable p)
 effect classes s thread (NewArray n) = making s (Array (size_of n) (λ i. Boolean false))
 effect classes s thread (Lock o) = on_thing s o thread (Lock o)
 effect classes s thread (Unlock o) = on_thing s o thread (Unlock o)
 effect classes s thread (TryLock o) = on_thing s o thread (TryLock o)
 effect classes s thread (IsHeld o) = on_thing s o thread (IsHeld o)
+effect classes s thread (LockMonitor o) = on_thing s o thread (LockMonitor o)
+effect classes s thread (UnlockMonitor o) = on_thing s o thread (UnlockMonitor o)
 effect classes s thread (ReadPair o) = on_thing s o thread (ReadPair o)
 effect classes s thread (SetPair o v) = on_thing s o thread (SetPair o v)
 effect classes s thread (SwapPair o expected new) = on_thing s o thread (SwapPair o expected new)

@@ -5,10 +5,10 @@ use Rattle.ls_events.specs.declared.value.Value.TheVariants as values
 use Rattle.ls_events.specs.declared.value.ValueType.TheVariants as types
 use Rattle.ls_events.specs.declared.value.ValueType.{ValueType}
 use Rattle.ls_events.specs.declared.kind.Kind.TheVariants.{Arithmetic, NegativeArraySize}
-use Rattle.ls_events.specs.declared.action.Action.TheVariants.{ReadField, ReadItem, WriteItem, New, NewLock, NewMarkable, NewArray, Lock, Unlock, TryLock, IsHeld, ReadPair, SetPair, SwapPair, AttemptMark}
+use Rattle.ls_events.specs.declared.action.Action.TheVariants.{ReadField, ReadItem, WriteItem, New, NewLock, NewMarkable, NewArray, Lock, Unlock, TryLock, IsHeld, LockMonitor, UnlockMonitor, ReadPair, SetPair, SwapPair, AttemptMark}
 use Rattle.ls_checked.specs.declared.tree.Operator.{Operator}
 use Rattle.ls_checked.specs.declared.tree.Called.{Called}
-use Rattle.ls_checked.specs.declared.tree.Called.TheVariants.{Method, LockIt, UnlockIt, TryIt, AskIt, GetReference, IsMarked, GetBoth, SetBoth, CompareAndSet, Attempt}
+use Rattle.ls_checked.specs.declared.tree.Called.TheVariants.{Method, LockIt, UnlockIt, TryIt, AskIt, HoldMonitor, FreeMonitor, GetReference, IsMarked, GetBoth, SetBoth, CompareAndSet, Attempt}
 use Rattle.ls_checked.specs.CheckedTree.{Class, Expression, Literal, Slot, Field, Item, Negate, Not, Binary, And, Or, Call, MakeObject, MakeLock, MakeMarkable, MakeArray, Expressions, End, More}
 use Rattle.ls_meaning.specs.declared.sort.Sort.{Sort}
 use Rattle.ls_meaning.specs.declared.sort.Sort.TheVariants.{NoValue, ValueOf, NewOf, PairOf}
@@ -56,7 +56,8 @@ abbrev pub argument : List Value → ℕ → Value
 argument vs n = slice_index_or vs n nothing
 
 -- what is called, on an object that isn't null: a method (JLS 15.12.4.5), an operation of a lock
--- (java.util.concurrent.locks.ReentrantLock) or of a markable (java.util.concurrent.atomic.AtomicMarkableReference)
+-- (java.util.concurrent.locks.ReentrantLock), of a monitor or of a markable
+-- (java.util.concurrent.atomic.AtomicMarkableReference)
 abbrev pub call : Calls → Called → Value → List Value → Answers → Evaluated Value
 call calls (Method m) o vs rest = calls m (o ∷ vs) rest
 -- lock(), unlock(), tryLock(), isHeldByCurrentThread()
@@ -64,6 +65,9 @@ call calls LockIt o vs rest = ask (Lock (reference_of o)) NoValue rest
 call calls UnlockIt o vs rest = ask (Unlock (reference_of o)) NoValue rest
 call calls TryIt o vs rest = ask (TryLock (reference_of o)) (ValueOf types.Boolean) rest
 call calls AskIt o vs rest = ask (IsHeld (reference_of o)) (ValueOf types.Boolean) rest
+-- the lock and the unlock of a monitor (JLS 14.19, 17.1)
+call calls (HoldMonitor c) o vs rest = ask (LockMonitor (reference_of o)) NoValue rest
+call calls (FreeMonitor c) o vs rest = ask (UnlockMonitor (reference_of o)) NoValue rest
 -- getReference(), isMarked(), get(boolean[])
 call calls (GetReference c) o vs rest =
     with_value (ask (ReadPair (reference_of o)) (PairOf c) rest) (λ pair rest. Results (values.Reference (reference_of pair)) rest)

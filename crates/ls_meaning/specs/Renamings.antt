@@ -3,7 +3,7 @@ use Rattle.std.specs.Prelude.{◌≡◌, ℕ, Option, Some, None, map}
 use Rattle.ls_events.specs.declared.value.Value.{Value}
 use Rattle.ls_events.specs.declared.value.Value.TheVariants.{Int, Boolean, Reference, Pair}
 use Rattle.ls_events.specs.declared.action.Action.{Action}
-use Rattle.ls_events.specs.declared.action.Action.TheVariants.{ReadField, WriteField, ReadItem, WriteItem, ReadName, WriteName, New, NewLock, NewMarkable, NewArray, Lock, Unlock, TryLock, IsHeld, ReadPair, SetPair, SwapPair, AttemptMark, Turn, Enter, Call, Return, Trap}
+use Rattle.ls_events.specs.declared.action.Action.TheVariants.{ReadField, WriteField, ReadItem, WriteItem, ReadName, WriteName, New, NewLock, NewMarkable, NewArray, Lock, Unlock, TryLock, IsHeld, LockMonitor, UnlockMonitor, ReadPair, SetPair, SwapPair, AttemptMark, Turn, Enter, Call, Return, Trap}
 use Rattle.ls_events.specs.declared.action.Answer.{Answer}
 use Rattle.ls_events.specs.declared.action.Answer.TheVariants.{Done, Gives, Fails}
 use Rattle.ls_meaning.specs.Course.{Answers}
@@ -39,6 +39,8 @@ renamed_action names (Lock o) = Lock (names o)
 renamed_action names (Unlock o) = Unlock (names o)
 renamed_action names (TryLock o) = TryLock (names o)
 renamed_action names (IsHeld o) = IsHeld (names o)
+renamed_action names (LockMonitor o) = LockMonitor (names o)
+renamed_action names (UnlockMonitor o) = UnlockMonitor (names o)
 renamed_action names (ReadPair o) = ReadPair (names o)
 renamed_action names (SetPair o p) = SetPair (names o) (renamed names p)
 renamed_action names (SwapPair o p q) = SwapPair (names o) (renamed names p) (renamed names q)

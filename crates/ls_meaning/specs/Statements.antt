@@ -2,15 +2,17 @@
 use Rattle.std.specs.Prelude.{ℕ, zero, suc, List, length, Some, None, slice_set, if◌then◌else◌}
 use Rattle.ls_events.specs.declared.value.Value.{Value}
 use Rattle.ls_events.specs.declared.action.Action.{Action}
-use Rattle.ls_events.specs.declared.action.Action.TheVariants.{WriteField, WriteItem, Turn}
+use Rattle.ls_events.specs.declared.action.Action.TheVariants.{ReadField, WriteField, WriteItem, Turn}
 use Rattle.ls_meaning.specs.declared.completion.Completion.{Completion}
 use Rattle.ls_meaning.specs.declared.completion.Completion.TheVariants.{Normal, Broke, Continued, Returned, Threw}
-use Rattle.ls_checked.specs.CheckedTree.{Class, Statement, Block, SetSlot, SetField, SetItem, Evaluate, If, While, Break, Continue, ReturnNothing, ReturnValue, Try, Statements, Done, Then}
+use Rattle.ls_events.specs.declared.value.ValueType.TheVariants as types
+use Rattle.ls_checked.specs.declared.tree.Operator.TheVariants.{Add}
+use Rattle.ls_checked.specs.CheckedTree.{Class, Statement, Block, SetSlot, SetField, AddField, SetItem, Evaluate, If, While, Break, Continue, ReturnNothing, ReturnValue, Try, Statements, Done, Then}
 use Rattle.ls_meaning.specs.declared.sort.Sort.{Sort}
-use Rattle.ls_meaning.specs.declared.sort.Sort.TheVariants.{NoValue}
+use Rattle.ls_meaning.specs.declared.sort.Sort.TheVariants.{NoValue, ValueOf}
 use Rattle.ls_meaning.specs.Values.{int_of, truth_of, reference_of}
 use Rattle.ls_meaning.specs.Course.{Answers, Evaluated, Asks, Results, Throws, tell, with_value, on_object}
-use Rattle.ls_meaning.specs.Expressions.{Calls, evaluate}
+use Rattle.ls_meaning.specs.Expressions.{Calls, operate, evaluate}
 
 -- the execution of a statement asks for an action, or it completes, with the locals and the answers left (JLS 14.1)
 pub data Executed : Type 0 where
@@ -84,6 +86,15 @@ abbrev mutual
       with_value (evaluate classes calls e locals answers) (λ o rest.
       with_value (evaluate classes calls e' locals rest) (λ v rest.
       on_object o (WriteField (reference_of o) f v) NoValue rest))) locals
+  -- `+=`, `++` and `--` on a field: the object once, the test for null, the field, what is added to it, and then the write
+  -- (JLS 15.14.2, 15.14.3, 15.15.1, 15.15.2, 15.26.2)
+  execute classes calls (AddField e f e') locals answers =
+      and_normal (
+      with_value (evaluate classes calls e locals answers) (λ o rest.
+      with_value (on_object o (ReadField (reference_of o) f) (ValueOf types.Int) rest) (λ x rest.
+      with_value (evaluate classes calls e' locals rest) (λ y rest.
+      with_value (operate Add x y rest) (λ v rest.
+      on_object o (WriteField (reference_of o) f v) NoValue rest))))) locals
   execute classes calls (SetItem a i e) locals answers =
       and_normal (
       with_value (evaluate classes calls a locals answers) (λ o rest.

@@ -3,12 +3,15 @@ use Rattle.std.specs.Prelude.{ℕ, ◌-◌, ◌+◌, List, [], ◌∷◌, ◌++�
 use Rattle.ls_events.specs.declared.value.Value.{Value}
 use Rattle.ls_meaning.specs.Values.{nothing}
 
--- what is behind a reference: an object's fields in text order, a lock with its owner and how often that holds it, what a
--- markable holds, an array
+-- a lock, or the monitor of an object, is free, or a thread holds it some number of times (JLS 17.1)
+pub data Hold : Type 0 where
+  Free : Hold
+  HeldBy : (owner holds : ℕ) → Hold
+
+-- what is behind a reference: an object's monitor and its fields in text order, a lock, what a markable holds, an array
 pub data Thing : Type 0 where
-  Object : (fields : List Value) → Thing
-  FreeLock : Thing
-  HeldLock : (owner holds : ℕ) → Thing
+  Object : (monitor : Hold) → (fields : List Value) → Thing
+  LockOf : (hold : Hold) → Thing
   Markable : (pair : Value) → Thing
   -- items stand at indices below the size
   Array : (size : ℕ) → (items : ℕ → Value) → Thing

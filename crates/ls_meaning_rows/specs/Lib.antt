@@ -12,3 +12,5 @@ pub mod Loops
 pub mod Marks
 pub mod Starts
 pub mod Steps
+pub mod Monitors
+pub mod Additions

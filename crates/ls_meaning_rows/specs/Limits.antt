@@ -6,7 +6,7 @@ use Rattle.ls_events.specs.declared.action.Action.TheVariants as actions
 use Rattle.ls_checked.specs.CheckedTree.{File}
 use Rattle.ls_meaning.specs.declared.sort.Sort.TheVariants.{NoValue}
 use Rattle.ls_meaning.specs.declared.step.Asked.TheVariants as asks
-use Rattle.ls_meaning.specs.Store.{Store, FreeLock, HeldLock}
+use Rattle.ls_meaning.specs.Store.{Store, Free, HeldBy, LockOf}
 use Rattle.ls_meaning.specs.Effect.{Waits, Does, effect, size_of}
 use Rattle.ls_meaning.specs.Threads.{Goes, Ended, Trapped, next}
 use Rattle.ls_meaning.specs.Runs.{start, asked}
@@ -14,7 +14,7 @@ use Rattle.ls_meaning_rows.specs.Made.{yes, null, block, one_class, method, maki
 
 -- a store of one lock, which thread 1 holds so often
 abbrev pub held : ℕ → Store
-held holds = record { things = HeldLock 1 holds ∷ []; names = [] }
+held holds = record { things = LockOf (HeldBy 1 holds) ∷ []; names = [] }
 
 -- the last hold that there is, and one more
 abbrev pub LastHold : Type 0
@@ -31,7 +31,7 @@ abbrev pub LockOfAnother : Type 0
 LockOfAnother = effect [] (held 2147483647) 2 (actions.Lock 1) ≡ Waits
 
 abbrev pub LastHoldLeft : Type 0
-LastHoldLeft = effect [] (held 1) 1 (actions.Unlock 1) ≡ Does (record { things = FreeLock ∷ []; names = [] }) done
+LastHoldLeft = effect [] (held 1) 1 (actions.Unlock 1) ≡ Does (record { things = LockOf Free ∷ []; names = [] }) done
 
 abbrev pub OneHoldLeft : Type 0
 OneHoldLeft = effect [] (held 2) 1 (actions.Unlock 1) ≡ Does (held 1) done

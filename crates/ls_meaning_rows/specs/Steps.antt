@@ -13,7 +13,7 @@ use Rattle.ls_checked.specs.CheckedProgram.{Program}
 use Rattle.ls_meaning.specs.declared.step.Asked.TheVariants as asks
 use Rattle.ls_meaning.specs.declared.step.Did.TheVariants as did
 use Rattle.ls_meaning.specs.Course.{Answers}
-use Rattle.ls_meaning.specs.Store.{Object, HeldLock}
+use Rattle.ls_meaning.specs.Store.{Free, HeldBy, Object, LockOf}
 use Rattle.ls_meaning.specs.Runs.{State, start, asked, step, source_run, source_history}
 use Rattle.ls_meaning_rows.specs.Made.{int, no, at, block, one_class, method, making, calling, program, done, gives, fails}
 
@@ -71,7 +71,7 @@ of_locks = program (0 ∷ []) ((making 0 0 [] ∷ []) ∷ (calling 0 0 [] ∷ []
 -- the store once A holds the lock, with the answers that each thread has had
 abbrev pub with_answers : Answers → Answers → Answers → Answers → State
 with_answers setup a b c = record {
-  store = record { things = Object (at 2 ∷ []) ∷ HeldLock 1 1 ∷ []; names = at 1 ∷ [] };
+  store = record { things = Object Free (at 2 ∷ []) ∷ LockOf (HeldBy 1 1) ∷ []; names = at 1 ∷ [] };
   answers = setup ∷ a ∷ b ∷ c ∷ [];
 }
 

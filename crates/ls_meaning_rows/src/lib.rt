@@ -15,6 +15,8 @@ ghost use Rattle.ls_meaning_rows.specs.Loops.{ExceptionOutOfALoop, ContinueSkips
 ghost use Rattle.ls_meaning_rows.specs.Marks.{ExpectedMarkIsSet, SetIsRead, RefusedAttempt, AttemptClears};
 ghost use Rattle.ls_meaning_rows.specs.Starts.{ProductsOfZero, FieldsStart};
 ghost use Rattle.ls_meaning_rows.specs.Steps.{WholeHistory, StateOfARun, WaitsOrIdle, IdleAtFirst, AskedLater, AskedOnTheWay};
+ghost use Rattle.ls_meaning_rows.specs.Monitors.{NoUpdateLost, OneStepLess, MonitorOfNull, UnlockedByTraps, MonitorOfAnObject};
+ghost use Rattle.ls_meaning_rows.specs.Additions.{NullBeforeValue, ReadBeforeValue, SumsWrap};
 
 /// Whole runs.
 pub fn runs()
@@ -163,4 +165,20 @@ pub fn steps()
     ensures idle_at_first { IdleAtFirst }
     ensures asked_later { AskedLater }
     ensures asked_on_the_way { AskedOnTheWay }
+{}
+
+/// Blocks and methods that hold a monitor (JLS 8.4.3.6, 14.19, 17.1).
+pub fn monitors()
+    ensures no_update_lost { NoUpdateLost }
+    ensures one_step_less { OneStepLess }
+    ensures monitor_of_null { MonitorOfNull }
+    ensures unlocked_by_traps { UnlockedByTraps }
+    ensures monitor_of_an_object { MonitorOfAnObject }
+{}
+
+/// `+=`, `++` and `--` on a field (JLS 15.14.2, 15.26.2).
+pub fn additions()
+    ensures null_before_value { NullBeforeValue }
+    ensures read_before_value { ReadBeforeValue }
+    ensures sums_wrap { SumsWrap }
 {}

@@ -6,11 +6,12 @@ use Rattle.ls_lexer.specs.Lexemes.{Lexeme, Named, Reserved, Marked}
 use Rattle.ls_tree.specs.Trees.{Text, Expression, Modifier, Public, Protected, Private, Final, Volatile, Annotation, TypeName, Int, Boolean, BooleanArray, Class, Markable, Declarator, Items, Parameter, Member, Fields, Method, Constructor, ClassTree, Dotted, Import, File}
 use Rattle.ls_tree.specs.WellFormed.{most_nodes, WellFormedMember, WellFormedFile, WellFormedItems, items_height}
 use Rattle.ls_parser_tokens.specs.Reading.{after_sign, after_word, starts, not_yet, many_from, many_at, behind_comma, group_at}
-use Rattle.ls_parser.specs.ReadingClasses.{parameter_at, parameters_at, starts_call, method_at, typed_at, unmodified_at, member_at, class_at, part_at, dotted_at, more_path, import_at, header_at, starts_import, is_left, file_at}
+use Rattle.ls_parser_declarations.specs.ReadingDeclarations.{starts_modifier}
+use Rattle.ls_parser.specs.ReadingClasses.{parameter_at, parameters_at, starts_call, starts_locked, locked_at, all_locked_at, method_at, typed_at, unmodified_at, member_at, class_at, part_at, dotted_at, more_path, import_at, header_at, starts_import, is_left, file_at}
 use Rattle.ls_parser_expressions.proofs.Lists.{onto_all, many_from_complete}
 use Rattle.ls_parser_declarations.proofs.OntoDeclarations.{onto_modifier, onto_type, onto_initial, onto_declarator, onto_next_declarator}
 use Rattle.ls_parser_statements.proofs.OntoStatements.{onto_block}
-use Rattle.ls_parser.proofs.OntoClasses.{onto_parameter, next_parameter_longer, onto_next_parameter, onto_group, onto_parameters, onto_member, member_longer, onto_class_tree, class_longer, onto_part, part_longer, onto_dotted, onto_import, import_longer, onto_header, onto_file}
+use Rattle.ls_parser.proofs.OntoClasses.{onto_parameter, next_parameter_longer, onto_next_parameter, onto_group, onto_parameters, onto_result, onto_locked, locked_longer, onto_member, member_longer, onto_class_tree, class_longer, onto_part, part_longer, onto_dotted, onto_import, import_longer, onto_header, onto_file}
 use Rattle.ls_parser_declarations.proofs.DeclarationsRead.{Anything}
 use Rattle.ls_parser_statements.proofs.StatementsAgain.{anything, modifiers_complete, type_complete, type_no_modifier, declarators_complete, block_complete, modifiers_brace}
 use Rattle.ls_parser.proofs.ClassesRead.{FormedClass}
@@ -78,9 +79,24 @@ field_no_call name (Some value) ds rest = refl
 typed : (modifiers : List Modifier) (t : TypeName) (name : Text) (rest : List Lexeme) → unmodified_at modifiers (onto_type t (Named name ∷ rest)) ≡ typed_at modifiers t (Named name ∷ rest)
 typed modifiers t name rest = rw (type_no_call t name rest, type_no_void t (Named name ∷ rest), type_complete t name rest) refl
 
-method_complete : (modifiers : List Modifier) (result : Option TypeName) (name : Text) (parameters : List Parameter) (body : Items) (rest : List Lexeme) → WellFormedItems body → items_height body + 1 ≤ most_nodes
-    → method_at modifiers result (Named name ∷ onto_parameters parameters (onto_block body rest)) ≡ Some (Method modifiers result name parameters body, rest)
-method_complete modifiers result name parameters body rest formed fits =
+abbrev NoModifier : List Lexeme → Type 0
+NoModifier ks = starts_modifier ks ≡ false
+
+type_no_locked : (t : TypeName) (rest : List Lexeme) → starts_locked (onto_type t rest) ≡ false
+type_no_locked Int rest = refl
+type_no_locked Boolean rest = refl
+type_no_locked BooleanArray rest = refl
+type_no_locked (Class text) rest = refl
+type_no_locked (Markable text) rest = refl
+
+locked_complete : (ls : List (List Modifier)) (rest : List Lexeme) → starts_modifier rest ≡ false → starts_locked rest ≡ false → all_locked_at (onto_all onto_locked ls rest) ≡ Some (ls, rest)
+locked_complete ls rest follow stop =
+    many_from_complete onto_locked Anything starts_locked locked_at NoModifier (λ ms rest' p f. modifiers_complete ms rest' f) (λ ms rest' p. (refl, refl)) locked_longer
+    [] ls rest (anything ls) stop follow
+
+method_complete : (modifiers : List Modifier) (locked : List (List Modifier)) (result : Option TypeName) (name : Text) (parameters : List Parameter) (body : Items) (rest : List Lexeme) → WellFormedItems body → items_height body + 1 ≤ most_nodes
+    → method_at modifiers locked result (Named name ∷ onto_parameters parameters (onto_block body rest)) ≡ Some (Method modifiers locked result name parameters body, rest)
+method_complete modifiers locked result name parameters body rest formed fits =
     rw (parameters_complete parameters (onto_block body rest), block_complete most_nodes body rest formed fits) refl
 
 member_complete : (m : Member) (rest : List Lexeme) → WellFormedMember m → member_at (onto_member m rest) ≡ Some (m, rest)
@@ -89,23 +105,42 @@ member_complete (Fields d) rest formed =
     let ks : List Lexeme = onto_declarator d.first more in
     rw (
       modifiers_complete d.modifiers (onto_type d.type_name ks) (type_no_modifier d.type_name ks),
+      locked_complete [] (onto_type d.type_name ks) (type_no_modifier d.type_name ks) (type_no_locked d.type_name ks),
       typed d.modifiers d.type_name d.first.name (onto_initial d.first.value more),
       field_no_call d.first.name d.first.value d.more rest,
       declarators_complete most_nodes d rest formed.0 formed.1,
     ) refl
-member_complete (Method modifiers None name parameters body) rest formed =
-    let ks : List Lexeme = Named name ∷ onto_parameters parameters (onto_block body rest) in
-    rw (modifiers_complete modifiers (Reserved words.Void ∷ ks) refl, method_complete modifiers None name parameters body rest formed.0 formed.1) refl
-member_complete (Method modifiers (Some t) name parameters body) rest formed =
+member_complete (Method modifiers [] None name parameters body) rest formed =
+    let ks : List Lexeme = Reserved words.Void ∷ Named name ∷ onto_parameters parameters (onto_block body rest) in
+    rw (modifiers_complete modifiers ks refl, locked_complete [] ks refl refl, method_complete modifiers [] None name parameters body rest formed.0 formed.1) refl
+member_complete (Method modifiers [] (Some t) name parameters body) rest formed =
     let ks : List Lexeme = onto_parameters parameters (onto_block body rest) in
     rw (
       modifiers_complete modifiers (onto_type t (Named name ∷ ks)) (type_no_modifier t (Named name ∷ ks)),
+      locked_complete [] (onto_type t (Named name ∷ ks)) (type_no_modifier t (Named name ∷ ks)) (type_no_locked t (Named name ∷ ks)),
       typed modifiers t name ks,
-      method_complete modifiers (Some t) name parameters body rest formed.0 formed.1,
+      method_complete modifiers [] (Some t) name parameters body rest formed.0 formed.1,
+    ) refl
+member_complete (Method modifiers (l ∷ ls) None name parameters body) rest formed =
+    let ks : List Lexeme = Reserved words.Void ∷ Named name ∷ onto_parameters parameters (onto_block body rest) in
+    rw (
+      modifiers_complete modifiers (onto_all onto_locked (l ∷ ls) ks) refl,
+      locked_complete (l ∷ ls) ks refl refl,
+      method_complete modifiers (l ∷ ls) None name parameters body rest formed.0 formed.1,
+    ) refl
+member_complete (Method modifiers (l ∷ ls) (Some t) name parameters body) rest formed =
+    let ks : List Lexeme = onto_parameters parameters (onto_block body rest) in
+    rw (
+      modifiers_complete modifiers (onto_all onto_locked (l ∷ ls) (onto_type t (Named name ∷ ks))) refl,
+      locked_complete (l ∷ ls) (onto_type t (Named name ∷ ks)) (type_no_modifier t (Named name ∷ ks)) (type_no_locked t (Named name ∷ ks)),
+      type_no_call t name ks,
+      type_no_void t (Named name ∷ ks),
+      type_complete t name ks,
+      method_complete modifiers (l ∷ ls) (Some t) name parameters body rest formed.0 formed.1,
     ) refl
 member_complete (Constructor modifiers name parameters body) rest formed =
     let ks : List Lexeme = Named name ∷ onto_parameters parameters (onto_block body rest) in
-    rw (modifiers_complete modifiers ks refl, parameters_complete parameters (onto_block body rest), block_complete most_nodes body rest formed.0 formed.1) refl
+    rw (modifiers_complete modifiers ks refl, locked_complete [] ks refl refl, parameters_complete parameters (onto_block body rest), block_complete most_nodes body rest formed.0 formed.1) refl
 
 modifiers_void : (ms : List Modifier) (rest : List Lexeme) → after_sign signs.CloseBrace (onto_all onto_modifier ms (Reserved words.Void ∷ rest)) ≡ None
 modifiers_void [] rest = refl
@@ -116,10 +151,21 @@ modifiers_void (Final ∷ ms) rest = refl
 modifiers_void (Volatile ∷ ms) rest = refl
 modifiers_void (Annotation name ∷ ms) rest = refl
 
+modifiers_locked : (ms : List Modifier) (rest : List Lexeme) → after_sign signs.CloseBrace (onto_all onto_modifier ms (Reserved words.Synchronized ∷ rest)) ≡ None
+modifiers_locked [] rest = refl
+modifiers_locked (Public ∷ ms) rest = refl
+modifiers_locked (Protected ∷ ms) rest = refl
+modifiers_locked (Private ∷ ms) rest = refl
+modifiers_locked (Final ∷ ms) rest = refl
+modifiers_locked (Volatile ∷ ms) rest = refl
+modifiers_locked (Annotation name ∷ ms) rest = refl
+
 member_first : (m : Member) (rest : List Lexeme) → not_yet signs.CloseBrace (onto_member m rest) ≡ true
 member_first (Fields d) rest = rw (modifiers_brace d.modifiers d.type_name (onto_declarator d.first (onto_all onto_next_declarator d.more (Marked signs.Semicolon ∷ rest)))) refl
-member_first (Method modifiers None name parameters body) rest = rw (modifiers_void modifiers (Named name ∷ onto_parameters parameters (onto_block body rest))) refl
-member_first (Method modifiers (Some t) name parameters body) rest = rw (modifiers_brace modifiers t (Named name ∷ onto_parameters parameters (onto_block body rest))) refl
+member_first (Method modifiers [] None name parameters body) rest = rw (modifiers_void modifiers (Named name ∷ onto_parameters parameters (onto_block body rest))) refl
+member_first (Method modifiers (l ∷ ls) result name parameters body) rest =
+    rw (modifiers_locked modifiers (onto_all onto_modifier l (onto_all onto_locked ls (onto_result result (Named name ∷ onto_parameters parameters (onto_block body rest)))))) refl
+member_first (Method modifiers [] (Some t) name parameters body) rest = rw (modifiers_brace modifiers t (Named name ∷ onto_parameters parameters (onto_block body rest))) refl
 member_first (Constructor modifiers name parameters body) rest = rw (modifiers_brace modifiers (Class name) (onto_parameters parameters (onto_block body rest))) refl
 
 -- ---- classes

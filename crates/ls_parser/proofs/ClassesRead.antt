@@ -1,22 +1,23 @@
 -- Members, classes and files: what is read is spelled so and well-formed.
-use Rattle.std.proofs.Common.{◌≡◌, Bool, true, false, List, [], ◌∷◌, ◌++◌, length, Option, Some, None, refl, sym, ap, subst, ◌∙◌, inl, inr, arith}
+use Rattle.std.proofs.Common.{◌≡◌, Bool, true, false, List, [], ◌∷◌, ◌++◌, length, if◌then◌else◌, Option, Some, None, refl, sym, ap, subst, ◌∙◌, inl, inr, arith}
 use Rattle.std.specs.List.{AllByRecursion}
 use Rattle.ls_lexer.specs.declared.sign.Sign.TheVariants as signs
 use Rattle.ls_lexer.specs.declared.word.Word.TheVariants as words
 use Rattle.ls_lexer.specs.Lexemes.{Lexeme, Named, Reserved, Marked}
 use Rattle.ls_tree.specs.Trees.{Modifier, TypeName, Parameter, Member, Fields, Method, Constructor, ClassTree, Dotted, Import, File}
+use Rattle.ls_tree.specs.PlacedTrees.{some_in}
 use Rattle.ls_tree.specs.WellFormed.{most_nodes, WellFormedMember, WellFormedFile}
 use Rattle.ls_parser_tokens.specs.Reading.{◌>>=◌, given, after_sign, after_word, name_at, not_yet, one_more, many_from, many_at, behind_comma, others_at, group_at}
 use Rattle.ls_parser_expressions.specs.ReadingExpressions.{expression_at}
 use Rattle.ls_parser_declarations.specs.ReadingDeclarations.{modifiers_at, type_at, declarators_at}
 use Rattle.ls_parser_statements.specs.ReadingStatements.{block_at}
-use Rattle.ls_parser.specs.ReadingClasses.{parameter_of, parameter_at, parameters_at, starts_call, constructor_at, method_at, typed_at, unmodified_at, member_at, class_of, class_at, part_at, dotted_of, dotted_at, after_star, more_path, import_of, import_at, package_at, header_at, starts_import, is_left, file_from, file_at}
+use Rattle.ls_parser.specs.ReadingClasses.{parameter_of, parameter_at, parameters_at, starts_call, constructor_at, method_at, typed_at, unmodified_at, starts_locked, locked_at, all_locked_at, locked_member_at, member_at, class_of, class_at, part_at, dotted_of, dotted_at, after_star, more_path, import_of, import_at, package_at, header_at, starts_import, is_left, file_from, file_at}
 use Rattle.ls_parser_expressions.proofs.Repeats.{bind_some, some_is, repeat_sound}
 use Rattle.ls_parser_expressions.proofs.Signs.{either, given_cases, sign_reads, word_reads, name_reads}
 use Rattle.ls_parser_expressions.proofs.Shrinks.{Shrinks}
 use Rattle.ls_parser_expressions.proofs.Lists.{onto_all, onto_all_push, SoundItem, many_sound}
 use Rattle.ls_parser_declarations.proofs.OntoDeclarations.{onto_modifier, onto_type}
-use Rattle.ls_parser.proofs.OntoClasses.{onto_parameter, parameter_longer, onto_next_parameter, onto_group, onto_parameters, onto_result, onto_member, member_longer, onto_class_tree, class_longer, onto_part, part_longer, onto_dotted, onto_import, import_longer, onto_header, onto_file}
+use Rattle.ls_parser.proofs.OntoClasses.{onto_parameter, parameter_longer, onto_next_parameter, onto_group, onto_parameters, onto_result, onto_locked, locked_longer, onto_member, member_longer, onto_class_tree, class_longer, onto_part, part_longer, onto_dotted, onto_import, import_longer, onto_header, onto_file}
 use Rattle.ls_parser_declarations.proofs.DeclarationsRead.{Anything, modifiers_sound, type_sound, declarators_sound}
 use Rattle.ls_parser_statements.proofs.StatementsRead.{block_sound}
 
@@ -89,19 +90,19 @@ constructor_sound modifiers whole ks x before e =
     subst (IsRead whole) (some_is (Constructor modifiers n.0.0 p.0.0 b.0.0, b.0.1) x b.2)
     (before ∙ ap (onto_all onto_modifier modifiers) (name_reads ks n.0 n.1 ∙ ap (cons (Named n.0.0)) (parameters_sound n.0.1 p.0 p.1 ∙ ap (onto_parameters p.0.0) body.spelled)), (body.formed, body.fits))
 
-method_sound : (modifiers : List Modifier) (result : Option TypeName) (whole ks : List Lexeme) (x : Member × List Lexeme) → whole ≡ onto_all onto_modifier modifiers (onto_result result ks) → method_at modifiers result ks ≡ Some x → IsRead whole x
-method_sound modifiers result whole ks x before e =
+method_sound : (modifiers : List Modifier) (locked : List (List Modifier)) (result : Option TypeName) (whole ks : List Lexeme) (x : Member × List Lexeme) → whole ≡ onto_all onto_modifier modifiers (onto_all onto_locked locked (onto_result result ks)) → method_at modifiers locked result ks ≡ Some x → IsRead whole x
+method_sound modifiers locked result whole ks x before e =
     let n = bind_some (name_at ks) _ x e in
     let p = bind_some (parameters_at n.0.1) _ x n.2 in
     let b = bind_some (block_at most_nodes p.0.1) _ x p.2 in
     let body = block_sound most_nodes p.0.1 b.0 b.1 in
-    subst (IsRead whole) (some_is (Method modifiers result n.0.0 p.0.0 b.0.0, b.0.1) x b.2)
-    (before ∙ ap (λ (r : List Lexeme). onto_all onto_modifier modifiers (onto_result result r)) (name_reads ks n.0 n.1 ∙ ap (cons (Named n.0.0)) (parameters_sound n.0.1 p.0 p.1 ∙ ap (onto_parameters p.0.0) body.spelled)), (body.formed, body.fits))
+    subst (IsRead whole) (some_is (Method modifiers locked result n.0.0 p.0.0 b.0.0, b.0.1) x b.2)
+    (before ∙ ap (λ (r : List Lexeme). onto_all onto_modifier modifiers (onto_all onto_locked locked (onto_result result r))) (name_reads ks n.0 n.1 ∙ ap (cons (Named n.0.0)) (parameters_sound n.0.1 p.0 p.1 ∙ ap (onto_parameters p.0.0) body.spelled)), (body.formed, body.fits))
 
 typed_sound : (modifiers : List Modifier) (type_name : TypeName) (whole ks : List Lexeme) (x : Member × List Lexeme) → whole ≡ onto_all onto_modifier modifiers (onto_type type_name ks) → typed_at modifiers type_name ks ≡ Some x → IsRead whole x
 typed_sound modifiers type_name whole ks x before e =
-    elim (either (starts_call ks) (method_at modifiers (Some type_name) ks) (declarators_at (expression_at most_nodes) modifiers type_name ks >>= λ d. Some (Fields d.0, d.1)) (Some x) e) [
-      | inl method ↦ method_sound modifiers (Some type_name) whole ks x before method.1
+    elim (either (starts_call ks) (method_at modifiers [] (Some type_name) ks) (declarators_at (expression_at most_nodes) modifiers type_name ks >>= λ d. Some (Fields d.0, d.1)) (Some x) e) [
+      | inl method ↦ method_sound modifiers [] (Some type_name) whole ks x before method.1
       | inr fields ↦
           let d = bind_some (declarators_at (expression_at most_nodes) modifiers type_name ks) _ x fields.1 in
           let r = declarators_sound most_nodes modifiers type_name whole ks d.0 before d.1 in
@@ -110,21 +111,56 @@ typed_sound modifiers type_name whole ks x before e =
 
 unmodified_sound : (modifiers : List Modifier) (whole ks : List Lexeme) (x : Member × List Lexeme) → whole ≡ onto_all onto_modifier modifiers ks → unmodified_at modifiers ks ≡ Some x → IsRead whole x
 unmodified_sound modifiers whole ks x before e =
-    elim (either (starts_call ks) (constructor_at modifiers ks) (given (after_word words.Void ks) (λ rest. method_at modifiers None rest) (type_at ks >>= λ type_name. typed_at modifiers type_name.0 type_name.1)) (Some x) e) [
+    elim (either (starts_call ks) (constructor_at modifiers ks) (given (after_word words.Void ks) (λ rest. method_at modifiers [] None rest) (type_at ks >>= λ type_name. typed_at modifiers type_name.0 type_name.1)) (Some x) e) [
       | inl constructor ↦ constructor_sound modifiers whole ks x before constructor.1
       | inr other ↦
-          elim (given_cases (after_word words.Void ks) (λ rest. method_at modifiers None rest) (type_at ks >>= λ type_name. typed_at modifiers type_name.0 type_name.1) (Some x) other.1) [
-            | inr void ↦ method_sound modifiers None whole void.0 x (before ∙ ap (onto_all onto_modifier modifiers) (word_reads words.Void ks void.0 void.1)) void.2
+          elim (given_cases (after_word words.Void ks) (λ rest. method_at modifiers [] None rest) (type_at ks >>= λ type_name. typed_at modifiers type_name.0 type_name.1) (Some x) other.1) [
+            | inr void ↦ method_sound modifiers [] None whole void.0 x (before ∙ ap (onto_all onto_modifier modifiers) (word_reads words.Void ks void.0 void.1)) void.2
             | inl typed ↦
                 let t = bind_some (type_at ks) _ x typed.1 in
                 typed_sound modifiers t.0.0 whole t.0.1 x (before ∙ ap (onto_all onto_modifier modifiers) (type_sound ks t.0 t.1)) t.2
           ]
     ]
 
+locked_member_sound : (modifiers : List Modifier) (locked : List (List Modifier)) (whole ks : List Lexeme) (x : Member × List Lexeme) → whole ≡ onto_all onto_modifier modifiers (onto_all onto_locked locked ks) → locked_member_at modifiers locked ks ≡ Some x → IsRead whole x
+locked_member_sound modifiers locked whole ks x before e =
+    let typed : Option (Member × List Lexeme) = type_at ks >>= λ type_name. if starts_call type_name.1 then method_at modifiers locked (Some type_name.0) type_name.1 else None in
+    elim (either (starts_call ks) None (given (after_word words.Void ks) (λ rest. method_at modifiers locked None rest) typed) (Some x) e) [
+      | inl refused ↦ absurd (let none = refused.1 in cc none)
+      | inr other ↦
+          elim (given_cases (after_word words.Void ks) (λ rest. method_at modifiers locked None rest) typed (Some x) other.1) [
+            | inr void ↦ method_sound modifiers locked None whole void.0 x (before ∙ ap (λ (r : List Lexeme). onto_all onto_modifier modifiers (onto_all onto_locked locked r)) (word_reads words.Void ks void.0 void.1)) void.2
+            | inl is ↦
+                let t = bind_some (type_at ks) _ x is.1 in
+                elim (either (starts_call t.0.1) (method_at modifiers locked (Some t.0.0) t.0.1) None (Some x) t.2) [
+                  | inl method ↦ method_sound modifiers locked (Some t.0.0) whole t.0.1 x (before ∙ ap (λ (r : List Lexeme). onto_all onto_modifier modifiers (onto_all onto_locked locked r)) (type_sound ks t.0 t.1)) method.1
+                  | inr refused ↦ absurd (let none = refused.1 in cc none)
+                ]
+          ]
+    ]
+
+locked_sound : SoundItem onto_locked Anything locked_at
+locked_sound ks x e =
+    let w = bind_some (after_word words.Synchronized ks) _ x e in
+    (word_reads words.Synchronized ks w.0 w.1 ∙ ap (cons (Reserved words.Synchronized)) (modifiers_sound w.0 x w.2), tt)
+
+pub locked_shrinks : Shrinks locked_at
+locked_shrinks ks x e = omega (arith, ap length (locked_sound ks x e).0, locked_longer x.0 x.1)
+
+none_in : (ls : List (List Modifier)) → some_in ls ≡ false → ls ≡ []
+none_in [] e = refl
+none_in (l ∷ ls) e = absurd cc
+
 pub member_sound : SoundItem onto_member WellFormedMember member_at
 member_sound ks x e =
     let m = bind_some (modifiers_at ks) _ x e in
-    unmodified_sound m.0.0 ks m.0.1 x (modifiers_sound ks m.0 m.1) m.2
+    let l = bind_some (all_locked_at m.0.1) _ x m.2 in
+    let took = (many_sound onto_locked Anything starts_locked locked_at locked_sound m.0.1 l.0 l.1).0 in
+    let before : ks ≡ onto_all onto_modifier m.0.0 (onto_all onto_locked l.0.0 l.0.1) = modifiers_sound ks m.0 m.1 ∙ ap (onto_all onto_modifier m.0.0) took.spelled in
+    elim (either (some_in l.0.0) (locked_member_at m.0.0 l.0.0 l.0.1) (unmodified_at m.0.0 l.0.1) (Some x) l.2) [
+      | inl locked ↦ locked_member_sound m.0.0 l.0.0 ks l.0.1 x before locked.1
+      | inr plain ↦ unmodified_sound m.0.0 ks l.0.1 x (before ∙ ap (λ (ls : List (List Modifier)). onto_all onto_modifier m.0.0 (onto_all onto_locked ls l.0.1)) (none_in l.0.0 plain.0)) plain.1
+    ]
 
 -- ---- classes
 

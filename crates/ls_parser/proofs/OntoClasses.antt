@@ -27,9 +27,15 @@ abbrev pub onto_result : Option TypeName → List Lexeme → List Lexeme
 onto_result None rest = Reserved words.Void ∷ rest
 onto_result (Some type_name) rest = onto_type type_name rest
 
+abbrev pub onto_locked : List Modifier → List Lexeme → List Lexeme
+onto_locked ms rest = Reserved words.Synchronized ∷ onto_all onto_modifier ms rest
+
+pub locked_longer : (ms : List Modifier) (rest : List Lexeme) → length rest < length (onto_locked ms rest)
+locked_longer ms rest = omega (arith, onto_all_longer onto_modifier modifier_longer ms rest)
+
 abbrev pub onto_member : Member → List Lexeme → List Lexeme
 onto_member (Fields declaration) rest = onto_declaration declaration rest
-onto_member (Method modifiers result name parameters body) rest = onto_all onto_modifier modifiers (onto_result result (Named name ∷ onto_parameters parameters (onto_block body rest)))
+onto_member (Method modifiers locked result name parameters body) rest = onto_all onto_modifier modifiers (onto_all onto_locked locked (onto_result result (Named name ∷ onto_parameters parameters (onto_block body rest))))
 onto_member (Constructor modifiers name parameters body) rest = onto_all onto_modifier modifiers (Named name ∷ onto_parameters parameters (onto_block body rest))
 
 abbrev pub onto_class_tree : ClassTree → List Lexeme → List Lexeme
@@ -80,9 +86,9 @@ result_longer (Some t) rest = type_longer t rest
 
 pub member_longer : (m : Member) (rest : List Lexeme) → length rest < length (onto_member m rest)
 member_longer (Fields declaration) rest = declaration_longer declaration rest
-member_longer (Method modifiers result name parameters body) rest =
+member_longer (Method modifiers locked result name parameters body) rest =
     let ks : List Lexeme = Named name ∷ onto_parameters parameters (onto_block body rest) in
-    omega (arith, onto_all_longer onto_modifier modifier_longer modifiers (onto_result result ks), result_longer result ks, group_longer parameters (onto_block body rest), items_longer body (Marked signs.CloseBrace ∷ rest))
+    omega (arith, onto_all_longer onto_modifier modifier_longer modifiers (onto_all onto_locked locked (onto_result result ks)), onto_all_longer onto_locked locked_longer locked (onto_result result ks), result_longer result ks, group_longer parameters (onto_block body rest), items_longer body (Marked signs.CloseBrace ∷ rest))
 member_longer (Constructor modifiers name parameters body) rest =
     let ks : List Lexeme = Named name ∷ onto_parameters parameters (onto_block body rest) in
     omega (arith, onto_all_longer onto_modifier modifier_longer modifiers ks, group_longer parameters (onto_block body rest), items_longer body (Marked signs.CloseBrace ∷ rest))

@@ -1,5 +1,5 @@
 -- The places of members, classes and files, from what the parser's functions answer.
-use Rattle.std.proofs.Common.{◌≡◌, List, [], ◌∷◌, ◌++◌, false, true≢false, Option, Some, None, Result, Ok, Err, IfOk, sym, ap, subst, ◌∙◌, map}
+use Rattle.std.proofs.Common.{◌≡◌, List, [], ◌∷◌, ◌++◌, Bool, refl, false, true≢false, Option, Some, None, Result, Ok, Err, IfOk, sym, ap, subst, ◌∙◌, map}
 use Rattle.std.specs.Global.{Vec}
 use Rattle.ls_lexer.specs.declared.token.Span.{Span}
 use Rattle.ls_lexer.specs.declared.token.Token.{Token}
@@ -7,15 +7,17 @@ use Rattle.ls_lexer.specs.Lexemes.{lexemes}
 use Rattle.ls_lexer.specs.declared.word.Word.TheVariants as words
 use Rattle.ls_lexer.specs.declared.sign.Sign.TheVariants as signs
 use Rattle.ls_tree.specs.declared.tree.Parameter.{Parameter}
+use Rattle.ls_tree.specs.declared.tree.Modifier.{Modifier}
 use Rattle.ls_tree.specs.declared.tree.Member.{Member}
 use Rattle.ls_tree.specs.declared.tree.Class.{Class}
 use Rattle.ls_tree.specs.Trees as bare
 use Rattle.ls_tree.specs.PlacedTrees as trees
-use Rattle.ls_tree.specs.PlacedTrees.{TypeName, Declaration, Items}
+use Rattle.ls_tree.specs.Views.{bare_modifier, bare_modifiers}
+use Rattle.ls_tree.specs.PlacedTrees.{some_in, TypeName, Declaration, Items}
 use Rattle.ls_tree.specs.PlacedStatements.{placed_parameter, placed_member, placed_class}
 use Rattle.ls_parser_spelling.specs.Places.{Spot, spots, sign, named}
 use Rattle.ls_parser_spelling.specs.StatementPlaces.{word, ManyAt, none_left, BehindComma, behind_comma_at, ModifierAt, TypeAt, DeclarationAt, BlockAt}
-use Rattle.ls_parser_spelling.specs.FilePlaces.{ParameterAt, parameter_at, SomeParametersAt, some_parameters_at, ParametersAt, no_parameter_at, parameters_at, CallableAt, callable_at, ResultAt, void_at, result_at, MemberAt, fields_at, method_at, constructor_at, BodyAt, body_at, ClassAt, class_at}
+use Rattle.ls_parser_spelling.specs.FilePlaces.{ParameterAt, parameter_at, SomeParametersAt, some_parameters_at, ParametersAt, no_parameter_at, parameters_at, CallableAt, callable_at, ResultAt, void_at, result_at, LockedAt, locked_at, MemberAt, fields_at, method_at, constructor_at, BodyAt, body_at, ClassAt, class_at}
 use Rattle.ls_parser_expressions.proofs.Rows.{map_push}
 use Rattle.ls_parser_declarations.proofs.Places.{many_push, many_pushed, many_none}
 use Rattle.ls_parser.specs.ReadingClasses.{is_left}
@@ -56,9 +58,29 @@ pub constructor_is : {name : trees.Name} {parameters : List trees.Parameter} {bo
     (ms : List bare.Modifier) (ss : List Spot) → ManyAt ModifierAt ms ss behind → MemberAt (trees.Constructor name parameters body) ss rest
 constructor_is g ms ss h = constructor_at h g
 
-pub method_is : {result : Option TypeName} {name : trees.Name} {parameters : List trees.Parameter} {body : Items} {behind rest : List Spot} → CallableAt name parameters body behind rest →
-    (ms : List bare.Modifier) (ss middle : List Spot) → ManyAt ModifierAt ms ss middle → ResultAt result middle behind → MemberAt (trees.Method result name parameters body) ss rest
-method_is g ms ss middle h k = method_at h k g
+pub some_map : (ls : List (Vec Modifier)) → some_in ls ≡ some_in (map bare_modifiers ls)
+some_map [] = refl
+some_map (l ∷ ls) = refl
+
+pub method_is : (locked : List (Vec Modifier)) {result : Option TypeName} {name : trees.Name} {parameters : List trees.Parameter} {body : Items} {behind rest : List Spot} → CallableAt name parameters body behind rest →
+    (ms : List bare.Modifier) (ss inner middle : List Spot) → ManyAt ModifierAt ms ss inner → ManyAt LockedAt (map bare_modifiers locked) inner middle → ResultAt result middle behind → MemberAt (trees.Method (some_in locked) result name parameters body) ss rest
+method_is locked {result} {name} {parameters} {body} {rest = rest} g ms ss inner middle h l k =
+    subst (λ (b : Bool). MemberAt (trees.Method b result name parameters body) ss rest) (sym (some_map locked)) (method_at h l k g)
+
+pub locked_none : {ls : List (Vec Modifier)} {ss : List Spot} → ls ≡ [] → ManyAt LockedAt (map bare_modifiers ls) ss ss
+locked_none is = many_none LockedAt bare_modifiers is
+
+pub locked_pushed : (ls : List (Vec Modifier)) (l : Vec Modifier) {all : List (Vec Modifier)} {s : Span} {middle inner rest : List Spot} → all ≡ ls ++ l ∷ [] → middle ≡ word words.Synchronized s ∷ inner → ManyAt ModifierAt (map bare_modifier l.items) inner rest →
+    (ss : List Spot) → ManyAt LockedAt (map bare_modifiers ls) ss middle → ManyAt LockedAt (map bare_modifiers all) ss rest
+locked_pushed ls l {rest = rest} is a g ss h = many_pushed LockedAt bare_modifiers ls l is (subst (λ (xs : List Spot). LockedAt (bare_modifiers l) xs rest) (sym a) (locked_at g)) ss h
+
+-- where there is no `synchronized`, nothing stands between
+no_locked : (ls : List (List bare.Modifier)) {ss rest : List Spot} → some_in ls ≡ false → ManyAt LockedAt ls ss rest → ss ≡ rest
+no_locked [] e none_left = refl
+no_locked (l ∷ ls) e h = absurd cc
+
+pub unlocked : (ls : List (List bare.Modifier)) {ms : List bare.Modifier} {ss inner rest : List Spot} → some_in ls ≡ false → ManyAt ModifierAt ms ss inner → ManyAt LockedAt ls inner rest → ManyAt ModifierAt ms ss rest
+unlocked ls {ms} {ss} e h l = subst (ManyAt ModifierAt ms ss) (no_locked ls e l) h
 
 pub fields_is : {d : Declaration} {t : TypeName} {behind rest : List Spot} → ((ms : List bare.Modifier) (ss middle : List Spot) → ManyAt ModifierAt ms ss middle → TypeAt t middle behind → DeclarationAt d ss rest) →
     (ms : List bare.Modifier) (ss middle : List Spot) → ManyAt ModifierAt ms ss middle → TypeAt t middle behind → MemberAt (trees.Fields d) ss rest
@@ -68,16 +90,42 @@ pub void_is : {s : Span} {ss rest : List Spot} → ss ≡ word words.Void s ∷ 
 void_is {rest = rest} is = subst (λ (xs : List Spot). ResultAt None xs rest) (sym is) void_at
 
 pub with_result : {R E : Type 0} (r : Result R E) (P : R → List Spot → Type 0) (t : TypeName) (behind : List Spot) →
-    IfOk r (λ m. (ms : List bare.Modifier) (ss middle : List Spot) → ManyAt ModifierAt ms ss middle → ResultAt (Some t) middle behind → P m ss) →
+    {ls : List (Vec Modifier)} → ls ≡ [] →
+    IfOk r (λ m. (ms : List bare.Modifier) (ss inner middle : List Spot) → ManyAt ModifierAt ms ss inner → ManyAt LockedAt (map bare_modifiers ls) inner middle → ResultAt (Some t) middle behind → P m ss) →
     IfOk r (λ m. (ms : List bare.Modifier) (ss middle : List Spot) → ManyAt ModifierAt ms ss middle → TypeAt t middle behind → P m ss)
-with_result (Ok m) P t behind f = λ ms ss middle h k. f ms ss middle h (result_at k)
-with_result (Err e) P t behind f = tt
+with_result (Ok m) P t behind none f = λ ms ss middle h k. f ms ss middle middle h (locked_none none) (result_at k)
+with_result (Err e) P t behind none f = tt
 
 pub without_result : {R E : Type 0} (r : Result R E) (P : R → List Spot → Type 0) {s : Span} {here behind : List Spot} → here ≡ word words.Void s ∷ behind →
-    IfOk r (λ m. (ms : List bare.Modifier) (ss middle : List Spot) → ManyAt ModifierAt ms ss middle → ResultAt None middle behind → P m ss) →
+    {ls : List (Vec Modifier)} → ls ≡ [] →
+    IfOk r (λ m. (ms : List bare.Modifier) (ss inner middle : List Spot) → ManyAt ModifierAt ms ss inner → ManyAt LockedAt (map bare_modifiers ls) inner middle → ResultAt None middle behind → P m ss) →
     IfOk r (λ m. (ms : List bare.Modifier) (ss : List Spot) → ManyAt ModifierAt ms ss here → P m ss)
-without_result (Ok m) P {here = here} is f = λ ms ss h. f ms ss here h (void_is is)
-without_result (Err e) P is f = tt
+without_result (Ok m) P {here = here} is none f = λ ms ss h. f ms ss here here h (locked_none none) (void_is is)
+without_result (Err e) P is none f = tt
+
+-- the same of a synchronized method
+pub locked_with_result : {R E : Type 0} (r : Result R E) (P : R → List Spot → Type 0) (ls : List (List bare.Modifier)) {t : TypeName} {here behind : List Spot} → TypeAt t here behind →
+    IfOk r (λ m. (ms : List bare.Modifier) (ss inner middle : List Spot) → ManyAt ModifierAt ms ss inner → ManyAt LockedAt ls inner middle → ResultAt (Some t) middle behind → P m ss) →
+    IfOk r (λ m. (ms : List bare.Modifier) (ss inner : List Spot) → ManyAt ModifierAt ms ss inner → ManyAt LockedAt ls inner here → P m ss)
+locked_with_result (Ok m) P ls {here = here} k f = λ ms ss inner h l. f ms ss inner here h l (result_at k)
+locked_with_result (Err e) P ls k f = tt
+
+pub locked_without_result : {R E : Type 0} (r : Result R E) (P : R → List Spot → Type 0) (ls : List (List bare.Modifier)) {s : Span} {here behind : List Spot} → here ≡ word words.Void s ∷ behind →
+    IfOk r (λ m. (ms : List bare.Modifier) (ss inner middle : List Spot) → ManyAt ModifierAt ms ss inner → ManyAt LockedAt ls inner middle → ResultAt None middle behind → P m ss) →
+    IfOk r (λ m. (ms : List bare.Modifier) (ss inner : List Spot) → ManyAt ModifierAt ms ss inner → ManyAt LockedAt ls inner here → P m ss)
+locked_without_result (Ok m) P ls {here = here} is f = λ ms ss inner h l. f ms ss inner here h l (void_is is)
+locked_without_result (Err e) P ls is f = tt
+
+-- a member behind its modifiers
+pub plain_member : {R E : Type 0} (r : Result R E) (P : R → List Spot → Type 0) (ls : List (List bare.Modifier)) {ms : List bare.Modifier} {ss inner rest : List Spot} → some_in ls ≡ false → ManyAt ModifierAt ms ss inner → ManyAt LockedAt ls inner rest →
+    IfOk r (λ m. (ms : List bare.Modifier) (ss : List Spot) → ManyAt ModifierAt ms ss rest → P m ss) → IfOk r (λ m. P m ss)
+plain_member (Ok m) P ls {ms} {ss} e h l f = f ms ss (unlocked ls e h l)
+plain_member (Err x) P ls e h l f = tt
+
+pub locked_member : {R E : Type 0} (r : Result R E) (P : R → List Spot → Type 0) {ls : List (List bare.Modifier)} {ms : List bare.Modifier} {ss inner rest : List Spot} → ManyAt ModifierAt ms ss inner → ManyAt LockedAt ls inner rest →
+    IfOk r (λ m. (ms : List bare.Modifier) (ss inner : List Spot) → ManyAt ModifierAt ms ss inner → ManyAt LockedAt ls inner rest → P m ss) → IfOk r (λ m. P m ss)
+locked_member (Ok m) P {ms = ms} {ss} {inner} h l f = f ms ss inner h l
+locked_member (Err x) P h l f = tt
 
 pub members_none : {ms : List Member} {ss : List Spot} → ms ≡ [] → ManyAt MemberAt (map placed_member ms) ss ss
 members_none is = many_none MemberAt placed_member is

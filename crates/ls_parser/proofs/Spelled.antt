@@ -5,13 +5,13 @@ use Rattle.std.proofs.lemmas.List.{append-nil}
 use Rattle.ls_lexer.specs.declared.sign.Sign.TheVariants as signs
 use Rattle.ls_lexer.specs.declared.word.Word.TheVariants as words
 use Rattle.ls_lexer.specs.Lexemes.{Lexeme, Named, Reserved, Marked}
-use Rattle.ls_tree.specs.Trees.{Text, Expression, Modifier, Public, Protected, Private, Final, Volatile, Annotation, TypeName, Int, Boolean, BooleanArray, Class, Markable, Declarator, Declaration, Statement, Block, Empty, If, IfElse, While, Break, Continue, Return, Try, Assign, Evaluate, Items, NoItem, Do, Declare, Parameter, Member, Fields, Method, Constructor, ClassTree, Dotted, Import, File}
-use Rattle.ls_parser_spelling.specs.Spelling.{spell_expression, spell_modifier, spell_type, spell_initial, spell_declarator, spell_declaration, spell_label, spell_label_before, spell_value, spell_statement, spell_items, in_parens, in_braces, spell_parameter, spell_parameters, spell_result, spell_member, spell_class, spell_dotted, spell_all, spell_import, spell_package, spell}
+use Rattle.ls_tree.specs.Trees.{Text, Expression, Modifier, Public, Protected, Private, Final, Volatile, Annotation, TypeName, Int, Boolean, BooleanArray, Class, Markable, Declarator, Declaration, Simple, Statement, Block, Empty, If, IfElse, While, For, Break, Continue, Return, Try, Perform, Synchronized, Assign, Add, Count, Evaluate, Opening, Declares, Performs, Items, NoItem, Do, Declare, Parameter, Member, Fields, Method, Constructor, ClassTree, Dotted, Import, File}
+use Rattle.ls_parser_spelling.specs.Spelling.{spell_expression, spell_modifier, spell_type, spell_initial, spell_declarator, spell_declaration, spell_label, spell_label_before, spell_value, spell_simple, spell_simples, spell_opening, spell_head, count_sign, spell_statement, spell_items, in_parens, in_braces, spell_parameter, spell_parameters, spell_result, spell_locked, spell_member, spell_class, spell_dotted, spell_all, spell_import, spell_package, spell}
 use Rattle.ls_parser_expressions.proofs.Onto.{onto, onto_spells}
 use Rattle.ls_parser_expressions.proofs.Lists.{onto_all, onto_all_spells}
 use Rattle.ls_parser_declarations.proofs.OntoDeclarations.{onto_modifier, onto_type, onto_initial, onto_declarator, onto_next_declarator, onto_declaration}
-use Rattle.ls_parser_statements.proofs.OntoStatements.{onto_label, onto_label_before, onto_value, onto_condition, onto_statement, onto_items, onto_block}
-use Rattle.ls_parser.proofs.OntoClasses.{onto_parameter, onto_next_parameter, onto_group, onto_parameters, onto_result, onto_member, onto_class_tree, onto_part, onto_dotted, onto_star, onto_import, onto_header, onto_file}
+use Rattle.ls_parser_statements.proofs.OntoStatements.{onto_label, onto_label_before, onto_value, onto_condition, onto_simple, onto_next_simple, onto_simples, onto_opening, onto_head, onto_statement, onto_items, onto_block}
+use Rattle.ls_parser.proofs.OntoClasses.{onto_parameter, onto_next_parameter, onto_group, onto_parameters, onto_result, onto_locked, onto_member, onto_class_tree, onto_part, onto_dotted, onto_star, onto_import, onto_header, onto_file}
 
 modifier_spells : (m : Modifier) (rest : List Lexeme) → onto_modifier m rest ≡ spell_modifier m ++ rest
 modifier_spells Public rest = refl
@@ -73,6 +73,36 @@ condition_spells c rest = ap (cons (Marked signs.OpenParen)) (onto_spells c (Mar
 braced : (ts : Items) (rest : List Lexeme) → onto_items ts (Marked signs.CloseBrace ∷ rest) ≡ spell_items ts ++ Marked signs.CloseBrace ∷ rest → onto_block ts rest ≡ in_braces (spell_items ts) ++ rest
 braced ts rest e = ap (cons (Marked signs.OpenBrace)) (e ∙ sym (append_assoc (spell_items ts) (Marked signs.CloseBrace ∷ []) rest))
 
+both_spell : (target value : Expression) (k : Lexeme) (rest : List Lexeme) → onto target (k ∷ onto value rest) ≡ (spell_expression target ++ k ∷ spell_expression value) ++ rest
+both_spell target value k rest =
+    onto_spells target (k ∷ onto value rest) ∙ ap (λ (ks : List Lexeme). spell_expression target ++ k ∷ ks) (onto_spells value rest) ∙ sym (append_assoc (spell_expression target) (k ∷ spell_expression value) rest)
+
+simple_spells : (s : Simple) (rest : List Lexeme) → onto_simple s rest ≡ spell_simple s ++ rest
+simple_spells (Assign target value) rest = both_spell target value (Marked signs.Assign) rest
+simple_spells (Add target value) rest = both_spell target value (Marked signs.PlusAssign) rest
+simple_spells (Count up true target) rest = ap (cons (Marked (count_sign up))) (onto_spells target rest)
+simple_spells (Count up false target) rest = onto_spells target (Marked (count_sign up) ∷ rest) ∙ sym (append_assoc (spell_expression target) (Marked (count_sign up) ∷ []) rest)
+simple_spells (Evaluate value) rest = onto_spells value rest
+
+simples_spell : (ss : List Simple) (rest : List Lexeme) → onto_simples ss rest ≡ spell_simples ss ++ rest
+simples_spell [] rest = refl
+simples_spell (s ∷ ss) rest =
+    simple_spells s (onto_all onto_next_simple ss rest)
+    ∙ ap (on (spell_simple s)) (onto_all_spells onto_next_simple (λ t. Marked signs.Comma ∷ spell_simple t) (λ t rest'. ap (cons (Marked signs.Comma)) (simple_spells t rest')) ss rest)
+    ∙ sym (append_assoc (spell_simple s) (flat_map (λ t. Marked signs.Comma ∷ spell_simple t) ss) rest)
+
+opening_spells : (o : Opening) (rest : List Lexeme) → onto_opening o rest ≡ spell_opening o ++ rest
+opening_spells (Declares d) rest = declaration_spells d rest
+opening_spells (Performs ss) rest = simples_spell ss (Marked signs.Semicolon ∷ rest) ∙ sym (append_assoc (spell_simples ss) (Marked signs.Semicolon ∷ []) rest)
+
+head_spells : (o : Opening) (c : Option Expression) (us : List Simple) (rest : List Lexeme) → onto_head o c us rest ≡ in_parens (spell_head o c us) ++ rest
+head_spells o c us rest =
+    ap (cons (Marked signs.OpenParen)) (
+    opening_spells o (onto_value c (Marked signs.Semicolon ∷ onto_simples us (Marked signs.CloseParen ∷ rest)))
+    ∙ ap (on (spell_opening o)) (value_spells c (Marked signs.Semicolon ∷ onto_simples us (Marked signs.CloseParen ∷ rest))
+    ∙ ap (λ (ks : List Lexeme). spell_value c ++ Marked signs.Semicolon ∷ ks) (simples_spell us (Marked signs.CloseParen ∷ rest)))
+    ∙ simp append_assoc)
+
 mutual
   statement_spells : (t : Statement) (rest : List Lexeme) → onto_statement t rest ≡ spell_statement t ++ rest
   statement_spells (Block items) rest = braced items rest (items_spell items (Marked signs.CloseBrace ∷ rest))
@@ -87,17 +117,19 @@ mutual
       label_before_spells label (Reserved words.While ∷ onto_condition condition (onto_statement body rest))
       ∙ ap (λ (ks : List Lexeme). spell_label_before label ++ Reserved words.While ∷ ks) (condition_spells condition (onto_statement body rest) ∙ ap (on (in_parens (spell_expression condition))) (statement_spells body rest) ∙ sym (append_assoc (in_parens (spell_expression condition)) (spell_statement body) rest))
       ∙ sym (append_assoc (spell_label_before label) (Reserved words.While ∷ (in_parens (spell_expression condition) ++ spell_statement body)) rest)
+  statement_spells (For label o c us body) rest =
+      label_before_spells label (Reserved words.For ∷ onto_head o c us (onto_statement body rest))
+      ∙ ap (λ (ks : List Lexeme). spell_label_before label ++ Reserved words.For ∷ ks) (head_spells o c us (onto_statement body rest) ∙ ap (on (in_parens (spell_head o c us))) (statement_spells body rest) ∙ sym (append_assoc (in_parens (spell_head o c us)) (spell_statement body) rest))
+      ∙ sym (append_assoc (spell_label_before label) (Reserved words.For ∷ (in_parens (spell_head o c us) ++ spell_statement body)) rest)
   statement_spells (Break label) rest = ap (cons (Reserved words.Break)) (label_spells label (Marked signs.Semicolon ∷ rest) ∙ sym (append_assoc (spell_label label) (Marked signs.Semicolon ∷ []) rest))
   statement_spells (Continue label) rest = ap (cons (Reserved words.Continue)) (label_spells label (Marked signs.Semicolon ∷ rest) ∙ sym (append_assoc (spell_label label) (Marked signs.Semicolon ∷ []) rest))
   statement_spells (Return value) rest = ap (cons (Reserved words.Return)) (value_spells value (Marked signs.Semicolon ∷ rest) ∙ sym (append_assoc (spell_value value) (Marked signs.Semicolon ∷ []) rest))
   statement_spells (Try body finally) rest =
       ap (cons (Reserved words.Try)) (braced body (Reserved words.Finally ∷ onto_block finally rest) (items_spell body (Marked signs.CloseBrace ∷ Reserved words.Finally ∷ onto_block finally rest)) ∙ ap (λ (ks : List Lexeme). in_braces (spell_items body) ++ Reserved words.Finally ∷ ks) (braced finally rest (items_spell finally (Marked signs.CloseBrace ∷ rest)))
       ∙ sym (append_assoc (in_braces (spell_items body)) (Reserved words.Finally ∷ in_braces (spell_items finally)) rest))
-  statement_spells (Assign target value) rest =
-      onto_spells target (Marked signs.Assign ∷ onto value (Marked signs.Semicolon ∷ rest))
-      ∙ ap (λ (ks : List Lexeme). spell_expression target ++ Marked signs.Assign ∷ ks) (onto_spells value (Marked signs.Semicolon ∷ rest) ∙ sym (append_assoc (spell_expression value) (Marked signs.Semicolon ∷ []) rest))
-      ∙ sym (append_assoc (spell_expression target) (Marked signs.Assign ∷ (spell_expression value ++ Marked signs.Semicolon ∷ [])) rest)
-  statement_spells (Evaluate value) rest = onto_spells value (Marked signs.Semicolon ∷ rest) ∙ sym (append_assoc (spell_expression value) (Marked signs.Semicolon ∷ []) rest)
+  statement_spells (Synchronized target body) rest =
+      ap (cons (Reserved words.Synchronized)) (condition_spells target (Marked signs.OpenBrace ∷ onto_items body (Marked signs.CloseBrace ∷ rest)) ∙ ap (on (in_parens (spell_expression target))) (braced body rest (items_spell body (Marked signs.CloseBrace ∷ rest))) ∙ sym (append_assoc (in_parens (spell_expression target)) (in_braces (spell_items body)) rest))
+  statement_spells (Perform simple) rest = simple_spells simple (Marked signs.Semicolon ∷ rest) ∙ sym (append_assoc (spell_simple simple) (Marked signs.Semicolon ∷ []) rest)
 
   items_spell : (ts : Items) (rest : List Lexeme) → onto_items ts rest ≡ spell_items ts ++ rest
   items_spell NoItem rest = refl
@@ -127,11 +159,14 @@ result_spells : (t : Option TypeName) (rest : List Lexeme) → onto_result t res
 result_spells None rest = refl
 result_spells (Some t) rest = type_spells t rest
 
+locked_spells : (ms : List Modifier) (rest : List Lexeme) → onto_locked ms rest ≡ spell_locked ms ++ rest
+locked_spells ms rest = ap (cons (Reserved words.Synchronized)) (modifiers_spell ms rest)
+
 member_spells : (m : Member) (rest : List Lexeme) → onto_member m rest ≡ spell_member m ++ rest
 member_spells (Fields d) rest = declaration_spells d rest
-member_spells (Method modifiers result name parameters body) rest =
+member_spells (Method modifiers locked result name parameters body) rest =
     let ks : List Lexeme = Named name ∷ onto_parameters parameters (onto_block body rest) in
-    modifiers_spell modifiers (onto_result result ks) ∙ ap (on (flat_map spell_modifier modifiers)) (result_spells result ks ∙ ap (λ (r : List Lexeme). spell_result result ++ Named name ∷ r) (parameters_spell parameters (onto_block body rest) ∙ ap (on (in_parens (spell_parameters parameters))) (block_spells body rest)))
+    modifiers_spell modifiers (onto_all onto_locked locked (onto_result result ks)) ∙ ap (on (flat_map spell_modifier modifiers)) (onto_all_spells onto_locked spell_locked locked_spells locked (onto_result result ks) ∙ ap (on (flat_map spell_locked locked)) (result_spells result ks ∙ ap (λ (r : List Lexeme). spell_result result ++ Named name ∷ r) (parameters_spell parameters (onto_block body rest) ∙ ap (on (in_parens (spell_parameters parameters))) (block_spells body rest))))
     ∙ simp append_assoc
 member_spells (Constructor modifiers name parameters body) rest =
     modifiers_spell modifiers (Named name ∷ onto_parameters parameters (onto_block body rest)) ∙ ap (λ (r : List Lexeme). flat_map spell_modifier modifiers ++ Named name ∷ r) (parameters_spell parameters (onto_block body rest) ∙ ap (on (in_parens (spell_parameters parameters))) (block_spells body rest))

@@ -33,11 +33,11 @@ pub constructor_fails : (e : TextFault) (modifiers : List Modifier) (ks : List L
 constructor_fails e modifiers ks h =
     subst (Fails e) (sym (callable_is (Constructor modifiers) ks)) (fails_first e (callable_at ks) (λ c. Some (Constructor modifiers c.0.0 c.0.1 c.0.2, c.1)) h)
 
-pub method_found : (modifiers : List Modifier) (result : Option TypeName) (ks : List Lexeme) (name : Text) (parameters : List Parameter) (body : Items) (rest : List Lexeme)
-    → callable_at ks ≡ Some ((name, parameters, body), rest) → method_at modifiers result ks ≡ Some (Method modifiers result name parameters body, rest)
-method_found modifiers result ks name parameters body rest e =
-    callable_is (Method modifiers result) ks ∙ ap (λ (o : Option ((Text × List Parameter × Items) × List Lexeme)). o >>= λ c. Some (Method modifiers result c.0.0 c.0.1 c.0.2, c.1)) e
+pub method_found : (modifiers : List Modifier) (locked : List (List Modifier)) (result : Option TypeName) (ks : List Lexeme) (name : Text) (parameters : List Parameter) (body : Items) (rest : List Lexeme)
+    → callable_at ks ≡ Some ((name, parameters, body), rest) → method_at modifiers locked result ks ≡ Some (Method modifiers locked result name parameters body, rest)
+method_found modifiers locked result ks name parameters body rest e =
+    callable_is (Method modifiers locked result) ks ∙ ap (λ (o : Option ((Text × List Parameter × Items) × List Lexeme)). o >>= λ c. Some (Method modifiers locked result c.0.0 c.0.1 c.0.2, c.1)) e
 
-pub method_fails : (e : TextFault) (modifiers : List Modifier) (result : Option TypeName) (ks : List Lexeme) → Fails e (callable_at ks) → Fails e (method_at modifiers result ks)
-method_fails e modifiers result ks h =
-    subst (Fails e) (sym (callable_is (Method modifiers result) ks)) (fails_first e (callable_at ks) (λ c. Some (Method modifiers result c.0.0 c.0.1 c.0.2, c.1)) h)
+pub method_fails : (e : TextFault) (modifiers : List Modifier) (locked : List (List Modifier)) (result : Option TypeName) (ks : List Lexeme) → Fails e (callable_at ks) → Fails e (method_at modifiers locked result ks)
+method_fails e modifiers locked result ks h =
+    subst (Fails e) (sym (callable_is (Method modifiers locked result) ks)) (fails_first e (callable_at ks) (λ c. Some (Method modifiers locked result c.0.0 c.0.1 c.0.2, c.1)) h)

@@ -4,6 +4,7 @@ use Rattle.ls_lexer.specs.declared.word.Word.TheVariants as words
 use Rattle.ls_lexer.specs.declared.sign.Sign.TheVariants as signs
 use Rattle.ls_lexer.specs.Lexemes.{Lexeme}
 use Rattle.ls_tree.specs.Trees.{Text, Modifier, TypeName, Items, Parameter, Member, Fields, Method, Constructor, ClassTree, Dotted, Import, File}
+use Rattle.ls_tree.specs.PlacedTrees.{some_in}
 use Rattle.ls_tree.specs.WellFormed.{most_nodes}
 use Rattle.ls_parser_tokens.specs.Reading.{◌>>=◌, Reader, given, after_sign, after_word, name_at, starts, many_at, not_yet, group_at}
 use Rattle.ls_parser_expressions.specs.ReadingExpressions.{expression_at}
@@ -36,28 +37,47 @@ constructor_at modifiers ks =
     name_at ks >>= λ name. parameters_at name.1 >>= λ parameters.
     block_at most_nodes parameters.1 >>= λ body. Some (Constructor modifiers name.0 parameters.0 body.0, body.1)
 
+-- `synchronized`, and the modifiers behind it
+abbrev pub starts_locked : List Lexeme → Bool
+starts_locked ks = is_some (after_word words.Synchronized ks)
+
+abbrev pub locked_at : Reader (List Modifier)
+locked_at ks = after_word words.Synchronized ks >>= λ rest. modifiers_at rest
+
+abbrev pub all_locked_at : Reader (List (List Modifier))
+all_locked_at ks = many_at starts_locked locked_at ks
+
 -- behind modifiers and a result
-abbrev pub method_at : List Modifier → Option TypeName → Reader Member
-method_at modifiers result ks =
+abbrev pub method_at : List Modifier → List (List Modifier) → Option TypeName → Reader Member
+method_at modifiers locked result ks =
     name_at ks >>= λ name. parameters_at name.1 >>= λ parameters.
-    block_at most_nodes parameters.1 >>= λ body. Some (Method modifiers result name.0 parameters.0 body.0, body.1)
+    block_at most_nodes parameters.1 >>= λ body. Some (Method modifiers locked result name.0 parameters.0 body.0, body.1)
 
 -- behind modifiers and a type
 abbrev pub typed_at : List Modifier → TypeName → Reader Member
 typed_at modifiers type_name ks =
     if starts_call ks
-    then method_at modifiers (Some type_name) ks
+    then method_at modifiers [] (Some type_name) ks
     else (declarators_at (expression_at most_nodes) modifiers type_name ks >>= λ d. Some (Fields d.0, d.1))
 
 -- behind modifiers
 abbrev pub unmodified_at : List Modifier → Reader Member
 unmodified_at modifiers ks =
     if starts_call ks then constructor_at modifiers ks else
-    given (after_word words.Void ks) (λ rest. method_at modifiers None rest)
+    given (after_word words.Void ks) (λ rest. method_at modifiers [] None rest)
     (type_at ks >>= λ type_name. typed_at modifiers type_name.0 type_name.1)
 
+-- behind the modifiers of what is synchronized: it is a method
+abbrev pub locked_member_at : List Modifier → List (List Modifier) → Reader Member
+locked_member_at modifiers locked ks =
+    if starts_call ks then None else
+    given (after_word words.Void ks) (λ rest. method_at modifiers locked None rest)
+    (type_at ks >>= λ type_name. if starts_call type_name.1 then method_at modifiers locked (Some type_name.0) type_name.1 else None)
+
 abbrev pub member_at : Reader Member
-member_at ks = modifiers_at ks >>= λ modifiers. unmodified_at modifiers.0 modifiers.1
+member_at ks =
+    modifiers_at ks >>= λ modifiers. all_locked_at modifiers.1 >>= λ locked.
+    if some_in locked.0 then locked_member_at modifiers.0 locked.0 locked.1 else unmodified_at modifiers.0 locked.1
 
 abbrev pub class_of : List Modifier → Text → List Member → ClassTree
 class_of modifiers name members = record { modifiers = modifiers; name = name; members = members }

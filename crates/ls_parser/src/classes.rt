@@ -3,16 +3,17 @@
 ghost use Rattle.std.specs.Prelude.{◌≡◌, ◌+◌, ◌-◌, ◌<◌, ◌≤◌, ◌^◌, ◌++◌, ◌∷◌, List, [], IfOk, Some, None, length, map, option_map, is_some};
 ghost use Rattle.ls_lexer.specs.Lexemes.{lexemes};
 ghost use Rattle.ls_lexer.specs.declared.sign.Sign.TheVariants as signs;
-ghost use Rattle.ls_tree.specs.Views.{name_text, bare_modifier, bare_type, bare_parameter, bare_block, bare_member, bare_class};
+ghost use Rattle.ls_tree.specs.Views.{name_text, bare_modifier, bare_modifiers, bare_type, bare_parameter, bare_block, bare_member, bare_class};
 ghost use Rattle.ls_tree.specs.Trees as trees;
+ghost use Rattle.ls_tree.specs.PlacedTrees.{some_in};
 ghost use Rattle.ls_tree.specs.Placed.{placed_name};
 ghost use Rattle.ls_tree.specs.PlacedStatements.{placed_type, placed_items, placed_parameter, placed_member, placed_class};
 ghost use Rattle.ls_parser_spelling.specs.Places.{Spot, sign, spots};
 ghost use Rattle.ls_parser_spelling.specs.StatementPlaces.{ManyAt, ModifierAt, TypeAt};
-ghost use Rattle.ls_parser_spelling.specs.FilePlaces.{ParameterAt, SomeParametersAt, ParametersAt, CallableAt, ResultAt, MemberAt, BodyAt, ClassAt};
+ghost use Rattle.ls_parser_spelling.specs.FilePlaces.{ParameterAt, SomeParametersAt, ParametersAt, CallableAt, ResultAt, LockedAt, MemberAt, BodyAt, ClassAt};
 ghost use Rattle.ls_parser_tokens.specs.Answers.{Gives, Finds};
 ghost use Rattle.ls_parser_tokens.specs.Reading.{one_more, behind_comma, many_at, not_yet, group_at};
-ghost use Rattle.ls_parser.specs.ReadingClasses.{parameter_at, parameters_at, starts_call, callable_at, constructor_at, method_at, typed_at, unmodified_at, member_at, class_body_at, class_at, is_left};
+ghost use Rattle.ls_parser.specs.ReadingClasses.{parameter_at, parameters_at, starts_call, callable_at, constructor_at, starts_locked, locked_at, method_at, typed_at, unmodified_at, locked_member_at, member_at, class_body_at, class_at, is_left};
 
 use ls_lexer::fault::TextFault;
 use ls_lexer::sign::Sign;
@@ -22,7 +23,7 @@ use ls_parser_declarations::declarations::{declarators, modifiers, type_name};
 use ls_parser_statements::statements::block;
 use ls_parser_tokens::tokens::{
     Context, Read, closed, expect, expect_word, name, name_part, push, sign_part, starts_with,
-    word_part,
+    syntax, word_part,
 };
 use ls_tree::tree::{Block, Class, Constructor, Member, Method, Modifier, Name, Parameter, Type};
 
@@ -165,16 +166,18 @@ fn constructor<'t, 'a>(
 fn method<'t, 'a>(
     context: Context,
     modifiers: Vec<Modifier>,
+    locked: Vec<Vec<Modifier>>,
     answer: Option<Type>,
     tokens: &'t [Token<'a>],
 ) -> Result<Read<'t, 'a, Member>, TextFault>
-    ensures read { Gives (λ m. (bare_member m.tree, lexemes m.rest.now)) result (method_at (map bare_modifier modifiers.items) (option_map bare_type answer) (lexemes tokens.now)) }
-    ensures places { IfOk result (λ m. (ms : List trees.Modifier) (ss middle : List Spot) → ManyAt ModifierAt ms ss middle → ResultAt (option_map placed_type answer) middle (spots tokens.now) → MemberAt (placed_member m.tree) ss (spots m.rest.now)) }
+    ensures read { Gives (λ m. (bare_member m.tree, lexemes m.rest.now)) result (method_at (map bare_modifier modifiers.items) (map bare_modifiers locked.items) (option_map bare_type answer) (lexemes tokens.now)) }
+    ensures places { IfOk result (λ m. (ms : List trees.Modifier) (ss inner middle : List Spot) → ManyAt ModifierAt ms ss inner → ManyAt LockedAt (map bare_modifiers locked.items) inner middle → ResultAt (option_map placed_type answer) middle (spots tokens.now) → MemberAt (placed_member m.tree) ss (spots m.rest.now)) }
 {
     let found = callable(context, tokens)?;
     Ok(Read {
         tree: Member::Method(Method {
             modifiers,
+            locked,
             result: answer,
             name: found.tree.0,
             parameters: found.tree.1,
@@ -197,7 +200,13 @@ fn typed<'t, 'a>(
     ensures places { IfOk result (λ m. (ms : List trees.Modifier) (ss middle : List Spot) → ManyAt ModifierAt ms ss middle → TypeAt (placed_type type_name) middle (spots tokens.now) → MemberAt (placed_member m.tree) ss (spots m.rest.now)) }
 {
     if starts_call(tokens) {
-        return method(context, modifiers, Some(type_name), tokens);
+        return method(
+            context,
+            modifiers,
+            Vec::new(context.alloc),
+            Some(type_name),
+            tokens,
+        );
     }
     let fields = declarators(context, all, modifiers, type_name, tokens, MOST_NODES)?;
     Ok(Read {
@@ -220,10 +229,88 @@ fn unmodified<'t, 'a>(
         return constructor(context, modifiers, tokens);
     }
     if let Some(void) = word_part(tokens, Word::Void) {
-        return method(context, modifiers, None, void.rest);
+        return method(context, modifiers, Vec::new(context.alloc), None, void.rest);
     }
     let type_name = type_name(context, tokens)?;
     typed(context, all, modifiers, type_name.tree, type_name.rest)
+}
+
+fn starts_locked(tokens: &[Token]) -> bool
+    ensures { result ≡ starts_locked (lexemes tokens.now) }
+{
+    word_part(tokens, Word::Synchronized).is_some()
+}
+
+// Each `synchronized`, with the modifiers behind it.
+#[tactic(auto, using(crate::proofs::Places::locked_none))]
+fn all_locked<'t, 'a>(
+    context: Context,
+    tokens: &'t [Token<'a>],
+) -> Result<Read<'t, 'a, Vec<Vec<Modifier>>>, TextFault>
+    ensures read { Gives (λ l. (map bare_modifiers l.tree.items, lexemes l.rest.now)) result (many_at starts_locked locked_at (lexemes tokens.now)) }
+    ensures places { IfOk result (λ l. ManyAt LockedAt (map bare_modifiers l.tree.items) (spots tokens.now) (spots l.rest.now)) }
+{
+    let mut all = Read {
+        tree: Vec::new(context.alloc),
+        rest: tokens,
+    };
+    while starts_locked(all.rest) {
+        all = one_locked(context, all)?;
+    }
+    Ok(all)
+}
+
+#[tactic(auto, using(ls_parser_expressions::proofs::Rows::map_push, crate::proofs::Places::locked_pushed))]
+fn one_locked<'t, 'a>(
+    context: Context,
+    before: Read<'t, 'a, Vec<Vec<Modifier>>>,
+) -> Result<Read<'t, 'a, Vec<Vec<Modifier>>>, TextFault>
+    ensures read { Gives (λ l. (map bare_modifiers l.tree.items, lexemes l.rest.now)) result (one_more locked_at (map bare_modifiers before.entry.tree.items) (lexemes before.entry.rest.now)) }
+    ensures places { IfOk result (λ l. (ss : List Spot) → ManyAt LockedAt (map bare_modifiers before.entry.tree.items) ss (spots before.entry.rest.now) → ManyAt LockedAt (map bare_modifiers l.tree.items) ss (spots l.rest.now)) }
+{
+    let word = expect_word(context, before.rest, Word::Synchronized)?;
+    let found = modifiers(context, word.rest)?;
+    Ok(Read {
+        tree: push(before.tree, found.tree)?,
+        rest: found.rest,
+    })
+}
+
+// What stands behind the modifiers of what is synchronized, the first of those words among the tokens at the front.
+fn locked_member<'t, 'a>(
+    context: Context,
+    front: &'t [Token<'a>],
+    modifiers: Vec<Modifier>,
+    locked: Vec<Vec<Modifier>>,
+    tokens: &'t [Token<'a>],
+) -> Result<Read<'t, 'a, Member>, TextFault>
+    ensures read { Gives (λ m. (bare_member m.tree, lexemes m.rest.now)) result (locked_member_at (map bare_modifier modifiers.items) (map bare_modifiers locked.items) (lexemes tokens.now)) }
+    ensures places { IfOk result (λ m. (ms : List trees.Modifier) (ss inner : List Spot) → ManyAt ModifierAt ms ss inner → ManyAt LockedAt (map bare_modifiers locked.items) inner (spots tokens.now) → MemberAt (placed_member m.tree) ss (spots m.rest.now)) }
+{
+    if starts_call(tokens) {
+        return Err(syntax(context, front));
+    }
+    if let Some(void) = word_part(tokens, Word::Void) {
+        return method(context, modifiers, locked, None, void.rest);
+    }
+    let type_name = type_name(context, tokens)?;
+    if !starts_call(type_name.rest) {
+        return Err(syntax(context, front));
+    }
+    method(
+        context,
+        modifiers,
+        locked,
+        Some(type_name.tree),
+        type_name.rest,
+    )
+}
+
+#[tactic(auto, using(crate::proofs::Places::some_map))]
+fn some_in(locked: &[Vec<Modifier>]) -> bool
+    ensures { result ≡ some_in (map bare_modifiers locked.now) }
+{
+    locked.split_first().is_some()
 }
 
 fn member<'t, 'a>(
@@ -234,7 +321,17 @@ fn member<'t, 'a>(
     ensures places { IfOk result (λ m. MemberAt (placed_member m.tree) (spots tokens.now) (spots m.rest.now)) }
 {
     let modifiers = modifiers(context, tokens)?;
-    unmodified(context, tokens, modifiers.tree, modifiers.rest)
+    let locked = all_locked(context, modifiers.rest)?;
+    if some_in(&locked.tree) {
+        return locked_member(
+            context,
+            modifiers.rest,
+            modifiers.tree,
+            locked.tree,
+            locked.rest,
+        );
+    }
+    unmodified(context, tokens, modifiers.tree, locked.rest)
 }
 
 #[tactic(auto, using(crate::proofs::Places::members_none))]

@@ -9,6 +9,10 @@ use Rattle.ls_tree.specs.declared.tree.«Type».{«Type»}
 use Rattle.ls_tree.specs.declared.tree.«Type».TheVariants as types
 use Rattle.ls_tree.specs.declared.tree.Declarator.{Declarator}
 use Rattle.ls_tree.specs.declared.tree.Declaration.{Declaration}
+use Rattle.ls_tree.specs.declared.tree.Simple.{Simple}
+use Rattle.ls_tree.specs.declared.tree.Simple.TheVariants as simples
+use Rattle.ls_tree.specs.declared.tree.Opening.{Opening}
+use Rattle.ls_tree.specs.declared.tree.Opening.TheVariants as openings
 use Rattle.ls_tree.specs.declared.tree.Statement.{Statement, Row_of-BlockItem, end_of-BlockItem, more_of-BlockItem}
 use Rattle.ls_tree.specs.declared.tree.Statement as statement_parts
 use Rattle.ls_tree.specs.declared.tree.Statement.TheVariants as statements
@@ -19,13 +23,13 @@ use Rattle.ls_tree.specs.declared.tree.Member.{Member}
 use Rattle.ls_tree.specs.declared.tree.Member.TheVariants as members
 use Rattle.ls_tree.specs.declared.tree.Class.{Class}
 use Rattle.ls_tree.specs.declared.tree.ClassFile.{ClassFile}
-use Rattle.ls_tree.specs.Views.{name_text, bare, bare_row, bare_type, bare_declarator, bare_declaration, bare_statement, bare_items, items_of, bare_parameter, bare_member, bare_class}
+use Rattle.ls_tree.specs.Views.{name_text, bare_modifiers, bare, bare_row, bare_type, bare_declarator, bare_declaration, bare_simple, bare_opening, bare_statement, bare_items, items_of, bare_parameter, bare_member, bare_class}
 use Rattle.ls_tree.specs.FileView.{bare_file}
 use Rattle.ls_tree.specs.PlacedTrees as Trees
 use Rattle.ls_tree.specs.Placed.{placed, placed_row, placed_name}
-use Rattle.ls_tree.specs.PlacedStatements.{placed_type, placed_declarator, placed_declaration, placed_statement, placed_row as placed_items_row, placed_items, placed_parameter, placed_member, placed_class, placed_file}
-use Rattle.ls_parser_placing.specs.Unplaced.{nowhere, unplaced, all_unplaced, unplaced_name, unplaced_type, unplaced_declarator, unplaced_declaration, unplaced_statement, unplaced_items, unplaced_parameter, unplaced_member, unplaced_class, unplaced_file}
-use Rattle.ls_parser_placing.specs.Outlines.{name_tree, expression_tree, expressions_tree, type_tree, declarator_tree, declaration_tree, statement_tree, items_tree, parameter_tree, member_tree, class_tree, file_tree}
+use Rattle.ls_tree.specs.PlacedStatements.{placed_type, placed_declarator, placed_declaration, placed_simple, placed_opening, placed_statement, placed_row as placed_items_row, placed_items, placed_parameter, placed_member, placed_class, placed_file}
+use Rattle.ls_parser_placing.specs.Unplaced.{nowhere, unplaced, all_unplaced, unplaced_name, unplaced_type, unplaced_declarator, unplaced_declaration, unplaced_simple, unplaced_opening, unplaced_statement, unplaced_items, unplaced_parameter, unplaced_member, unplaced_class, unplaced_file}
+use Rattle.ls_parser_placing.specs.Outlines.{name_tree, expression_tree, expressions_tree, type_tree, declarator_tree, declaration_tree, simple_tree, opening_tree, statement_tree, items_tree, parameter_tree, member_tree, class_tree, file_tree}
 use Rattle.ls_parser_spelling.specs.Spells.{TextSpells}
 use Rattle.ls_parser_spelling.specs.FilePlaces.{PlacedIn}
 use Rattle.ls_parser_placing.specs.Files.{IsFileOf}
@@ -34,6 +38,10 @@ maps_same : {A B C D : Type 0} (f : B → D) (g : A → B) (h : C → D) (k : A 
     → map f (map g xs) ≡ map h (map k xs)
 maps_same f g h k [] e = refl
 maps_same {D = D} f g h k (x ∷ xs) e = λ i. e x i ∷ maps_same f g h k xs e i
+
+some_same : {A B : Type 0} (f : A → B) (xs : List A) → Trees.some_in xs ≡ Trees.some_in (map f xs)
+some_same f [] = refl
+some_same f (x ∷ xs) = refl
 
 options_same : {A B C D : Type 0} (f : B → D) (g : A → B) (h : C → D) (k : A → C) (o : Option A) → ((x : A) → f (g x) ≡ h (k x))
     → option_map f (option_map g o) ≡ option_map h (option_map k o)
@@ -86,6 +94,19 @@ label_same label = options_same unplaced_name placed_name name_tree name_text la
 value_same : (value : Option Expr) → option_map unplaced (option_map placed value) ≡ option_map expression_tree (option_map bare value)
 value_same value = options_same unplaced placed expression_tree bare value expr_same
 
+simple_same : (s : Simple) → unplaced_simple (placed_simple s) ≡ simple_tree (bare_simple s)
+simple_same (simples.Assign target value) = λ i. Trees.Assign (expr_same target i) (expr_same value i)
+simple_same (simples.Add target value) = λ i. Trees.Add (expr_same target i) (expr_same value i)
+simple_same (simples.Count up before target) = ap (Trees.Count up before) (expr_same target)
+simple_same (simples.Evaluate value) = ap Trees.Evaluate (expr_same value)
+
+simples_same : (ss : List Simple) → map unplaced_simple (map placed_simple ss) ≡ map simple_tree (map bare_simple ss)
+simples_same ss = maps_same unplaced_simple placed_simple simple_tree bare_simple ss simple_same
+
+opening_same : (o : Opening) → unplaced_opening (placed_opening o) ≡ opening_tree (bare_opening o)
+opening_same (openings.Declaration d) = ap Trees.Declares (declaration_same d)
+opening_same (openings.Simples ss) = ap Trees.Performs (simples_same ss.items)
+
 mutual
   statement_same : (s : Statement) → unplaced_statement (placed_statement s) ≡ statement_tree (bare_statement s)
   statement_same (statements.Block' shape row span) = ap Trees.Block (block_same _ row)
@@ -93,12 +114,14 @@ mutual
   statement_same (statements.If' c p s statement_parts.None' span) = λ i. Trees.If (expr_same c i) (statement_same s i)
   statement_same (statements.If' c p s (statement_parts.Some' q t) span) = λ i. Trees.IfElse (expr_same c i) (statement_same s i) (statement_same t i)
   statement_same (statements.While' label c p s span) = λ i. Trees.While (label_same label i) (expr_same c i) (statement_same s i)
+  statement_same (statements.For' label o c us p s span) = λ i.
+      Trees.For (label_same label i) (opening_same o i) (value_same c i) (simples_same us.items i) (statement_same s i)
   statement_same (statements.Break label span) = λ i. Trees.Break (label_same label i) nowhere
   statement_same (statements.Continue label span) = λ i. Trees.Continue (label_same label i) nowhere
   statement_same (statements.Return value span) = λ i. Trees.Return (value_same value i) nowhere
   statement_same (statements.Try' shape body begin other finally end span) = λ i. Trees.Try (block_same _ body i) (block_same _ finally i)
-  statement_same (statements.Assign target value span) = λ i. Trees.Assign (expr_same target i) (expr_same value i)
-  statement_same (statements.Expression value span) = ap Trees.Evaluate (expr_same value)
+  statement_same (statements.Synchronized' target shape body end span) = λ i. Trees.Synchronized (expr_same target i) (block_same _ body i)
+  statement_same (statements.Simple s span) = ap Trees.Perform (simple_same s)
 
   block_same : (m : _) (row : Row_of-BlockItem m) → unplaced_items (placed_items_row row) ≡ items_tree (bare_items row)
   block_same m end_of-BlockItem = refl
@@ -119,7 +142,7 @@ parameters_same ps = maps_same unplaced_parameter placed_parameter parameter_tre
 member_same : (m : Member) → unplaced_member (placed_member m) ≡ member_tree (bare_member m)
 member_same (members.Field d) = ap Trees.Fields (declaration_same d)
 member_same (members.Method m) = λ i.
-    Trees.Method (options_same unplaced_type placed_type type_tree bare_type m.result type_same i) (name_tree (name_text m.name))
+    Trees.Method (some_same bare_modifiers m.locked.items i) (options_same unplaced_type placed_type type_tree bare_type m.result type_same i) (name_tree (name_text m.name))
     (parameters_same m.parameters.items i) (items_same m.body.items.items i)
 member_same (members.Constructor c) = λ i.
     Trees.Constructor (name_tree (name_text c.name)) (parameters_same c.parameters.items i) (items_same c.body.items.items i)

@@ -1,8 +1,8 @@
--- The tree with every place at 0 of a bare tree; package, imports, modifiers and annotations are left out.
+-- The tree with every place at 0 of a bare tree; package, imports, modifiers and annotations are left out, but for `synchronized`.
 use Rattle.std.specs.Prelude.{map, option_map}
 use Rattle.ls_tree.specs.Trees as bare
 use Rattle.ls_tree.specs.PlacedTrees as Trees
-use Rattle.ls_tree.specs.PlacedTrees.{Text, Name, Expression, Expressions, TypeName, Declarator, Declaration, Statement, Items, Parameter, Member, ClassTree, File}
+use Rattle.ls_tree.specs.PlacedTrees.{Text, Name, Expression, Expressions, TypeName, Declarator, Declaration, Simple, Opening, Statement, Items, Parameter, Member, ClassTree, File}
 use Rattle.ls_parser_placing.specs.Unplaced.{nowhere}
 
 abbrev pub name_tree : Text → Name
@@ -48,6 +48,16 @@ declaration_tree d = record {
   more = map declarator_tree d.more;
 }
 
+abbrev pub simple_tree : bare.Simple → Simple
+simple_tree (bare.Assign target value) = Trees.Assign (expression_tree target) (expression_tree value)
+simple_tree (bare.Add target value) = Trees.Add (expression_tree target) (expression_tree value)
+simple_tree (bare.Count up before target) = Trees.Count up before (expression_tree target)
+simple_tree (bare.Evaluate e) = Trees.Evaluate (expression_tree e)
+
+abbrev pub opening_tree : bare.Opening → Opening
+opening_tree (bare.Declares d) = Trees.Declares (declaration_tree d)
+opening_tree (bare.Performs ss) = Trees.Performs (map simple_tree ss)
+
 abbrev mutual
   pub statement_tree : bare.Statement → Statement
   statement_tree (bare.Block is) = Trees.Block (items_tree is)
@@ -55,12 +65,14 @@ abbrev mutual
   statement_tree (bare.If c s) = Trees.If (expression_tree c) (statement_tree s)
   statement_tree (bare.IfElse c s t) = Trees.IfElse (expression_tree c) (statement_tree s) (statement_tree t)
   statement_tree (bare.While label c s) = Trees.While (option_map name_tree label) (expression_tree c) (statement_tree s)
+  statement_tree (bare.For label o c us s) =
+      Trees.For (option_map name_tree label) (opening_tree o) (option_map expression_tree c) (map simple_tree us) (statement_tree s)
   statement_tree (bare.Break label) = Trees.Break (option_map name_tree label) nowhere
   statement_tree (bare.Continue label) = Trees.Continue (option_map name_tree label) nowhere
   statement_tree (bare.Return value) = Trees.Return (option_map expression_tree value) nowhere
   statement_tree (bare.Try b f) = Trees.Try (items_tree b) (items_tree f)
-  statement_tree (bare.Assign target value) = Trees.Assign (expression_tree target) (expression_tree value)
-  statement_tree (bare.Evaluate e) = Trees.Evaluate (expression_tree e)
+  statement_tree (bare.Synchronized target b) = Trees.Synchronized (expression_tree target) (items_tree b)
+  statement_tree (bare.Perform s) = Trees.Perform (simple_tree s)
 
   pub items_tree : bare.Items → Items
   items_tree bare.NoItem = Trees.NoItem
@@ -72,8 +84,8 @@ parameter_tree p = record { type_name = type_tree p.type_name; name = name_tree 
 
 abbrev pub member_tree : bare.Member → Member
 member_tree (bare.Fields d) = Trees.Fields (declaration_tree d)
-member_tree (bare.Method modifiers result n ps body) =
-    Trees.Method (option_map type_tree result) (name_tree n) (map parameter_tree ps) (items_tree body)
+member_tree (bare.Method modifiers locked result n ps body) =
+    Trees.Method (Trees.some_in locked) (option_map type_tree result) (name_tree n) (map parameter_tree ps) (items_tree body)
 member_tree (bare.Constructor modifiers n ps body) = Trees.Constructor (name_tree n) (map parameter_tree ps) (items_tree body)
 
 abbrev pub class_tree : bare.ClassTree → ClassTree

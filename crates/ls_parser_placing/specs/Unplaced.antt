@@ -2,7 +2,7 @@
 use Rattle.std.specs.Prelude.{map, option_map}
 use Rattle.ls_lexer.specs.declared.token.Span.{Span}
 use Rattle.ls_tree.specs.PlacedTrees as Trees
-use Rattle.ls_tree.specs.PlacedTrees.{Name, Expression, Expressions, TypeName, Declarator, Declaration, Statement, Items, Parameter, Member, ClassTree, File}
+use Rattle.ls_tree.specs.PlacedTrees.{Name, Expression, Expressions, TypeName, Declarator, Declaration, Simple, Opening, Statement, Items, Parameter, Member, ClassTree, File}
 
 abbrev pub nowhere : Span
 nowhere = record { start = 0; end = 0 }
@@ -50,6 +50,16 @@ unplaced_declaration d = record {
   more = map unplaced_declarator d.more;
 }
 
+abbrev pub unplaced_simple : Simple → Simple
+unplaced_simple (Trees.Assign target value) = Trees.Assign (unplaced target) (unplaced value)
+unplaced_simple (Trees.Add target value) = Trees.Add (unplaced target) (unplaced value)
+unplaced_simple (Trees.Count up before target) = Trees.Count up before (unplaced target)
+unplaced_simple (Trees.Evaluate e) = Trees.Evaluate (unplaced e)
+
+abbrev pub unplaced_opening : Opening → Opening
+unplaced_opening (Trees.Declares d) = Trees.Declares (unplaced_declaration d)
+unplaced_opening (Trees.Performs ss) = Trees.Performs (map unplaced_simple ss)
+
 abbrev mutual
   pub unplaced_statement : Statement → Statement
   unplaced_statement (Trees.Block items) = Trees.Block (unplaced_items items)
@@ -57,12 +67,14 @@ abbrev mutual
   unplaced_statement (Trees.If c s) = Trees.If (unplaced c) (unplaced_statement s)
   unplaced_statement (Trees.IfElse c s t) = Trees.IfElse (unplaced c) (unplaced_statement s) (unplaced_statement t)
   unplaced_statement (Trees.While label c s) = Trees.While (option_map unplaced_name label) (unplaced c) (unplaced_statement s)
+  unplaced_statement (Trees.For label o c us s) =
+      Trees.For (option_map unplaced_name label) (unplaced_opening o) (option_map unplaced c) (map unplaced_simple us) (unplaced_statement s)
   unplaced_statement (Trees.Break label span) = Trees.Break (option_map unplaced_name label) nowhere
   unplaced_statement (Trees.Continue label span) = Trees.Continue (option_map unplaced_name label) nowhere
   unplaced_statement (Trees.Return value span) = Trees.Return (option_map unplaced value) nowhere
   unplaced_statement (Trees.Try b f) = Trees.Try (unplaced_items b) (unplaced_items f)
-  unplaced_statement (Trees.Assign target value) = Trees.Assign (unplaced target) (unplaced value)
-  unplaced_statement (Trees.Evaluate e) = Trees.Evaluate (unplaced e)
+  unplaced_statement (Trees.Synchronized target b) = Trees.Synchronized (unplaced target) (unplaced_items b)
+  unplaced_statement (Trees.Perform s) = Trees.Perform (unplaced_simple s)
 
   pub unplaced_items : Items → Items
   unplaced_items Trees.NoItem = Trees.NoItem
@@ -74,8 +86,8 @@ unplaced_parameter p = record { type_name = unplaced_type p.type_name; name = un
 
 abbrev pub unplaced_member : Member → Member
 unplaced_member (Trees.Fields d) = Trees.Fields (unplaced_declaration d)
-unplaced_member (Trees.Method result n ps body) =
-    Trees.Method (option_map unplaced_type result) (unplaced_name n) (map unplaced_parameter ps) (unplaced_items body)
+unplaced_member (Trees.Method sync result n ps body) =
+    Trees.Method sync (option_map unplaced_type result) (unplaced_name n) (map unplaced_parameter ps) (unplaced_items body)
 unplaced_member (Trees.Constructor n ps body) =
     Trees.Constructor (unplaced_name n) (map unplaced_parameter ps) (unplaced_items body)
 

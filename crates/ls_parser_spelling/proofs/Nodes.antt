@@ -1,6 +1,6 @@
 -- How many nodes a tree has: the measure of the recursion on expressions and statements.
 use Rattle.std.proofs.Common.{◌≡◌, ℕ, ◌+◌, Option, Some, None, refl}
-use Rattle.ls_tree.specs.Trees.{Text, Expression, Number, True, False, Null, This, Name, Paren, Unary, Binary, Field, Call, CallOn, Item, New, NewMarkable, NewArray, Expressions, NoExpression, MoreExpressions, Statement, Block, Empty, If, IfElse, While, Break, Continue, Return, Try, Assign, Evaluate, Items, NoItem, Do, Declare}
+use Rattle.ls_tree.specs.Trees.{Text, Expression, Number, True, False, Null, This, Name, Paren, Unary, Binary, Field, Call, CallOn, Item, New, NewMarkable, NewArray, Expressions, NoExpression, MoreExpressions, Statement, Block, Empty, If, IfElse, While, For, Break, Continue, Return, Try, Perform, Synchronized, Items, NoItem, Do, Declare}
 use Rattle.ls_tree.specs.Views.{call_of}
 
 abbrev mutual
@@ -42,12 +42,13 @@ abbrev mutual
   statement_nodes (If condition first) = statement_nodes first + 1
   statement_nodes (IfElse condition first second) = statement_nodes first + statement_nodes second + 1
   statement_nodes (While label condition body) = statement_nodes body + 1
+  statement_nodes (For label opening condition updates body) = statement_nodes body + 1
   statement_nodes (Break label) = 1
   statement_nodes (Continue label) = 1
   statement_nodes (Return value) = 1
   statement_nodes (Try body finally) = items_nodes body + items_nodes finally + 1
-  statement_nodes (Assign target value) = 1
-  statement_nodes (Evaluate value) = 1
+  statement_nodes (Synchronized target body) = items_nodes body + 1
+  statement_nodes (Perform simple) = 1
 
   pub items_nodes : Items → ℕ
   items_nodes NoItem = 0

@@ -2,6 +2,7 @@
 use Rattle.std.proofs.Common.{◌≡◌, refl, ap, ◌∙◌}
 use Rattle.std.specs.Global.{Vec}
 use Rattle.ls_lexer.specs.declared.token.Span.{Span}
+use Rattle.ls_tree.specs.declared.tree.Expr.{Expr}
 use Rattle.ls_tree.specs.declared.tree.Block.{Block}
 use Rattle.ls_tree.specs.declared.tree.BlockItem.{BlockItem}
 use Rattle.ls_tree.specs.declared.tree.BlockItem.TheVariants as block_items
@@ -10,7 +11,7 @@ use Rattle.ls_tree.specs.declared.tree.Statement.TheVariants as statements
 use Rattle.ls_tree.specs.declared.tree.BlockItem.TheBlock.{hidden-the_row-BlockItem-0}
 use Rattle.ls_tree.specs.Trees as trees
 use Rattle.ls_tree.specs.Trees.{Piece, Doing, Declaring, collected, put_before}
-use Rattle.ls_tree.specs.Views.{bare_statement, bare_declaration, bare_items, items_of, bare_block}
+use Rattle.ls_tree.specs.Views.{bare, bare_statement, bare_declaration, bare_items, items_of, bare_block}
 
 row_is_list : (n : _) (row : Row_of-BlockItem n) → bare_items row ≡ items_of (items-the_row-BlockItem n row)
 row_is_list n end_of-BlockItem = refl
@@ -22,6 +23,9 @@ row_of_items v = row_is_list _ (hidden-the_row-BlockItem-0 v) ∙ ap items_of (i
 
 pub block_bare : (b : Block) → bare_statement (statements.Block b) ≡ trees.Block (bare_block b)
 block_bare b = ap trees.Block (row_of_items b.items)
+
+pub synchronized_bare : (e : Expr) (b : Block) (span : Span) → bare_statement (statements.Synchronized e b span) ≡ trees.Synchronized (bare e) (bare_block b)
+synchronized_bare e b span = ap (trees.Synchronized (bare e)) (row_of_items b.items)
 
 pub try_bare : (b f : Block) (span : Span) → bare_statement (statements.Try b f span) ≡ trees.Try (bare_block b) (bare_block f)
 try_bare b f span = λ i. trees.Try (row_of_items b.items i) (row_of_items f.items i)

@@ -7,7 +7,7 @@ use Rattle.ls_lexer.specs.declared.sign.Sign.TheVariants as signs
 use Rattle.ls_lexer.specs.Lexemes.{Lexeme}
 use Rattle.ls_lexer.specs.Tokens.{piece_at, tokens_of}
 use Rattle.ls_tree.specs.Trees.{Modifier, Dotted, Import}
-use Rattle.ls_tree.specs.PlacedTrees.{Name, TypeName, Declaration, Items, Parameter, Member, Fields, Method, Constructor, ClassTree, File}
+use Rattle.ls_tree.specs.PlacedTrees.{Name, TypeName, Declaration, Items, Parameter, some_in, Member, Fields, Method, Constructor, ClassTree, File}
 use Rattle.ls_parser_spelling.specs.Spelling.{spell_import, spell_package}
 use Rattle.ls_parser_spelling.specs.Places.{Spot, sign, named, forgotten}
 use Rattle.ls_parser_spelling.specs.StatementPlaces.{word, Anywhere, ManyAt, BehindComma, ModifierAt, TypeAt, DeclarationAt, BlockAt}
@@ -38,11 +38,16 @@ pub data ResultAt : Option TypeName → List Spot → List Spot → Type 0 where
   void_at : {s : Span} {rest : List Spot} → ResultAt None (word words.Void s ∷ rest) rest
   result_at : {type_name : TypeName} {ss rest : List Spot} → TypeAt type_name ss rest → ResultAt (Some type_name) ss rest
 
+-- `synchronized`, and the modifiers behind it
+pub data LockedAt : List Modifier → List Spot → List Spot → Type 0 where
+  locked_at : {modifiers : List Modifier} {s : Span} {ss rest : List Spot} →
+      ManyAt ModifierAt modifiers ss rest → LockedAt modifiers (word words.Synchronized s ∷ ss) rest
+
 pub data MemberAt : Member → List Spot → List Spot → Type 0 where
   fields_at : {declaration : Declaration} {ss rest : List Spot} → DeclarationAt declaration ss rest → MemberAt (Fields declaration) ss rest
-  method_at : {modifiers : List Modifier} {result : Option TypeName} {name : Name} {parameters : List Parameter} {body : Items} {ss middle behind rest : List Spot} →
-      ManyAt ModifierAt modifiers ss middle → ResultAt result middle behind → CallableAt name parameters body behind rest →
-      MemberAt (Method result name parameters body) ss rest
+  method_at : {modifiers : List Modifier} {locked : List (List Modifier)} {result : Option TypeName} {name : Name} {parameters : List Parameter} {body : Items} {ss inner middle behind rest : List Spot} →
+      ManyAt ModifierAt modifiers ss inner → ManyAt LockedAt locked inner middle → ResultAt result middle behind → CallableAt name parameters body behind rest →
+      MemberAt (Method (some_in locked) result name parameters body) ss rest
   constructor_at : {modifiers : List Modifier} {name : Name} {parameters : List Parameter} {body : Items} {ss behind rest : List Spot} →
       ManyAt ModifierAt modifiers ss behind → CallableAt name parameters body behind rest →
       MemberAt (Constructor name parameters body) ss rest

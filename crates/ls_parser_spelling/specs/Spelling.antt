@@ -9,7 +9,7 @@ use Rattle.ls_tree.specs.declared.tree.UnaryOp.{UnaryOp}
 use Rattle.ls_tree.specs.declared.tree.UnaryOp.TheVariants as unary
 use Rattle.ls_tree.specs.declared.tree.BinaryOp.{BinaryOp}
 use Rattle.ls_tree.specs.declared.tree.BinaryOp.TheVariants as binary
-use Rattle.ls_tree.specs.Trees.{Text, Expression, Number, True, False, Null, This, Name, Paren, Unary, Binary, Field, Call, CallOn, Item, New, NewMarkable, NewArray, Expressions, NoExpression, MoreExpressions, Modifier, Public, Protected, Private, Final, Volatile, Annotation, TypeName, Int, Boolean, BooleanArray, Class, Markable, Declarator, Declaration, Statement, Block, Empty, If, IfElse, While, Break, Continue, Return, Try, Assign, Evaluate, Items, NoItem, Do, Declare, Piece, Doing, Declaring, Parameter, Member, Fields, Method, Constructor, ClassTree, Dotted, Import, File}
+use Rattle.ls_tree.specs.Trees.{Text, Expression, Number, True, False, Null, This, Name, Paren, Unary, Binary, Field, Call, CallOn, Item, New, NewMarkable, NewArray, Expressions, NoExpression, MoreExpressions, Modifier, Public, Protected, Private, Final, Volatile, Annotation, TypeName, Int, Boolean, BooleanArray, Class, Markable, Declarator, Declaration, Statement, Block, Empty, If, IfElse, While, For, Break, Continue, Return, Try, Perform, Simple, Synchronized, Assign, Add, Count, Evaluate, Opening, Declares, Performs, Items, NoItem, Do, Declare, Piece, Doing, Declaring, Parameter, Member, Fields, Method, Constructor, ClassTree, Dotted, Import, File}
 
 abbrev pub sign_of_unary : UnaryOp → Sign
 sign_of_unary unary.Minus = signs.Minus
@@ -108,6 +108,30 @@ abbrev pub spell_value : Option Expression → List Lexeme
 spell_value None = []
 spell_value (Some value) = spell_expression value
 
+abbrev pub count_sign : Bool → Sign
+count_sign true = signs.Increment
+count_sign false = signs.Decrement
+
+abbrev pub spell_simple : Simple → List Lexeme
+spell_simple (Assign target value) = spell_expression target ++ Marked signs.Assign ∷ spell_expression value
+spell_simple (Add target value) = spell_expression target ++ Marked signs.PlusAssign ∷ spell_expression value
+spell_simple (Count up true target) = Marked (count_sign up) ∷ spell_expression target
+spell_simple (Count up false target) = spell_expression target ++ Marked (count_sign up) ∷ []
+spell_simple (Evaluate value) = spell_expression value
+
+abbrev pub spell_simples : List Simple → List Lexeme
+spell_simples [] = []
+spell_simples (s ∷ ss) = spell_simple s ++ flat_map (λ t. Marked signs.Comma ∷ spell_simple t) ss
+
+-- with the semicolon behind it
+abbrev pub spell_opening : Opening → List Lexeme
+spell_opening (Declares declaration) = spell_declaration declaration
+spell_opening (Performs simples) = spell_simples simples ++ Marked signs.Semicolon ∷ []
+
+-- what stands in the parentheses of a `for`
+abbrev pub spell_head : Opening → Option Expression → List Simple → List Lexeme
+spell_head opening condition updates = spell_opening opening ++ spell_value condition ++ Marked signs.Semicolon ∷ spell_simples updates
+
 abbrev mutual
   pub spell_statement : Statement → List Lexeme
   spell_statement (Block items) = in_braces (spell_items items)
@@ -115,12 +139,14 @@ abbrev mutual
   spell_statement (If condition first) = Reserved words.If ∷ (in_parens (spell_expression condition) ++ spell_statement first)
   spell_statement (IfElse condition first second) = Reserved words.If ∷ (in_parens (spell_expression condition) ++ spell_statement first ++ Reserved words.Else ∷ spell_statement second)
   spell_statement (While label condition body) = spell_label_before label ++ Reserved words.While ∷ (in_parens (spell_expression condition) ++ spell_statement body)
+  spell_statement (For label opening condition updates body) =
+      spell_label_before label ++ Reserved words.For ∷ (in_parens (spell_head opening condition updates) ++ spell_statement body)
   spell_statement (Break label) = Reserved words.Break ∷ (spell_label label ++ Marked signs.Semicolon ∷ [])
   spell_statement (Continue label) = Reserved words.Continue ∷ (spell_label label ++ Marked signs.Semicolon ∷ [])
   spell_statement (Return value) = Reserved words.Return ∷ (spell_value value ++ Marked signs.Semicolon ∷ [])
   spell_statement (Try body finally) = Reserved words.Try ∷ (in_braces (spell_items body) ++ Reserved words.Finally ∷ in_braces (spell_items finally))
-  spell_statement (Assign target value) = spell_expression target ++ Marked signs.Assign ∷ (spell_expression value ++ Marked signs.Semicolon ∷ [])
-  spell_statement (Evaluate value) = spell_expression value ++ Marked signs.Semicolon ∷ []
+  spell_statement (Synchronized target body) = Reserved words.Synchronized ∷ (in_parens (spell_expression target) ++ in_braces (spell_items body))
+  spell_statement (Perform simple) = spell_simple simple ++ Marked signs.Semicolon ∷ []
 
   pub spell_items : Items → List Lexeme
   spell_items NoItem = []
@@ -142,10 +168,14 @@ abbrev pub spell_result : Option TypeName → List Lexeme
 spell_result None = Reserved words.Void ∷ []
 spell_result (Some type_name) = spell_type type_name
 
+-- `synchronized`, and the modifiers behind it
+abbrev pub spell_locked : List Modifier → List Lexeme
+spell_locked ms = Reserved words.Synchronized ∷ flat_map spell_modifier ms
+
 abbrev pub spell_member : Member → List Lexeme
 spell_member (Fields declaration) = spell_declaration declaration
-spell_member (Method modifiers result name parameters body) =
-    flat_map spell_modifier modifiers ++ spell_result result ++ Named name ∷ (in_parens (spell_parameters parameters) ++ in_braces (spell_items body))
+spell_member (Method modifiers locked result name parameters body) =
+    flat_map spell_modifier modifiers ++ flat_map spell_locked locked ++ spell_result result ++ Named name ∷ (in_parens (spell_parameters parameters) ++ in_braces (spell_items body))
 spell_member (Constructor modifiers name parameters body) =
     flat_map spell_modifier modifiers ++ Named name ∷ (in_parens (spell_parameters parameters) ++ in_braces (spell_items body))
 

@@ -1,14 +1,15 @@
 -- Which tokens, standing where, are those of a type, a declaration and a statement. Modifiers have no places in a tree:
 -- there may be any.
-use Rattle.std.specs.Prelude.{List, [], ◌∷◌, Option, Some, None, codes}
+use Rattle.std.specs.Prelude.{Bool, true, false, List, [], ◌∷◌, Option, Some, None, codes}
 use Rattle.ls_lexer.specs.declared.token.Span.{Span}
 use Rattle.ls_lexer.specs.declared.word.Word.{Word}
 use Rattle.ls_lexer.specs.declared.word.Word.TheVariants as words
+use Rattle.ls_lexer.specs.declared.sign.Sign.{Sign}
 use Rattle.ls_lexer.specs.declared.sign.Sign.TheVariants as signs
 use Rattle.ls_lexer.specs.Lexemes.{Lexeme, Named, Reserved}
 use Rattle.ls_tree.specs.Trees.{Modifier}
-use Rattle.ls_tree.specs.PlacedTrees.{Name, Expression, TypeName, Int, Boolean, BooleanArray, Class, Markable, Declarator, Declaration, Statement, Block, Empty, If, IfElse, While, Break, Continue, Return, Try, Assign, Evaluate, Items, NoItem, Do, Declare}
-use Rattle.ls_parser_spelling.specs.Spelling.{spell_modifier}
+use Rattle.ls_tree.specs.PlacedTrees.{Name, Expression, TypeName, Int, Boolean, BooleanArray, Class, Markable, Declarator, Declaration, Statement, Block, Empty, If, IfElse, While, For, Break, Continue, Return, Try, Perform, Simple, Synchronized, Assign, Add, Count, Evaluate, Opening, Declares, Performs, Items, NoItem, Do, Declare}
+use Rattle.ls_parser_spelling.specs.Spelling.{spell_modifier, count_sign}
 use Rattle.ls_parser_spelling.specs.Places.{Spot, spot, sign, named, upto, At, ClassNameAt}
 
 abbrev pub word : Word → Span → Spot
@@ -81,6 +82,39 @@ pub data ReturnedAt : Option Expression → Span → List Spot → List Spot →
   nothing_at : {last : Span} {rest : List Spot} → ReturnedAt None last (sign signs.Semicolon last ∷ rest) rest
   returned_at : {e : Expression} {last : Span} {ss rest : List Spot} → At e ss (sign signs.Semicolon last ∷ rest) → ReturnedAt (Some e) last ss rest
 
+pub data SimpleAt : Simple → List Spot → List Spot → Type 0 where
+  assign_at : {target value : Expression} {s : Span} {ss middle rest : List Spot} →
+      At target ss (sign signs.Assign s ∷ middle) → At value middle rest → SimpleAt (Assign target value) ss rest
+  add_at : {target value : Expression} {s : Span} {ss middle rest : List Spot} →
+      At target ss (sign signs.PlusAssign s ∷ middle) → At value middle rest → SimpleAt (Add target value) ss rest
+  count_before_at : {up : Bool} {target : Expression} {s : Span} {ss rest : List Spot} →
+      At target ss rest → SimpleAt (Count up true target) (sign (count_sign up) s ∷ ss) rest
+  count_behind_at : {up : Bool} {target : Expression} {s : Span} {ss rest : List Spot} →
+      At target ss (sign (count_sign up) s ∷ rest) → SimpleAt (Count up false target) ss rest
+  evaluate_at : {value : Expression} {ss rest : List Spot} → At value ss rest → SimpleAt (Evaluate value) ss rest
+
+-- one simple form or more, with commas between them
+pub data SomeSimplesAt : List Simple → List Spot → List Spot → Type 0 where
+  some_simples_at : {first : Simple} {others : List Simple} {ss middle rest : List Spot} →
+      SimpleAt first ss middle → ManyAt (BehindComma SimpleAt) others middle rest → SomeSimplesAt (first ∷ others) ss rest
+
+-- simple forms, or none, and a sign behind them
+pub data SimplesAt (stop : Sign) : List Simple → List Spot → List Spot → Type 0 where
+  no_simple_at : {last : Span} {rest : List Spot} → SimplesAt stop [] (sign stop last ∷ rest) rest
+  simples_at : {simples : List Simple} {last : Span} {ss rest : List Spot} →
+      SomeSimplesAt simples ss (sign stop last ∷ rest) → SimplesAt stop simples ss rest
+
+-- what a `for` begins with, and the semicolon
+pub data OpeningAt : Opening → List Spot → List Spot → Type 0 where
+  declares_at : {declaration : Declaration} {ss rest : List Spot} → DeclarationAt declaration ss rest → OpeningAt (Declares declaration) ss rest
+  performs_at : {simples : List Simple} {ss rest : List Spot} → SimplesAt signs.Semicolon simples ss rest → OpeningAt (Performs simples) ss rest
+
+-- the head of a `for`, in parentheses
+pub data HeadAt : Opening → Option Expression → List Simple → List Spot → List Spot → Type 0 where
+  head_at : {opening : Opening} {condition : Option Expression} {updates : List Simple} {paren semicolon : Span} {ss middle behind rest : List Spot} →
+      OpeningAt opening ss middle → ReturnedAt condition semicolon middle behind → SimplesAt signs.CloseParen updates behind rest →
+      HeadAt opening condition updates (sign signs.OpenParen paren ∷ ss) rest
+
 -- Of all statements only those of `break`, `continue` and `return` keep a span: it goes up to the semicolon.
 mutual
   pub data StatementAt : Statement → List Spot → List Spot → Type 0 where
@@ -95,6 +129,9 @@ mutual
     while_at : {label : Option Name} {condition : Expression} {body : Statement} {s : Span} {ss middle behind rest : List Spot} →
         LabelAt label ss (word words.While s ∷ middle) → ConditionAt condition middle behind → StatementAt body behind rest →
         StatementAt (While label condition body) ss rest
+    for_at : {label : Option Name} {opening : Opening} {condition : Option Expression} {updates : List Simple} {body : Statement} {s : Span} {ss middle behind rest : List Spot} →
+        LabelAt label ss (word words.For s ∷ middle) → HeadAt opening condition updates middle behind → StatementAt body behind rest →
+        StatementAt (For label opening condition updates body) ss rest
     break_at : {label : Option Name} {from last : Span} {ss rest : List Spot} →
         JumpAt label last ss rest → StatementAt (Break label (upto from last)) (word words.Break from ∷ ss) rest
     continue_at : {label : Option Name} {from last : Span} {ss rest : List Spot} →
@@ -104,11 +141,11 @@ mutual
     try_at : {body finally : Items} {s other : Span} {ss middle rest : List Spot} →
         BlockAt body ss (word words.Finally other ∷ middle) → BlockAt finally middle rest →
         StatementAt (Try body finally) (word words.Try s ∷ ss) rest
-    assign_at : {target value : Expression} {assign semicolon : Span} {ss middle rest : List Spot} →
-        At target ss (sign signs.Assign assign ∷ middle) → At value middle (sign signs.Semicolon semicolon ∷ rest) →
-        StatementAt (Assign target value) ss rest
-    evaluate_at : {value : Expression} {semicolon : Span} {ss rest : List Spot} →
-        At value ss (sign signs.Semicolon semicolon ∷ rest) → StatementAt (Evaluate value) ss rest
+    synchronized_at : {target : Expression} {body : Items} {s : Span} {ss middle rest : List Spot} →
+        ConditionAt target ss middle → BlockAt body middle rest →
+        StatementAt (Synchronized target body) (word words.Synchronized s ∷ ss) rest
+    perform_at : {simple : Simple} {semicolon : Span} {ss rest : List Spot} →
+        SimpleAt simple ss (sign signs.Semicolon semicolon ∷ rest) → StatementAt (Perform simple) ss rest
 
   -- statements and declarations in braces
   pub data BlockAt : Items → List Spot → List Spot → Type 0 where

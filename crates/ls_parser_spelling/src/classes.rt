@@ -6,8 +6,8 @@ ghost use Rattle.ls_lexer.specs.Lexemes.{Named, Marked};
 ghost use Rattle.ls_lexer.specs.declared.sign.Sign.TheVariants as signs;
 ghost use Rattle.ls_parser_spelling.specs.Kinds.{lexemes_of};
 ghost use Rattle.ls_tree.specs.Trees.{Method as a_method, Constructor as a_constructor};
-ghost use Rattle.ls_tree.specs.Views.{name_text, bare_modifier, bare_type, bare_block, bare_parameter, bare_member, bare_class, bare_dotted, bare_import};
-ghost use Rattle.ls_parser_spelling.specs.Spelling.{in_parens, in_braces, spell_parameter, spell_parameters, spell_result, spell_member, spell_class, spell_dotted, spell_all, spell_import, spell_package};
+ghost use Rattle.ls_tree.specs.Views.{name_text, bare_modifier, bare_modifiers, bare_type, bare_block, bare_parameter, bare_member, bare_class, bare_dotted, bare_import};
+ghost use Rattle.ls_parser_spelling.specs.Spelling.{in_parens, in_braces, spell_parameter, spell_parameters, spell_result, spell_locked, spell_member, spell_class, spell_dotted, spell_all, spell_import, spell_package};
 
 use crate::declarations::{put_declaration, put_modifiers, put_type};
 use crate::kinds::{put_name, put_sign, put_word};
@@ -15,7 +15,9 @@ use crate::statements::put_block;
 use ls_lexer::sign::Sign;
 use ls_lexer::token::TokenKind;
 use ls_lexer::word::Word;
-use ls_tree::tree::{Class, Constructor, Dotted, Import, Member, Method, Name, Parameter, Type};
+use ls_tree::tree::{
+    Class, Constructor, Dotted, Import, Member, Method, Modifier, Name, Parameter, Type,
+};
 use std::alloc::AllocError;
 
 fn put_parameter<'a>(
@@ -79,10 +81,25 @@ fn put_result<'a>(out: &mut Vec<TokenKind<'a>>, of: &'a Option<Type>) -> Result<
     }
 }
 
+// Each `synchronized`, with the modifiers behind it.
+fn put_locked<'a>(
+    out: &mut Vec<TokenKind<'a>>,
+    locked: &'a [Vec<Modifier>],
+) -> Result<(), AllocError>
+    ensures { OnOk result (lexemes_of out.new.items ≡ lexemes_of out.old.items ++ flat_map spell_locked (map bare_modifiers locked.now)) }
+{
+    for modifiers in locked {
+        put_word(out, Word::Synchronized)?;
+        put_modifiers(out, modifiers)?;
+    }
+    Ok(())
+}
+
 fn put_method<'a>(out: &mut Vec<TokenKind<'a>>, m: &'a Method) -> Result<(), AllocError>
-    ensures { OnOk result (lexemes_of out.new.items ≡ lexemes_of out.old.items ++ spell_member (a_method (map bare_modifier m.now.modifiers.items) (option_map bare_type m.now.result) (name_text m.now.name) (map bare_parameter m.now.parameters.items) (bare_block m.now.body))) }
+    ensures { OnOk result (lexemes_of out.new.items ≡ lexemes_of out.old.items ++ spell_member (a_method (map bare_modifier m.now.modifiers.items) (map bare_modifiers m.now.locked.items) (option_map bare_type m.now.result) (name_text m.now.name) (map bare_parameter m.now.parameters.items) (bare_block m.now.body))) }
 {
     put_modifiers(out, &m.modifiers)?;
+    put_locked(out, &m.locked)?;
     put_result(out, &m.result)?;
     put_name(out, &m.name)?;
     put_group(out, &m.parameters)?;

@@ -5,6 +5,7 @@ mod classes;
 mod declarations;
 mod expressions;
 mod kinds;
+mod simples;
 pub mod spelling;
 mod statements;
 

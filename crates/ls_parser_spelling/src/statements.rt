@@ -1,21 +1,22 @@
 // The tokens of statements and blocks.
 
-ghost use Rattle.std.specs.Prelude.{◌≡◌, ◌++◌, ◌∷◌, [], OnOk, option_map};
+ghost use Rattle.std.specs.Prelude.{◌≡◌, ◌++◌, ◌∷◌, [], OnOk, map, option_map};
 ghost use Rattle.ls_lexer.specs.Lexemes.{Reserved, Marked};
 ghost use Rattle.ls_lexer.specs.declared.sign.Sign.TheVariants as signs;
 ghost use Rattle.ls_lexer.specs.declared.word.Word.TheVariants as words;
 ghost use Rattle.ls_parser_spelling.specs.Kinds.{lexemes_of};
-ghost use Rattle.ls_tree.specs.Trees.{While as while_loop, Try as try_finally};
-ghost use Rattle.ls_tree.specs.Views.{name_text, bare, bare_statement, bare_other, bare_piece, if_of, items_of};
+ghost use Rattle.ls_tree.specs.Trees.{While as while_loop, For as for_loop, Try as try_finally, Synchronized as locking};
+ghost use Rattle.ls_tree.specs.Views.{name_text, bare, bare_simple, bare_opening, bare_statement, bare_other, bare_piece, if_of, items_of};
 ghost use Rattle.ls_parser_spelling.specs.Spelling.{in_parens, in_braces, spell_expression, spell_label, spell_label_before, spell_value, spell_statement, spell_items, spell_piece};
 
 use crate::declarations::put_declaration;
 use crate::expressions::{put_expression, put_value};
 use crate::kinds::{put_name, put_sign, put_word};
+use crate::simples::{put_head, put_simple};
 use ls_lexer::sign::Sign;
 use ls_lexer::token::TokenKind;
 use ls_lexer::word::Word;
-use ls_tree::tree::{BlockItem, Expr, Name, Statement};
+use ls_tree::tree::{BlockItem, Expr, Name, Opening, Simple, Statement};
 use std::alloc::AllocError;
 
 fn put_condition<'a>(out: &mut Vec<TokenKind<'a>>, condition: &'a Expr) -> Result<(), AllocError>
@@ -71,19 +72,6 @@ fn put_return<'a>(out: &mut Vec<TokenKind<'a>>, value: &'a Option<Expr>) -> Resu
     put_sign(out, Sign::Semicolon)
 }
 
-fn put_assignment<'a>(
-    out: &mut Vec<TokenKind<'a>>,
-    target: &'a Expr,
-    value: &'a Expr,
-) -> Result<(), AllocError>
-    ensures { OnOk result (lexemes_of out.new.items ≡ lexemes_of out.old.items ++ (spell_expression (bare target.now) ++ Marked signs.Assign ∷ (spell_expression (bare value.now) ++ Marked signs.Semicolon ∷ []))) }
-{
-    put_expression(out, target)?;
-    put_sign(out, Sign::Assign)?;
-    put_expression(out, value)?;
-    put_sign(out, Sign::Semicolon)
-}
-
 #[cycle(statements)]
 fn put_statement<'a>(out: &mut Vec<TokenKind<'a>>, s: &'a Statement) -> Result<(), AllocError>
     ensures { OnOk result (lexemes_of out.new.items ≡ lexemes_of out.old.items ++ spell_statement (bare_statement s.now)) }
@@ -109,6 +97,14 @@ fn put_statement<'a>(out: &mut Vec<TokenKind<'a>>, s: &'a Statement) -> Result<(
             body,
             ..
         } => put_while(out, label, condition, body),
+        Statement::For {
+            label,
+            opening,
+            condition,
+            updates,
+            body,
+            ..
+        } => put_for(out, label, opening, condition, updates, body),
         Statement::Break { label, .. } => put_jump(out, Word::Break, label),
         Statement::Continue { label, .. } => put_jump(out, Word::Continue, label),
         Statement::Return { value, .. } => put_return(out, value),
@@ -116,9 +112,12 @@ fn put_statement<'a>(out: &mut Vec<TokenKind<'a>>, s: &'a Statement) -> Result<(
             put_try(out, &body.items, &finally.items)?;
             Ok(())
         }
-        Statement::Assign { target, value, .. } => put_assignment(out, target, value),
-        Statement::Expression { value, .. } => {
-            put_expression(out, value)?;
+        Statement::Synchronized { target, body, .. } => {
+            put_synchronized(out, target, &body.items)?;
+            Ok(())
+        }
+        Statement::Simple { simple, .. } => {
+            put_simple(out, simple)?;
             put_sign(out, Sign::Semicolon)
         }
     }
@@ -159,6 +158,23 @@ fn put_while<'a>(
 }
 
 #[cycle(statements)]
+fn put_for<'a>(
+    out: &mut Vec<TokenKind<'a>>,
+    label: &'a Option<Name>,
+    opening: &'a Opening,
+    condition: &'a Option<Expr>,
+    updates: &'a [Simple],
+    body: &'a Statement,
+) -> Result<(), AllocError>
+    ensures { OnOk result (lexemes_of out.new.items ≡ lexemes_of out.old.items ++ spell_statement (for_loop (option_map name_text label.now) (bare_opening opening.now) (option_map bare condition.now) (map bare_simple updates.now) (bare_statement body.now))) }
+{
+    put_label_before(out, label)?;
+    put_word(out, Word::For)?;
+    put_head(out, opening, condition, updates)?;
+    put_statement(out, body)
+}
+
+#[cycle(statements)]
 fn put_try<'a>(
     out: &mut Vec<TokenKind<'a>>,
     body: &'a [BlockItem],
@@ -170,6 +186,19 @@ fn put_try<'a>(
     put_block(out, body)?;
     put_word(out, Word::Finally)?;
     put_block(out, finally)
+}
+
+#[cycle(statements)]
+fn put_synchronized<'a>(
+    out: &mut Vec<TokenKind<'a>>,
+    target: &'a Expr,
+    body: &'a [BlockItem],
+) -> Result<(), AllocError>
+    ensures { OnOk result (lexemes_of out.new.items ≡ lexemes_of out.old.items ++ spell_statement (locking (bare target.now) (items_of body.now))) }
+{
+    put_word(out, Word::Synchronized)?;
+    put_condition(out, target)?;
+    put_block(out, body)
 }
 
 /// Statements and declarations in braces.

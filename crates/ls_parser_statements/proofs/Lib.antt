@@ -1,6 +1,9 @@
 pub mod OntoStatements
 pub mod StatementRows
 pub mod StatementSteps
+pub mod SimplesRead
+pub mod SimplesAgain
+pub mod SimplePlaces
 pub mod StatementsRead
 pub mod StatementsAgain
 pub mod PlacedRows

@@ -1,6 +1,7 @@
 -- The places of statements, from what the parser's functions answer.
 use Rattle.std.proofs.Common.{◌≡◌, List, [], ◌∷◌, ◌++◌, Option, Some, None, Result, Ok, Err, IfOk, refl, sym, ap, subst, ◌∙◌}
 use Rattle.ls_lexer.specs.declared.token.Span.{Span}
+use Rattle.ls_lexer.specs.declared.word.Word.{Word}
 use Rattle.ls_lexer.specs.declared.word.Word.TheVariants as words
 use Rattle.ls_lexer.specs.declared.sign.Sign.TheVariants as signs
 use Rattle.ls_lexer.specs.Lexemes.{Named}
@@ -10,11 +11,11 @@ use Rattle.ls_tree.specs.declared.tree.BlockItem.{BlockItem}
 use Rattle.ls_tree.specs.declared.tree.BlockItem.TheVariants as rows
 use Rattle.ls_tree.specs.Views.{name_text}
 use Rattle.ls_tree.specs.PlacedTrees as trees
-use Rattle.ls_tree.specs.PlacedTrees.{Expression, Declaration, Statement, Items, NoItem, Do, Declare}
+use Rattle.ls_tree.specs.PlacedTrees.{Expression, Declaration, Simple, Opening, Statement, Items, NoItem, Do, Declare}
 use Rattle.ls_tree.specs.Placed.{placed, placed_name}
 use Rattle.ls_tree.specs.PlacedStatements.{placed_declaration, placed_statement, placed_before, placed_items}
-use Rattle.ls_parser_spelling.specs.Places.{Spot, spot, sign, upto, At}
-use Rattle.ls_parser_spelling.specs.StatementPlaces.{word, DeclarationAt, ConditionAt, condition_at, LabelAt, no_label_at, label_at, JumpAt, bare_jump_at, jump_to_at, nothing_at, returned_at, StatementAt, block_statement_at, empty_at, if_at, if_else_at, while_at, return_at, try_at, assign_at, evaluate_at, BlockAt, block_at, ItemsAt, no_item_at, do_at, declare_at}
+use Rattle.ls_parser_spelling.specs.Places.{Spot, spot, sign, At}
+use Rattle.ls_parser_spelling.specs.StatementPlaces.{word, DeclarationAt, ConditionAt, condition_at, LabelAt, no_label_at, label_at, JumpAt, bare_jump_at, jump_to_at, ReturnedAt, nothing_at, returned_at, HeadAt, StatementAt, block_statement_at, empty_at, if_at, if_else_at, while_at, for_at, try_at, synchronized_at, BlockAt, block_at, ItemsAt, no_item_at, do_at, declare_at}
 use Rattle.ls_parser_expressions.proofs.Places.{name_spot}
 
 -- ---- simple statements
@@ -36,18 +37,11 @@ jump_is n {last = last} {ss} {middle} {rest} a b is end =
     subst (λ (xs : List Spot). JumpAt (Some (placed_name n)) last xs rest)
     (sym (is ∙ (λ i. sym (name_spot n a b) i ∷ end i))) jump_to_at
 
-pub nothing_is : {from last : Span} {ss rest : List Spot} → ss ≡ sign signs.Semicolon last ∷ rest → StatementAt (trees.Return None (upto from last)) (word words.Return from ∷ ss) rest
-nothing_is {from} {last} {rest = rest} is = subst (λ (xs : List Spot). StatementAt (trees.Return None (upto from last)) (word words.Return from ∷ xs) rest) (sym is) (return_at nothing_at)
+pub nothing_is : {last : Span} {ss rest : List Spot} → ss ≡ sign signs.Semicolon last ∷ rest → ReturnedAt None last ss rest
+nothing_is {last} {rest = rest} is = subst (λ (xs : List Spot). ReturnedAt None last xs rest) (sym is) nothing_at
 
-pub returned_is : {e : Expression} {from last : Span} {ss rest : List Spot} → At e ss (sign signs.Semicolon last ∷ rest) → StatementAt (trees.Return (Some e) (upto from last)) (word words.Return from ∷ ss) rest
-returned_is h = return_at (returned_at h)
-
-pub assign_is : {target value : Expression} {assign last : Span} {middle inner rest : List Spot} → middle ≡ sign signs.Assign assign ∷ inner → At value inner (sign signs.Semicolon last ∷ rest) →
-    (ss : List Spot) → At target ss middle → StatementAt (trees.Assign target value) ss rest
-assign_is {target} a g ss h = assign_at (subst (At target ss) a h) g
-
-pub evaluate_is : {value : Expression} {last : Span} {middle rest : List Spot} → middle ≡ sign signs.Semicolon last ∷ rest → (ss : List Spot) → At value ss middle → StatementAt (trees.Evaluate value) ss rest
-evaluate_is {value} is ss h = evaluate_at (subst (At value ss) is h)
+pub returned_is : {e : Expression} {last : Span} {ss rest : List Spot} → At e ss (sign signs.Semicolon last ∷ rest) → ReturnedAt (Some e) last ss rest
+returned_is h = returned_at h
 
 -- ---- statements
 
@@ -102,23 +96,45 @@ pub while_is : {label : Option trees.Name} {condition : Expression} {body : Stat
     (ss : List Spot) (s : Span) → LabelAt label ss (word words.While s ∷ behind) → StatementAt (trees.While label condition body) ss rest
 while_is h g ss s l = while_at l h g
 
+pub for_is : {label : Option trees.Name} {opening : Opening} {condition : Option Expression} {updates : List Simple} {body : Statement} {behind middle rest : List Spot} → HeadAt opening condition updates behind middle → StatementAt body middle rest →
+    (ss : List Spot) (s : Span) → LabelAt label ss (word words.For s ∷ behind) → StatementAt (trees.For label opening condition updates body) ss rest
+for_is h g ss s l = for_at l h g
+
 pub try_is : {t : Statement} {body finally : Items} {other : Span} {ss middle inner rest : List Spot} → t ≡ trees.Try body finally → BlockAt body ss middle → middle ≡ word words.Finally other ∷ inner → BlockAt finally inner rest →
     (s : Span) → StatementAt t (word words.Try s ∷ ss) rest
 try_is {body = body} {ss = ss} {rest = rest} same h is g s = subst (λ (x : Statement). StatementAt x (word words.Try s ∷ ss) rest) (sym same) (try_at (subst (BlockAt body ss) is h) g)
 
-pub labelled : (n : Name) {text : trees.Text} {span colon s : Span} {ss middle behind : List Spot} → name_text n ≡ text → n.span ≡ span → ss ≡ spot (Named text) span ∷ sign signs.Colon colon ∷ middle → middle ≡ word words.While s ∷ behind →
-    LabelAt (Some (placed_name n)) ss (word words.While s ∷ behind)
-labelled n {colon = colon} {s} {behind = behind} a b is end =
-    subst (λ (xs : List Spot). LabelAt (Some (placed_name n)) xs (word words.While s ∷ behind))
+pub synchronized_is : {t : Statement} {target : Expression} {body : Items} {ss middle rest : List Spot} → t ≡ trees.Synchronized target body → ConditionAt target ss middle → BlockAt body middle rest →
+    (s : Span) → StatementAt t (word words.Synchronized s ∷ ss) rest
+synchronized_is {ss = ss} {rest = rest} same h g s = subst (λ (x : Statement). StatementAt x (word words.Synchronized s ∷ ss) rest) (sym same) (synchronized_at h g)
+
+-- a label before the word of a loop
+pub labelled : (n : Name) {text : trees.Text} {w : Word} {span colon s : Span} {ss middle behind : List Spot} → name_text n ≡ text → n.span ≡ span → ss ≡ spot (Named text) span ∷ sign signs.Colon colon ∷ middle → middle ≡ word w s ∷ behind →
+    LabelAt (Some (placed_name n)) ss (word w s ∷ behind)
+labelled n {w = w} {colon = colon} {s} {behind = behind} a b is end =
+    subst (λ (xs : List Spot). LabelAt (Some (placed_name n)) xs (word w s ∷ behind))
     (sym (is ∙ (λ i. sym (name_spot n a b) i ∷ sign signs.Colon colon ∷ end i))) label_at
 
 -- a loop without a label
-pub loop_is : {t : Statement} {s : Span} {ss inner rest : List Spot} → ((xs : List Spot) (at : Span) → LabelAt None xs (word words.While at ∷ inner) → StatementAt t xs rest) → ss ≡ word words.While s ∷ inner →
+pub loop_is : {t : Statement} {w : Word} {s : Span} {ss inner rest : List Spot} → ((xs : List Spot) (at : Span) → LabelAt None xs (word w at ∷ inner) → StatementAt t xs rest) → ss ≡ word w s ∷ inner →
     StatementAt t ss rest
 loop_is {s = s} {ss} f is = f ss s (subst (LabelAt None ss) is no_label_at)
 
+-- the loop that stands where no label does
+pub without_label : {R E : Type 0} (r : Result R E) (P : R → List Spot → Type 0) {w : Word} {s : Span} {ss inner : List Spot} → ss ≡ word w s ∷ inner →
+    IfOk r (λ x. (xs : List Spot) (at : Span) → LabelAt None xs (word w at ∷ inner) → P x xs) → IfOk r (λ x. P x ss)
+without_label (Ok x) P {s = s} {ss} is f = f ss s (subst (LabelAt None ss) is no_label_at)
+without_label (Err e) P is f = tt
+
 -- the loop that stands behind a label
-pub behind_label : {R E : Type 0} (r : Result R E) (P : R → List Spot → Type 0) {label : Option trees.Name} {s : Span} {ss rest : List Spot} →
-    IfOk r (λ x. (xs : List Spot) (at : Span) → LabelAt label xs (word words.While at ∷ rest) → P x xs) → LabelAt label ss (word words.While s ∷ rest) → IfOk r (λ x. P x ss)
-behind_label (Ok x) P {s = s} {ss} f l = f ss s l
-behind_label (Err e) P f l = tt
+pub behind_label : {R E : Type 0} (r : Result R E) (P : R → List Spot → Type 0) (n : Name) {text : trees.Text} {w : Word} {span s : Span} {middle behind : List Spot} → name_text n ≡ text → n.span ≡ span → middle ≡ word w s ∷ behind →
+    IfOk r (λ x. (xs : List Spot) (at : Span) → LabelAt (Some (placed_name n)) xs (word w at ∷ behind) → P x xs) →
+    IfOk r (λ x. (xs : List Spot) (colon : Span) → xs ≡ spot (Named text) span ∷ sign signs.Colon colon ∷ middle → P x xs)
+behind_label (Ok x) P n {s = s} a b end f = λ xs colon is. f xs s (labelled n a b is end)
+behind_label (Err e) P n a b end f = tt
+
+-- what stands behind a name and a colon
+pub at_label : {R E : Type 0} (r : Result R E) (P : R → List Spot → Type 0) {text : trees.Text} {span : Span} {ss middle : List Spot} → (colon : Span) × (ss ≡ spot (Named text) span ∷ sign signs.Colon colon ∷ middle) →
+    IfOk r (λ x. (xs : List Spot) (colon : Span) → xs ≡ spot (Named text) span ∷ sign signs.Colon colon ∷ middle → P x xs) → IfOk r (λ x. P x ss)
+at_label (Ok x) P {ss = ss} at f = f ss at.0 at.1
+at_label (Err e) P at f = tt

@@ -1,10 +1,14 @@
 -- The first token of a statement and of a block.
-use Rattle.std.proofs.Common.{◌≡◌, ℕ, zero, suc, ◌+◌, ◌-◌, ◌<◌, length, List, [], ◌∷◌, None, refl, ap, ◌∙◌, arith}
+use Rattle.std.proofs.Common.{◌≡◌, ℕ, zero, suc, ◌+◌, ◌-◌, ◌<◌, false, length, List, [], ◌∷◌, Some, None, refl, ap, ◌∙◌, arith}
 use Rattle.ls_lexer.specs.declared.token.Token.{Token}
 use Rattle.ls_lexer.specs.Lexemes.{Lexeme, lexemes}
-use Rattle.ls_parser_expressions.specs.ReadingExpressions.{expression_at}
+use Rattle.ls_lexer.specs.declared.sign.Sign.TheVariants as signs
+use Rattle.ls_tree.specs.Trees.{Simple}
+use Rattle.ls_parser_tokens.specs.Reading.{starts, one_more, behind_comma}
+use Rattle.ls_parser_expressions.proofs.Repeats.{InRepeat, list_begins}
+use Rattle.ls_parser_expressions.specs.ReadingExpressions.{expression_at, post_at}
 use Rattle.ls_parser_declarations.specs.ReadingDeclarations.{declaration_at}
-use Rattle.ls_parser_statements.specs.ReadingStatements.{statement_at, block_at, nested_at, begun_at, first_of, braces_at, piece_at, local_at}
+use Rattle.ls_parser_statements.specs.ReadingStatements.{statement_at, block_at, nested_at, begun_at, first_of, braces_at, piece_at, local_at, simple_from, simple_at, simples_at}
 
 pub statement_step : (limit : ℕ) (k : Lexeme) (ks : List Lexeme) → 0 < limit → statement_at limit (k ∷ ks) ≡ begun_at (limit - 1) (first_of k) (k ∷ ks) ks
 unfolding nested_at
@@ -50,3 +54,18 @@ local_step zero ks lt = absurd (omega arith)
 local_step (suc limit) ks lt =
     let is : suc limit - 1 ≡ limit = omega arith in
     rw is refl
+
+pub simple_zero : (limit : ℕ) (ks : List Lexeme) → limit ≡ 0 → simple_at limit ks ≡ None
+simple_zero zero ks e = refl
+simple_zero (suc limit) ks e = absurd (omega arith)
+
+pub simple_step : (limit : ℕ) (ks : List Lexeme) → 0 < limit → simple_at limit ks ≡ simple_from (post_at (limit - 1) false) (expression_at (limit - 1)) ks
+simple_step zero ks lt = absurd (omega arith)
+simple_step (suc limit) ks lt =
+    let is : suc limit - 1 ≡ limit = omega arith in
+    rw is refl
+
+-- behind the first of simple forms stand the others
+pub simples_begin : (limit : ℕ) (ks rest : List Lexeme) (first : Simple) → simple_at limit ks ≡ Some (first, rest) →
+    InRepeat (starts signs.Comma) (one_more (behind_comma (simple_at limit))) (length rest) (first ∷ []) rest (simples_at (simple_at limit) ks)
+simples_begin limit ks rest first e = rw e (list_begins (first ∷ []) (starts signs.Comma) (behind_comma (simple_at limit)) rest)

@@ -5,18 +5,19 @@ use Rattle.std.specs.Prelude.{◌&&◌, ◌||◌}
 use Rattle.ls_lexer.specs.declared.sign.Sign.TheVariants as signs
 use Rattle.ls_lexer.specs.declared.word.Word.TheVariants as words
 use Rattle.ls_lexer.specs.Lexemes.{Lexeme, Named, Reserved, Marked}
-use Rattle.ls_tree.specs.Trees.{Text, Expression, Number, True, False, Null, This, Name, Paren, Unary, Binary, Field, Call, CallOn, Item, New, NewMarkable, NewArray, Modifier, Public, Protected, Private, Final, Volatile, Annotation, TypeName, Int, Boolean, BooleanArray, Class, Markable, Declarator, Declaration, Statement, Block, Empty, If, IfElse, While, Break, Continue, Return, Try, Assign, Evaluate, Items, NoItem, Do, Declare, Piece, Doing, Declaring, collected}
-use Rattle.ls_tree.specs.WellFormed.{WellFormed, is_post, is_call, expression_height, value_height, declarators_height, declaration_height, statement_height, items_height, ends_open, WellFormedValue, WellFormedDeclaration, WellFormedStatement, WellFormedItems}
+use Rattle.ls_tree.specs.Trees.{Text, Expression, Number, True, False, Null, This, Name, Paren, Unary, Binary, Field, Call, CallOn, Item, New, NewMarkable, NewArray, Modifier, Public, Protected, Private, Final, Volatile, Annotation, TypeName, Int, Boolean, BooleanArray, Class, Markable, Declarator, Declaration, Simple, Statement, Block, Empty, If, IfElse, While, For, Break, Continue, Return, Try, Perform, Synchronized, Assign, Add, Count, Evaluate, Opening, Declares, Performs, Items, NoItem, Do, Declare, Piece, Doing, Declaring, collected}
+use Rattle.ls_tree.specs.WellFormed.{WellFormed, is_post, expression_height, value_height, declarators_height, declaration_height, simple_height, simples_height, opening_height, statement_height, items_height, ends_open, WellFormedValue, WellFormedDeclaration, WellFormedSimple, WellFormedSimples, WellFormedOpening, WellFormedStatement, WellFormedItems}
 use Rattle.ls_parser_tokens.specs.Reading.{Reader, after_sign, after_word, name_at, not_yet, many_at, behind_comma}
 use Rattle.ls_parser_expressions.specs.ReadingExpressions.{is_markable, expression_at, post_at}
 use Rattle.ls_parser_declarations.specs.ReadingDeclarations.{starts_modifier, modifier_at, modifiers_at, type_at, declarator_at, declarators_at, declaration_at, starts_type, named_declaration, starts_declaration}
-use Rattle.ls_parser_statements.specs.ReadingStatements.{piece_at, braces_at, condition_at, jump_at, value_at, label_at, other_at, FirstOther, first_of, local_at, statement_of, nested_at, statement_at, block_at}
+use Rattle.ls_parser_statements.specs.ReadingStatements.{piece_at, braces_at, condition_at, jump_at, value_at, simple_from, simple_at, opening_at, head_in, other_at, FirstOther, first_of, local_at, statement_of, nested_at, statement_at, block_at}
 use Rattle.ls_parser_expressions.proofs.Onto.{onto, onto_expressions}
 use Rattle.ls_parser_expressions.proofs.Lists.{onto_all, many_from_complete}
 use Rattle.ls_parser_declarations.proofs.OntoDeclarations.{onto_modifier, modifier_longer, onto_type, onto_initial, onto_declarator, onto_next_declarator, next_declarator_longer, onto_declaration}
-use Rattle.ls_parser_statements.proofs.OntoStatements.{onto_label, onto_label_before, onto_value, onto_condition, onto_statement, onto_items, onto_block, onto_piece, onto_collected, piece_longer}
+use Rattle.ls_parser_statements.proofs.OntoStatements.{onto_label, onto_label_before, onto_value, onto_condition, onto_simple, onto_next_simple, onto_simples, onto_opening, onto_head, onto_statement, onto_items, onto_block, onto_piece, onto_collected, piece_longer}
 use Rattle.ls_parser_declarations.proofs.DeclarationsRead.{Anything, FormedDeclarator}
 use Rattle.ls_parser_statements.proofs.StatementsRead.{FormedPiece}
+use Rattle.ls_parser_statements.proofs.SimplesAgain.{Opens, called, simple_opens, simple_label, simple_else, simple_semicolon, from_again, simple_pos, semicolon_ends, close_ends, others_follow, simples_complete}
 use Rattle.ls_parser_expressions.proofs.ExpressionsAgain.{Follow, follow_close, follow_comma, follow_semicolon, follow_assign, post_head, no_semicolon, expression_complete, post_complete}
 
 -- ---- modifiers and types
@@ -133,57 +134,13 @@ declaration_first d rest = modifiers_first d.modifiers d.type_name d.first.name 
 
 -- ---- how a statement begins
 
--- what no statement begins by, and what each says of a declaration
-pub record Opens (ks : List Lexeme) : Type 0 where
-  pub declares : starts_declaration ks ≡ false
-  pub brace : after_sign signs.CloseBrace ks ≡ None
-
--- an expression that a statement begins by doesn't begin a declaration
-post_opens : (t : Expression) (rest : List Lexeme) → is_post t ≡ true → WellFormed false t → name_at rest ≡ None → after_sign signs.Less rest ≡ None → Opens (onto t rest)
-post_opens (Number text) rest post formed name less = record { declares = refl; brace = refl }
-post_opens True rest post formed name less = record { declares = refl; brace = refl }
-post_opens False rest post formed name less = record { declares = refl; brace = refl }
-post_opens Null rest post formed name less = record { declares = refl; brace = refl }
-post_opens This rest post formed name less = record { declares = refl; brace = refl }
-post_opens (Name text) rest post formed name less = record { declares = rw (name, less) refl; brace = refl }
-post_opens (Paren inner) rest post formed name less = record { declares = refl; brace = refl }
-post_opens (Unary op operand) rest post formed name less = absurd cc
-post_opens (Binary op left right) rest post formed name less = absurd cc
-post_opens (Field target name') rest post formed name less = post_opens target (Marked signs.Dot ∷ Named name' ∷ rest) formed.0 formed.1 refl refl
-post_opens (Call name' arguments) rest post formed name less = record { declares = refl; brace = refl }
-post_opens (CallOn target name' arguments) rest post formed name less = post_opens target (Marked signs.Dot ∷ Named name' ∷ Marked signs.OpenParen ∷ onto_expressions arguments rest) formed.0 formed.1 refl refl
-post_opens (Item array index) rest post formed name less = post_opens array (Marked signs.OpenBracket ∷ onto index (Marked signs.CloseBracket ∷ rest)) formed.0 formed.2 refl refl
-post_opens (New class arguments) rest post formed name less = record { declares = refl; brace = refl }
-post_opens (NewMarkable class arguments) rest post formed name less = record { declares = refl; brace = refl }
-post_opens (NewArray length') rest post formed name less = record { declares = refl; brace = refl }
-
--- nor is it a label
-no_label : (t : Expression) (rest : List Lexeme) → is_post t ≡ true → WellFormed false t → after_sign signs.Colon rest ≡ None → label_at (onto t rest) ≡ None
-no_label (Number text) rest post formed colon = refl
-no_label True rest post formed colon = refl
-no_label False rest post formed colon = refl
-no_label Null rest post formed colon = refl
-no_label This rest post formed colon = refl
-no_label (Name text) rest post formed colon = rw colon refl
-no_label (Paren inner) rest post formed colon = refl
-no_label (Unary op operand) rest post formed colon = absurd cc
-no_label (Binary op left right) rest post formed colon = absurd cc
-no_label (Field target name') rest post formed colon = no_label target (Marked signs.Dot ∷ Named name' ∷ rest) formed.0 formed.1 refl
-no_label (Call name' arguments) rest post formed colon = refl
-no_label (CallOn target name' arguments) rest post formed colon = no_label target (Marked signs.Dot ∷ Named name' ∷ Marked signs.OpenParen ∷ onto_expressions arguments rest) formed.0 formed.1 refl
-no_label (Item array index) rest post formed colon = no_label array (Marked signs.OpenBracket ∷ onto index (Marked signs.CloseBracket ∷ rest)) formed.0 formed.2 refl
-no_label (New class arguments) rest post formed colon = refl
-no_label (NewMarkable class arguments) rest post formed colon = refl
-no_label (NewArray length') rest post formed colon = refl
-
-called : (t : Expression) → is_call t ≡ true → is_post t ≡ true
-called (Unary op operand) h = absurd cc
-called (Binary op left right) h = absurd cc
-called _ h = refl
-
 while_opens : (label : Option Text) (ks : List Lexeme) → Opens (onto_label_before label (Reserved words.While ∷ ks))
 while_opens None ks = record { declares = refl; brace = refl }
 while_opens (Some name) ks = record { declares = refl; brace = refl }
+
+for_opens : (label : Option Text) (ks : List Lexeme) → Opens (onto_label_before label (Reserved words.For ∷ ks))
+for_opens None ks = record { declares = refl; brace = refl }
+for_opens (Some name) ks = record { declares = refl; brace = refl }
 
 pub statement_opens : (t : Statement) (rest : List Lexeme) → WellFormedStatement t → Opens (onto_statement t rest)
 statement_opens (Block items) rest formed = record { declares = refl; brace = refl }
@@ -191,12 +148,13 @@ statement_opens Empty rest formed = record { declares = refl; brace = refl }
 statement_opens (If condition first) rest formed = record { declares = refl; brace = refl }
 statement_opens (IfElse condition first second) rest formed = record { declares = refl; brace = refl }
 statement_opens (While label condition body) rest formed = while_opens label (onto_condition condition (onto_statement body rest))
+statement_opens (For label opening condition updates body) rest formed = for_opens label (onto_head opening condition updates (onto_statement body rest))
 statement_opens (Break label) rest formed = record { declares = refl; brace = refl }
 statement_opens (Continue label) rest formed = record { declares = refl; brace = refl }
 statement_opens (Return value) rest formed = record { declares = refl; brace = refl }
 statement_opens (Try body finally) rest formed = record { declares = refl; brace = refl }
-statement_opens (Assign target value) rest formed = post_opens target (Marked signs.Assign ∷ onto value (Marked signs.Semicolon ∷ rest)) formed.0 formed.1 refl refl
-statement_opens (Evaluate value) rest formed = post_opens value (Marked signs.Semicolon ∷ rest) (called value formed.0) formed.1 refl refl
+statement_opens (Synchronized target body) rest formed = record { declares = refl; brace = refl }
+statement_opens (Perform simple) rest formed = simple_opens simple (Marked signs.Semicolon ∷ rest) formed (simple_semicolon rest)
 
 -- a closing brace doesn't begin a declaration either, and a declaration is not a closing brace
 pub modifiers_brace : (ms : List Modifier) (t : TypeName) (rest : List Lexeme) → after_sign signs.CloseBrace (onto_all onto_modifier ms (onto_type t rest)) ≡ None
@@ -213,20 +171,18 @@ modifiers_brace (Volatile ∷ ms) t rest = refl
 modifiers_brace (Annotation name ∷ ms) t rest = refl
 
 -- no `else` begins a statement or a declaration
-post_else : (t : Expression) (rest : List Lexeme) → is_post t ≡ true → WellFormed false t → after_word words.Else (onto t rest) ≡ None
-post_else t rest post formed =
-    let h = post_head (λ k. (ks : List Lexeme) → after_word words.Else (k ∷ ks) ≡ None)
-    (record { number = λ text ks. refl; name = λ text ks. refl; yes' = λ ks. refl; no' = λ ks. refl; null = λ ks. refl; this = λ ks. refl; new = λ ks. refl; paren = λ ks. refl }) false t rest post formed in
-    ap (after_word words.Else) h.2 ∙ h.3 h.1
-
 while_else : (label : Option Text) (ks : List Lexeme) → after_word words.Else (onto_label_before label (Reserved words.While ∷ ks)) ≡ None
 while_else None ks = refl
 while_else (Some name) ks = refl
 
+for_else : (label : Option Text) (ks : List Lexeme) → after_word words.Else (onto_label_before label (Reserved words.For ∷ ks)) ≡ None
+for_else None ks = refl
+for_else (Some name) ks = refl
+
 statement_else : (t : Statement) (rest : List Lexeme) → WellFormedStatement t → after_word words.Else (onto_statement t rest) ≡ None
 statement_else (While label condition body) rest formed = while_else label (onto_condition condition (onto_statement body rest))
-statement_else (Assign target value) rest formed = post_else target (Marked signs.Assign ∷ onto value (Marked signs.Semicolon ∷ rest)) formed.0 formed.1
-statement_else (Evaluate value) rest formed = post_else value (Marked signs.Semicolon ∷ rest) (called value formed.0) formed.1
+statement_else (For label opening condition updates body) rest formed = for_else label (onto_head opening condition updates (onto_statement body rest))
+statement_else (Perform simple) rest formed = simple_else simple (Marked signs.Semicolon ∷ rest) formed
 statement_else (Block items) rest formed = refl
 statement_else Empty rest formed = refl
 statement_else (If condition first) rest formed = refl
@@ -235,6 +191,7 @@ statement_else (Break label) rest formed = refl
 statement_else (Continue label) rest formed = refl
 statement_else (Return value) rest formed = refl
 statement_else (Try body finally) rest formed = refl
+statement_else (Synchronized target body) rest formed = refl
 
 modifiers_else : (ms : List Modifier) (t : TypeName) (rest : List Lexeme) → after_word words.Else (onto_all onto_modifier ms (onto_type t rest)) ≡ None
 modifiers_else [] Int rest = refl
@@ -316,30 +273,53 @@ module _ (limit : ℕ) (statement : Reader Statement) (complete : CompleteStatem
   value_again (Some value) rest formed fits =
       rw (no_semicolon value (Marked signs.Semicolon ∷ rest), expression_complete limit value (Marked signs.Semicolon ∷ rest) formed fits (follow_semicolon 6 rest)) refl
 
-  -- a statement that begins by an expression
+  opening_again : (o : Opening) (rest : List Lexeme) → WellFormedOpening o → opening_height o ≤ limit → opening_at (local_at limit) (simple_at limit) (onto_opening o rest) ≡ Some (o, rest)
+  opening_again (Declares d) rest formed fits = rw (declaration_first d rest, local_complete limit d rest formed fits) refl
+  opening_again (Performs []) rest formed fits = refl
+  opening_again (Performs (s ∷ ss)) rest formed fits =
+      let o = simple_opens s (onto_all onto_next_simple ss (Marked signs.Semicolon ∷ rest)) formed.0 (others_follow signs.Semicolon semicolon_ends ss rest) in
+      rw (o.declares, simples_complete limit signs.Semicolon semicolon_ends (s ∷ ss) rest formed fits) refl
+
+  head_again : (o : Opening) (c : Option Expression) (us : List Simple) (rest : List Lexeme) → WellFormedOpening o → WellFormedValue c → WellFormedSimples us →
+      opening_height o ≤ limit → value_height c ≤ limit → simples_height us ≤ limit → head_in limit (onto_head o c us rest) ≡ Some ((o, c, us), rest)
+  head_again o c us rest formed formed' formed'' fits fits' fits'' =
+      let ks : List Lexeme = onto_simples us (Marked signs.CloseParen ∷ rest) in
+      rw (
+        opening_again o (onto_value c (Marked signs.Semicolon ∷ ks)) formed fits,
+        value_again c ks formed' fits',
+        simples_complete limit signs.CloseParen close_ends us rest formed'' fits'',
+      ) refl
+
   module _ (block : Reader Items) where
-    by_expression : (t : Expression) (rest : List Lexeme) → is_post t ≡ true → WellFormed false t → statement_of limit statement block (onto t rest) ≡ other_at (post_at limit false) (expression_at limit) statement (onto t rest)
+    -- a statement that begins by an expression
+    by_expression : (t : Expression) (rest : List Lexeme) → is_post t ≡ true → WellFormed false t →
+        statement_of limit statement block (onto t rest) ≡ other_at (simple_from (post_at limit false) (expression_at limit)) (expression_at limit) (head_in limit) statement (onto t rest)
     by_expression t rest post formed =
         let h = post_head (λ k. first_of k ≡ FirstOther)
         (record { number = λ text. refl; name = λ text. refl; yes' = refl; no' = refl; null = refl; this = refl; new = refl; paren = refl }) false t rest post formed in
-        ap (statement_of limit statement block) h.2 ∙ rw h.3 refl ∙ ap (other_at (post_at limit false) (expression_at limit) statement) (sym h.2)
+        ap (statement_of limit statement block) h.2 ∙ rw h.3 refl ∙ ap (other_at (simple_from (post_at limit false) (expression_at limit)) (expression_at limit) (head_in limit) statement) (sym h.2)
 
-    assign_again : (target value : Expression) (rest : List Lexeme) → is_post target ≡ true → WellFormed false target → WellFormed false value → expression_height target ≤ limit → expression_height value ≤ limit
-        → statement_of limit statement block (onto_statement (Assign target value) rest) ≡ Some (Assign target value, rest)
-    assign_again target value rest post formed formed' fits fits' =
-        let ks : List Lexeme = Marked signs.Assign ∷ onto value (Marked signs.Semicolon ∷ rest) in
-        by_expression target ks post formed
-        ∙ rw (
-          no_label target ks post formed refl,
-          post_complete limit target ks post formed fits (follow_assign 0 (onto value (Marked signs.Semicolon ∷ rest))),
-          expression_complete limit value (Marked signs.Semicolon ∷ rest) formed' fits' (follow_semicolon 6 rest),
-        ) refl
+    by_simple : (s : Simple) (rest : List Lexeme) → WellFormedSimple s →
+        statement_of limit statement block (onto_simple s rest) ≡ other_at (simple_from (post_at limit false) (expression_at limit)) (expression_at limit) (head_in limit) statement (onto_simple s rest)
+    by_simple (Assign target value) rest formed = by_expression target (Marked signs.Assign ∷ onto value rest) formed.0 formed.1
+    by_simple (Add target value) rest formed = by_expression target (Marked signs.PlusAssign ∷ onto value rest) formed.0 formed.1
+    by_simple (Count true true target) rest formed = refl
+    by_simple (Count false true target) rest formed = refl
+    by_simple (Count true false target) rest formed = by_expression target (Marked signs.Increment ∷ rest) formed.0 formed.1
+    by_simple (Count false false target) rest formed = by_expression target (Marked signs.Decrement ∷ rest) formed.0 formed.1
+    by_simple (Evaluate value) rest formed = by_expression value rest (called value formed.0) formed.1
 
-    evaluate_again : (value : Expression) (rest : List Lexeme) → is_call value ≡ true → WellFormed false value → expression_height value ≤ limit → statement_of limit statement block (onto_statement (Evaluate value) rest) ≡ Some (Evaluate value, rest)
-    evaluate_again value rest call formed fits =
+    perform_again : (s : Simple) (rest : List Lexeme) → WellFormedSimple s → simple_height s ≤ suc limit → statement_of limit statement block (onto_statement (Perform s) rest) ≡ Some (Perform s, rest)
+    perform_again s rest formed fits =
         let ks : List Lexeme = Marked signs.Semicolon ∷ rest in
-        by_expression value ks (called value call) formed
-        ∙ rw (no_label value ks (called value call) formed refl, post_complete limit value ks (called value call) formed fits (follow_semicolon 0 rest), call) refl
+        by_simple s ks formed ∙ rw (simple_label s ks formed (simple_semicolon rest), from_again limit s ks formed fits (simple_semicolon rest)) refl
+
+    for_again : (label : Option Text) (o : Opening) (c : Option Expression) (us : List Simple) (body : Statement) (rest : List Lexeme) → WellFormedStatement (For label o c us body) → statement_height (For label o c us body) ≤ suc limit →
+        (ends_open body ≡ true → after_word words.Else rest ≡ None) → statement_of limit statement block (onto_statement (For label o c us body) rest) ≡ Some (For label o c us body, rest)
+    for_again None o c us body rest formed fits stops =
+        rw (head_again o c us (onto_statement body rest) formed.0 formed.1 formed.2 (omega arith) (omega arith) (omega arith), complete body rest formed.3 (omega arith) stops) refl
+    for_again (Some name) o c us body rest formed fits stops =
+        rw (head_again o c us (onto_statement body rest) formed.0 formed.1 formed.2 (omega arith) (omega arith) (omega arith), complete body rest formed.3 (omega arith) stops) refl
 
     while_again : (label : Option Text) (condition : Expression) (body : Statement) (rest : List Lexeme) → WellFormed false condition → WellFormedStatement body → expression_height condition ≤ limit → statement_height body ≤ limit → (ends_open body ≡ true → after_word words.Else rest ≡ None)
         → statement_of limit statement block (onto_statement (While label condition body) rest) ≡ Some (While label condition body, rest)
@@ -360,13 +340,15 @@ module _ (limit : ℕ) (statement : Reader Statement) (complete : CompleteStatem
           complete second rest formed.3 (omega arith) stops,
         ) refl
     statement_of_complete blocks (While label condition body) rest formed fits stops = while_again label condition body rest formed.0 formed.1 (omega arith) (omega arith) stops
+    statement_of_complete blocks (For label o c us body) rest formed fits stops = for_again label o c us body rest formed fits stops
     statement_of_complete blocks (Break label) rest formed fits stops = rw (jump_again label rest) refl
     statement_of_complete blocks (Continue label) rest formed fits stops = rw (jump_again label rest) refl
     statement_of_complete blocks (Return value) rest formed fits stops = rw (value_again value rest formed (omega arith)) refl
     statement_of_complete blocks (Try body finally) rest formed fits stops =
         rw (blocks body (Reserved words.Finally ∷ onto_block finally rest) formed.0 (omega arith), blocks finally rest formed.1 (omega arith)) refl
-    statement_of_complete blocks (Assign target value) rest formed fits stops = assign_again target value rest formed.0 formed.1 formed.2 (omega arith) (omega arith)
-    statement_of_complete blocks (Evaluate value) rest formed fits stops = evaluate_again value rest formed.0 formed.1 (omega arith)
+    statement_of_complete blocks (Synchronized target body) rest formed fits stops =
+        rw (condition_again target (onto_block body rest) formed.0 (omega arith), blocks body rest formed.1 (omega arith)) refl
+    statement_of_complete blocks (Perform simple) rest formed fits stops = perform_again simple rest formed fits
 
 statement_pos : (t : Statement) → 1 ≤ statement_height t
 statement_pos (Block items) = omega arith
@@ -374,12 +356,13 @@ statement_pos Empty = omega arith
 statement_pos (If condition first) = omega arith
 statement_pos (IfElse condition first second) = omega arith
 statement_pos (While label condition body) = omega arith
+statement_pos (For label opening condition updates body) = omega arith
 statement_pos (Break label) = omega arith
 statement_pos (Continue label) = omega arith
 statement_pos (Return value) = omega arith
 statement_pos (Try body finally) = omega arith
-statement_pos (Assign target value) = omega arith
-statement_pos (Evaluate value) = omega arith
+statement_pos (Synchronized target body) = omega arith
+statement_pos (Perform simple) = simple_pos simple
 
 pub nested_complete : (limit : ℕ) → CompleteStatement (statement_at limit) limit × CompleteBlock (block_at limit) limit
 unfolding nested_at

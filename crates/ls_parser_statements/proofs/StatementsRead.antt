@@ -1,5 +1,5 @@
 -- Statements: what is read is spelled so and well-formed.
-use Rattle.std.proofs.Common.{◌≡◌, ℕ, zero, suc, ◌+◌, ◌≤◌, true, false, List, [], ◌∷◌, length, Option, Some, None, refl, sym, ap, subst, ◌∙◌, inl, inr, arith}
+use Rattle.std.proofs.Common.{◌≡◌, ℕ, zero, suc, ◌+◌, ◌≤◌, max, true, false, List, [], ◌∷◌, length, Option, Some, None, refl, sym, ap, subst, ◌∙◌, inl, inr, arith}
 use Rattle.std.proofs.lemmas.Bool.{cases_Bool}
 use Rattle.std.specs.List.{AllByRecursion}
 use Rattle.ls_lexer.specs.declared.sign.Sign.{Sign}
@@ -7,20 +7,21 @@ use Rattle.ls_lexer.specs.declared.sign.Sign.TheVariants as signs
 use Rattle.ls_lexer.specs.declared.word.Word.{Word}
 use Rattle.ls_lexer.specs.declared.word.Word.TheVariants as words
 use Rattle.ls_lexer.specs.Lexemes.{Lexeme, Named, Numeral, Reserved, Marked}
-use Rattle.ls_tree.specs.Trees.{Text, Expression, Statement, Block, Empty, If, IfElse, While, Break, Continue, Return, Try, Assign, Evaluate, Items, Piece, Doing, Declaring, collected}
-use Rattle.ls_tree.specs.WellFormed.{WellFormed, is_post, is_call, expression_height, declaration_height, statement_height, items_height, ends_open, WellFormedDeclaration, WellFormedStatement, WellFormedItems}
+use Rattle.ls_tree.specs.Trees.{Text, Expression, Declaration, Simple, Opening, Declares, Performs, Statement, Block, Empty, If, IfElse, While, For, Break, Continue, Return, Try, Perform, Synchronized, Items, Piece, Doing, Declaring, collected}
+use Rattle.ls_tree.specs.WellFormed.{WellFormed, expression_height, value_height, declaration_height, simples_height, opening_height, statement_height, items_height, ends_open, WellFormedValue, WellFormedDeclaration, WellFormedSimples, WellFormedOpening, WellFormedStatement, WellFormedItems}
 use Rattle.ls_parser_tokens.specs.Reading.{◌>>=◌, Reader, after_sign, after_word, name_at, not_yet, many_at}
 use Rattle.ls_parser_expressions.specs.ReadingExpressions.{expression_at, post_at}
 use Rattle.ls_parser_declarations.specs.ReadingDeclarations.{declaration_at, starts_declaration}
-use Rattle.ls_parser_statements.specs.ReadingStatements.{declared_at, piece_at, braces_at, block_in, condition_at, if_at, while_at, jump_at, value_at, break_at, continue_at, return_at, try_at, label_at, used_at, other_at, first_of_sign, first_of_word, statement_from, local_at, statement_of, nested_at, statement_at, block_at}
+use Rattle.ls_parser_statements.specs.ReadingStatements.{declared_at, piece_at, braces_at, block_in, condition_at, if_at, while_at, jump_at, value_at, break_at, continue_at, return_at, try_at, synchronized_at, label_at, simple_from, simple_at, simples_to, opening_at, head_in, for_at, perform_at, other_at, first_of_sign, first_of_word, statement_from, local_at, statement_of, nested_at, statement_at, block_at}
 use Rattle.ls_parser_expressions.proofs.Repeats.{bind_some, some_is}
-use Rattle.ls_parser_expressions.proofs.Signs.{guarded, either, given_cases, sign_reads, word_reads, name_reads}
+use Rattle.ls_parser_expressions.proofs.Signs.{either, given_cases, sign_reads, word_reads, name_reads}
 use Rattle.ls_parser_expressions.proofs.Shrinks.{Shrinks}
 use Rattle.ls_parser_expressions.proofs.Onto.{onto}
 use Rattle.ls_parser_expressions.proofs.Lists.{onto_all, SoundItem, many_sound}
-use Rattle.ls_parser_statements.proofs.OntoStatements.{onto_label, onto_label_before, onto_condition, onto_statement, onto_block, onto_piece, onto_collected, piece_longer}
-use Rattle.ls_parser_expressions.proofs.ExpressionsRead.{expression_sound, post_sound}
+use Rattle.ls_parser_statements.proofs.OntoStatements.{onto_label, onto_label_before, onto_value, onto_condition, onto_simple, onto_opening, onto_head, onto_statement, onto_block, onto_piece, onto_collected, piece_longer}
+use Rattle.ls_parser_expressions.proofs.ExpressionsRead.{expression_sound}
 use Rattle.ls_parser_declarations.proofs.DeclarationsRead.{declaration_sound}
+use Rattle.ls_parser_statements.proofs.SimplesRead.{from_sound, simples_sound}
 
 abbrev cons : Lexeme → List Lexeme → List Lexeme
 cons k ks = k ∷ ks
@@ -64,6 +65,72 @@ local_sound (suc limit) ks x e =
     let r = declaration_sound limit ks d.0 d.1 in
     subst (λ (y : Piece × List Lexeme). (ks ≡ onto_piece y.0 y.1) × FormedPiece (suc limit) y.0) (some_is (Declaring d.0.0, d.0.1) x d.2)
     (r.spelled, (r.formed, omega (arith, r.fits)))
+
+-- ---- values and heads
+
+record ReadsValue (limit : ℕ) (ks : List Lexeme) (x : Option Expression × List Lexeme) : Type 0 where
+  spelled : ks ≡ onto_value x.0 (Marked signs.Semicolon ∷ x.1)
+  formed : WellFormedValue x.0
+  fits : value_height x.0 ≤ limit
+
+value_sound : (limit : ℕ) (ks : List Lexeme) (x : Option Expression × List Lexeme) → value_at (expression_at limit) ks ≡ Some x → ReadsValue limit ks x
+value_sound limit ks x e =
+    elim (given_cases (after_sign signs.Semicolon ks) _ (expression_at limit ks >>= λ value. after_sign signs.Semicolon value.1 >>= λ rest. Some (Some value.0, rest)) (Some x) e) [
+      | inr none ↦ subst (ReadsValue limit ks) (some_is (None, none.0) x none.2) (record { spelled = sign_reads signs.Semicolon ks none.0 none.1; formed = tt; fits = omega arith })
+      | inl some ↦
+          let t = bind_some (expression_at limit ks) _ x some.1 in
+          let s = bind_some (after_sign signs.Semicolon t.0.1) _ x t.2 in
+          let value = expression_sound limit ks t.0 t.1 in
+          subst (ReadsValue limit ks) (some_is (Some t.0.0, s.0) x s.2)
+          (record { spelled = value.spelled ∙ ap (onto t.0.0) (sign_reads signs.Semicolon t.0.1 s.0 s.1); formed = value.formed; fits = value.fits })
+    ]
+
+record ReadsOpening (limit : ℕ) (ks : List Lexeme) (x : Opening × List Lexeme) : Type 0 where
+  spelled : ks ≡ onto_opening x.0 x.1
+  formed : WellFormedOpening x.0
+  fits : opening_height x.0 ≤ limit
+
+declared_sound : (limit : ℕ) (ks : List Lexeme) (d : Declaration × List Lexeme) → local_at limit ks ≡ Some d → ReadsOpening limit ks (Declares d.0, d.1)
+declared_sound zero ks d e = absurd cc
+declared_sound (suc limit) ks d e =
+    let r = declaration_sound limit ks d e in
+    record { spelled = r.spelled; formed = r.formed; fits = omega (arith, r.fits) }
+
+opening_sound : (limit : ℕ) (ks : List Lexeme) (x : Opening × List Lexeme) → opening_at (local_at limit) (simple_at limit) ks ≡ Some x → ReadsOpening limit ks x
+opening_sound limit ks x e =
+    elim (either (starts_declaration ks) (local_at limit ks >>= λ d. Some (Declares d.0, d.1)) (simples_to signs.Semicolon (simple_at limit) ks >>= λ all. Some (Performs all.0, all.1)) (Some x) e) [
+      | inl declared ↦
+          let d = bind_some (local_at limit ks) _ x declared.1 in
+          subst (ReadsOpening limit ks) (some_is (Declares d.0.0, d.0.1) x d.2) (declared_sound limit ks d.0 d.1)
+      | inr performed ↦
+          let all = bind_some (simples_to signs.Semicolon (simple_at limit) ks) _ x performed.1 in
+          let r = simples_sound limit signs.Semicolon ks all.0 all.1 in
+          subst (ReadsOpening limit ks) (some_is (Performs all.0.0, all.0.1) x all.2) (record { spelled = r.spelled; formed = r.formed; fits = r.fits })
+    ]
+
+record ReadsHead (limit : ℕ) (ks : List Lexeme) (x : (Opening × Option Expression × List Simple) × List Lexeme) : Type 0 where
+  spelled : ks ≡ onto_head x.0.0 x.0.1 x.0.2 x.1
+  opening : WellFormedOpening x.0.0
+  condition : WellFormedValue x.0.1
+  updates : WellFormedSimples x.0.2
+  fits : max (opening_height x.0.0) (max (value_height x.0.1) (simples_height x.0.2)) ≤ limit
+
+head_sound : (limit : ℕ) (ks : List Lexeme) (x : (Opening × Option Expression × List Simple) × List Lexeme) → head_in limit ks ≡ Some x → ReadsHead limit ks x
+head_sound limit ks x e =
+    let p = bind_some (after_sign signs.OpenParen ks) _ x e in
+    let o = bind_some (opening_at (local_at limit) (simple_at limit) p.0) _ x p.2 in
+    let v = bind_some (value_at (expression_at limit) o.0.1) _ x o.2 in
+    let u = bind_some (simples_to signs.CloseParen (simple_at limit) v.0.1) _ x v.2 in
+    let opening = opening_sound limit p.0 o.0 o.1 in
+    let condition = value_sound limit o.0.1 v.0 v.1 in
+    let updates = simples_sound limit signs.CloseParen v.0.1 u.0 u.1 in
+    subst (ReadsHead limit ks) (some_is ((o.0.0, v.0.0, u.0.0), u.0.1) x u.2) (record {
+      spelled = sign_reads signs.OpenParen ks p.0 p.1 ∙ ap (cons (Marked signs.OpenParen)) (opening.spelled ∙ ap (onto_opening o.0.0) (condition.spelled ∙ ap (λ (r : List Lexeme). onto_value v.0.0 (Marked signs.Semicolon ∷ r)) updates.spelled));
+      opening = opening.formed;
+      condition = condition.formed;
+      updates = updates.formed;
+      fits = omega (arith, opening.fits, condition.fits, updates.fits);
+    })
 
 module _ (limit : ℕ) (statement : Reader Statement) (sound : SoundStatement statement limit) where
   piece_sound : SoundItem onto_piece (FormedPiece limit) (piece_at (local_at limit) statement)
@@ -150,6 +217,19 @@ module _ (limit : ℕ) (statement : Reader Statement) (sound : SoundStatement st
         stops = body.stops;
       })
 
+  for_sound : (label : Option Text) (whole ks : List Lexeme) (x : Statement × List Lexeme) → whole ≡ onto_label_before label (Reserved words.For ∷ ks) → for_at (head_in limit) statement label ks ≡ Some x → ReadsStatement (suc limit) whole x
+  for_sound label whole ks x before e =
+      let h = bind_some (head_in limit ks) _ x e in
+      let d = bind_some (statement h.0.1) _ x h.2 in
+      let head = head_sound limit ks h.0 h.1 in
+      let body = sound h.0.1 d.0 d.1 in
+      subst (ReadsStatement (suc limit) whole) (some_is (For label h.0.0.0 h.0.0.1 h.0.0.2 d.0.0, d.0.1) x d.2) (record {
+        spelled = before ∙ ap (λ (r : List Lexeme). onto_label_before label (Reserved words.For ∷ r)) (head.spelled ∙ ap (onto_head h.0.0.0 h.0.0.1 h.0.0.2) body.spelled);
+        formed = (head.opening, head.condition, head.updates, body.formed);
+        fits = omega (arith, head.fits, body.fits);
+        stops = body.stops;
+      })
+
   jump_sound : (ks : List Lexeme) (x : Option Text × List Lexeme) → jump_at ks ≡ Some x → ks ≡ onto_label x.0 (Marked signs.Semicolon ∷ x.1)
   jump_sound ks x e =
       elim (given_cases (name_at ks) _ (after_sign signs.Semicolon ks >>= λ rest. Some (None, rest)) (Some x) e) [
@@ -176,18 +256,9 @@ module _ (limit : ℕ) (statement : Reader Statement) (sound : SoundStatement st
   return_sound : (ks : List Lexeme) (x : Statement × List Lexeme) → return_at (expression_at limit) ks ≡ Some x → ReadsStatement (suc limit) (Reserved words.Return ∷ ks) x
   return_sound ks x e =
       let v = bind_some (value_at (expression_at limit) ks) _ x e in
+      let value = value_sound limit ks v.0 v.1 in
       subst (ReadsStatement (suc limit) (Reserved words.Return ∷ ks)) (some_is (Return v.0.0, v.0.1) x v.2)
-      (elim (given_cases (after_sign signs.Semicolon ks) _ (expression_at limit ks >>= λ value. after_sign signs.Semicolon value.1 >>= λ rest. Some (Some value.0, rest)) (Some v.0) v.1) [
-        | inr none ↦
-            subst (λ (y : Option Expression × List Lexeme). ReadsStatement (suc limit) (Reserved words.Return ∷ ks) (Return y.0, y.1)) (some_is (None, none.0) v.0 none.2)
-            (record { spelled = ap (cons (Reserved words.Return)) (sign_reads signs.Semicolon ks none.0 none.1); formed = tt; fits = omega arith; stops = λ h. absurd cc })
-        | inl some ↦
-            let t = bind_some (expression_at limit ks) _ v.0 some.1 in
-            let s = bind_some (after_sign signs.Semicolon t.0.1) _ v.0 t.2 in
-            let value = expression_sound limit ks t.0 t.1 in
-            subst (λ (y : Option Expression × List Lexeme). ReadsStatement (suc limit) (Reserved words.Return ∷ ks) (Return y.0, y.1)) (some_is (Some t.0.0, s.0) v.0 s.2)
-            (record { spelled = ap (cons (Reserved words.Return)) (value.spelled ∙ ap (onto t.0.0) (sign_reads signs.Semicolon t.0.1 s.0 s.1)); formed = value.formed; fits = omega (arith, value.fits); stops = λ h. absurd cc })
-      ])
+      (record { spelled = ap (cons (Reserved words.Return)) value.spelled; formed = value.formed; fits = omega (arith, value.fits); stops = λ h. absurd cc })
 
   try_sound : (block : Reader Items) → SoundBlock block limit → (ks : List Lexeme) (x : Statement × List Lexeme) → try_at block ks ≡ Some x → ReadsStatement (suc limit) (Reserved words.Try ∷ ks) x
   try_sound block sound_block ks x e =
@@ -203,29 +274,30 @@ module _ (limit : ℕ) (statement : Reader Statement) (sound : SoundStatement st
         stops = λ h. absurd cc;
       })
 
-  used_sound : (target : Expression) (whole ks : List Lexeme) (x : Statement × List Lexeme) → whole ≡ onto target ks → is_post target ≡ true → WellFormed false target → expression_height target ≤ limit → used_at (expression_at limit) target ks ≡ Some x → ReadsStatement (suc limit) whole x
-  used_sound target whole ks x before post formed fits e =
-      elim (given_cases (after_sign signs.Assign ks) _ _ (Some x) e) [
-        | inr assign ↦
-            let t = bind_some (expression_at limit assign.0) _ x assign.2 in
-            let s = bind_some (after_sign signs.Semicolon t.0.1) _ x t.2 in
-            let value = expression_sound limit assign.0 t.0 t.1 in
-            subst (ReadsStatement (suc limit) whole) (some_is (Assign target t.0.0, s.0) x s.2) (record {
-              spelled = before ∙ ap (onto target) (sign_reads signs.Assign ks assign.0 assign.1 ∙ ap (cons (Marked signs.Assign)) (value.spelled ∙ ap (onto t.0.0) (sign_reads signs.Semicolon t.0.1 s.0 s.1)));
-              formed = (post, formed, value.formed);
-              fits = omega (arith, fits, value.fits);
-              stops = λ h. absurd cc;
-            })
-        | inl call ↦
-            let g = guarded (is_call target) _ x call.1 in
-            let s = bind_some (after_sign signs.Semicolon ks) _ x g.1 in
-            subst (ReadsStatement (suc limit) whole) (some_is (Evaluate target, s.0) x s.2) (record {
-              spelled = before ∙ ap (onto target) (sign_reads signs.Semicolon ks s.0 s.1);
-              formed = (g.0, formed);
-              fits = omega (arith, fits);
-              stops = λ h. absurd cc;
-            })
-      ]
+  synchronized_sound : (block : Reader Items) → SoundBlock block limit → (ks : List Lexeme) (x : Statement × List Lexeme) → synchronized_at (expression_at limit) block ks ≡ Some x → ReadsStatement (suc limit) (Reserved words.Synchronized ∷ ks) x
+  synchronized_sound block sound_block ks x e =
+      let t = bind_some (condition_at (expression_at limit) ks) _ x e in
+      let b = bind_some (block t.0.1) _ x t.2 in
+      let target = condition_sound ks t.0 t.1 in
+      let body = sound_block t.0.1 b.0 b.1 in
+      subst (ReadsStatement (suc limit) (Reserved words.Synchronized ∷ ks)) (some_is (Synchronized t.0.0 b.0.0, b.0.1) x b.2) (record {
+        spelled = ap (cons (Reserved words.Synchronized)) (target.spelled ∙ ap (onto_condition t.0.0) body.spelled);
+        formed = (target.formed, body.formed);
+        fits = omega (arith, target.fits, body.fits);
+        stops = λ h. absurd cc;
+      })
+
+  perform_sound : (ks : List Lexeme) (x : Statement × List Lexeme) → perform_at (simple_from (post_at limit false) (expression_at limit)) ks ≡ Some x → ReadsStatement (suc limit) ks x
+  perform_sound ks x e =
+      let f = bind_some (simple_from (post_at limit false) (expression_at limit) ks) _ x e in
+      let s = bind_some (after_sign signs.Semicolon f.0.1) _ x f.2 in
+      let simple = from_sound limit ks f.0 f.1 in
+      subst (ReadsStatement (suc limit) ks) (some_is (Perform f.0.0, s.0) x s.2) (record {
+        spelled = simple.spelled ∙ ap (onto_simple f.0.0) (sign_reads signs.Semicolon f.0.1 s.0 s.1);
+        formed = simple.formed.0;
+        fits = simple.formed.1;
+        stops = λ h. absurd cc;
+      })
 
   label_reads : (ks : List Lexeme) (x : Text × List Lexeme) → label_at ks ≡ Some x → ks ≡ Named x.0 ∷ Marked signs.Colon ∷ x.1
   label_reads ks x e =
@@ -233,16 +305,17 @@ module _ (limit : ℕ) (statement : Reader Statement) (sound : SoundStatement st
       let c = bind_some (after_sign signs.Colon n.0.1) _ x n.2 in
       name_reads ks n.0 n.1 ∙ ap (cons (Named n.0.0)) (sign_reads signs.Colon n.0.1 c.0 c.1) ∙ ap (λ (y : Text × List Lexeme). Named y.0 ∷ Marked signs.Colon ∷ y.1) (some_is (n.0.0, c.0) x c.2)
 
-  other_sound : SoundStatement (other_at (post_at limit false) (expression_at limit) statement) (suc limit)
+  other_sound : SoundStatement (other_at (simple_from (post_at limit false) (expression_at limit)) (expression_at limit) (head_in limit) statement) (suc limit)
   other_sound ks x e =
-      elim (given_cases (label_at ks) _ (post_at limit false ks >>= λ target. used_at (expression_at limit) target.0 target.1) (Some x) e) [
-        | inl used ↦
-            let p = bind_some (post_at limit false ks) _ x used.1 in
-            let target = post_sound limit false ks p.0 p.1 in
-            used_sound p.0.0 ks p.0.1 x target.spelled target.post target.formed target.fits p.2
+      elim (given_cases (label_at ks) _ (perform_at (simple_from (post_at limit false) (expression_at limit)) ks) (Some x) e) [
+        | inl used ↦ perform_sound ks x used.1
         | inr label ↦
-            let w = bind_some (after_word words.While label.0.1) _ x label.2 in
-            while_sound (Some label.0.0) ks w.0 x (label_reads ks label.0 label.1 ∙ ap (λ (r : List Lexeme). Named label.0.0 ∷ Marked signs.Colon ∷ r) (word_reads words.While label.0.1 w.0 w.1)) w.2
+            elim (given_cases (after_word words.While label.0.1) _ _ (Some x) label.2) [
+              | inr w ↦ while_sound (Some label.0.0) ks w.0 x (label_reads ks label.0 label.1 ∙ ap (λ (r : List Lexeme). Named label.0.0 ∷ Marked signs.Colon ∷ r) (word_reads words.While label.0.1 w.0 w.1)) w.2
+              | inl other ↦
+                  let w = bind_some (after_word words.For label.0.1) _ x other.1 in
+                  for_sound (Some label.0.0) ks w.0 x (label_reads ks label.0 label.1 ∙ ap (λ (r : List Lexeme). Named label.0.0 ∷ Marked signs.Colon ∷ r) (word_reads words.For label.0.1 w.0 w.1)) w.2
+            ]
       ]
 
   module _ (block : Reader Items) (sound_block : SoundBlock block limit) where
@@ -255,10 +328,12 @@ module _ (limit : ℕ) (statement : Reader Statement) (sound : SoundStatement st
     word_sound : (word : Word) (ks : List Lexeme) (x : Statement × List Lexeme) → statement_from (first_of_word word) limit statement block (piece_at (local_at limit) statement) (Reserved word ∷ ks) ks ≡ Some x → ReadsStatement (suc limit) (Reserved word ∷ ks) x
     word_sound words.If ks x e = if_sound ks x e
     word_sound words.While ks x e = while_sound None (Reserved words.While ∷ ks) ks x refl e
+    word_sound words.For ks x e = for_sound None (Reserved words.For ∷ ks) ks x refl e
     word_sound words.Break ks x e = break_sound ks x e
     word_sound words.Continue ks x e = continue_sound ks x e
     word_sound words.Return ks x e = return_sound ks x e
     word_sound words.Try ks x e = try_sound block sound_block ks x e
+    word_sound words.Synchronized ks x e = synchronized_sound block sound_block ks x e
     word_sound word ks x e = other_sound (Reserved word ∷ ks) x e
 
     statement_of_sound : SoundStatement (statement_of limit statement block) (suc limit)

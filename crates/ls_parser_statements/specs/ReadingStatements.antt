@@ -1,13 +1,13 @@
 -- Reading of statements.
-use Rattle.std.specs.Prelude.{ℕ, zero, suc, false, List, [], ◌∷◌, Option, Some, None, if◌then◌else◌}
+use Rattle.std.specs.Prelude.{ℕ, zero, suc, Bool, true, false, List, [], ◌∷◌, Option, Some, None, if◌then◌else◌}
 use Rattle.ls_lexer.specs.declared.word.Word.{Word}
 use Rattle.ls_lexer.specs.declared.word.Word.TheVariants as words
 use Rattle.ls_lexer.specs.declared.sign.Sign.{Sign}
 use Rattle.ls_lexer.specs.declared.sign.Sign.TheVariants as signs
 use Rattle.ls_lexer.specs.Lexemes.{Lexeme, Named, Numeral, Reserved, Marked}
-use Rattle.ls_tree.specs.Trees.{Text, Expression, Declaration, Statement, Block, Empty, If, IfElse, While, Break, Continue, Return, Try, Assign, Evaluate, Items, Piece, Doing, Declaring, collected}
+use Rattle.ls_tree.specs.Trees.{Text, Expression, Declaration, Simple, Statement, Block, Empty, If, IfElse, While, For, Break, Continue, Return, Try, Perform, Synchronized, Assign, Add, Count, Evaluate, Opening, Declares, Performs, Items, Piece, Doing, Declaring, collected}
 use Rattle.ls_tree.specs.WellFormed.{is_call}
-use Rattle.ls_parser_tokens.specs.Reading.{◌>>=◌, Reader, given, after_sign, after_word, name_at, many_at, not_yet}
+use Rattle.ls_parser_tokens.specs.Reading.{◌>>=◌, Reader, given, after_sign, after_word, name_at, starts, many_from, many_at, behind_comma, not_yet}
 use Rattle.ls_parser_expressions.specs.ReadingExpressions.{expression_at, post_at}
 use Rattle.ls_parser_declarations.specs.ReadingDeclarations.{declaration_at, starts_declaration}
 
@@ -80,33 +80,95 @@ try_at block ks =
     block ks >>= λ body. after_word words.Finally body.1 >>= λ rest.
     block rest >>= λ finally. Some (Try body.0 finally.0, finally.1)
 
+-- behind `synchronized`
+abbrev pub synchronized_at : Reader Expression → Reader Items → Reader Statement
+synchronized_at expression block ks =
+    condition_at expression ks >>= λ target. block target.1 >>= λ body. Some (Synchronized target.0 body.0, body.1)
+
 -- a name and a colon
 abbrev pub label_at : Reader Text
 label_at ks = name_at ks >>= λ name. after_sign signs.Colon name.1 >>= λ rest. Some (name.0, rest)
 
--- behind an expression without an operator
-abbrev pub used_at : Reader Expression → Expression → Reader Statement
-used_at expression target ks =
-    given (after_sign signs.Assign ks)
-    (λ rest. expression rest >>= λ value. after_sign signs.Semicolon value.1 >>= λ end. Some (Assign target value.0, end))
-    (if is_call target then (after_sign signs.Semicolon ks >>= λ end. Some (Evaluate target, end)) else None)
+-- `++` or `--`
+abbrev pub counted_at : Reader Bool
+counted_at ks =
+    given (after_sign signs.Increment ks) (λ rest. Some (true, rest))
+    (after_sign signs.Decrement ks >>= λ rest. Some (false, rest))
 
--- a loop with a label, an assignment or a call
-abbrev pub other_at : Reader Expression → Reader Expression → Reader Statement → Reader Statement
-other_at post expression statement ks =
-    given (label_at ks)
-    (λ label. after_word words.While label.1 >>= λ rest. while_at expression statement (Some label.0) rest)
+-- behind an expression without an operator
+abbrev pub used_at : Reader Expression → Expression → Reader Simple
+used_at expression target ks =
+    given (after_sign signs.Assign ks) (λ rest. expression rest >>= λ value. Some (Assign target value.0, value.1))
+    (given (after_sign signs.PlusAssign ks) (λ rest. expression rest >>= λ value. Some (Add target value.0, value.1))
+    (given (counted_at ks) (λ up. Some (Count up.0 false target, up.1))
+    (if is_call target then Some (Evaluate target, ks) else None)))
+
+abbrev pub simple_from : Reader Expression → Reader Expression → Reader Simple
+simple_from post expression ks =
+    given (counted_at ks) (λ up. post up.1 >>= λ target. Some (Count up.0 true target.0, target.1))
     (post ks >>= λ target. used_at expression target.0 target.1)
+
+-- a simple form of at most this height
+abbrev pub simple_at : ℕ → Reader Simple
+simple_at zero ks = None
+simple_at (suc limit) ks = simple_from (post_at limit false) (expression_at limit) ks
+
+-- one simple form or more, with commas between them
+abbrev pub simples_at : Reader Simple → Reader (List Simple)
+simples_at simple ks =
+    simple ks >>= λ first. many_from (first.0 ∷ []) (starts signs.Comma) (behind_comma simple) first.1
+
+-- simple forms, or none, and a sign behind them
+abbrev pub simples_to : Sign → Reader Simple → Reader (List Simple)
+simples_to stop simple ks =
+    given (after_sign stop ks) (λ rest. Some ([], rest))
+    (simples_at simple ks >>= λ all. after_sign stop all.1 >>= λ rest. Some (all.0, rest))
+
+-- what a `for` begins with, and a semicolon
+abbrev pub opening_at : Reader Declaration → Reader Simple → Reader Opening
+opening_at declaration simple ks =
+    if starts_declaration ks
+    then (declaration ks >>= λ d. Some (Declares d.0, d.1))
+    else (simples_to signs.Semicolon simple ks >>= λ all. Some (Performs all.0, all.1))
+
+-- the head of a `for`, in parentheses
+abbrev pub head_at : Reader Declaration → Reader Simple → Reader Expression → Reader (Opening × Option Expression × List Simple)
+head_at declaration simple expression ks =
+    after_sign signs.OpenParen ks >>= λ rest. opening_at declaration simple rest >>= λ opening.
+    value_at expression opening.1 >>= λ condition.
+    simples_to signs.CloseParen simple condition.1 >>= λ updates. Some ((opening.0, condition.0, updates.0), updates.1)
+
+-- behind `for`
+abbrev pub for_at : Reader (Opening × Option Expression × List Simple) → Reader Statement → Option Text → Reader Statement
+for_at head statement label ks =
+    head ks >>= λ h. statement h.1 >>= λ body. Some (For label h.0.0 h.0.1 h.0.2 body.0, body.1)
+
+-- a loop behind its label
+abbrev pub loop_at : Reader Expression → Reader (Opening × Option Expression × List Simple) → Reader Statement → Text → Reader Statement
+loop_at expression head statement label ks =
+    given (after_word words.While ks) (λ rest. while_at expression statement (Some label) rest)
+    (after_word words.For ks >>= λ rest. for_at head statement (Some label) rest)
+
+-- a simple form and a semicolon
+abbrev pub perform_at : Reader Simple → Reader Statement
+perform_at simple ks = simple ks >>= λ s. after_sign signs.Semicolon s.1 >>= λ rest. Some (Perform s.0, rest)
+
+-- a loop with a label, or a simple form
+abbrev pub other_at : Reader Simple → Reader Expression → Reader (Opening × Option Expression × List Simple) → Reader Statement → Reader Statement
+other_at simple expression head statement ks =
+    given (label_at ks) (λ label. loop_at expression head statement label.0 label.1) (perform_at simple ks)
 
 pub data First : Type 0 where
   FirstEmpty : First
   FirstBlock : First
   FirstIf : First
   FirstWhile : First
+  FirstFor : First
   FirstBreak : First
   FirstContinue : First
   FirstReturn : First
   FirstTry : First
+  FirstSynchronized : First
   FirstOther : First
 
 abbrev pub first_of_sign : Sign → First
@@ -117,10 +179,12 @@ first_of_sign _ = FirstOther
 abbrev pub first_of_word : Word → First
 first_of_word words.If = FirstIf
 first_of_word words.While = FirstWhile
+first_of_word words.For = FirstFor
 first_of_word words.Break = FirstBreak
 first_of_word words.Continue = FirstContinue
 first_of_word words.Return = FirstReturn
 first_of_word words.Try = FirstTry
+first_of_word words.Synchronized = FirstSynchronized
 first_of_word _ = FirstOther
 
 abbrev pub first_of : Lexeme → First
@@ -129,22 +193,29 @@ first_of (Numeral text) = FirstOther
 first_of (Reserved word) = first_of_word word
 first_of (Marked sign) = first_of_sign sign
 
+-- a local declaration of at most this height
+abbrev pub local_at : ℕ → Reader Declaration
+local_at zero ks = None
+local_at (suc limit) ks = declaration_at (expression_at limit) ks
+
+-- the head of a `for`, each part of at most this height
+abbrev pub head_in : ℕ → Reader (Opening × Option Expression × List Simple)
+head_in limit = head_at (local_at limit) (simple_at limit) (expression_at limit)
+
 -- the rest is behind the first token, all with it
 abbrev pub statement_from : First → ℕ → Reader Statement → Reader Items → Reader Piece → List Lexeme → Reader Statement
 statement_from FirstEmpty limit statement block piece all rest = Some (Empty, rest)
 statement_from FirstBlock limit statement block piece all rest = block_in (braces_at piece) all
 statement_from FirstIf limit statement block piece all rest = if_at (expression_at limit) statement rest
 statement_from FirstWhile limit statement block piece all rest = while_at (expression_at limit) statement None rest
+statement_from FirstFor limit statement block piece all rest = for_at (head_in limit) statement None rest
 statement_from FirstBreak limit statement block piece all rest = break_at rest
 statement_from FirstContinue limit statement block piece all rest = continue_at rest
 statement_from FirstReturn limit statement block piece all rest = return_at (expression_at limit) rest
 statement_from FirstTry limit statement block piece all rest = try_at block rest
-statement_from FirstOther limit statement block piece all rest = other_at (post_at limit false) (expression_at limit) statement all
-
--- a local declaration of at most this height
-abbrev pub local_at : ℕ → Reader Declaration
-local_at zero ks = None
-local_at (suc limit) ks = declaration_at (expression_at limit) ks
+statement_from FirstSynchronized limit statement block piece all rest = synchronized_at (expression_at limit) block rest
+statement_from FirstOther limit statement block piece all rest =
+    other_at (simple_from (post_at limit false) (expression_at limit)) (expression_at limit) (head_in limit) statement all
 
 abbrev pub statement_of : ℕ → Reader Statement → Reader Items → Reader Statement
 statement_of limit statement block [] = None

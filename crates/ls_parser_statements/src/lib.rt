@@ -2,4 +2,5 @@
 #![tactic(auto)]
 
 pub mod simple_statements;
+pub mod simples;
 pub mod statements;

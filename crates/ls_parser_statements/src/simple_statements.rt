@@ -6,16 +6,16 @@ ghost use Rattle.ls_lexer.specs.declared.word.Word.TheVariants as words;
 ghost use Rattle.ls_lexer.specs.Lexemes.{lexemes};
 ghost use Rattle.ls_lexer.specs.declared.sign.Sign.TheVariants as signs;
 ghost use Rattle.ls_tree.specs.Trees as trees;
-ghost use Rattle.ls_tree.specs.WellFormed.{expression_height, statement_height, piece_height, is_call};
-ghost use Rattle.ls_tree.specs.Views.{name_text, bare, bare_statement, bare_piece, bare_block};
+ghost use Rattle.ls_tree.specs.WellFormed.{expression_height, value_height, declaration_height, statement_height, piece_height};
+ghost use Rattle.ls_tree.specs.Views.{name_text, bare, bare_declaration, bare_statement, bare_piece, bare_block};
 ghost use Rattle.ls_tree.specs.PlacedTrees as placed_trees;
 ghost use Rattle.ls_tree.specs.Placed.{placed, placed_name};
-ghost use Rattle.ls_tree.specs.PlacedStatements.{placed_statement, placed_before, placed_items};
+ghost use Rattle.ls_tree.specs.PlacedStatements.{placed_declaration, placed_statement, placed_before, placed_items};
 ghost use Rattle.ls_parser_spelling.specs.Places.{Spot, spot, sign, spots, At};
-ghost use Rattle.ls_parser_spelling.specs.StatementPlaces.{word, ConditionAt, JumpAt, StatementAt, ItemsAt};
+ghost use Rattle.ls_parser_spelling.specs.StatementPlaces.{word, DeclarationAt, ConditionAt, JumpAt, ReturnedAt, StatementAt, ItemsAt};
 ghost use Rattle.ls_parser_tokens.specs.Answers.{Gives, Finds};
 ghost use Rattle.ls_parser_expressions.specs.ReadingExpressions.{expression_at};
-ghost use Rattle.ls_parser_statements.specs.ReadingStatements.{local_at, condition_at, jump_at, ended_at, label_at, used_at, declared_at, break_at, continue_at, return_at};
+ghost use Rattle.ls_parser_statements.specs.ReadingStatements.{local_at, condition_at, jump_at, ended_at, value_at, label_at, declared_at, break_at, continue_at, return_at};
 
 use ls_lexer::fault::TextFault;
 use ls_lexer::sign::Sign;
@@ -25,12 +25,34 @@ use ls_parser_declarations::declarations::declaration;
 use ls_parser_expressions::expressions::binary;
 use ls_parser_tokens::tokens::{
     Context, Enclosed, NamePart, Part, closed_part, expect, make_name, name_part, sign_part,
-    syntax, too_deep, upto,
+    too_deep, upto,
 };
-use ls_tree::tree::{Block, BlockItem, Expr, Name, Statement};
+use ls_tree::tree::{Block, BlockItem, Declaration, Expr, Name, Statement};
 use std::alloc::AllocError;
 
-#[tactic(auto, using(crate::proofs::StatementSteps::local_zero, crate::proofs::StatementSteps::local_step, crate::proofs::Places::one_declaration))]
+// A local declaration of at most this height.
+#[tactic(auto, using(crate::proofs::StatementSteps::local_zero, crate::proofs::StatementSteps::local_step))]
+pub fn local_declaration<'t, 'a>(
+    context: Context,
+    tokens: &'t [Token<'a>],
+    limit: usize,
+) -> Result<Part<'t, 'a, Declaration>, TextFault>
+    ensures read { Gives (λ p. (bare_declaration p.tree, lexemes p.rest.now)) result (local_at limit (lexemes tokens.now)) }
+    ensures places { IfOk result (λ p. DeclarationAt (placed_declaration p.tree) (spots tokens.now) (spots p.rest.now)) }
+    ensures height { IfOk result (λ p. (p.height ≡ declaration_height (bare_declaration p.tree)) × (p.height ≤ limit)) }
+{
+    if limit == 0 {
+        return Err(too_deep(context, tokens));
+    }
+    let found = declaration(context, tokens, limit - 1)?;
+    Ok(Part {
+        tree: found.tree,
+        height: found.height + 1,
+        rest: found.rest,
+    })
+}
+
+#[tactic(auto, using(crate::proofs::Places::one_declaration))]
 pub fn local<'t, 'a>(
     context: Context,
     tokens: &'t [Token<'a>],
@@ -40,13 +62,10 @@ pub fn local<'t, 'a>(
     ensures places { IfOk result (λ p. ItemsAt (placed_before p.tree placed_trees.NoItem) (spots tokens.now) (spots p.rest.now)) }
     ensures height { IfOk result (λ p. (p.height ≡ piece_height (bare_piece p.tree)) × (p.height ≤ limit)) }
 {
-    if limit == 0 {
-        return Err(too_deep(context, tokens));
-    }
-    let found = declaration(context, tokens, limit - 1)?;
+    let found = local_declaration(context, tokens, limit)?;
     Ok(Part {
         tree: BlockItem::Declaration(found.tree),
-        height: found.height + 1,
+        height: found.height,
         rest: found.rest,
     })
 }
@@ -160,7 +179,35 @@ fn ended<'t, 'a>(
     closed_part(context, value, Sign::Semicolon)
 }
 
+// A value or none, and a semicolon.
 #[tactic(auto, using(crate::proofs::Places::nothing_is, crate::proofs::Places::returned_is))]
+pub fn value_part<'t, 'a>(
+    context: Context,
+    tokens: &'t [Token<'a>],
+    limit: usize,
+) -> Result<Enclosed<'t, 'a, Option<Expr>>, TextFault>
+    ensures read { Gives (λ p. (option_map bare p.tree, lexemes p.rest.now)) result (value_at (expression_at limit) (lexemes tokens.now)) }
+    ensures places { IfOk result (λ p. ReturnedAt (option_map placed p.tree) p.end (spots tokens.now) (spots p.rest.now)) }
+    ensures height { IfOk result (λ p. (p.height ≡ value_height (option_map bare p.tree)) × (p.height ≤ limit)) }
+{
+    if let Some(end) = sign_part(tokens, Sign::Semicolon) {
+        return Ok(Enclosed {
+            tree: None,
+            height: 0,
+            end: end.span,
+            rest: end.rest,
+        });
+    }
+    let value = ended(context, tokens, limit)?;
+    Ok(Enclosed {
+        tree: Some(value.tree),
+        height: value.height,
+        end: value.end,
+        rest: value.rest,
+    })
+}
+
+#[tactic(auto, using(ls_parser_spelling::specs::StatementPlaces::return_at))]
 pub fn return_statement<'t, 'a>(
     context: Context,
     start: Span,
@@ -172,20 +219,10 @@ pub fn return_statement<'t, 'a>(
     ensures places { IfOk result (λ p. StatementAt (placed_statement p.tree) (word words.Return start ∷ spots tokens.now) (spots p.rest.now)) }
     ensures height { IfOk result (λ p. (p.height ≡ statement_height (bare_statement p.tree)) × (p.height ≤ limit + 1)) }
 {
-    if let Some(end) = sign_part(tokens, Sign::Semicolon) {
-        return Ok(Part {
-            tree: Statement::Return {
-                value: None,
-                span: upto(start, end.span),
-            },
-            height: 1,
-            rest: end.rest,
-        });
-    }
-    let value = ended(context, tokens, limit)?;
+    let value = value_part(context, tokens, limit)?;
     Ok(Part {
         tree: Statement::Return {
-            value: Some(value.tree),
+            value: value.tree,
             span: upto(start, value.end),
         },
         height: value.height + 1,
@@ -211,6 +248,13 @@ pub fn try_tree(body: Block, finally: Block, span: Span) -> Statement
     }
 }
 
+pub fn synchronized_tree(target: Expr, body: Block, span: Span) -> Statement
+    ensures read { bare_statement result ≡ trees.Synchronized (bare target) (bare_block body) }
+    ensures places { placed_statement result ≡ placed_trees.Synchronized (placed target) (placed_items body.items.items) }
+{
+    Statement::Synchronized { target, body, span }
+}
+
 // A name and a colon, and the tokens behind them.
 pub fn label_part<'t, 'a>(tokens: &'t [Token<'a>]) -> Option<NamePart<'t, 'a>>
     ensures read { Finds (λ l. (l.text.now, lexemes l.rest.now)) result (label_at (lexemes tokens.now)) }
@@ -222,54 +266,5 @@ pub fn label_part<'t, 'a>(tokens: &'t [Token<'a>]) -> Option<NamePart<'t, 'a>>
         text: found.text,
         span: found.span,
         rest: colon.rest,
-    })
-}
-
-pub fn is_call(tree: &Expr) -> bool
-    ensures { result ≡ is_call (bare tree.now) }
-{
-    matches!(
-        tree,
-        Expr::Call { .. } | Expr::New { .. } | Expr::NewMarkable { .. }
-    )
-}
-
-// What stands behind the target of an assignment or a call, with it.
-#[tactic(auto, using(crate::proofs::Places::assign_is, crate::proofs::Places::evaluate_is))]
-pub fn used<'t, 'a>(
-    context: Context,
-    target: Part<'t, 'a, Expr>,
-    limit: usize,
-) -> Result<Part<'t, 'a, Statement>, TextFault>
-    requires limit { limit + 1 < 2 ^ 64 }
-    requires height { (target.height ≡ expression_height (bare target.tree)) × (target.height ≤ limit) }
-    ensures read { Gives (λ p. (bare_statement p.tree, lexemes p.rest.now)) result (used_at (expression_at limit) (bare target.entry.tree) (lexemes target.entry.rest.now)) }
-    ensures places { IfOk result (λ p. (ss : List Spot) → At (placed target.entry.tree) ss (spots target.entry.rest.now) → StatementAt (placed_statement p.tree) ss (spots p.rest.now)) }
-    ensures height { IfOk result (λ p. (p.height ≡ statement_height (bare_statement p.tree)) × (p.height ≤ limit + 1)) }
-{
-    let start = target.tree.span();
-    if let Some(assign) = sign_part(target.rest, Sign::Assign) {
-        let value = ended(context, assign.rest, limit)?;
-        return Ok(Part {
-            tree: Statement::Assign {
-                target: target.tree,
-                value: value.tree,
-                span: upto(start, value.end),
-            },
-            height: target.height.max(value.height) + 1,
-            rest: value.rest,
-        });
-    }
-    if !is_call(&target.tree) {
-        return Err(syntax(context, target.rest));
-    }
-    let value = closed_part(context, target, Sign::Semicolon)?;
-    Ok(Part {
-        tree: Statement::Expression {
-            value: value.tree,
-            span: upto(start, value.end),
-        },
-        height: value.height + 1,
-        rest: value.rest,
     })
 }

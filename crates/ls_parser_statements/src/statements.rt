@@ -2,7 +2,7 @@
 
 ghost use Rattle.std.specs.Prelude.{◌≡◌, ◌+◌, ◌-◌, ◌<◌, ◌≤◌, ◌^◌, ◌∷◌, List, IfOk, Some, map, option_map, false};
 ghost use Rattle.ls_lexer.specs.declared.word.Word.TheVariants as words;
-ghost use Rattle.ls_lexer.specs.Lexemes.{lexeme_of, lexemes};
+ghost use Rattle.ls_lexer.specs.Lexemes.{Named, lexeme_of, lexemes};
 ghost use Rattle.ls_lexer.specs.declared.sign.Sign.TheVariants as signs;
 ghost use Rattle.ls_tree.specs.Trees as trees;
 ghost use Rattle.ls_tree.specs.WellFormed.{statement_height, items_height, piece_height};
@@ -10,26 +10,26 @@ ghost use Rattle.ls_tree.specs.Views.{name_text, bare_statement, bare_piece, ite
 ghost use Rattle.ls_tree.specs.PlacedTrees as placed_trees;
 ghost use Rattle.ls_tree.specs.Placed.{placed_name};
 ghost use Rattle.ls_tree.specs.PlacedStatements.{placed_statement, placed_before, placed_items};
-ghost use Rattle.ls_parser_spelling.specs.Places.{Spot, spot, spots};
+ghost use Rattle.ls_parser_spelling.specs.Places.{Spot, spot, sign, spots};
 ghost use Rattle.ls_parser_spelling.specs.StatementPlaces.{word, LabelAt, StatementAt, BlockAt, ItemsAt};
 ghost use Rattle.ls_parser_tokens.specs.Answers.{Gives};
 ghost use Rattle.ls_parser_tokens.specs.Reading.{one_more, many_at, not_yet};
 ghost use Rattle.ls_parser_expressions.specs.ReadingExpressions.{expression_at, post_at};
-ghost use Rattle.ls_parser_statements.specs.ReadingStatements.{piece_at, local_at, if_at, while_at, try_at, other_at, first_of, begun_at, statement_at, block_at, block_in};
+ghost use Rattle.ls_parser_statements.specs.ReadingStatements.{piece_at, local_at, head_in, if_at, while_at, for_at, loop_at, try_at, simple_from, synchronized_at, other_at, first_of, begun_at, statement_at, block_at, block_in};
 
 use crate::simple_statements::{
     block_tree, break_statement, condition, continue_statement, label_part, local,
-    return_statement, try_tree, used,
+    return_statement, synchronized_tree, try_tree,
 };
+use crate::simples::{head, performed};
 use ls_lexer::fault::TextFault;
 use ls_lexer::sign::Sign;
 use ls_lexer::token::{Span, Token, TokenKind};
 use ls_lexer::word::Word;
 use ls_parser_declarations::declarations::starts_declaration;
-use ls_parser_expressions::expressions::post;
 use ls_parser_tokens::tokens::{
-    Context, Part, boxed_part, closed_part, else_part, expect, expect_word, make_name, push,
-    span_to, starts_with, syntax, too_deep,
+    Context, NamePart, Part, boxed_part, closed_part, else_part, expect, expect_word, make_name,
+    push, span_to, starts_with, syntax, too_deep, word_part,
 };
 use ls_tree::tree::{Block, BlockItem, Name, Statement};
 use std::alloc::AllocError;
@@ -79,10 +79,12 @@ fn begun<'t, 'a>(
         TokenKind::Sign(Sign::OpenBrace) => block_statement(context, all, limit + 1),
         TokenKind::Word(Word::If) => if_statement(context, all, rest, limit),
         TokenKind::Word(Word::While) => while_statement(context, all, None, rest, limit),
+        TokenKind::Word(Word::For) => for_statement(context, all, None, rest, limit),
         TokenKind::Word(Word::Break) => break_statement(context, token.span, rest),
         TokenKind::Word(Word::Continue) => continue_statement(context, token.span, rest),
         TokenKind::Word(Word::Return) => return_statement(context, token.span, rest, limit),
         TokenKind::Word(Word::Try) => try_statement(context, all, rest, limit),
+        TokenKind::Word(Word::Synchronized) => synchronized_statement(context, all, rest, limit),
         _ => other_statement(context, all, limit),
     }
 }
@@ -284,6 +286,37 @@ fn while_statement<'t, 'a>(
 }
 
 #[cycle(statements)]
+#[tactic(auto, using(crate::proofs::Places::for_is))]
+fn for_statement<'t, 'a>(
+    context: Context,
+    all: &'t [Token<'a>],
+    label: Option<Name>,
+    tokens: &'t [Token<'a>],
+    limit: usize,
+) -> Result<Part<'t, 'a, Statement>, TextFault>
+    requires { limit + 1 < 2 ^ 64 }
+    ensures read { Gives (λ p. (bare_statement p.tree, lexemes p.rest.now)) result (for_at (head_in limit) (statement_at limit) (option_map name_text label) (lexemes tokens.now)) }
+    ensures places { IfOk result (λ p. (ss : List Spot) (s : Span) → LabelAt (option_map placed_name label) ss (word words.For s ∷ spots tokens.now) → StatementAt (placed_statement p.tree) ss (spots p.rest.now)) }
+    ensures height { IfOk result (λ p. (p.height ≡ statement_height (bare_statement p.tree)) × (p.height ≤ limit + 1)) }
+{
+    let head = head(context, tokens, limit)?;
+    let body = boxed_statement(context, head.rest, limit)?;
+    let (opening, condition, updates) = head.tree;
+    Ok(Part {
+        tree: Statement::For {
+            label,
+            opening,
+            condition,
+            updates,
+            body: body.tree,
+            span: span_to(all, body.rest),
+        },
+        height: head.height.max(body.height) + 1,
+        rest: body.rest,
+    })
+}
+
+#[cycle(statements)]
 #[tactic(auto, using(crate::proofs::Places::try_is))]
 fn try_statement<'t, 'a>(
     context: Context,
@@ -307,28 +340,66 @@ fn try_statement<'t, 'a>(
     })
 }
 
-// A loop with a label, an assignment or a call.
+#[cycle(statements)]
+#[tactic(auto, using(crate::proofs::Places::synchronized_is))]
+fn synchronized_statement<'t, 'a>(
+    context: Context,
+    all: &'t [Token<'a>],
+    tokens: &'t [Token<'a>],
+    limit: usize,
+) -> Result<Part<'t, 'a, Statement>, TextFault>
+    requires { limit + 1 < 2 ^ 64 }
+    ensures read { Gives (λ p. (bare_statement p.tree, lexemes p.rest.now)) result (synchronized_at (expression_at limit) (block_at limit) (lexemes tokens.now)) }
+    ensures places { IfOk result (λ p. (s : Span) → StatementAt (placed_statement p.tree) (word words.Synchronized s ∷ spots tokens.now) (spots p.rest.now)) }
+    ensures height { IfOk result (λ p. (p.height ≡ statement_height (bare_statement p.tree)) × (p.height ≤ limit + 1)) }
+{
+    let target = condition(context, tokens, limit)?;
+    let body = block(context, target.rest, limit)?;
+    let span = span_to(all, body.rest);
+    Ok(Part {
+        tree: synchronized_tree(target.tree, body.tree, span),
+        height: target.height.max(body.height) + 1,
+        rest: body.rest,
+    })
+}
+
+// A loop behind its label.
 #[cycle(statements)]
 #[tactic(auto, using(crate::proofs::Places::labelled))]
+fn labelled_loop<'t, 'a>(
+    context: Context,
+    all: &'t [Token<'a>],
+    found: NamePart<'t, 'a>,
+    limit: usize,
+) -> Result<Part<'t, 'a, Statement>, TextFault>
+    requires { limit + 1 < 2 ^ 64 }
+    ensures read { Gives (λ p. (bare_statement p.tree, lexemes p.rest.now)) result (loop_at (expression_at limit) (head_in limit) (statement_at limit) found.entry.text.now (lexemes found.entry.rest.now)) }
+    ensures places { IfOk result (λ p. (ss : List Spot) (colon : Span) → ss ≡ spot (Named found.entry.text.now) found.entry.span ∷ sign signs.Colon colon ∷ spots found.entry.rest.now → StatementAt (placed_statement p.tree) ss (spots p.rest.now)) }
+    ensures height { IfOk result (λ p. (p.height ≡ statement_height (bare_statement p.tree)) × (p.height ≤ limit + 1)) }
+{
+    if let Some(word) = word_part(found.rest, Word::While) {
+        let label = make_name(context, found.text, found.span)?;
+        return while_statement(context, all, Some(label), word.rest, limit);
+    }
+    let word = expect_word(context, found.rest, Word::For)?;
+    let label = make_name(context, found.text, found.span)?;
+    for_statement(context, all, Some(label), word.rest, limit)
+}
+
+// A loop with a label, or a simple form.
+#[cycle(statements)]
 fn other_statement<'t, 'a>(
     context: Context,
     tokens: &'t [Token<'a>],
     limit: usize,
 ) -> Result<Part<'t, 'a, Statement>, TextFault>
     requires { limit + 1 < 2 ^ 64 }
-    ensures read { Gives (λ p. (bare_statement p.tree, lexemes p.rest.now)) result (other_at (post_at limit false) (expression_at limit) (statement_at limit) (lexemes tokens.now)) }
+    ensures read { Gives (λ p. (bare_statement p.tree, lexemes p.rest.now)) result (other_at (simple_from (post_at limit false) (expression_at limit)) (expression_at limit) (head_in limit) (statement_at limit) (lexemes tokens.now)) }
     ensures places { IfOk result (λ p. StatementAt (placed_statement p.tree) (spots tokens.now) (spots p.rest.now)) }
     ensures height { IfOk result (λ p. (p.height ≡ statement_height (bare_statement p.tree)) × (p.height ≤ limit + 1)) }
 {
     match label_part(tokens) {
-        Some(found) => {
-            let word = expect_word(context, found.rest, Word::While)?;
-            let label = make_name(context, found.text, found.span)?;
-            while_statement(context, tokens, Some(label), word.rest, limit)
-        }
-        None => {
-            let target = post(context, tokens, limit, false)?;
-            used(context, target, limit)
-        }
+        Some(found) => labelled_loop(context, tokens, found, limit),
+        None => performed(context, tokens, limit),
     }
 }

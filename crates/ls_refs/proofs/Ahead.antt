@@ -5,7 +5,7 @@ use Rattle.std.specs.Global.{Vec}
 use Rattle.ls_lowered.specs.declared.tree.Statement as code
 use Rattle.ls_lowered.specs.declared.tree.Statement.TheVariants as variants
 use Rattle.ls_lowered.specs.declared.tree.Statement.TheOpen as shapes
-use Rattle.ls_lowered.specs.LoweredTree.{Statement, Block, SetLocal, SetField, SetItem, Evaluate, If, While, Return, Try, Guarded, Throw, Leavable, Leave, Statements, Done, Then}
+use Rattle.ls_lowered.specs.LoweredTree.{Statement, Block, SetLocal, SetField, AddField, SetItem, Evaluate, If, While, Return, Try, Guarded, Throw, Leavable, Leave, Statements, Done, Then}
 use Rattle.ls_lowered.specs.Plain.{plain_statement, in_front, statements_of}
 use Rattle.ls_lowered.specs.Course as low
 use Rattle.ls_lowered.specs.Statements as does
@@ -19,6 +19,7 @@ pub inner_is : (s : Statement) (ss : Statements) → inner_of s ≡ Some ss → 
 inner_is (Block xs) ss e = cc e
 inner_is (SetLocal n x) ss e = none_is_some e
 inner_is (SetField x f a) ss e = none_is_some e
+inner_is (AddField x f a) ss e = none_is_some e
 inner_is (SetItem a i x) ss e = none_is_some e
 inner_is (Evaluate x) ss e = none_is_some e
 inner_is (If x a b) ss e = none_is_some e
@@ -55,6 +56,7 @@ alone s h = by_shape (code.out-Statement s) (code.roll-out-Statement s)
     by_shape (shapes.Block v) e = absurd (h v (sym e ∙ variants.rolls-Block v))
     by_shape (shapes.SetLocal n x) e = ap (λ (z : Tree). inner_of (plain_statement z)) (sym e ∙ variants.rolls-SetLocal n x)
     by_shape (shapes.SetField x f a) e = ap (λ (z : Tree). inner_of (plain_statement z)) (sym e ∙ variants.rolls-SetField x f a)
+    by_shape (shapes.AddField x f a) e = ap (λ (z : Tree). inner_of (plain_statement z)) (sym e ∙ variants.rolls-AddField x f a)
     by_shape (shapes.SetItem a i x) e = ap (λ (z : Tree). inner_of (plain_statement z)) (sym e ∙ variants.rolls-SetItem a i x)
     by_shape (shapes.Evaluate x) e = ap (λ (z : Tree). inner_of (plain_statement z)) (sym e ∙ variants.rolls-Evaluate x)
     by_shape (shapes.If x a b) e = ap (λ (z : Tree). inner_of (plain_statement z)) (sym e ∙ variants.rolls-If x a b)

@@ -9,7 +9,7 @@ use Rattle.ls_events.specs.declared.value.Value.{Value}
 use Rattle.ls_events.specs.declared.value.Value.TheVariants.{Int, Boolean, Reference, Pair}
 use Rattle.ls_events.specs.declared.value.ValueType.{ValueType}
 use Rattle.ls_events.specs.declared.value.ValueType.TheVariants as types
-use Rattle.ls_checked.specs.declared.tree.Called.TheVariants.{Method as OfMethod, LockIt, UnlockIt, TryIt, AskIt, GetReference, IsMarked, SetBoth, Attempt}
+use Rattle.ls_checked.specs.declared.tree.Called.TheVariants.{Method as OfMethod, LockIt, UnlockIt, TryIt, AskIt, HoldMonitor, FreeMonitor, GetReference, IsMarked, SetBoth, Attempt}
 use Rattle.ls_checked.specs.CheckedTree.{File, Method, Expression, Call, Expressions, End, More}
 use Rattle.ls_meaning.specs.declared.sort.Sort.TheVariants.{NoValue, ValueOf, PairOf}
 use Rattle.ls_meaning.specs.Values.{truth_of, reference_of, mark_of, pair_of}
@@ -71,6 +71,19 @@ module _ (P : ℕ → ValueType → Type 0) (small : (n : ℕ) (t : ValueType) �
   unlock_agrees e a = record {
     good = λ base ls old h le room. then_agrees P _ _ _ _ base (base + 0) base old _ _ _ _ (omega arith) (omega arith) (a.good (base + 0) ls old h (omega arith) (omega arith)) (λ o l ho k.
         null_agrees P _ _ base l _ _ _ _ (reference_word P o types.Lock tt ho) (perform_agrees P base l (act.Unlock (reference_of o)) (act.Unlock (value_word o)) (ap act.Unlock (reference_word P o types.Lock tt ho))));
+  }
+
+  -- monitors
+  pub hold_agrees : (c : ℕ) (e : Expression) → Good P file calls calls' slots (ValueOf (types.Class c)) e → Good P file calls calls' slots NoValue (Call e (HoldMonitor c) End)
+  hold_agrees c e a = record {
+    good = λ base ls old h le room. then_agrees P _ _ _ _ base (base + 0) base old _ _ _ _ (omega arith) (omega arith) (a.good (base + 0) ls old h (omega arith) (omega arith)) (λ o l ho k.
+        null_agrees P _ _ base l _ _ _ _ (reference_word P o (types.Class c) tt ho) (perform_agrees P base l (act.LockMonitor (reference_of o)) (act.LockMonitor (value_word o)) (ap act.LockMonitor (reference_word P o (types.Class c) tt ho))));
+  }
+
+  pub free_agrees : (c : ℕ) (e : Expression) → Good P file calls calls' slots (ValueOf (types.Class c)) e → Good P file calls calls' slots NoValue (Call e (FreeMonitor c) End)
+  free_agrees c e a = record {
+    good = λ base ls old h le room. then_agrees P _ _ _ _ base (base + 0) base old _ _ _ _ (omega arith) (omega arith) (a.good (base + 0) ls old h (omega arith) (omega arith)) (λ o l ho k.
+        null_agrees P _ _ base l _ _ _ _ (reference_word P o (types.Class c) tt ho) (perform_agrees P base l (act.UnlockMonitor (reference_of o)) (act.UnlockMonitor (value_word o)) (ap act.UnlockMonitor (reference_word P o (types.Class c) tt ho))));
   }
 
   -- an answer that is a boolean is its own flag

@@ -7,7 +7,7 @@ use Rattle.ls_events.specs.declared.value.Value.{Value}
 use Rattle.ls_events.specs.declared.value.Value.TheVariants as values
 use Rattle.ls_events.specs.declared.value.ValueType.{ValueType}
 use Rattle.ls_events.specs.declared.value.ValueType.TheVariants as types
-use Rattle.ls_checked.specs.declared.tree.Called.TheVariants.{Method as OfMethod, LockIt, UnlockIt, TryIt, AskIt, GetReference, IsMarked, GetBoth, SetBoth, CompareAndSet, Attempt}
+use Rattle.ls_checked.specs.declared.tree.Called.TheVariants.{Method as OfMethod, LockIt, UnlockIt, TryIt, AskIt, HoldMonitor, FreeMonitor, GetReference, IsMarked, GetBoth, SetBoth, CompareAndSet, Attempt}
 use Rattle.ls_checked.specs.CheckedTree.{File, Method, Expression, Literal, Slot, Field, Item, Negate, Not, Binary, And, Or, Call, MakeObject, MakeLock, MakeMarkable, MakeArray, Expressions, End, More}
 use Rattle.ls_meaning.specs.declared.sort.Sort.{Sort}
 use Rattle.ls_meaning.specs.declared.sort.Sort.TheVariants.{NoValue, ValueOf, NewOf, PairOf}
@@ -25,7 +25,7 @@ use Rattle.ls_refs.proofs.Values.{reference_word, truth_word, int_word, int_fits
 use Rattle.ls_refs.proofs.Sim.{Agrees, gets_agrees, throws_agrees, then_agrees, ask_agrees, null_agrees, not_null_agrees, weaken}
 use Rattle.ls_refs.proofs.Operations.{operate_agrees, negate_agrees, not_agrees}
 use Rattle.ls_refs.proofs.Good.{holds_kept, get_within, CallsAgree, Good, Each, all_agree}
-use Rattle.ls_refs.proofs.CallForms.{method_agrees, lock_agrees, unlock_agrees, try_agrees, held_agrees, reference_agrees, marked_agrees, set_agrees, attempt_agrees, pair_arguments}
+use Rattle.ls_refs.proofs.CallForms.{method_agrees, lock_agrees, unlock_agrees, hold_agrees, free_agrees, try_agrees, held_agrees, reference_agrees, marked_agrees, set_agrees, attempt_agrees, pair_arguments}
 use Rattle.ls_refs.proofs.MarkForms.{both_agrees, swap_agrees}
 
 module _ (P : ℕ → ValueType → Type 0) (null : (n : ℕ) (t : ValueType) → n ≡ 0 → P n t) (small : (n : ℕ) (t : ValueType) → P n t → n < 2 ^ 32) where
@@ -143,8 +143,8 @@ module _ (P : ℕ → ValueType → Type 0) (null : (n : ℕ) (t : ValueType) �
         good = λ base ls old h le room.
             then_agrees P _ _ _ _ base base base old _ _ _ _ (omega arith) (omega arith) ((agrees e (ValueOf (types.Class c)) t.3).good base ls old h le room) (λ o l ho k.
             null_agrees P _ _ base l _ _ _ _ (reference_word P o (types.Class c) tt ho)
-            (subst (λ z. Agrees P (HasSort P (ValueOf t.0)) value_word base l (λ q. ask (act.ReadField (reference_of o) f) z q) (λ q. low.ask (act.ReadField (value_word o) f) l q)) (sym t.2)
-            (ask_agrees P base l (act.ReadField (reference_of o) f) (ValueOf t.0) (act.ReadField (value_word o) f) (ap (λ n. act.ReadField n f) (reference_word P o (types.Class c) tt ho)))));
+            (subst (λ z. Agrees P (HasSort P (ValueOf t.0)) value_word base l (λ q. ask (act.ReadField (reference_of o) f) z q) (λ q. low.ask (act.ReadField (value_word o) (f + 1)) l q)) (sym t.2)
+            (ask_agrees P base l (act.ReadField (reference_of o) f) (ValueOf t.0) (act.ReadField (value_word o) (f + 1)) (ap (λ n. act.ReadField n (f + 1)) (reference_word P o (types.Class c) tt ho)))));
       })
       agrees (Item a i) s t = good_of s (ValueOf types.Boolean) (Item a i) t.0 (record {
         good = λ base ls old h le room.
@@ -186,12 +186,16 @@ module _ (P : ℕ → ValueType → Type 0) (null : (n : ℕ) (t : ValueType) �
       agrees (Call e UnlockIt End) s t = good_of s NoValue (Call e UnlockIt End) t.0 (unlock_agrees P small file calls calls' called slots e (agrees e (ValueOf types.Lock) t.1))
       agrees (Call e TryIt End) s t = good_of s (ValueOf types.Boolean) (Call e TryIt End) t.0 (try_agrees P small file calls calls' called slots e (agrees e (ValueOf types.Lock) t.1))
       agrees (Call e AskIt End) s t = good_of s (ValueOf types.Boolean) (Call e AskIt End) t.0 (held_agrees P small file calls calls' called slots e (agrees e (ValueOf types.Lock) t.1))
+      agrees (Call e (HoldMonitor c) End) s t = good_of s NoValue (Call e (HoldMonitor c) End) t.0 (hold_agrees P small file calls calls' called slots c e (agrees e (ValueOf (types.Class c)) t.1))
+      agrees (Call e (FreeMonitor c) End) s t = good_of s NoValue (Call e (FreeMonitor c) End) t.0 (free_agrees P small file calls calls' called slots c e (agrees e (ValueOf (types.Class c)) t.1))
       agrees (Call e (GetReference c) End) s t = good_of s (ValueOf (types.Class c)) (Call e (GetReference c) End) t.0 (reference_agrees P small file calls calls' called slots c e (agrees e (ValueOf (types.Markable c)) t.1))
       agrees (Call e (IsMarked c) End) s t = good_of s (ValueOf types.Boolean) (Call e (IsMarked c) End) t.0 (marked_agrees P small file calls calls' called slots c e (agrees e (ValueOf (types.Markable c)) t.1))
       agrees (Call e LockIt (More a es)) s t = absurd t.2
       agrees (Call e UnlockIt (More a es)) s t = absurd t.2
       agrees (Call e TryIt (More a es)) s t = absurd t.2
       agrees (Call e AskIt (More a es)) s t = absurd t.2
+      agrees (Call e (HoldMonitor c) (More a es)) s t = absurd t.2
+      agrees (Call e (FreeMonitor c) (More a es)) s t = absurd t.2
       agrees (Call e (GetReference c) (More a es)) s t = absurd t.2
       agrees (Call e (IsMarked c) (More a es)) s t = absurd t.2
       agrees (Call e (GetBoth c) es) s t = good_of s (ValueOf (types.Class c)) (Call e (GetBoth c) es) t.0 (get_form e c es (agrees e (ValueOf (types.Markable c)) t.1) (each es (types.BooleanArray ∷ []) t.2))

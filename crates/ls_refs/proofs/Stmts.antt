@@ -7,7 +7,8 @@ use Rattle.ls_events.specs.declared.action.Action.TheVariants as act
 use Rattle.ls_events.specs.declared.value.Value.{Value}
 use Rattle.ls_events.specs.declared.value.ValueType.{ValueType}
 use Rattle.ls_events.specs.declared.value.ValueType.TheVariants as types
-use Rattle.ls_checked.specs.CheckedTree.{File, Expression, Statement, Block, SetSlot, SetField, SetItem, Evaluate, If, While, Break, Continue, ReturnNothing, ReturnValue, Try, Statements, Then}
+use Rattle.ls_checked.specs.CheckedTree.{File, Expression, Statement, Block, SetSlot, SetField, AddField, SetItem, Evaluate, If, While, Break, Continue, ReturnNothing, ReturnValue, Try, Statements, Then}
+use Rattle.ls_checked.specs.declared.tree.Operator.TheVariants.{Add}
 use Rattle.ls_checked.specs.CheckedTree as checked
 use Rattle.ls_meaning.specs.declared.sort.Sort.{Sort}
 use Rattle.ls_meaning.specs.declared.sort.Sort.TheVariants.{NoValue, ValueOf}
@@ -34,8 +35,9 @@ use Rattle.ls_refs_expressions.specs.Lowered.{lowered, lowered_statement, lowere
 use Rattle.ls_refs.specs.Laws.{answer_word, answer_words, in_words, Suited}
 use Rattle.ls_refs.proofs.Numbers.{int_back}
 use Rattle.ls_refs.proofs.Values.{reference_word, truth_word, int_word, int_fits}
-use Rattle.ls_refs.proofs.Sim.{suited_eq, word_ends, Sim, sim_eq, Agrees, then_agrees, perform_agrees, null_agrees}
+use Rattle.ls_refs.proofs.Sim.{suited_eq, word_ends, Sim, sim_eq, Agrees, then_agrees, ask_agrees, perform_agrees, null_agrees}
 use Rattle.ls_refs.proofs.Good.{Holds, holds_kept, get_within, CallsAgree}
+use Rattle.ls_refs.proofs.Operations.{operate_agrees}
 use Rattle.ls_refs.proofs.Exprs.{agrees}
 use Rattle.ls_refs.proofs.Ahead.{ahead_runs}
 use Rattle.ls_meaning.proofs.Shorter.{CallsWithin, evaluate_within, execute_within, turns_eq}
@@ -263,7 +265,16 @@ module _ (P : ℕ → ValueType → Type 0) (null : (n : ℕ) (t : ValueType) �
         (let b = base + temporaries x in
         then_agrees P _ _ _ _ base base b l _ _ _ _ (omega arith) (omega arith) (part x (ValueOf (types.Class t.0)) base ls l t.3 h le (omega arith)) (λ o l2 ho k.
         then_agrees P _ _ _ _ b b b l2 _ _ _ _ (omega arith) (omega arith) (part y (ValueOf t.1) b ls l2 t.4 (holds_kept P slots ls base l l2 le k h) (omega arith) (omega (arith, k.long))) (λ v l3 hv k2.
-        null_agrees P _ _ b l3 _ _ _ _ (reference_word P o (types.Class t.0) tt ho) (perform_agrees P b l3 (act.WriteField (reference_of o) f v) (act.WriteField (value_word o) f (value_word v)) (ap (λ n. act.WriteField n f (value_word v)) (reference_word P o (types.Class t.0) tt ho))))))
+        null_agrees P _ _ b l3 _ _ _ _ (reference_word P o (types.Class t.0) tt ho) (perform_agrees P b l3 (act.WriteField (reference_of o) f v) (act.WriteField (value_word o) (f + 1) (value_word v)) (ap (λ n. act.WriteField n (f + 1) (value_word v)) (reference_word P o (types.Class t.0) tt ho))))))
+        (λ v l2 hv h2 e2. ends_agrees P slots r room Normal ls l2 tt h2 e2)
+    agrees_by (AddField x f y) base ls l t h e le big = value_agrees P slots r room base l NoValue ls _ _ _ _ le e h
+        (let b = base + temporaries x in
+        then_agrees P _ _ _ _ base base b l _ _ _ _ (omega arith) (omega arith) (part x (ValueOf (types.Class t.0)) base ls l t.2 h le (omega arith)) (λ o l2 ho k.
+        then_agrees P _ _ _ _ b b b l2 _ _ _ _ (omega arith) (omega arith) (null_agrees P _ _ b l2 _ _ _ _ (reference_word P o (types.Class t.0) tt ho)
+        (ask_agrees P b l2 (act.ReadField (reference_of o) f) (ValueOf types.Int) (act.ReadField (value_word o) (f + 1)) (ap (λ n. act.ReadField n (f + 1)) (reference_word P o (types.Class t.0) tt ho)))) (λ a l3 ha k2.
+        then_agrees P _ _ _ _ b b b l3 _ _ _ _ (omega arith) (omega arith) (part y (ValueOf types.Int) b ls l3 t.3 (holds_kept P slots ls b l2 l3 (omega arith) k2 (holds_kept P slots ls base l l2 le k h)) (omega arith) (omega (arith, k.long, k2.long))) (λ c l4 hc k3.
+        then_agrees P _ _ _ _ b b b l4 _ _ _ (λ w ls q. low.unless_null (value_word o) ls q (low.perform (act.WriteField (value_word o) (f + 1) w) ls q)) (omega arith) (omega arith) (operate_agrees P Add types.Int a c b l4 refl ha hc) (λ v l5 hv k4.
+        null_agrees P _ _ b l5 _ _ _ _ (reference_word P o (types.Class t.0) tt ho) (perform_agrees P b l5 (act.WriteField (reference_of o) f v) (act.WriteField (value_word o) (f + 1) (value_word v)) (ap (λ n. act.WriteField n (f + 1) (value_word v)) (reference_word P o (types.Class t.0) tt ho))))))))
         (λ v l2 hv h2 e2. ends_agrees P slots r room Normal ls l2 tt h2 e2)
     agrees_by (SetItem x i y) base ls l t h e le big = value_agrees P slots r room base l NoValue ls _ _ _ _ le e h
         (let b = base + temporaries x in let c = base + temporaries x + temporaries i in

@@ -1,5 +1,5 @@
 -- What is proved: after answers in kind a call's words ask what the call asks.
-use Rattle.std.specs.Prelude.{◌≡◌, ℕ, List, [], ◌∷◌, map, option_map, Some, slice_get}
+use Rattle.std.specs.Prelude.{◌≡◌, ℕ, List, [], ◌∷◌, map, option_map, Some, slice_get, ◌+◌}
 use Rattle.ls_events.specs.declared.value.Value.{Value}
 use Rattle.ls_events.specs.declared.value.ValueType.{ValueType}
 use Rattle.ls_events.specs.declared.value.ValueType.TheVariants as types
@@ -18,10 +18,10 @@ use Rattle.ls_types_judgement.specs.Sorts.{HasSort, HaveTypes}
 use Rattle.ls_types_judgement.specs.Typing.{parameters_of}
 use Rattle.ls_refs_expressions.specs.Lowered.{lowered_file}
 
--- an action and an answer in words; objects keep their names
+-- an action and an answer in words; objects keep their names, and a field is named by its cell
 abbrev pub action_word : Action Value → Action ℕ
-action_word (act.ReadField o f) = act.ReadField o f
-action_word (act.WriteField o f v) = act.WriteField o f (value_word v)
+action_word (act.ReadField o f) = act.ReadField o (f + 1)
+action_word (act.WriteField o f v) = act.WriteField o (f + 1) (value_word v)
 action_word (act.ReadItem o i) = act.ReadItem o i
 action_word (act.WriteItem o i v) = act.WriteItem o i (value_word v)
 action_word (act.ReadName n) = act.ReadName n
@@ -34,6 +34,8 @@ action_word (act.Lock o) = act.Lock o
 action_word (act.Unlock o) = act.Unlock o
 action_word (act.TryLock o) = act.TryLock o
 action_word (act.IsHeld o) = act.IsHeld o
+action_word (act.LockMonitor o) = act.LockMonitor o
+action_word (act.UnlockMonitor o) = act.UnlockMonitor o
 action_word (act.ReadPair o) = act.ReadPair o
 action_word (act.SetPair o v) = act.SetPair o (value_word v)
 action_word (act.SwapPair o expected new) = act.SwapPair o (value_word expected) (value_word new)

@@ -21,6 +21,11 @@ pub fn count_statement(so_far: usize, s: &Statement) -> Option<usize>
             target,
             field: _,
             value,
+        }
+        | Statement::AddField {
+            target,
+            field: _,
+            value,
         } => { count_expression(count_expression(so_far, target)?, value) }
         Statement::SetItem {
             array,

@@ -113,6 +113,19 @@ pub fn lower_statement(
                 free: value.free,
             })
         }
+        Statement::AddField {
+            target,
+            field,
+            value,
+        } => {
+            let target = lower_expression(alloc, classes, free, target)?;
+            let value = lower_expression(alloc, classes, target.free, value);
+            let (target, value) = also(target, value)?;
+            Ok(Placed {
+                tree: Tree::AddField(target.tree, *field, value.tree),
+                free: value.free,
+            })
+        }
         Statement::SetItem {
             array,
             index,

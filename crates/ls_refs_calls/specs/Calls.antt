@@ -4,7 +4,7 @@ use Rattle.std.specs.Prelude.{ℕ, ◌+◌}
 use Rattle.ls_checked.specs.declared.tree.Operator.{Operator}
 use Rattle.ls_checked.specs.declared.tree.Operator.TheVariants as written
 use Rattle.ls_checked.specs.declared.tree.Called.{Called}
-use Rattle.ls_checked.specs.declared.tree.Called.TheVariants.{Method as OfMethod, LockIt, UnlockIt, TryIt, AskIt, GetReference, IsMarked, GetBoth, SetBoth, CompareAndSet, Attempt}
+use Rattle.ls_checked.specs.declared.tree.Called.TheVariants.{Method as OfMethod, LockIt, UnlockIt, TryIt, AskIt, HoldMonitor, FreeMonitor, GetReference, IsMarked, GetBoth, SetBoth, CompareAndSet, Attempt}
 use Rattle.ls_lowered.specs.declared.tree.UnaryOperator.TheVariants as unary
 use Rattle.ls_lowered.specs.declared.tree.BinaryOperator.{BinaryOperator}
 use Rattle.ls_lowered.specs.declared.tree.BinaryOperator.TheVariants as binary
@@ -72,6 +72,8 @@ lowered_call free LockIt o es = OnLock lock.Lock o
 lowered_call free UnlockIt o es = OnLock lock.Unlock o
 lowered_call free TryIt o es = OnLock lock.TryLock o
 lowered_call free AskIt o es = OnLock lock.IsHeld o
+lowered_call free (HoldMonitor class) o es = OnLock lock.LockMonitor o
+lowered_call free (FreeMonitor class) o es = OnLock lock.UnlockMonitor o
 lowered_call free (GetReference class) o es = Unary unary.ReferenceOf (ReadPair o)
 lowered_call free (IsMarked class) o es = Unary unary.MarkOf (ReadPair o)
 lowered_call free (GetBoth class) o es = get_both free o (first_of es)

@@ -68,6 +68,8 @@ pub fn own_temporaries(called: Called) -> usize
         | Called::UnlockIt
         | Called::TryIt
         | Called::AskIt
+        | Called::HoldMonitor(_)
+        | Called::FreeMonitor(_)
         | Called::GetReference(_)
         | Called::IsMarked(_)
         | Called::SetBoth
@@ -254,6 +256,8 @@ pub fn call(
         Called::UnlockIt => on_lock(alloc, LockOperation::Unlock, target),
         Called::TryIt => on_lock(alloc, LockOperation::TryLock, target),
         Called::AskIt => on_lock(alloc, LockOperation::IsHeld, target),
+        Called::HoldMonitor(_) => on_lock(alloc, LockOperation::LockMonitor, target),
+        Called::FreeMonitor(_) => on_lock(alloc, LockOperation::UnlockMonitor, target),
         Called::GetReference(_) => half_of(alloc, UnaryOperator::ReferenceOf, target),
         Called::IsMarked(_) => half_of(alloc, UnaryOperator::MarkOf, target),
         Called::GetBoth(_) => {

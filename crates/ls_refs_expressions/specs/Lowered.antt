@@ -2,7 +2,7 @@
 use Rattle.std.specs.Prelude.{ℕ, ◌+◌, ◌-◌, ◌*◌, List, length, map, Option, Some, None}
 use Rattle.ls_checked.specs.CheckedTree as checked
 use Rattle.ls_lowered.specs.declared.tree.UnaryOperator.TheVariants as unary
-use Rattle.ls_lowered.specs.LoweredTree.{Expression, Word, Local, Unary, Binary, And, Or, Field, Item, MakeObject, MakeLock, MakeMarkable, MakeArray, Expressions, End, More, Statement, Block, SetLocal, SetField, SetItem, Evaluate, If, While, Return, Try, Leavable, Leave, Statements, Done, Then, Method, File}
+use Rattle.ls_lowered.specs.LoweredTree.{Expression, Word, Local, Unary, Binary, And, Or, Field, Item, MakeObject, MakeLock, MakeMarkable, MakeArray, Expressions, End, More, Statement, Block, SetLocal, SetField, AddField, SetItem, Evaluate, If, While, Return, Try, Leavable, Leave, Statements, Done, Then, Method, File}
 use Rattle.ls_meaning.specs.Expressions.{constructor_of}
 use Rattle.ls_refs_calls.specs.ValueWords.{value_word}
 use Rattle.ls_refs_calls.specs.Calls.{lowered_operator, own_temporaries, first_of, second_of, pack, lowered_call}
@@ -59,6 +59,7 @@ abbrev mutual
   lowered_statement classes free (checked.Block ss) = Block (lowered_block classes free ss)
   lowered_statement classes free (checked.SetSlot n e) = SetLocal n (lowered classes free e)
   lowered_statement classes free (checked.SetField e field v) = SetField (lowered classes free e) field (lowered classes (free + temporaries e) v)
+  lowered_statement classes free (checked.AddField e field v) = AddField (lowered classes free e) field (lowered classes (free + temporaries e) v)
   lowered_statement classes free (checked.SetItem a i v) =
       SetItem (lowered classes free a) (lowered classes (free + temporaries a) i) (lowered classes (free + temporaries a + temporaries i) v)
   lowered_statement classes free (checked.Evaluate e) = Evaluate (lowered classes free e)

@@ -1,6 +1,6 @@
 -- How many temporaries a tree needs: those of its calls. Each try keeps two more for the lowering of finally blocks.
 use Rattle.std.specs.Prelude.{ℕ, ◌+◌, ◌*◌, length}
-use Rattle.ls_checked.specs.CheckedTree.{Expression, Literal, Slot, Field, Item, Negate, Not, Binary, And, Or, Call, MakeObject, MakeLock, MakeMarkable, MakeArray, Expressions, End, More, Statement, Block, SetSlot, SetField, SetItem, Evaluate, If, While, Break, Continue, ReturnNothing, ReturnValue, Try, Statements, Done, Then, Method}
+use Rattle.ls_checked.specs.CheckedTree.{Expression, Literal, Slot, Field, Item, Negate, Not, Binary, And, Or, Call, MakeObject, MakeLock, MakeMarkable, MakeArray, Expressions, End, More, Statement, Block, SetSlot, SetField, AddField, SetItem, Evaluate, If, While, Break, Continue, ReturnNothing, ReturnValue, Try, Statements, Done, Then, Method}
 use Rattle.ls_refs_calls.specs.Calls.{own_temporaries}
 
 abbrev mutual
@@ -29,6 +29,7 @@ abbrev mutual
   statement_temporaries (Block ss) = block_temporaries ss
   statement_temporaries (SetSlot n e) = temporaries e
   statement_temporaries (SetField e f v) = temporaries e + temporaries v
+  statement_temporaries (AddField e f v) = temporaries e + temporaries v
   statement_temporaries (SetItem a i v) = temporaries a + temporaries i + temporaries v
   statement_temporaries (Evaluate e) = temporaries e
   statement_temporaries (If e a b) = temporaries e + statement_temporaries a + statement_temporaries b

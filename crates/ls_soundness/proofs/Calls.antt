@@ -90,6 +90,14 @@ module _ (P : ℕ → ValueType → Type 0) (file : File) (w : Way P file) where
     pub held_good : Valued types.Boolean (λ q. ask (act.IsHeld (reference_of o)) (ValueOf types.Boolean) q)
     held_good = ask_good P file w (act.IsHeld (reference_of o)) (ValueOf types.Boolean) tt ((ne, reference_has P o types.Lock tt ho), refl)
 
+  -- operations of monitors
+  module _ (c : ℕ) (o : Value) (ho : HasType P o (types.Class c)) (ne : reference_of o ≢ 0) where
+    pub hold_good : Good P file w (HasSort P NoValue) (λ q. ask (act.LockMonitor (reference_of o)) NoValue q)
+    hold_good = ask_good P file w (act.LockMonitor (reference_of o)) NoValue tt (c, (ne, reference_has P o (types.Class c) tt ho), refl)
+
+    pub free_good : Good P file w (HasSort P NoValue) (λ q. ask (act.UnlockMonitor (reference_of o)) NoValue q)
+    free_good = ask_good P file w (act.UnlockMonitor (reference_of o)) NoValue tt (c, (ne, reference_has P o (types.Class c) tt ho), refl)
+
   -- operations of markables
   module _ (c : ℕ) (o : Value) (ho : HasType P o (types.Markable c)) (ne : reference_of o ≢ 0) where
     read_good : Good P file w (HasSort P (PairOf c)) (λ q. ask (act.ReadPair (reference_of o)) (PairOf c) q)

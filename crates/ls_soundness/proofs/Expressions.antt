@@ -9,7 +9,7 @@ use Rattle.ls_events.specs.declared.value.Value.TheVariants as values
 use Rattle.ls_events.specs.declared.value.ValueType.{ValueType}
 use Rattle.ls_events.specs.declared.value.ValueType.TheVariants as types
 use Rattle.ls_checked.specs.declared.tree.Called.{Called}
-use Rattle.ls_checked.specs.declared.tree.Called.TheVariants.{Method as OfMethod, LockIt, UnlockIt, TryIt, AskIt, GetReference, IsMarked, GetBoth, SetBoth, CompareAndSet, Attempt}
+use Rattle.ls_checked.specs.declared.tree.Called.TheVariants.{Method as OfMethod, LockIt, UnlockIt, TryIt, AskIt, HoldMonitor, FreeMonitor, GetReference, IsMarked, GetBoth, SetBoth, CompareAndSet, Attempt}
 use Rattle.ls_checked.specs.CheckedTree.{File, Method, Expression, Literal, Slot, Field, Item, Negate, Not, Binary, And, Or, Call, MakeObject, MakeLock, MakeMarkable, MakeArray, Expressions, End, More}
 use Rattle.ls_meaning.specs.declared.sort.Sort.{Sort}
 use Rattle.ls_meaning.specs.declared.sort.Sort.TheVariants.{NoValue, ValueOf, NewOf}
@@ -19,7 +19,7 @@ use Rattle.ls_types_judgement.specs.Sorts.{HasType, HasSort, HaveTypes}
 use Rattle.ls_types_judgement.specs.Typing.{IsTyped, AreTyped, result_type, answer_sort, parameters_of}
 use Rattle.ls_soundness.proofs.Values.{reference_has, literal_sort}
 use Rattle.ls_soundness.proofs.Ways.{Way, Good, results_good, then_good, weaken, ask_good, either_good, null_good, resort}
-use Rattle.ls_soundness.proofs.Calls.{operate_good, array_good, field_good, lock_good, unlock_good, try_good, held_good, reference_good, marked_good, both_good, set_good, swap_good, attempt_good, markable_good}
+use Rattle.ls_soundness.proofs.Calls.{operate_good, array_good, field_good, lock_good, unlock_good, hold_good, free_good, try_good, held_good, reference_good, marked_good, both_good, set_good, swap_good, attempt_good, markable_good}
 use Rattle.ls_soundness.proofs.Locals.{Locals}
 
 -- a call of a method, with `this` and arguments of the right types
@@ -82,6 +82,10 @@ module _ (P : ℕ → ValueType → Type 0) (null : (n : ℕ) (t : ValueType) �
         call_good NoValue LockIt types.Lock [] e es ls (λ o vs ho hvs ne. lock_good P file w o ho ne) (good_of e (ValueOf types.Lock) ls t.1 h) (all_good es [] ls t.2 h))
     good_of (Call e UnlockIt es) s ls t h = resort P file w s NoValue _ t.0 (
         call_good NoValue UnlockIt types.Lock [] e es ls (λ o vs ho hvs ne. unlock_good P file w o ho ne) (good_of e (ValueOf types.Lock) ls t.1 h) (all_good es [] ls t.2 h))
+    good_of (Call e (HoldMonitor c) es) s ls t h = resort P file w s NoValue _ t.0 (
+        call_good NoValue (HoldMonitor c) (types.Class c) [] e es ls (λ o vs ho hvs ne. hold_good P file w c o ho ne) (good_of e (ValueOf (types.Class c)) ls t.1 h) (all_good es [] ls t.2 h))
+    good_of (Call e (FreeMonitor c) es) s ls t h = resort P file w s NoValue _ t.0 (
+        call_good NoValue (FreeMonitor c) (types.Class c) [] e es ls (λ o vs ho hvs ne. free_good P file w c o ho ne) (good_of e (ValueOf (types.Class c)) ls t.1 h) (all_good es [] ls t.2 h))
     good_of (Call e TryIt es) s ls t h = resort P file w s (ValueOf types.Boolean) _ t.0 (
         call_good (ValueOf types.Boolean) TryIt types.Lock [] e es ls (λ o vs ho hvs ne. try_good P file w o ho ne) (good_of e (ValueOf types.Lock) ls t.1 h) (all_good es [] ls t.2 h))
     good_of (Call e AskIt es) s ls t h = resort P file w s (ValueOf types.Boolean) _ t.0 (

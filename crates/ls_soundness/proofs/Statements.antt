@@ -5,7 +5,8 @@ use Rattle.ls_events.specs.declared.action.Action.TheVariants as act
 use Rattle.ls_events.specs.declared.value.Value.{Value}
 use Rattle.ls_events.specs.declared.value.ValueType.{ValueType}
 use Rattle.ls_events.specs.declared.value.ValueType.TheVariants as types
-use Rattle.ls_checked.specs.CheckedTree.{File, Expression, Statement, Block, SetSlot, SetField, SetItem, Evaluate, If, While, Break, Continue, ReturnNothing, ReturnValue, Try, Statements, Then}
+use Rattle.ls_checked.specs.CheckedTree.{File, Expression, Statement, Block, SetSlot, SetField, AddField, SetItem, Evaluate, If, While, Break, Continue, ReturnNothing, ReturnValue, Try, Statements, Then}
+use Rattle.ls_checked.specs.declared.tree.Operator.TheVariants.{Add}
 use Rattle.ls_checked.specs.CheckedTree as checked
 use Rattle.ls_meaning.specs.declared.sort.Sort.{Sort}
 use Rattle.ls_meaning.specs.declared.sort.Sort.TheVariants.{NoValue, ValueOf}
@@ -22,7 +23,7 @@ use Rattle.ls_soundness.proofs.Values.{reference_has}
 use Rattle.ls_meaning.proofs.Followers.{Follower, finish_by, value_by, on_normal, then_by, finally_by, on_body, body_by}
 use Rattle.ls_refs.proofs.Stmts.{CompletionHas}
 use Rattle.ls_soundness.proofs.Ways.{Way, Sure, sure_same, Good, then_good, ask_good, null_good}
-use Rattle.ls_soundness.proofs.Calls.{field_there}
+use Rattle.ls_soundness.proofs.Calls.{field_there, operate_good}
 use Rattle.ls_soundness.proofs.Locals.{Locals, locals_set}
 use Rattle.ls_soundness.proofs.Expressions.{CallsGood, good_of}
 
@@ -126,6 +127,14 @@ module _ (P : ℕ → ValueType → Type 0) (null : (n : ℕ) (t : ValueType) �
         then_good P file w _ _ _ _ (part y (ValueOf t.1) ls t.4 h) (λ v hv.
         null_good P file w _ (reference_of o) _ (λ ne.
         ask_good P file w (act.WriteField (reference_of o) f v) NoValue tt (t.0, t.1, (ne, reference_has P o (types.Class t.0) tt ho), field_there file.classes t.0 f t.1 t.2, hv, refl)))))
+    good_by (AddField x f y) ls t h = normal_good P file w slots r ls NoValue _ h (
+        then_good P file w _ _ _ _ (part x (ValueOf (types.Class t.0)) ls t.2 h) (λ o ho.
+        then_good P file w _ _ _ _ (null_good P file w _ (reference_of o) _ (λ ne.
+        ask_good P file w (act.ReadField (reference_of o) f) (ValueOf types.Int) tt (t.0, types.Int, (ne, reference_has P o (types.Class t.0) tt ho), field_there file.classes t.0 f types.Int t.1, refl))) (λ a ha.
+        then_good P file w _ _ _ _ (part y (ValueOf types.Int) ls t.3 h) (λ b hb.
+        then_good P file w _ _ _ _ (operate_good P file w Add a b) (λ v hv.
+        null_good P file w _ (reference_of o) _ (λ ne.
+        ask_good P file w (act.WriteField (reference_of o) f v) NoValue tt (t.0, types.Int, (ne, reference_has P o (types.Class t.0) tt ho), field_there file.classes t.0 f types.Int t.1, hv, refl)))))))
     good_by (SetItem x i y) ls t h = normal_good P file w slots r ls NoValue _ h (
         then_good P file w _ _ _ _ (part x (ValueOf types.BooleanArray) ls t.0 h) (λ o ho.
         then_good P file w _ _ _ _ (part i (ValueOf types.Int) ls t.1 h) (λ n hn.

@@ -75,6 +75,8 @@ module _ (file : File) (there : HasItsClasses file) (program : Program) (things 
   body_action (act.Unlock n) s h = (refers_names n types.Lock h.0.0 h.0.1, h.1)
   body_action (act.TryLock n) s h = (refers_names n types.Lock h.0.0 h.0.1, h.1)
   body_action (act.IsHeld n) s h = (refers_names n types.Lock h.0.0 h.0.1, h.1)
+  body_action (act.LockMonitor n) s h = (h.0, refers_names n (types.Class h.0) h.1.0 h.1.1, h.2)
+  body_action (act.UnlockMonitor n) s h = (h.0, refers_names n (types.Class h.0) h.1.0 h.1.1, h.2)
   body_action (act.ReadPair n) s h = (h.0, refers_names n (types.Markable h.0) h.1.0 h.1.1, h.2)
   body_action (act.SetPair n v) s h = (h.0, refers_names n (types.Markable h.0) h.1.0 h.1.1, h.2, h.3)
   body_action (act.SwapPair n e d) s h = (h.0, refers_names n (types.Markable h.0) h.1.0 h.1.1, h.2, h.3, h.4)

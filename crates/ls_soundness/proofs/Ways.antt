@@ -8,7 +8,7 @@ use Rattle.ls_events.specs.declared.value.Value.{Value}
 use Rattle.ls_events.specs.declared.value.ValueType.{ValueType}
 use Rattle.ls_events.specs.declared.value.ValueType.TheVariants as types
 use Rattle.ls_events.specs.declared.action.Action.{Action}
-use Rattle.ls_events.specs.declared.action.Action.TheVariants.{ReadField, WriteField, ReadItem, WriteItem, New, NewLock, NewMarkable, NewArray, Lock, Unlock, TryLock, IsHeld, ReadPair, SetPair, SwapPair, AttemptMark, Turn, Enter}
+use Rattle.ls_events.specs.declared.action.Action.TheVariants.{ReadField, WriteField, ReadItem, WriteItem, New, NewLock, NewMarkable, NewArray, Lock, Unlock, TryLock, IsHeld, LockMonitor, UnlockMonitor, ReadPair, SetPair, SwapPair, AttemptMark, Turn, Enter}
 use Rattle.ls_events.specs.declared.action.Answer.{Answer}
 use Rattle.ls_events.specs.declared.action.Answer.TheVariants.{Done, Gives, Fails}
 use Rattle.ls_checked.specs.CheckedTree.{File, Method}
@@ -40,6 +40,8 @@ HasAction P file (Lock n) s = IsThing P n types.Lock × (s ≡ NoValue)
 HasAction P file (Unlock n) s = IsThing P n types.Lock × (s ≡ NoValue)
 HasAction P file (TryLock n) s = IsThing P n types.Lock × (s ≡ ValueOf types.Boolean)
 HasAction P file (IsHeld n) s = IsThing P n types.Lock × (s ≡ ValueOf types.Boolean)
+HasAction P file (LockMonitor n) s = (c : ℕ) × IsThing P n (types.Class c) × (s ≡ NoValue)
+HasAction P file (UnlockMonitor n) s = (c : ℕ) × IsThing P n (types.Class c) × (s ≡ NoValue)
 HasAction P file (ReadPair n) s = (c : ℕ) × IsThing P n (types.Markable c) × (s ≡ PairOf c)
 HasAction P file (SetPair n v) s = (c : ℕ) × IsThing P n (types.Markable c) × HasSortBy P v (PairOf c) × (s ≡ NoValue)
 HasAction P file (SwapPair n e d) s = (c : ℕ) × IsThing P n (types.Markable c) × HasSortBy P e (PairOf c) × HasSortBy P d (PairOf c) × (s ≡ ValueOf types.Boolean)

@@ -9,23 +9,24 @@ use Rattle.ls_events.specs.declared.value.ValueType.{ValueType}
 use Rattle.ls_events.specs.declared.value.ValueType.TheVariants as types
 use Rattle.ls_events.specs.declared.kind.Kind.TheVariants.{NullPointer, StackOverflow}
 use Rattle.ls_events.specs.declared.action.Action.{Action}
-use Rattle.ls_events.specs.declared.action.Action.TheVariants.{New, ReadPair, WriteField, WriteItem}
+use Rattle.ls_events.specs.declared.action.Action.TheVariants.{New, ReadPair, ReadField, WriteField, WriteItem}
 use Rattle.ls_events.specs.declared.action.Answer.{Answer}
 use Rattle.ls_events.specs.declared.action.Answer.TheVariants as answers
 use Rattle.ls_checked.specs.declared.tree.Operator.{Operator}
+use Rattle.ls_checked.specs.declared.tree.Operator.TheVariants.{Add}
 use Rattle.ls_checked.specs.declared.tree.Called.{Called}
-use Rattle.ls_checked.specs.declared.tree.Called.TheVariants.{Method as OfMethod, LockIt, UnlockIt, TryIt, AskIt, GetReference, IsMarked, GetBoth, SetBoth, CompareAndSet, Attempt}
-use Rattle.ls_checked.specs.CheckedTree.{Class, Method, File, Expression, Literal, Slot, Field, Item, Negate, Not, Binary, And, Or, Call, MakeObject, MakeLock, MakeMarkable, MakeArray, Expressions, End, More, Statement, Block, SetSlot, SetField, SetItem, Evaluate, If, While, Break, Continue, ReturnNothing, ReturnValue, Try, Statements, Done, Then}
+use Rattle.ls_checked.specs.declared.tree.Called.TheVariants.{Method as OfMethod, LockIt, UnlockIt, TryIt, AskIt, HoldMonitor, FreeMonitor, GetReference, IsMarked, GetBoth, SetBoth, CompareAndSet, Attempt}
+use Rattle.ls_checked.specs.CheckedTree.{Class, Method, File, Expression, Literal, Slot, Field, Item, Negate, Not, Binary, And, Or, Call, MakeObject, MakeLock, MakeMarkable, MakeArray, Expressions, End, More, Statement, Block, SetSlot, SetField, AddField, SetItem, Evaluate, If, While, Break, Continue, ReturnNothing, ReturnValue, Try, Statements, Done, Then}
 use Rattle.ls_meaning.specs.declared.sort.Sort.{Sort}
-use Rattle.ls_meaning.specs.declared.sort.Sort.TheVariants.{NoValue, NewOf, PairOf}
+use Rattle.ls_meaning.specs.declared.sort.Sort.TheVariants.{NoValue, ValueOf, NewOf, PairOf}
 use Rattle.ls_meaning.specs.declared.completion.Completion.{Completion}
 use Rattle.ls_meaning.specs.declared.completion.Completion.TheVariants.{Normal, Broke, Continued, Returned, Threw}
-use Rattle.ls_meaning.specs.Values.{int_of, truth_of, reference_of, mark_of, divides_by_zero, nothing}
+use Rattle.ls_meaning.specs.Values.{int_of, truth_of, reference_of, mark_of, operated, divides_by_zero, nothing}
 use Rattle.ls_meaning.specs.Course.{Answers, Evaluated, Asks as EAsks, Results, Throws, ask, with_value, on_object}
-use Rattle.ls_meaning.specs.Expressions.{Calls, evaluate, arguments, call, argument, constructor_of}
+use Rattle.ls_meaning.specs.Expressions.{Calls, operate, evaluate, arguments, call, argument, constructor_of}
 use Rattle.ls_meaning.specs.Statements.{Executed, AsksFor, Completes, on_value, and_normal, then_do, after_body, one_turn, turns, execute, execute_all}
 use Rattle.ls_meaning.specs.Methods.{invoke, run_body, leave, frame}
-use Rattle.ls_source_pending.specs.Pending.{Purpose, ToCall, ToMake, ToMark, Operand, InField, InItem, InIndex, InNegate, InNot, InLength, InLeft, InRight, InAnd, InOr, InTarget, InArgument, InMade, InConstructor, InReference, InMark, InBoth, InWritten, Waiting, ToSlot, ToTarget, ToField, ToArray, ToIndex, ToItem, ToNothing, ToIf, ToTest, ToReturn, Ending, OfSequence, OfBody, OfTry, OfFinally, Frame, In, On, Up, Leaves, Control, Evaluates, Argues, Applies, Invokes, Opens, Executes, Runs, Loops, Gives, Ends, Asks, Enters, Turns, State}
+use Rattle.ls_source_pending.specs.Pending.{Purpose, ToCall, ToMake, ToMark, Operand, InField, InItem, InIndex, InNegate, InNot, InLength, InLeft, InRight, InAnd, InOr, InTarget, InArgument, InMade, InConstructor, InReference, InMark, InBoth, InWritten, Waiting, ToSlot, ToTarget, ToField, ToCounter, ToAddend, ToSum, ToArray, ToIndex, ToItem, ToNothing, ToIf, ToTest, ToReturn, Ending, OfSequence, OfBody, OfTry, OfFinally, Frame, In, On, Up, Leaves, Control, Evaluates, Argues, Applies, Invokes, Opens, Executes, Runs, Loops, Gives, Ends, Asks, Enters, Turns, State}
 use Rattle.ls_source_pending.specs.Machine.{at, known, on_argument, on_right, on_left, on_target, on_called, on_written, evaluating, arguing, calling, applying, opening, filling, going_on, giving, executing, running, if_normal, after_loop, leaving, closing, ending, move, moved, answered, taking, taken, OfValue, OfEnd, Rest, evaluated, executed, applied, argued, filled, gone_on, closed, around, rest_of, done_now, meaning}
 use Rattle.ls_meaning.proofs.Shorter.{Within, WithinBy, CallsWithin, evaluate_within, execute_within, invoke_within, turn_eq, turns_eq}
 
@@ -97,6 +98,12 @@ module _ (file : File) (k : Rest) (d : ℕ) where
   written : (b : Bool) (action : Action Value) (ls : List Value) (q : Answers) → done_now file (around file (On ToNothing) k) (cond b (Ends (Threw NullPointer)) (Asks action NoValue)) d ls q ≡ executed k d (and_normal (cond b (Throws NullPointer q) (ask action NoValue q)) ls)
   written true action ls q = refl
   written false action ls q = on_frame ToNothing ls (ask action NoValue q)
+
+  -- the object, tested for null, of a read that a statement waits for
+  read_first : (b : Bool) (action : Action Value) (sort : Sort) (f : Waiting) (ls : List Value) (q : Answers) (go : Value → Answers → Evaluated Value) → ((v : Value) (q : Answers) → gone_on file d ls f v q ≡ and_normal (go v q) ls) →
+      done_now file (around file (On f) k) (cond b (Ends (Threw NullPointer)) (Asks action sort)) d ls q ≡ executed k d (and_normal (with_value (cond b (Throws NullPointer q) (ask action sort q)) go) ls)
+  read_first true action sort f ls q go h = refl
+  read_first false action sort f ls q go h = normal_frame f ls go h (ask action sort q)
 
   both_written : (b : Bool) (action : Action Value) (pair : Value) (ls : List Value) (q : Answers) → done_now file (around file (In (InWritten pair)) k) (cond b (Ends (Threw NullPointer)) (Asks action NoValue)) d ls q ≡ evaluated k d ls (cond b (Throws NullPointer q) (with_value (ask action NoValue q) (λ _ q. Results (values.Reference (reference_of pair)) q)))
   both_written true action pair ls q = refl
@@ -185,6 +192,8 @@ module _ (file : File) (base : Rest) (d : ℕ) (q : Answers) where
   calling_keeps UnlockIt o vs fs ls = refl
   calling_keeps TryIt o vs fs ls = refl
   calling_keeps AskIt o vs fs ls = refl
+  calling_keeps (HoldMonitor c) o vs fs ls = refl
+  calling_keeps (FreeMonitor c) o vs fs ls = refl
   calling_keeps (GetReference c) o vs fs ls = in_frame file (k fs) d InReference ls (ask (ReadPair (reference_of o)) (PairOf c) q)
   calling_keeps (IsMarked c) o vs fs ls = in_frame file (k fs) d InMark ls (ask (ReadPair (reference_of o)) (PairOf c) q)
   calling_keeps (GetBoth c) o vs fs ls = in_frame file (k fs) d (InBoth (reference_of (argument vs 0))) ls (ask (ReadPair (reference_of o)) (PairOf c) q)
@@ -229,6 +238,12 @@ module _ (file : File) (base : Rest) (d : ℕ) (q : Answers) where
   going_keeps (ToSlot n) v fs ls = refl
   going_keeps (ToTarget f e) v fs ls = normal_frame file (k fs) d (ToField v f) ls (λ w q. on_object v (WriteField (reference_of v) f w) NoValue q) (λ w q. refl) (E e ls)
   going_keeps (ToField o f) v fs ls = written file (k fs) d (nat_eq (reference_of o) 0) (WriteField (reference_of o) f v) ls q
+  going_keeps (ToCounter f e) v fs ls =
+      read_first file (k fs) d (nat_eq (reference_of v) 0) (ReadField (reference_of v) f) (ValueOf types.Int) (ToAddend v f e) ls q
+      (λ x q. with_value (evaluate file.classes (invoke file d) e ls q) (λ y q. with_value (operate Add x y q) (λ w q. on_object v (WriteField (reference_of v) f w) NoValue q))) (λ w q. refl)
+  going_keeps (ToAddend o f e) v fs ls =
+      normal_frame file (k fs) d (ToSum o f v) ls (λ y q. with_value (operate Add v y q) (λ w q. on_object o (WriteField (reference_of o) f w) NoValue q)) (λ w q. refl) (E e ls)
+  going_keeps (ToSum o f x) v fs ls = written file (k fs) d (nat_eq (reference_of o) 0) (WriteField (reference_of o) f (operated Add x v)) ls q
   going_keeps (ToArray i e) v fs ls = normal_frame file (k fs) d (ToIndex v e) ls (λ n q. with_value (evaluate file.classes (invoke file d) e ls q) (λ w q. on_object v (WriteItem (reference_of v) (int_of n) w) NoValue q)) (λ w q. refl) (E i ls)
   going_keeps (ToIndex o e) v fs ls = normal_frame file (k fs) d (ToItem o v) ls (λ w q. on_object o (WriteItem (reference_of o) (int_of v) w) NoValue q) (λ w q. refl) (E e ls)
   going_keeps (ToItem o n) v fs ls = written file (k fs) d (nat_eq (reference_of o) 0) (WriteItem (reference_of o) (int_of n) v) ls q
@@ -252,6 +267,9 @@ module _ (file : File) (base : Rest) (d : ℕ) (q : Answers) where
   executing_keeps (Block ss) fs ls = refl
   executing_keeps (SetSlot n e) fs ls = on_frame file (k fs) d (ToSlot n) ls (E e ls)
   executing_keeps (SetField e f v) fs ls = written_keeps (known e ls) e f v fs ls refl
+  executing_keeps (AddField e f v) fs ls =
+      normal_frame file (k fs) d (ToCounter f v) ls (λ o q. with_value (on_object o (ReadField (reference_of o) f) (ValueOf types.Int) q) (λ x q. with_value (evaluate file.classes (invoke file d) v ls q) (λ y q.
+      with_value (operate Add x y q) (λ w q. on_object o (WriteField (reference_of o) f w) NoValue q)))) (λ w q. refl) (E e ls)
   executing_keeps (SetItem a i v) fs ls = normal_frame file (k fs) d (ToArray i v) ls (λ o q. with_value (evaluate file.classes (invoke file d) i ls q) (λ n q. with_value (evaluate file.classes (invoke file d) v ls q) (λ w q. on_object o (WriteItem (reference_of o) (int_of n) w) NoValue q))) (λ w q. refl) (E a ls)
   executing_keeps (Evaluate e) fs ls = on_frame file (k fs) d ToNothing ls (E e ls)
   executing_keeps (If e a b) fs ls = on_frame file (k fs) d (ToIf a b) ls (E e ls)

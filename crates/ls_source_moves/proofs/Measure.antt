@@ -5,12 +5,12 @@ use Rattle.ls_events.specs.declared.value.Value.{Value}
 use Rattle.ls_events.specs.declared.value.ValueType.{ValueType}
 use Rattle.ls_checked.specs.declared.tree.Operator.{Operator}
 use Rattle.ls_checked.specs.declared.tree.Called.{Called}
-use Rattle.ls_checked.specs.declared.tree.Called.TheVariants.{Method as OfMethod, LockIt, UnlockIt, TryIt, AskIt, GetReference, IsMarked, GetBoth, SetBoth, CompareAndSet, Attempt}
-use Rattle.ls_checked.specs.CheckedTree.{Method, File, Expression, Literal, Slot, Field, Item, Negate, Not, Binary, And, Or, Call, MakeObject, MakeLock, MakeMarkable, MakeArray, Expressions, End, More, Statement, Block, SetSlot, SetField, SetItem, Evaluate, If, While, Break, Continue, ReturnNothing, ReturnValue, Try, Statements, Done, Then}
+use Rattle.ls_checked.specs.declared.tree.Called.TheVariants.{Method as OfMethod, LockIt, UnlockIt, TryIt, AskIt, HoldMonitor, FreeMonitor, GetReference, IsMarked, GetBoth, SetBoth, CompareAndSet, Attempt}
+use Rattle.ls_checked.specs.CheckedTree.{Method, File, Expression, Literal, Slot, Field, Item, Negate, Not, Binary, And, Or, Call, MakeObject, MakeLock, MakeMarkable, MakeArray, Expressions, End, More, Statement, Block, SetSlot, SetField, AddField, SetItem, Evaluate, If, While, Break, Continue, ReturnNothing, ReturnValue, Try, Statements, Done, Then}
 use Rattle.ls_meaning.specs.declared.completion.Completion.{Completion}
 use Rattle.ls_meaning.specs.declared.completion.Completion.TheVariants.{Normal, Broke, Continued, Returned, Threw}
 use Rattle.ls_meaning.specs.Values.{int_of, truth_of, reference_of, divides_by_zero}
-use Rattle.ls_source_pending.specs.Pending.{Purpose, ToCall, ToMake, ToMark, Operand, InField, InItem, InIndex, InNegate, InNot, InLength, InLeft, InRight, InAnd, InOr, InTarget, InArgument, InMade, InConstructor, InReference, InMark, InBoth, InWritten, Waiting, ToSlot, ToTarget, ToField, ToArray, ToIndex, ToItem, ToNothing, ToIf, ToTest, ToReturn, Ending, OfSequence, OfBody, OfTry, OfFinally, Frame, In, On, Up, Leaves, Control, Evaluates, Argues, Applies, Invokes, Opens, Executes, Runs, Loops, Gives, Ends, Asks, Enters, Turns, State}
+use Rattle.ls_source_pending.specs.Pending.{Purpose, ToCall, ToMake, ToMark, Operand, InField, InItem, InIndex, InNegate, InNot, InLength, InLeft, InRight, InAnd, InOr, InTarget, InArgument, InMade, InConstructor, InReference, InMark, InBoth, InWritten, Waiting, ToSlot, ToTarget, ToField, ToCounter, ToAddend, ToSum, ToArray, ToIndex, ToItem, ToNothing, ToIf, ToTest, ToReturn, Ending, OfSequence, OfBody, OfTry, OfFinally, Frame, In, On, Up, Leaves, Control, Evaluates, Argues, Applies, Invokes, Opens, Executes, Runs, Loops, Gives, Ends, Asks, Enters, Turns, State}
 use Rattle.ls_source_pending.specs.Machine.{known, on_argument, on_right, on_left, on_target, on_called, on_written, evaluating, arguing, calling, applying, opening, filling, going_on, giving, executing, running, if_normal, after_loop, leaving, closing, ending, move, moved, is_left}
 
 abbrev mutual
@@ -39,6 +39,7 @@ abbrev mutual
   heaviness (Block ss) = heaviness_all ss + 1
   heaviness (SetSlot n e) = weight e + 2
   heaviness (SetField a f b) = weight a + weight b + 3
+  heaviness (AddField a f b) = weight a + weight b + 4
   heaviness (SetItem a b c) = weight a + weight b + weight c + 3
   heaviness (Evaluate e) = weight e + 2
   heaviness (If e a b) = weight e + heaviness a + heaviness b + 1
@@ -77,6 +78,9 @@ abbrev pub waiting_load : Waiting → ℕ
 waiting_load (ToSlot n) = 1
 waiting_load (ToTarget f e) = weight e + 2
 waiting_load (ToField o f) = 2
+waiting_load (ToCounter f e) = weight e + 3
+waiting_load (ToAddend o f e) = weight e + 2
+waiting_load (ToSum o f x) = 2
 waiting_load (ToArray i e) = weight i + weight e + 2
 waiting_load (ToIndex o e) = weight e + 2
 waiting_load (ToItem o n) = 2
@@ -151,6 +155,7 @@ some_statement : (s : Statement) → 2 ≤ heaviness s
 some_statement (Block ss) = omega (arith, some_statements ss)
 some_statement (SetSlot n e) = omega arith
 some_statement (SetField a f b) = omega arith
+some_statement (AddField a f b) = omega arith
 some_statement (SetItem a b c) = omega arith
 some_statement (Evaluate e) = omega arith
 some_statement (If e a b) = omega (arith, two e)
@@ -185,6 +190,9 @@ waiting_loads : (f : Waiting) → 1 ≤ waiting_load f
 waiting_loads (ToSlot n) = omega arith
 waiting_loads (ToTarget f e) = omega arith
 waiting_loads (ToField o f) = omega arith
+waiting_loads (ToCounter f e) = omega arith
+waiting_loads (ToAddend o f e) = omega arith
+waiting_loads (ToSum o f x) = omega arith
 waiting_loads (ToArray i e) = omega arith
 waiting_loads (ToIndex o e) = omega arith
 waiting_loads (ToItem o n) = omega arith
@@ -258,6 +266,8 @@ module _ (file : File) where
   calling_less UnlockIt o vs fs ls d = omega arith
   calling_less TryIt o vs fs ls d = omega arith
   calling_less AskIt o vs fs ls d = omega arith
+  calling_less (HoldMonitor c) o vs fs ls d = omega arith
+  calling_less (FreeMonitor c) o vs fs ls d = omega arith
   calling_less (GetReference c) o vs fs ls d = omega arith
   calling_less (IsMarked c) o vs fs ls d = omega arith
   calling_less (GetBoth c) o vs fs ls d = omega arith
@@ -298,6 +308,9 @@ module _ (file : File) where
   going_less (ToSlot n) v fs ls d = omega arith
   going_less (ToTarget f e) v fs ls d = omega arith
   going_less (ToField o f) v fs ls d = by_test (nat_eq (reference_of o) 0) _ _ 1 (1 + load fs) _ (omega arith) (omega arith) (omega arith)
+  going_less (ToCounter f e) v fs ls d = by_test (nat_eq (reference_of v) 0) _ _ 1 (weight e + 2 + load fs) _ (omega arith) (omega arith) (omega arith)
+  going_less (ToAddend o f e) v fs ls d = omega arith
+  going_less (ToSum o f x) v fs ls d = by_test (nat_eq (reference_of o) 0) _ _ 1 (1 + load fs) _ (omega arith) (omega arith) (omega arith)
   going_less (ToArray i e) v fs ls d = omega arith
   going_less (ToIndex o e) v fs ls d = omega arith
   going_less (ToItem o n) v fs ls d = by_test (nat_eq (reference_of o) 0) _ _ 1 (1 + load fs) _ (omega arith) (omega arith) (omega arith)
@@ -310,6 +323,7 @@ module _ (file : File) where
   executing_less (Block ss) fs ls d = omega arith
   executing_less (SetSlot n e) fs ls d = omega arith
   executing_less (SetField e f v) fs ls d = written_less (known e ls) e f v fs ls d
+  executing_less (AddField e f v) fs ls d = omega arith
   executing_less (SetItem a i v) fs ls d = omega arith
   executing_less (Evaluate e) fs ls d = omega arith
   executing_less (If e a b) fs ls d = omega arith

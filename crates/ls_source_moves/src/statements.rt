@@ -3,21 +3,21 @@
 ghost use Rattle.std.specs.Prelude.{◌≡◌, ◌<◌, ◌∷◌, vec_len, vec_capacity, slice_set, if◌then◌else◌};
 ghost use Rattle.ls_checked.specs.Plain.{plain, plain_statement, statements_of};
 ghost use Rattle.ls_meaning.specs.Values.{int_of, reference_of, truth_of};
-ghost use Rattle.ls_source_pending.specs.Pending.{On, Up, ToNothing, OfBody, OfTry, OfFinally, OfSequence, Asks as PlainAsks, Evaluates as PlainEvaluates, Ends as PlainEnds, Runs as PlainRuns, Executes as PlainExecutes};
+ghost use Rattle.ls_source_pending.specs.Pending.{On, Up, ToNothing, ToAddend, OfBody, OfTry, OfFinally, OfSequence, Asks as PlainAsks, Evaluates as PlainEvaluates, Ends as PlainEnds, Runs as PlainRuns, Executes as PlainExecutes};
 ghost use Rattle.ls_source_pending.specs.Machine.{at, known, on_written, thrown_on_null, going_on, executing, running, if_normal, after_loop, closing};
 ghost use Rattle.ls_source_pending.specs.Seen.{waiting_of, ending_of, frames_of, control_of};
 ghost use Rattle.ls_source_pending.specs.SeenPending.{state_of};
 
-use ls_checked::tree::{Expression, Statement};
+use ls_checked::tree::{Expression, Operator, Statement};
 use ls_events::action::Action;
-use ls_events::value::Value;
+use ls_events::value::{Value, ValueType};
 use ls_meaning::completion::Completion;
 use ls_meaning::sort::Sort;
 use ls_source_pending::pending::Pending;
 use ls_source_pending::stack::push;
 use ls_source_pending::tables::known;
 use ls_source_pending::work::{Control, Ending, Frame, Waiting};
-use ls_source_values::value::{int_of, reference_of, truth_of};
+use ls_source_values::value::{int_of, operated, reference_of, truth_of};
 
 // What goes on after a normal completion.
 #[inline(always)]
@@ -85,6 +85,23 @@ fn write_field<'a>(pending: &mut Pending<'a>, o: Value, field: usize, value: Val
     };
     push(&mut pending.frames, Frame::Waiting(Waiting::Nothing));
     pending.asks_of(object, action, Sort::NoValue)
+}
+
+// The read of a field that is added to.
+fn read_counter<'a>(pending: &mut Pending<'a>, o: Value, field: usize, addend: &'a Expression)
+    requires { vec_len pending.old.frames < vec_capacity pending.old.frames }
+    ensures { state_of pending.new ≡ at (thrown_on_null (reference_of o) (PlainAsks (Action.ReadField (reference_of o) field) (Sort.ValueOf ValueType.Int))) (On (ToAddend o field (plain addend.now)) ∷ frames_of pending.old.frames.items) pending.old.locals.items pending.old.depth }
+{
+    let object = reference_of(o);
+    push(
+        &mut pending.frames,
+        Frame::Waiting(Waiting::Addend(o, field, addend)),
+    );
+    pending.asks_of(
+        object,
+        Action::ReadField { object, field },
+        Sort::ValueOf(ValueType::Int),
+    )
 }
 
 // The write of an item.
@@ -212,6 +229,11 @@ pub fn execute<'a>(pending: &mut Pending<'a>, s: &'a Statement)
             field,
             value,
         } => target_of_write(pending, target, *field, value),
+        Statement::AddField {
+            target,
+            field,
+            value,
+        } => wait(pending, Waiting::Counter(*field, value), target),
         Statement::SetItem {
             array,
             index,
@@ -248,6 +270,9 @@ pub fn go_on<'a>(pending: &mut Pending<'a>, f: Waiting<'a>, v: Value)
         Waiting::Slot(n) => write_local(pending, n, v),
         Waiting::Target(f, e) => wait(pending, Waiting::Field(v, f), e),
         Waiting::Field(o, field) => write_field(pending, o, field, v),
+        Waiting::Counter(f, e) => read_counter(pending, v, f, e),
+        Waiting::Addend(o, f, e) => wait(pending, Waiting::Sum(o, f, v), e),
+        Waiting::Sum(o, f, x) => write_field(pending, o, f, operated(Operator::Add, x, v)),
         Waiting::Array(i, e) => wait(pending, Waiting::Index(v, e), i),
         Waiting::Index(o, e) => wait(pending, Waiting::Item(o, v), e),
         Waiting::Item(o, n) => write_item(pending, o, n, v),

@@ -5,13 +5,14 @@ use Rattle.ls_events.specs.declared.value.Value.TheVariants as values
 use Rattle.ls_events.specs.declared.value.ValueType.{ValueType}
 use Rattle.ls_events.specs.declared.value.ValueType.TheVariants as types
 use Rattle.ls_events.specs.declared.kind.Kind.TheVariants.{Arithmetic, NegativeArraySize, NullPointer, StackOverflow}
-use Rattle.ls_events.specs.declared.action.Action.TheVariants.{ReadField, WriteField, ReadItem, WriteItem, New, NewLock, NewMarkable, NewArray, Lock, Unlock, TryLock, IsHeld, ReadPair, SetPair, SwapPair, AttemptMark, Enter, Turn}
+use Rattle.ls_events.specs.declared.action.Action.TheVariants.{ReadField, WriteField, ReadItem, WriteItem, New, NewLock, NewMarkable, NewArray, Lock, Unlock, TryLock, IsHeld, LockMonitor, UnlockMonitor, ReadPair, SetPair, SwapPair, AttemptMark, Enter, Turn}
 use Rattle.ls_events.specs.declared.action.Answer.{Answer}
 use Rattle.ls_events.specs.declared.action.Answer.TheVariants as answers
 use Rattle.ls_checked.specs.declared.tree.Operator.{Operator}
+use Rattle.ls_checked.specs.declared.tree.Operator.TheVariants.{Add}
 use Rattle.ls_checked.specs.declared.tree.Called.{Called}
-use Rattle.ls_checked.specs.declared.tree.Called.TheVariants.{Method as OfMethod, LockIt, UnlockIt, TryIt, AskIt, GetReference, IsMarked, GetBoth, SetBoth, CompareAndSet, Attempt}
-use Rattle.ls_checked.specs.CheckedTree.{Class, Method, File, Expression, Literal, Slot, Field, Item, Negate, Not, Binary, And, Or, Call, MakeObject, MakeLock, MakeMarkable, MakeArray, Expressions, End, More, Statement, Block, SetSlot, SetField, SetItem, Evaluate, If, While, Break, Continue, ReturnNothing, ReturnValue, Try, Statements, Done, Then}
+use Rattle.ls_checked.specs.declared.tree.Called.TheVariants.{Method as OfMethod, LockIt, UnlockIt, TryIt, AskIt, HoldMonitor, FreeMonitor, GetReference, IsMarked, GetBoth, SetBoth, CompareAndSet, Attempt}
+use Rattle.ls_checked.specs.CheckedTree.{Class, Method, File, Expression, Literal, Slot, Field, Item, Negate, Not, Binary, And, Or, Call, MakeObject, MakeLock, MakeMarkable, MakeArray, Expressions, End, More, Statement, Block, SetSlot, SetField, AddField, SetItem, Evaluate, If, While, Break, Continue, ReturnNothing, ReturnValue, Try, Statements, Done, Then}
 use Rattle.ls_meaning.specs.declared.sort.Sort.TheVariants.{NoValue, ValueOf, NewOf, PairOf}
 use Rattle.ls_meaning.specs.declared.completion.Completion.{Completion}
 use Rattle.ls_meaning.specs.declared.completion.Completion.TheVariants.{Normal, Broke, Continued, Returned, Threw}
@@ -21,7 +22,7 @@ use Rattle.ls_meaning.specs.Expressions.{evaluate, arguments, call, operate, arg
 use Rattle.ls_meaning.specs.Statements.{Executed, AsksFor, Completes, and_normal, then_do, finally_do, after_body, execute, execute_all}
 use Rattle.ls_meaning.specs.Methods.{invoke, run_body, leave, answer_without, frame}
 use Rattle.ls_meaning.specs.Threads.{Next, Goes}
-use Rattle.ls_source_pending.specs.Pending.{Purpose, ToCall, ToMake, ToMark, Operand, InField, InItem, InIndex, InNegate, InNot, InLength, InLeft, InRight, InAnd, InOr, InTarget, InArgument, InMade, InConstructor, InReference, InMark, InBoth, InWritten, Waiting, ToSlot, ToTarget, ToField, ToArray, ToIndex, ToItem, ToNothing, ToIf, ToTest, ToReturn, Ending, OfSequence, OfBody, OfTry, OfFinally, Frame, In, On, Up, Leaves, Control, Evaluates, Argues, Applies, Invokes, Opens, Executes, Runs, Loops, Gives, Ends, Asks, Enters, Turns, State}
+use Rattle.ls_source_pending.specs.Pending.{Purpose, ToCall, ToMake, ToMark, Operand, InField, InItem, InIndex, InNegate, InNot, InLength, InLeft, InRight, InAnd, InOr, InTarget, InArgument, InMade, InConstructor, InReference, InMark, InBoth, InWritten, Waiting, ToSlot, ToTarget, ToField, ToCounter, ToAddend, ToSum, ToArray, ToIndex, ToItem, ToNothing, ToIf, ToTest, ToReturn, Ending, OfSequence, OfBody, OfTry, OfFinally, Frame, In, On, Up, Leaves, Control, Evaluates, Argues, Applies, Invokes, Opens, Executes, Runs, Loops, Gives, Ends, Asks, Enters, Turns, State}
 
 -- The moves.
 
@@ -99,6 +100,8 @@ calling LockIt o vs fs ls d = at (Asks (Lock (reference_of o)) NoValue) fs ls d
 calling UnlockIt o vs fs ls d = at (Asks (Unlock (reference_of o)) NoValue) fs ls d
 calling TryIt o vs fs ls d = at (Asks (TryLock (reference_of o)) (ValueOf types.Boolean)) fs ls d
 calling AskIt o vs fs ls d = at (Asks (IsHeld (reference_of o)) (ValueOf types.Boolean)) fs ls d
+calling (HoldMonitor c) o vs fs ls d = at (Asks (LockMonitor (reference_of o)) NoValue) fs ls d
+calling (FreeMonitor c) o vs fs ls d = at (Asks (UnlockMonitor (reference_of o)) NoValue) fs ls d
 calling (GetReference c) o vs fs ls d = at (Asks (ReadPair (reference_of o)) (PairOf c)) (In InReference ∷ fs) ls d
 calling (IsMarked c) o vs fs ls d = at (Asks (ReadPair (reference_of o)) (PairOf c)) (In InMark ∷ fs) ls d
 calling (GetBoth c) o vs fs ls d = at (Asks (ReadPair (reference_of o)) (PairOf c)) (In (InBoth (reference_of (argument vs 0))) ∷ fs) ls d
@@ -141,6 +144,9 @@ abbrev pub going_on : Waiting → Value → List Frame → List Value → ℕ �
 going_on (ToSlot n) v fs ls d = at (Ends Normal) fs (slice_set ls n v) d
 going_on (ToTarget f e) v fs ls d = at (Evaluates e) (On (ToField v f) ∷ fs) ls d
 going_on (ToField o f) v fs ls d = at (thrown_on_null (reference_of o) (Asks (WriteField (reference_of o) f v) NoValue)) (On ToNothing ∷ fs) ls d
+going_on (ToCounter f e) v fs ls d = at (thrown_on_null (reference_of v) (Asks (ReadField (reference_of v) f) (ValueOf types.Int))) (On (ToAddend v f e) ∷ fs) ls d
+going_on (ToAddend o f e) v fs ls d = at (Evaluates e) (On (ToSum o f v) ∷ fs) ls d
+going_on (ToSum o f x) v fs ls d = at (thrown_on_null (reference_of o) (Asks (WriteField (reference_of o) f (operated Add x v)) NoValue)) (On ToNothing ∷ fs) ls d
 going_on (ToArray i e) v fs ls d = at (Evaluates i) (On (ToIndex v e) ∷ fs) ls d
 going_on (ToIndex o e) v fs ls d = at (Evaluates e) (On (ToItem o v) ∷ fs) ls d
 going_on (ToItem o n) v fs ls d = at (thrown_on_null (reference_of o) (Asks (WriteItem (reference_of o) (int_of n) v) NoValue)) (On ToNothing ∷ fs) ls d
@@ -165,6 +171,7 @@ abbrev pub executing : Statement → List Frame → List Value → ℕ → State
 executing (Block ss) fs ls d = at (Runs ss) fs ls d
 executing (SetSlot n e) fs ls d = at (Evaluates e) (On (ToSlot n) ∷ fs) ls d
 executing (SetField e f v) fs ls d = on_written (known e ls) e f v fs ls d
+executing (AddField e f v) fs ls d = at (Evaluates e) (On (ToCounter f v) ∷ fs) ls d
 executing (SetItem a i v) fs ls d = at (Evaluates a) (On (ToArray i v) ∷ fs) ls d
 executing (Evaluate e) fs ls d = at (Evaluates e) (On ToNothing ∷ fs) ls d
 executing (If e a b) fs ls d = at (Evaluates e) (On (ToIf a b) ∷ fs) ls d
@@ -324,6 +331,15 @@ gone_on file d ls (ToSlot n) v q = Completes Normal (slice_set ls n v) q
 gone_on file d ls (ToTarget f e) v q =
     and_normal (with_value (evaluate file.classes (invoke file d) e ls q) (λ w q. on_object v (WriteField (reference_of v) f w) NoValue q)) ls
 gone_on file d ls (ToField o f) v q = and_normal (on_object o (WriteField (reference_of o) f v) NoValue q) ls
+gone_on file d ls (ToCounter f e) v q =
+    and_normal (
+    with_value (on_object v (ReadField (reference_of v) f) (ValueOf types.Int) q) (λ x q. with_value (evaluate file.classes (invoke file d) e ls q) (λ y q.
+    with_value (operate Add x y q) (λ w q. on_object v (WriteField (reference_of v) f w) NoValue q)))) ls
+gone_on file d ls (ToAddend o f e) v q =
+    and_normal (
+    with_value (evaluate file.classes (invoke file d) e ls q) (λ y q.
+    with_value (operate Add v y q) (λ w q. on_object o (WriteField (reference_of o) f w) NoValue q))) ls
+gone_on file d ls (ToSum o f x) v q = and_normal (with_value (operate Add x v q) (λ w q. on_object o (WriteField (reference_of o) f w) NoValue q)) ls
 gone_on file d ls (ToArray i e) v q =
     and_normal (with_value (evaluate file.classes (invoke file d) i ls q) (λ n q. with_value (evaluate file.classes (invoke file d) e ls q) (λ w q. on_object v (WriteItem (reference_of v) (int_of n) w) NoValue q))) ls
 gone_on file d ls (ToIndex o e) v q =

@@ -43,6 +43,9 @@ abbrev pub waiting_of : Waiting → pending.Waiting
 waiting_of (waitings.Slot n) = pending.ToSlot n
 waiting_of (waitings.Target f e) = pending.ToTarget f (plain e.now)
 waiting_of (waitings.Field o f) = pending.ToField o f
+waiting_of (waitings.Counter f e) = pending.ToCounter f (plain e.now)
+waiting_of (waitings.Addend o f e) = pending.ToAddend o f (plain e.now)
+waiting_of (waitings.Sum o f x) = pending.ToSum o f x
 waiting_of (waitings.Array i e) = pending.ToArray (plain i.now) (plain e.now)
 waiting_of (waitings.Index o e) = pending.ToIndex o (plain e.now)
 waiting_of (waitings.Item o n) = pending.ToItem o n

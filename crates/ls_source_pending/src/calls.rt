@@ -115,6 +115,8 @@ impl<'a> Pending<'a> {
             Called::UnlockIt => self.asks(Action::Unlock(n), Sort::NoValue),
             Called::TryIt => self.asks(Action::TryLock(n), boolean),
             Called::AskIt => self.asks(Action::IsHeld(n), boolean),
+            Called::HoldMonitor(_) => self.asks(Action::LockMonitor(n), Sort::NoValue),
+            Called::FreeMonitor(_) => self.asks(Action::UnlockMonitor(n), Sort::NoValue),
             Called::GetReference(c) => self.read_pair(Operand::Reference, n, c),
             Called::IsMarked(c) => self.read_pair(Operand::Mark, n, c),
             Called::GetBoth(c) => {

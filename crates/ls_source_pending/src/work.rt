@@ -55,6 +55,10 @@ pub enum Waiting<'a> {
     Slot(usize),
     Target(usize, &'a Expression),
     Field(Value, usize),
+    /// What is added to a field: its object comes, then what it holds, then the addend.
+    Counter(usize, &'a Expression),
+    Addend(Value, usize, &'a Expression),
+    Sum(Value, usize, Value),
     Array(&'a Expression, &'a Expression),
     Index(Value, &'a Expression),
     Item(Value, Value),

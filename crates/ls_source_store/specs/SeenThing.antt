@@ -4,10 +4,12 @@ use Rattle.std.specs.Ordering.{nat_cmp}
 use Rattle.std.specs.BTreeMap.{BTreeMap, get}
 use Rattle.ls_events.specs.declared.value.Value.{Value}
 use Rattle.ls_events.specs.declared.value.Value.TheVariants.{Boolean}
-use Rattle.ls_meaning.specs.Store.{Thing, Object, FreeLock, HeldLock, Markable, Array}
-use Rattle.ls_meaning.specs.Effect.{Change, Stays, Leaves}
+use Rattle.ls_meaning.specs.Store.{Hold, Free, HeldBy, Thing, Object, LockOf, Markable, Array}
+use Rattle.ls_meaning.specs.Effect.{Change, Stays, Leaves, Holding, Awaits, Becomes}
+use Rattle.ls_source_store.specs.declared.thing.Hold.{Hold as KeptHold}
+use Rattle.ls_source_store.specs.declared.thing.Hold.TheVariants.{Free as KeptFree, HeldBy as KeptHeld}
 use Rattle.ls_source_store.specs.declared.thing.Thing.{Thing as KeptThing}
-use Rattle.ls_source_store.specs.declared.thing.Thing.TheVariants.{Object as KeptObject, FreeLock as KeptFree, HeldLock as KeptHeld, Markable as KeptMarkable, Array as KeptArray}
+use Rattle.ls_source_store.specs.declared.thing.Thing.TheVariants.{Object as KeptObject, Lock as KeptLock, Markable as KeptMarkable, Array as KeptArray}
 use Rattle.ls_source_store.specs.declared.thing.Effect.{Effect as Outcome}
 use Rattle.ls_source_store.specs.declared.thing.Effect.TheVariants.{Waits as HasToWait, Does as HasDone}
 
@@ -15,13 +17,21 @@ use Rattle.ls_source_store.specs.declared.thing.Effect.TheVariants.{Waits as Has
 abbrev pub items_of : BTreeMap ℕ Value → ℕ → Value
 items_of m i = unwrap_or (get nat_cmp m i) (Boolean false)
 
--- what a kept thing is
+-- what a kept hold is, and a kept thing
+abbrev pub hold_of : KeptHold → Hold
+hold_of KeptFree = Free
+hold_of (KeptHeld owner holds) = HeldBy owner holds
+
 abbrev pub thing_of : KeptThing → Thing
-thing_of (KeptObject fields) = Object fields.items
-thing_of KeptFree = FreeLock
-thing_of (KeptHeld owner holds) = HeldLock owner holds
+thing_of (KeptObject monitor fields) = Object (hold_of monitor) fields.items
+thing_of (KeptLock hold) = LockOf (hold_of hold)
 thing_of (KeptMarkable p) = Markable p
 thing_of (KeptArray size items) = Array size (items_of items)
+
+-- an outcome, with the hold that it leaves
+abbrev pub seen_holding : Hold → Outcome → Holding
+seen_holding h HasToWait = Awaits
+seen_holding h (HasDone answer) = Becomes h answer
 
 -- an outcome, with the thing that it leaves
 abbrev pub seen_change : Thing → Outcome → Change

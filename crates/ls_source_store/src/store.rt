@@ -7,7 +7,7 @@ ghost use Rattle.ls_meaning.specs.Effect.{Does, effect, making, on_thing, fields
 ghost use Rattle.ls_source_store.specs.SeenThing.{thing_of};
 ghost use Rattle.ls_source_store.specs.SeenStore.{store_of, seen_effect};
 
-use crate::thing::{Effect, Thing, change, done, gives};
+use crate::thing::{Effect, Hold, Thing, change, done, gives};
 use ls_checked::tree::Class;
 use ls_events::action::{Action, Answer};
 use ls_events::value::Value;
@@ -123,15 +123,20 @@ impl Store {
             Action::WriteName(n, v) => Ok(self.write_name(*n, *v)),
             Action::New(class) => {
                 let fields = fresh_fields(alloc, classes, *class)?;
-                self.make(Thing::Object(fields))
+                self.make(Thing::Object {
+                    monitor: Hold::Free,
+                    fields,
+                })
             }
-            Action::NewLock => self.make(Thing::FreeLock),
+            Action::NewLock => self.make(Thing::Lock(Hold::Free)),
             Action::NewMarkable(pair) => self.make(Thing::Markable(*pair)),
             Action::NewArray(length) => self.make(new_array(alloc, *length)),
             Action::Lock(o) => self.act_on(*o, thread, action),
             Action::Unlock(o) => self.act_on(*o, thread, action),
             Action::TryLock(o) => self.act_on(*o, thread, action),
             Action::IsHeld(o) => self.act_on(*o, thread, action),
+            Action::LockMonitor(o) => self.act_on(*o, thread, action),
+            Action::UnlockMonitor(o) => self.act_on(*o, thread, action),
             Action::ReadPair(o) => self.act_on(*o, thread, action),
             Action::SetPair(o, _) => self.act_on(*o, thread, action),
             Action::SwapPair { markable, .. } => self.act_on(*markable, thread, action),

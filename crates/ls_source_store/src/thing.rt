@@ -1,8 +1,8 @@
 // What is behind a reference, and what an action does to it.
 
 ghost use Rattle.std.specs.Prelude.{◌≡◌, IfOk, OnErr};
-ghost use Rattle.ls_meaning.specs.Effect.{change, in_range, reading_field, writing_field, reading_item, writing_item, locking, trying, unlocking, asking_held, reading_pair, setting_pair, swapping, attempting};
-ghost use Rattle.ls_source_store.specs.SeenThing.{items_of, thing_of, seen_change};
+ghost use Rattle.ls_meaning.specs.Effect.{change, in_range, reading_field, writing_field, reading_item, writing_item, locking, trying, unlocking, asking_held, on_lock, on_monitor, reading_pair, setting_pair, swapping, attempting};
+ghost use Rattle.ls_source_store.specs.SeenThing.{items_of, hold_of, thing_of, seen_holding, seen_change};
 
 use ls_events::action::{Action, Answer};
 use ls_events::kind::Kind;
@@ -11,17 +11,29 @@ use ls_source_values::value::{reference_of, same_pair};
 use std::alloc::AllocError;
 use std::collections::BTreeMap;
 
+/// Whether a lock, or the monitor of an object, is free.
+#[derive(Copy)]
+pub enum Hold {
+    Free,
+    /// The number of the thread that owns it, and how many times that holds it.
+    HeldBy { owner: usize, holds: u32 },
+}
+
+impl Clone for Hold {
+    fn clone(&self) -> Result<Hold, AllocError> {
+        Ok(*self)
+    }
+}
+
 /// What is behind a reference. Of an array the items that have been written are kept, whatever its size.
 #[derive(Drop)]
 pub enum Thing {
-    /// An object's fields in text order.
-    Object(Vec<Value>),
-    FreeLock,
-    /// A lock with the number of the thread that owns it, and how many times that holds it.
-    HeldLock {
-        owner: usize,
-        holds: u32,
+    /// An object's monitor, and its fields in text order.
+    Object {
+        monitor: Hold,
+        fields: Vec<Value>,
     },
+    Lock(Hold),
     /// The pair of a markable.
     Markable(Value),
     /// An array with its size and the items that have been written: `item_at` tells the others.
@@ -97,7 +109,7 @@ fn read_field(thing: &Thing, f: usize) -> Effect
     ensures { seen_change (thing_of thing.now) result ≡ reading_field f (thing_of thing.now) }
 {
     match thing {
-        Thing::Object(fields) => match fields.get(f) {
+        Thing::Object { fields, .. } => match fields.get(f) {
             None => gives(Value::Reference(0)),
             Some(v) => gives(*v),
         },
@@ -110,7 +122,7 @@ fn write_field(thing: &mut Thing, f: usize, v: Value) -> Effect
     ensures waits { result ≡ Effect.Waits → thing_of thing.new ≡ thing_of thing.old }
 {
     match thing {
-        Thing::Object(fields) => {
+        Thing::Object { fields, .. } => {
             if f < fields.len() {
                 fields[f] = v;
             }
@@ -153,19 +165,19 @@ fn write_item(thing: &mut Thing, i: i32, v: Value) -> Result<Effect, AllocError>
     }
 }
 
-fn lock(thing: &mut Thing, thread: usize) -> Effect
-    ensures change { seen_change (thing_of thing.new) result ≡ locking thread (thing_of thing.old) }
-    ensures waits { result ≡ Effect.Waits → thing_of thing.new ≡ thing_of thing.old }
+fn take(hold: &mut Hold, thread: usize) -> Effect
+    ensures change { seen_holding (hold_of hold.new) result ≡ locking thread (hold_of hold.old) }
+    ensures waits { result ≡ Effect.Waits → hold_of hold.new ≡ hold_of hold.old }
 {
-    match thing {
-        Thing::FreeLock => {
-            *thing = Thing::HeldLock {
+    match hold {
+        Hold::Free => {
+            *hold = Hold::HeldBy {
                 owner: thread,
                 holds: 1,
             };
             done()
         }
-        Thing::HeldLock { owner, holds } => {
+        Hold::HeldBy { owner, holds } => {
             if *owner != thread {
                 return Effect::Waits;
             }
@@ -175,23 +187,22 @@ fn lock(thing: &mut Thing, thread: usize) -> Effect
             *holds += 1;
             done()
         }
-        _ => done(),
     }
 }
 
-fn try_lock(thing: &mut Thing, thread: usize) -> Effect
-    ensures change { seen_change (thing_of thing.new) result ≡ trying thread (thing_of thing.old) }
-    ensures waits { result ≡ Effect.Waits → thing_of thing.new ≡ thing_of thing.old }
+fn try_take(hold: &mut Hold, thread: usize) -> Effect
+    ensures change { seen_holding (hold_of hold.new) result ≡ trying thread (hold_of hold.old) }
+    ensures waits { result ≡ Effect.Waits → hold_of hold.new ≡ hold_of hold.old }
 {
-    match thing {
-        Thing::FreeLock => {
-            *thing = Thing::HeldLock {
+    match hold {
+        Hold::Free => {
+            *hold = Hold::HeldBy {
                 owner: thread,
                 holds: 1,
             };
             truth(true)
         }
-        Thing::HeldLock { owner, holds } => {
+        Hold::HeldBy { owner, holds } => {
             if *owner != thread {
                 return truth(false);
             }
@@ -201,37 +212,93 @@ fn try_lock(thing: &mut Thing, thread: usize) -> Effect
             *holds += 1;
             truth(true)
         }
-        _ => done(),
     }
 }
 
-fn unlock(thing: &mut Thing, thread: usize) -> Effect
-    ensures change { seen_change (thing_of thing.new) result ≡ unlocking thread (thing_of thing.old) }
-    ensures waits { result ≡ Effect.Waits → thing_of thing.new ≡ thing_of thing.old }
+fn leave(hold: &mut Hold, thread: usize) -> Effect
+    ensures change { seen_holding (hold_of hold.new) result ≡ unlocking thread (hold_of hold.old) }
+    ensures waits { result ≡ Effect.Waits → hold_of hold.new ≡ hold_of hold.old }
 {
-    match thing {
-        Thing::FreeLock => fails(Kind::IllegalMonitorState),
-        Thing::HeldLock { owner, holds } => {
+    match hold {
+        Hold::Free => fails(Kind::IllegalMonitorState),
+        Hold::HeldBy { owner, holds } => {
             if *owner != thread {
                 return fails(Kind::IllegalMonitorState);
             }
             if *holds > 1 {
                 *holds -= 1;
             } else {
-                *thing = Thing::FreeLock;
+                *hold = Hold::Free;
             }
             done()
         }
+    }
+}
+
+fn is_held(hold: &Hold, thread: usize) -> Effect
+    ensures { seen_holding (hold_of hold.now) result ≡ asking_held thread (hold_of hold.now) }
+{
+    match hold {
+        Hold::Free => truth(false),
+        Hold::HeldBy { owner, .. } => truth(*owner == thread),
+    }
+}
+
+fn lock(thing: &mut Thing, thread: usize) -> Effect
+    ensures change { seen_change (thing_of thing.new) result ≡ on_lock (locking thread) (thing_of thing.old) }
+    ensures waits { result ≡ Effect.Waits → thing_of thing.new ≡ thing_of thing.old }
+{
+    match thing {
+        Thing::Lock(hold) => take(hold, thread),
         _ => done(),
     }
 }
 
-fn is_held(thing: &Thing, thread: usize) -> Effect
-    ensures { seen_change (thing_of thing.now) result ≡ asking_held thread (thing_of thing.now) }
+fn try_lock(thing: &mut Thing, thread: usize) -> Effect
+    ensures change { seen_change (thing_of thing.new) result ≡ on_lock (trying thread) (thing_of thing.old) }
+    ensures waits { result ≡ Effect.Waits → thing_of thing.new ≡ thing_of thing.old }
 {
     match thing {
-        Thing::FreeLock => truth(false),
-        Thing::HeldLock { owner, .. } => truth(*owner == thread),
+        Thing::Lock(hold) => try_take(hold, thread),
+        _ => done(),
+    }
+}
+
+fn unlock(thing: &mut Thing, thread: usize) -> Effect
+    ensures change { seen_change (thing_of thing.new) result ≡ on_lock (unlocking thread) (thing_of thing.old) }
+    ensures waits { result ≡ Effect.Waits → thing_of thing.new ≡ thing_of thing.old }
+{
+    match thing {
+        Thing::Lock(hold) => leave(hold, thread),
+        _ => done(),
+    }
+}
+
+fn is_lock_held(thing: &Thing, thread: usize) -> Effect
+    ensures { seen_change (thing_of thing.now) result ≡ on_lock (asking_held thread) (thing_of thing.now) }
+{
+    match thing {
+        Thing::Lock(hold) => is_held(hold, thread),
+        _ => done(),
+    }
+}
+
+fn lock_monitor(thing: &mut Thing, thread: usize) -> Effect
+    ensures change { seen_change (thing_of thing.new) result ≡ on_monitor (locking thread) (thing_of thing.old) }
+    ensures waits { result ≡ Effect.Waits → thing_of thing.new ≡ thing_of thing.old }
+{
+    match thing {
+        Thing::Object { monitor, .. } => take(monitor, thread),
+        _ => done(),
+    }
+}
+
+fn unlock_monitor(thing: &mut Thing, thread: usize) -> Effect
+    ensures change { seen_change (thing_of thing.new) result ≡ on_monitor (unlocking thread) (thing_of thing.old) }
+    ensures waits { result ≡ Effect.Waits → thing_of thing.new ≡ thing_of thing.old }
+{
+    match thing {
+        Thing::Object { monitor, .. } => leave(monitor, thread),
         _ => done(),
     }
 }
@@ -310,7 +377,9 @@ pub fn change(
         Action::Lock(_) => Ok(lock(thing, thread)),
         Action::Unlock(_) => Ok(unlock(thing, thread)),
         Action::TryLock(_) => Ok(try_lock(thing, thread)),
-        Action::IsHeld(_) => Ok(is_held(thing, thread)),
+        Action::IsHeld(_) => Ok(is_lock_held(thing, thread)),
+        Action::LockMonitor(_) => Ok(lock_monitor(thing, thread)),
+        Action::UnlockMonitor(_) => Ok(unlock_monitor(thing, thread)),
         Action::ReadPair(_) => Ok(read_pair(thing)),
         Action::SetPair(_, v) => Ok(set_pair(thing, *v)),
         Action::SwapPair { expected, new, .. } => Ok(swap_pair(thing, *expected, *new)),

@@ -1,9 +1,9 @@
 -- What the objects and the setup names hold.
-use Rattle.std.specs.Prelude.{ℕ, ◌==◌, List, [], ◌∷◌, ◌++◌, codes, if◌then◌else◌}
+use Rattle.std.specs.Prelude.{ℕ, ◌==◌, length, List, [], ◌∷◌, ◌++◌, codes, if◌then◌else◌}
 use Rattle.std.specs.Option.{option_map_or}
 use Rattle.ls_events.specs.declared.value.Value.{Value}
 use Rattle.ls_checked.specs.CheckedProgram.{Program, SetupName}
-use Rattle.ls_meaning.specs.Store.{Store, Thing, Object, FreeLock, HeldLock, Markable, Array, name_at}
+use Rattle.ls_meaning.specs.Store.{Store, Hold, Free, HeldBy, Thing, Object, LockOf, Markable, Array, name_at}
 use Rattle.ls_report.specs.Events.{Text}
 use Rattle.ls_labels.specs.declared.label.Label.{Label}
 use Rattle.ls_labels.specs.Labels.{label_at}
@@ -27,11 +27,18 @@ abbrev pub field_part : Names → List Label → ℕ → ℕ → Value → Text
 field_part names ls o field v =
     (if field == 0 then codes ": " else codes ", ") ++ (field_name_of names ls o field ++ (codes " = " ++ value_text names ls v))
 
+-- behind so many fields, the monitor that a thread owns, as `, monitor held by A, 1 hold`
+abbrev pub monitor_part : Names → ℕ → Hold → Text
+monitor_part names count Free = []
+monitor_part names count (HeldBy owner holds) =
+    (if count == 0 then codes ": monitor " else codes ", monitor ") ++ held_text names.program owner holds
+
 -- what stands behind an object's name
 abbrev pub thing_text : Names → List Label → ℕ → Thing → Text
-thing_text names ls o (Object fields) = numbered (field_part names ls o) 0 fields
-thing_text names ls o FreeLock = codes ": free"
-thing_text names ls o (HeldLock owner holds) = codes ": " ++ held_text names.program owner holds
+thing_text names ls o (Object monitor fields) =
+    numbered (field_part names ls o) 0 fields ++ monitor_part names (length fields) monitor
+thing_text names ls o (LockOf Free) = codes ": free"
+thing_text names ls o (LockOf (HeldBy owner holds)) = codes ": " ++ held_text names.program owner holds
 thing_text names ls o (Markable pair) = codes ": " ++ value_text names ls pair
 thing_text names ls o (Array size items) = codes ": " ++ array_text size items
 

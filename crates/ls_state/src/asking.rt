@@ -13,10 +13,11 @@ use ls_checked::program::ThreadProgram;
 use ls_events::action::Action;
 use ls_events::event::{Event, Happening};
 use ls_events::value::Value;
-use ls_labels::threads::{end_words, owner_of, push_wait, start_words};
+use ls_labels::threads::{end_words, push_wait, start_words};
 use ls_labels::words::push_action;
 use ls_meaning::step::Asked;
 use ls_source::run::SourceRun;
+use ls_source_store::thing::{Hold, Thing};
 use std::alloc::{AllocError, Global};
 use std::fmt::Write;
 
@@ -47,16 +48,25 @@ fn call_of(history: &[Event], thread: usize, action: Action<Value>) -> usize
     }
 }
 
-// Whether a thread's action has to wait: it takes a lock that another owns.
+// Whether a thread's action has to wait: it takes a lock or a monitor that another owns.
 fn has_to_wait(run: &SourceRun, thread: usize, action: Action<Value>) -> bool
     ensures { result ≡ has_to_wait (effect (progress_of run.now).file.classes (progress_of run.now).state.store thread action) }
 {
-    let Action::Lock(lock) = action else {
-        return false;
-    };
-    match owner_of(run.thing(lock)) {
-        Some(owner) => owner != thread,
-        None => false,
+    match action {
+        Action::Lock(lock) => match run.thing(lock) {
+            Some(Thing::Lock(Hold::HeldBy { owner, .. })) => *owner != thread,
+            _ => false,
+        },
+        Action::LockMonitor(object) => match run.thing(object) {
+            Some(
+                Thing::Object {
+                    monitor: Hold::HeldBy { owner, .. },
+                    ..
+                },
+            ) => *owner != thread,
+            _ => false,
+        },
+        _ => false,
     }
 }
 

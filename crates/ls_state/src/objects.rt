@@ -2,8 +2,8 @@
 
 ghost use Rattle.std.specs.Prelude.{◌≡◌, ◌++◌, OnOk, string_bytes};
 ghost use Rattle.ls_checked.specs.PlainProgram.{plain_name, plain_program};
-ghost use Rattle.ls_source_store.specs.SeenThing.{thing_of};
-ghost use Rattle.ls_state.specs.Objects.{field_name_of, field_part, held_text, name_line, thing_line, thing_text};
+ghost use Rattle.ls_source_store.specs.SeenThing.{hold_of, thing_of};
+ghost use Rattle.ls_state.specs.Objects.{field_name_of, field_part, held_text, monitor_part, name_line, thing_line, thing_text};
 ghost use Rattle.ls_state.specs.Parts.{numbered};
 ghost use Rattle.ls_state.specs.Seen.{names_in, scene_seen};
 ghost use Rattle.ls_state.specs.State.{names_text, things_text};
@@ -16,7 +16,7 @@ use ls_labels::label::Label;
 use ls_labels::names::field_name;
 use ls_labels::objects::{label_at, push_object, push_value};
 use ls_labels::threads::thread_name;
-use ls_source_store::thing::Thing;
+use ls_source_store::thing::{Hold, Thing};
 use std::alloc::AllocError;
 use std::fmt::Write;
 
@@ -76,15 +76,42 @@ fn push_fields(
     Ok(())
 }
 
+// Adds the monitor that a thread owns, behind so many fields.
+fn push_monitor(
+    out: &mut String,
+    scene: &Scene,
+    count: usize,
+    monitor: Hold,
+) -> Result<(), AllocError>
+    ensures { OnOk result (string_bytes out.new
+        ≡ string_bytes out.old ++ monitor_part (names_in scene.now) count (hold_of monitor)) }
+{
+    match monitor {
+        Hold::Free => Ok(()),
+        Hold::HeldBy { owner, holds } => {
+            let start = if count == 0 {
+                ": monitor "
+            } else {
+                ", monitor "
+            };
+            out.push_str(start)?;
+            push_held(out, scene.names.program, owner, holds)
+        }
+    }
+}
+
 // Adds what stands behind an object's name.
 fn push_thing(out: &mut String, scene: &Scene, object: u64, thing: &Thing) -> Result<(), AllocError>
     ensures { OnOk result (string_bytes out.new
         ≡ string_bytes out.old ++ thing_text (names_in scene.now) (scene_seen scene.now).labels object (thing_of thing.now)) }
 {
     match thing {
-        Thing::Object(fields) => push_fields(out, scene, object, fields),
-        Thing::FreeLock => out.push_str(": free"),
-        Thing::HeldLock { owner, holds } => {
+        Thing::Object { monitor, fields } => {
+            push_fields(out, scene, object, fields)?;
+            push_monitor(out, scene, fields.len(), *monitor)
+        }
+        Thing::Lock(Hold::Free) => out.push_str(": free"),
+        Thing::Lock(Hold::HeldBy { owner, holds }) => {
             out.push_str(": ")?;
             push_held(out, scene.names.program, *owner, *holds)
         }

@@ -11,7 +11,7 @@ use Rattle.ls_events.specs.declared.event.Happening.TheVariants as happenings
 use Rattle.ls_checked.specs.declared.tree.Called.TheVariants as called
 use Rattle.ls_checked.specs.CheckedTree.{File, Block, Done, Then, SetField, Evaluate, Slot, Field, MakeLock, Call, End}
 use Rattle.ls_checked.specs.CheckedProgram.{Program, Making, Calling}
-use Rattle.ls_meaning.specs.Store.{Object, FreeLock, HeldLock, Markable, Array}
+use Rattle.ls_meaning.specs.Store.{Free, HeldBy, Object, LockOf, Markable, Array}
 use Rattle.ls_report.specs.Events.{Text}
 use Rattle.ls_types_elaboration.specs.Known.{ClassSign}
 use Rattle.ls_labels.specs.declared.label.Label.TheVariants as labels
@@ -59,17 +59,17 @@ some = record {
   state = record {
     store = record {
       things =
-          Object (Reference 2 ∷ [])
-          ∷ HeldLock 1 2
-          ∷ Object (Int (negsuc 4) ∷ Reference 4 ∷ [])
+          Object Free (Reference 2 ∷ [])
+          ∷ LockOf (HeldBy 1 2)
+          ∷ Object Free (Int (negsuc 4) ∷ Reference 4 ∷ [])
           ∷ Markable (Pair 5 true)
-          ∷ Object (Int (pos 7) ∷ Reference 0 ∷ [])
+          ∷ Object Free (Int (pos 7) ∷ Reference 0 ∷ [])
           ∷ Markable (Pair 0 false)
           ∷ Array 16 (λ i. Boolean (i == 0 || i == 3))
           ∷ Array 1 (λ i. Boolean false)
-          ∷ HeldLock 2 1
-          ∷ FreeLock
-          ∷ Object []
+          ∷ LockOf (HeldBy 2 1)
+          ∷ LockOf Free
+          ∷ Object Free []
           ∷ [];
       names = Reference 1 ∷ Reference 0 ∷ [];
     };
@@ -130,7 +130,7 @@ AtFirst = state_text names [] ≡
 abbrev pub held : List (Answer Value) → List (Answer Value) → List Event → Scene
 held a b events = record {
   state = record {
-    store = record { things = Object (Reference 2 ∷ []) ∷ HeldLock 1 1 ∷ []; names = Reference 1 ∷ Reference 0 ∷ [] };
+    store = record { things = Object Free (Reference 2 ∷ []) ∷ LockOf (HeldBy 1 1) ∷ []; names = Reference 1 ∷ Reference 0 ∷ [] };
     answers = (IsDone ∷ Gives (Reference 1) ∷ IsDone ∷ Gives (Reference 2) ∷ IsDone ∷ IsDone ∷ IsDone ∷ []) ∷ a ∷ b ∷ [];
   };
   labels = labels.Class 0 ∷ labels.Lock ∷ [];
@@ -163,7 +163,7 @@ Over = threads_text names (held (at_the_lock ++ IsDone ∷ IsDone ∷ []) (IsDon
 abbrev pub NeverStarts : Type 0
 NeverStarts = threads_text names (record {
   state = record {
-    store = record { things = Object (Reference 0 ∷ []) ∷ []; names = Reference 0 ∷ Reference 0 ∷ [] };
+    store = record { things = Object Free (Reference 0 ∷ []) ∷ []; names = Reference 0 ∷ Reference 0 ∷ [] };
     answers = (IsDone ∷ Gives (Reference 1) ∷ IsDone ∷ Fails Arithmetic ∷ IsDone ∷ []) ∷ [] ∷ [] ∷ [];
   };
   labels = labels.Class 0 ∷ [];
@@ -181,7 +181,7 @@ BeforeACall = threads_text names (held at_the_lock [] (called_by 0 ∷ called_by
 abbrev pub Left : Type 0
 Left = scene_of names (replicate 9 0 ++ replicate 3 1) ≡ record {
   state = record {
-    store = record { things = Object (Reference 2 ∷ []) ∷ FreeLock ∷ []; names = Reference 1 ∷ Reference 0 ∷ [] };
+    store = record { things = Object Free (Reference 2 ∷ []) ∷ LockOf Free ∷ []; names = Reference 1 ∷ Reference 0 ∷ [] };
     answers =
         (IsDone ∷ Gives (Reference 1) ∷ IsDone ∷ Gives (Reference 2) ∷ IsDone ∷ IsDone ∷ IsDone ∷ [])
         ∷ (IsDone ∷ Gives (Reference 1) ∷ IsDone ∷ [])

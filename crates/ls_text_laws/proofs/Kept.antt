@@ -1,13 +1,13 @@
 -- What an action leaves in the store, and its answer, have their types again.
 use Rattle.std.proofs.Common.{◌≡◌, ◌≢◌, ℕ, zero, suc, ◌+◌, ◌-◌, ◌<◌, ◌≤◌, ℤ, pos, negsuc, Bool, true, false, List, [], ◌∷◌, ◌++◌, length, map, Option, Some, None, refl, sym, subst, arith, slice_get, nat_eq, nat_lt, if◌then◌else◌, rules}
 use Rattle.std.proofs.lemmas.Bool.Decides.{nat_tests}
-use Rattle.ls_events.specs.declared.kind.Kind.TheVariants.{ArrayIndexOutOfBounds, Error}
+use Rattle.ls_events.specs.declared.kind.Kind.TheVariants.{ArrayIndexOutOfBounds, IllegalMonitorState, Error}
 use Rattle.ls_events.specs.declared.value.Value.{Value}
 use Rattle.ls_events.specs.declared.value.Value.TheVariants.{Boolean, Reference}
 use Rattle.ls_events.specs.declared.value.ValueType.{ValueType}
 use Rattle.ls_events.specs.declared.value.ValueType.TheVariants as type
 use Rattle.ls_events.specs.declared.action.Action.{Action}
-use Rattle.ls_events.specs.declared.action.Action.TheVariants.{ReadField, WriteField, ReadItem, WriteItem, ReadName, WriteName, New, NewLock, NewMarkable, NewArray, Lock, Unlock, TryLock, IsHeld, ReadPair, SetPair, SwapPair, AttemptMark, Turn, Enter, Call, Return, Trap}
+use Rattle.ls_events.specs.declared.action.Action.TheVariants.{ReadField, WriteField, ReadItem, WriteItem, ReadName, WriteName, New, NewLock, NewMarkable, NewArray, Lock, Unlock, TryLock, IsHeld, LockMonitor, UnlockMonitor, ReadPair, SetPair, SwapPair, AttemptMark, Turn, Enter, Call, Return, Trap}
 use Rattle.ls_events.specs.declared.action.Answer.{Answer}
 use Rattle.ls_events.specs.declared.action.Answer.TheVariants.{Done, Gives, Fails}
 use Rattle.ls_checked.specs.CheckedTree.{Class, File}
@@ -15,12 +15,12 @@ use Rattle.ls_checked.specs.CheckedProgram.{Program}
 use Rattle.ls_meaning.specs.declared.sort.Sort.{Sort}
 use Rattle.ls_meaning.specs.declared.sort.Sort.TheVariants.{NoValue, ValueOf, NewOf, PairOf}
 use Rattle.ls_meaning.specs.Values.{nothing, reference_of, start_of}
-use Rattle.ls_meaning.specs.Store.{Thing, Object, FreeLock, HeldLock, Markable, Array, Store, with_name, name_at}
-use Rattle.ls_meaning.specs.Effect.{Effect, Waits, Does, Change, Stays, Leaves, with_item, held_more, held_less, same_pair, change, on_thing, put_back, making, fields_in, effect}
+use Rattle.ls_meaning.specs.Store.{Hold, Free, HeldBy, Thing, Object, LockOf, Markable, Array, Store, with_name, name_at}
+use Rattle.ls_meaning.specs.Effect.{Effect, Waits, Does, Change, Stays, Leaves, Holding, Awaits, Becomes, with_item, held_more, held_less, locking, trying, unlocking, asking_held, with_hold, on_lock, on_monitor, same_pair, change, on_thing, put_back, making, fields_in, effect}
 use Rattle.ls_meaning.specs.Threads.{Goes}
 use Rattle.ls_headline.specs.Sorts.{Refers, HasSortBy, HasType, NameHas, fields_by, fields_of, ActionHas, Suits}
 use Rattle.ls_headline.proofs.Lists.{index_there, get_end}
-use Rattle.ls_headline.proofs.Effects.{HaveTypes, ThingHas, ThingsHave, Extends, thing_more, things_more, things_end, things_set, things_length, thing_there, many_more, value_there, values_set, extends_end}
+use Rattle.ls_headline.proofs.Effects.{HaveTypes, IsHold, ThingHas, ThingsHave, Extends, thing_more, things_more, things_end, things_set, things_length, thing_there, many_more, value_there, values_set, extends_end}
 use Rattle.ls_headline.proofs.FieldCases.{put, on_is, back_is}
 use Rattle.ls_headline.proofs.AllCases.{names_of, name_typed}
 
@@ -69,13 +69,13 @@ module _ (classes : List Class) (named σ : List ValueType) where
 
   -- objects
   field_read : (t f k : ℕ) (n : ℕ) (s : ValueType) (o : Thing) → slice_get (fields_of classes k) f ≡ Some s → ThingHas classes σ o (type.Class k) → Left (type.Class k) (ReadField n f) (ValueOf s) (change t (ReadField n f) o)
-  field_read t f k n s (Object vs) field has =
+  field_read t f k n s (Object m vs) field has =
       let there = value_there σ vs (fields_of classes k) f s has.1 field in
       (has, subst (λ v. HasType σ v s) (sym (index_there vs f there.0 nothing there.1)) there.2)
   field_read t f k n s _ field has = absurd has
 
   field_written : (t f k : ℕ) (n : ℕ) (v : Value) (s : ValueType) (o : Thing) → slice_get (fields_of classes k) f ≡ Some s → HasType σ v s → ThingHas classes σ o (type.Class k) → Left (type.Class k) (WriteField n f v) NoValue (change t (WriteField n f v) o)
-  field_written t f k n v s (Object vs) field hv has = ((has.0, values_set σ vs (fields_of classes k) f v s has.1 field hv), refl)
+  field_written t f k n v s (Object m vs) field hv has = ((has.0, values_set σ vs (fields_of classes k) f v s has.1 field hv, has.2), refl)
   field_written t f k n v s _ field hv has = absurd has
 
   -- arrays
@@ -101,42 +101,62 @@ module _ (classes : List Class) (named σ : List ValueType) where
       left_if (nat_lt k size) type.BooleanArray (WriteItem n (pos k) v) NoValue _ _ (item_typed items size k v has hv, refl) (has, refl)
   item_written t n i v _ hv has = absurd has
 
-  -- locks
-  more_holds : (t holds : ℕ) (a : Action Value) (s : Sort) (x : Answer Value) → (1 ≤ holds) × (holds ≤ 2147483647) → Suits (Refers σ) (Goes a s) x → Suits (Refers σ) (Goes a s) (Fails Error) → Left type.Lock a s (held_more t holds x)
+  -- what is left of a hold
+  abbrev HoldLeft : Action Value → Sort → Holding → Type 0
+  HoldLeft a s Awaits = Unit {0}
+  HoldLeft a s (Becomes h x) = IsHold h × Suits (Refers σ) (Goes a s) x
+
+  hold_if : (b : Bool) (a : Action Value) (s : Sort) (c d : Holding) → HoldLeft a s c → HoldLeft a s d → HoldLeft a s (if b then c else d)
+  hold_if true a s c d h k = h
+  hold_if false a s c d h k = k
+
+  more_holds : (t holds : ℕ) (a : Action Value) (s : Sort) (x : Answer Value) → (1 ≤ holds) × (holds ≤ 2147483647) → Suits (Refers σ) (Goes a s) x → Suits (Refers σ) (Goes a s) (Fails Error) → HoldLeft a s (held_more t holds x)
   more_holds t holds a s x has suit fail = by_test (nat_lt holds 2147483647) refl
     where
-      by_test : (b : Bool) → nat_lt holds 2147483647 ≡ b → Left type.Lock a s (if b then Leaves (HeldLock t (holds + 1)) x else Leaves (HeldLock t holds) (Fails Error))
+      by_test : (b : Bool) → nat_lt holds 2147483647 ≡ b → HoldLeft a s (if b then Becomes (HeldBy t (holds + 1)) x else Becomes (HeldBy t holds) (Fails Error))
       by_test true e = let h : holds < 2147483647 = grind (arith, nat_tests) in ((omega arith, omega arith), suit)
       by_test false e = (has, fail)
 
-  locked : (t n : ℕ) (o : Thing) → ThingHas classes σ o type.Lock → Left type.Lock (Lock n) NoValue (change t (Lock n) o)
-  locked t n FreeLock has = ((omega arith, omega arith), refl)
-  locked t n (HeldLock owner holds) has =
-      left_if (nat_eq owner t) type.Lock (Lock n) NoValue _ Stays (more_holds t holds (Lock n) NoValue Done has refl refl) tt
-  locked t n _ has = absurd has
+  locked : (t : ℕ) (a : Action Value) → Suits (Refers σ) (Goes a NoValue) (Fails Error) → (h : Hold) → IsHold h → HoldLeft a NoValue (locking t h)
+  locked t a fail Free has = ((omega arith, omega arith), refl)
+  locked t a fail (HeldBy owner holds) has = hold_if (nat_eq owner t) a NoValue _ Awaits (more_holds t holds a NoValue Done has refl fail) tt
 
-  tried : (t n : ℕ) (o : Thing) → ThingHas classes σ o type.Lock → Left type.Lock (TryLock n) (ValueOf type.Boolean) (change t (TryLock n) o)
-  tried t n FreeLock has = ((omega arith, omega arith), tt)
-  tried t n (HeldLock owner holds) has =
-      left_if (nat_eq owner t) type.Lock (TryLock n) (ValueOf type.Boolean) _ _ (more_holds t holds (TryLock n) (ValueOf type.Boolean) (Gives (Boolean true)) has tt refl) (has, tt)
-  tried t n _ has = absurd has
+  tried : (t n : ℕ) (h : Hold) → IsHold h → HoldLeft (TryLock n) (ValueOf type.Boolean) (trying t h)
+  tried t n Free has = ((omega arith, omega arith), tt)
+  tried t n (HeldBy owner holds) has =
+      hold_if (nat_eq owner t) (TryLock n) (ValueOf type.Boolean) _ _ (more_holds t holds (TryLock n) (ValueOf type.Boolean) (Gives (Boolean true)) has tt refl) (has, tt)
 
-  less_holds : (t holds : ℕ) → (1 ≤ holds) × (holds ≤ 2147483647) → ThingHas classes σ (held_less t holds) type.Lock
+  less_holds : (t holds : ℕ) → (1 ≤ holds) × (holds ≤ 2147483647) → IsHold (held_less t holds)
   less_holds t holds has = by_test (nat_lt 1 holds) refl
     where
-      by_test : (b : Bool) → nat_lt 1 holds ≡ b → ThingHas classes σ (if b then HeldLock t (holds - 1) else FreeLock) type.Lock
+      by_test : (b : Bool) → nat_lt 1 holds ≡ b → IsHold (if b then HeldBy t (holds - 1) else Free)
       by_test true e = let h : 1 < holds = grind (arith, nat_tests) in (omega arith, omega arith)
       by_test false e = tt
 
-  unlocked : (t n : ℕ) (o : Thing) → ThingHas classes σ o type.Lock → Left type.Lock (Unlock n) NoValue (change t (Unlock n) o)
-  unlocked t n FreeLock has = (tt, refl)
-  unlocked t n (HeldLock owner holds) has = left_if (nat_eq owner t) type.Lock (Unlock n) NoValue _ _ (less_holds t holds has, refl) (has, refl)
-  unlocked t n _ has = absurd has
+  unlocked : (t : ℕ) (a : Action Value) → Suits (Refers σ) (Goes a NoValue) (Fails IllegalMonitorState) → (h : Hold) → IsHold h → HoldLeft a NoValue (unlocking t h)
+  unlocked t a fail Free has = (tt, fail)
+  unlocked t a fail (HeldBy owner holds) has = hold_if (nat_eq owner t) a NoValue _ _ (less_holds t holds has, refl) (has, fail)
 
-  asked_held : (t n : ℕ) (o : Thing) → ThingHas classes σ o type.Lock → Left type.Lock (IsHeld n) (ValueOf type.Boolean) (change t (IsHeld n) o)
-  asked_held t n FreeLock has = (tt, tt)
-  asked_held t n (HeldLock owner holds) has = (has, tt)
-  asked_held t n _ has = absurd has
+  asked_held : (t n : ℕ) (h : Hold) → IsHold h → HoldLeft (IsHeld n) (ValueOf type.Boolean) (asking_held t h)
+  asked_held t n Free has = (tt, tt)
+  asked_held t n (HeldBy owner holds) has = (has, tt)
+
+  -- of a lock, and of an object's monitor
+  in_lock : (a : Action Value) (s : Sort) (go : Hold → Holding) → ((h : Hold) → IsHold h → HoldLeft a s (go h)) → (o : Thing) → ThingHas classes σ o type.Lock → Left type.Lock a s (on_lock go o)
+  in_lock a s go f (LockOf h) has = by_hold (go h) (f h has)
+    where
+      by_hold : (x : Holding) → HoldLeft a s x → Left type.Lock a s (with_hold LockOf x)
+      by_hold Awaits left = tt
+      by_hold (Becomes g x) left = left
+  in_lock a s go f _ has = absurd has
+
+  in_object : (k : ℕ) (a : Action Value) (s : Sort) (go : Hold → Holding) → ((h : Hold) → IsHold h → HoldLeft a s (go h)) → (o : Thing) → ThingHas classes σ o (type.Class k) → Left (type.Class k) a s (on_monitor go o)
+  in_object k a s go f (Object h vs) has = by_hold (go h) (f h has.2)
+    where
+      by_hold : (x : Holding) → HoldLeft a s x → Left (type.Class k) a s (with_hold (λ h. Object h vs) x)
+      by_hold Awaits left = tt
+      by_hold (Becomes g x) left = ((has.0, has.1, left.0), left.1)
+  in_object k a s go f _ has = absurd has
 
   -- markables
   pair_read : (t n c : ℕ) (o : Thing) → ThingHas classes σ o (type.Markable c) → Left (type.Markable c) (ReadPair n) (PairOf c) (change t (ReadPair n) o)
@@ -196,10 +216,10 @@ module _ (classes : List Class) (named σ : List ValueType) where
     still : (a : Action Value) (s : Sort) (x : Answer Value) → Suits (Refers σ) (Goes a s) x → Kept classes named σ a s st x
     still a s x suit = record { sorts = σ; extends = λ m r e. e; holds = h; suits = suit }
 
-    object_made : (a : Action Value) (s : Sort) (k : ℕ) → s ≡ NewOf (type.Class k) → k < length classes → KeptBy a s (making st (Object (fields_in (slice_get classes k))))
+    object_made : (a : Action Value) (s : Sort) (k : ℕ) → s ≡ NewOf (type.Class k) → k < length classes → KeptBy a s (making st (Object Free (fields_in (slice_get classes k))))
     object_made a s k e there =
-        subst (λ l. KeptBy a s (making st (Object l))) (sym (fields_same (slice_get classes k)))
-        (new_kept (Object (map start_of (fields_of classes k))) (type.Class k) a s e (there, starts_have σ (fields_of classes k)))
+        subst (λ l. KeptBy a s (making st (Object Free l))) (sym (fields_same (slice_get classes k)))
+        (new_kept (Object Free (map start_of (fields_of classes k))) (type.Class k) a s e (there, starts_have σ (fields_of classes k), tt))
 
 module _ (file : File) (program : Program) (σ : List ValueType) (st : Store) (h : Holds file.classes (names_of program) σ st) where
   abbrev Keeps : Action Value → Sort → Effect → Type 0
@@ -236,17 +256,21 @@ module _ (file : File) (program : Program) (σ : List ValueType) (st : Store) (h
   effects_kept t (ReadName n) s i = name_read n i.0 s i.2 i.1
   effects_kept t (WriteName n v) s i = name_written n v i.0 s i.3 i.1 i.2
   effects_kept t (New k) s i = object_made file.classes (names_of program) σ st h (New k) s k i.1 i.0
-  effects_kept t NewLock s i = new_kept file.classes (names_of program) σ st h FreeLock type.Lock NewLock s i tt
+  effects_kept t NewLock s i = new_kept file.classes (names_of program) σ st h (LockOf Free) type.Lock NewLock s i tt
   effects_kept t (NewMarkable v) s i = new_kept file.classes (names_of program) σ st h (Markable v) (type.Markable i.0) (NewMarkable v) s i.2 i.1
   effects_kept t (NewArray z) s i = new_kept file.classes (names_of program) σ st h _ type.BooleanArray (NewArray z) s i.2 (λ k l. tt)
   effects_kept t (Lock zero) s i = absurd i.0
-  effects_kept t (Lock (suc n)) s i = on t n type.Lock (Lock (suc n)) s NoValue i.1 i.0 (locked file.classes (names_of program) σ t (suc n))
+  effects_kept t (Lock (suc n)) s i = on t n type.Lock (Lock (suc n)) s NoValue i.1 i.0 (in_lock file.classes (names_of program) σ (Lock (suc n)) NoValue (locking t) (locked file.classes (names_of program) σ t (Lock (suc n)) refl))
   effects_kept t (Unlock zero) s i = absurd i.0
-  effects_kept t (Unlock (suc n)) s i = on t n type.Lock (Unlock (suc n)) s NoValue i.1 i.0 (unlocked file.classes (names_of program) σ t (suc n))
+  effects_kept t (Unlock (suc n)) s i = on t n type.Lock (Unlock (suc n)) s NoValue i.1 i.0 (in_lock file.classes (names_of program) σ (Unlock (suc n)) NoValue (unlocking t) (unlocked file.classes (names_of program) σ t (Unlock (suc n)) refl))
   effects_kept t (TryLock zero) s i = absurd i.0
-  effects_kept t (TryLock (suc n)) s i = on t n type.Lock (TryLock (suc n)) s (ValueOf type.Boolean) i.1 i.0 (tried file.classes (names_of program) σ t (suc n))
+  effects_kept t (TryLock (suc n)) s i = on t n type.Lock (TryLock (suc n)) s (ValueOf type.Boolean) i.1 i.0 (in_lock file.classes (names_of program) σ (TryLock (suc n)) (ValueOf type.Boolean) (trying t) (tried file.classes (names_of program) σ t (suc n)))
   effects_kept t (IsHeld zero) s i = absurd i.0
-  effects_kept t (IsHeld (suc n)) s i = on t n type.Lock (IsHeld (suc n)) s (ValueOf type.Boolean) i.1 i.0 (asked_held file.classes (names_of program) σ t (suc n))
+  effects_kept t (IsHeld (suc n)) s i = on t n type.Lock (IsHeld (suc n)) s (ValueOf type.Boolean) i.1 i.0 (in_lock file.classes (names_of program) σ (IsHeld (suc n)) (ValueOf type.Boolean) (asking_held t) (asked_held file.classes (names_of program) σ t (suc n)))
+  effects_kept t (LockMonitor zero) s i = absurd i.1
+  effects_kept t (LockMonitor (suc n)) s i = on t n (type.Class i.0) (LockMonitor (suc n)) s NoValue i.2 i.1 (in_object file.classes (names_of program) σ i.0 (LockMonitor (suc n)) NoValue (locking t) (locked file.classes (names_of program) σ t (LockMonitor (suc n)) refl))
+  effects_kept t (UnlockMonitor zero) s i = absurd i.1
+  effects_kept t (UnlockMonitor (suc n)) s i = on t n (type.Class i.0) (UnlockMonitor (suc n)) s NoValue i.2 i.1 (in_object file.classes (names_of program) σ i.0 (UnlockMonitor (suc n)) NoValue (unlocking t) (unlocked file.classes (names_of program) σ t (UnlockMonitor (suc n)) refl))
   effects_kept t (ReadPair zero) s i = absurd i.1
   effects_kept t (ReadPair (suc n)) s i = on t n (type.Markable i.0) (ReadPair (suc n)) s (PairOf i.0) i.2 i.1 (pair_read file.classes (names_of program) σ t (suc n) i.0)
   effects_kept t (SetPair zero v) s i = absurd i.1

@@ -151,6 +151,8 @@ module _ (file : File) (program : Program) (t : ℕ) where
   body_quiet P (act.Unlock n) s h = refl
   body_quiet P (act.TryLock n) s h = refl
   body_quiet P (act.IsHeld n) s h = refl
+  body_quiet P (act.LockMonitor n) s h = refl
+  body_quiet P (act.UnlockMonitor n) s h = refl
   body_quiet P (act.ReadPair n) s h = refl
   body_quiet P (act.SetPair n v) s h = refl
   body_quiet P (act.SwapPair n e d) s h = refl

@@ -4,6 +4,7 @@ use Rattle.std.specs.Prelude.{IfNone}
 use Rattle.std.proofs.Math.Logic.{∥∥₁_elim}
 use Rattle.std.proofs.Props.{props}
 use Rattle.std.proofs.lemmas.Result.{IfOk-weaker}
+use Rattle.ls_code.specs.Limits.{most_cells}
 use Rattle.ls_events.specs.declared.event.Event.{Event}
 use Rattle.ls_checked.specs.CheckedTree.{File}
 use Rattle.ls_checked.specs.CheckedProgram.{Program}
@@ -21,7 +22,7 @@ events_prop xs ys = hlevel props
 are_cells : (code : Code) (cells : ℕ) → (AreBadCells code.names cells → ⊥) → IsCells code cells
 are_cells code cells good = record {
   some = let h : cells ≡ 0 → ⊥ = λ e. good (inl e) in omega arith;
-  most = let h : 2 ^ 20 < cells → ⊥ = λ e. good (inr (inl e)) in omega arith;
+  most = let h : most_cells < cells → ⊥ = λ e. good (inr (inl e)) in omega arith;
   names = let h : cells < code.names → ⊥ = λ e. good (inr (inr e)) in omega arith;
 }
 

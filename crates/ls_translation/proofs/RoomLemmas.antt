@@ -8,12 +8,12 @@ use Rattle.ls_events.specs.declared.action.Action.TheVariants.{New, NewLock, New
 use Rattle.ls_checked.specs.CheckedTree.{Class, File}
 use Rattle.ls_checked.specs.CheckedProgram.{Program}
 use Rattle.ls_meaning.specs.Values.{start_of}
-use Rattle.ls_meaning.specs.Store.{Thing, Object, FreeLock, Markable, Array}
+use Rattle.ls_meaning.specs.Store.{Free, Thing, Object, LockOf, Markable, Array}
 use Rattle.ls_meaning.specs.Effect.{Effect, Waits, Does, effect, fields_in, size_of as array_size}
 use Rattle.ls_meaning.specs.Threads.{Next, Goes, Ended, Trapped, next}
 use Rattle.ls_meaning.specs.Runs.{State, Step, source_run, step, step_of, performed, idle, has_started, answers_of}
 use Rattle.ls_source.specs.Progress.{Progress, begun, gone_on}
-use Rattle.ls_headline.specs.Threads.{at_least_one}
+use Rattle.ls_headline.specs.Threads.{object_cells}
 use Rattle.ls_headline.specs.Sorts.{fields_by}
 use Rattle.ls_headline.specs.Same.{size_of, total, Fits}
 use Rattle.ls_headline.proofs.Cells.{sizes_of}
@@ -51,8 +51,8 @@ as_many_fields None = refl
 as_many_fields (Some c) = length-map c.fields start_of
 
 performed_adds : (classes : List Class) (s : State) (t : ℕ) (a : Action Value) → Adds classes s (performed s t a (effect classes s.store t a))
-performed_adds classes s t (New c) = one_more classes s (New c) (Object (fields_in (slice_get classes c))) (ap at_least_one (as_many_fields (slice_get classes c)))
-performed_adds classes s t NewLock = one_more classes s NewLock FreeLock refl
+performed_adds classes s t (New c) = one_more classes s (New c) (Object Free (fields_in (slice_get classes c))) (ap object_cells (as_many_fields (slice_get classes c)))
+performed_adds classes s t NewLock = one_more classes s NewLock (LockOf Free) refl
 performed_adds classes s t (NewMarkable v) = one_more classes s (NewMarkable v) (Markable v) refl
 performed_adds classes s t (NewArray n) = one_more classes s (NewArray n) (Array (array_size n) _) refl
 performed_adds classes s t a = nothing_made classes s t a (effect classes s.store t a) refl (keeps s.store classes t a)

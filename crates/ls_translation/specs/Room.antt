@@ -8,13 +8,13 @@ use Rattle.ls_checked.specs.CheckedProgram.{Program}
 use Rattle.ls_meaning.specs.Effect.{size_of}
 use Rattle.ls_meaning.specs.declared.step.Did.{Did}
 use Rattle.ls_meaning.specs.declared.step.Did.TheVariants as did
-use Rattle.ls_headline.specs.Threads.{at_least_one}
+use Rattle.ls_headline.specs.Threads.{object_cells}
 use Rattle.ls_headline.specs.Sorts.{fields_of}
 use Rattle.ls_headline.specs.Same.{Fits}
 
 -- the cells of what an action makes
 abbrev pub cells_made : List Class → Action Value → ℕ
-cells_made classes (New class) = at_least_one (length (fields_of classes class))
+cells_made classes (New class) = object_cells (length (fields_of classes class))
 cells_made classes NewLock = 1
 cells_made classes (NewMarkable pair) = 1
 cells_made classes (NewArray size) = size_of size + 1

@@ -13,7 +13,7 @@ use thiserror::Error;
 pub enum TranslationFault {
     #[error("out of memory")]
     Memory,
-    /// No cells, more than 1,048,576, or fewer than setup names.
+    /// No cells, more than 4,194,304, or fewer than setup names.
     #[error("bad number of cells")]
     BadCells,
     /// The first step of the schedule, from 0, that makes what has no room beside the setup names and what was made before.

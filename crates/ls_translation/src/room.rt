@@ -5,7 +5,7 @@ ghost use Rattle.ls_checked.specs.Plain.{plain_class, plain_file};
 ghost use Rattle.ls_checked.specs.PlainProgram.{plain_program};
 ghost use Rattle.ls_headline.specs.Same.{Fits};
 ghost use Rattle.ls_headline.specs.Sorts.{fields_of};
-ghost use Rattle.ls_headline.specs.Threads.{at_least_one};
+ghost use Rattle.ls_headline.specs.Threads.{object_cells};
 ghost use Rattle.ls_meaning.specs.Effect.{size_of};
 ghost use Rattle.ls_meaning.specs.Runs.{step};
 ghost use Rattle.ls_source.specs.Progress.{gone_on};
@@ -21,13 +21,13 @@ use ls_meaning::step::Did;
 use ls_source::run::SourceRun;
 use std::alloc::{AllocError, Global};
 
-/// The cells of an object of a class: one for each field, and at least one.
+/// The cells of an object of a class: one for its monitor, and one for each field.
 fn object_cells(classes: &[Class], class: usize) -> usize
-    ensures { result ≡ at_least_one (length (fields_of (map plain_class classes.now) class)) }
+    ensures { result ≡ object_cells (length (fields_of (map plain_class classes.now) class)) }
 {
     match classes.get(class) {
         None => 1,
-        Some(class) => class.fields.len().max(1),
+        Some(class) => class.fields.len() + 1,
     }
 }
 

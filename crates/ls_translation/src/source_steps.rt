@@ -55,7 +55,7 @@ fn acting_steps(
 
 /// The schedule of source steps for a schedule of instructions on a machine with so many cells: one entry for each
 /// instruction that acts, in order. It shows the machine's history, whoever compiled the image.
-/// Refused with 35 where there are no cells, more than 1,048,576, or fewer than setup names.
+/// Refused with 35 where there are no cells, more than 4,194,304, or fewer than setup names.
 pub fn to_source(
     alloc: Global,
     image: &Image,

@@ -1,6 +1,6 @@
 -- Class texts as trees, with the places that a refusal may name. A name is its bytes. The package, imports, modifiers and
--- annotations have no effect, and are left out.
-use Rattle.std.specs.Prelude.{ℕ, List, Option}
+-- annotations have no effect, and are left out, but for `synchronized`.
+use Rattle.std.specs.Prelude.{ℕ, Bool, true, false, List, [], ◌∷◌, Option}
 use Rattle.ls_lexer.specs.declared.token.Span.{Span}
 use Rattle.ls_tree.specs.declared.tree.UnaryOp.{UnaryOp}
 use Rattle.ls_tree.specs.declared.tree.BinaryOp.{BinaryOp}
@@ -71,6 +71,17 @@ pub record Declaration : Type 0 where
   pub first : Declarator
   pub more : List Declarator
 
+-- a simple form, and what a `for` begins with
+pub data Simple : Type 0 where
+  Assign : (target value : Expression) → Simple
+  Add : (target value : Expression) → Simple
+  Count : (up before : Bool) → (target : Expression) → Simple
+  Evaluate : (value : Expression) → Simple
+
+pub data Opening : Type 0 where
+  Declares : (declaration : Declaration) → Opening
+  Performs : (simples : List Simple) → Opening
+
 mutual
   pub data Statement : Type 0 where
     Block : (items : Items) → Statement
@@ -78,12 +89,13 @@ mutual
     If : (condition : Expression) → (first : Statement) → Statement
     IfElse : (condition : Expression) → (first second : Statement) → Statement
     While : (label : Option Name) → (condition : Expression) → (body : Statement) → Statement
+    For : (label : Option Name) → (opening : Opening) → (condition : Option Expression) → (updates : List Simple) → (body : Statement) → Statement
     Break : (label : Option Name) → (span : Span) → Statement
     Continue : (label : Option Name) → (span : Span) → Statement
     Return : (value : Option Expression) → (span : Span) → Statement
     Try : (body finally : Items) → Statement
-    Assign : (target value : Expression) → Statement
-    Evaluate : (value : Expression) → Statement
+    Synchronized : (target : Expression) → (body : Items) → Statement
+    Perform : (simple : Simple) → Statement
 
   pub data Items : Type 0 where
     NoItem : Items
@@ -94,10 +106,15 @@ pub record Parameter : Type 0 where
   pub type_name : TypeName
   pub name : Name
 
--- a method without a result is void
+-- whether there are any
+abbrev pub some_in : {A : Type 0} → List A → Bool
+some_in [] = false
+some_in (x ∷ xs) = true
+
+-- a method without a result is void; one that is synchronized locks the monitor of its own object (JLS 8.4.3.6)
 pub data Member : Type 0 where
   Fields : (declaration : Declaration) → Member
-  Method : (result : Option TypeName) → (name : Name) → (parameters : List Parameter) → (body : Items) → Member
+  Method : (is_synchronized : Bool) → (result : Option TypeName) → (name : Name) → (parameters : List Parameter) → (body : Items) → Member
   Constructor : (name : Name) → (parameters : List Parameter) → (body : Items) → Member
 
 pub record ClassTree : Type 0 where

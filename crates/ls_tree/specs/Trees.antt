@@ -58,6 +58,19 @@ pub record Declaration : Type 0 where
   pub first : Declarator
   pub more : List Declarator
 
+-- what a statement does at once, and each part of the head of a `for`: an assignment, `target += value`, a count that goes up or
+-- down by 1, its sign before the target or behind it, a call
+pub data Simple : Type 0 where
+  Assign : (target value : Expression) → Simple
+  Add : (target value : Expression) → Simple
+  Count : (up before : Bool) → (target : Expression) → Simple
+  Evaluate : (value : Expression) → Simple
+
+-- what a `for` begins with
+pub data Opening : Type 0 where
+  Declares : (declaration : Declaration) → Opening
+  Performs : (simples : List Simple) → Opening
+
 mutual
   pub data Statement : Type 0 where
     Block : (items : Items) → Statement
@@ -65,12 +78,13 @@ mutual
     If : (condition : Expression) → (first : Statement) → Statement
     IfElse : (condition : Expression) → (first second : Statement) → Statement
     While : (label : Option Text) → (condition : Expression) → (body : Statement) → Statement
+    For : (label : Option Text) → (opening : Opening) → (condition : Option Expression) → (updates : List Simple) → (body : Statement) → Statement
     Break : (label : Option Text) → Statement
     Continue : (label : Option Text) → Statement
     Return : (value : Option Expression) → Statement
     Try : (body finally : Items) → Statement
-    Assign : (target value : Expression) → Statement
-    Evaluate : (value : Expression) → Statement
+    Synchronized : (target : Expression) → (body : Items) → Statement
+    Perform : (simple : Simple) → Statement
 
   pub data Items : Type 0 where
     NoItem : Items
@@ -95,9 +109,10 @@ pub record Parameter : Type 0 where
   pub type_name : TypeName
   pub name : Text
 
+-- The modifiers of a method are those before the first `synchronized`, and those behind each of these words.
 pub data Member : Type 0 where
   Fields : (declaration : Declaration) → Member
-  Method : (modifiers : List Modifier) → (result : Option TypeName) → (name : Text) → (parameters : List Parameter) → (body : Items) → Member
+  Method : (modifiers : List Modifier) → (locked : List (List Modifier)) → (result : Option TypeName) → (name : Text) → (parameters : List Parameter) → (body : Items) → Member
   Constructor : (modifiers : List Modifier) → (name : Text) → (parameters : List Parameter) → (body : Items) → Member
 
 pub record ClassTree : Type 0 where

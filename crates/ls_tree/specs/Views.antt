@@ -1,6 +1,6 @@
 -- What a contract sees of the code's trees: trees without their places in memory and in the text.
-use Rattle.std.specs.Prelude.{ℕ, List, [], ◌∷◌, Option, Some, None, string_bytes, map, option_map}
-use Rattle.std.specs.Global.{Box}
+use Rattle.std.specs.Prelude.{List, Option, Some, None, string_bytes, map, option_map}
+use Rattle.std.specs.Global.{Box, Vec}
 use Rattle.ls_tree.specs.declared.tree.Name.{Name}
 use Rattle.ls_tree.specs.declared.tree.Expr.{Expr, Row_of-Expr, end_of-Expr, more_of-Expr, Held-Expr-Call-0, None', Some'}
 use Rattle.ls_tree.specs.declared.tree.Expr.TheVariants as exprs
@@ -10,6 +10,10 @@ use Rattle.ls_tree.specs.declared.tree.«Type».{«Type»}
 use Rattle.ls_tree.specs.declared.tree.«Type».TheVariants as types
 use Rattle.ls_tree.specs.declared.tree.Declarator.{Declarator}
 use Rattle.ls_tree.specs.declared.tree.Declaration.{Declaration}
+use Rattle.ls_tree.specs.declared.tree.Simple.{Simple}
+use Rattle.ls_tree.specs.declared.tree.Simple.TheVariants as simples
+use Rattle.ls_tree.specs.declared.tree.Opening.{Opening}
+use Rattle.ls_tree.specs.declared.tree.Opening.TheVariants as openings
 use Rattle.ls_tree.specs.declared.tree.Statement.{Statement, Row_of-BlockItem, end_of-BlockItem, more_of-BlockItem, Held-Statement-If-2}
 use Rattle.ls_tree.specs.declared.tree.Statement as statement_parts
 use Rattle.ls_tree.specs.declared.tree.Statement.TheVariants as statements
@@ -78,6 +82,9 @@ bare_modifier modifiers.Final = trees.Final
 bare_modifier modifiers.Volatile = trees.Volatile
 bare_modifier (modifiers.Annotation name) = trees.Annotation (name_text name)
 
+abbrev pub bare_modifiers : Vec Modifier → List trees.Modifier
+bare_modifiers ms = map bare_modifier ms.items
+
 abbrev pub bare_type : «Type» → trees.TypeName
 bare_type types.Int = trees.Int
 bare_type types.Boolean = trees.Boolean
@@ -98,6 +105,16 @@ bare_declaration d = record {
 
 -- ---- statements
 
+abbrev pub bare_simple : Simple → trees.Simple
+bare_simple (simples.Assign target value) = trees.Assign (bare target) (bare value)
+bare_simple (simples.Add target value) = trees.Add (bare target) (bare value)
+bare_simple (simples.Count up before target) = trees.Count up before (bare target)
+bare_simple (simples.Evaluate value) = trees.Evaluate (bare value)
+
+abbrev pub bare_opening : Opening → trees.Opening
+bare_opening (openings.Declaration d) = trees.Declares (bare_declaration d)
+bare_opening (openings.Simples ss) = trees.Performs (map bare_simple ss.items)
+
 abbrev pub if_of : Expression → trees.Statement → Option trees.Statement → trees.Statement
 if_of condition first None = trees.If condition first
 if_of condition first (Some second) = trees.IfElse condition first second
@@ -108,12 +125,14 @@ abbrev mutual
   bare_statement (statements.Empty span) = trees.Empty
   bare_statement (statements.If' condition p first otherwise span) = if_of (bare condition) (bare_statement first) (bare_otherwise otherwise)
   bare_statement (statements.While' label condition p body span) = trees.While (option_map name_text label) (bare condition) (bare_statement body)
+  bare_statement (statements.For' label opening condition updates p body span) =
+      trees.For (option_map name_text label) (bare_opening opening) (option_map bare condition) (map bare_simple updates.items) (bare_statement body)
   bare_statement (statements.Break label span) = trees.Break (option_map name_text label)
   bare_statement (statements.Continue label span) = trees.Continue (option_map name_text label)
   bare_statement (statements.Return value span) = trees.Return (option_map bare value)
   bare_statement (statements.Try' shape body span shape' finally span' span'') = trees.Try (bare_items body) (bare_items finally)
-  bare_statement (statements.Assign target value span) = trees.Assign (bare target) (bare value)
-  bare_statement (statements.Expression value span) = trees.Evaluate (bare value)
+  bare_statement (statements.Synchronized' target shape body end span) = trees.Synchronized (bare target) (bare_items body)
+  bare_statement (statements.Simple simple span) = trees.Perform (bare_simple simple)
 
   pub bare_items : {m : _} → Row_of-BlockItem m → Items
   bare_items end_of-BlockItem = NoItem
@@ -149,7 +168,7 @@ bare_parameter p = record { modifiers = map bare_modifier p.modifiers.items; typ
 
 abbrev pub bare_member : Member → trees.Member
 bare_member (members.Field declaration) = trees.Fields (bare_declaration declaration)
-bare_member (members.Method m) = trees.Method (map bare_modifier m.modifiers.items) (option_map bare_type m.result) (name_text m.name) (map bare_parameter m.parameters.items) (bare_block m.body)
+bare_member (members.Method m) = trees.Method (map bare_modifier m.modifiers.items) (map bare_modifiers m.locked.items) (option_map bare_type m.result) (name_text m.name) (map bare_parameter m.parameters.items) (bare_block m.body)
 bare_member (members.Constructor c) = trees.Constructor (map bare_modifier c.modifiers.items) (name_text c.name) (map bare_parameter c.parameters.items) (bare_block c.body)
 
 abbrev pub bare_class : Class → trees.ClassTree

@@ -6,7 +6,7 @@ use Rattle.ls_tree.specs.declared.tree.UnaryOp.{UnaryOp}
 use Rattle.ls_tree.specs.declared.tree.UnaryOp.TheVariants as unary
 use Rattle.ls_tree.specs.declared.tree.BinaryOp.{BinaryOp}
 use Rattle.ls_tree.specs.declared.tree.BinaryOp.TheVariants as binary
-use Rattle.ls_tree.specs.Trees.{Text, Expression, Number, True, False, Null, This, Name, Paren, Unary, Binary, Field, Call, CallOn, Item, New, NewMarkable, NewArray, Expressions, NoExpression, MoreExpressions, Declarator, Declaration, Statement, Block, Empty, If, IfElse, While, Break, Continue, Return, Try, Assign, Evaluate, Items, NoItem, Do, Declare, Piece, Doing, Declaring, Member, Fields, Method, Constructor, ClassTree, File}
+use Rattle.ls_tree.specs.Trees.{Text, Expression, Number, True, False, Null, This, Name, Paren, Unary, Binary, Field, Call, CallOn, Item, New, NewMarkable, NewArray, Expressions, NoExpression, MoreExpressions, Declarator, Declaration, Statement, Block, Empty, If, IfElse, While, For, Break, Continue, Return, Try, Perform, Simple, Synchronized, Assign, Add, Count, Evaluate, Opening, Declares, Performs, Items, NoItem, Do, Declare, Piece, Doing, Declaring, Member, Fields, Method, Constructor, ClassTree, File}
 
 -- how loosely an operator binds
 abbrev pub rank_of : BinaryOp → ℕ
@@ -109,16 +109,32 @@ declarators_height (d ∷ ds) = max (value_height d.value) (declarators_height d
 abbrev pub declaration_height : Declaration → ℕ
 declaration_height d = declarators_height (d.first ∷ d.more) + 1
 
+abbrev pub simple_height : Simple → ℕ
+simple_height (Assign target value) = max (expression_height target) (expression_height value) + 1
+simple_height (Add target value) = max (expression_height target) (expression_height value) + 1
+simple_height (Count up before target) = expression_height target + 1
+simple_height (Evaluate value) = expression_height value + 1
+
+abbrev pub simples_height : List Simple → ℕ
+simples_height [] = 0
+simples_height (s ∷ ss) = max (simple_height s) (simples_height ss)
+
+abbrev pub opening_height : Opening → ℕ
+opening_height (Declares declaration) = declaration_height declaration
+opening_height (Performs simples) = simples_height simples
+
 abbrev mutual
   pub statement_height : Statement → ℕ
   statement_height (Block items) = items_height items + 1
   statement_height (If condition first) = max (expression_height condition) (statement_height first) + 1
   statement_height (IfElse condition first second) = max (expression_height condition) (max (statement_height first) (statement_height second)) + 1
   statement_height (While label condition body) = max (expression_height condition) (statement_height body) + 1
+  statement_height (For label opening condition updates body) =
+      max (opening_height opening) (max (value_height condition) (max (simples_height updates) (statement_height body))) + 1
   statement_height (Return value) = value_height value + 1
   statement_height (Try body finally) = max (items_height body) (items_height finally) + 2
-  statement_height (Assign target value) = max (expression_height target) (expression_height value) + 1
-  statement_height (Evaluate value) = expression_height value + 1
+  statement_height (Synchronized target body) = max (expression_height target) (items_height body + 1) + 1
+  statement_height (Perform simple) = simple_height simple
   statement_height _ = 1
 
   pub items_height : Items → ℕ
@@ -135,6 +151,7 @@ abbrev pub ends_open : Statement → Bool
 ends_open (If condition first) = true
 ends_open (IfElse condition first second) = ends_open second
 ends_open (While label condition body) = ends_open body
+ends_open (For label opening condition updates body) = ends_open body
 ends_open _ = false
 
 abbrev pub WellFormedValue : Option Expression → Type 0
@@ -143,6 +160,19 @@ WellFormedValue value = IfSome value (WellFormed false)
 abbrev pub WellFormedDeclaration : Declaration → Type 0
 WellFormedDeclaration d = AllByRecursion (λ (m : Declarator). WellFormedValue m.value) (d.first ∷ d.more)
 
+abbrev pub WellFormedSimple : Simple → Type 0
+WellFormedSimple (Assign target value) = (is_post target ≡ true) × WellFormed false target × WellFormed false value
+WellFormedSimple (Add target value) = (is_post target ≡ true) × WellFormed false target × WellFormed false value
+WellFormedSimple (Count up before target) = (is_post target ≡ true) × WellFormed false target
+WellFormedSimple (Evaluate value) = (is_call value ≡ true) × WellFormed false value
+
+abbrev pub WellFormedSimples : List Simple → Type 0
+WellFormedSimples simples = AllByRecursion WellFormedSimple simples
+
+abbrev pub WellFormedOpening : Opening → Type 0
+WellFormedOpening (Declares declaration) = WellFormedDeclaration declaration
+WellFormedOpening (Performs simples) = WellFormedSimples simples
+
 abbrev mutual
   pub WellFormedStatement : Statement → Type 0
   WellFormedStatement (Block items) = WellFormedItems items
@@ -150,12 +180,14 @@ abbrev mutual
   WellFormedStatement (If condition first) = WellFormed false condition × WellFormedStatement first
   WellFormedStatement (IfElse condition first second) = WellFormed false condition × WellFormedStatement first × (ends_open first ≡ false) × WellFormedStatement second
   WellFormedStatement (While label condition body) = WellFormed false condition × WellFormedStatement body
+  WellFormedStatement (For label opening condition updates body) =
+      WellFormedOpening opening × WellFormedValue condition × WellFormedSimples updates × WellFormedStatement body
   WellFormedStatement (Break label) = ⊤
   WellFormedStatement (Continue label) = ⊤
   WellFormedStatement (Return value) = WellFormedValue value
   WellFormedStatement (Try body finally) = WellFormedItems body × WellFormedItems finally
-  WellFormedStatement (Assign target value) = (is_post target ≡ true) × WellFormed false target × WellFormed false value
-  WellFormedStatement (Evaluate value) = (is_call value ≡ true) × WellFormed false value
+  WellFormedStatement (Synchronized target body) = WellFormed false target × WellFormedItems body
+  WellFormedStatement (Perform simple) = WellFormedSimple simple
 
   pub WellFormedItems : Items → Type 0
   WellFormedItems NoItem = ⊤
@@ -167,7 +199,7 @@ most_nodes = 128
 
 abbrev pub WellFormedMember : Member → Type 0
 WellFormedMember (Fields declaration) = WellFormedDeclaration declaration × (declarators_height (declaration.first ∷ declaration.more) ≤ most_nodes)
-WellFormedMember (Method modifiers result name parameters body) = WellFormedItems body × (items_height body + 1 ≤ most_nodes)
+WellFormedMember (Method modifiers locked result name parameters body) = WellFormedItems body × (items_height body + 1 ≤ most_nodes)
 WellFormedMember (Constructor modifiers name parameters body) = WellFormedItems body × (items_height body + 1 ≤ most_nodes)
 
 abbrev pub WellFormedFile : File → Type 0

@@ -111,10 +111,12 @@ pub enum Member {
     Constructor(Constructor),
 }
 
-/// A method (JLS 8.4).
+/// A method (JLS 8.4). `locked` has the modifiers behind each `synchronized` (JLS 8.4.3.6), and none where that word isn't among
+/// the modifiers.
 #[derive(Drop)]
 pub struct Method {
     pub modifiers: Vec<Modifier>,
+    pub locked: Vec<Vec<Modifier>>,
     // `None` is `void`.
     pub result: Option<Type>,
     pub name: Name,
@@ -156,6 +158,33 @@ pub struct Declarator {
     pub value: Option<Expr>,
 }
 
+/// What a statement does at once (JLS 14.8), and each part of the head of a `for`: an assignment, `target += value`, a count
+/// as `target++` or `--target`, a call. A count goes up or down, and its sign stands before the target or behind it.
+#[derive(Drop)]
+pub enum Simple {
+    Assign {
+        target: Expr,
+        value: Expr,
+    },
+    Add {
+        target: Expr,
+        value: Expr,
+    },
+    Count {
+        up: bool,
+        before: bool,
+        target: Expr,
+    },
+    Evaluate(Expr),
+}
+
+/// What a `for` begins with (JLS 14.14.1): locals, or simple forms, of which there may be none.
+#[derive(Drop)]
+pub enum Opening {
+    Declaration(Declaration),
+    Simples(Vec<Simple>),
+}
+
 /// A block (JLS 14.2).
 #[derive(Drop)]
 #[cycle(statements)]
@@ -191,6 +220,14 @@ pub enum Statement {
         body: Box<Statement>,
         span: Span,
     },
+    For {
+        label: Option<Name>,
+        opening: Opening,
+        condition: Option<Expr>,
+        updates: Vec<Simple>,
+        body: Box<Statement>,
+        span: Span,
+    },
     Break {
         label: Option<Name>,
         span: Span,
@@ -208,13 +245,13 @@ pub enum Statement {
         finally: Block,
         span: Span,
     },
-    Assign {
+    Synchronized {
         target: Expr,
-        value: Expr,
+        body: Block,
         span: Span,
     },
-    Expression {
-        value: Expr,
+    Simple {
+        simple: Simple,
         span: Span,
     },
 }

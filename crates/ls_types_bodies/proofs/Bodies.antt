@@ -50,6 +50,7 @@ returning = record {
   block = λ ss c h. h;
   sets_slot = λ m e file slots r t. tt;
   sets_field = λ e m v file slots r t. tt;
+  adds_field = λ e m v file slots r t. tt;
   sets_item = λ a i v file slots r t. tt;
   evaluates = λ e file slots r t. tt;
   first = λ e a b c h file slots r t. h file slots r t.1;

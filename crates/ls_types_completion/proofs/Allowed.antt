@@ -111,6 +111,7 @@ allowed = record {
   block = in_block;
   sets_slot = λ n e. refl;
   sets_field = λ e n v. refl;
+  adds_field = λ e n v. refl;
   sets_item = λ a i v. refl;
   evaluates = λ e. refl;
   first = first_of_if;

@@ -4,14 +4,16 @@ use Rattle.std.specs.Prelude.{if◌then◌else◌}
 use Rattle.ls_events.specs.declared.kind.Kind.{Kind}
 use Rattle.ls_events.specs.declared.value.Value.{Value}
 use Rattle.ls_events.specs.declared.value.Value.TheVariants as values
-use Rattle.ls_events.specs.declared.action.Action.TheVariants.{WriteField, WriteItem, Turn}
-use Rattle.ls_checked.specs.CheckedTree.{Class, Expression, Literal, Statement, Block, SetSlot, SetField, SetItem, Evaluate, If, While, Break, Continue, ReturnNothing, ReturnValue, Try, Statements, Done, Then}
-use Rattle.ls_meaning.specs.declared.sort.Sort.TheVariants.{NoValue}
+use Rattle.ls_events.specs.declared.action.Action.TheVariants.{ReadField, WriteField, WriteItem, Turn}
+use Rattle.ls_events.specs.declared.value.ValueType.TheVariants as types
+use Rattle.ls_checked.specs.declared.tree.Operator.TheVariants.{Add}
+use Rattle.ls_checked.specs.CheckedTree.{Class, Expression, Literal, Statement, Block, SetSlot, SetField, AddField, SetItem, Evaluate, If, While, Break, Continue, ReturnNothing, ReturnValue, Try, Statements, Done, Then}
+use Rattle.ls_meaning.specs.declared.sort.Sort.TheVariants.{NoValue, ValueOf}
 use Rattle.ls_meaning.specs.declared.completion.Completion.{Completion}
 use Rattle.ls_meaning.specs.declared.completion.Completion.TheVariants.{Normal, Broke, Continued, Returned, Threw}
 use Rattle.ls_meaning.specs.Values.{int_of, truth_of, reference_of}
 use Rattle.ls_meaning.specs.Course.{Answers, Evaluated, Asks, Results, Throws, tell, with_value, on_object}
-use Rattle.ls_meaning.specs.Expressions.{Calls, evaluate}
+use Rattle.ls_meaning.specs.Expressions.{Calls, operate, evaluate}
 use Rattle.ls_meaning.specs.Statements.{Executed, AsksFor, Completes, on_value, and_normal, then_do, finally_do, turn_back, after_body, one_turn, turns, execute, execute_all}
 use Rattle.ls_types_completion.specs.Completion.{is_true}
 use Rattle.ls_types_completion.specs.Ways.{Abrupt, AfterBody, Closed}
@@ -93,6 +95,10 @@ module _ (P : Statement → Completion Value → Type 0) (Q : Statements → Com
     statement_ends (SetField e n v) ls answers = normal_ends (P (SetField e n v))
         (with_value (evaluate classes calls e ls answers) (λ o rest. with_value (evaluate classes calls v ls rest) (λ w rest. on_object o (WriteField (reference_of o) n w) NoValue rest)))
         ls (closed.throws (SetField e n v)) (closed.sets_field e n v)
+    statement_ends (AddField e n v) ls answers = normal_ends (P (AddField e n v))
+        (with_value (evaluate classes calls e ls answers) (λ o rest. with_value (on_object o (ReadField (reference_of o) n) (ValueOf types.Int) rest) (λ x rest.
+        with_value (evaluate classes calls v ls rest) (λ y rest. with_value (operate Add x y rest) (λ w rest. on_object o (WriteField (reference_of o) n w) NoValue rest)))))
+        ls (closed.throws (AddField e n v)) (closed.adds_field e n v)
     statement_ends (SetItem a i v) ls answers = normal_ends (P (SetItem a i v))
         (with_value (evaluate classes calls a ls answers) (λ o rest. with_value (evaluate classes calls i ls rest) (λ m rest.
         with_value (evaluate classes calls v ls rest) (λ w rest. on_object o (WriteItem (reference_of o) (int_of m) w) NoValue rest))))

@@ -35,6 +35,7 @@ inside = record {
   block = λ ss c h. h;
   sets_slot = λ m e n j. tt;
   sets_field = λ e m v n j. tt;
+  adds_field = λ e m v n j. tt;
   sets_item = λ a i v n j. tt;
   evaluates = λ e n j. tt;
   first = λ e a b c h n j. h n j.0;

@@ -2,7 +2,7 @@
 use Rattle.std.proofs.Common.{◌≡◌, ℕ, suc, ◌+◌, refl, subst, arith, Bool, true, false, ◌&&◌, ◌||◌, nat_eq}
 use Rattle.std.specs.Prelude.{if◌then◌else◌}
 use Rattle.ls_events.specs.declared.value.Value.{Value}
-use Rattle.ls_checked.specs.CheckedTree.{Statement, Block, SetSlot, SetField, SetItem, Evaluate, If, While, Break, Continue, ReturnNothing, ReturnValue, Try, Statements, Done, Then}
+use Rattle.ls_checked.specs.CheckedTree.{Statement, Block, SetSlot, SetField, AddField, SetItem, Evaluate, If, While, Break, Continue, ReturnNothing, ReturnValue, Try, Statements, Done, Then}
 use Rattle.ls_meaning.specs.declared.completion.Completion.{Completion}
 use Rattle.ls_meaning.specs.declared.completion.Completion.TheVariants.{Normal, Broke}
 use Rattle.ls_types_completion.specs.Completion.{is_true, breaks, any_breaks, can_complete, all_complete}
@@ -36,6 +36,7 @@ module _ (P : Statement → Completion Value → Type 0) (Q : Statements → Com
     normal (Block ss) h = closed.block ss Normal (all_normal ss h)
     normal (SetSlot n e) h = closed.sets_slot n e
     normal (SetField e n v) h = closed.sets_field e n v
+    normal (AddField e n v) h = closed.adds_field e n v
     normal (SetItem a i v) h = closed.sets_item a i v
     normal (Evaluate e) h = closed.evaluates e
     normal (If e a b) h = either_of (can_complete a) (can_complete b) h (λ k. closed.first e a b Normal (normal a k)) (λ k. closed.second e a b Normal (normal b k))

@@ -2,7 +2,7 @@
 use Rattle.std.specs.Prelude.{ℕ, zero, suc, ◌≡◌, false, Some, None}
 use Rattle.ls_events.specs.declared.kind.Kind.{Kind}
 use Rattle.ls_events.specs.declared.value.Value.{Value}
-use Rattle.ls_checked.specs.CheckedTree.{Expression, Statement, Block, SetSlot, SetField, SetItem, Evaluate, If, While, Break, Continue, ReturnNothing, ReturnValue, Try, Statements, Done, Then}
+use Rattle.ls_checked.specs.CheckedTree.{Expression, Statement, Block, SetSlot, SetField, AddField, SetItem, Evaluate, If, While, Break, Continue, ReturnNothing, ReturnValue, Try, Statements, Done, Then}
 use Rattle.ls_meaning.specs.declared.completion.Completion.{Completion}
 use Rattle.ls_meaning.specs.declared.completion.Completion.TheVariants.{Normal, Broke, Continued, Returned, Threw}
 use Rattle.ls_types_completion.specs.Completion.{is_true}
@@ -30,6 +30,7 @@ pub record Closed (P : Statement → Completion Value → Type 0) (Q : Statement
   pub block : (ss : Statements) (c : Completion Value) → Q ss c → P (Block ss) c
   pub sets_slot : (n : ℕ) (e : Expression) → P (SetSlot n e) Normal
   pub sets_field : (e : Expression) (n : ℕ) (v : Expression) → P (SetField e n v) Normal
+  pub adds_field : (e : Expression) (n : ℕ) (v : Expression) → P (AddField e n v) Normal
   pub sets_item : (a i v : Expression) → P (SetItem a i v) Normal
   pub evaluates : (e : Expression) → P (Evaluate e) Normal
   pub first : (e : Expression) (a b : Statement) (c : Completion Value) → P a c → P (If e a b) c

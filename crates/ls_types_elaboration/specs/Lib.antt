@@ -7,6 +7,7 @@ pub mod StaticTypes
 pub mod Members
 pub mod Operators
 pub mod TypedExpressions
+pub mod Monitors
 pub mod Scopes
 pub mod TypedStatements
 pub mod TypedMethods

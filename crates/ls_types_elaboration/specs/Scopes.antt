@@ -1,5 +1,5 @@
 -- Blocks as they are checked: their statements, and the locals in scope (JLS 6.3, 6.4, 14.4).
-use Rattle.std.specs.Prelude.{ℕ, pos, nat_lt, false, not, List, [], ◌∷◌, ◌++◌, length, Option, Some, None, Ok, is_some}
+use Rattle.std.specs.Prelude.{ℕ, ◌+◌, pos, nat_lt, false, not, List, [], ◌∷◌, ◌++◌, length, Option, Some, None, Ok, is_some}
 use Rattle.ls_lexer.specs.declared.token.Span.{Span}
 use Rattle.ls_events.specs.declared.value.Value.{Value}
 use Rattle.ls_events.specs.declared.value.Value.TheVariants as values
@@ -19,11 +19,23 @@ pub record Body : Type 0 where
   pub result : Option ValueType
   pub span : Span
 
--- the statements of a block so far, the locals in scope behind them, and the types of the method's slots so far
+-- the types of a method's slots so far, and how many of these have names (or are `this`): the others hold objects whose monitors
+-- `synchronized` locks
+pub record Slots : Type 0 where
+  pub types : List ValueType
+  pub named : ℕ
+
+abbrev pub with_named : Slots → ValueType → Slots
+with_named slots t = record { types = slots.types ++ t ∷ []; named = slots.named + 1 }
+
+abbrev pub with_unnamed : Slots → ValueType → Slots
+with_unnamed slots t = record { types = slots.types ++ t ∷ []; named = slots.named }
+
+-- the statements of a block so far, the locals in scope behind them, and the method's slots so far
 pub record Scope : Type 0 where
   pub statements : List checked.Statement
   pub locals : List Local
-  pub slots : List ValueType
+  pub slots : Slots
 
 -- `this`, parameters and locals of a method
 abbrev pub most_slots : ℕ
@@ -42,15 +54,15 @@ with_statement scope s = record { statements = scope.statements ++ s ∷ []; loc
 abbrev pub with_variable : Scope → Text → ValueType → Scope
 with_variable scope name t = record {
   statements = scope.statements;
-  locals = scope.locals ++ record { name = name; type = t; slot = length scope.slots } ∷ [];
-  slots = scope.slots ++ t ∷ [];
+  locals = scope.locals ++ record { name = name; type = t; slot = length scope.slots.types } ∷ [];
+  slots = with_named scope.slots t;
 }
 
 -- a name that no variable in scope has, and room for it; a method with too many is refused at its name
 abbrev pub may_declare : {A : Type 0} → Span → Scope → Name → Elaborated A → Elaborated A
 may_declare method scope n go =
     unless_broken (is_some (local_named scope.locals n.text)) TwiceDeclared n.span (
-    unless_broken (not (nat_lt (length scope.slots) most_slots)) Limit method go)
+    unless_broken (not (nat_lt scope.slots.named most_slots)) Limit method go)
 
 -- the initialiser, where there is one, as an assignment (JLS 14.4.2)
 abbrev pub initialised : Known → ValueType → ℕ → Scope → Option parsed.Expression → Elaborated Scope
@@ -62,8 +74,8 @@ initialised known t slot scope (Some e) =
 abbrev pub declared : Body → ValueType → Scope → Declarator → Elaborated Scope
 declared body t scope d =
     may_declare body.span scope d.name (
-    initialised body.known t (length scope.slots)
-    (with_statement (with_variable scope d.name.text t) (checked.SetSlot (length scope.slots) (checked.Literal (start_of t))))
+    initialised body.known t (length scope.slots.types)
+    (with_statement (with_variable scope d.name.text t) (checked.SetSlot (length scope.slots.types) (checked.Literal (start_of t))))
     d.value)
 
 abbrev pub declaration : Body → Scope → Declaration → Elaborated Scope

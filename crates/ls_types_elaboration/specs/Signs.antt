@@ -94,7 +94,7 @@ constructor_met class met n parameters =
 
 abbrev pub member_met : List Text → Text → Met → parsed.Member → Elaborated Met
 member_met names class met (parsed.Fields d) = fields_met names met d
-member_met names class met (parsed.Method result n ps body) =
+member_met names class met (parsed.Method sync result n ps body) =
     with_ok (result_of names result) (λ r. with_ok (parameter_types names n ps) (λ ts. method_met met n ts r))
 member_met names class met (parsed.Constructor n ps body) =
     with_ok (parameter_types names n ps) (λ ts. constructor_met class met n ts)

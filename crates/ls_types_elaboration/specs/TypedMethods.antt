@@ -11,7 +11,8 @@ use Rattle.ls_types_elaboration.specs.Elaborated.{Elaborated, with_ok, unless_br
 use Rattle.ls_types_elaboration.specs.Known.{Known, field_of, type_of, result_of}
 use Rattle.ls_types_elaboration.specs.TypedExpressions.{fitting}
 use Rattle.ls_types_completion.specs.Completion.{can_complete}
-use Rattle.ls_types_elaboration.specs.Scopes.{Body, Scope, with_variable, may_declare}
+use Rattle.ls_types_elaboration.specs.Scopes.{Body, with_unnamed, Scope, with_variable, may_declare}
+use Rattle.ls_types_elaboration.specs.Monitors.{synchronized}
 use Rattle.ls_types_elaboration.specs.TypedStatements.{sequence, items}
 
 -- a parameter is in scope in the whole body (JLS 6.3, 8.4.1)
@@ -32,7 +33,7 @@ declarator_set known front d = field_set known front (field_of known known.own d
 
 abbrev pub member_set : Known → List checked.Statement → parsed.Member → Elaborated (List checked.Statement)
 member_set known front (parsed.Fields d) = each (declarator_set known) front (d.first ∷ d.more)
-member_set known front (parsed.Method result name ps body) = Ok front
+member_set known front (parsed.Method sync result name ps body) = Ok front
 member_set known front (parsed.Constructor name ps body) = Ok front
 
 -- in text order
@@ -46,32 +47,49 @@ finished known result name count scope =
     Ok (record {
       class = known.own;
       parameters = count;
-      slots = scope.slots;
+      slots = scope.slots.types;
       result = result;
       body = checked.Block (sequence scope.statements);
     }))
 
--- slot 0 is `this`; the parameters come behind it, then the body's locals
-abbrev pub method : Known → Option ValueType → Name → List Parameter → List checked.Statement → parsed.Items → Elaborated checked.Method
-method known result name ps front block =
-    let body : Body = record { known = known; result = result; span = name.span } in
-    let start : Scope = record { statements = front; locals = []; slots = types.Class known.own ∷ [] } in
-    with_ok (each (parameter body) start ps) (λ scope.
-    with_ok (items body [] scope block) (finished known result name (length ps)))
+-- a synchronized method is that statement over `this` round its body (JLS 8.4.3.6)
+abbrev pub in_monitor : ℕ → ℕ → Scope → Scope
+in_monitor slot class scope = record {
+  statements = synchronized slot class (checked.Slot 0) (checked.Block (sequence scope.statements)) ∷ [];
+  locals = scope.locals;
+  slots = scope.slots;
+}
 
-abbrev pub written_method : Known → Option parsed.TypeName → Name → List Parameter → parsed.Items → Elaborated checked.Method
-written_method known result name ps body =
-    with_ok (result_of known.names result) (λ r. method known r name ps [] body)
+abbrev pub with_unnamed_slot : Scope → ValueType → Scope
+with_unnamed_slot scope t = record { statements = scope.statements; locals = scope.locals; slots = with_unnamed scope.slots t }
+
+abbrev pub all_items : Body → Bool → Scope → parsed.Items → Elaborated Scope
+all_items body false scope block = items body [] scope block
+all_items body true scope block =
+    with_ok (items body [] (with_unnamed_slot scope (types.Class body.known.own)) block) (λ end.
+    Ok (in_monitor (length scope.slots.types) body.known.own end))
+
+-- slot 0 is `this`; the parameters come behind it, then the body's locals
+abbrev pub method : Known → Bool → Option ValueType → Name → List Parameter → List checked.Statement → parsed.Items → Elaborated checked.Method
+method known sync result name ps front block =
+    let body : Body = record { known = known; result = result; span = name.span } in
+    let start : Scope = record { statements = front; locals = []; slots = record { types = types.Class known.own ∷ []; named = 1 } } in
+    with_ok (each (parameter body) start ps) (λ scope.
+    with_ok (all_items body sync scope block) (finished known result name (length ps)))
+
+abbrev pub written_method : Known → Bool → Option parsed.TypeName → Name → List Parameter → parsed.Items → Elaborated checked.Method
+written_method known sync result name ps body =
+    with_ok (result_of known.names result) (λ r. method known sync r name ps [] body)
 
 abbrev pub written_constructor : Known → List parsed.Member → Name → List Parameter → parsed.Items → Elaborated checked.Method
 written_constructor known members name ps body =
-    with_ok (initialisers known members) (λ front. method known None name ps front body)
+    with_ok (initialisers known members) (λ front. method known false None name ps front body)
 
 -- a method or constructor behind those before it
 abbrev pub one_method : Known → List parsed.Member → List checked.Method → parsed.Member → Elaborated (List checked.Method)
 one_method known members before (parsed.Fields d) = Ok before
-one_method known members before (parsed.Method result name ps body) =
-    with_ok (written_method known result name ps body) (λ m. Ok (before ++ m ∷ []))
+one_method known members before (parsed.Method sync result name ps body) =
+    with_ok (written_method known sync result name ps body) (λ m. Ok (before ++ m ∷ []))
 one_method known members before (parsed.Constructor name ps body) =
     with_ok (written_constructor known members name ps body) (λ m. Ok (before ++ m ∷ []))
 

@@ -2,6 +2,7 @@
 #![tactic(auto)]
 
 pub mod known;
+pub mod loops;
 pub mod members;
 pub mod numbers;
 pub mod outcome;

@@ -1,5 +1,5 @@
 -- Class texts as a whole: what is declared, and the checked methods (JLS 6.4, 8).
-use Rattle.std.specs.Prelude.{◌≡◌, ◌+◌, ℕ, List, [], ◌∷◌, length, map, codes, Option, Some, None, Ok, Err}
+use Rattle.std.specs.Prelude.{◌≡◌, ◌+◌, ℕ, false, List, [], ◌∷◌, length, map, codes, Option, Some, None, Ok, Err}
 use Rattle.std.specs.List.{range_with_len}
 use Rattle.ls_tree.specs.declared.tree.UnaryOp.TheVariants.{Not}
 use Rattle.ls_events.specs.declared.value.ValueType.{ValueType}
@@ -14,7 +14,7 @@ use Rattle.ls_types_elaboration.specs.Elaborated.{Elaborated, with_ok}
 use Rattle.ls_types_elaboration.specs.Elaboration.{elaborated}
 use Rattle.ls_types_elaboration.specs.Known.{ClassSign}
 use Rattle.ls_types_elaboration.specs.Signs.{class_names, class_signs}
-use Rattle.ls_types_evaluations.specs.Written.{at, name, one, yes, named, call, items, variable, parameter, class, int, truth, block}
+use Rattle.ls_types_evaluations.specs.Written.{at, name, assign, evaluate, one, yes, named, call, items, variable, parameter, class, int, truth, block}
 
 -- the classes are checked, and are this file
 abbrev pub Are : List ClassTree → checked.File → Type 0
@@ -34,10 +34,10 @@ an_int text k = parsed.Fields (variable parsed.Int text k None)
 
 -- `void name() { s }` and `int name() { s }`
 abbrev pub doing : Text → ℕ → List parsed.Statement → parsed.Member
-doing text k ss = parsed.Method None (name text k) [] (items ss)
+doing text k ss = parsed.Method false None (name text k) [] (items ss)
 
 abbrev pub answering : Text → ℕ → List parsed.Statement → parsed.Member
-answering text k ss = parsed.Method (Some parsed.Int) (name text k) [] (items ss)
+answering text k ss = parsed.Method false (Some parsed.Int) (name text k) [] (items ss)
 
 -- a constructor of A without parameters
 abbrev pub a_constructor : ℕ → List parsed.Statement → parsed.Member
@@ -63,9 +63,9 @@ MembersOfOneName =
     × Break (A (an_int (codes "i") 1 ∷ an_int (codes "i") 2 ∷ [])) rules.TwiceDeclared 2
     × Break (A (an_int (codes "i") 1 ∷ parsed.Fields (variable parsed.Boolean (codes "i") 2 None) ∷ [])) rules.TwiceDeclared 2
     × Break (A (doing (codes "f") 1 [] ∷ doing (codes "f") 2 [] ∷ [])) rules.TwiceDeclared 2
-    × Break (A (doing (codes "f") 1 [] ∷ parsed.Method None (name (codes "f") 2) (parameter parsed.Int (codes "x") 3 ∷ []) parsed.NoItem ∷ [])) rules.TwiceDeclared 2
+    × Break (A (doing (codes "f") 1 [] ∷ parsed.Method false None (name (codes "f") 2) (parameter parsed.Int (codes "x") 3 ∷ []) parsed.NoItem ∷ [])) rules.TwiceDeclared 2
     × Break (A (a_constructor 1 [] ∷ parsed.Constructor (name (codes "A") 2) (parameter parsed.Int (codes "x") 3 ∷ []) parsed.NoItem ∷ [])) rules.TwiceDeclared 2
-    × Break (A (parsed.Method None (name (codes "f") 1) (parameter parsed.Int (codes "x") 2 ∷ parameter parsed.Boolean (codes "x") 3 ∷ []) parsed.NoItem ∷ [])) rules.TwiceDeclared 3
+    × Break (A (parsed.Method false None (name (codes "f") 1) (parameter parsed.Int (codes "x") 2 ∷ parameter parsed.Boolean (codes "x") 3 ∷ []) parsed.NoItem ∷ [])) rules.TwiceDeclared 3
 
 -- a field and a method, members of two classes, and a method named as its class; a method is called by its name alone in its own class
 abbrev pub OneNameForSeveral : Type 0
@@ -82,7 +82,7 @@ OneNameForSeveral =
     })
     × Are (A (doing (codes "A") 1 [] ∷ []))
     (record { classes = record { fields = []; constructor = 1 } ∷ []; methods = checked_method 0 None [] ∷ checked_method 0 None [] ∷ [] })
-    × Break (class (codes "A") 1 (doing (codes "g") 2 [] ∷ []) ∷ class (codes "B") 3 (doing (codes "f") 4 (parsed.Evaluate (call (codes "g") [] 5) ∷ []) ∷ []) ∷ []) rules.UnknownName 5
+    × Break (class (codes "A") 1 (doing (codes "g") 2 [] ∷ []) ∷ class (codes "B") 3 (doing (codes "f") 4 (evaluate (call (codes "g") [] 5) ∷ []) ∷ []) ∷ []) rules.UnknownName 5
 
 -- a constructor is named as its class is
 abbrev pub OtherConstructors : Type 0
@@ -109,16 +109,16 @@ Types =
     })
     × Break (A (parsed.Fields (variable (parsed.Class (name (codes "C") 2)) (codes "b") 3 None) ∷ [])) rules.UnknownType 2
     × Break (A (parsed.Fields (variable (parsed.Markable (name (codes "Lock") 2)) (codes "b") 3 None) ∷ [])) rules.UnknownType 2
-    × Break (A (parsed.Method (Some (parsed.Class (name (codes "C") 2))) (name (codes "f") 3) [] parsed.NoItem ∷ [])) rules.UnknownType 2
-    × Break (A (parsed.Method None (name (codes "f") 3) (parameter (parsed.Class (name (codes "C") 2)) (codes "x") 4 ∷ []) parsed.NoItem ∷ [])) rules.UnknownType 2
+    × Break (A (parsed.Method false (Some (parsed.Class (name (codes "C") 2))) (name (codes "f") 3) [] parsed.NoItem ∷ [])) rules.UnknownType 2
+    × Break (A (parsed.Method false None (name (codes "f") 3) (parameter (parsed.Class (name (codes "C") 2)) (codes "x") 4 ∷ []) parsed.NoItem ∷ [])) rules.UnknownType 2
 
 -- ---- methods
 
 -- all are numbered in text order, and a constructor that isn't written comes behind the methods of its class
 abbrev pub Numbers : Type 0
 Numbers =
-    Are (class (codes "A") 1 (doing (codes "f") 2 [] ∷ doing (codes "g") 3 (parsed.Evaluate (call (codes "f") [] 4) ∷ []) ∷ [])
-    ∷ class (codes "B") 5 (parsed.Constructor (name (codes "B") 6) [] parsed.NoItem ∷ doing (codes "f") 7 (parsed.Evaluate (parsed.New (name (codes "B") 8) parsed.End (at 9)) ∷ []) ∷ []) ∷ [])
+    Are (class (codes "A") 1 (doing (codes "f") 2 [] ∷ doing (codes "g") 3 (evaluate (call (codes "f") [] 4) ∷ []) ∷ [])
+    ∷ class (codes "B") 5 (parsed.Constructor (name (codes "B") 6) [] parsed.NoItem ∷ doing (codes "f") 7 (evaluate (parsed.New (name (codes "B") 8) parsed.End (at 9)) ∷ []) ∷ []) ∷ [])
     (record {
       classes = record { fields = []; constructor = 2 } ∷ record { fields = []; constructor = 3 } ∷ [];
       methods =
@@ -132,7 +132,7 @@ Numbers =
 -- `this`, the parameters, and then the locals
 abbrev pub Parameters : Type 0
 Parameters =
-    Are (A (parsed.Method (Some parsed.Int) (name (codes "f") 1) (parameter parsed.Boolean (codes "y") 2 ∷ parameter parsed.Int (codes "x") 3 ∷ [])
+    Are (A (parsed.Method false (Some parsed.Int) (name (codes "f") 1) (parameter parsed.Boolean (codes "y") 2 ∷ parameter parsed.Int (codes "x") 3 ∷ [])
     (parsed.Declare (variable parsed.Int (codes "z") 4 None) (items (parsed.Return (Some (named (codes "x") 5)) (at 6) ∷ []))) ∷ []))
     (record {
       classes = record { fields = []; constructor = 1 } ∷ [];
@@ -150,7 +150,7 @@ Parameters =
 -- initialisers of fields stand at the front of the constructor, in text order, written or not
 abbrev pub Initialisers : Type 0
 Initialisers =
-    Are (A (parsed.Fields (variable parsed.Int (codes "i") 1 (Some (one 2))) ∷ a_constructor 3 (parsed.Assign (named (codes "i") 4) (named (codes "j") 5) ∷ []) ∷ parsed.Fields (variable parsed.Int (codes "j") 6 (Some (named (codes "i") 7))) ∷ []))
+    Are (A (parsed.Fields (variable parsed.Int (codes "i") 1 (Some (one 2))) ∷ a_constructor 3 (assign (named (codes "i") 4) (named (codes "j") 5) ∷ []) ∷ parsed.Fields (variable parsed.Int (codes "j") 6 (Some (named (codes "i") 7))) ∷ []))
     (record {
       classes = record { fields = types.Int ∷ types.Int ∷ []; constructor = 0 } ∷ [];
       methods = checked_method 0 None (
@@ -231,5 +231,5 @@ MostOfAll =
     × (class_names (empty_classes 65) ≡ Err (record { rule = rules.Limit; span = at 7 }))
     × (signs_of (many_fields 64) ≡ Ok 64)
     × (signs_of (many_fields 65) ≡ Err (record { rule = rules.Limit; span = at 7 }))
-    × (signs_of (parsed.Method None (name (codes "f") 9) (many_parameters 127) parsed.NoItem ∷ []) ≡ Ok 0)
-    × (signs_of (parsed.Method None (name (codes "f") 9) (many_parameters 128) parsed.NoItem ∷ []) ≡ Err (record { rule = rules.Limit; span = at 9 }))
+    × (signs_of (parsed.Method false None (name (codes "f") 9) (many_parameters 127) parsed.NoItem ∷ []) ≡ Ok 0)
+    × (signs_of (parsed.Method false None (name (codes "f") 9) (many_parameters 128) parsed.NoItem ∷ []) ≡ Err (record { rule = rules.Limit; span = at 9 }))

@@ -128,11 +128,11 @@ threads n = flat_map (λ k. Named (codes "thread") ∷ Named ((65 + k) ∷ []) �
 abbrev pub setup_and : List Lexeme → List Lexeme
 setup_and ks = Named (codes "setup") ∷ Marked signs.OpenBrace ∷ Marked signs.CloseBrace ∷ ks
 
--- 16 threads beside the setup
+-- 64 threads beside the setup
 abbrev pub MostThreads : Type 0
 MostThreads =
-    (is_some (program_of_tokens outcome (Some (setup_and (threads 16)))) ≡ true)
-    × (is_none (program_of_tokens outcome (Some (setup_and (threads 17)))) ≡ true)
+    (is_some (program_of_tokens outcome (Some (setup_and (threads 64)))) ≡ true)
+    × (is_none (program_of_tokens outcome (Some (setup_and (threads 65)))) ≡ true)
 
 -- whether a thread with so many calls has room for one more
 abbrev pub has_room : ℕ → Bool

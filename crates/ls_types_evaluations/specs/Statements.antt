@@ -1,36 +1,40 @@
 -- Statements in a method of class A: scopes, loops, what is assigned and returned (JLS 6.3, 6.4, 14, 15.26).
-use Rattle.std.specs.Prelude.{◌≡◌, ◌+◌, ℕ, false, List, [], ◌∷◌, ◌++◌, replicate, codes, Option, Some, None, Ok, Err}
+use Rattle.std.specs.Prelude.{◌≡◌, ◌+◌, ℕ, negsuc, true, false, List, [], ◌∷◌, ◌++◌, length, replicate, codes, Option, Some, None, Ok, Err}
 use Rattle.ls_events.specs.declared.value.Value.TheVariants as values
 use Rattle.ls_events.specs.declared.value.ValueType.{ValueType}
 use Rattle.ls_events.specs.declared.value.ValueType.TheVariants as types
 use Rattle.ls_checked.specs.declared.tree.Called.TheVariants as called
+use Rattle.ls_checked.specs.declared.tree.Operator.TheVariants as operators
 use Rattle.ls_checked.specs.CheckedTree as checked
 use Rattle.ls_types_elaboration.specs.declared.rule.Rule.{Rule}
 use Rattle.ls_types_elaboration.specs.declared.rule.Rule.TheVariants as rules
-use Rattle.ls_types_elaboration.specs.Trees.{Text}
+use Rattle.ls_types_elaboration.specs.Trees.{Text, Name}
 use Rattle.ls_types_elaboration.specs.Trees as parsed
-use Rattle.ls_types_elaboration.specs.Scopes.{Body}
+use Rattle.ls_types_elaboration.specs.Scopes.{Body, Slots}
 use Rattle.ls_types_elaboration.specs.TypedStatements.{Loops, statement}
-use Rattle.ls_types_evaluations.specs.Written.{at, name, one, yes, nothing, self, named, field, call, items, variable, int, truth, null, block, known, locals, own}
+use Rattle.ls_types_evaluations.specs.Written.{at, name, assign, evaluate, one, yes, nothing, self, named, field, call, items, variable, int, truth, null, block, known, locals, own}
 
 -- a method that answers this, whose name stands at 99
 abbrev pub body : Option ValueType → Body
 body result = record { known = known; result = result; span = at 99 }
 
 -- the types of the slots of `this`, x and b
-abbrev pub slots : List ValueType
-slots = types.Class 0 ∷ types.Int ∷ types.Int ∷ []
+abbrev pub slots : Slots
+slots = record { types = types.Class 0 ∷ types.Int ∷ types.Int ∷ []; named = 3 }
+
+abbrev pub with_more : List ValueType → Slots
+with_more more = record { types = slots.types ++ more; named = length more + 3 }
 
 -- in a method that answers this, within these loops, the statement has this checked form, and the method these further slots
 abbrev pub Becomes : Option ValueType → Loops → parsed.Statement → checked.Statement → List ValueType → Type 0
-Becomes result loops s form more = statement (body result) loops locals slots s ≡ Ok (record { tree = form; slots = slots ++ more })
+Becomes result loops s form more = statement (body result) loops locals slots s ≡ Ok (record { tree = form; slots = with_more more })
 
 -- the statement, in no loop of a void method, breaks this rule there
 abbrev pub Breaks : parsed.Statement → Rule → ℕ → Type 0
 Breaks s rule k = statement (body None) [] locals slots s ≡ Err (record { rule = rule; span = at k })
 
 abbrev pub set : Text → ℕ → parsed.Statement
-set text k = parsed.Assign (named text k) (one (k + 1))
+set text k = assign (named text k) (one (k + 1))
 
 -- `int name = 1;` before others
 abbrev pub declare : Text → ℕ → parsed.Items → parsed.Items
@@ -42,27 +46,27 @@ abbrev pub Assignments : Type 0
 Assignments =
     Becomes None [] (set (codes "x") 1) (checked.SetSlot 1 (int 1)) []
     × Becomes None [] (set (codes "i") 1) (checked.SetField (checked.Slot 0) 0 (int 1)) []
-    × Becomes None [] (parsed.Assign (field (named (codes "o") 1) (codes "k") 2) (one 3)) (checked.SetField (own 6) 1 (int 1)) []
-    × Becomes None [] (parsed.Assign (parsed.Item (named (codes "a") 1) (one 2) (at 3)) (yes 4)) (checked.SetItem (own 2) (int 1) truth) []
-    × Becomes None [] (parsed.Assign (named (codes "n") 1) (nothing 2)) (checked.SetField (checked.Slot 0) 3 null) []
+    × Becomes None [] (assign (field (named (codes "o") 1) (codes "k") 2) (one 3)) (checked.SetField (own 6) 1 (int 1)) []
+    × Becomes None [] (assign (parsed.Item (named (codes "a") 1) (one 2) (at 3)) (yes 4)) (checked.SetItem (own 2) (int 1) truth) []
+    × Becomes None [] (assign (named (codes "n") 1) (nothing 2)) (checked.SetField (checked.Slot 0) 3 null) []
 
 abbrev pub NotAssigned : Type 0
 NotAssigned =
-    Breaks (parsed.Assign (self 1) (nothing 2)) rules.NotAssignable 1
-    × Breaks (parsed.Assign (one 1) (one 2)) rules.NotAssignable 1
-    × Breaks (parsed.Assign (call (codes "f") (one 1 ∷ yes 2 ∷ []) 3) (one 5)) rules.NotAssignable 4
-    × Breaks (parsed.Assign (call (codes "v") [] 3) (one 5)) rules.NotAssignable 4
-    × Breaks (parsed.Assign (named (codes "x") 1) (yes 2)) rules.WrongType 2
-    × Breaks (parsed.Assign (named (codes "x") 1) (nothing 2)) rules.WrongType 2
-    × Breaks (parsed.Assign (named (codes "x") 1) (call (codes "v") [] 3)) rules.WrongType 4
-    × Breaks (parsed.Assign (named (codes "n") 1) (named (codes "o") 2)) rules.WrongType 2
-    × Breaks (parsed.Assign (named (codes "r") 1) (named (codes "q") 2)) rules.WrongType 2
-    × Breaks (parsed.Assign (parsed.Item (named (codes "a") 1) (one 2) (at 3)) (one 4)) rules.WrongType 4
+    Breaks (assign (self 1) (nothing 2)) rules.NotAssignable 1
+    × Breaks (assign (one 1) (one 2)) rules.NotAssignable 1
+    × Breaks (assign (call (codes "f") (one 1 ∷ yes 2 ∷ []) 3) (one 5)) rules.NotAssignable 4
+    × Breaks (assign (call (codes "v") [] 3) (one 5)) rules.NotAssignable 4
+    × Breaks (assign (named (codes "x") 1) (yes 2)) rules.WrongType 2
+    × Breaks (assign (named (codes "x") 1) (nothing 2)) rules.WrongType 2
+    × Breaks (assign (named (codes "x") 1) (call (codes "v") [] 3)) rules.WrongType 4
+    × Breaks (assign (named (codes "n") 1) (named (codes "o") 2)) rules.WrongType 2
+    × Breaks (assign (named (codes "r") 1) (named (codes "q") 2)) rules.WrongType 2
+    × Breaks (assign (parsed.Item (named (codes "a") 1) (one 2) (at 3)) (one 4)) rules.WrongType 4
 
 -- a call without a value is a statement
 abbrev pub Evaluations : Type 0
 Evaluations =
-    Becomes None [] (parsed.Evaluate (call (codes "v") [] 1)) (checked.Evaluate (checked.Call (checked.Slot 0) (called.Method 2) checked.End)) []
+    Becomes None [] (evaluate (call (codes "v") [] 1)) (checked.Evaluate (checked.Call (checked.Slot 0) (called.Method 2) checked.End)) []
     × Becomes None [] parsed.Empty (checked.Block checked.Done) []
 
 -- ---- scopes
@@ -108,12 +112,16 @@ OwnSlots =
     (checked.If truth (checked.Block (block (checked.SetSlot 3 (int 0) ∷ checked.SetSlot 3 (int 1) ∷ []))) (checked.Block (block (checked.SetSlot 4 (int 0) ∷ checked.SetSlot 4 (int 1) ∷ []))))
     (types.Int ∷ types.Int ∷ [])
 
+-- so many slots, of which these have names
+abbrev pub filled : ℕ → ℕ → Slots
+filled all n = record { types = replicate all types.Int; named = n }
+
 -- 128 slots are there; a method with more is refused at its name
 abbrev pub MostSlots : Type 0
 MostSlots =
-    (statement (body None) [] locals (replicate 127 types.Int) (parsed.Block (parsed.Declare (variable parsed.Int (codes "y") 1 None) parsed.NoItem))
-    ≡ Ok (record { tree = checked.Block (block (checked.SetSlot 127 (int 0) ∷ [])); slots = replicate 128 types.Int }))
-    × (statement (body None) [] locals (replicate 128 types.Int) (parsed.Block (parsed.Declare (variable parsed.Int (codes "y") 1 None) parsed.NoItem))
+    (statement (body None) [] locals (filled 127 127) (parsed.Block (parsed.Declare (variable parsed.Int (codes "y") 1 None) parsed.NoItem))
+    ≡ Ok (record { tree = checked.Block (block (checked.SetSlot 127 (int 0) ∷ [])); slots = filled 128 128 }))
+    × (statement (body None) [] locals (filled 128 128) (parsed.Block (parsed.Declare (variable parsed.Int (codes "y") 1 None) parsed.NoItem))
     ≡ Err (record { rule = rules.Limit; span = at 99 }))
 
 -- ---- loops and jumps
@@ -158,6 +166,53 @@ Conditions =
     × Breaks (parsed.If (call (codes "v") [] 1) parsed.Empty) rules.WrongType 2
     × Breaks (parsed.IfElse (nothing 1) parsed.Empty parsed.Empty) rules.WrongType 1
     × Breaks (parsed.While None (one 1) parsed.Empty) rules.WrongType 1
+
+-- `for (int i = 1; true; i++) s`
+abbrev pub labelled_count : Option Name → parsed.Statement → parsed.Statement
+labelled_count l s = parsed.For l (parsed.Declares (variable parsed.Int (codes "i") 51 (Some (one 52)))) (Some (yes 53)) (parsed.Count true false (named (codes "i") 54) ∷ []) s
+
+abbrev pub counting : Option Text → parsed.Statement → parsed.Statement
+counting None s = labelled_count None s
+counting (Some l) s = labelled_count (Some (name l 50)) s
+
+-- its loops, where the local is in slot n
+abbrev pub counted : ℕ → checked.Statement → checked.Statement
+counted n s =
+    checked.Block (block (
+    checked.SetSlot n (int 0)
+    ∷ checked.SetSlot n (int 1)
+    ∷ checked.While truth (checked.Block (block (
+    checked.While truth (checked.Block (block (s ∷ checked.Break 0 ∷ [])))
+    ∷ checked.Block (block (checked.SetSlot n (checked.Binary operators.Add (checked.Slot n) (int 1)) ∷ [])) ∷ [])))
+    ∷ []))
+
+-- `break` leaves all of a `for`, `continue` one turn of it; each `for` is two loops outward
+abbrev pub ForLoops : Type 0
+ForLoops =
+    Becomes None [] (counting None parsed.Empty) (counted 3 (checked.Block checked.Done)) (types.Int ∷ [])
+    × Becomes None [] (counting None (parsed.Break None (at 2))) (counted 3 (checked.Break 1)) (types.Int ∷ [])
+    × Becomes None [] (counting None (parsed.Continue None (at 2))) (counted 3 (checked.Break 0)) (types.Int ∷ [])
+    × Becomes None [] (counting (Some (codes "p")) (loop None (parsed.Continue (Some (name (codes "p") 3)) (at 2)))) (counted 3 (checked.While truth (checked.Break 1))) (types.Int ∷ [])
+    × Becomes None [] (loop (Some (codes "p")) (counting None (parsed.Continue (Some (name (codes "p") 3)) (at 2)))) (checked.While truth (counted 3 (checked.Continue 2))) (types.Int ∷ [])
+    × Becomes None [] (parsed.For None (parsed.Performs []) None [] (parsed.Break None (at 2))) (checked.Block (block (checked.While truth (checked.Block (block (
+    checked.While truth (checked.Block (block (checked.Break 1 ∷ checked.Break 0 ∷ []))) ∷ checked.Block checked.Done ∷ []))) ∷ []))) []
+    × Breaks (parsed.Block (parsed.Do (counting None parsed.Empty) (items (set (codes "i") 5 ∷ set (codes "z") 7 ∷ [])))) rules.UnknownName 7
+    × Breaks (counting None (parsed.Block (declare (codes "i") 5 parsed.NoItem))) rules.TwiceDeclared 5
+    × Breaks (counting (Some (codes "p")) (counting (Some (codes "p")) parsed.Empty)) rules.TwiceDeclared 50
+    × Breaks (parsed.For None (parsed.Performs []) (Some (one 1)) [] parsed.Empty) rules.WrongType 1
+
+-- what is added to: a local, a field; neither an element nor a variable of another type
+abbrev pub Additions : Type 0
+Additions =
+    Becomes None [] (parsed.Perform (parsed.Add (named (codes "x") 1) (one 2))) (checked.SetSlot 1 (checked.Binary operators.Add (checked.Slot 1) (int 1))) []
+    × Becomes None [] (parsed.Perform (parsed.Count false true (named (codes "i") 1))) (checked.AddField (checked.Slot 0) 0 (checked.Literal (values.Int (negsuc 0)))) []
+    × Becomes None [] (parsed.Perform (parsed.Count true false (parsed.Paren (named (codes "x") 1) (at 2)))) (checked.SetSlot 1 (checked.Binary operators.Add (checked.Slot 1) (int 1))) []
+    × Becomes None [] (parsed.Perform (parsed.Add (field (named (codes "o") 1) (codes "k") 2) (one 3))) (checked.AddField (own 6) 1 (int 1)) []
+    × Breaks (parsed.Perform (parsed.Add (named (codes "x") 1) (yes 2))) rules.WrongType 2
+    × Breaks (parsed.Perform (parsed.Count true false (parsed.Item (named (codes "a") 1) (one 2) (at 3)))) rules.WrongType 3
+    × Breaks (parsed.Perform (parsed.Count true false (named (codes "n") 1))) rules.WrongType 1
+    × Breaks (parsed.Perform (parsed.Count true false (self 1))) rules.NotAssignable 1
+    × Breaks (parsed.Perform (parsed.Count true false (one 1))) rules.NotAssignable 1
 
 -- ---- return
 

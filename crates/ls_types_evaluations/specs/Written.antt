@@ -5,7 +5,7 @@ use Rattle.ls_tree.specs.declared.tree.BinaryOp.{BinaryOp}
 use Rattle.ls_events.specs.declared.value.Value.TheVariants as values
 use Rattle.ls_events.specs.declared.value.ValueType.TheVariants as types
 use Rattle.ls_checked.specs.CheckedTree as checked
-use Rattle.ls_types_elaboration.specs.Trees.{Text, Name, Declarator, Declaration, Parameter, ClassTree}
+use Rattle.ls_types_elaboration.specs.Trees.{Text, Name, Declaration, Parameter, ClassTree}
 use Rattle.ls_types_elaboration.specs.Trees as parsed
 use Rattle.ls_types_elaboration.specs.Known.{Known, Local, ClassSign}
 
@@ -55,6 +55,12 @@ abbrev pub making_markable : Text → List parsed.Expression → ℕ → parsed.
 making_markable text es k = parsed.NewMarkable (name text k) (row es) (at (k + 1))
 
 -- ---- statements, members and classes as they are written
+
+abbrev pub assign : parsed.Expression → parsed.Expression → parsed.Statement
+assign target value = parsed.Perform (parsed.Assign target value)
+
+abbrev pub evaluate : parsed.Expression → parsed.Statement
+evaluate e = parsed.Perform (parsed.Evaluate e)
 
 abbrev pub items : List parsed.Statement → parsed.Items
 items [] = parsed.NoItem

@@ -4,7 +4,8 @@
 
 ghost use Rattle.ls_types_evaluations.specs.Expressions.{Literals, Constants, IntegerIsALocal, Names, Fields, Arithmetic, Comparisons, OperandsOfInts, ShortCircuits, Signs, Comparable, NotComparable};
 ghost use Rattle.ls_types_evaluations.specs.Calls.{Methods, Arguments, Locks, Markables, OtherArgumentsOfMarkables, Makings, Arrays};
-ghost use Rattle.ls_types_evaluations.specs.Statements.{Assignments, NotAssigned, Evaluations, Declarations, OwnInitialiser, OutOfScope, TwoOfOneName, OwnSlots, MostSlots, Jumps, NoLoops, Labels, Conditions, Returns};
+ghost use Rattle.ls_types_evaluations.specs.Statements.{Assignments, NotAssigned, Evaluations, Declarations, OwnInitialiser, OutOfScope, TwoOfOneName, OwnSlots, MostSlots, Jumps, NoLoops, Labels, Conditions, Returns, ForLoops, Additions};
+ghost use Rattle.ls_types_evaluations.specs.Monitors.{Forms, JumpsThrough, OutOfBlock, Locked, NamedSlotsAlone, SynchronizedMethods};
 ghost use Rattle.ls_types_evaluations.specs.Files.{ReservedClasses, MembersOfOneName, OneNameForSeveral, OtherConstructors, Types, Numbers, Parameters, Initialisers, MissingReturns, EnoughReturns, MostOfAll};
 ghost use Rattle.ls_types_evaluations.specs.Programs.{Wholes, WrittenNumbers, PlainArguments, MethodsCalled, SetupNames, ThreadNames, Blocks, MostThreads, MostCalls, MostBytes};
 
@@ -50,7 +51,19 @@ pub fn statements()
     ensures no_loops { NoLoops }
     ensures labels { Labels }
     ensures conditions { Conditions }
+    ensures for_loops { ForLoops }
+    ensures additions { Additions }
     ensures returns { Returns }
+{}
+
+/// `synchronized` (JLS 8.4.3.6, 14.19).
+pub fn monitors()
+    ensures forms { Forms }
+    ensures jumps_through { JumpsThrough }
+    ensures out_of_block { OutOfBlock }
+    ensures locked { Locked }
+    ensures named_slots_alone { NamedSlotsAlone }
+    ensures synchronized_methods { SynchronizedMethods }
 {}
 
 /// What the classes of a text declare, their methods, and the limits (JLS 6.4, 8).

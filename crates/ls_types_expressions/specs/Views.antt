@@ -6,6 +6,8 @@ use Rattle.ls_types_expressions.specs.declared.site.Site.{Site}
 use Rattle.ls_types_expressions.specs.declared.assignments.Place.{Place}
 use Rattle.ls_types_expressions.specs.declared.assignments.Place.TheVariants as places
 use Rattle.ls_types_expressions.specs.declared.assignments.Variable.{Variable}
+use Rattle.ls_types_expressions.specs.declared.simples.Counter.{Counter}
+use Rattle.ls_types_expressions.specs.declared.simples.Counter.TheVariants as counters
 use Rattle.ls_types_elaboration.specs.Elaborated.{Elaborated}
 use Rattle.ls_types_elaboration.specs.Known as known
 use Rattle.ls_types_elaboration.specs.TypedStatements as typing
@@ -26,3 +28,10 @@ variable_of v = record { place = place_of v.place; type = v.value_type }
 
 abbrev pub seen_variable : Result Variable Broken → Elaborated typing.Variable
 seen_variable r = seen variable_of r
+
+abbrev pub counter_of : Counter → typing.Counter
+counter_of (counters.Slot n) = typing.OfSlot n
+counter_of (counters.Field target field) = typing.OfField (plain target) field
+
+abbrev pub seen_counter : Result Counter Broken → Elaborated typing.Counter
+seen_counter r = seen counter_of r

@@ -4,4 +4,5 @@
 pub mod assignments;
 pub mod expressions;
 pub mod places;
+pub mod simples;
 pub mod site;

@@ -90,6 +90,7 @@ fn can_complete(alloc: Global, s: &Statement, left: &mut Vec<usize>) -> Result<b
         }
         Statement::SetSlot(..)
         | Statement::SetField { .. }
+        | Statement::AddField { .. }
         | Statement::SetItem { .. }
         | Statement::Evaluate(_) => Ok(true),
     }

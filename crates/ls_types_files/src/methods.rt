@@ -1,6 +1,6 @@
 // Methods, constructors and field initialisers.
 
-ghost use Rattle.std.specs.Prelude.{◌≡◌, ◌≤◌, ◌&&◌, ◌∷◌, [], IfOk, OnOk, is_some, map, option_map, vec_len};
+ghost use Rattle.std.specs.Prelude.{◌≡◌, ◌≤◌, ◌&&◌, ◌∷◌, [], IfOk, Ok, OnOk, is_some, map, option_map};
 ghost use Rattle.ls_events.specs.declared.value.ValueType.TheVariants.{Class as class_type};
 ghost use Rattle.ls_checked.specs.CheckedTree.{Method as checked_method};
 ghost use Rattle.ls_types_completion.specs.Completion.{all_complete as the_all_complete};
@@ -9,38 +9,41 @@ ghost use Rattle.ls_types_elaboration.specs.Answers.{Gives, Leads};
 ghost use Rattle.ls_types_elaboration.specs.TypedStatements.{sequence};
 ghost use Rattle.ls_checked.specs.Plain.{plain_statement, plain_method};
 ghost use Rattle.ls_types_elaboration.specs.Elaborated.{Elaborated, each, unless_broken};
-ghost use Rattle.ls_types_elaboration.specs.TypedMethods.{parameter as the_parameter, declarator_set as the_declarator_set, member_set as the_member_set, initialisers as the_initialisers, method as the_method, written_method as the_written_method, written_constructor as the_written_constructor, one_method as the_one_method, has_constructor as the_has_constructor, default_constructor as the_default_constructor, class_methods as the_class_methods};
+ghost use Rattle.ls_types_elaboration.specs.TypedMethods.{parameter as the_parameter, declarator_set as the_declarator_set, member_set as the_member_set, initialisers as the_initialisers, all_items as the_all_items, in_monitor as the_in_monitor, method as the_method, written_method as the_written_method, written_constructor as the_written_constructor, one_method as the_one_method, has_constructor as the_has_constructor, default_constructor as the_default_constructor, class_methods as the_class_methods};
+ghost use Rattle.ls_types_elaboration.specs.Scopes.{Slots as the_slots};
+ghost use Rattle.ls_types_elaboration.specs.Trees.{some_in};
 ghost use Rattle.ls_types_elaboration.specs.Placed.{placed_name};
 ghost use Rattle.ls_types_elaboration.specs.PlacedStatements.{placed_parameter, placed_declarator, placed_member, placed_items, placed_type};
 ghost use Rattle.ls_types_tables.specs.ByName.{known_of};
-ghost use Rattle.ls_types_statements.specs.ScopeViews.{body_of, scope_of};
+ghost use Rattle.ls_types_statements.specs.ScopeViews.{body_of, slots_of, scope_of};
 
 use crate::completion::all_complete;
 use ls_checked::tree::{Expression, Method, Statement};
 use ls_events::value::ValueType;
 use ls_tree::tree::{
-    BlockItem, Constructor, Declarator, Member, Method as MethodText, Name, Parameter,
+    BlockItem, Constructor, Declarator, Member, Method as MethodText, Modifier, Name, Parameter,
 };
 use ls_types_elaboration::rule::{CheckFault, Rule, refused_at};
 use ls_types_elaboration::together::{also, push};
 use ls_types_expressions::expressions::fitting;
 use ls_types_expressions::site::Site;
-use ls_types_statements::scope::{Context, Scope, may_declare, with_variable};
-use ls_types_statements::statements::{Round, all_items, block_of};
+use ls_types_statements::scope::{Context, Scope, Slots, may_declare, with_unnamed, with_variable};
+use ls_types_statements::statements::{Round, all_items, block_of, synchronized_of};
 use ls_types_tables::known::{Known, field_of};
 use ls_types_tables::type_names::{result_of, type_of};
 use std::alloc::{AllocError, Global};
+use std::mem;
 
 // One more parameter in scope.
 fn parameter<'t>(
     context: Context,
     scope: &mut Scope<'t>,
-    slots: &mut Vec<ValueType>,
+    slots: &mut Slots,
     p: &'t Parameter,
 ) -> Result<(), CheckFault>
-    requires { vec_len slots.old ≤ 128 }
-    ensures found { Gives (λ _. scope_of scope.new slots.new.items) result (the_parameter (body_of context.entry) (scope_of scope.old slots.old.items) (placed_parameter p.entry.now)) }
-    ensures low { OnOk result (vec_len slots.new ≤ 128) }
+    requires { slots.old.named ≤ 128 }
+    ensures found { Gives (λ _. scope_of scope.new (slots_of slots.new)) result (the_parameter (body_of context.entry) (scope_of scope.old (slots_of slots.old)) (placed_parameter p.entry.now)) }
+    ensures low { OnOk result (slots.new.named ≤ 128) }
 {
     may_declare(context.span, scope, slots, &p.name)?;
     let t = type_of(context.known.names, &p.type_name)?;
@@ -51,12 +54,12 @@ fn parameter<'t>(
 fn parameters<'t>(
     context: Context,
     scope: &mut Scope<'t>,
-    slots: &mut Vec<ValueType>,
+    slots: &mut Slots,
     ps: &'t [Parameter],
 ) -> Result<(), CheckFault>
-    requires { vec_len slots.old ≤ 128 }
-    ensures found { Gives (λ _. scope_of scope.new slots.new.items) result (each (the_parameter (body_of context.entry)) (scope_of scope.old slots.old.items) (map placed_parameter ps.entry.now)) }
-    ensures low { OnOk result (vec_len slots.new ≤ 128) }
+    requires { slots.old.named ≤ 128 }
+    ensures found { Gives (λ _. scope_of scope.new (slots_of slots.new)) result (each (the_parameter (body_of context.entry)) (scope_of scope.old (slots_of slots.old)) (map placed_parameter ps.entry.now)) }
+    ensures low { OnOk result (slots.new.named ≤ 128) }
 {
     for p in ps {
         parameter(context, scope, slots, p)?;
@@ -131,12 +134,48 @@ fn initialisers(
 }
 
 // The slot of `this`.
-fn first_slot(alloc: Global, known: Known) -> Result<Vec<ValueType>, AllocError>
-    ensures { IfOk result (λ v. v.items ≡ class_type known.entry.own ∷ []) }
+fn first_slot(alloc: Global, known: Known) -> Result<Slots, AllocError>
+    ensures { IfOk result (λ s. (s.types.items ≡ class_type known.entry.own ∷ []) × (s.named ≡ 1)) }
 {
-    let mut slots = Vec::new(alloc);
-    slots.push(ValueType::Class(known.own))?;
-    Ok(slots)
+    let mut types = Vec::new(alloc);
+    types.push(ValueType::Class(known.own))?;
+    Ok(Slots { types, named: 1 })
+}
+
+// The statement that locks the own object's monitor, round those of the scope.
+fn in_monitor(alloc: Global, slot: usize, class: usize, scope: &mut Scope) -> Result<(), CheckFault>
+    ensures { (slots : the_slots) → Gives (λ _. scope_of scope.new slots) result (Ok (the_in_monitor slot class (scope_of scope.old slots))) }
+{
+    let inner = mem::replace(&mut scope.statements, Vec::new(alloc));
+    let this = Expression::Slot(0);
+    let s = synchronized_of(alloc, slot, class, this, block_of(inner))?;
+    scope.statements.push(s)?;
+    Ok(())
+}
+
+// The statements of a body, in the monitor of the own object where the method is synchronized.
+fn body_items<'t>(
+    context: Context,
+    is_synchronized: bool,
+    scope: &mut Scope<'t>,
+    slots: &mut Slots,
+    items: &'t [BlockItem],
+) -> Result<(), CheckFault>
+    requires { slots.old.named ≤ 128 }
+    ensures found { Gives (λ _. scope_of scope.new (slots_of slots.new)) result (the_all_items (body_of context.entry) is_synchronized (scope_of scope.old (slots_of slots.old)) (placed_items items.entry.now)) }
+{
+    let round = Round {
+        context,
+        loops: &[],
+    };
+    if !is_synchronized {
+        return all_items(round, scope, slots, items);
+    }
+    let slot = slots.types.len();
+    let class = context.known.own;
+    with_unnamed(slots, ValueType::Class(class))?;
+    all_items(round, scope, slots, items)?;
+    in_monitor(context.alloc, slot, class, scope)
 }
 
 // Whether a method that answers a value can't complete without one.
@@ -152,13 +191,14 @@ fn answered(context: Context, body: &[Statement]) -> Result<(), CheckFault>
 // A method or constructor of this name, whose body begins with the statements of `front`.
 fn method<'t>(
     context: Context,
+    is_synchronized: bool,
     name: &Name,
     ps: &'t [Parameter],
     front: Vec<Statement>,
     items: &'t [BlockItem],
 ) -> Result<Method, CheckFault>
     requires { context.span ≡ name.now.span }
-    ensures { Gives plain_method result (the_method (known_of context.entry.known) context.entry.result (placed_name name.now) (map placed_parameter ps.entry.now) (map plain_statement front.items) (placed_items items.entry.now)) }
+    ensures { Gives plain_method result (the_method (known_of context.entry.known) is_synchronized context.entry.result (placed_name name.now) (map placed_parameter ps.entry.now) (map plain_statement front.items) (placed_items items.entry.now)) }
 {
     let alloc = context.alloc;
     let (front, mut slots) = also(front, first_slot(alloc, context.known))?;
@@ -167,23 +207,29 @@ fn method<'t>(
         locals: Vec::new(alloc),
     };
     parameters(context, &mut scope, &mut slots, ps)?;
-    let round = Round {
-        context,
-        loops: &[],
-    };
-    all_items(round, &mut scope, &mut slots, items)?;
+    body_items(context, is_synchronized, &mut scope, &mut slots, items)?;
     answered(context, &scope.statements)?;
     Ok(Method {
         class: context.known.own,
         parameters: ps.len(),
-        slots,
+        slots: slots.types,
         result: context.result,
         body: block_of(scope.statements),
     })
 }
 
+// Whether a method locks its object's monitor.
+fn is_synchronized(locked: &[Vec<Modifier>]) -> bool
+    ensures { result ≡ some_in locked.now }
+{
+    match locked {
+        [] => false,
+        _ => true,
+    }
+}
+
 fn written_method(alloc: Global, known: Known, m: &MethodText) -> Result<Method, CheckFault>
-    ensures { Gives plain_method result (the_written_method (known_of known.entry) (option_map placed_type m.now.result) (placed_name m.now.name) (map placed_parameter m.now.parameters.items) (placed_items m.now.body.items.items)) }
+    ensures { Gives plain_method result (the_written_method (known_of known.entry) (some_in m.now.locked.items) (option_map placed_type m.now.result) (placed_name m.now.name) (map placed_parameter m.now.parameters.items) (placed_items m.now.body.items.items)) }
 {
     let context = Context {
         alloc,
@@ -192,7 +238,8 @@ fn written_method(alloc: Global, known: Known, m: &MethodText) -> Result<Method,
         span: m.name.span,
     };
     let front = Vec::new(alloc);
-    method(context, &m.name, &m.parameters, front, &m.body.items)
+    let locks = is_synchronized(&m.locked);
+    method(context, locks, &m.name, &m.parameters, front, &m.body.items)
 }
 
 fn written_constructor(
@@ -210,7 +257,7 @@ fn written_constructor(
         span: c.name.span,
     };
     let front = initialisers(alloc, known, members)?;
-    method(context, &c.name, &c.parameters, front, &c.body.items)
+    method(context, false, &c.name, &c.parameters, front, &c.body.items)
 }
 
 // A method or constructor behind those before it.
@@ -261,7 +308,7 @@ fn default_constructor(
     let made = Method {
         class: known.own,
         parameters: 0,
-        slots,
+        slots: slots.types,
         result: None,
         body: block_of(front),
     };

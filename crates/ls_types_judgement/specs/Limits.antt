@@ -1,5 +1,6 @@
 -- The limits of the language that a checked file and a thread program keep.
-use Rattle.std.specs.Prelude.{◌≡◌, ◌≤◌, ◌*◌, ℕ, length, Some, slice_get}
+use Rattle.std.specs.Prelude.{◌≡◌, ◌≤◌, ◌*◌, ℕ, suc, length, Some, slice_get}
+use Rattle.ls_checked.specs.Limits.{most_threads, most_calls}
 use Rattle.ls_checked.specs.CheckedProgram.{ThreadProgram, Program}
 use Rattle.ls_checked.specs.CheckedTree.{Class, File}
 
@@ -9,8 +10,8 @@ pub record IsRanged (file : File) : Type 0 where
   pub fields : (n : ℕ) (c : Class) → slice_get file.classes n ≡ Some c → length c.fields ≤ 64
   pub methods : length file.methods ≤ 512
 
--- at most 17 threads, the setup among them, and 256 calls a thread; no more names than calls
+-- the setup and at most so many threads beside it, each with so many calls; no more names than calls
 pub record IsRangedProgram (program : Program) : Type 0 where
-  pub threads : length program.threads ≤ 17
-  pub calls : (n : ℕ) (t : ThreadProgram) → slice_get program.threads n ≡ Some t → length t.calls ≤ 256
-  pub names : length program.names ≤ 17 * 256
+  pub threads : length program.threads ≤ suc most_threads
+  pub calls : (n : ℕ) (t : ThreadProgram) → slice_get program.threads n ≡ Some t → length t.calls ≤ most_calls
+  pub names : length program.names ≤ suc most_threads * most_calls

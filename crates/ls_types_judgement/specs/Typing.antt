@@ -4,8 +4,8 @@ use Rattle.ls_events.specs.declared.value.ValueType.{ValueType}
 use Rattle.ls_events.specs.declared.value.ValueType.TheVariants as types
 use Rattle.ls_checked.specs.declared.tree.Operator.{Operator}
 use Rattle.ls_checked.specs.declared.tree.Operator.TheVariants.{Add, Subtract, Multiply, Divide, Remainder, Equal, NotEqual}
-use Rattle.ls_checked.specs.declared.tree.Called.TheVariants.{Method as OfMethod, LockIt, UnlockIt, TryIt, AskIt, GetReference, IsMarked, GetBoth, SetBoth, CompareAndSet, Attempt}
-use Rattle.ls_checked.specs.CheckedTree.{Method, File, Expression, Literal, Slot, Field, Item, Negate, Not, Binary, And, Or, Call, MakeObject, MakeLock, MakeMarkable, MakeArray, Expressions, End, More, Statement, Block, SetSlot, SetField, SetItem, Evaluate, If, While, Break, Continue, ReturnNothing, ReturnValue, Try, Statements, Done, Then}
+use Rattle.ls_checked.specs.declared.tree.Called.TheVariants.{Method as OfMethod, LockIt, UnlockIt, TryIt, AskIt, HoldMonitor, FreeMonitor, GetReference, IsMarked, GetBoth, SetBoth, CompareAndSet, Attempt}
+use Rattle.ls_checked.specs.CheckedTree.{Method, File, Expression, Literal, Slot, Field, Item, Negate, Not, Binary, And, Or, Call, MakeObject, MakeLock, MakeMarkable, MakeArray, Expressions, End, More, Statement, Block, SetSlot, SetField, AddField, SetItem, Evaluate, If, While, Break, Continue, ReturnNothing, ReturnValue, Try, Statements, Done, Then}
 use Rattle.ls_meaning.specs.declared.sort.Sort.{Sort}
 use Rattle.ls_meaning.specs.declared.sort.Sort.TheVariants.{NoValue, ValueOf}
 use Rattle.ls_meaning.specs.Expressions.{field_of, constructor_of}
@@ -53,6 +53,8 @@ abbrev mutual
   IsTyped file slots s (Call e UnlockIt es) = (s ≡ NoValue) × IsTyped file slots (ValueOf types.Lock) e × AreTyped file slots [] es
   IsTyped file slots s (Call e TryIt es) = (s ≡ ValueOf types.Boolean) × IsTyped file slots (ValueOf types.Lock) e × AreTyped file slots [] es
   IsTyped file slots s (Call e AskIt es) = (s ≡ ValueOf types.Boolean) × IsTyped file slots (ValueOf types.Lock) e × AreTyped file slots [] es
+  IsTyped file slots s (Call e (HoldMonitor c) es) = (s ≡ NoValue) × IsTyped file slots (ValueOf (types.Class c)) e × AreTyped file slots [] es
+  IsTyped file slots s (Call e (FreeMonitor c) es) = (s ≡ NoValue) × IsTyped file slots (ValueOf (types.Class c)) e × AreTyped file slots [] es
   IsTyped file slots s (Call e (GetReference c) es) =
       (s ≡ ValueOf (types.Class c)) × IsTyped file slots (ValueOf (types.Markable c)) e × AreTyped file slots [] es
   IsTyped file slots s (Call e (IsMarked c) es) =
@@ -84,6 +86,8 @@ abbrev mutual
   IsTypedStatement file slots r (SetSlot n e) = (t : ValueType) × (slice_get slots n ≡ Some t) × IsTyped file slots (ValueOf t) e
   IsTypedStatement file slots r (SetField e f v) =
       (c : ℕ) × (t : ValueType) × (field_of file.classes c f ≡ ValueOf t) × IsTyped file slots (ValueOf (types.Class c)) e × IsTyped file slots (ValueOf t) v
+  IsTypedStatement file slots r (AddField e f v) =
+      (c : ℕ) × (field_of file.classes c f ≡ ValueOf types.Int) × IsTyped file slots (ValueOf (types.Class c)) e × IsTyped file slots (ValueOf types.Int) v
   IsTypedStatement file slots r (SetItem a i v) =
       IsTyped file slots (ValueOf types.BooleanArray) a × IsTyped file slots (ValueOf types.Int) i × IsTyped file slots (ValueOf types.Boolean) v
   IsTypedStatement file slots r (Evaluate e) = (s : Sort) × IsTyped file slots s e

@@ -1,5 +1,6 @@
 -- Statements that are typed in all slots of a method, and what a part of a body leaves behind it.
-use Rattle.std.proofs.Common.{◌≡◌, ℕ, refl, sym, subst, List, [], ◌∷◌, Option, lit<, nat_eq}
+use Rattle.std.proofs.Common.{◌≡◌, ℕ, refl, sym, subst, List, [], ◌∷◌, Option, Some, lit<, nat_eq}
+use Rattle.std.specs.Prelude.{slice_get}
 use Rattle.ls_lexer.specs.declared.token.Span.{Span}
 use Rattle.ls_events.specs.declared.value.Value.TheVariants as values
 use Rattle.ls_events.specs.declared.value.ValueType.{ValueType}
@@ -16,7 +17,8 @@ use Rattle.ls_types_elaboration.specs.Elaborated.{broken}
 use Rattle.ls_types_elaboration.specs.Known.{Known, Local}
 use Rattle.ls_types_elaboration.specs.StaticTypes.{Typed}
 use Rattle.ls_types_elaboration.specs.TypedExpressions.{typed, fitting}
-use Rattle.ls_types_elaboration.specs.Scopes.{Body, Scope, start_of}
+use Rattle.ls_types_elaboration.specs.Scopes.{Body, Slots, Scope, start_of}
+use Rattle.ls_types_elaboration.specs.Monitors.{synchronized}
 use Rattle.ls_types_elaboration.specs.TypedStatements.{WithSlots, sequence, AtSlot, AtField, AtItem, Variable, variable, variable_as, assigned}
 use Rattle.ls_types_laws.proofs.Results.{Gives, weaker, later, either}
 use Rattle.ls_types_laws.proofs.Lists.{Each, Grows, grows_same, grows_on}
@@ -48,21 +50,21 @@ fitting_later F known locals slots r t e =
     (λ v h W g a. h (W, g, a))
 
 -- a statement leaves more slots behind it, and is typed in all of them
-abbrev pub Good : checked.File → Body → List ValueType → WithSlots checked.Statement → Type 0
-Good F body slots out = Grows slots out.slots × Later F body.known out.slots (λ W. Fine F W body.result out.tree)
+abbrev pub Good : checked.File → Body → Slots → WithSlots checked.Statement → Type 0
+Good F body slots out = Grows slots.types out.slots.types × Later F body.known out.slots.types (λ W. Fine F W body.result out.tree)
 
 -- so do the statements and declarations of a block
 abbrev pub Scoped : checked.File → Body → Scope → Scope → Type 0
 Scoped F body scope out =
-    Grows scope.slots out.slots × Ready body.known out.locals out.slots
-    × Later F body.known out.slots (λ W. Each (Fine F W body.result) scope.statements → Each (Fine F W body.result) out.statements)
+    Grows scope.slots.types out.slots.types × Ready body.known out.locals out.slots.types
+    × Later F body.known out.slots.types (λ W. Each (Fine F W body.result) scope.statements → Each (Fine F W body.result) out.statements)
 
-pub scoped_same : (F : checked.File) (body : Body) (scope : Scope) → Ready body.known scope.locals scope.slots → Scoped F body scope scope
-scoped_same F body scope r = (grows_same scope.slots, r, λ W g a h. h)
+pub scoped_same : (F : checked.File) (body : Body) (scope : Scope) → Ready body.known scope.locals scope.slots.types → Scoped F body scope scope
+scoped_same F body scope r = (grows_same scope.slots.types, r, λ W g a h. h)
 
 pub scoped_on : (F : checked.File) (body : Body) (scope mid out : Scope) → Scoped F body scope mid → Scoped F body mid out → Scoped F body scope out
 scoped_on F body scope mid out h k =
-    (grows_on scope.slots mid.slots out.slots h.0 k.0, k.1, λ W g a hs. k.2 W g a (h.2 W (grows_on mid.slots out.slots W k.0 g) a hs))
+    (grows_on scope.slots.types mid.slots.types out.slots.types h.0 k.0, k.1, λ W g a hs. k.2 W g a (h.2 W (grows_on mid.slots.types out.slots.types W k.0 g) a hs))
 
 -- statements in order
 pub in_order : (F : checked.File) (W : List ValueType) (r : Option ValueType) (ss : List checked.Statement) → Each (Fine F W r) ss → AreTypedStatements F W r (sequence ss)
@@ -93,6 +95,14 @@ evaluated_fine F W r (Of t) e h = ((ValueOf t, h), no_pair F W t e h)
 evaluated_fine F W r NullType e h = subst (λ e. Fine F W r (checked.Evaluate e)) (sym h) ((NoValue, refl), tt)
 evaluated_fine F W r Void e h = ((NoValue, h), no_pair_void F W e h)
 
+-- a monitor that is held for a statement
+pub monitor_fine : (F : checked.File) (W : List ValueType) (r : Option ValueType) (slot class : ℕ) (target : checked.Expression) (s : checked.Statement) → slice_get W slot ≡ Some (Class class) →
+    IsTyped F W (ValueOf (Class class)) target → Fine F W r s → Fine F W r (synchronized slot class target s)
+monitor_fine F W r slot class target s at typed h = (
+  ((Class class, at, typed), ((NoValue, (refl, (Class class, refl, at), tt)), ((h.0, (NoValue, (refl, (Class class, refl, at), tt))), tt))),
+  (tt, (tt, ((h.1, tt), tt))),
+)
+
 -- what a variable starts at
 pub start_typed : (F : checked.File) (W : List ValueType) (t : ValueType) → IsTyped F W (ValueOf t) (checked.Literal (start_of t))
 start_typed F W Int = record { sfits = lit< tt }
@@ -106,7 +116,7 @@ start_typed F W (Markable c) = refl
 abbrev pub MaySet : checked.File → List ValueType → Option ValueType → Variable → Type 0
 MaySet F W r to = (v : checked.Expression) → IsTyped F W (ValueOf to.type) v → Fine F W r (assigned to.place v)
 
-one_type : (t u : ValueType) → ValueOf t ≡ ValueOf u → t ≡ u
+pub one_type : (t u : ValueType) → ValueOf t ≡ ValueOf u → t ≡ u
 one_type t u e = cc
 
 set_slot : (F : checked.File) (W : List ValueType) (r : Option ValueType) (n : ℕ) (t : ValueType) → IsTyped F W (ValueOf t) (checked.Slot n) → MaySet F W r (record { place = AtSlot n; type = t })

@@ -5,8 +5,8 @@ use Rattle.ls_events.specs.declared.value.Value.{Value}
 use Rattle.ls_events.specs.declared.value.Value.TheVariants.{Int, Boolean, Reference, Pair}
 use Rattle.ls_events.specs.declared.value.ValueType.{ValueType}
 use Rattle.ls_events.specs.declared.value.ValueType.TheVariants as types
-use Rattle.ls_checked.specs.declared.tree.Called.TheVariants.{Method as OfMethod, LockIt, UnlockIt, TryIt, AskIt, GetReference, IsMarked, GetBoth, SetBoth, CompareAndSet, Attempt}
-use Rattle.ls_checked.specs.CheckedTree.{File, Expression, Literal, Slot, Field, Item, Negate, Not, Binary, And, Or, Call, MakeObject, MakeLock, MakeMarkable, MakeArray, Expressions, End, More, Statement, Block, SetSlot, SetField, SetItem, Evaluate, If, While, Break, Continue, ReturnNothing, ReturnValue, Try, Statements, Done, Then}
+use Rattle.ls_checked.specs.declared.tree.Called.TheVariants.{Method as OfMethod, LockIt, UnlockIt, TryIt, AskIt, HoldMonitor, FreeMonitor, GetReference, IsMarked, GetBoth, SetBoth, CompareAndSet, Attempt}
+use Rattle.ls_checked.specs.CheckedTree.{File, Expression, Literal, Slot, Field, Item, Negate, Not, Binary, And, Or, Call, MakeObject, MakeLock, MakeMarkable, MakeArray, Expressions, End, More, Statement, Block, SetSlot, SetField, AddField, SetItem, Evaluate, If, While, Break, Continue, ReturnNothing, ReturnValue, Try, Statements, Done, Then}
 use Rattle.ls_checked.specs.CheckedProgram.{Program, ProgramCall, Making, Calling}
 use Rattle.ls_meaning.specs.declared.sort.Sort.{Sort}
 use Rattle.ls_meaning.specs.declared.sort.Sort.TheVariants.{NoValue, ValueOf, NewOf, PairOf}
@@ -81,6 +81,8 @@ module _ (file : File) (slots : List ValueType) where
     constants (Call e UnlockIt es) s p h = (constants e (ValueOf types.Lock) (no_pair e types.Lock h.1) h.1, all_constants es [] h.2)
     constants (Call e TryIt es) s p h = (constants e (ValueOf types.Lock) (no_pair e types.Lock h.1) h.1, all_constants es [] h.2)
     constants (Call e AskIt es) s p h = (constants e (ValueOf types.Lock) (no_pair e types.Lock h.1) h.1, all_constants es [] h.2)
+    constants (Call e (HoldMonitor c) es) s p h = (constants e (ValueOf (types.Class c)) (no_pair e (types.Class c) h.1) h.1, all_constants es [] h.2)
+    constants (Call e (FreeMonitor c) es) s p h = (constants e (ValueOf (types.Class c)) (no_pair e (types.Class c) h.1) h.1, all_constants es [] h.2)
     constants (Call e (GetReference c) es) s p h = (constants e (ValueOf (types.Markable c)) (no_pair e (types.Markable c) h.1) h.1, all_constants es [] h.2)
     constants (Call e (IsMarked c) es) s p h = (constants e (ValueOf (types.Markable c)) (no_pair e (types.Markable c) h.1) h.1, all_constants es [] h.2)
     constants (Call e (GetBoth c) es) s p h = (constants e (ValueOf (types.Markable c)) (no_pair e (types.Markable c) h.1) h.1, all_constants es (types.BooleanArray ∷ []) h.2)
@@ -106,6 +108,7 @@ module _ (file : File) (slots : List ValueType) where
       uses (Block ss) p h = use_all ss p h
       uses (SetSlot n e) p h = value_constants e h.0 h.2
       uses (SetField e f v) p h = (value_constants e (types.Class h.0) h.3, value_constants v h.1 h.4)
+      uses (AddField e f v) p h = (value_constants e (types.Class h.0) h.2, value_constants v types.Int h.3)
       uses (SetItem a i v) p h = (value_constants a types.BooleanArray h.0, value_constants i types.Int h.1, value_constants v types.Boolean h.2)
       uses (Evaluate e) p h = constants e h.0 p h.1
       uses (If e a b) p h = (value_constants e types.Boolean h.0, uses a p.0 h.1, uses b p.1 h.2)

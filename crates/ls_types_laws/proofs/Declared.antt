@@ -110,7 +110,7 @@ member_gives names class H own b met (parsed.Fields d) h =
     subst (λ G. Gives (Meets G own b) (fields_met names met d)) (sym (append_nil H))
     (bind (λ t. Unit {0}) (Meets H own b) (type_of names d.type_name) _ (any (type_of names d.type_name)) (λ t z.
     each_keeps (Meets H own b) (field_met t) met (d.first ∷ d.more) h (λ met d h. field_met_gives H own b t met d h)))
-member_gives names class H own b met (parsed.Method r n ps body) h =
+member_gives names class H own b met (parsed.Method sync r n ps body) h =
     let Q : Met → Type 0 = Meets (H ++ head own (types_of names ps) (result_or (result_of names r)) ∷ []) own b in
     bind (λ z. z ≡ result_or (result_of names r)) Q (result_of names r) _ (result_is (result_of names r)) (λ z is.
     bind (λ ts. ts ≡ types_of names ps) Q (parameter_types names n ps) _ (parameter_types_give names n ps) (λ ts es.
@@ -123,12 +123,12 @@ member_gives names class H own b met (parsed.Constructor n ps body) h =
 
 made_push : (ms : List parsed.Member) (m : parsed.Member) → has_constructor (ms ++ m ∷ []) ≡ made_after (has_constructor ms) m
 made_push [] (parsed.Fields d) = refl
-made_push [] (parsed.Method r n ps body) = refl
+made_push [] (parsed.Method sync r n ps body) = refl
 made_push [] (parsed.Constructor n ps body) = refl
 made_push (parsed.Fields d ∷ ms) m = made_push ms m
-made_push (parsed.Method r n ps body ∷ ms) m = made_push ms m
+made_push (parsed.Method sync r n ps body ∷ ms) m = made_push ms m
 made_push (parsed.Constructor n ps body ∷ ms) (parsed.Fields d) = refl
-made_push (parsed.Constructor n ps body ∷ ms) (parsed.Method r k qs block) = refl
+made_push (parsed.Constructor n ps body ∷ ms) (parsed.Method sync r k qs block) = refl
 made_push (parsed.Constructor n ps body ∷ ms) (parsed.Constructor k qs block) = refl
 
 members_give : (names : List Text) (class : Text) (B : List Head) (own : ℕ) (next : ℕ) (ms : List parsed.Member) → next ≡ length B →

@@ -14,7 +14,7 @@ use Rattle.ls_types_elaboration.specs.TypedExpressions.{fitting}
 use Rattle.ls_types_completion.specs.Completion.{can_complete}
 use Rattle.ls_types_elaboration.specs.Scopes.{Body, Scope}
 use Rattle.ls_types_elaboration.specs.TypedStatements.{sequence, items}
-use Rattle.ls_types_elaboration.specs.TypedMethods.{parameter, field_set, declarator_set, member_set, initialisers, finished, method, written_method, written_constructor, one_method, has_constructor, default_constructor, class_methods}
+use Rattle.ls_types_elaboration.specs.TypedMethods.{parameter, field_set, declarator_set, member_set, initialisers, finished, with_unnamed_slot, all_items, method, written_method, written_constructor, one_method, has_constructor, default_constructor, class_methods}
 use Rattle.ls_types_elaboration.specs.Signs.{class_names, class_signs}
 use Rattle.ls_types_elaboration.specs.Elaboration.{Bodies, one_body, file_methods, Outcome, elaborated}
 use Rattle.ls_types_completion.specs.Jumps.{JumpsInLoops}
@@ -38,7 +38,7 @@ field_set_kept known front (Some f) (Some e) h =
 member_set_kept : (known : Known) (front : List checked.Statement) (m : Member) → Each (JumpsInLoops 0) front → Gives (Each (JumpsInLoops 0)) (member_set known front m)
 member_set_kept known front (Trees.Fields d) h =
     each_keeps (Each (JumpsInLoops 0)) (declarator_set known) front (d.first ∷ d.more) h (λ s a k. field_set_kept known s (field_of known known.own a.name.text) a.value k)
-member_set_kept known front (Trees.Method r n ps b) h = h
+member_set_kept known front (Trees.Method sync r n ps b) h = h
 member_set_kept known front (Trees.Constructor n ps b) h = h
 
 initialisers_kept : (known : Known) (ms : List Member) → Gives (Each (JumpsInLoops 0)) (initialisers known ms)
@@ -51,22 +51,28 @@ finished_ended : (known : Known) (r : Option ValueType) (n : Name) (count : ℕ)
 finished_ended known r n count scope h =
     unless Ended (is_some r && can_complete (checked.Block (sequence scope.statements))) rules.MissingReturn n.span _ (λ e. (in_sequence 0 scope.statements h, e))
 
-method_ended : (known : Known) (r : Option ValueType) (n : Name) (ps : List Parameter) (front : List checked.Statement) (block : Items) → Each (JumpsInLoops 0) front →
-    Gives Ended (method known r n ps front block)
-method_ended known r n ps front block h =
+all_kept : (body : Body) (sync : Bool) (scope : Scope) (block : Items) → Kept 0 scope → Gives (Kept 0) (all_items body sync scope block)
+all_kept body false scope block h = items_kept body [] scope block h
+all_kept body true scope block h =
+    bind (Kept 0) (Kept 0) (items body [] (with_unnamed_slot scope (types.Class body.known.own)) block) _ (items_kept body [] (with_unnamed_slot scope (types.Class body.known.own)) block h) (λ last l.
+    ((tt, (tt, ((in_sequence 0 last.statements l, tt), tt))), tt))
+
+method_ended : (known : Known) (sync : Bool) (r : Option ValueType) (n : Name) (ps : List Parameter) (front : List checked.Statement) (block : Items) → Each (JumpsInLoops 0) front →
+    Gives Ended (method known sync r n ps front block)
+method_ended known sync r n ps front block h =
     let body : Body = record { known = known; result = r; span = n.span } in
-    let start : Scope = record { statements = front; locals = []; slots = types.Class known.own ∷ [] } in
+    let start : Scope = record { statements = front; locals = []; slots = record { types = types.Class known.own ∷ []; named = 1 } } in
     bind (Kept 0) Ended (each (parameter body) start ps) _ (each_keeps (Kept 0) (parameter body) start ps h (λ s a k. parameter_kept body s a k)) (λ scope k.
-    bind (Kept 0) Ended (items body [] scope block) _ (items_kept body [] scope block k) (λ last l. finished_ended known r n (length ps) last l))
+    bind (Kept 0) Ended (all_items body sync scope block) _ (all_kept body sync scope block k) (λ last l. finished_ended known r n (length ps) last l))
 
 one_ended : (known : Known) (ms : List Member) (before : List checked.Method) (m : Member) → Each Ended before → Gives (Each Ended) (one_method known ms before m)
 one_ended known ms before (Trees.Fields d) h = h
-one_ended known ms before (Trees.Method t n ps b) h =
-    bind Ended (Each Ended) (written_method known t n ps b) _
-    (after Ended (result_of known.names t) _ (λ r. method_ended known r n ps [] b tt)) (λ m k. each_push Ended before m h k)
+one_ended known ms before (Trees.Method sync t n ps b) h =
+    bind Ended (Each Ended) (written_method known sync t n ps b) _
+    (after Ended (result_of known.names t) _ (λ r. method_ended known sync r n ps [] b tt)) (λ m k. each_push Ended before m h k)
 one_ended known ms before (Trees.Constructor n ps b) h =
     bind Ended (Each Ended) (written_constructor known ms n ps b) _
-    (bind (Each (JumpsInLoops 0)) Ended (initialisers known ms) _ (initialisers_kept known ms) (λ front k. method_ended known None n ps front b k)) (λ m k. each_push Ended before m h k)
+    (bind (Each (JumpsInLoops 0)) Ended (initialisers known ms) _ (initialisers_kept known ms) (λ front k. method_ended known false None n ps front b k)) (λ m k. each_push Ended before m h k)
 
 default_ended : (b : Bool) (known : Known) (ms : List Member) (before : List checked.Method) (x : Elaborated (List checked.Method)) → Each Ended before → Gives (Each Ended) x →
     Gives (Each Ended) (if b then Ok before else x)

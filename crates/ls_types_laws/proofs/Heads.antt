@@ -36,7 +36,7 @@ types_of names ps = map (λ p. type_or (type_of names p.type_name)) ps
 
 abbrev pub member_heads : List Text → ℕ → Member → List Head
 member_heads names own (Fields d) = []
-member_heads names own (Method r n ps body) = head own (types_of names ps) (result_or (result_of names r)) ∷ []
+member_heads names own (Method sync r n ps body) = head own (types_of names ps) (result_or (result_of names r)) ∷ []
 member_heads names own (Constructor n ps body) = head own (types_of names ps) None ∷ []
 
 abbrev pub members_heads : List Text → ℕ → List Member → List Head

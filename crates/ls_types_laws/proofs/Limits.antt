@@ -82,7 +82,7 @@ member_adds names class met (parsed.Fields d) =
     after (Adds met 0 (is_some met.constructor)) (type_of names d.type_name) _ (λ t.
     each_keeps (Adds met 0 (is_some met.constructor)) (field_met t) met (d.first ∷ d.more) (adds_nothing met) (λ mid d h.
     weaker (Adds mid 0 (is_some mid.constructor)) (Adds met 0 (is_some met.constructor)) (field_met t mid d) (field_adds t mid d) (λ out k. adds_on met mid out h k)))
-member_adds names class met (parsed.Method result n ps body) =
+member_adds names class met (parsed.Method sync result n ps body) =
     after (Adds met 1 (is_some met.constructor)) (result_of names result) _ (λ r.
     after (Adds met 1 (is_some met.constructor)) (parameter_types names n ps) _ (λ ts. method_adds met n ts r))
 member_adds names class met (parsed.Constructor n ps body) =
@@ -96,13 +96,13 @@ made_all b (m ∷ ms) = made_all (made_after b m) ms
 made_already : (ms : List parsed.Member) → made_all true ms ≡ true
 made_already [] = refl
 made_already (parsed.Fields d ∷ ms) = made_already ms
-made_already (parsed.Method r n ps body ∷ ms) = made_already ms
+made_already (parsed.Method sync r n ps body ∷ ms) = made_already ms
 made_already (parsed.Constructor n ps body ∷ ms) = made_already ms
 
 made_is : (ms : List parsed.Member) → made_all false ms ≡ has_constructor ms
 made_is [] = refl
 made_is (parsed.Fields d ∷ ms) = made_is ms
-made_is (parsed.Method r n ps body ∷ ms) = made_is ms
+made_is (parsed.Method sync r n ps body ∷ ms) = made_is ms
 made_is (parsed.Constructor n ps body ∷ ms) = made_already ms
 
 members_add : (names : List Text) (class : Text) (met : Met) (ms : List parsed.Member) →

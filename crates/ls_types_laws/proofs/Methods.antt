@@ -17,14 +17,14 @@ use Rattle.ls_types_elaboration.specs.Known.{Known, ClassSign, local_named, fiel
 use Rattle.ls_types_elaboration.specs.TypedExpressions.{fitting}
 use Rattle.ls_types_completion.specs.Completion.{can_complete}
 use Rattle.ls_types_elaboration.specs.Scopes.{Body, Scope, with_variable}
-use Rattle.ls_types_elaboration.specs.TypedStatements.{sequence, items}
-use Rattle.ls_types_elaboration.specs.TypedMethods.{parameter, field_set, declarator_set, member_set, initialisers, method, written_method, written_constructor, one_method, has_constructor, default_constructor, class_methods}
+use Rattle.ls_types_elaboration.specs.TypedStatements.{sequence}
+use Rattle.ls_types_elaboration.specs.TypedMethods.{parameter, field_set, declarator_set, member_set, initialisers, all_items, method, written_method, written_constructor, one_method, has_constructor, default_constructor, class_methods}
 use Rattle.ls_types_elaboration.specs.Elaboration.{Bodies, one_body, file_methods}
 use Rattle.ls_types_laws.proofs.Results.{Gives, bind, unless, each_keeps, each_over}
 use Rattle.ls_types_laws.proofs.Lists.{Each, each_push, Grows, grows_same, append_nil}
 use Rattle.ls_types_laws.proofs.Agreement.{Agrees, Ready}
 use Rattle.ls_types_laws.proofs.Bodies.{Fine, Later, fitting_later, Scoped, in_order, in_order_no_pair}
-use Rattle.ls_types_laws.proofs.Done.{ready_with, items_give}
+use Rattle.ls_types_laws.proofs.Done.{ready_with, all_items_give}
 use Rattle.ls_types_laws.proofs.Heads.{Head, head, head_of, type_or, result_or, types_of, member_heads, members_heads, default_head, class_heads, file_heads, type_is, result_is, map_push, length_push, length_types, take_front, members_push, file_push}
 
 abbrev pub IsGood : checked.File → checked.Method → Type 0
@@ -59,7 +59,7 @@ field_set_gives F known front h name (Some f) is (Some e) =
 member_set_gives : (F : checked.File) (known : Known) (front : List checked.Statement) (m : parsed.Member) → FrontIs F known None front → Gives (FrontIs F known None) (member_set known front m)
 member_set_gives F known front (parsed.Fields d) h =
     each_keeps (FrontIs F known None) (declarator_set known) front (d.first ∷ d.more) h (λ front d h. field_set_gives F known front h d.name.text (field_of known known.own d.name.text) refl d.value)
-member_set_gives F known front (parsed.Method r n ps body) h = h
+member_set_gives F known front (parsed.Method sync r n ps body) h = h
 member_set_gives F known front (parsed.Constructor n ps body) h = h
 
 pub initialisers_give : (F : checked.File) (known : Known) (ms : List parsed.Member) → Gives (FrontIs F known None) (initialisers known ms)
@@ -68,8 +68,8 @@ initialisers_give F known ms = each_keeps (FrontIs F known None) (member_set kno
 -- parameters
 
 record Begun (known : Known) (front : List checked.Statement) (ps : List Parameter) (scope : Scope) : Type 0 where
-  slots : scope.slots ≡ types.Class known.own ∷ types_of known.names ps
-  ready : Ready known scope.locals scope.slots
+  slots : scope.slots.types ≡ types.Class known.own ∷ types_of known.names ps
+  ready : Ready known scope.locals scope.slots.types
   statements : scope.statements ≡ front
 
 parameter_gives : (body : Body) (front : List checked.Statement) (before : List Parameter) (scope : Scope) (p : Parameter) → Begun body.known front before scope →
@@ -92,38 +92,38 @@ Whole F known ts r m = (head_of m ≡ head known.own ts r) × (Agrees F known �
 
 whole : (F : checked.File) (known : Known) (r : Option ValueType) (ps : List Parameter) (front : List checked.Statement) (scope out : Scope) (span : Span) → FrontIs F known r front →
     Begun known front ps scope → Scoped F (record { known = known; result = r; span = span }) scope out →
-    Whole F known (types_of known.names ps) r (record { class = known.own; parameters = length ps; slots = out.slots; result = r; body = checked.Block (sequence out.statements) })
+    Whole F known (types_of known.names ps) r (record { class = known.own; parameters = length ps; slots = out.slots.types; result = r; body = checked.Block (sequence out.statements) })
 whole F known r ps front scope out span f h k =
     let ts : List ValueType = types_of known.names ps in
     let more : List ValueType = k.0.0 in
-    let all : out.slots ≡ types.Class known.own ∷ (ts ++ more) = sym k.0.1 ∙ ap (λ l. l ++ more) h.slots in
+    let all : out.slots.types ≡ types.Class known.own ∷ (ts ++ more) = sym k.0.1 ∙ ap (λ l. l ++ more) h.slots in
     let count : length ts ≡ length ps = length_types known.names ps in
-    let taken : take (length ps) (drop 1 out.slots) ≡ ts = ap (λ l. take (length ps) (drop 1 l)) all ∙ ap (λ n. take n (ts ++ more)) (sym count) ∙ take_front ts more in
+    let taken : take (length ps) (drop 1 out.slots.types) ≡ ts = ap (λ l. take (length ps) (drop 1 l)) all ∙ ap (λ n. take n (ts ++ more)) (sym count) ∙ take_front ts more in
     let room : length ps ≤ length (ts ++ more) = omega (arith, count, length-append ts more) in (
       ap (λ l. head known.own l r) taken,
       λ a.
-          let fine : Each (Fine F out.slots r) out.statements = k.2 out.slots (grows_same out.slots) a (subst (λ ss. Each (Fine F out.slots r) ss) (sym h.statements) (f out.slots k.1.this a)) in (
+          let fine : Each (Fine F out.slots.types r) out.statements = k.2 out.slots.types (grows_same out.slots.types) a (subst (λ ss. Each (Fine F out.slots.types r) ss) (sym h.statements) (f out.slots.types k.1.this a)) in (
             record {
               locals = ts ++ more;
               this = all;
               parameters = room;
-              body = in_order F out.slots r out.statements fine;
+              body = in_order F out.slots.types r out.statements fine;
             },
-            in_order_no_pair F out.slots r out.statements fine,
+            in_order_no_pair F out.slots.types r out.statements fine,
           ),
     )
 
-pub method_gives : (F : checked.File) (known : Known) (r : Option ValueType) (name : Name) (ps : List Parameter) (front : List checked.Statement) (block : Items) → FrontIs F known r front →
-    Gives (Whole F known (types_of known.names ps) r) (method known r name ps front block)
-method_gives F known r name ps front block f =
+pub method_gives : (F : checked.File) (known : Known) (sync : Bool) (r : Option ValueType) (name : Name) (ps : List Parameter) (front : List checked.Statement) (block : Items) → FrontIs F known r front →
+    Gives (Whole F known (types_of known.names ps) r) (method known sync r name ps front block)
+method_gives F known sync r name ps front block f =
     let body : Body = record { known = known; result = r; span = name.span } in
-    let start : Scope = record { statements = front; locals = []; slots = types.Class known.own ∷ [] } in
+    let start : Scope = record { statements = front; locals = []; slots = record { types = types.Class known.own ∷ []; named = 1 } } in
     bind (Begun known front ps) (Whole F known (types_of known.names ps) r) (each (parameter body) start ps) _
     (each_over (Begun known front) (parameter body) [] start ps (record { slots = refl; ready = record { this = refl; in_scope = tt }; statements = refl })
     (λ before scope p h. parameter_gives body front before scope p h)) (λ scope h.
-    bind (Scoped F body scope) (Whole F known (types_of known.names ps) r) (items body [] scope block) _ (items_give F body [] scope h.ready block) (λ out k.
+    bind (Scoped F body scope) (Whole F known (types_of known.names ps) r) (all_items body sync scope block) _ (all_items_give F body sync scope h.ready block) (λ out k.
     unless (Whole F known (types_of known.names ps) r) (is_some r && can_complete (checked.Block (sequence out.statements))) rules.MissingReturn name.span
-    (Ok (record { class = known.own; parameters = length ps; slots = out.slots; result = r; body = checked.Block (sequence out.statements) })) (λ e. whole F known r ps front scope out name.span f h k)))
+    (Ok (record { class = known.own; parameters = length ps; slots = out.slots.types; result = r; body = checked.Block (sequence out.statements) })) (λ e. whole F known r ps front scope out name.span f h k)))
 
 -- methods so far
 
@@ -138,16 +138,16 @@ listed_push F known hs ms ts r m h w =
 one_method_gives : (F : checked.File) (known : Known) (members : List parsed.Member) (hs : List Head) (before : List checked.Method) (m : parsed.Member) → Listed F known hs before →
     Gives (Listed F known (hs ++ member_heads known.names known.own m)) (one_method known members before m)
 one_method_gives F known members hs before (parsed.Fields d) h = (h.0 ∙ sym (append_nil hs), h.1)
-one_method_gives F known members hs before (parsed.Method r n ps block) h =
+one_method_gives F known members hs before (parsed.Method sync r n ps block) h =
     let Q : checked.Method → Type 0 = Whole F known (types_of known.names ps) (result_or (result_of known.names r)) in
-    bind Q (Listed F known (hs ++ member_heads known.names known.own (parsed.Method r n ps block))) (written_method known r n ps block) _
+    bind Q (Listed F known (hs ++ member_heads known.names known.own (parsed.Method sync r n ps block))) (written_method known sync r n ps block) _
     (bind (λ z. z ≡ result_or (result_of known.names r)) Q (result_of known.names r) _ (result_is (result_of known.names r)) (λ z is.
-    subst (λ y. Gives (Whole F known (types_of known.names ps) y) (method known z n ps [] block)) is (method_gives F known z n ps [] block (λ W at a. tt)))) (λ m w.
+    subst (λ y. Gives (Whole F known (types_of known.names ps) y) (method known sync z n ps [] block)) is (method_gives F known sync z n ps [] block (λ W at a. tt)))) (λ m w.
     listed_push F known hs before (types_of known.names ps) (result_or (result_of known.names r)) m h w)
 one_method_gives F known members hs before (parsed.Constructor n ps block) h =
     let Q : checked.Method → Type 0 = Whole F known (types_of known.names ps) None in
     bind Q (Listed F known (hs ++ member_heads known.names known.own (parsed.Constructor n ps block))) (written_constructor known members n ps block) _
-    (bind (FrontIs F known None) Q (initialisers known members) _ (initialisers_give F known members) (λ front f. method_gives F known None n ps front block f)) (λ m w.
+    (bind (FrontIs F known None) Q (initialisers known members) _ (initialisers_give F known members) (λ front f. method_gives F known false None n ps front block f)) (λ m w.
     listed_push F known hs before (types_of known.names ps) None m h w)
 
 default_whole : (F : checked.File) (known : Known) (front : List checked.Statement) → FrontIs F known None front →

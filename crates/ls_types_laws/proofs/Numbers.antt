@@ -16,7 +16,7 @@ use Rattle.ls_types_laws.proofs.Lists.{length_push}
 -- the methods that a member, a class and a file have; a class without a constructor has another
 abbrev pub member_count : parsed.Member → ℕ
 member_count (parsed.Fields d) = 0
-member_count (parsed.Method r n ps body) = 1
+member_count (parsed.Method sync r n ps body) = 1
 member_count (parsed.Constructor n ps body) = 1
 
 abbrev pub default_count : Bool → ℕ
@@ -30,8 +30,8 @@ class_count c = total member_count c.members + default_count (has_constructor c.
 one_method_adds : (known : Known) (members : List parsed.Member) (before : List checked.Method) (m : parsed.Member) →
     Gives (λ out. length out ≡ length before + member_count m) (one_method known members before m)
 one_method_adds known members before (parsed.Fields d) = omega arith
-one_method_adds known members before (parsed.Method r n ps body) =
-    after (λ out. length out ≡ length before + 1) (written_method known r n ps body) _ (λ m. length_push before m)
+one_method_adds known members before (parsed.Method sync r n ps body) =
+    after (λ out. length out ≡ length before + 1) (written_method known sync r n ps body) _ (λ m. length_push before m)
 one_method_adds known members before (parsed.Constructor n ps body) =
     after (λ out. length out ≡ length before + 1) (written_constructor known members n ps body) _ (λ m. length_push before m)
 

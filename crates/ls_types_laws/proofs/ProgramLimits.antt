@@ -2,6 +2,7 @@
 use Rattle.std.proofs.Common.{◌≡◌, ℕ, suc, ◌+◌, ◌*◌, ◌≤◌, ◌<◌, refl, subst, Bool, true, false, not, ◌&&◌, List, [], ◌∷◌, ◌++◌, length, Option, Some, None, nat_lt, nat_le, bytes_eq, codes, if◌then◌else◌, arith}
 use Rattle.std.specs.Prelude.{slice_get}
 use Rattle.std.proofs.lemmas.Bool.{ltb-true, leb-true}
+use Rattle.ls_checked.specs.Limits.{most_calls, most_threads}
 use Rattle.ls_lexer.specs.declared.sign.Sign.TheVariants as signs
 use Rattle.ls_lexer.specs.declared.word.Word.TheVariants as words
 use Rattle.ls_lexer.specs.Lexemes.{Lexeme}
@@ -14,7 +15,7 @@ use Rattle.ls_types_elaboration.specs.Elaboration.{Outcome}
 use Rattle.ls_types_elaboration.specs.Known.{number_of}
 use Rattle.ls_types_programs.specs.ProgramCalls.{Callee, Maker, Method, Pending, setup_named, maker, called_on, with_argument, is_full, plain_number, minus_number, call_of, names_after}
 use Rattle.ls_types_programs.specs.ThreadPrograms
-use Rattle.ls_types_programs.specs.ThreadPrograms.{Stage, Parts, Reading, at, is_sign, is_word, is_text, name_in, number_in, when, with_call, closed, at_call, is_new_name, used, after_name, after_new, after_dot, numbered, argument, after_minus, arguments_end, at_first, after_argument, with_finished, at_semicolon, at_thread, at_thread_name, named, stepped, after, ended, whole, beginning, most_calls, most_threads, program_of_tokens, program_of}
+use Rattle.ls_types_programs.specs.ThreadPrograms.{Stage, Parts, Reading, at, is_sign, is_word, is_text, name_in, number_in, when, with_call, closed, at_call, is_new_name, used, after_name, after_new, after_dot, numbered, argument, after_minus, arguments_end, at_first, after_argument, with_finished, at_semicolon, at_thread, at_thread_name, named, stepped, after, ended, whole, beginning, program_of_tokens, program_of}
 use Rattle.ls_types_judgement.specs.Limits.{IsRangedProgram}
 use Rattle.ls_types_laws.proofs.Lists.{Each, each_push, each_at, length_push}
 
@@ -34,8 +35,8 @@ record InRoom (most_here counted_here : ℕ) (r : Parts) : Type 0 where
 
 -- behind a block there are as many threads as there may be, and no call of the next
 abbrev most : Stage → ℕ
-most ThreadPrograms.AtThread = 17
-most _ = 16
+most ThreadPrograms.AtThread = suc most_threads
+most _ = most_threads
 
 abbrev counted : Stage → Parts → ℕ
 counted ThreadPrograms.AtThread r = 0
@@ -64,11 +65,11 @@ with_call_room : (r : Parts) (stage : Pending → Stage) (p : Option Pending) �
 with_call_room r stage None h = tt
 with_call_room r stage (Some p) h = h p
 
-used_room : (r : Parts) (n : Option ℕ) → InRoom 16 (length r.calls) r → Reads Room (used r n)
+used_room : (r : Parts) (n : Option ℕ) → InRoom most_threads (length r.calls) r → Reads Room (used r n)
 used_room r None h = tt
 used_room r (Some n) h = h
 
-closed_room : (r : Parts) → InRoom 16 (length r.calls) r → InRoom 17 0 (closed r)
+closed_room : (r : Parts) → InRoom most_threads (length r.calls) r → InRoom (suc most_threads) 0 (closed r)
 closed_room r h =
     let many = length_push r.threads (record { name = r.name; calls = r.calls }) in
     let few = h.few in
@@ -81,28 +82,28 @@ closed_room r h =
       names = omega (arith, many, calls, names);
     }
 
-call_room : (r : Parts) (k : Lexeme) (name : Option Text) → InRoom 16 (length r.calls) r → Reads Room (at_call r k name)
+call_room : (r : Parts) (k : Lexeme) (name : Option Text) → InRoom most_threads (length r.calls) r → Reads Room (at_call r k name)
 call_room r k None h = room_when (is_sign signs.CloseBrace k) (at (closed r) ThreadPrograms.AtThread) (λ e. closed_room r h)
 call_room r k (Some name) h = h
 
-name_room : (r : Parts) (name : Text) (k : Lexeme) → InRoom 16 (length r.calls) r → Reads Room (after_name r name k)
+name_room : (r : Parts) (name : Text) (k : Lexeme) → InRoom most_threads (length r.calls) r → Reads Room (after_name r name k)
 name_room r name k h =
     either (is_sign signs.Assign k) (when (is_new_name r name) (at r (ThreadPrograms.AfterAssign name))) _ (room_when (is_new_name r name) (at r (ThreadPrograms.AfterAssign name)) (λ e. h))
     (either (is_sign signs.Dot k) (used r (setup_named r.names name)) None (used_room r (setup_named r.names name) h) tt)
 
-new_room : (o : Outcome) (r : Parts) (name : Text) (class : Option Text) → InRoom 16 (length r.calls) r → Reads Room (after_new o r name class)
+new_room : (o : Outcome) (r : Parts) (name : Text) (class : Option Text) → InRoom most_threads (length r.calls) r → Reads Room (after_new o r name class)
 new_room o r name None h = tt
 new_room o r name (Some class) h = with_call_room r ThreadPrograms.AtArguments (maker o name class (number_of o.names class)) (λ q. h)
 
-dot_room : (o : Outcome) (r : Parts) (n : ℕ) (method : Option Text) → InRoom 16 (length r.calls) r → Reads Room (after_dot o r n method)
+dot_room : (o : Outcome) (r : Parts) (n : ℕ) (method : Option Text) → InRoom most_threads (length r.calls) r → Reads Room (after_dot o r n method)
 dot_room o r n None h = tt
 dot_room o r n (Some method) h = with_call_room r ThreadPrograms.AtArguments (called_on o n (slice_get r.names n) method) (λ q. h)
 
-numbered_room : (r : Parts) (p : Pending) (v : Option Value) → InRoom 16 (length r.calls) r → Reads Room (numbered r p v)
+numbered_room : (r : Parts) (p : Pending) (v : Option Value) → InRoom most_threads (length r.calls) r → Reads Room (numbered r p v)
 numbered_room r p None h = tt
 numbered_room r p (Some v) h = with_call_room r ThreadPrograms.AfterArgument (with_argument p v) (λ q. h)
 
-argument_room : (r : Parts) (p : Pending) (k : Lexeme) (number : Option Text) → InRoom 16 (length r.calls) r → Reads Room (argument r p k number)
+argument_room : (r : Parts) (p : Pending) (k : Lexeme) (number : Option Text) → InRoom most_threads (length r.calls) r → Reads Room (argument r p k number)
 argument_room r p k (Some digits) h = numbered_room r p (plain_number digits) h
 argument_room r p k None h =
     either (is_word words.True k) (with_call r ThreadPrograms.AfterArgument (with_argument p (values.Boolean true))) _
@@ -111,18 +112,18 @@ argument_room r p k None h =
     (with_call_room r ThreadPrograms.AfterArgument (with_argument p (values.Boolean false)) (λ q. h))
     (room_when (is_sign signs.Minus k) (at r (ThreadPrograms.AfterMinus p)) (λ e. h)))
 
-minus_room : (r : Parts) (p : Pending) (number : Option Text) → InRoom 16 (length r.calls) r → Reads Room (after_minus r p number)
+minus_room : (r : Parts) (p : Pending) (number : Option Text) → InRoom most_threads (length r.calls) r → Reads Room (after_minus r p number)
 minus_room r p None h = tt
 minus_room r p (Some digits) h = with_call_room r ThreadPrograms.AfterArgument (with_argument p (minus_number digits)) (λ q. h)
 
-end_room : (r : Parts) (p : Pending) → InRoom 16 (length r.calls) r → Reads Room (arguments_end r p)
+end_room : (r : Parts) (p : Pending) → InRoom most_threads (length r.calls) r → Reads Room (arguments_end r p)
 end_room r p h = room_when (is_full p) (at r (ThreadPrograms.AtSemicolon p)) (λ e. h)
 
 names_more : (names : List SetupName) (c : Callee) → length (names_after names c) ≤ length names + 1
 names_more names (Maker name class class_name) = let e = length_push names (record { name = name; class = class }) in omega (arith, e)
 names_more names (Method name method method_name result) = omega arith
 
-finished_room : (r : Parts) (p : Pending) → length r.calls < 256 → InRoom 16 (length r.calls) r → InRoom 16 (length (with_finished r p).calls) (with_finished r p)
+finished_room : (r : Parts) (p : Pending) → length r.calls < 256 → InRoom most_threads (length r.calls) r → InRoom most_threads (length (with_finished r p).calls) (with_finished r p)
 finished_room r p room h =
     let many = length_push r.calls (call_of (length r.names) p) in
     let more = names_more r.names p.callee in
@@ -134,13 +135,13 @@ finished_room r p room h =
       names = omega (arith, many, more, names);
     }
 
-named_room : (r : Parts) (name : Option Text) → InRoom 16 0 r → Reads Room (at_thread_name r name)
+named_room : (r : Parts) (name : Option Text) → InRoom most_threads 0 r → Reads Room (at_thread_name r name)
 named_room r None h = tt
 named_room r (Some name) h =
     room_when (not (bytes_eq name (codes "all")) && not (ThreadPrograms.thread_named r.threads name)) (at (named r name) ThreadPrograms.AtBlock)
     (λ e. record { calls = omega arith; few = h.few; each = h.each; names = h.names })
 
-thread_room : (r : Parts) (k : Lexeme) → InRoom 17 0 r → Reads Room (at_thread r k)
+thread_room : (r : Parts) (k : Lexeme) → InRoom (suc most_threads) 0 r → Reads Room (at_thread r k)
 thread_room r k h =
     room_when (is_text (codes "thread") (name_in k) && nat_le (length r.threads) most_threads) (at r ThreadPrograms.AtThreadName) (λ e. record {
       calls = h.calls;
@@ -149,7 +150,7 @@ thread_room r k h =
       names = h.names;
     })
 
-semicolon_room : (r : Parts) (p : Pending) (k : Lexeme) → InRoom 16 (length r.calls) r → Reads Room (at_semicolon r p k)
+semicolon_room : (r : Parts) (p : Pending) (k : Lexeme) → InRoom most_threads (length r.calls) r → Reads Room (at_semicolon r p k)
 semicolon_room r p k h =
     room_when (is_sign signs.Semicolon k && nat_lt (length r.calls) most_calls) (at (with_finished r p) ThreadPrograms.AtCall)
     (λ e. finished_room r p (ltb-true (length r.calls) most_calls (second_true (is_sign signs.Semicolon k) _ e)) h)
@@ -178,7 +179,7 @@ after_room o (Some r) [] h = h
 after_room o (Some r) (k ∷ ks) h = after_room o (stepped o r.parts r.stage k) ks (step_room o r.parts r.stage k h)
 
 -- a program that is read whole ends behind a block
-ranged : (r : Parts) → InRoom 17 0 r → IsRangedProgram (record { names = r.names; threads = r.threads })
+ranged : (r : Parts) → InRoom (suc most_threads) 0 r → IsRangedProgram (record { names = r.names; threads = r.threads })
 ranged r h =
     let few = h.few in
     let names = h.names in

@@ -9,6 +9,7 @@ use Rattle.ls_events.specs.declared.value.Value.{Value}
 use Rattle.ls_events.specs.declared.value.Value.TheVariants as values
 use Rattle.ls_checked.specs.CheckedTree.{File}
 use Rattle.ls_checked.specs.CheckedProgram.{SetupName, ProgramCall, ThreadProgram, Program}
+use Rattle.ls_checked.specs.Limits.{most_calls}
 use Rattle.ls_types_judgement.specs.Programs.{IsTypedProgram}
 use Rattle.ls_types_elaboration.specs.Trees.{Text}
 use Rattle.ls_types_elaboration.specs.Elaboration.{Outcome}
@@ -135,7 +136,7 @@ step_reads o t r (ThreadPrograms.AfterMinus p) k h s = minus_reads o.file r p (n
 step_reads o t r (ThreadPrograms.AfterArgument p) k h s =
     either o.file (is_sign signs.CloseParen k) (arguments_end r p) _ (end_reads o.file r p h s) (when_reads o.file (is_sign signs.Comma k) (at r (ThreadPrograms.AtArgument p)) (λ e. (h, s)))
 step_reads o t r (ThreadPrograms.AtSemicolon p) k h s =
-    when_reads o.file (is_sign signs.Semicolon k && nat_lt (length r.calls) ThreadPrograms.most_calls) (at (with_finished r p) ThreadPrograms.AtCall) (λ e. (finished_part o.file r p h s, tt))
+    when_reads o.file (is_sign signs.Semicolon k && nat_lt (length r.calls) most_calls) (at (with_finished r p) ThreadPrograms.AtCall) (λ e. (finished_part o.file r p h s, tt))
 step_reads o t r ThreadPrograms.AtThread k h s = when_reads o.file _ (at r ThreadPrograms.AtThreadName) (λ e. (h, tt))
 step_reads o t r ThreadPrograms.AtThreadName k h s = named_reads o.file r (name_in k) h
 

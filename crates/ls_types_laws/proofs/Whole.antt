@@ -28,7 +28,7 @@ each_join P (x ∷ xs) ys h k = (h.0, each_join P xs ys h.1 k)
 
 member_classes : (names : List Text) (own n : ℕ) (m : parsed.Member) → own < n → Each (λ (h : Head). h.class < n) (member_heads names own m)
 member_classes names own n (parsed.Fields d) l = tt
-member_classes names own n (parsed.Method r k ps body) l = (l, tt)
+member_classes names own n (parsed.Method sync r k ps body) l = (l, tt)
 member_classes names own n (parsed.Constructor k ps body) l = (l, tt)
 
 members_classes : (names : List Text) (own n : ℕ) (ms : List parsed.Member) → own < n → Each (λ (h : Head). h.class < n) (members_heads names own ms)

@@ -1,5 +1,5 @@
 -- Methods, declarations and files without places.
-use Rattle.std.proofs.Common.{◌≡◌, refl, sym, ap, ◌∙◌, List, [], ◌∷◌, Option, Some, None, ℕ, length, map}
+use Rattle.std.proofs.Common.{◌≡◌, refl, Bool, true, false, sym, ap, ◌∙◌, List, [], ◌∷◌, Option, Some, None, ℕ, length, map}
 use Rattle.std.proofs.lemmas.List.{length-map}
 use Rattle.std.specs.Prelude.{is_some, not, nat_lt, option_map, ◌&&◌, bytes_eq}
 use Rattle.ls_events.specs.declared.value.ValueType.{ValueType}
@@ -15,7 +15,7 @@ use Rattle.ls_types_elaboration.specs.TypedExpressions.{fitting}
 use Rattle.ls_types_completion.specs.Completion.{can_complete}
 use Rattle.ls_types_elaboration.specs.Scopes.{Body, Scope, most_slots}
 use Rattle.ls_types_elaboration.specs.TypedStatements.{sequence, items}
-use Rattle.ls_types_elaboration.specs.TypedMethods.{parameter, field_set, declarator_set, member_set, initialisers, finished, method, written_method, written_constructor, one_method, has_constructor, default_constructor, class_methods}
+use Rattle.ls_types_elaboration.specs.TypedMethods.{parameter, field_set, declarator_set, member_set, initialisers, finished, with_unnamed_slot, all_items, method, written_method, written_constructor, one_method, has_constructor, default_constructor, class_methods}
 use Rattle.ls_types_elaboration.specs.Signs.{is_reserved, most_classes, most_fields, most_methods, with_room, one_name, one_type, parameter_types, Met, field_met, fields_met, method_met, constructor_met, member_met, Classes, class_met, nothing_met, one_class, class_names, class_signs}
 use Rattle.ls_types_elaboration.specs.Elaboration.{Bodies, one_body, file_methods, elaborated}
 use Rattle.ls_parser_placing.specs.Unplaced.{nowhere, unplaced, unplaced_name, unplaced_type, unplaced_declarator, unplaced_declaration, unplaced_items, unplaced_parameter, unplaced_member, unplaced_class, unplaced_file}
@@ -40,7 +40,7 @@ field_set_same known front (Some f) (Some e) =
 member_set_same : (known : Known) (front : List checked.Statement) (m : Member) → member_set known front (unplaced_member m) ≡ anywhere (member_set known front m)
 member_set_same known front (Trees.Fields d) =
     each_same (declarator_set known) (declarator_set known) unplaced_declarator front (d.first ∷ d.more) (λ s a. field_set_same known s (field_of known known.own a.name.text) a.value)
-member_set_same known front (Trees.Method r n ps b) = refl
+member_set_same known front (Trees.Method sync r n ps b) = refl
 member_set_same known front (Trees.Constructor n ps b) = refl
 
 initialisers_same : (known : Known) (ms : List Member) → initialisers known (map unplaced_member ms) ≡ anywhere (initialisers known ms)
@@ -52,38 +52,44 @@ finished_same known r n count' count scope e =
     ap (λ c. finished known r (unplaced_name n) c scope) e
     ∙ test (is_some r && can_complete (checked.Block (sequence scope.statements))) rules.MissingReturn nowhere n.span _ _ refl refl
 
-method_same : (known : Known) (r : Option ValueType) (n : Name) (ps : List Parameter) (front : List checked.Statement) (block : Items)
-    → method known r (unplaced_name n) (map unplaced_parameter ps) front (unplaced_items block) ≡ anywhere (method known r n ps front block)
-method_same known r n ps front block =
+all_items_same : (body : Body) (sync : Bool) (scope : Scope) (block : Items) → all_items (unplaced_body body) sync scope (unplaced_items block) ≡ anywhere (all_items body sync scope block)
+all_items_same body false scope block = items_same body [] scope block
+all_items_same body true scope block =
+    let inner : Scope = with_unnamed_slot scope (types.Class body.known.own) in
+    bind (items body [] inner block) (items (unplaced_body body) [] inner (unplaced_items block)) _ _ (items_same body [] inner block) (λ last. refl)
+
+method_same : (known : Known) (sync : Bool) (r : Option ValueType) (n : Name) (ps : List Parameter) (front : List checked.Statement) (block : Items)
+    → method known sync r (unplaced_name n) (map unplaced_parameter ps) front (unplaced_items block) ≡ anywhere (method known sync r n ps front block)
+method_same known sync r n ps front block =
     let body : Body = record { known = known; result = r; span = n.span } in
-    let start : Scope = record { statements = front; locals = []; slots = types.Class known.own ∷ [] } in
+    let start : Scope = record { statements = front; locals = []; slots = record { types = types.Class known.own ∷ []; named = 1 } } in
     bind (each (parameter body) start ps) (each (parameter (unplaced_body body)) start (map unplaced_parameter ps)) _ _
     (each_same (parameter body) (parameter (unplaced_body body)) unplaced_parameter start ps (λ s a. parameter_same body s a)) (λ scope.
-    bind (items body [] scope block) (items (unplaced_body body) [] scope (unplaced_items block)) _ _ (items_same body [] scope block) (λ last.
+    bind (all_items body sync scope block) (all_items (unplaced_body body) sync scope (unplaced_items block)) _ _ (all_items_same body sync scope block) (λ last.
     finished_same known r n (length (map unplaced_parameter ps)) (length ps) last (simp length-map)))
 
-written_method_same : (known : Known) (t : Option TypeName) (n : Name) (ps : List Parameter) (block : Items)
-    → written_method known (option_map unplaced_type t) (unplaced_name n) (map unplaced_parameter ps) (unplaced_items block) ≡ anywhere (written_method known t n ps block)
-written_method_same known t n ps block =
-    bind (result_of known.names t) (result_of known.names (option_map unplaced_type t)) _ _ (result_same known.names t) (λ r. method_same known r n ps [] block)
+written_method_same : (known : Known) (sync : Bool) (t : Option TypeName) (n : Name) (ps : List Parameter) (block : Items)
+    → written_method known sync (option_map unplaced_type t) (unplaced_name n) (map unplaced_parameter ps) (unplaced_items block) ≡ anywhere (written_method known sync t n ps block)
+written_method_same known sync t n ps block =
+    bind (result_of known.names t) (result_of known.names (option_map unplaced_type t)) _ _ (result_same known.names t) (λ r. method_same known sync r n ps [] block)
 
 written_constructor_same : (known : Known) (ms : List Member) (n : Name) (ps : List Parameter) (block : Items)
     → written_constructor known (map unplaced_member ms) (unplaced_name n) (map unplaced_parameter ps) (unplaced_items block) ≡ anywhere (written_constructor known ms n ps block)
 written_constructor_same known ms n ps block =
-    bind (initialisers known ms) (initialisers known (map unplaced_member ms)) _ _ (initialisers_same known ms) (λ front. method_same known None n ps front block)
+    bind (initialisers known ms) (initialisers known (map unplaced_member ms)) _ _ (initialisers_same known ms) (λ front. method_same known false None n ps front block)
 
 one_method_same : (known : Known) (ms : List Member) (before : List checked.Method) (m : Member)
     → one_method known (map unplaced_member ms) before (unplaced_member m) ≡ anywhere (one_method known ms before m)
 one_method_same known ms before (Trees.Fields d) = refl
-one_method_same known ms before (Trees.Method t n ps b) =
-    bind (written_method known t n ps b) (written_method known (option_map unplaced_type t) (unplaced_name n) (map unplaced_parameter ps) (unplaced_items b)) _ _ (written_method_same known t n ps b) (λ m. refl)
+one_method_same known ms before (Trees.Method sync t n ps b) =
+    bind (written_method known sync t n ps b) (written_method known sync (option_map unplaced_type t) (unplaced_name n) (map unplaced_parameter ps) (unplaced_items b)) _ _ (written_method_same known sync t n ps b) (λ m. refl)
 one_method_same known ms before (Trees.Constructor n ps b) =
     bind (written_constructor known ms n ps b) (written_constructor known (map unplaced_member ms) (unplaced_name n) (map unplaced_parameter ps) (unplaced_items b)) _ _ (written_constructor_same known ms n ps b) (λ m. refl)
 
 constructor_same : (ms : List Member) → has_constructor (map unplaced_member ms) ≡ has_constructor ms
 constructor_same [] = refl
 constructor_same (Trees.Fields d ∷ ms) = constructor_same ms
-constructor_same (Trees.Method t n ps b ∷ ms) = constructor_same ms
+constructor_same (Trees.Method sync t n ps b ∷ ms) = constructor_same ms
 constructor_same (Trees.Constructor n ps b ∷ ms) = refl
 
 default_same : (known : Known) (ms : List Member) (before : List checked.Method)
@@ -139,7 +145,7 @@ constructor_met_same class met n ts =
 
 member_met_same : (names : List Text) (class : Text) (met : Met) (m : Member) → member_met names class met (unplaced_member m) ≡ anywhere (member_met names class met m)
 member_met_same names class met (Trees.Fields d) = fields_met_same names met d
-member_met_same names class met (Trees.Method t n ps b) =
+member_met_same names class met (Trees.Method sync t n ps b) =
     bind (result_of names t) (result_of names (option_map unplaced_type t)) _ _ (result_same names t) (λ r.
     bind (parameter_types names n ps) (parameter_types names (unplaced_name n) (map unplaced_parameter ps)) _ _ (parameter_types_same names n ps) (λ ts. method_met_same met n ts r))
 member_met_same names class met (Trees.Constructor n ps b) =

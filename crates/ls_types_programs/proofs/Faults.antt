@@ -24,6 +24,7 @@ use Rattle.ls_lexer.specs.Numbers.{value_of}
 use Rattle.ls_events.specs.declared.value.Value.TheVariants as values
 use Rattle.std.specs.Prelude.{neg_ℤ}
 use Rattle.std.proofs.Common.{pos, map}
+use Rattle.ls_checked.specs.Limits.{most_threads}
 use Rattle.ls_types_programs.proofs.Since.{program_at}
 use Rattle.ls_types_programs.proofs.Pieces.{no_truth, some_none, same_some, bytes_same, plain_result, append_nil, Front, front_push, is_full_so}
 use Rattle.ls_types_programs.proofs.Rest.{with_values, gives}
@@ -126,7 +127,7 @@ module _ (o : Outcome) where
   -- a thread's name that can't stand
   no_thread_name : (r : Parts) (name : Text) → (not (bytes_eq name (codes "all")) && not (thread_named r.threads name)) ≡ false
       → after o (Some (at r ThreadPrograms.AtThread)) (Named (codes "thread") ∷ Named name ∷ []) ≡ None
-  no_thread_name r name e = by (nat_le (length r.threads) 16)
+  no_thread_name r name e = by (nat_le (length r.threads) most_threads)
     where
       by : (b : Bool) → after o (when b (at r ThreadPrograms.AtThreadName)) (Named name ∷ []) ≡ None
       by false = refl
@@ -371,12 +372,12 @@ module _ (o : Outcome) where
       by false e = refl
       by true e = absurd (omega (arith, h, ltb-true n 256 e))
 
-  no_space : (n : ℕ) → 16 < n → nat_le n 16 ≡ false
-  no_space n h = by (nat_le n 16) refl
+  no_space : (n : ℕ) → most_threads < n → nat_le n most_threads ≡ false
+  no_space n h = by (nat_le n most_threads) refl
     where
-      by : (b : Bool) → nat_le n 16 ≡ b → b ≡ false
+      by : (b : Bool) → nat_le n most_threads ≡ b → b ≡ false
       by false e = refl
-      by true e = absurd (omega (arith, h, leb-true n 16 e))
+      by true e = absurd (omega (arith, h, leb-true n most_threads e))
 
   -- a call that fits, behind 256
   call_past : (p : Program) (ks front js : List Lexeme) (callee : Text) (types : List ValueType) (vs : List Value) (b : IsBefore o p ks) → ((r : Parts) → r.names ≡ p.names → r.threads ++ record { name = r.name; calls = r.calls } ∷ [] ≡ p.threads → 256 ≤ length r.calls)
@@ -390,7 +391,7 @@ module _ (o : Outcome) where
   past : (ks : List Lexeme) → IsPast o ks → GoesNowhere o ks
   past _ (Threads {ks = ks} p b many) =
       let a = the_thread p ks b in
-      behind_thread p ks (Named (codes "thread") ∷ []) a (ap (λ b. after o (when b (at a.r ThreadPrograms.AtThreadName)) []) (no_space (length a.r.threads) (subst (λ (ts : List ThreadProgram). 16 < length ts) (sym a.threads) many)))
+      behind_thread p ks (Named (codes "thread") ∷ []) a (ap (λ b. after o (when b (at a.r ThreadPrograms.AtThreadName)) []) (no_space (length a.r.threads) (subst (λ (ts : List ThreadProgram). most_threads < length ts) (sym a.threads) many)))
   past _ (Calls {ks = ks} {front = front} {js = js} p ts t callee types vs b parts many there spelling fit) =
       subst (GoesNowhere o) (sym (append_assoc (ks ++ front) (Named callee ∷ Marked signs.OpenParen ∷ js) (Marked signs.Semicolon ∷ [])))
       (call_past p ks front js callee types vs b

@@ -2,6 +2,7 @@
 use Rattle.std.proofs.Common.{◌≡◌, ℕ, suc, ◌<◌, ◌≤◌, refl, sym, ◌∙◌, subst, ap, Bool, true, false, not, ◌&&◌, List, [], ◌∷◌, ◌++◌, append_assoc, length, length-append, Option, Some, None, nat_lt, nat_le, ltb-true, lit≤, arith, if◌then◌else◌, bytes_eq, codes}
 use Rattle.std.proofs.lemmas.Bool.{lt-ltb}
 use Rattle.std.specs.Prelude.{slice_get}
+use Rattle.ls_checked.specs.Limits.{most_threads}
 use Rattle.ls_lexer.specs.declared.sign.Sign.TheVariants as signs
 use Rattle.ls_lexer.specs.declared.word.Word.TheVariants as words
 use Rattle.ls_lexer.specs.Lexemes.{Lexeme, Named, Numeral, Reserved, Marked}
@@ -165,7 +166,7 @@ module _ (o : Outcome) (names : List SetupName) where
   step_taken r (ThreadPrograms.AfterMinus p) _ ks (Valued (Argues (spelled.Minus text most) others) after) = value_taken r p (minus_number text) ks (Valued others after)
   step_taken r (ThreadPrograms.AfterArgument p) k ks h = others_taken r p k ks h
   step_taken r (ThreadPrograms.AtSemicolon p) _ ks (By h) = when_taken ManyCalls ks (nat_lt (length r.calls) 256) (at (with_finished r p) ThreadPrograms.AtCall) (λ e. cc) h
-  step_taken r ThreadPrograms.AtThread _ ks (e, Ends (spelled.Thread calls more)) = when_taken ManyThreads ks (nat_le (length r.threads) 16) (at r ThreadPrograms.AtThreadName) (λ e. cc) (e, Ends (spelled.Thread calls more))
+  step_taken r ThreadPrograms.AtThread _ ks (e, Ends (spelled.Thread calls more)) = when_taken ManyThreads ks (nat_le (length r.threads) most_threads) (at r ThreadPrograms.AtThreadName) (λ e. cc) (e, Ends (spelled.Thread calls more))
   step_taken r ThreadPrograms.AtThreadName _ ks (e, Ends (spelled.Thread {t = t} {ks = ls} calls more)) =
       when_taken ThreadTaken ks (not (bytes_eq t.name (codes "all")) && not (thread_named r.threads t.name)) (at (named r t.name) ThreadPrograms.AtBlock) (λ e. cc)
       (By (subst (λ b. LeftCalls names b ls) (sym e) (Left calls more)))

@@ -3,6 +3,7 @@ use Rattle.std.proofs.Common.{◌≡◌, ℕ, zero, suc, ◌+◌, ◌<◌, ◌�
 use Rattle.std.proofs.lemmas.Bool.{lt-ltb, le-leb, eq-eqb}
 use Rattle.std.proofs.Common.{◌⊎◌, inl, inr, ltb-true}
 use Rattle.std.specs.Prelude.{slice_get, neg_ℤ, is_some, option_map}
+use Rattle.ls_checked.specs.Limits.{most_threads}
 use Rattle.ls_lexer.specs.declared.sign.Sign.TheVariants as signs
 use Rattle.ls_lexer.specs.declared.word.Word.TheVariants as words
 use Rattle.ls_lexer.specs.Lexemes.{Lexeme, Named, Reserved, Marked}
@@ -29,7 +30,7 @@ use Rattle.ls_types_programs.proofs.Rest.{with_values, calls_grow, method_pendin
 room : (calls : List ProgramCall) (c : ProgramCall) (cs : List ProgramCall) → length (calls ++ c ∷ cs) ≤ 256 → length calls < 256
 room calls c cs h = omega (arith, h, length-append calls (c ∷ cs))
 
-space : (before : List ThreadProgram) (t : ThreadProgram) (ts : List ThreadProgram) → length (before ++ t ∷ ts) ≤ 17 → length before ≤ 16
+space : (before : List ThreadProgram) (t : ThreadProgram) (ts : List ThreadProgram) → length (before ++ t ∷ ts) ≤ suc most_threads → length before ≤ most_threads
 space before t ts h = omega (arith, h, length-append before (t ∷ ts))
 
 one_more : (before : List ThreadProgram) (t : ThreadProgram) → 1 ≤ length (before ++ t ∷ [])
@@ -257,7 +258,7 @@ module _ (o : Outcome) where
   new_thread (t ∷ ts) name h = ap (λ b. b || thread_named ts name) (bytes_other t.name name h.0) ∙ new_thread ts name h.1
 
   pub threads_read : {names : List SetupName} {before ts : List ThreadProgram} {ks : List Lexeme} → AreThreadsOf o names before ts → Threads names ts ks → AreFound names
-      → 1 ≤ length before → length (before ++ ts) ≤ 17
+      → 1 ≤ length before → length (before ++ ts) ≤ suc most_threads
       → From (parts names before [] []) ThreadPrograms.AtThread ks ≡ Some (at (parts names (before ++ ts) [] []) ThreadPrograms.AtThread)
   threads_read {names = names} {before = before} programs.End spelled.NoThread found some few = ap (λ l. Some (at (parts names l [] []) ThreadPrograms.AtThread)) (sym (append_nil before))
   threads_read {names = names} {before = before} (programs.Thread {ts = ts} t no_all new calls are more) (spelled.Thread {ks = ks} cs later) found some few =
@@ -265,9 +266,9 @@ module _ (o : Outcome) where
       let block : Parts = parts names before t.name [] in
       let joined : (before ++ t ∷ []) ++ ts ≡ before ++ t ∷ ts = append_assoc before (t ∷ []) ts in
       let read = calls_read are cs before t.name [] (later_block before some) found calls in
-      ap (λ b. after o (when b (at r ThreadPrograms.AtThreadName)) (Named t.name ∷ Marked signs.OpenBrace ∷ ks)) (le-leb (length before) 16 (space before t ts few))
+      ap (λ b. after o (when b (at r ThreadPrograms.AtThreadName)) (Named t.name ∷ Marked signs.OpenBrace ∷ ks)) (le-leb (length before) most_threads (space before t ts few))
       ∙ ap (λ b. after o (when (not b && not (thread_named before t.name)) (at block ThreadPrograms.AtBlock)) (Marked signs.OpenBrace ∷ ks)) (bytes_other t.name (codes "all") no_all)
       ∙ ap (λ b. after o (when (not b) (at block ThreadPrograms.AtBlock)) (Marked signs.OpenBrace ∷ ks)) (new_thread before t.name new)
       ∙ read.0
-      ∙ threads_read more later found (one_more before t) (subst (λ l. length l ≤ 17) (sym joined) few)
+      ∙ threads_read more later found (one_more before t) (subst (λ l. length l ≤ suc most_threads) (sym joined) few)
       ∙ ap (λ l. Some (at (parts names l [] []) ThreadPrograms.AtThread)) joined

@@ -1,6 +1,7 @@
 -- What the reading takes spells a program: the rest of the tokens, stage by stage, from the end on.
 use Rattle.std.proofs.Common.{◌≡◌, ℕ, suc, ◌<◌, ◌≤◌, refl, sym, ◌∙◌, subst, ap, Bool, true, false, not, ◌&&◌, ◌⊎◌, inl, inr, List, [], ◌∷◌, ◌++◌, append_assoc, length, length-append, Option, Some, None, nat_lt, nat_le, pos, ltb-true, leb-true, lit≤, arith, if◌then◌else◌, bytes_eq, codes}
 use Rattle.std.specs.Prelude.{slice_get, neg_ℤ, is_some}
+use Rattle.ls_checked.specs.Limits.{most_threads}
 use Rattle.ls_lexer.specs.declared.sign.Sign.TheVariants as signs
 use Rattle.ls_lexer.specs.declared.word.Word.TheVariants as words
 use Rattle.ls_lexer.specs.Lexemes.{Lexeme, Named, Numeral, Reserved, Marked}
@@ -43,7 +44,7 @@ pub record RestThreads (o : Outcome) (f : Parts) (before : List ThreadProgram) (
   pub spelled : Threads f.names ts ks
   pub parts : f.threads ≡ before ++ ts
   pub are : AreThreadsOf o f.names before ts
-  pub few : length before ≤ 17 → length f.threads ≤ 17
+  pub few : length before ≤ suc most_threads → length f.threads ≤ suc most_threads
 
 abbrev pub gives : Parts → Bool
 gives r = nat_lt (length r.threads) 1
@@ -102,7 +103,7 @@ Rest o f r (ThreadPrograms.AfterMinus p) ks = RestValues Argued o f r p (Marked 
 Rest o f r (ThreadPrograms.AfterArgument p) ks = RestValues Others o f r p ks
 Rest o f r (ThreadPrograms.AtSemicolon p) ks = RestSemicolon o f r p ks
 Rest o f r ThreadPrograms.AtThread ks = 1 ≤ length r.threads → (r.names ≡ f.names) × RestThreads o f r.threads ks
-Rest o f r ThreadPrograms.AtThreadName ks = length r.threads ≤ 16 → 1 ≤ length r.threads → (r.names ≡ f.names) × RestThreads o f r.threads (Named (codes "thread") ∷ ks)
+Rest o f r ThreadPrograms.AtThreadName ks = length r.threads ≤ most_threads → 1 ≤ length r.threads → (r.names ≡ f.names) × RestThreads o f r.threads (Named (codes "thread") ∷ ks)
 
 abbrev pub method_pending : ℕ → Text → MethodSign → Pending
 method_pending n name m = record { callee = Method n m.number name m.result; types = m.parameters; values = [] }
@@ -388,12 +389,12 @@ module _ (o : Outcome) (f : Parts) where
 
   thread_back : (r : Parts) (k : Lexeme) (ks : List Lexeme) → Then (On ks) (at_thread r k) → Rest o f r ThreadPrograms.AtThread (k ∷ ks)
   thread_back r k ks h =
-      let g = when_then (On ks) (is_text (codes "thread") (name_in k) && nat_le (length r.threads) 16) (at r ThreadPrograms.AtThreadName) h in
-      let e = both (is_text (codes "thread") (name_in k)) (nat_le (length r.threads) 16) g.0 in
-      subst (λ x. Rest o f r ThreadPrograms.AtThread (x ∷ ks)) (sym (word_named (codes "thread") k e.0)) (g.1 (leb-true (length r.threads) 16 e.1))
+      let g = when_then (On ks) (is_text (codes "thread") (name_in k) && nat_le (length r.threads) most_threads) (at r ThreadPrograms.AtThreadName) h in
+      let e = both (is_text (codes "thread") (name_in k)) (nat_le (length r.threads) most_threads) g.0 in
+      subst (λ x. Rest o f r ThreadPrograms.AtThread (x ∷ ks)) (sym (word_named (codes "thread") k e.0)) (g.1 (leb-true (length r.threads) most_threads e.1))
 
   -- one more thread in front
-  with_thread : (r : Parts) (name : Text) (ks : List Lexeme) → length r.threads ≤ 16 → 1 ≤ length r.threads → (bytes_eq name (codes "all") ≡ false) → (thread_named r.threads name ≡ false)
+  with_thread : (r : Parts) (name : Text) (ks : List Lexeme) → length r.threads ≤ most_threads → 1 ≤ length r.threads → (bytes_eq name (codes "all") ≡ false) → (thread_named r.threads name ≡ false)
       → (h : RestAfter (Marked signs.OpenBrace) (RestCalls o f (named r name)) ks) → (r.names ≡ f.names) × RestThreads o f r.threads (Named (codes "thread") ∷ Named name ∷ ks)
   with_thread r name ks room some no_all new a =
       let h : RestCalls o f (named r name) a.rest = a.after in
@@ -418,7 +419,7 @@ module _ (o : Outcome) (f : Parts) where
           by false e = refl
           by true e = absurd (omega (arith, some, ltb-true (length r.threads) 1 e))
 
-      more : (t : ThreadProgram) → length (r.threads ++ t ∷ []) ≤ 17
+      more : (t : ThreadProgram) → length (r.threads ++ t ∷ []) ≤ suc most_threads
       more t = omega (arith, room, length-append r.threads (t ∷ []))
 
   thread_name_back : (r : Parts) (k : Lexeme) (ks : List Lexeme) → Then (On ks) (at_thread_name r (name_in k)) → Rest o f r ThreadPrograms.AtThreadName (k ∷ ks)

@@ -1,6 +1,7 @@
 -- What the tokens since the beginning of a statement, or of a thread, are in each stage of the reading.
 use Rattle.std.proofs.Common.{◌≡◌, ℕ, ◌<◌, ◌≤◌, refl, sym, ◌∙◌, subst, ap, Bool, true, false, not, ◌&&◌, List, [], ◌∷◌, ◌++◌, append_assoc, length, length-append, Option, Some, None, nat_lt, nat_le, ltb-true, arith, if◌then◌else◌, bytes_eq, codes, pos}
 use Rattle.std.specs.Prelude.{slice_get, is_some, neg_ℤ}
+use Rattle.ls_checked.specs.Limits.{most_threads}
 use Rattle.ls_lexer.specs.declared.sign.Sign.TheVariants as signs
 use Rattle.ls_lexer.specs.declared.word.Word.TheVariants as words
 use Rattle.ls_lexer.specs.declared.token.Token.{Token}
@@ -414,6 +415,6 @@ module _ (o : Outcome) where
   step_next r (ThreadPrograms.AtSemicolon p) m front t k is formed read h =
       when_next m t.span.start (front ++ t ∷ []) (is_sign signs.Semicolon k && nat_lt (length r.calls) 256) (at (with_finished r p) ThreadPrograms.AtCall) (λ e. tt)
   step_next r ThreadPrograms.AtThread m front t k is formed read h =
-      when_next m t.span.start (front ++ t ∷ []) (is_text (codes "thread") (name_in k) && nat_le (length r.threads) 16) (at r ThreadPrograms.AtThreadName)
-      (λ e. record { base = front; token = t; is = refl; read = read; named = is ∙ word_named o r (codes "thread") k (both (is_text (codes "thread") (name_in k)) (nat_le (length r.threads) 16) e).0 })
+      when_next m t.span.start (front ++ t ∷ []) (is_text (codes "thread") (name_in k) && nat_le (length r.threads) most_threads) (at r ThreadPrograms.AtThreadName)
+      (λ e. record { base = front; token = t; is = refl; read = read; named = is ∙ word_named o r (codes "thread") k (both (is_text (codes "thread") (name_in k)) (nat_le (length r.threads) most_threads) e).0 })
   step_next r ThreadPrograms.AtThreadName m front t k is formed read h = thread_name_next r m t.span.start (front ++ t ∷ []) (name_in k)

@@ -2,6 +2,7 @@
 use Rattle.std.proofs.Common.{◌≡◌, ℕ, zero, suc, ◌<◌, ◌≤◌, refl, sym, ◌∙◌, subst, ap, Bool, true, false, not, ◌&&◌, List, [], ◌∷◌, ◌++◌, append_assoc, length, length-append, Option, Some, None, nat_lt, nat_le, ltb-true, arith, if◌then◌else◌, bytes_eq, codes, pos}
 use Rattle.std.proofs.lemmas.Bool.{lt-ltb, le-leb}
 use Rattle.std.specs.Prelude.{slice_get, is_some}
+use Rattle.ls_checked.specs.Limits.{most_threads}
 use Rattle.ls_lexer.specs.declared.sign.Sign.TheVariants as signs
 use Rattle.ls_lexer.specs.declared.word.Word.TheVariants as words
 use Rattle.ls_lexer.specs.declared.token.Token.{Token}
@@ -349,10 +350,10 @@ module _ (o : Outcome) where
         by : (n : ℕ) → (n < 256 → ⊥) → 256 ≤ n
         by n h = omega (arith, h)
 
-    not_most : (n : ℕ) → nat_le n 16 ≡ false → 16 < n
-    not_most n e = by n (λ h. no_truth (sym e ∙ le-leb n 16 h))
+    not_most : (n : ℕ) → nat_le n most_threads ≡ false → most_threads < n
+    not_most n e = by n (λ h. no_truth (sym e ∙ le-leb n most_threads h))
       where
-        by : (n : ℕ) → (n ≤ 16 → ⊥) → 16 < n
+        by : (n : ℕ) → (n ≤ most_threads → ⊥) → most_threads < n
         by n h = omega (arith, h)
 
     semicolon_fails : (r : Parts) (p : Pending) (m : Marks) → Reads o r (ThreadPrograms.AtSemicolon p) front → SinceOpen o (λ p ls. Arguments p.values ls [] × (is_full p ≡ true)) r m.callee p front
@@ -378,13 +379,13 @@ module _ (o : Outcome) where
     thread_fails : (r : Parts) (m : Marks) → Reads o r ThreadPrograms.AtThread front → at_thread r (lexeme_of t.kind) ≡ None → Shown o text (fault_for m t.span.start (why_thread (lexeme_of t.kind)))
     thread_fails r m read none = by (is_text (codes "thread") (name_in (lexeme_of t.kind))) refl none
       where
-        by : (b : Bool) → is_text (codes "thread") (name_in (lexeme_of t.kind)) ≡ b → when (b && nat_le (length r.threads) 16) (at r ThreadPrograms.AtThreadName) ≡ None
+        by : (b : Bool) → is_text (codes "thread") (name_in (lexeme_of t.kind)) ≡ b → when (b && nat_le (length r.threads) most_threads) (at r ThreadPrograms.AtThreadName) ≡ None
             → Shown o text (fault_for m t.span.start (if b then ManyThreads else Form))
         by true e none =
             past (lexemes front) (Named (codes "thread")) refl (word_named o r (codes "thread") (lexeme_of t.kind) e)
             (faults.Threads (record { names = r.names; threads = r.threads }) (tokens_spell o r (lexemes front) (formed_of front (t ∷ ts) refl) read)
-            (not_most (length r.threads) (when_none (nat_le (length r.threads) 16) (at r ThreadPrograms.AtThreadName) none)))
-        by false e none = form (at r ThreadPrograms.AtThread) read (ap (λ b. when (b && nat_le (length r.threads) 16) (at r ThreadPrograms.AtThreadName)) e)
+            (not_most (length r.threads) (when_none (nat_le (length r.threads) most_threads) (at r ThreadPrograms.AtThreadName) none)))
+        by false e none = form (at r ThreadPrograms.AtThread) read (ap (λ b. when (b && nat_le (length r.threads) most_threads) (at r ThreadPrograms.AtThreadName)) e)
             (ap (λ b. if b then ManyThreads else Form) e)
 
     thread_name_fails : (r : Parts) (m : Marks) → Reads o r ThreadPrograms.AtThreadName front → SinceThread o r front → at_thread_name r (name_in (lexeme_of t.kind)) ≡ None

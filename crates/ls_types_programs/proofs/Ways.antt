@@ -1,6 +1,7 @@
 -- Each reading goes on to a program, of whichever file.
 use Rattle.std.proofs.Common.{◌≡◌, ℕ, zero, suc, ◌<◌, ◌≤◌, refl, sym, subst, ap, Bool, true, false, not, ◌&&◌, List, [], ◌∷◌, ◌++◌, length, Option, Some, None, nat_lt, nat_le, lit≤, if◌then◌else◌, bytes_eq, codes, pos, ltb-true}
 use Rattle.std.specs.Prelude.{slice_get, is_some}
+use Rattle.ls_checked.specs.Limits.{most_threads}
 use Rattle.ls_lexer.specs.declared.sign.Sign.TheVariants as signs
 use Rattle.ls_lexer.specs.declared.word.Word.TheVariants as words
 use Rattle.ls_lexer.specs.Lexemes.{Lexeme, Named, Numeral, Reserved, Marked}
@@ -235,8 +236,8 @@ module _ (o : Outcome) (names : List SetupName) where
       (λ e. (tt, λ ks m. subst (λ x. Begins (Marked signs.Semicolon) (LeftCalls names (gives r)) (x ∷ ks)) (sym (sign_is signs.Semicolon k (both (is_sign signs.Semicolon k) (nat_lt (length r.calls) 256) e).0)) (By m)))
 
   thread_leads : (r : Parts) (k : Lexeme) → gives r ≡ false → Leads r ThreadPrograms.AtThread k (at_thread r k)
-  thread_leads r k later = when_leads r ThreadPrograms.AtThread k (is_text (codes "thread") (name_in k) && nat_le (length r.threads) 16) (at r ThreadPrograms.AtThreadName)
-      (λ e. (later, λ ks m. (later, subst (λ x. LeftThreads names (x ∷ ks)) (sym (word_named o r (codes "thread") k (both (is_text (codes "thread") (name_in k)) (nat_le (length r.threads) 16) e).0)) m.1)))
+  thread_leads r k later = when_leads r ThreadPrograms.AtThread k (is_text (codes "thread") (name_in k) && nat_le (length r.threads) most_threads) (at r ThreadPrograms.AtThreadName)
+      (λ e. (later, λ ks m. (later, subst (λ x. LeftThreads names (x ∷ ks)) (sym (word_named o r (codes "thread") k (both (is_text (codes "thread") (name_in k)) (nat_le (length r.threads) most_threads) e).0)) m.1)))
 
   thread_name_leads : (r : Parts) (k : Lexeme) → gives r ≡ false → Leads r ThreadPrograms.AtThreadName k (at_thread_name r (name_in k))
   thread_name_leads r k later = by (name_in k) refl

@@ -2,6 +2,7 @@
 use Rattle.std.specs.Prelude.{slice_get}
 use Rattle.std.proofs.Common.{◌≡◌, ℕ, suc, ◌≤◌, refl, sym, ◌∙◌, subst, ap, Bool, true, false, List, [], ◌∷◌, length, Option, Some, None, nat_le, leb-true, lit≤, arith, if◌then◌else◌, codes}
 use Rattle.std.proofs.lemmas.Bool.{le-leb}
+use Rattle.ls_checked.specs.Limits.{most_threads}
 use Rattle.ls_lexer.specs.declared.sign.Sign.TheVariants as signs
 use Rattle.ls_lexer.specs.Lexemes.{Lexeme, Named, Marked}
 use Rattle.ls_lexer.specs.Formed.{IsFormed}
@@ -44,12 +45,12 @@ tokens_spell o f ks formed e =
         parts = h.after.parts;
         gives = subst (λ cs. AreCallsOf o true [] cs f.names) (sym h.joined) h.are;
         calls = h.few (lit≤ tt);
-        few = at_most (t ∷ h.after.ts) h.after.ts refl (subst (λ ts. length ts ≤ 17) h.after.parts (h.after.few (lit≤ tt)));
+        few = at_most (t ∷ h.after.ts) h.after.ts refl (subst (λ ts. length ts ≤ suc most_threads) h.after.parts (h.after.few (lit≤ tt)));
         others = h.after.are;
       };
     }
   where
-    at_most : (all ts : List ThreadProgram) → length all ≡ suc (length ts) → length all ≤ 17 → length ts ≤ 16
+    at_most : (all ts : List ThreadProgram) → length all ≡ suc (length ts) → length all ≤ suc most_threads → length ts ≤ most_threads
     at_most all ts e h = omega (arith, e, h)
 
 read_spells : (o : Outcome) (text : Text) (f : Parts) (ks : List Lexeme) → length text ≤ 262144 → tokens_of text ≡ Some ks
@@ -83,7 +84,7 @@ reads o text p e = by_length (nat_le (length text) 262144) refl e
 -- ---- and what is spelled is read
 
 spelled_reads : (o : Outcome) (names : List SetupName) (setup : List ProgramCall) (ts : List ThreadProgram) (ks rest : List Lexeme)
-    → AreCallsOf o true [] setup names → length setup ≤ 256 → length ts ≤ 16
+    → AreCallsOf o true [] setup names → length setup ≤ 256 → length ts ≤ most_threads
     → AreThreadsOf o names (record { name = codes "setup"; calls = setup } ∷ []) ts → spelled.Calls true names setup ks rest → Threads names ts rest
     → program_of_tokens o (Some (Named (codes "setup") ∷ Marked signs.OpenBrace ∷ ks)) ≡ Some (record { names = names; threads = record { name = codes "setup"; calls = setup } ∷ ts })
 spelled_reads o names setup ts ks rest gives few_calls few are calls threads =
@@ -92,7 +93,7 @@ spelled_reads o names setup ts ks rest gives few_calls few are calls threads =
     let next = threads_read o are threads first.1 (lit≤ tt) (one_more few) in
     ap whole (first.0 ∙ next)
   where
-    one_more : length ts ≤ 16 → suc (length ts) ≤ 17
+    one_more : length ts ≤ most_threads → suc (length ts) ≤ suc most_threads
     one_more h = omega (arith, h)
 
 pub tokens_read : (o : Outcome) (p : Program) (ks : List Lexeme) → Spells p ks → IsProgramOf o p → program_of_tokens o (Some ks) ≡ Some p
@@ -102,7 +103,7 @@ tokens_read o p ks (spelled.Whole {names = names} {calls = calls} {ts = ts} {ks 
     spelled_reads o names calls ts ls rest
     (subst (λ cs. AreCallsOf o true [] cs names) (sym e.0) h.gives)
     (subst (λ (cs : List ProgramCall). length cs ≤ 256) (sym e.0) h.calls)
-    (subst (λ (us : List ThreadProgram). length us ≤ 16) (sym e.1) h.few)
+    (subst (λ (us : List ThreadProgram). length us ≤ most_threads) (sym e.1) h.few)
     (subst (λ cs. AreThreadsOf o names (record { name = codes "setup"; calls = cs } ∷ []) ts) (sym e.0) (subst (λ us. AreThreadsOf o names (record { name = codes "setup"; calls = h.setup } ∷ []) us) (sym e.1) h.others))
     cs more
   where

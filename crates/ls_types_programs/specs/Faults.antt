@@ -1,6 +1,7 @@
 -- Why no program of a file goes on so: a fault of the tokens before a place, and of those from the place up to where the
 -- fault shows.
 use Rattle.std.specs.Prelude.{◌≡◌, ◌≢◌, ℕ, ◌<◌, ◌≤◌, List, [], ◌∷◌, ◌++◌, length, Some, None, codes, slice_get}
+use Rattle.ls_checked.specs.Limits.{most_threads, most_calls}
 use Rattle.ls_lexer.specs.Lexemes.{Lexeme, Named, Reserved, Marked}
 use Rattle.ls_lexer.specs.declared.word.Word.TheVariants as words
 use Rattle.ls_lexer.specs.declared.sign.Sign.TheVariants as signs
@@ -79,11 +80,11 @@ pub data IsReference (o : Outcome) : List Lexeme → List Lexeme → Type 0 wher
       → method_named (methods_in (slice_get o.signs s.class)) method ≡ Some m → (IsPlain m.result → ⊥)
       → IsReference o (ks ++ Named s.name ∷ Marked signs.Dot ∷ []) (Named method ∷ [])
 
--- a seventeenth thread beside the setup, or a thread's call behind 256 others
+-- a thread beside the setup and as many others as there may be, or a thread's call after as many others
 pub data IsPast (o : Outcome) : List Lexeme → Type 0 where
-  Threads : {ks : List Lexeme} (p : Program) → AreWhole o p ks → 16 < length p.threads → IsPast o (ks ++ Named (codes "thread") ∷ [])
+  Threads : {ks : List Lexeme} (p : Program) → AreWhole o p ks → most_threads < length p.threads → IsPast o (ks ++ Named (codes "thread") ∷ [])
   Calls : {ks front js : List Lexeme} (p : Program) (ts : List ThreadProgram) (t : ThreadProgram) (callee : Text) (types : List ValueType) (vs : List Value)
-      → IsBefore o p ks → p.threads ≡ ts ++ t ∷ [] → 256 ≤ length t.calls → IsCallee o p front callee types → Arguments vs js [] → AreFor types vs
+      → IsBefore o p ks → p.threads ≡ ts ++ t ∷ [] → most_calls ≤ length t.calls → IsCallee o p front callee types → Arguments vs js [] → AreFor types vs
       → IsPast o (ks ++ front ++ Named callee ∷ Marked signs.OpenParen ∷ js ++ Marked signs.Semicolon ∷ [])
 
 -- no program of the file goes on so

@@ -1,5 +1,6 @@
 -- Which programs are programs of a file.
 use Rattle.std.specs.Prelude.{◌≡◌, ◌≢◌, ℕ, ◌≤◌, Bool, true, false, List, [], ◌∷◌, ◌++◌, length, map, Option, Some, None, codes, slice_get}
+use Rattle.ls_checked.specs.Limits.{most_threads, most_calls}
 use Rattle.ls_lexer.specs.Lexemes.{Lexeme}
 use Rattle.ls_lexer.specs.Tokens.{tokens_of}
 use Rattle.ls_events.specs.declared.value.Value.{Value}
@@ -55,24 +56,24 @@ pub data AreCallsOf (o : Outcome) (in_setup : Bool) : List SetupName → List Pr
       → AreCallsOf o in_setup names cs all
       → AreCallsOf o in_setup names (Calling n m.number name m.result vs ∷ cs) all
 
--- Threads behind those that are there: each has a name of its own, other than `all`, at most 256 calls, and gives no
+-- Threads behind those that are there: each has a name of its own, other than `all`, at most `most_calls` calls, and gives no
 -- setup name.
 pub data AreThreadsOf (o : Outcome) (names : List SetupName) : List ThreadProgram → List ThreadProgram → Type 0 where
   End : {before : List ThreadProgram} → AreThreadsOf o names before []
   Thread : {before ts : List ThreadProgram} (t : ThreadProgram)
       → t.name ≢ codes "all" → IsNewThread before t.name
-      → length t.calls ≤ 256 → AreCallsOf o false names t.calls names
+      → length t.calls ≤ most_calls → AreCallsOf o false names t.calls names
       → AreThreadsOf o names (before ++ t ∷ []) ts
       → AreThreadsOf o names before (t ∷ ts)
 
--- The program of a file: thread 0 is named `setup` and gives the setup names; at most 16 threads stand beside it.
+-- The program of a file: thread 0 is named `setup` and gives the setup names; at most `most_threads` threads stand beside it.
 pub record IsProgramOf (o : Outcome) (p : Program) : Type 0 where
   pub setup : List ProgramCall
   pub threads : List ThreadProgram
   pub parts : p.threads ≡ record { name = codes "setup"; calls = setup } ∷ threads
   pub gives : AreCallsOf o true [] setup p.names
-  pub calls : length setup ≤ 256
-  pub few : length threads ≤ 16
+  pub calls : length setup ≤ most_calls
+  pub few : length threads ≤ most_threads
   pub others : AreThreadsOf o p.names (record { name = codes "setup"; calls = setup } ∷ []) threads
 
 -- The text is not too long, its tokens spell the program, and that is a program of the file.

@@ -1,5 +1,6 @@
 -- Thread programs: `setup { s = new C(1); s.m(true); } thread A { s.m(false); }`, token by token.
 use Rattle.std.specs.Prelude.{ℕ, nat_lt, Bool, true, false, not, ◌&&◌, ◌||◌, List, [], ◌∷◌, ◌++◌, length, Option, Some, None, codes, bytes_eq, if◌then◌else◌, slice_get, is_some, nat_le}
+use Rattle.ls_checked.specs.Limits.{most_threads, most_calls}
 use denote.Enum.Bare.{sameb}
 use Rattle.ls_lexer.specs.declared.sign.Sign.{Sign}
 use Rattle.ls_lexer.specs.declared.sign.Sign.TheVariants as signs
@@ -17,13 +18,7 @@ use Rattle.ls_types_elaboration.specs.Known.{number_of}
 use Rattle.ls_types_elaboration.specs.Elaboration.{Outcome}
 use Rattle.ls_types_programs.specs.ProgramCalls.{Pending, setup_named, maker, called_on, with_argument, is_full, plain_number, minus_number, call_of, names_after}
 
--- threads beside the setup; calls of a thread, the setup too; bytes of the text
-abbrev pub most_threads : ℕ
-most_threads = 16
-
-abbrev pub most_calls : ℕ
-most_calls = 256
-
+-- bytes of the text
 abbrev pub most_bytes : ℕ
 most_bytes = 262144
 

@@ -29,7 +29,7 @@ use std::alloc::{AllocError, Global};
 use std::mem;
 
 /// The most threads beside the setup.
-pub const MOST_THREADS: usize = 16;
+pub const MOST_THREADS: usize = 64;
 
 /// The most calls of a thread, the setup too.
 pub const MOST_CALLS: usize = 256;

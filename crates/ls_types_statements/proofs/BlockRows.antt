@@ -31,3 +31,6 @@ if_read s c a o span is = ap placed_statement is ∙ ap (if_of (placed c) (place
 
 pub try_read : (s : Statement) (b f : Block) (span : Span) → s ≡ statements.Try b f span → placed_statement s ≡ trees.Try (placed_items b.items.items) (placed_items f.items.items)
 try_read s b f span is = ap placed_statement is ∙ (λ i. trees.Try (row_read b.items i) (row_read f.items i))
+
+pub synchronized_read : (s : Statement) (e : Expr) (b : Block) (span : Span) → s ≡ statements.Synchronized e b span → placed_statement s ≡ trees.Synchronized (placed e) (placed_items b.items.items)
+synchronized_read s e b span is = ap placed_statement is ∙ ap (trees.Synchronized (placed e)) (row_read b.items)

@@ -3,7 +3,7 @@ use Rattle.std.proofs.Common.{◌≡◌, ℕ, suc, ◌+◌, Option, Some, None, 
 use Rattle.ls_tree.specs.declared.tree.BlockItem.{BlockItem}
 use Rattle.ls_tree.specs.declared.tree.BlockItem.TheVariants as rows
 use Rattle.ls_types_elaboration.specs.PlacedStatements.{if_of, placed_before, placed_items}
-use Rattle.ls_types_elaboration.specs.Trees.{Expression, Statement, Items, Block, Empty, If, IfElse, While, Break, Continue, Return, Try, Assign, Evaluate, NoItem, Do, Declare}
+use Rattle.ls_types_elaboration.specs.Trees.{Expression, Statement, Items, Block, Empty, If, IfElse, While, For, Break, Continue, Return, Try, Perform, Synchronized, NoItem, Do, Declare}
 
 abbrev mutual
   pub statement_nodes : Statement → ℕ
@@ -12,12 +12,13 @@ abbrev mutual
   statement_nodes (If condition first) = statement_nodes first + 1
   statement_nodes (IfElse condition first second) = statement_nodes first + statement_nodes second + 1
   statement_nodes (While label condition body) = statement_nodes body + 1
+  statement_nodes (For label opening condition updates body) = statement_nodes body + 1
   statement_nodes (Break label span) = 1
   statement_nodes (Continue label span) = 1
   statement_nodes (Return value span) = 1
   statement_nodes (Try body finally) = items_nodes body + items_nodes finally + 1
-  statement_nodes (Assign target value) = 1
-  statement_nodes (Evaluate value) = 1
+  statement_nodes (Synchronized target body) = items_nodes body + 2
+  statement_nodes (Perform simple) = 1
 
   pub items_nodes : Items → ℕ
   items_nodes NoItem = 0

@@ -1,15 +1,14 @@
 // Blocks as they are checked: their statements, and the locals in scope.
 
-ghost use Rattle.std.specs.Prelude.{◌≡◌, ◌<◌, ◌≤◌, List, OnOk, length, option_map, vec_len};
-ghost use Rattle.ls_events.specs.declared.value.ValueType.{ValueType as value_type};
+ghost use Rattle.std.specs.Prelude.{◌≡◌, ◌<◌, ◌≤◌, OnOk, length, option_map};
 ghost use Rattle.ls_types_elaboration.specs.Elaborated.{Elaborated};
 ghost use Rattle.ls_checked.specs.CheckedTree.{Literal as literal, SetSlot as set_slot};
 ghost use Rattle.ls_types_elaboration.specs.Answers.{Gives, unless_refused};
-ghost use Rattle.ls_types_elaboration.specs.Scopes.{start_of as the_start, with_variable as the_variable, with_statement as the_with_statement, initialised as the_initialised, declared as the_declared, declaration as the_declaration, may_declare as the_may_declare, Scope as the_scope};
+ghost use Rattle.ls_types_elaboration.specs.Scopes.{start_of as the_start, with_variable as the_variable, with_statement as the_with_statement, initialised as the_initialised, declared as the_declared, declaration as the_declaration, may_declare as the_may_declare, Scope as the_scope, Slots as the_slots, with_named as the_named, with_unnamed as the_unnamed};
 ghost use Rattle.ls_types_elaboration.specs.PlacedStatements.{placed_declarator, placed_declaration};
 ghost use Rattle.ls_types_elaboration.specs.Placed.{placed, placed_name};
 ghost use Rattle.ls_types_tables.specs.ByName.{known_of};
-ghost use Rattle.ls_types_statements.specs.ScopeViews.{body_of, scope_of};
+ghost use Rattle.ls_types_statements.specs.ScopeViews.{body_of, slots_of, scope_of};
 
 use ls_checked::tree::{Expression, Statement};
 use ls_events::value::{Value, ValueType};
@@ -45,6 +44,34 @@ pub struct Scope<'t> {
     pub locals: Vec<Local<'t>>,
 }
 
+/// The types of a method's slots so far, and how many of these have names (or are `this`): the others hold objects whose monitors
+/// `synchronized` locks.
+#[derive(Drop)]
+pub struct Slots {
+    pub types: Vec<ValueType>,
+    pub named: usize,
+}
+
+// One more slot with a name.
+fn with_named(slots: &mut Slots, t: ValueType) -> Result<(), AllocError>
+    requires { slots.old.named < 128 }
+    ensures grown { OnOk result (slots_of slots.new ≡ the_named (slots_of slots.old) t) }
+    ensures low { OnOk result (slots.new.named ≤ 128) }
+{
+    slots.types.push(t)?;
+    slots.named += 1;
+    Ok(())
+}
+
+/// One more slot that no name finds.
+pub fn with_unnamed(slots: &mut Slots, t: ValueType) -> Result<(), AllocError>
+    ensures grown { OnOk result (slots_of slots.new ≡ the_unnamed (slots_of slots.old) t) }
+    ensures same { OnOk result (slots.new.named ≡ slots.old.named) }
+{
+    slots.types.push(t)?;
+    Ok(())
+}
+
 /// What a local starts at.
 pub fn start_of(t: ValueType) -> Value
     ensures { result ≡ the_start t }
@@ -59,35 +86,35 @@ pub fn start_of(t: ValueType) -> Value
 /// One more variable in scope, in the next slot.
 pub fn with_variable<'t>(
     scope: &mut Scope<'t>,
-    slots: &mut Vec<ValueType>,
+    slots: &mut Slots,
     name: &'t str,
     t: ValueType,
 ) -> Result<(), AllocError>
-    requires { vec_len slots.old < 128 }
-    ensures grown { OnOk result (scope_of scope.new slots.new.items ≡ the_variable (scope_of scope.old slots.old.items) name.entry.now t) }
-    ensures low { OnOk result (vec_len slots.new ≤ 128) }
+    requires { slots.old.named < 128 }
+    ensures grown { OnOk result (scope_of scope.new (slots_of slots.new) ≡ the_variable (scope_of scope.old (slots_of slots.old)) name.entry.now t) }
+    ensures low { OnOk result (slots.new.named ≤ 128) }
 {
     scope.locals.push(Local {
         name,
         value_type: t,
-        slot: slots.len(),
+        slot: slots.types.len(),
     })?;
-    slots.push(t)?;
+    with_named(slots, t)?;
     Ok(())
 }
 
 // One more variable in scope, and the statement that gives it its start value.
 fn started<'t>(
     scope: &mut Scope<'t>,
-    slots: &mut Vec<ValueType>,
+    slots: &mut Slots,
     name: &'t str,
     t: ValueType,
 ) -> Result<(), AllocError>
-    requires { vec_len slots.old < 128 }
-    ensures grown { OnOk result (scope_of scope.new slots.new.items ≡ the_with_statement (the_variable (scope_of scope.old slots.old.items) name.entry.now t) (set_slot (length slots.old.items) (literal (the_start t)))) }
-    ensures low { OnOk result (vec_len slots.new ≤ 128) }
+    requires { slots.old.named < 128 }
+    ensures grown { OnOk result (scope_of scope.new (slots_of slots.new) ≡ the_with_statement (the_variable (scope_of scope.old (slots_of slots.old)) name.entry.now t) (set_slot (length slots.old.types.items) (literal (the_start t)))) }
+    ensures low { OnOk result (slots.new.named ≤ 128) }
 {
-    let slot = slots.len();
+    let slot = slots.types.len();
     with_variable(scope, slots, name, t)?;
     let start = Expression::Literal(start_of(t));
     scope.statements.push(Statement::SetSlot(slot, start))?;
@@ -95,14 +122,14 @@ fn started<'t>(
 }
 
 /// Whether a name may be declared: no variable in scope has it, and there is room.
-pub fn may_declare(method: Span, scope: &Scope, slots: &[ValueType], n: &Name) -> Result<(), Broken>
-    ensures may { (go : Elaborated (the_scope)) → the_may_declare method (scope_of scope.now slots.now) (placed_name n.now) go ≡ unless_refused result go }
-    ensures room { OnOk result (length slots.now < 128) }
+pub fn may_declare(method: Span, scope: &Scope, slots: &Slots, n: &Name) -> Result<(), Broken>
+    ensures may { (go : Elaborated (the_scope)) → the_may_declare method (scope_of scope.now (slots_of slots.now)) (placed_name n.now) go ≡ unless_refused result go }
+    ensures room { OnOk result (slots.now.named < 128) }
 {
     if local_named(&scope.locals, n.text.as_str()).is_some() {
         return Err(broken_at(Rule::TwiceDeclared, n.span));
     }
-    if slots.len() >= MOST_SLOTS {
+    if slots.named >= MOST_SLOTS {
         return Err(broken_at(Rule::Limit, method));
     }
     Ok(())
@@ -116,7 +143,7 @@ fn initialised(
     scope: &mut Scope,
     value: &Option<Expr>,
 ) -> Result<(), CheckFault>
-    ensures { (slots : List value_type) → Gives (λ _. scope_of scope.new slots) result (the_initialised (known_of context.entry.known) t slot (scope_of scope.old slots) (option_map placed value.now)) }
+    ensures { (slots : the_slots) → Gives (λ _. scope_of scope.new slots) result (the_initialised (known_of context.entry.known) t slot (scope_of scope.old slots) (option_map placed value.now)) }
 {
     match value {
         None => Ok(()),
@@ -138,15 +165,15 @@ fn declared<'t>(
     context: Context,
     t: ValueType,
     scope: &mut Scope<'t>,
-    slots: &mut Vec<ValueType>,
+    slots: &mut Slots,
     d: &'t Declarator,
 ) -> Result<(), CheckFault>
-    requires { vec_len slots.old ≤ 128 }
-    ensures found { Gives (λ _. scope_of scope.new slots.new.items) result (the_declared (body_of context.entry) t (scope_of scope.old slots.old.items) (placed_declarator d.entry.now)) }
-    ensures low { OnOk result (vec_len slots.new ≤ 128) }
+    requires { slots.old.named ≤ 128 }
+    ensures found { Gives (λ _. scope_of scope.new (slots_of slots.new)) result (the_declared (body_of context.entry) t (scope_of scope.old (slots_of slots.old)) (placed_declarator d.entry.now)) }
+    ensures low { OnOk result (slots.new.named ≤ 128) }
 {
     may_declare(context.span, scope, slots, &d.name)?;
-    let slot = slots.len();
+    let slot = slots.types.len();
     started(scope, slots, d.name.text.as_str(), t)?;
     initialised(context, t, slot, scope, &d.value)
 }
@@ -155,12 +182,12 @@ fn declared<'t>(
 pub fn declaration<'t>(
     context: Context,
     scope: &mut Scope<'t>,
-    slots: &mut Vec<ValueType>,
+    slots: &mut Slots,
     d: &'t Declaration,
 ) -> Result<(), CheckFault>
-    requires { vec_len slots.old ≤ 128 }
-    ensures found { Gives (λ _. scope_of scope.new slots.new.items) result (the_declaration (body_of context.entry) (scope_of scope.old slots.old.items) (placed_declaration d.entry.now)) }
-    ensures low { OnOk result (vec_len slots.new ≤ 128) }
+    requires { slots.old.named ≤ 128 }
+    ensures found { Gives (λ _. scope_of scope.new (slots_of slots.new)) result (the_declaration (body_of context.entry) (scope_of scope.old (slots_of slots.old)) (placed_declaration d.entry.now)) }
+    ensures low { OnOk result (slots.new.named ≤ 128) }
 {
     let t = type_of(context.known.names, &d.type_name)?;
     declared(context, t, scope, slots, &d.first)?;

@@ -29,13 +29,19 @@ pub returns-clause-take_past_the_most : goal.returns-clause-take_past_the_most
 returns-clause-take_past_the_most c = (refl, refl)
 
 pub returns-clause-take_sticks : goal.returns-clause-take_sticks
-returns-clause-take_sticks c = (refl, refl, refl, refl)
+returns-clause-take_sticks c = (refl, refl, refl, refl, refl)
 
 pub returns-clause-drops : goal.returns-clause-drops
 returns-clause-drops c = (refl, refl, refl)
 
 pub returns-clause-drop_sticks : goal.returns-clause-drop_sticks
-returns-clause-drop_sticks c = (refl, refl, refl, refl)
+returns-clause-drop_sticks c = (refl, refl, refl, refl, refl)
+
+pub returns-clause-lock_of_monitor : goal.returns-clause-lock_of_monitor
+returns-clause-lock_of_monitor c = (refl, refl, refl, refl, refl, refl, refl, refl)
+
+pub returns-clause-unlock_of_monitor : goal.returns-clause-unlock_of_monitor
+returns-clause-unlock_of_monitor c = (refl, refl, refl, refl, refl)
 
 pub returns-clause-two_holds_dropped : goal.returns-clause-two_holds_dropped
 returns-clause-two_holds_dropped c = (refl, refl, refl, refl)

@@ -15,8 +15,14 @@ decreases-put_if l = 4 * (statement_nodes (bare_statement l.then.now) + other_no
 abbrev pub decreases-put_while : goal.decreases-put_while
 decreases-put_while l = 4 * statement_nodes (bare_statement l.body.now) + 1
 
+abbrev pub decreases-put_for : goal.decreases-put_for
+decreases-put_for l = 4 * statement_nodes (bare_statement l.body.now) + 1
+
 abbrev pub decreases-put_try : goal.decreases-put_try
 decreases-put_try l = 4 * (items_nodes (items_of l.body.now) + items_nodes (items_of l.finally.now)) + 3
+
+abbrev pub decreases-put_synchronized : goal.decreases-put_synchronized
+decreases-put_synchronized l = 4 * items_nodes (items_of l.body.now) + 3
 
 abbrev pub decreases-put_block : goal.decreases-put_block
 decreases-put_block l = 4 * items_nodes (items_of l.items.now) + 2

@@ -41,8 +41,17 @@ decreases-if_statement l = l.limit * 20 + 14
 abbrev pub decreases-while_statement : goal.decreases-while_statement
 decreases-while_statement l = l.limit * 20 + 14
 
+abbrev pub decreases-for_statement : goal.decreases-for_statement
+decreases-for_statement l = l.limit * 20 + 14
+
+abbrev pub decreases-labelled_loop : goal.decreases-labelled_loop
+decreases-labelled_loop l = l.limit * 20 + 15
+
 abbrev pub decreases-try_statement : goal.decreases-try_statement
 decreases-try_statement l = l.limit * 20 + 14
+
+abbrev pub decreases-synchronized_statement : goal.decreases-synchronized_statement
+decreases-synchronized_statement l = l.limit * 20 + 14
 
 abbrev pub decreases-other_statement : goal.decreases-other_statement
 decreases-other_statement l = l.limit * 20 + 16

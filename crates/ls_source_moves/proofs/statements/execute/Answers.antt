@@ -6,6 +6,9 @@ wait-requires c = c.requires
 pub target_of_write-requires : goal.target_of_write-requires
 target_of_write-requires c = c.requires
 
+pub wait-requires-in-AddField : goal.wait-requires-in-AddField
+wait-requires-in-AddField c = c.requires
+
 pub wait-requires-in-SetItem : goal.wait-requires-in-SetItem
 wait-requires-in-SetItem c = c.requires
 
@@ -29,6 +32,9 @@ returns-in-SetSlot c = rw c.in-SetSlot.is c.wait.ensures
 
 pub returns-in-SetField : goal.returns-in-SetField
 returns-in-SetField c = rw c.in-SetField.is c.target_of_write.ensures
+
+pub returns-in-AddField : goal.returns-in-AddField
+returns-in-AddField c = rw c.in-AddField.is c.wait-in-AddField.ensures
 
 pub returns-in-SetItem : goal.returns-in-SetItem
 returns-in-SetItem c = rw c.in-SetItem.is c.wait-in-SetItem.ensures

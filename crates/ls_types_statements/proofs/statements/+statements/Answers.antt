@@ -2,10 +2,11 @@ use Rattle.std.proofs.Common.{rules, arith, ◌≡◌, ◌+◌, ap, sym, ◌∙�
 use Rattle.ls_types_elaboration.specs.Trees as trees
 use Rattle.ls_types_elaboration.specs.Trees.{Items}
 use Rattle.ls_types_elaboration.specs.TypedStatements.{items}
-use Rattle.ls_types_statements.specs.ScopeViews.{body_of, loops_of, scope_of}
+use Rattle.ls_types_statements.specs.ScopeViews.{body_of, loops_of, slots_of, scope_of}
+use Rattle.ls_types_elaboration.specs.Placed.{placed}
 use Rattle.ls_types_elaboration.specs.PlacedStatements.{placed_statement, placed_items, placed_before}
 use Rattle.ls_types_statements.proofs.Nodes.{statement_nodes, items_nodes, items_at, nodes_at}
-use Rattle.ls_types_statements.proofs.BlockRows.{block_read, try_read}
+use Rattle.ls_types_statements.proofs.BlockRows.{block_read, try_read, synchronized_read}
 use Rattle.ls_types_statements.proofs.statements.+statements.Goals as goal
 
 pub statement-returns-in-Block-clause-found : goal.statement-returns-in-Block-clause-found
@@ -17,6 +18,12 @@ pub statement-returns-in-Try-clause-found : goal.statement-returns-in-Try-clause
 statement-returns-in-Try-clause-found t c =
     let e : placed_statement c.args.s.now ≡ trees.Try (placed_items c.in-Try.body.items.items) (placed_items c.in-Try.finally.items.items) =
     try_read c.args.s.now c.in-Try.body c.in-Try.finally c.in-Try.span c.in-Try.is in
+    rw e (search rules)
+
+pub statement-returns-in-Synchronized-clause-found : goal.statement-returns-in-Synchronized-clause-found
+statement-returns-in-Synchronized-clause-found t c =
+    let e : placed_statement c.args.s.now ≡ trees.Synchronized (placed c.in-Synchronized.target) (placed_items c.in-Synchronized.body.items.items) =
+    synchronized_read c.args.s.now c.in-Synchronized.target c.in-Synchronized.body c.in-Synchronized.span c.in-Synchronized.is in
     rw e (search rules)
 
 pub statement-block-requires : goal.statement-block-requires
@@ -35,6 +42,14 @@ statement-try_finally-requires t c =
     let k : items_nodes (placed_items c.deref-in-Try-2.result.now) ≡ items_nodes (placed_items c.in-Try.finally.items.items) = ap (λ is. items_nodes (placed_items is)) c.deref-in-Try-2.ensures.value in
     (omega (arith, n, m, k, c.decreases), c.requires)
 
+pub statement-synchronized-requires : goal.statement-synchronized-requires
+statement-synchronized-requires t c =
+    let e : placed_statement c.args.s.now ≡ trees.Synchronized (placed c.in-Synchronized.target) (placed_items c.in-Synchronized.body.items.items) =
+    synchronized_read c.args.s.now c.in-Synchronized.target c.in-Synchronized.body c.in-Synchronized.span c.in-Synchronized.is in
+    let n : statement_nodes (placed_statement c.args.s.now) ≡ items_nodes (placed_items c.in-Synchronized.body.items.items) + 2 = ap statement_nodes e in
+    let m : items_nodes (placed_items c.deref-in-Synchronized.result.now) ≡ items_nodes (placed_items c.in-Synchronized.body.items.items) = ap (λ is. items_nodes (placed_items is)) c.deref-in-Synchronized.ensures.value in
+    (omega (arith, n, m, c.decreases), c.requires)
+
 pub all_items-one_item-requires : goal.all_items-one_item-requires
 all_items-one_item-requires t c =
     let n = nodes_at c.args.items.now c.loop-item.item-index c.item-item.result c.loop-item-test.true c.item-item.is in
@@ -45,11 +60,11 @@ all_items-loop-item-preserved t c =
     let n = nodes_at c.args.items.now c.loop-item.item-index c.item-item.result c.loop-item-test.true c.item-item.is in
     let e = items_at c.args.items.now c.loop-item.item-index c.item-item.result c.loop-item-test.true c.item-item.is in
     let rest : Items = placed_items (drop (c.loop-item.item-index + 1) c.args.items.now) in
-    let f : items (body_of c.args.round.context) (loops_of c.args.round) (scope_of c.loop-item.scope c.loop-item.slots.items) (placed_before c.item-item.result rest)
-    ≡ items (body_of c.args.round.context) (loops_of c.args.round) (scope_of c.one_item.new.scope c.one_item.new.slots.items) rest = search rules in
-    let g : items (body_of c.args.round.context) (loops_of c.args.round) (scope_of c.loop-item.scope c.loop-item.slots.items) (placed_items (drop c.loop-item.item-index c.args.items.now))
-    ≡ items (body_of c.args.round.context) (loops_of c.args.round) (scope_of c.loop-item.scope c.loop-item.slots.items) (placed_before c.item-item.result rest) =
-    ap (items (body_of c.args.round.context) (loops_of c.args.round) (scope_of c.loop-item.scope c.loop-item.slots.items)) e in
+    let f : items (body_of c.args.round.context) (loops_of c.args.round) (scope_of c.loop-item.scope (slots_of c.loop-item.slots)) (placed_before c.item-item.result rest)
+    ≡ items (body_of c.args.round.context) (loops_of c.args.round) (scope_of c.one_item.new.scope (slots_of c.one_item.new.slots)) rest = search rules in
+    let g : items (body_of c.args.round.context) (loops_of c.args.round) (scope_of c.loop-item.scope (slots_of c.loop-item.slots)) (placed_items (drop c.loop-item.item-index c.args.items.now))
+    ≡ items (body_of c.args.round.context) (loops_of c.args.round) (scope_of c.loop-item.scope (slots_of c.loop-item.slots)) (placed_before c.item-item.result rest) =
+    ap (items (body_of c.args.round.context) (loops_of c.args.round) (scope_of c.loop-item.scope (slots_of c.loop-item.slots))) e in
     record {
       room = search rules;
       few = omega (arith, n, c.loop-item.invariant.few);

@@ -24,6 +24,12 @@ returns-in-TryIt c = rw c.in-TryIt.is (rw c.reference_of-n.ensures at c.asks-in-
 pub returns-in-AskIt : goal.returns-in-AskIt
 returns-in-AskIt c = rw c.in-AskIt.is (rw c.reference_of-n.ensures at c.asks-in-AskIt.ensures)
 
+pub returns-in-HoldMonitor : goal.returns-in-HoldMonitor
+returns-in-HoldMonitor c = rw c.in-HoldMonitor.is (rw c.reference_of-n.ensures at c.asks-in-HoldMonitor.ensures)
+
+pub returns-in-FreeMonitor : goal.returns-in-FreeMonitor
+returns-in-FreeMonitor c = rw c.in-FreeMonitor.is (rw c.reference_of-n.ensures at c.asks-in-FreeMonitor.ensures)
+
 pub returns-in-GetReference : goal.returns-in-GetReference
 returns-in-GetReference c = rw c.in-GetReference.is (rw c.reference_of-n.ensures at c.read_pair.ensures)
 

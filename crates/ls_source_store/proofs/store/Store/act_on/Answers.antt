@@ -18,3 +18,7 @@ returns-else-place-len-clause-effect c =
 pub returns-in_err-effect-clause-err : goal.returns-in_err-effect-clause-err
 returns-in_err-effect-clause-err c = on_err c.from_residual.result (
     ap (λ things. record { things = things; names = c.args.self.now.names.items }) (map-set_same thing_of c.args.self.now.things.items (c.args.o - 1) c.change.new.thing c.index_mut.result.now (c.in_err-effect.ensures.err ∙ ap thing_of c.index_mut.ensures.value)))
+
+pub returns-in_ok-effect-clause-waits : goal.returns-in_ok-effect-clause-waits
+returns-in_ok-effect-clause-waits c waits =
+    ap (λ things. record { things = things; names = c.args.self.now.names.items }) (map-set_same thing_of c.args.self.now.things.items (c.args.o - 1) c.change.new.thing c.index_mut.result.now (c.in_ok-effect.ensures.waits waits ∙ ap thing_of c.index_mut.ensures.value))

@@ -1,0 +1,30 @@
+-- Completion, jumps, locals and types of the statement.
+use Rattle.std.proofs.Common.{◌≡◌, Bool, true, false, ◌&&◌, ◌||◌, refl, arith}
+use Rattle.ls_events.specs.declared.value.ValueType.TheVariants as types
+use Rattle.ls_meaning.specs.declared.sort.Sort.TheVariants.{NoValue}
+use Rattle.ls_types_completion.specs.Completion.{can_complete, breaks}
+use Rattle.ls_monitors.specs.Laws.{CompletesAsItsBlock, BreaksAsItsBlock, JumpsAsItsBlock, TakesThreeMore, IsTypedByItsParts}
+
+and_true : (a : Bool) → ((a && true) && true) ≡ a
+and_true true = refl
+and_true false = refl
+
+or_false : (a : Bool) → ((a || false) || false) ≡ a
+or_false true = refl
+or_false false = refl
+
+pub completes_as_its_block : CompletesAsItsBlock
+completes_as_its_block slot class target body = and_true (can_complete body)
+
+pub breaks_as_its_block : BreaksAsItsBlock
+breaks_as_its_block slot class n target body = or_false (breaks n body)
+
+pub jumps_as_its_block : JumpsAsItsBlock
+jumps_as_its_block slot class n target body h = (tt, (tt, ((h, tt), tt)))
+
+pub takes_three_more : TakesThreeMore
+takes_three_more m slot class target slots e = omega (arith, e)
+
+pub is_typed_by_its_parts : IsTypedByItsParts
+is_typed_by_its_parts file slots result slot class target body at typed block =
+    ((types.Class class, at, typed), ((NoValue, (refl, (types.Class class, refl, at), tt)), ((block, (NoValue, (refl, (types.Class class, refl, at), tt))), tt)))

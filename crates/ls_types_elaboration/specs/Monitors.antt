@@ -1,0 +1,13 @@
+-- The statement `synchronized (target) body` in the forms of the checked tree (JLS 14.19): the object goes into a slot of its own, its monitor
+-- is locked, and it is unlocked however the body completes.
+use Rattle.std.specs.Prelude.{ℕ}
+use Rattle.ls_checked.specs.declared.tree.Called.TheVariants.{HoldMonitor, FreeMonitor}
+use Rattle.ls_checked.specs.CheckedTree.{Expression, Slot, Call, End, Statement, Block, SetSlot, Evaluate, Try, Done, Then}
+
+abbrev pub synchronized : ℕ → ℕ → Expression → Statement → Statement
+synchronized slot class target body =
+    Block (
+    Then (SetSlot slot target) (
+    Then (Evaluate (Call (Slot slot) (HoldMonitor class) End)) (
+    Then (Try body (Evaluate (Call (Slot slot) (FreeMonitor class) End)))
+    Done)))
