@@ -54,7 +54,7 @@ fn seeds_from(alloc: Global, first: u64, count: usize) -> Result<Vec<u64>, Alloc
 /// it has ended, trapped or stopped, at most 100,000, then the seed's sample of so many steps of the other threads. It is the
 /// same for every number of processors, each of which runs a part of the seeds. The image runs as its texts, so each
 /// history is one of the Java text.
-/// `BadCells` comes where there are no cells, more than 1,048,576, or fewer than setup names. Otherwise `BadCount` comes where
+/// `BadCells` comes where there are no cells, more than 4,194,304, or fewer than setup names. Otherwise `BadCount` comes where
 /// there are no seeds, more than 100,000, a seed past the greatest `u64`, or more than 900,000 steps.
 pub fn batch(
     rt: &(impl Threads + Sync),

@@ -11,7 +11,7 @@ use thiserror::Error;
 pub enum BatchFault {
     #[error("out of memory")]
     Memory,
-    /// No cells, more than 1,048,576, or fewer than setup names.
+    /// No cells, more than 4,194,304, or fewer than setup names.
     #[error("bad number of cells")]
     BadCells,
     /// No seeds, more than 100,000, a seed past the greatest `u64`, or more than 900,000 steps.

@@ -3,7 +3,7 @@ use Rattle.std.proofs.Common.{◌↔◌, Result, Ok, Err, subst}
 use Rattle.std.specs.Prelude.{IsErrOf, String}
 use Rattle.std.specs.Global.{Global}
 use Rattle.ls_image.specs.Images.{Compiles}
-use Rattle.ls_compiler.specs.Answers.{CompilesTo}
+use Rattle.ls_compiler.specs.Answers.{CompilesTo, IsWithinLimits}
 use Rattle.ls_compiler.specs.declared.fault.CompileFault.{CompileFault}
 use Rattle.ls_image.specs.declared.image.Image.{Image}
 use Rattle.ls_report.specs.Events.{Text}
@@ -19,8 +19,8 @@ pub not_compiled : (classes program : Text) (May : Image → Result Text ToolFau
 not_compiled classes program May f h = fails (AnswersOn classes program May) (lifted_compile f) (NotCompiled f h)
 
 pub on_image : (classes program : Text) (May : Image → Result Text ToolFault → Type 0) (image : Image) (r : Result (String Global) ToolFault) →
-    Compiles classes program image → Gives (May image) r → Gives (AnswersOn classes program May) r
-on_image classes program May image r compiles given = wider (May image) (AnswersOn classes program May) r (λ a h. OnImage image a compiles h) given
+    Compiles classes program image → IsWithinLimits image → Gives (May image) r → Gives (AnswersOn classes program May) r
+on_image classes program May image r compiles limits given = wider (May image) (AnswersOn classes program May) r (λ a h. OnImage image a compiles limits h) given
 
 abbrev is_answer : {A E : Type 0} → Result A E → Type 0
 is_answer (Ok x) = Unit {0}

@@ -10,7 +10,6 @@ use Rattle.ls_schedule.specs.Printing.{schedule_text}
 use Rattle.ls_schedule.specs.Records.{happened, IsRecordOf, scheduled}
 use Rattle.ls_schedule.specs.declared.fault.ScheduleFault.{ScheduleFault}
 use Rattle.ls_schedule.specs.declared.replaying.Record.{Record}
-use Rattle.ls_live.specs.Records.{IsDone}
 use Rattle.ls_live.specs.declared.fault.LiveFault.TheVariants as opening
 use Rattle.ls_live.specs.declared.fault.PlayFault.{PlayFault as LiveFault}
 use Rattle.ls_live.specs.declared.fault.PlayFault.TheVariants as live
@@ -23,7 +22,7 @@ use Rattle.ls_faults.specs.Faults.{lifted_live, lifted_turns}
 use Rattle.ls_faults.specs.Given.{Gives}
 use Rattle.ls_commands.proofs.Answering.{not_refused}
 use Rattle.ls_commands.specs.Compiled.{names_of_image, NoCells as TooFewOrMany, plain_program_of, Replayed, Runs}
-use Rattle.ls_commands.specs.Lived.{AsReplayed, BadLimit, Disagree, Lived, Lives, NoCells, NotFollowed, NoThread, ReplayedLive}
+use Rattle.ls_commands.specs.Lived.{AreLived, AsReplayed, BadLimit, Disagree, Lived, Lives, NoCells, NoMore, NotFollowed, NoThread, ReplayedLive, lived_history, lived_schedule}
 
 module _ (i : Image) (cells : ℕ) where
   abbrev Bad : Type 0
@@ -36,25 +35,27 @@ module _ (i : Image) (cells : ℕ) where
     abbrev Unlived : LiveFault → Result Record LiveFault
     Unlived f = Err f
 
-    pub live_fails : (f : LiveFault) → (IsErrOf (Unlived f) (live.Open opening.BadLimit) ↔ (1000000 < limit)) → (IsErrOf (Unlived f) (live.Open opening.BadCells) ↔ ((limit ≤ 1000000) × Bad)) →
-        Gives (Lived i cells limit) (Err (lifted_live f))
-    live_fails (live.Open opening.Memory) large bad = tt
-    live_fails (live.Open opening.BadCells) large bad = NoCells (bad.0 refl).0 (bad.0 refl).1
-    live_fails (live.Open opening.BadLimit) large bad = BadLimit (large.0 refl)
-    live_fails live.NoThread large bad = NoThread
-    live_fails live.Disagree large bad = Disagree
+    pub live_fails : (f : LiveFault) → (IsErrOf (Unlived f) (live.Open opening.BadCells) ↔ Bad) → (IsErrOf (Unlived f) (live.Open opening.BadLimit) ↔ (¬ Bad × (1000000 < limit))) →
+        Gives (Lived i cells limit NoMore) (Err (lifted_live f))
+    live_fails (live.Open opening.Memory) bad large = tt
+    live_fails (live.Open opening.BadCells) bad large = NoCells (bad.0 refl)
+    live_fails (live.Open opening.BadLimit) bad large = BadLimit (large.0 refl).0 (large.0 refl).1
+    live_fails live.NoThread bad large = NoThread
+    live_fails live.Disagree bad large = Disagree
 
-    within : (r : Record) → (IsErrOf {E = LiveFault} (Ok r) (live.Open opening.BadLimit) ↔ (1000000 < limit)) → limit ≤ 1000000
-    within r large = let no = not_refused r (live.Open opening.BadLimit) (1000000 < limit) large in omega (arith, no)
+    within : (r : Record) → ¬ Bad → (IsErrOf {E = LiveFault} (Ok r) (live.Open opening.BadLimit) ↔ (¬ Bad × (1000000 < limit))) → limit ≤ 1000000
+    within r good large =
+        let no : ¬ (1000000 < limit) = λ h. not_refused r (live.Open opening.BadLimit) (¬ Bad × (1000000 < limit)) large (good, h) in
+        omega (arith, no)
 
-    pub live_runs : (r : Record) (t : Text) → (IsErrOf {E = LiveFault} (Ok r) (live.Open opening.BadLimit) ↔ (1000000 < limit)) →
-        (IsErrOf {E = LiveFault} (Ok r) (live.Open opening.BadCells) ↔ ((limit ≤ 1000000) × Bad)) → IsRecordOf (code_of_image i) cells (scheduled r) r → length (scheduled r) ≤ limit → IsDone (code_of_image i) cells limit r →
-        t ≡ schedule_text (names_of_image i) (scheduled r) ++ lines r → Lived i cells limit (Ok t)
-    live_runs r t large bad is few done said =
-        let good : ¬ Bad = λ b. not_refused r (live.Open opening.BadCells) ((limit ≤ 1000000) × Bad) bad (within r large, b) in
-        let text : t ≡ schedule_text (names_of_image i) (scheduled r) ++ run_text (plain_program_of i) (machine_history (code_of_image i) cells (scheduled r)) =
+    pub live_runs : (r : Record) (t : Text) → (IsErrOf {E = LiveFault} (Ok r) (live.Open opening.BadCells) ↔ Bad) →
+        (IsErrOf {E = LiveFault} (Ok r) (live.Open opening.BadLimit) ↔ (¬ Bad × (1000000 < limit))) → IsRecordOf (code_of_image i) cells (scheduled r) r →
+        AreLived (code_of_image i) cells limit (scheduled r) → t ≡ schedule_text (names_of_image i) (scheduled r) ++ lines r → Lived i cells limit NoMore (Ok t)
+    live_runs r t bad large is lived said =
+        let good : ¬ Bad = not_refused r (live.Open opening.BadCells) Bad bad in
+        let text : t ≡ lived_schedule i (scheduled r) ++ lived_history i cells (scheduled r) =
         said ∙ ap (λ es. schedule_text (names_of_image i) (scheduled r) ++ run_text (plain_program_of i) es) is.history in
-        subst (λ x. Lived i cells limit (Ok x)) (sym text) (Lives (scheduled r) (within r large) good few done)
+        subst (λ x. Lived i cells limit NoMore (Ok x)) (sym text) (Lives (scheduled r) good (within r good large) lived tt)
 
   module _ (read : Result (List ℕ) ScheduleFault) (steps : List ℕ) (reads : read ≡ Ok steps) where
     abbrev Unfollowed : TurnsFault → Result Record TurnsFault

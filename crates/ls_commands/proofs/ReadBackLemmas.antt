@@ -1,29 +1,34 @@
 -- What is printed of runs reads back.
-use Rattle.std.proofs.Common.{◌≡◌, ◌<◌, ◌^◌, ℕ, List, Result, refl, inl, inr, arith}
-use Rattle.std.specs.Prelude.{String}
+use Rattle.std.proofs.Common.{◌≡◌, ◌<◌, ◌≤◌, ◌∙◌, ℕ, List, length, Result, Ok, sym, subst, inl, inr, arith}
+use Rattle.std.specs.Prelude.{All, String}
+use Rattle.std.proofs.lemmas.List.{length-map}
 use Rattle.std.specs.Global.{Global}
+use Rattle.ls_checked.specs.PlainProgram.{plain_thread}
+use Rattle.ls_code.specs.Limits.{most_cells}
 use Rattle.ls_code.specs.Code.{Code}
 use Rattle.ls_code.specs.Machine.{machine_history}
 use Rattle.ls_headline.specs.Same.{IsCells}
 use Rattle.ls_machine.specs.Room.{AreBadCells}
-use Rattle.ls_image.specs.Images.{code_of_image, Compiles}
+use Rattle.ls_types.specs.CheckedFile.{outcome_of}
+use Rattle.ls_image.specs.Images.{checked_of, code_of_image, Compiles, program_of_image}
 use Rattle.ls_image.specs.declared.image.Image.{Image}
-use Rattle.ls_schedule.specs.Reading.{schedule_of}
+use Rattle.ls_schedule.specs.Reading.{schedule_of, thread_name}
 use Rattle.ls_schedule.specs.declared.fault.ScheduleFault.{ScheduleFault}
 use Rattle.ls_report.specs.Events.{Text}
 use Rattle.ls_report.specs.Printing.{run_text}
 use Rattle.ls_text_laws.specs.Histories.{CompiledIsReadable}
+use Rattle.ls_text_laws.specs.Schedules.{SchedulesReadBack}
 use Rattle.ls_faults.proofs.Answering.{wider}
 use Rattle.ls_commands.specs.Compiled.{names_of_image, NoCells, NoSchedule, plain_program_of, Replayed, ReplayedOf, Runs}
-use Rattle.ls_commands.specs.Lived.{AsReplayed, BadLimit, Disagree, Lived, LivedOf, Lives, NoCells as TooFewOrMany, NotFollowed, NoThread, ReplayedLive, ReplayedLiveOf}
-use Rattle.ls_faults.specs.ReadBack.{IsHistoryText, ReadsBack, ReadsBackBehind}
+use Rattle.ls_commands.specs.Lived.{AreLived, AsReplayed, BadLimit, Disagree, Lived, LivedOf, Lives, NoCells as TooFewOrMany, NoMore, NotFollowed, NoThread, ReadsBackAs, ReplayedLive, ReplayedLiveOf, lived_history, lived_schedule}
+use Rattle.ls_faults.specs.ReadBack.{IsHistoryText, ReadsBack}
 use Rattle.ls_faults.specs.Given.{Gives}
 use Rattle.ls_faults.specs.declared.fault.ToolFault.{ToolFault}
 
 are_cells : (code : Code) (cells : ℕ) → ¬ AreBadCells code.names cells → IsCells code cells
 are_cells code cells good = record {
   some = let h : cells ≡ 0 → ⊥ = λ e. good (inl e) in omega arith;
-  most = let h : 2 ^ 20 < cells → ⊥ = λ e. good (inr (inl e)) in omega arith;
+  most = let h : most_cells < cells → ⊥ = λ e. good (inr (inl e)) in omega arith;
   names = let h : cells < code.names → ⊥ = λ e. good (inr (inr e)) in omega arith;
 }
 
@@ -42,18 +47,41 @@ module _ (readable : CompiledIsReadable) (classes program : Text) (i : Image) (c
   replayed_live_back (AsReplayed answer h) = replayed_back h
   replayed_live_back (NotFollowed steps f e h) = tt
 
-  lived_back : {limit : ℕ} {a : Result Text ToolFault} → Lived i cells limit a → ReadsBackBehind (names_of_image i) a
-  lived_back (Lives steps few good short done) = (steps, run_text (plain_program_of i) (machine_history (code_of_image i) cells steps), refl, printed steps good)
-  lived_back (BadLimit large) = tt
-  lived_back (TooFewOrMany few bad) = tt
-  lived_back NoThread = tt
-  lived_back Disagree = tt
-
   pub replayed_of : (s : Text) (r : Result (String Global) ToolFault) → Gives (Replayed i cells (schedule_of (names_of_image i) s)) r → Gives (ReplayedOf cells s i) r
   replayed_of s r g = wider (Replayed i cells (schedule_of (names_of_image i) s)) (ReplayedOf cells s i) r (λ a h. (h, replayed_back h)) g
 
   pub replayed_live_of : (s : Text) (r : Result (String Global) ToolFault) → Gives (ReplayedLive i cells (schedule_of (names_of_image i) s)) r → Gives (ReplayedLiveOf cells s i) r
   replayed_live_of s r g = wider (ReplayedLive i cells (schedule_of (names_of_image i) s)) (ReplayedLiveOf cells s i) r (λ a h. (h, replayed_live_back h)) g
 
-  pub lived_of : (limit : ℕ) (r : Result (String Global) ToolFault) → Gives (Lived i cells limit) r → Gives (LivedOf cells limit i) r
-  lived_of limit r g = wider (Lived i cells limit) (LivedOf cells limit i) r (λ a h. (h, lived_back h)) g
+  -- as many names as threads that run
+  names_count : length (names_of_image i) ≡ length (code_of_image i).starts
+  names_count =
+      length-map (program_of_image i).threads.items thread_name
+      ∙ sym (length-map (program_of_image i).threads.items plain_thread)
+      ∙ sym compiles.runs.same.threads
+
+  module _ (prints : SchedulesReadBack) (limit : ℕ) where
+    read_again : (steps : List ℕ) → limit ≤ 1000000 → AreLived (code_of_image i) cells limit steps → schedule_of (names_of_image i) (lived_schedule i steps) ≡ Ok steps
+    read_again steps most lived =
+        let few = lived.few in
+        prints (outcome_of (checked_of i)) program (program_of_image i) steps compiles.reads
+        (record { there = subst (λ n. All (λ t. t < n) steps) (sym names_count) lived.there; short = omega arith })
+
+    reads_back_as : (steps : List ℕ) → ¬ AreBadCells (code_of_image i).names cells → limit ≤ 1000000 → AreLived (code_of_image i) cells limit steps → ReadsBackAs i cells steps
+    reads_back_as steps good most lived =
+        let again = read_again steps most lived in
+        record {
+          schedule = again;
+          replays = subst (λ r. Replayed i cells r (Ok (lived_history i cells steps))) (sym again) (Runs steps good);
+          history = printed steps good;
+        }
+
+    lived_back : {a : Result Text ToolFault} → Lived i cells limit NoMore a → LivedOf cells limit i a
+    lived_back (Lives steps good most lived more) = Lives steps good most lived (reads_back_as steps good most lived)
+    lived_back (TooFewOrMany bad) = TooFewOrMany bad
+    lived_back (BadLimit good large) = BadLimit good large
+    lived_back NoThread = NoThread
+    lived_back Disagree = Disagree
+
+    pub lived_of : (r : Result (String Global) ToolFault) → Gives (Lived i cells limit NoMore) r → Gives (LivedOf cells limit i) r
+    lived_of r g = wider (Lived i cells limit NoMore) (LivedOf cells limit i) r (λ a h. lived_back h) g

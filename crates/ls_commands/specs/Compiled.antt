@@ -8,7 +8,7 @@ use Rattle.ls_types.specs.CheckedFile.{outcome_of}
 use Rattle.ls_code.specs.Machine.{machine_history}
 use Rattle.ls_machine.specs.Room.{AreBadCells}
 use Rattle.ls_image.specs.Images.{checked_of, code_of_image, Compiles, program_of_image}
-use Rattle.ls_compiler.specs.Answers.{CompilesTo}
+use Rattle.ls_compiler.specs.Answers.{CompilesTo, IsWithinLimits}
 use Rattle.ls_compiler.specs.declared.fault.CompileFault.{CompileFault}
 use Rattle.ls_image.specs.declared.image.Image.{Image}
 use Rattle.ls_schedule.specs.Reading.{schedule_of, thread_names}
@@ -32,7 +32,7 @@ names_of_image i = thread_names (program_of_image i)
 -- The two texts are compiled to an image that runs as both, and the answer is one that may be given on it; or they are
 -- refused, and the answer is their fault.
 pub data AnswersOn (classes program : Text) (May : Image → Result Text ToolFault → Type 0) : Result Text ToolFault → Type 0 where
-  OnImage : (image : Image) (answer : Result Text ToolFault) → Compiles classes program image → May image answer → AnswersOn classes program May answer
+  OnImage : (image : Image) (answer : Result Text ToolFault) → Compiles classes program image → IsWithinLimits image → May image answer → AnswersOn classes program May answer
   NotCompiled : (f : CompileFault) → CompilesTo classes program (Err f) → AnswersOn classes program May (Err (lifted_compile f))
 
 -- constructors count as methods, and the setup, which stands first, as no thread

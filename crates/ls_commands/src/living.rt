@@ -3,7 +3,7 @@
 ghost use Rattle.std.specs.Prelude.{IfOk, ◌≡◌, ◌++◌, string_bytes};
 ghost use Rattle.ls_checked.specs.PlainProgram.{plain_program};
 ghost use Rattle.ls_commands.specs.Compiled.{names_of_image};
-ghost use Rattle.ls_commands.specs.Lived.{Lived, LivesTo, ReplayedLive, ReplaysLiveTo};
+ghost use Rattle.ls_commands.specs.Lived.{Lived, LivesTo, NoMore, ReplayedLive, ReplaysLiveTo};
 ghost use Rattle.ls_faults.specs.Given.{Gives};
 ghost use Rattle.ls_report.specs.Printing.{run_text};
 ghost use Rattle.ls_schedule.specs.Printing.{schedule_text};
@@ -18,7 +18,7 @@ use ls_image::image::Image;
 use ls_live::{Gate, play_live};
 use ls_report::print_history;
 use ls_schedule::{Record, print_schedule, read_schedule};
-use ls_text_laws::compiled_is_readable;
+use ls_text_laws::{compiled_is_readable, schedules_read_back};
 use std::alloc::{AllocError, Global};
 use std::sync::Wait;
 use std::thread::Threads;
@@ -49,13 +49,14 @@ fn lived<R: Threads + Wait + Sync>(
     cells: usize,
     limit: usize,
 ) -> Result<String, ToolFault>
-    ensures { Gives (Lived image.now cells limit) result }
+    ensures { Gives (Lived image.now cells limit NoMore) result }
 {
     let record = play_live(rt, alloc, image, cells, limit, &Open)?;
     Ok(record_text(alloc, &record, image.program())?)
 }
 
-/// A live run of the compiled program: the schedule that was recorded, and its history.
+/// A live run of the compiled program: the schedule that was recorded, of steps that are each of a thread that is due, and its
+/// history. `replay` of what is printed of the schedule prints that history.
 pub fn live<R: Threads + Wait + Sync>(
     rt: &R,
     alloc: Global,
@@ -68,6 +69,7 @@ pub fn live<R: Threads + Wait + Sync>(
 {
     let image = compile(alloc, classes, program)?;
     compiled_is_readable();
+    schedules_read_back();
     lived(rt, alloc, &image, cells, limit)
 }
 

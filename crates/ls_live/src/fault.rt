@@ -12,7 +12,7 @@ pub enum LiveFault {
     /// Memory ran out.
     #[error("out of memory")]
     Memory,
-    /// 35: no cells, more than 1,048,576, or fewer than setup names.
+    /// 35: no cells, more than 4,194,304, or fewer than setup names.
     #[error("bad number of cells")]
     BadCells,
     /// 51: more than 1,000,000 steps.

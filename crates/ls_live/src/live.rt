@@ -7,13 +7,14 @@ ghost use Rattle.ls_live_book.specs.Seats.{Seat as SeatValue, agrees, seat_of};
 ghost use Rattle.ls_live_book.specs.declared.book.Told.TheVariants.{Nothing};
 ghost use Rattle.ls_machine.specs.Room.{AreBadCells};
 ghost use Rattle.std.specs.List.{list_all};
-ghost use Rattle.std.specs.Prelude.{◌≡◌, ◌↔◌, ℕ, ◌+◌, ◌≤◌, ◌<◌, ◌^◌, length, sum_by, IfOk, IfErr, IsErrOf, slice_get, Some, true, vec_len, vec_capacity};
+ghost use Rattle.std.specs.Prelude.{◌≡◌, ◌↔◌, ℕ, ◌+◌, ◌≤◌, ◌<◌, ◌^◌, length, sum_by, IfOk, IfErr, IsErrOf, IsTrue, slice_get, Some, true, vec_len, vec_capacity};
 
 use crate::fault::LiveFault;
+use ls_code::code::Code;
 use ls_events::schedule::MOST_STEPS;
 use ls_image::image::Image;
 use ls_live_book::{Book, More, Session, Told};
-use ls_machine::{LoadFault, Machine};
+use ls_machine::{LoadFault, MOST_CELLS, Machine};
 use ls_schedule::Record;
 use std::alloc::Global;
 use std::marker::Model;
@@ -111,6 +112,13 @@ impl<L: Session> Seat<L> {
     }
 }
 
+// Whether no machine of the code has so many cells.
+fn are_bad_cells(code: &Code, cells: usize) -> bool
+    ensures { IsTrue result ↔ AreBadCells code.now.names cells }
+{
+    cells == 0 || cells > MOST_CELLS || cells < code.names()
+}
+
 // The machine of an image.
 fn load(alloc: Global, image: &Image, cells: usize) -> Result<Machine, LiveFault>
     ensures cells { IsErrOf result LiveFault.BadCells ↔ AreBadCells (code_of_image image.now).names cells }
@@ -198,8 +206,8 @@ impl<L: Session> Live<L> {
     ghost use Rattle.ls_live.specs.Closing.{IsClosed, IsNotClosed};
 
     /// A live run of an image on so many cells, at most so many steps long, with one seat for each thread, the setup's first.
-    /// All memory is taken here. Refused with 51 where the limit is over 1,000,000, and else with 35 where there are no cells,
-    /// more than 1,048,576, or fewer than setup names.
+    /// All memory is taken here. Refused with 35 if there are no cells, more than 4,194,304, or fewer than setup names, and else
+    /// with 51 if the limit is over 1,000,000 steps.
     pub fn open(
         alloc: Global,
         blank: Blank,
@@ -212,11 +220,14 @@ impl<L: Session> Live<L> {
         requires seats { (L.seats ≡ L.parts) × (L.seats ≡ length (code_of_image image.now).starts) }
         requires start { L.start ≡ loaded (code_of_image image.now) cells }
         requires limit { L.limit ≡ limit }
-        ensures limit { IsErrOf result LiveFault.BadLimit ↔ (1000000 < limit) }
-        ensures cells { IsErrOf result LiveFault.BadCells ↔ ((limit ≤ 1000000) × AreBadCells (code_of_image image.now).names cells) }
+        ensures cells { IsErrOf result LiveFault.BadCells ↔ AreBadCells (code_of_image image.now).names cells }
+        ensures limit { IsErrOf result LiveFault.BadLimit ↔ (¬ AreBadCells (code_of_image image.now).names cells × (1000000 < limit)) }
         ensures seats { IfOk result (λ r. length r.1.items ≡ L.seats) }
         ensures seat { IfOk result (λ r. (t : ℕ) → t < L.seats → slice_get r.1.items t ≡ Some (seat_of t 0 Nothing)) }
     {
+        if are_bad_cells(image.code(), cells) {
+            return Err(LiveFault::BadCells);
+        }
         if limit > MOST_STEPS {
             return Err(LiveFault::BadLimit);
         }

@@ -4,6 +4,7 @@ ghost use Rattle.ls_code.specs.Machine.{loaded};
 ghost use Rattle.ls_image.specs.Images.{code_of_image};
 ghost use Rattle.ls_live.specs.Records.{AreThere, IsDone};
 ghost use Rattle.ls_live.specs.declared.fault.LiveFault.TheVariants.{BadCells, BadLimit};
+ghost use Rattle.ls_live_book.specs.Due.{AreDue};
 ghost use Rattle.ls_machine.specs.Room.{AreBadCells};
 ghost use Rattle.ls_schedule.specs.Records.{IsRecordOf, scheduled};
 ghost use Rattle.std.specs.Prelude.{◌≡◌, ◌↔◌, ◌<◌, ◌≤◌, length, IfOk, IsErrOf};
@@ -46,10 +47,11 @@ fn played<L: Session + Send + Sync, G: Gate + Sync, R: Threads + Wait + Sync>(
     requires seats { (L.seats ≡ L.parts) × (L.seats ≡ length (code_of_image image.now).starts) }
     requires start { L.start ≡ loaded (code_of_image image.now) bounds.cells }
     requires limit { L.limit ≡ bounds.limit }
-    ensures limit { IsErrOf result (PlayFault.Open BadLimit) ↔ (1000000 < bounds.limit) }
-    ensures cells { IsErrOf result (PlayFault.Open BadCells) ↔ ((bounds.limit ≤ 1000000) × AreBadCells (code_of_image image.now).names bounds.cells) }
+    ensures cells { IsErrOf result (PlayFault.Open BadCells) ↔ AreBadCells (code_of_image image.now).names bounds.cells }
+    ensures limit { IsErrOf result (PlayFault.Open BadLimit) ↔ (¬ AreBadCells (code_of_image image.now).names bounds.cells × (1000000 < bounds.limit)) }
     ensures record { IfOk result (λ r. IsRecordOf (code_of_image image.now) bounds.cells (scheduled r) r) }
     ensures there { IfOk result (AreThere (code_of_image image.now)) }
+    ensures due { IfOk result (λ r. AreDue (loaded (code_of_image image.now) bounds.cells) (scheduled r)) }
     ensures within { IfOk result (λ r. length (scheduled r) ≤ bounds.limit) }
     ensures done { IfOk result (IsDone (code_of_image image.now) bounds.cells bounds.limit) }
 {
@@ -69,8 +71,9 @@ fn played<L: Session + Send + Sync, G: Gate + Sync, R: Threads + Wait + Sync>(
 }
 
 /// The record of an image's machine with so many cells, stepped in threads, one for each of its own, until each is over or so
-/// many steps are recorded. Refused with 51 where the limit is over 1,000,000, else with 35 where there are no cells, more than
-/// 1,048,576, or fewer than setup names; with 52 where a thread could not be started. That 54 never comes is shown by tests.
+/// many steps are recorded. Each recorded step is of a thread that is there and due then, so none is idle.
+/// Refused with 35 if there are no cells, more than 4,194,304, or fewer than setup names, else with 51 if the limit is over
+/// 1,000,000 steps; with 52 if a thread could not be started. That 54 never comes is shown by tests.
 pub fn play_live<G: Gate + Sync, R: Threads + Wait + Sync>(
     rt: &R,
     alloc: Global,
@@ -79,10 +82,11 @@ pub fn play_live<G: Gate + Sync, R: Threads + Wait + Sync>(
     limit: usize,
     gate: &G,
 ) -> Result<Record, PlayFault>
-    ensures limit { IsErrOf result (PlayFault.Open BadLimit) ↔ (1000000 < limit) }
-    ensures cells { IsErrOf result (PlayFault.Open BadCells) ↔ ((limit ≤ 1000000) × AreBadCells (code_of_image image.now).names cells) }
+    ensures cells { IsErrOf result (PlayFault.Open BadCells) ↔ AreBadCells (code_of_image image.now).names cells }
+    ensures limit { IsErrOf result (PlayFault.Open BadLimit) ↔ (¬ AreBadCells (code_of_image image.now).names cells × (1000000 < limit)) }
     ensures record { IfOk result (λ r. IsRecordOf (code_of_image image.now) cells (scheduled r) r) }
     ensures there { IfOk result (AreThere (code_of_image image.now)) }
+    ensures due { IfOk result (λ r. AreDue (loaded (code_of_image image.now) cells) (scheduled r)) }
     ensures within { IfOk result (λ r. length (scheduled r) ≤ limit) }
     ensures done { IfOk result (IsDone (code_of_image image.now) cells limit) }
 {

@@ -1,2 +1,3 @@
 pub mod Books
+pub mod Due
 pub mod Threads

@@ -1,5 +1,6 @@
 pub mod Answers
 pub mod Books
+pub mod Due
 pub mod Records
 pub mod Seats
 pub mod Sessions

@@ -1,7 +1,7 @@
 // The book behind the lock. What one step does and answers is exact here.
 
-ghost use Rattle.ls_code.specs.Machine.{Machine as MachineValue, machine_run};
-ghost use Rattle.ls_live_book.specs.Answers.{answer, is_over, recorded_after};
+ghost use Rattle.ls_code.specs.Machine.{Machine as MachineValue, machine_run, machine_state};
+ghost use Rattle.ls_live_book.specs.Answers.{answer, is_not_started, is_over, recorded_after};
 ghost use Rattle.ls_live_book.specs.Books.{IsKept};
 ghost use Rattle.ls_live_book.specs.Records.{IsRecordFrom};
 ghost use Rattle.ls_live_book.specs.Seats.{agrees, seat_of, told_agrees};
@@ -122,6 +122,13 @@ impl<L: Session> Book<L> {
         is_final || matches!(self.machine.state_of(0), ThreadState::Trapped)
     }
 
+    // Whether the thread waits for the setup to end.
+    fn is_not_started(&self, thread: usize) -> bool
+        ensures { result ≡ is_not_started (machine_state (machine_run L.start self.now) thread) }
+    {
+        matches!(self.machine.state_of(thread), ThreadState::NotStarted)
+    }
+
     /// Tests whether nothing more comes of the thread, then whether the book is full, then whether the thread has started.
     /// Where none of these answers, the thread makes a step, which is recorded. It takes no memory.
     #[tactic(auto, using(crate::proofs::Books::kept_on), unfolding(crate::specs::Answers::answer))]
@@ -135,7 +142,7 @@ impl<L: Session> Book<L> {
         if self.schedule.len() == self.limit {
             return More::Full;
         }
-        if matches!(self.machine.state_of(thread), ThreadState::NotStarted) {
+        if self.is_not_started(thread) {
             return More::Later;
         }
         let did = self.machine.step(thread);

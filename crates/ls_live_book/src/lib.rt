@@ -2,5 +2,6 @@
 #![tactic(auto)]
 
 mod book;
+pub mod laws;
 
 pub use book::{Book, More, Session, Told};

@@ -67,7 +67,7 @@ impl Model for Turnstile {
 impl Turnstile {
     /// The turnstile of an image's machine with so many cells and of a tape, which is copied, with one seat for each thread, the
     /// setup's first. Entries of the tape whose thread isn't there are nobody's: no seat goes on behind such an entry.
-    /// Refused with 35 where there are no cells, more than 1,048,576, or fewer than setup names.
+    /// Refused with 35 where there are no cells, more than 4,194,304, or fewer than setup names.
     pub fn open(
         alloc: Global,
         image: &Image,

@@ -10,4 +10,4 @@ returns-in_err-image c =
     rw (p.1, p.2) (not_compiled c.args.classes.now c.args.program.now Counted c.in_err-image.field-0.0 c.in_err-image.ensures.refused)
 
 pub returns : goal.returns
-returns c = OnImage c.in_ok-image.image _ c.in_ok-image.ensures.compiled (ap (λ t. Ok t) c.in_ok-counts_text.ensures)
+returns c = OnImage c.in_ok-image.image _ c.in_ok-image.ensures.compiled c.in_ok-image.ensures.within (ap (λ t. Ok t) c.in_ok-counts_text.ensures)

@@ -13,5 +13,6 @@ pub returns : goal.returns
 returns g c =
     let i = c.in_ok-image.image in
     let compiles = c.in_ok-image.ensures.compiled in
-    on_image c.args.classes.now c.args.program.now (LivedOf c.args.cells c.args.limit) i c.lived.result compiles
-    (lived_of c.compiled_is_readable.ensures c.args.classes.now c.args.program.now i compiles c.args.cells c.args.limit c.lived.result c.lived.ensures)
+    on_image c.args.classes.now c.args.program.now (LivedOf c.args.cells c.args.limit) i c.lived.result compiles c.in_ok-image.ensures.within
+    (lived_of c.compiled_is_readable.ensures c.args.classes.now c.args.program.now i compiles c.args.cells c.schedules_read_back.ensures.printed c.args.limit
+    c.lived.result c.lived.ensures)

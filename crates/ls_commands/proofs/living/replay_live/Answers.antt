@@ -13,5 +13,5 @@ pub returns : goal.returns
 returns g c =
     let i = c.in_ok-image.image in
     let compiles = c.in_ok-image.ensures.compiled in
-    on_image c.args.classes.now c.args.program.now (ReplayedLiveOf c.args.cells c.args.schedule.now) i c.replayed_live.result compiles
+    on_image c.args.classes.now c.args.program.now (ReplayedLiveOf c.args.cells c.args.schedule.now) i c.replayed_live.result compiles c.in_ok-image.ensures.within
     (replayed_live_of c.compiled_is_readable.ensures c.args.classes.now c.args.program.now i compiles c.args.cells c.args.schedule.now c.replayed_live.result c.replayed_live.ensures)

@@ -20,4 +20,4 @@ returns-in_err-image g c =
 pub returns : goal.returns
 returns g c =
     on_image c.args.classes.now c.args.program.now (May c.args.cells c.args.sampling) c.in_ok-image.image c.tallied.result
-    c.in_ok-image.ensures.compiled c.tallied.ensures
+    c.in_ok-image.ensures.compiled c.in_ok-image.ensures.within c.tallied.ensures

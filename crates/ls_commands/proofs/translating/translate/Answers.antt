@@ -22,4 +22,4 @@ returns-in_err-image c =
 pub returns : goal.returns
 returns c =
     on_image c.args.classes.now c.args.program.now (May c.args.to c.args.cells c.args.schedule.now) c.in_ok-image.image c.translated.result
-    c.in_ok-image.ensures.compiled c.translated.ensures
+    c.in_ok-image.ensures.compiled c.in_ok-image.ensures.within c.translated.ensures

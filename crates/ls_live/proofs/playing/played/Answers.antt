@@ -3,6 +3,7 @@ use Rattle.std.proofs.lemmas.List.{length-map}
 use Rattle.ls_code.specs.Machine.{Machine}
 use Rattle.ls_image.specs.Images.{code_of_image}
 use Rattle.ls_live.proofs.Ends.{opened_in_order, all_done}
+use Rattle.ls_live_book.specs.Due.{AreDue}
 use Rattle.ls_schedule.specs.Records.{scheduled}
 use Rattle.ls_live.proofs.playing.played.Goals as goal
 
@@ -16,6 +17,10 @@ returns-in-Ok-close-clause-there g c =
     let count : length g.L.Session.start.threads ≡ length code.starts =
     ap (λ (m : Machine). length m.threads) c.requires.start ∙ length-map code.starts _ in
     subst (λ (n : ℕ). All (λ t. t < n) (scheduled c.in-Ok-close.record)) count c.in-Ok-close.ensures.closed.record_from.there
+
+pub returns-in-Ok-close-clause-due : goal.returns-in-Ok-close-clause-due
+returns-in-Ok-close-clause-due g c =
+    subst (λ (m : Machine). AreDue m (scheduled c.in-Ok-close.record)) c.requires.start c.in-Ok-close.ensures.closed.record_from.due
 
 pub returns-in-Ok-close-clause-done : goal.returns-in-Ok-close-clause-done
 returns-in-Ok-close-clause-done g c =
