@@ -113,7 +113,7 @@ fn first_after<'a>(first: Option<&'a str>, occurrence: &Occurrence<'a>) -> Optio
 }
 
 /// The first call that is no set call on the one object.
-pub(crate) fn first_foreign<'a, 'b>(events: &'a [NamedEvent<'b>]) -> Option<&'a NamedEvent<'b>>
+pub fn first_foreign<'a, 'b>(events: &'a [NamedEvent<'b>]) -> Option<&'a NamedEvent<'b>>
     ensures { option_map plain_event (option_copied result) ≡ first_foreign (map plain_event events.now) }
 {
     let mut first = None;
@@ -139,10 +139,7 @@ fn set_call(called: usize, asked: (Operation, i32), end: End) -> SetCall
 }
 
 /// The set calls, in order of their call events.
-pub(crate) fn set_calls(
-    alloc: Global,
-    events: &[NamedEvent<'_>],
-) -> Result<Vec<SetCall>, AllocError>
+pub fn set_calls(alloc: Global, events: &[NamedEvent<'_>]) -> Result<Vec<SetCall>, AllocError>
     ensures { IfOk result (λ calls. calls.items ≡ set_calls (map plain_event events.now)) }
 {
     let mut ends = BTreeMap::new(alloc);
@@ -159,7 +156,7 @@ pub(crate) fn set_calls(
 }
 
 /// The call's text.
-pub(crate) fn name_of(alloc: Global, event: &NamedEvent<'_>) -> Result<String, AllocError>
+pub fn name_of(alloc: Global, event: &NamedEvent<'_>) -> Result<String, AllocError>
     ensures { IfOk result (λ text. string_bytes text ≡ name_of (plain_event event.now)) }
 {
     let thread = event.thread;
@@ -169,11 +166,7 @@ pub(crate) fn name_of(alloc: Global, event: &NamedEvent<'_>) -> Result<String, A
     Ok(text)
 }
 
-pub(crate) fn name_at(
-    alloc: Global,
-    events: &[NamedEvent<'_>],
-    at: usize,
-) -> Result<String, AllocError>
+pub fn name_at(alloc: Global, events: &[NamedEvent<'_>], at: usize) -> Result<String, AllocError>
     ensures { IfOk result (λ text. string_bytes text ≡ name_at (map plain_event events.now) at) }
 {
     match events.get(at) {

@@ -3,15 +3,15 @@
 
 pub mod calls;
 mod ends;
-mod fault;
-mod finding;
+pub mod fault;
+pub mod finding;
 pub mod judging;
-mod naming;
+pub mod naming;
 pub mod order;
-mod places;
-mod reading;
+pub mod places;
+pub mod reading;
 mod rules;
-mod set;
+pub mod set;
 pub mod verdict;
 
 pub use fault::OrderFault;

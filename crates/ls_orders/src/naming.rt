@@ -39,7 +39,7 @@ fn put_name<'a>(
 }
 
 /// The calls by their texts.
-pub(crate) fn names_of<'a>(
+pub fn names_of<'a>(
     alloc: Global,
     events: &[NamedEvent<'_>],
     calls: &'a [SetCall],

@@ -6,7 +6,7 @@ ghost use Rattle.ls_orders.specs.Places.{is_marked};
 use std::alloc::AllocError;
 
 /// Whether the place is marked. None beyond the list is.
-pub(crate) fn is_marked(marks: &[bool], place: usize) -> bool
+pub fn is_marked(marks: &[bool], place: usize) -> bool
     ensures { result ≡ is_marked marks.now place }
 {
     place < marks.len() && marks[place]
@@ -22,7 +22,7 @@ fn fill(marks: &mut Vec<bool>, place: usize) -> Result<(), AllocError>
 }
 
 /// Marks a place.
-pub(crate) fn mark(marks: &mut Vec<bool>, place: usize) -> Result<(), AllocError>
+pub fn mark(marks: &mut Vec<bool>, place: usize) -> Result<(), AllocError>
     ensures { OnOk result ((k : ℕ) → is_marked marks.new.items k ≡ (place == k || is_marked marks.old.items k)) }
 {
     fill(marks, place)?;

@@ -10,7 +10,7 @@ use std::alloc::AllocError;
 use std::collections::BTreeSet;
 
 /// The set after the call.
-pub(crate) fn apply(set: &mut BTreeSet<i32>, call: SetCall) -> Result<(), AllocError>
+pub fn apply(set: &mut BTreeSet<i32>, call: SetCall) -> Result<(), AllocError>
     ensures { OnOk result ((z : ℤ) → contains int_cmp set.new z ≡ after_call z (contains int_cmp set.old z) call) }
 {
     match call.operation {

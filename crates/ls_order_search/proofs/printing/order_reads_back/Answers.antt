@@ -1,0 +1,5 @@
+use Rattle.ls_order_search.proofs.ReadsBack.{reads_back}
+use Rattle.ls_order_search.proofs.printing.order_reads_back.Goals as goal
+
+pub returns : goal.returns
+returns c = reads_back

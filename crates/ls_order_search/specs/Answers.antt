@@ -1,0 +1,35 @@
+-- What is answered of a history.
+use Rattle.std.specs.Prelude.{◌≡◌, ◌<◌, ◌≤◌, ℕ, true, false, List, Some, None, length, map, string_bytes, take}
+use Rattle.ls_report.specs.Events.{Event, Text}
+use Rattle.ls_orders.specs.Legal.{IsLegal}
+use Rattle.ls_orders.specs.SetCalls.{first_foreign, name_of, set_calls}
+use Rattle.ls_order_search.specs.Trapped.{has_many_trapped}
+use Rattle.ls_order_search.specs.declared.judging.Outcome.{Outcome}
+use Rattle.ls_order_search.specs.declared.judging.Outcome.TheVariants as outcomes
+
+abbrev pub HasOrder : List Event → Type 0
+HasOrder history = (order : List Text) × IsLegal history order
+
+abbrev pub NoneIsLegal : List Event → Type 0
+NoneIsLegal history = (order : List Text) → IsLegal history order → ⊥
+
+-- Each beginning of no more events has a legal order, and none of the longer ones has.
+pub record IsHopeless (history : List Event) (at : ℕ) : Type 0 where
+  pub within : at < length history
+  pub before : (count : ℕ) → count ≤ at → HasOrder (take count history)
+  pub with_it : (count : ℕ) → at < count → NoneIsLegal (take count history)
+
+-- ---- the outcome
+
+-- all calls are set calls on one object, and no item has too many trapped ones
+pub record IsDecided (history : List Event) : Type 0 where
+  pub one_set : first_foreign history ≡ None
+  pub few : has_many_trapped (set_calls history) ≡ false
+
+-- a history with a call of another kind, one with too many trapped calls on an item, one with a legal order, or one that has
+-- none from an event on, with a legal order of the events before it
+abbrev pub IsOutcome : List Event → Outcome → Type 0
+IsOutcome history (outcomes.NotOneSet call) = (e : Event) × (first_foreign history ≡ Some e) × (string_bytes call ≡ name_of e)
+IsOutcome history outcomes.TooManyTrapped = (first_foreign history ≡ None) × (has_many_trapped (set_calls history) ≡ true)
+IsOutcome history (outcomes.Legal order) = IsDecided history × IsLegal history (map string_bytes order.items)
+IsOutcome history (outcomes.Hopeless at order) = IsDecided history × IsHopeless history at × IsLegal (take at history) (map string_bytes order.items)

@@ -1,0 +1,189 @@
+-- The steps of the search.
+use Rattle.std.specs.Prelude.{◌≡◌, ◌==◌, ◌⊎◌, ◌++◌, ◌<◌, ◌≤◌, ℕ, ℤ, Bool, true, false, not, List, [], ◌∷◌, Option, Some, None, length, slice_index_or, nat_lt, drop, filter, take, ◌||◌}
+use Rattle.std.specs.BTreeSet.{BTreeSet, contains}
+use Rattle.std.specs.Ordering.{int_cmp, int_eq}
+use Rattle.ls_orders.specs.declared.calls.SetCall.{SetCall}
+use Rattle.ls_orders.specs.declared.calls.End.{End}
+use Rattle.ls_orders.specs.declared.calls.End.TheVariants.{Pending, Returned, Trapped}
+use Rattle.ls_orders.specs.Rules.{ended_before}
+use Rattle.ls_orders.specs.Places.{is_marked}
+use Rattle.ls_orders.specs.Legal.{Set, empty}
+use Rattle.ls_order_search.specs.Trapped.{is_trapped}
+use Rattle.ls_order_search.specs.Plans.{Among, Distinct, IsPlan, has_end, turns, wanted}
+
+abbrev pub Calls : Type 0
+Calls = List SetCall
+
+-- the set that the tree holds
+abbrev pub held : BTreeSet ℤ → Set
+held tree item = contains int_cmp tree item
+
+abbrev pub HasPlan : Set → Calls → Type 0
+HasPlan s rest = (p : Calls) × IsPlan s rest p
+
+-- ---- the choice of a call
+
+-- where d has not come, e has not
+abbrev pub NoLater : End → End → Type 0
+NoLater d e = (n : ℕ) → ended_before d n ≡ false → ended_before e n ≡ false
+
+-- the call may stand next, on the item that is present or absent
+pub record Fits (item : ℤ) (was : Bool) (c : SetCall) : Type 0 where
+  pub item_is : c.item ≡ item
+  pub wants : wanted c ≡ Some was
+
+pub record Keeps (item : ℤ) (was : Bool) (c : SetCall) : Type 0 where
+  pub fits : Fits item was c
+  pub same : turns c.operation was ≡ false
+
+pub record Turns (item : ℤ) (was : Bool) (c : SetCall) : Type 0 where
+  pub fits : Fits item was c
+  pub changes : turns c.operation was ≡ true
+
+-- the first to end of those that change the set
+pub record Best (item : ℤ) (was : Bool) (pool : Calls) (x : SetCall) : Type 0 where
+  pub turn : Turns item was x
+  pub least : (c : SetCall) → Among c pool → Turns item was c → NoLater x.end c.end
+
+-- the best of the first calls of the pool
+abbrev pub BestSoFar : ℤ → Bool → Calls → ℕ → Option ℕ → Type 0
+BestSoFar item was pool n None = (k : ℕ) (d : SetCall) → k < n → Turns item was (slice_index_or pool k d) → ⊥
+BestSoFar item was pool n (Some b) = (b < length pool) × ((d : SetCall) → Turns item was (slice_index_or pool b d))
+    × ((k : ℕ) (d : SetCall) → k < n → Turns item was (slice_index_or pool k d) → NoLater (slice_index_or pool b d).end (slice_index_or pool k d).end)
+
+abbrev pub comes_first : ℕ → End → Bool
+comes_first at Pending = true
+comes_first at (Trapped place) = nat_lt at place
+comes_first at (Returned place reply) = nat_lt at place
+
+-- a call that changes nothing, or where there is none the first to end of those that change the set
+abbrev pub Choice : ℤ → Bool → Calls → SetCall → Type 0
+Choice item was pool x = Keeps item was x ⊎ (((c : SetCall) → Among c pool → Keeps item was c → ⊥) × Best item was pool x)
+
+abbrev pub Place : Calls → (SetCall → Type 0) → ℕ → Type 0
+Place pool P i = (i < length pool) × ((d : SetCall) → P (slice_index_or pool i d))
+
+-- ---- a place of the history
+
+abbrev pub CalledAfter : ℕ → Calls → Type 0
+CalledAfter at rest = (c : SetCall) → Among c rest → at < c.called
+
+abbrev pub CalledBy : ℕ → Calls → Type 0
+CalledBy at pool = (c : SetCall) → Among c pool → c.called ≤ at
+
+abbrev pub ends_at : ℕ → End → Bool
+ends_at at Pending = false
+ends_at at (Trapped m) = m == at
+ends_at at (Returned m reply) = m == at
+
+-- none of the pool ended before
+abbrev pub LastUntil : ℕ → Calls → Type 0
+LastUntil at pool = (c : SetCall) → Among c pool → ended_before c.end at ≡ false
+
+-- each ends after it was called
+abbrev pub Lasting : Calls → Type 0
+Lasting rest = (c : SetCall) → Among c rest → ended_before c.end c.called ≡ false
+
+-- the calls on some items
+abbrev pub on_items : (ℤ → Bool) → Calls → Calls
+on_items p calls = filter (λ c. p c.item) calls
+
+-- the item alone
+abbrev pub is_item : ℤ → ℤ → Bool
+is_item item = λ z. int_eq z item
+
+-- From a set and the calls that are open, placing some of them. Whatever comes later, and whichever items are looked at: where
+-- there was a plan of the calls on them, there still is one. And what is a plan then is one after those that are placed.
+pub record Goes (at : ℕ) (s t : Set) (pool less placed : Calls) : Type 0 where
+  pub plan : (p : ℤ → Bool) (rest : Calls) → Distinct (pool ++ rest) → CalledAfter at rest → CalledBy at pool → HasPlan s (on_items p (pool ++ rest)) → HasPlan t (on_items p (less ++ rest))
+  pub distinct : (rest : Calls) → Distinct (pool ++ rest) → Distinct (less ++ rest)
+  pub among : (c : SetCall) → Among c less → Among c pool
+  pub back : (rest : Calls) → Distinct (pool ++ rest) → CalledAfter at rest → CalledBy at pool → LastUntil at pool → Lasting rest → (p : Calls) → IsPlan t (less ++ rest) p → IsPlan s (pool ++ rest) (placed ++ p)
+
+abbrev pub Closed : ℕ → Set → Set → Calls → Calls → Calls → Calls → Type 0
+Closed at s t pool less old new = (placed : Calls) × (new ≡ old ++ placed) × Goes at s t pool less placed
+
+-- whatever comes later, there is no plan of the calls on one of the items
+abbrev pub Stuck : ℕ → Set → Calls → Type 0
+Stuck at s pool = (item : ℤ) × ((rest : Calls) → Distinct (pool ++ rest) → CalledAfter at rest → CalledBy at pool → HasPlan s (on_items (is_item item) (pool ++ rest)) → ⊥)
+
+abbrev pub NoPlanOn : Calls → Type 0
+NoPlanOn calls = (item : ℤ) × (HasPlan empty (on_items (is_item item) calls) → ⊥)
+
+-- ---- the calls of a history
+
+-- in order of their calls
+abbrev pub Rising : Calls → Type 0
+Rising [] = Unit {0}
+Rising (y ∷ ys) = ((x : SetCall) → Among x ys → y.called < x.called) × Rising ys
+
+-- No plan of the calls in front and those after them, whichever trapped ones of the latter are left out.
+abbrev pub NoWay : Calls → Calls → Type 0
+NoWay front [] = HasPlan empty front → ⊥
+NoWay front (c ∷ cs) = NoWay (front ++ c ∷ []) cs × (is_trapped c.end ≡ true → NoWay front cs)
+
+-- A plan of the calls in front and those after them, some trapped ones of the latter left out.
+abbrev pub Way : Calls → Calls → Calls → Type 0
+Way front [] p = IsPlan empty front p
+Way front (c ∷ cs) p = Way (front ++ c ∷ []) cs p ⊎ ((is_trapped c.end ≡ true) × Way front cs p)
+
+-- the calls and their ends are among so many events
+abbrev pub Within : ℕ → Calls → Type 0
+Within events rest = (c : SetCall) → Among c rest → (c.called < events) × (has_end c.end ≡ true → ended_before c.end events ≡ true)
+
+-- the next call was called at the place or before
+abbrev pub Due : ℕ → Calls → ℕ → Type 0
+Due at calls next = (next < length calls) × ((d : SetCall) → (slice_index_or calls next d).called ≤ at)
+
+abbrev pub NotDue : ℕ → Calls → ℕ → Type 0
+NotDue at calls next = next < length calls → (d : SetCall) → at < (slice_index_or calls next d).called
+
+-- Between two events: what is placed, the calls that are open, and those that come.
+pub record Between (events : ℕ) (calls : Calls) (at next : ℕ) (set : Set) (pool placed : Calls) : Type 0 where
+  pub plan : (p : ℤ → Bool) → HasPlan empty (on_items p calls) → HasPlan set (on_items p (pool ++ drop next calls))
+  pub distinct : Distinct (pool ++ drop next calls)
+  pub up_to : (c : SetCall) → Among c pool → c.called ≤ at
+  pub from : (c : SetCall) → Among c (drop next calls) → at ≤ c.called
+  pub rising : Rising (drop next calls)
+  pub known : (c : SetCall) → Among c (pool ++ drop next calls) → Among c calls
+  pub lasts : Lasting calls → LastUntil at pool
+  pub back : Lasting calls → (p : Calls) → IsPlan set (pool ++ drop next calls) p → IsPlan empty calls (placed ++ p)
+
+-- Some of the calls after the front are decided on, and stand in front.
+pub record Trying (front back more left : Calls) : Type 0 where
+  pub rising : Rising (more ++ left)
+  pub none : NoWay more left → NoWay front back
+  pub some : (p : Calls) → Way more left p → Way front back p
+  pub known : (c : SetCall) → Among c (more ++ left) → Among c (front ++ back)
+
+-- the calls of so many events
+pub record CallsOf (events : ℕ) (calls : Calls) : Type 0 where
+  pub rising : Rising calls
+  pub within : Within events calls
+  pub lasting : Lasting calls
+
+-- ---- the trapped calls that stay
+
+-- there is no plan of the calls on some items, whichever of the trapped ones are left out
+abbrev pub NoOrder : Calls → Type 0
+NoOrder calls = (p : ℤ → Bool) × NoWay [] (on_items p calls)
+
+-- the trapped calls that aren't marked are left out
+abbrev pub stays : List Bool → SetCall → Bool
+stays marks c = not (is_trapped c.end) || is_marked marks c.called
+
+abbrev pub PlanOf : List Bool → Calls → ℤ → Type 0
+PlanOf marks calls item = HasPlan empty (on_items (is_item item) (filter (stays marks) calls))
+
+abbrev pub NoneTrapped : Calls → ℤ → Type 0
+NoneTrapped calls item = (c : SetCall) → Among c calls → c.item ≡ item → is_trapped c.end ≡ false
+
+-- The first calls have been looked at: each item of their trapped calls is settled, by marks on its own calls.
+pub record Settling (calls : Calls) (looked : ℕ) (items : Set) (marks : List Bool) : Type 0 where
+  pub plan : (item : ℤ) → items item ≡ true → PlanOf marks calls item
+  pub seen : (c : SetCall) → Among c (take looked calls) → is_trapped c.end ≡ true → items c.item ≡ true
+  pub only : (c : SetCall) → Among c calls → is_marked marks c.called ≡ true → items c.item ≡ true
+
+-- each item has a plan by the marks, or no trapped call
+abbrev pub Settled : Calls → List Bool → Type 0
+Settled calls marks = (item : ℤ) → PlanOf marks calls item ⊎ NoneTrapped calls item

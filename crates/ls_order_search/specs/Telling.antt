@@ -1,0 +1,39 @@
+-- What is told of a history's text.
+use Rattle.std.specs.Prelude.{◌≡◌, ◌+◌, ℕ, true, List, [], ◌∷◌, ◌++◌, Some, None, Result, Ok, Err, String, codes, slice_get, string_bytes, take}
+use Rattle.std.specs.Fmt.{decimal}
+use Rattle.std.specs.Global.{Global}
+use Rattle.ls_report.specs.Events.{Event, Text}
+use Rattle.ls_report.specs.Lines.{event_text}
+use Rattle.ls_report.specs.Reading.{BreaksAt, Says}
+use Rattle.ls_orders.specs.Legal.{IsLegal}
+use Rattle.ls_orders.specs.SetCalls.{first_foreign, name_of, set_calls}
+use Rattle.ls_order_search.specs.Answers.{IsDecided, IsHopeless}
+use Rattle.ls_order_search.specs.OrderLines.{order_line}
+use Rattle.ls_order_search.specs.declared.fault.SearchFault.{SearchFault}
+use Rattle.ls_order_search.specs.declared.fault.SearchFault.TheVariants as faults
+use Rattle.ls_order_search.specs.Trapped.{has_many_trapped}
+
+-- `broken 76 CALL`
+abbrev pub foreign_text : Text → Text
+foreign_text call = codes "broken 76 " ++ (call ++ 10 ∷ [])
+
+-- `hopeless N LINE`, with the events numbered from 1, and the line of an order
+abbrev pub hopeless_text : ℕ → Text → List Text → Text
+hopeless_text at line order = codes "hopeless " ++ (decimal (at + 1) ++ (32 ∷ (line ++ (10 ∷ order_line order))))
+
+-- The text is a history, whose calls are no set calls on one object; or that has too many trapped calls on an item; or a legal
+-- order, which is told; or no legal order from an event on, which is told with a legal order of the events before it. Or it is
+-- no history, and breaks at a place.
+pub data Tells (text : Text) : Result Text SearchFault → Type 0 where
+  Foreign : (events : List Event) (e : Event) → Says text events → first_foreign events ≡ Some e → Tells text (Ok (foreign_text (name_of e)))
+  ManyTrapped : (events : List Event) → Says text events → first_foreign events ≡ None → has_many_trapped (set_calls events) ≡ true → Tells text (Err faults.TooManyTrapped)
+  Legal : (events : List Event) (order : List Text) → Says text events → IsDecided events → IsLegal events order → Tells text (Ok (order_line order))
+  Hopeless : (events : List Event) (at : ℕ) (e : Event) (order : List Text) → Says text events → IsDecided events → IsHopeless events at → slice_get events at ≡ Some e
+      → IsLegal (take at events) order → Tells text (Ok (hopeless_text at (event_text e) order))
+  NoHistory : (at : ℕ) → BreaksAt text at → Tells text (Err (faults.BadHistory at))
+
+-- what is answered is told, or memory ran out
+abbrev pub Gives : (Result Text SearchFault → Type 0) → Result (String Global) SearchFault → Type 0
+Gives May (Ok text) = May (Ok (string_bytes text))
+Gives May (Err faults.Memory) = Unit {0}
+Gives May (Err f) = May (Err f)

@@ -1,0 +1,101 @@
+// What there is to say of a history.
+
+ghost use Rattle.std.specs.Prelude.{◌≡◌, ◌≤◌, IfNone, IfOk, IfSome, length, map, string_bytes, take, true};
+ghost use Rattle.ls_report.specs.Discipline.{is_history};
+ghost use Rattle.ls_report.specs.Plain.{plain_event};
+ghost use Rattle.ls_orders.specs.Legal.{IsLegal};
+ghost use Rattle.ls_order_search.specs.Answers.{IsDecided, IsOutcome, NoneIsLegal};
+ghost use Rattle.ls_order_search.specs.Trapped.{has_many_trapped};
+ghost use Rattle.ls_orders.specs.SetCalls.{set_calls};
+
+use crate::finding::find_order;
+use crate::trapped::has_many_trapped;
+use ls_orders::finding::{first_foreign, name_of, set_calls};
+use ls_report::history::NamedEvent;
+use std::alloc::{AllocError, Global};
+
+/// Whether a history has a legal order, and from which event on it has none.
+#[derive(Drop)]
+pub enum Outcome {
+    /// The text of the first call that is no set call on the one object.
+    NotOneSet(String),
+    /// An item has more trapped calls than are decided on.
+    TooManyTrapped,
+    /// A legal order, by the texts of its calls.
+    Legal(Vec<String>),
+    /// The place of the event with which no order is legal any more, from 0, and a legal order of the events before it.
+    Hopeless { at: usize, order: Vec<String> },
+}
+
+/// Whether an item of the history has more trapped calls than are decided on.
+fn has_many(alloc: Global, events: &[NamedEvent<'_>]) -> Result<bool, AllocError>
+    ensures { IfOk result (λ many. many ≡ has_many_trapped (set_calls (map plain_event events.now))) }
+{
+    let calls = set_calls(alloc, events)?;
+    Ok(has_many_trapped(calls.as_slice()))
+}
+
+/// A legal order of the first events, by the texts of its calls. None where no order is legal.
+fn find_front(
+    alloc: Global,
+    events: &[NamedEvent<'_>],
+    count: usize,
+) -> Result<Option<Vec<String>>, AllocError>
+    requires history { is_history (map plain_event events.now) ≡ true }
+    requires count { count ≤ length events.now }
+    ensures some { IfOk result (λ found. IfSome found (λ order. IsLegal (take count (map plain_event events.now)) (map string_bytes order.items))) }
+    ensures none { IfOk result (λ found. IfNone found (NoneIsLegal (take count (map plain_event events.now)))) }
+{
+    find_order(alloc, &events[..count])
+}
+
+/// The place of the first event with which no order is legal any more, by halves, and a legal order of the events before it.
+fn find_hopeless(alloc: Global, events: &[NamedEvent<'_>]) -> Result<Outcome, AllocError>
+    requires history { is_history (map plain_event events.now) ≡ true }
+    requires decided { IsDecided (map plain_event events.now) }
+    requires none { NoneIsLegal (map plain_event events.now) }
+    ensures { IfOk result (λ outcome. IsOutcome (map plain_event events.now) outcome) }
+{
+    let mut at = 0;
+    let mut order = Vec::new(alloc);
+    let mut illegal = events.len();
+    'halves: while illegal - at > 1 {
+        let middle = at + (illegal - at) / 2;
+        match find_front(alloc, events, middle)? {
+            Some(found) => {
+                at = middle;
+                order = found;
+            }
+            None => illegal = middle,
+        }
+    }
+    Ok(Outcome::Hopeless { at, order })
+}
+
+/// Whether a history of few trapped calls has a legal order, and the event from which on it has none.
+fn decide(alloc: Global, events: &[NamedEvent<'_>]) -> Result<Outcome, AllocError>
+    requires history { is_history (map plain_event events.now) ≡ true }
+    requires decided { IsDecided (map plain_event events.now) }
+    ensures { IfOk result (λ outcome. IsOutcome (map plain_event events.now) outcome) }
+{
+    match find_order(alloc, events)? {
+        Some(order) => Ok(Outcome::Legal(order)),
+        None => find_hopeless(alloc, events),
+    }
+}
+
+/// Whether the history has a legal order, and the event from which on it has none.
+pub fn judge(alloc: Global, events: &[NamedEvent<'_>]) -> Result<Outcome, AllocError>
+    requires { is_history (map plain_event events.now) ≡ true }
+    ensures { IfOk result (λ outcome. IsOutcome (map plain_event events.now) outcome) }
+{
+    if let Some(event) = first_foreign(events) {
+        let call = name_of(alloc, event)?;
+        return Ok(Outcome::NotOneSet(call));
+    }
+    let many = has_many(alloc, events)?;
+    if many {
+        return Ok(Outcome::TooManyTrapped);
+    }
+    decide(alloc, events)
+}

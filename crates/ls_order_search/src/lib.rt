@@ -1,0 +1,21 @@
+//! A legal order of a history's set calls, or the event from which on there is none.
+#![tactic(auto)]
+
+mod choice;
+mod closing;
+pub mod fault;
+pub mod finding;
+mod items;
+pub mod judging;
+pub mod printing;
+mod search;
+pub mod telling;
+mod trapped;
+mod trying;
+
+pub use fault::SearchFault;
+pub use finding::find_order;
+pub use judging::{Outcome, judge};
+pub use printing::{order_line, order_reads_back};
+pub use telling::tell;
+pub use trapped::MOST_TRAPPED;

@@ -1,0 +1,44 @@
+// The search, from the first event to the last.
+
+ghost use Rattle.std.specs.Prelude.{IfOk, IfNone, IfSome, MatchBool};
+ghost use Rattle.ls_orders.specs.Legal.{empty};
+ghost use Rattle.ls_order_search.specs.Plans.{IsPlan};
+ghost use Rattle.ls_order_search.specs.Search.{Due, Lasting, NoPlanOn, NotDue, Rising, Within};
+
+use crate::closing::close;
+use ls_orders::calls::SetCall;
+use std::alloc::{AllocError, Global};
+use std::collections::BTreeSet;
+
+/// Whether the next call was called by then.
+fn is_due(calls: &[SetCall], next: usize, at: usize) -> bool
+    ensures { MatchBool result (Due at calls.now next) (NotDue at calls.now next) }
+{
+    next < calls.len() && calls[next].called <= at
+}
+
+/// An order of the calls, in which each that has an end is placed, or None where there is none.
+pub(crate) fn search(
+    alloc: Global,
+    calls: &[SetCall],
+    events: usize,
+) -> Result<Option<Vec<SetCall>>, AllocError>
+    requires { Rising calls.now }
+    ensures none { IfOk result (λ found. IfNone found (NoPlanOn calls.now)) }
+    ensures some { IfOk result (λ found. IfSome found (λ order. Within events calls.now → Lasting calls.now → IsPlan empty calls.now order.items)) }
+{
+    let mut set = BTreeSet::new(alloc);
+    let mut pool = Vec::new(alloc);
+    let mut placed = Vec::new(alloc);
+    let mut next = 0;
+    for at in 0..events {
+        'due: while is_due(calls, next, at) {
+            pool.push(calls[next])?;
+            next += 1;
+        }
+        if !close(&mut set, &mut pool, &mut placed, at)? {
+            return Ok(None);
+        }
+    }
+    Ok(Some(placed))
+}
