@@ -1,0 +1,5 @@
+pub mod Walks
+pub mod Closing
+pub mod Seeing
+pub mod Loops
+pub mod Telling

@@ -1,0 +1,63 @@
+use Rattle.std.proofs.Common.{◌≡◌, ◌≤◌, ◌∙◌, ℕ, List, length, sym, ap, subst, arith, Vec, Global}
+use Rattle.std.specs.Prelude.{Contains}
+use Rattle.std.proofs.lemmas.List.{length-map}
+use Rattle.ls_code.specs.Machine.{Machine}
+use Rattle.ls_explore_laws.specs.Bursts.{IsClosed}
+use Rattle.ls_explore.specs.declared.searching.Seen.{Seen}
+use Rattle.ls_explore.specs.Searches.{IsSound, paths_of}
+use Rattle.ls_explore.specs.Walks.{led_to, root_of}
+use Rattle.ls_explore.proofs.Closing.{first_there}
+use Rattle.ls_explore.proofs.Loops.{root_same}
+use Rattle.ls_explore.proofs.Telling.{tells_all, tells_ends, tells_over, tells_truth}
+use Rattle.ls_explore.proofs.Walks.{walked_none}
+use Rattle.ls_explore.proofs.exploring.explore.Goals as goal
+
+-- the machine after the setup, before and after the search
+module _ (m m' : Machine) (setup : List ℕ) (code : m'.code ≡ m.code) (cells : m'.cells.limit ≡ m.cells.limit) where
+  pub closed_there : (n threads : ℕ) (paths : List (List ℕ)) → IsClosed n threads (led_to n (root_of m setup) paths) → IsClosed n threads (led_to n (root_of m' setup) paths)
+  closed_there n threads paths h = subst (λ r. IsClosed n threads (led_to n r paths)) (sym (root_same m m' setup code cells)) h
+
+  pub sound_there : (n threads : ℕ) (paths : List (List ℕ)) (seen : List Seen) → IsSound n threads (root_of m setup) paths seen → IsSound n threads (root_of m' setup) paths seen
+  sound_there n threads paths seen h = subst (λ r. IsSound n threads r paths seen) (sym (root_same m m' setup code cells)) h
+
+pub tell-requires : goal.tell-requires
+tell-requires c =
+    sound_there c.in_ok-walker.walker c.search.new.walker c.args.setup.now c.search.ensures.code c.search.ensures.cells c.most_steps.result c.args.threads (paths_of c.in_ok-found.found.paths.items) c.in_ok-found.found.seen.items c.in_ok-found.ensures.sound
+
+pub returns-clause-told : goal.returns-clause-told
+returns-clause-told c =
+    let setup : List ℕ = c.args.setup.now in
+    let er = root_same c.in_ok-walker.walker c.search.new.walker setup c.search.ensures.code c.search.ensures.cells ∙ ap (λ (m : Machine). root_of m setup) c.in_ok-walker.ensures.loaded in
+    tells_truth c.args.code.now c.args.cells setup c.args.threads c.most_steps.result (root_of c.search.new.walker setup) c.in_ok-rows.rows.items c.most_steps.ensures er c.in_ok-rows.ensures.told
+
+pub returns-clause-over : goal.returns-clause-over
+returns-clause-over c =
+    let setup : List ℕ = c.args.setup.now in
+    let er = root_same c.in_ok-walker.walker c.search.new.walker setup c.search.ensures.code c.search.ensures.cells ∙ ap (λ (m : Machine). root_of m setup) c.in_ok-walker.ensures.loaded in
+    tells_over c.args.code.now c.args.cells setup c.args.threads c.most_steps.result (root_of c.search.new.walker setup) c.in_ok-rows.rows.items c.most_steps.ensures er c.in_ok-rows.ensures.told
+
+pub returns-clause-tells : goal.returns-clause-tells
+returns-clause-tells c = λ yes.
+    let setup : List ℕ = c.args.setup.now in
+    let n : ℕ = c.most_steps.result in
+    let root : Machine = root_of c.search.new.walker setup in
+    let paths : List (List ℕ) = paths_of c.in_ok-found.found.paths.items in
+    let er = root_same c.in_ok-walker.walker c.search.new.walker setup c.search.ensures.code c.search.ensures.cells ∙ ap (λ (m : Machine). root_of m setup) c.in_ok-walker.ensures.loaded in
+    let sound = sound_there c.in_ok-walker.walker c.search.new.walker setup c.search.ensures.code c.search.ensures.cells n c.args.threads paths c.in_ok-found.found.seen.items c.in_ok-found.ensures.sound in
+    let closed = closed_there c.in_ok-walker.walker c.search.new.walker setup c.search.ensures.code c.search.ensures.cells n c.args.threads paths (c.in_ok-found.ensures.closed yes) in
+    let first : Contains (led_to n root paths) root = first_there n c.args.threads root paths sound.first (walked_none n root) in
+    let past : length paths ≤ length c.in_ok-found.found.paths.items = omega (arith, length-map c.in_ok-found.found.paths.items (λ (w : Vec ℕ Global). w.items)) in
+    tells_all c.args.code.now c.args.cells setup c.args.threads n root c.in_ok-rows.rows.items c.most_steps.ensures er paths first closed (length c.in_ok-found.found.paths.items) past c.in_ok-rows.ensures.begun
+
+pub returns-clause-ends : goal.returns-clause-ends
+returns-clause-ends c = λ yes.
+    let setup : List ℕ = c.args.setup.now in
+    let n : ℕ = c.most_steps.result in
+    let root : Machine = root_of c.search.new.walker setup in
+    let paths : List (List ℕ) = paths_of c.in_ok-found.found.paths.items in
+    let seen = c.in_ok-found.found.seen.items in
+    let er = root_same c.in_ok-walker.walker c.search.new.walker setup c.search.ensures.code c.search.ensures.cells ∙ ap (λ (m : Machine). root_of m setup) c.in_ok-walker.ensures.loaded in
+    let sound = sound_there c.in_ok-walker.walker c.search.new.walker setup c.search.ensures.code c.search.ensures.cells n c.args.threads paths seen c.in_ok-found.ensures.sound in
+    let closed = closed_there c.in_ok-walker.walker c.search.new.walker setup c.search.ensures.code c.search.ensures.cells n c.args.threads paths (c.in_ok-found.ensures.closed yes) in
+    let first : Contains (led_to n root paths) root = first_there n c.args.threads root paths sound.first (walked_none n root) in
+    tells_ends c.args.code.now c.args.cells setup c.args.threads n root c.in_ok-rows.rows.items c.most_steps.ensures er paths first closed seen (c.in_ok-found.ensures.count yes) sound c.in_ok-rows.ensures.ends

@@ -1,0 +1,11 @@
+use Rattle.std.proofs.Common.{◌≡◌}
+use Rattle.ls_explore.specs.Searches.{paths_of}
+use Rattle.ls_explore.specs.Walks.{root_of}
+use Rattle.ls_explore.proofs.Loops.{AreKept, IsOn}
+use Rattle.ls_explore.proofs.searching.expand.Given as goal
+
+abbrev pub invariant-loop-thread : goal.invariant-loop-thread
+invariant-loop-thread l =
+    AreKept l.fn.walker l.fn.other l.walker l.other
+    × (l.nodes.seen.items ≡ l.fn.nodes.seen.items)
+    × IsOn l.ground.most l.ground.threads (root_of l.fn.walker l.ground.setup.now) (paths_of l.nodes.paths.items) l.nodes.seen.items l.at l.thread l.seen

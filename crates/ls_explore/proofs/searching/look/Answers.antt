@@ -1,0 +1,83 @@
+use Rattle.std.proofs.Common.{◌≡◌, ℕ, ◌++◌, List, [], ◌∷◌, get_or, Some, sym, ap, ◌∙◌, subst, slice_get, Vec, Global}
+use Rattle.std.specs.Prelude.{Contains}
+use Rattle.ls_code.specs.Machine.{Machine}
+use Rattle.ls_ends.specs.Acting.{first_did}
+use Rattle.ls_headline.proofs.Lists.{index_there}
+use Rattle.ls_explore.specs.Walks.{led_to, root_of, walked}
+use Rattle.ls_explore.proofs.Loops.{root_same}
+use Rattle.ls_explore.specs.Searches.{Leads, paths_of}
+use Rattle.ls_explore.proofs.Closing.{acts_grown, leads_new, leads_none, leads_there, path_is}
+use Rattle.ls_explore.proofs.searching.look.Goals as goal
+
+-- the path at a place, twice told
+at_place : (paths : List (Vec ℕ Global)) (at : ℕ) (path : List ℕ) → slice_get (paths_of paths) at ≡ Some path → get_or (paths_of paths) at [] ≡ path
+at_place paths at path here = index_there (paths_of paths) at path [] here
+
+pub returns-then-not-has_acted-clause-leads : goal.returns-then-not-has_acted-clause-leads
+returns-then-not-has_acted-clause-leads c =
+    let root : Machine = root_of c.args.walker.now c.args.ground.now.setup.now in
+    let path : List ℕ = c.as_slice.result.now in
+    let old : List (List ℕ) = paths_of c.args.nodes.now.paths.items in
+    let here : slice_get old c.args.at ≡ Some path = path_is c.args.nodes.now.paths.items c.args.at c.index.result.now path c.requires.at c.index.ensures c.as_slice.ensures.value in
+    subst (λ p. Leads c.args.ground.now.most root old p c.args.thread) (sym (at_place c.args.nodes.now.paths.items c.args.at path here))
+    (leads_none c.args.ground.now.most 0 root old path c.args.thread (c.see-did.ensures.none (sym c.has_acted.ensures ∙ c.if-not-has_acted.true)))
+
+pub returns-then-not-has_acted-clause-did : goal.returns-then-not-has_acted-clause-did
+returns-then-not-has_acted-clause-did c =
+    let root : Machine = root_of c.args.walker.now c.args.ground.now.setup.now in
+    let path : List ℕ = c.as_slice.result.now in
+    let here : slice_get (paths_of c.args.nodes.now.paths.items) c.args.at ≡ Some path = path_is c.args.nodes.now.paths.items c.args.at c.index.result.now path c.requires.at c.index.ensures c.as_slice.ensures.value in
+    c.see-did.ensures.did ∙ ap (λ p. first_did c.args.ground.now.most (walked c.args.ground.now.most root p) c.args.thread) (sym (at_place c.args.nodes.now.paths.items c.args.at path here))
+
+pub returns-then-has-clause-leads : goal.returns-then-has-clause-leads
+returns-then-has-clause-leads c =
+    let most : ℕ = c.args.ground.now.most in
+    let setup : List ℕ = c.args.ground.now.setup.now in
+    let root : Machine = root_of c.args.walker.now setup in
+    let path : List ℕ = c.as_slice.result.now in
+    let old : List (List ℕ) = paths_of c.args.nodes.now.paths.items in
+    let here : slice_get old c.args.at ≡ Some path = path_is c.args.nodes.now.paths.items c.args.at c.index.result.now path c.requires.at c.index.ensures c.as_slice.ensures.value in
+    let same : root_of c.see-did.new.other setup ≡ root = root_same c.args.other.now c.see-did.new.other setup c.see-did.ensures.other_code c.see-did.ensures.other_cells ∙ root_same c.args.walker.now c.args.other.now setup (sym c.requires.code) (sym c.requires.cells) in
+    let acted = sym c.has_acted.ensures ∙ c.if-not-has_acted.false in
+    subst (λ p. Leads most root old p c.args.thread) (sym (at_place c.args.nodes.now.paths.items c.args.at path here))
+    (leads_there most 0 root old path c.args.thread c.see-did.new.machine (c.see-did.ensures.acts acted)
+    (subst (λ r. Contains (led_to most r old) c.see-did.new.machine) same (c.has.ensures.there c.if-has.true)))
+
+pub returns-then-has-clause-did : goal.returns-then-has-clause-did
+returns-then-has-clause-did c =
+    let root : Machine = root_of c.args.walker.now c.args.ground.now.setup.now in
+    let path : List ℕ = c.as_slice.result.now in
+    let here : slice_get (paths_of c.args.nodes.now.paths.items) c.args.at ≡ Some path = path_is c.args.nodes.now.paths.items c.args.at c.index.result.now path c.requires.at c.index.ensures c.as_slice.ensures.value in
+    c.see-did.ensures.did ∙ ap (λ p. first_did c.args.ground.now.most (walked c.args.ground.now.most root p) c.args.thread) (sym (at_place c.args.nodes.now.paths.items c.args.at path here))
+
+pub returns-clause-leads : goal.returns-clause-leads
+returns-clause-leads c =
+    let most : ℕ = c.args.ground.now.most in
+    let root : Machine = root_of c.args.walker.now c.args.ground.now.setup.now in
+    let path : List ℕ = c.as_slice.result.now in
+    let old : List (List ℕ) = paths_of c.args.nodes.now.paths.items in
+    let new : List (List ℕ) = paths_of c.keep.new.self.paths.items in
+    let here : slice_get old c.args.at ≡ Some path = path_is c.args.nodes.now.paths.items c.args.at c.index.result.now path c.requires.at c.index.ensures c.as_slice.ensures.value in
+    let is : get_or old c.args.at [] ≡ path = at_place c.args.nodes.now.paths.items c.args.at path here in
+    let acted = sym c.has_acted.ensures ∙ c.if-not-has_acted.false in
+    subst (λ p. Leads most root new p c.args.thread) (sym is)
+    (leads_new most 0 root old new path c.args.thread c.see-did.new.machine (path ++ c.args.thread ∷ []) (c.see-did.ensures.acts acted) (c.see-did.ensures.at acted)
+    (c.in_ok-keep.ensures.kept c.if-not-branch.false ∙ ap (λ p. old ++ (p ++ c.args.thread ∷ []) ∷ []) is))
+
+pub returns-clause-acts : goal.returns-clause-acts
+returns-clause-acts c =
+    let most : ℕ = c.args.ground.now.most in
+    let root : Machine = root_of c.args.walker.now c.args.ground.now.setup.now in
+    let path : List ℕ = c.as_slice.result.now in
+    let old : List (List ℕ) = paths_of c.args.nodes.now.paths.items in
+    let new : List (List ℕ) = paths_of c.keep.new.self.paths.items in
+    let here : slice_get old c.args.at ≡ Some path = path_is c.args.nodes.now.paths.items c.args.at c.index.result.now path c.requires.at c.index.ensures c.as_slice.ensures.value in
+    let acted = sym c.has_acted.ensures ∙ c.if-not-has_acted.false in
+    acts_grown most 0 root old new c.args.at path (get_or old c.args.at []) c.args.thread c.see-did.new.machine here (at_place c.args.nodes.now.paths.items c.args.at path here) (c.see-did.ensures.acts acted) (c.see-did.ensures.at acted) c.in_ok-keep.ensures.grown
+
+pub returns-clause-did : goal.returns-clause-did
+returns-clause-did c =
+    let root : Machine = root_of c.args.walker.now c.args.ground.now.setup.now in
+    let path : List ℕ = c.as_slice.result.now in
+    let here : slice_get (paths_of c.args.nodes.now.paths.items) c.args.at ≡ Some path = path_is c.args.nodes.now.paths.items c.args.at c.index.result.now path c.requires.at c.index.ensures c.as_slice.ensures.value in
+    c.see-did.ensures.did ∙ ap (λ p. first_did c.args.ground.now.most (walked c.args.ground.now.most root p) c.args.thread) (sym (at_place c.args.nodes.now.paths.items c.args.at path here))

@@ -1,0 +1,125 @@
+-- Histories with paths that lead to them.
+use Rattle.std.specs.Prelude.{◌≡◌, ℕ, ◌+◌, ◌<◌, ◌++◌, Bool, true, false, List, Option, length, replicate, Contains, None, Some, slice_get}
+use Rattle.ls_events.specs.declared.event.Event.{Event}
+use Rattle.ls_checked.specs.CheckedTree.{File}
+use Rattle.ls_checked.specs.CheckedProgram.{Program}
+use Rattle.ls_meaning.specs.Runs.{source_run, source_history}
+use Rattle.ls_code.specs.Code.{Code}
+use Rattle.ls_code.specs.Machine.{Machine, loaded, machine_run}
+use Rattle.ls_code.specs.declared.step.Did.TheVariants as did
+use Rattle.ls_headline.specs.Same.{Fits, IsCells}
+use Rattle.ls_ends.specs.Acting.{ActsInTime, first_did}
+use Rattle.ls_explore_laws.specs.Bursts.{ActsAlong, burst}
+use Rattle.ls_explore_laws.specs.Ends.{AreQuiet, HasSteps, IsOver}
+use Rattle.ls_explore_laws.specs.Explored.{HasHistories, IsBeginning, IsSetUp}
+use Rattle.ls_explore.specs.declared.rows.Ending.{Ending}
+use Rattle.ls_explore.specs.declared.rows.Ending.TheVariants as ending
+use Rattle.ls_explore.specs.declared.searching.Seen.{Seen}
+use Rattle.ls_explore.specs.Walks.{walked}
+
+-- a path, a history, and how it ends
+pub record Told : Type 0 where
+  pub path : List ℕ
+  pub history : List Event
+  pub ending : Ending
+
+-- what so many threads do after a machine: all are quiet; or none acts, and one would stop the machine for want of cells; or one acts
+abbrev pub EndsAs : ℕ → ℕ → Machine → Ending → Type 0
+EndsAs n threads m ending.Over = AreQuiet n threads m
+EndsAs n threads m ending.OutOfCells =
+    ((t : ℕ) → t < threads → burst n m t ≡ None) × ((t : ℕ) × (t < threads) × (first_did n m t ≡ did.Stopped))
+EndsAs n threads m ending.GoesOn = (t : ℕ) × (t < threads) × ((m' : Machine) × (burst n m t ≡ Some m'))
+EndsAs n threads m ending.NotSeen = Unit {0}
+
+-- whether no thread acts any more
+abbrev pub IsEnd : Ending → Type 0
+IsEnd ending.Over = Unit {0}
+IsEnd ending.OutOfCells = Unit {0}
+IsEnd ending.GoesOn = ⊥
+IsEnd ending.NotSeen = ⊥
+
+-- how a path ends, by what is seen after it
+abbrev pub ending_of_seen : Bool → Bool → Ending
+ending_of_seen true stops = ending.GoesOn
+ending_of_seen false true = ending.OutOfCells
+ending_of_seen false false = ending.Over
+
+abbrev pub ending_of : Option Seen → Ending
+ending_of None = ending.NotSeen
+ending_of (Some seen) = ending_of_seen seen.acts seen.stops
+
+abbrev pub row_of : List ℕ → List Event → Ending → Told
+row_of path history e = record { path = path; history = history; ending = e }
+
+-- the rows stay, and others may have come
+abbrev pub Keeps : List Told → List Told → Type 0
+Keeps old new = (r : Told) → Contains old r → Contains new r
+
+-- each of the rows ends
+abbrev pub AllEnd : List Told → Type 0
+AllEnd rows = (r : Told) → Contains rows r → IsEnd r.ending
+
+-- the path leads to a machine, each of its threads acting in turn, that has this history and ends so
+abbrev pub IsTold : ℕ → ℕ → Machine → Told → Type 0
+IsTold n threads root r = (m : Machine) × ActsAlong n root r.path m × (r.history ≡ m.history) × EndsAs n threads m r.ending
+
+-- one of the rows has this history
+pub record HasRow (rows : List Told) (history : List Event) : Type 0 where
+  pub row : Told
+  pub there : Contains rows row
+  pub same : row.history ≡ history
+
+-- one of the rows has this history, and ends
+pub record HasEnd (rows : List Told) (history : List Event) : Type 0 where
+  pub row : Told
+  pub there : Contains rows row
+  pub same : row.history ≡ history
+  pub ends : IsEnd row.ending
+
+-- one of the rows has a history that begins so
+pub record IsToldBy (rows : List Told) (history : List Event) : Type 0 where
+  pub row : Told
+  pub there : Contains rows row
+  pub begins : IsBeginning history row.history
+
+-- each path before this place that was seen to end has a row that ends
+abbrev pub HaveEnds : ℕ → Machine → List (List ℕ) → List Seen → ℕ → List Told → Type 0
+HaveEnds n root paths seen i rows =
+    (j : ℕ) (path : List ℕ) (s : Seen) → j < i → slice_get paths j ≡ Some path → slice_get seen j ≡ Some s → s.acts ≡ false →
+    HasEnd rows (walked n root path).history
+
+-- the history of each of the last so many paths is the beginning of a row's
+abbrev pub HaveBegun : ℕ → Machine → List (List ℕ) → ℕ → List Told → Type 0
+HaveBegun n root paths i rows =
+    (j : ℕ) (path : List ℕ) → length paths < j + i + 1 → slice_get paths j ≡ Some path → IsToldBy rows (walked n root path).history
+
+-- Each row's history is that of a schedule of source steps: those of the setup, and then one of each thread of its path; for each file and
+-- program that the code runs as, and whose setup these steps are.
+abbrev pub TellsTruth : Code → ℕ → List ℕ → List Told → Type 0
+TellsTruth code cells setup rows =
+    (file : File) (program : Program) (k : ℕ) → HasHistories file program code cells →
+    IsSetUp file program code cells k (machine_run (loaded code cells) setup) → (r : Told) → Contains rows r →
+    r.history ≡ source_history file program (replicate k 0 ++ r.path)
+
+-- After the schedule of a row that is over no thread of the source acts.
+abbrev pub TellsOver : Code → ℕ → List ℕ → ℕ → List Told → Type 0
+TellsOver code cells setup threads rows =
+    (file : File) (program : Program) (k : ℕ) → IsCells code cells → ActsInTime file program code →
+    IsSetUp file program code cells k (machine_run (loaded code cells) setup) → length program.threads ≡ threads → (r : Told) →
+    Contains rows r → r.ending ≡ ending.Over → IsOver file program (source_run file program (replicate k 0 ++ r.path))
+
+-- For each file and program that the code runs as, and whose setup these steps are: the history of each schedule of source steps that fits
+-- the cells, of any length, is the beginning of a row's.
+abbrev pub TellsAll : Code → ℕ → List ℕ → ℕ → List Told → Type 0
+TellsAll code cells setup threads rows =
+    (file : File) (program : Program) (k : ℕ) → IsCells code cells → ActsInTime file program code → HasHistories file program code cells →
+    IsSetUp file program code cells k (machine_run (loaded code cells) setup) → length program.threads ≡ threads → (schedule : List ℕ) →
+    Fits file program cells schedule → IsToldBy rows (source_history file program schedule)
+
+-- So too: the history of each such schedule after which no thread acts is that of a row that ends.
+abbrev pub TellsEnds : Code → ℕ → List ℕ → ℕ → List Told → Type 0
+TellsEnds code cells setup threads rows =
+    (file : File) (program : Program) (k : ℕ) → IsCells code cells → ActsInTime file program code → HasHistories file program code cells →
+    HasSteps file program code cells → IsSetUp file program code cells k (machine_run (loaded code cells) setup) →
+    length program.threads ≡ threads → (schedule : List ℕ) → Fits file program cells schedule →
+    IsOver file program (source_run file program schedule) → HasEnd rows (source_history file program schedule)

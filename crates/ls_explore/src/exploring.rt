@@ -1,0 +1,73 @@
+// All that threads lead to from the machine after a setup.
+
+ghost use Rattle.std.specs.Prelude.{◌≡◌, ◌+◌, IfOk, IsTrue, IsErrOf, ◌↔◌, ◌≤◌, length};
+ghost use Rattle.ls_headline.specs.Translations.{most_silent};
+ghost use Rattle.ls_machine.specs.Room.{AreBadCells};
+ghost use Rattle.ls_explore.specs.Rows.{TellsAll, TellsEnds, TellsOver, TellsTruth};
+
+use crate::rows::Row;
+use crate::searching::search;
+use crate::table::tell;
+use crate::walking::Ground;
+use ls_code::code::Code;
+use ls_events::schedule::Schedule;
+use ls_machine::{LoadFault, Machine};
+use std::alloc::Global;
+
+/// Histories with paths that lead to them, whether they are all, and how many states were kept.
+#[derive(Drop)]
+pub struct Exploration {
+    pub rows: Vec<Row>,
+    pub complete: bool,
+    pub states: usize,
+}
+
+/// The most silent steps of a thread in a row, and one more.
+fn most_steps(code: &Code) -> u64
+    requires { length code.now.instructions ≤ 65536 }
+    ensures { result ≡ most_silent code.now + 1 }
+{
+    64 * (code.instructions().len() as u64) + 1
+}
+
+/// Explores all that so many threads lead to from the machine after the setup's steps, on so many cells, and keeps at most so many
+/// states. Each row's history is that of a schedule of source steps: those of the setup, and then one of each thread of the row's path.
+/// After the schedule of a row that is over no thread of the source acts.
+///
+/// Where the rows are complete, the history of each schedule of source steps that fits the cells, of any length, is the beginning of
+/// a row's, and that of one after which no thread acts is that of a row that ends. This is so for each text that the code runs as.
+///
+/// First come the rows of the paths that end, the shortest first and among those of one length the least. Then come the others, the
+/// last path first.
+pub fn explore(
+    alloc: Global,
+    code: &Code,
+    cells: usize,
+    setup: &Schedule,
+    threads: u8,
+    limit: usize,
+) -> Result<Exploration, LoadFault>
+    requires { length code.now.instructions ≤ 65536 }
+    ensures bad { IsErrOf result LoadFault.BadCells ↔ AreBadCells code.now.names cells }
+    ensures told { IfOk result (λ e. TellsTruth code.now cells setup.now e.rows.items) }
+    ensures over { IfOk result (λ e. TellsOver code.now cells setup.now threads e.rows.items) }
+    ensures tells { IfOk result (λ e. IsTrue e.complete → TellsAll code.now cells setup.now threads e.rows.items) }
+    ensures ends { IfOk result (λ e. IsTrue e.complete → TellsEnds code.now cells setup.now threads e.rows.items) }
+{
+    let mut walker = Machine::load(alloc, code, cells)?;
+    let mut other = Machine::load(alloc, code, cells)?;
+    let ground = Ground {
+        alloc,
+        setup,
+        most: most_steps(code),
+        threads,
+        limit,
+    };
+    let found = search(&mut walker, &mut other, &ground)?;
+    let rows = tell(&mut walker, &ground, &found)?;
+    Ok(Exploration {
+        rows,
+        complete: found.complete,
+        states: found.paths.len(),
+    })
+}

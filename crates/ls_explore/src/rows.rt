@@ -1,0 +1,152 @@
+// Rows: histories with paths that lead to them.
+
+ghost use Rattle.std.specs.Prelude.{◌≡◌, IfOk, IsTrue, false};
+ghost use Rattle.ls_explore.specs.Rows.{IsEnd, ending_of};
+ghost use Rattle.ls_explore_laws.specs.Explored.{IsBeginning};
+
+use crate::searching::Seen;
+use ls_events::event::Event;
+use ls_machine::sameness::are_same_events;
+use std::alloc::{AllocError, Global};
+use std::marker::Model;
+
+/// How a row ends: what the threads do after its path.
+#[derive(Copy, PartialEq, Eq)]
+pub enum Ending {
+    /// No thread acts any more: each has ended, is trapped, or waits for ever.
+    Over,
+    /// No thread acts any more, and one would need more cells than there are.
+    OutOfCells,
+    /// A thread acts.
+    GoesOn,
+    /// What the threads do wasn't looked at, since the states that may be kept were used up.
+    NotSeen,
+}
+
+impl Clone for Ending {
+    fn clone(&self) -> Result<Ending, AllocError> {
+        Ok(*self)
+    }
+}
+
+/// How a path ends, by what is seen after it.
+pub(crate) fn ending_of(seen: Option<Seen>) -> Ending
+    ensures { result ≡ ending_of seen }
+{
+    match seen {
+        None => Ending::NotSeen,
+        Some(
+            Seen {
+                acts: true,
+                stops: _,
+            },
+        ) => Ending::GoesOn,
+        Some(
+            Seen {
+                acts: false,
+                stops: true,
+            },
+        ) => Ending::OutOfCells,
+        Some(
+            Seen {
+                acts: false,
+                stops: false,
+            },
+        ) => Ending::Over,
+    }
+}
+
+/// Whether no thread acts any more.
+pub(crate) fn is_end(ending: Ending) -> bool
+    ensures is { IsTrue result → IsEnd ending }
+    ensures none { result ≡ false → IsEnd ending → ⊥ }
+{
+    match ending {
+        Ending::Over | Ending::OutOfCells => true,
+        Ending::GoesOn | Ending::NotSeen => false,
+    }
+}
+
+/// Whether events begin with others. True only where they do.
+fn begin_so(events: &[Event], first: &[Event]) -> bool
+    ensures { IsTrue result → IsBeginning first.now events.now }
+{
+    let count = first.len();
+    if count > events.len() {
+        return false;
+    }
+    let part = &events[..count];
+    are_same_events(part, first)
+}
+
+/// A history, a path that leads to a machine of that history, and what the threads do after it. A path has the thread of each source
+/// step after the setup's.
+#[derive(Drop)]
+pub struct Row {
+    path: Vec<u8>,
+    history: Vec<Event>,
+    ending: Ending,
+}
+
+impl Model for Row {
+    ghost use Rattle.ls_explore.specs.Rows.{Told};
+
+    ghost Value = { Told };
+
+    ghost view = { λ r. record { path = r.path.items; history = r.history.items; ending = r.ending } };
+}
+
+impl Row {
+    /// A row of a path, a history and how it ends.
+    pub fn new(
+        alloc: Global,
+        path: &[u8],
+        history: &[Event],
+        ending: Ending,
+    ) -> Result<Row, AllocError>
+        ensures { IfOk result (λ r. r ≡ record { path = path.now; history = history.now; ending = ending }) }
+    {
+        let path = path.to_vec(alloc)?;
+        let history = history.iter().copied().collect(alloc)?;
+        Ok(Row {
+            path,
+            history,
+            ending,
+        })
+    }
+
+    /// The path.
+    pub fn path(&self) -> &[u8]
+        ensures { result.now ≡ self.now.path }
+    {
+        self.path.as_slice()
+    }
+
+    /// The events, in order.
+    pub fn history(&self) -> &[Event]
+        ensures { result.now ≡ self.now.history }
+    {
+        self.history.as_slice()
+    }
+
+    /// How it ends.
+    pub fn ending(&self) -> Ending
+        ensures { result ≡ self.now.ending }
+    {
+        self.ending
+    }
+
+    /// Whether it has a history. True only where it does.
+    pub(crate) fn is_of(&self, history: &[Event]) -> bool
+        ensures { IsTrue result → self.now.history ≡ history.now }
+    {
+        are_same_events(self.history.as_slice(), history)
+    }
+
+    /// Whether its history begins so. True only where it does.
+    pub(crate) fn begins(&self, history: &[Event]) -> bool
+        ensures { IsTrue result → IsBeginning history.now self.now.history }
+    {
+        begin_so(self.history.as_slice(), history)
+    }
+}

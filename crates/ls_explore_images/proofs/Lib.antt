@@ -1,0 +1,3 @@
+pub mod Settings
+pub mod Tellings
+pub mod Refusals

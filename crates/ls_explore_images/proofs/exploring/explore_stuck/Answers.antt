@@ -1,0 +1,19 @@
+use Rattle.std.proofs.Common.{◌≡◌, ◌∙◌, replicate, sym, ap, subst}
+use Rattle.ls_checked.specs.CheckedTree.{File}
+use Rattle.ls_checked.specs.CheckedProgram.{Program}
+use Rattle.ls_meaning.specs.Runs.{source_history}
+use Rattle.ls_translation.specs.Texts.{file_of, program_of}
+use Rattle.ls_explore.specs.Rows.{Told}
+use Rattle.ls_explore_images.specs.Tellings.{TellAll}
+use Rattle.ls_explore_images.proofs.Tellings.{stuck_all}
+use Rattle.ls_explore_images.proofs.exploring.explore_stuck.Goals as goal
+
+pub returns-clause-tells : goal.returns-clause-tells
+returns-clause-tells c = λ cells yes.
+    let file : File = file_of c.args.image.now in
+    let program : Program = program_of c.args.image.now in
+    let row : Told = c.in_ok-row.row in
+    let has : row.history ≡ source_history file program (replicate c.args.count 0) =
+    ap (λ (r : Told). r.history) c.in_ok-row.ensures ∙ c.as_slice.ensures.value ∙ c.in_ok-history.ensures ∙ ap (source_history file program) c.in_ok-steps.ensures in
+    subst (TellAll file program cells) (sym c.in_ok-vec.ensures.items)
+    (stuck_all file program c.args.count (c.stuck_covers.ensures file program c.args.count c.requires.stuck) row (ap (λ (r : Told). r.path) c.in_ok-row.ensures) has (ap (λ (r : Told). r.ending) c.in_ok-row.ensures) cells)

@@ -1,0 +1,25 @@
+-- What the rows of an image tell.
+use Rattle.std.specs.Prelude.{◌≡◌, ℕ, List, ◌++◌, replicate, Contains}
+use Rattle.ls_checked.specs.CheckedTree.{File}
+use Rattle.ls_checked.specs.CheckedProgram.{Program}
+use Rattle.ls_meaning.specs.Runs.{source_run, source_history}
+use Rattle.ls_headline.specs.Same.{Fits}
+use Rattle.ls_explore_laws.specs.Ends.{IsOver}
+use Rattle.ls_explore.specs.declared.rows.Ending.TheVariants.{Over}
+use Rattle.ls_explore.specs.Rows.{HasEnd, IsToldBy, Told}
+
+-- the schedule of a row: so many steps of the setup, and then one of each thread of its path
+abbrev pub schedule_of : ℕ → Told → List ℕ
+schedule_of k r = replicate k 0 ++ r.path
+
+-- Each row's history is that of its schedule; and after the schedule of a row that is over no thread acts.
+pub record TellTruth (file : File) (program : Program) (k : ℕ) (rows : List Told) : Type 0 where
+  pub told : (r : Told) → Contains rows r → r.history ≡ source_history file program (schedule_of k r)
+  pub over : (r : Told) → Contains rows r → r.ending ≡ Over → IsOver file program (source_run file program (schedule_of k r))
+
+-- The history of each schedule of source steps that fits the cells, of any length, is the beginning of a row's; and that of one after which no thread
+-- acts is that of a row that ends.
+pub record TellAll (file : File) (program : Program) (cells : ℕ) (rows : List Told) : Type 0 where
+  pub begun : (schedule : List ℕ) → Fits file program cells schedule → IsToldBy rows (source_history file program schedule)
+  pub ended : (schedule : List ℕ) → Fits file program cells schedule → IsOver file program (source_run file program schedule) →
+      HasEnd rows (source_history file program schedule)

@@ -1,0 +1,142 @@
+// All schedules of the program of an image.
+
+ghost use Rattle.std.specs.Prelude.{◌≡◌, ◌<◌, ◌≤◌, ◌⊎◌, ◌↔◌, ℕ, IfErr, IfOk, IsErrOf, IsTrue, length};
+ghost use Rattle.ls_headline.specs.Same.{IsCells};
+ghost use Rattle.ls_image.specs.Images.{code_of_image};
+ghost use Rattle.ls_machine.specs.Room.{AreBadCells};
+ghost use Rattle.ls_translation.specs.Texts.{file_of, program_of};
+ghost use Rattle.ls_explore_laws.specs.Stuck.{IsStuck};
+ghost use Rattle.ls_explore_images.specs.Faults.{IsLate};
+ghost use Rattle.ls_explore_images.specs.Settings.{EndsAt, GoesOnAfter};
+ghost use Rattle.ls_explore_images.specs.Tellings.{TellAll, TellTruth};
+
+use crate::fault::ExploreFault;
+use crate::setting::{Setting, set_up, setting_of, setup_steps};
+use ls_explore::{Ending, Exploration, Row, explore};
+use ls_explore_laws::laws::stuck_covers;
+use ls_image::image::Image;
+use ls_image::laws::acts_in_time;
+use ls_machine::MOST_CELLS;
+use ls_translation::play_source;
+use std::alloc::{AllocError, Global};
+
+/// The most states that are kept.
+pub const MOST_STATES: usize = 16_777_216;
+
+/// How many source steps the setup takes; histories with paths that lead to them, whether they are all, and how many states were
+/// kept.
+#[derive(Drop)]
+pub struct ImageExploration {
+    pub setup: usize,
+    pub rows: Vec<Row>,
+    pub complete: bool,
+    pub states: usize,
+}
+
+/// Nothing: the code of an image is short.
+fn is_short(image: &Image)
+    ensures { length (code_of_image image.now).instructions ≤ 65536 }
+{}
+
+/// How many threads the program of an image has, the setup with them.
+fn count_threads(image: &Image) -> u8
+    ensures { length (program_of image.now).threads ≡ result }
+{
+    image.code().starts().len() as u8
+}
+
+/// Whether no machine of an image can have so many cells.
+fn are_bad_cells(image: &Image, cells: usize) -> bool
+    ensures { IsTrue result ↔ AreBadCells (code_of_image image.now).names cells }
+{
+    cells == 0 || cells > MOST_CELLS || cells < image.code().names()
+}
+
+/// What there is of a setup that stands still after so many steps: its history alone.
+fn explore_stuck(alloc: Global, image: &Image, count: usize) -> Result<ImageExploration, AllocError>
+    requires few { count ≤ 100000 }
+    requires stuck { IsStuck (file_of image.now) (program_of image.now) count }
+    ensures told { IfOk result (λ e. TellTruth (file_of image.now) (program_of image.now) e.setup e.rows.items) }
+    ensures tells { (cells : ℕ) → IfOk result (λ e. IsTrue e.complete → TellAll (file_of image.now) (program_of image.now) cells e.rows.items) }
+{
+    stuck_covers();
+    let steps = setup_steps(alloc, count)?;
+    let history = play_source(alloc, image, &steps)?;
+    let row = Row::new(alloc, &[], history.as_slice(), Ending::Over)?;
+    Ok(ImageExploration {
+        setup: count,
+        rows: vec![in alloc; row]?,
+        complete: true,
+        states: 1,
+    })
+}
+
+/// What there is after a setup that ends with so many steps.
+fn explore_rest(
+    alloc: Global,
+    image: &Image,
+    cells: usize,
+    states: usize,
+    count: usize,
+) -> Result<ImageExploration, ExploreFault>
+    requires cells { IsCells (code_of_image image.now) cells }
+    requires few { count ≤ 100000 }
+    requires ends { EndsAt (file_of image.now) (program_of image.now) count }
+    ensures late { IfErr result (IsLate (code_of_image image.now).names cells) }
+    ensures told { IfOk result (λ e. TellTruth (file_of image.now) (program_of image.now) e.setup e.rows.items) }
+    ensures tells { IfOk result (λ e. IsTrue e.complete → TellAll (file_of image.now) (program_of image.now) cells e.rows.items) }
+{
+    acts_in_time(image);
+    is_short(image);
+    let steps = set_up(alloc, image, cells, count)?;
+    let threads = count_threads(image);
+    let Exploration {
+        rows,
+        complete,
+        states,
+    } = explore(alloc, image.code(), cells, &steps, threads, states)?;
+    Ok(ImageExploration {
+        setup: count,
+        rows,
+        complete,
+        states,
+    })
+}
+
+/// Explores all schedules of the program of an image on so many cells, and keeps at most so many states.
+///
+/// Each row's history is that of its schedule of source steps: those of the setup, and then one of each thread of the row's path. After the schedule of a row that is over no thread acts: each has ended, is trapped, or waits for ever.
+///
+/// Where the rows are complete, the history of each schedule of source steps that fits the cells, of any length, is the beginning of
+/// a row's, and that of one after which no thread acts is that of a row that ends. A setup that is trapped has its one history.
+///
+/// Refused with 61 where no states may be kept, or more than 16,777,216; else with 35 as `replay` is; else with 62 where the setup has
+/// not ended in 100,000 source steps; else as the setup's translation to the machine is, with 43 or 44.
+pub fn explore_image(
+    alloc: Global,
+    image: &Image,
+    cells: usize,
+    states: usize,
+) -> Result<ImageExploration, ExploreFault>
+    ensures states { IsErrOf result ExploreFault.BadStates ↔ ((states ≡ 0) ⊎ (16777216 < states)) }
+    ensures cells { IsErrOf result ExploreFault.BadCells → AreBadCells (code_of_image image.now).names cells }
+    ensures good { IfOk result (λ e. AreBadCells (code_of_image image.now).names cells → ⊥) }
+    ensures endless { IsErrOf result ExploreFault.SetupEndless → GoesOnAfter (file_of image.now) (program_of image.now) 100001 }
+    ensures told { IfOk result (λ e. TellTruth (file_of image.now) (program_of image.now) e.setup e.rows.items) }
+    ensures tells { IfOk result (λ e. IsTrue e.complete → TellAll (file_of image.now) (program_of image.now) cells e.rows.items) }
+{
+    if states == 0 || states > MOST_STATES {
+        return Err(ExploreFault::BadStates);
+    }
+    if are_bad_cells(image, cells) {
+        return Err(ExploreFault::BadCells);
+    }
+    let file = image.checked().file();
+    let program = image.program();
+    let setting = setting_of(alloc, file, program)?;
+    match setting {
+        Setting::Ends(count) => explore_rest(alloc, image, cells, states, count),
+        Setting::Sticks(count) => Ok(explore_stuck(alloc, image, count)?),
+        Setting::GoesOn => Err(ExploreFault::SetupEndless),
+    }
+}

@@ -1,0 +1,9 @@
+//! All schedules of an image at once.
+#![tactic(auto)]
+
+mod exploring;
+mod fault;
+mod setting;
+
+pub use exploring::{ImageExploration, MOST_STATES, explore_image};
+pub use fault::ExploreFault;

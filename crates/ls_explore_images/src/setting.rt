@@ -1,0 +1,128 @@
+// The setup of a program, from the source and on a machine.
+
+ghost use Rattle.std.specs.Prelude.{◌≡◌, ◌≤◌, IfErr, IfOk, IsTrue, false, true, replicate, slice_get};
+ghost use Rattle.ls_code.specs.Machine.{loaded, machine_run, setup_ended};
+ghost use Rattle.ls_checked.specs.Plain.{plain_file};
+ghost use Rattle.ls_checked.specs.PlainProgram.{plain_program};
+ghost use Rattle.ls_headline.specs.Same.{IsCells};
+ghost use Rattle.ls_image.specs.Images.{code_of_image};
+ghost use Rattle.ls_explore_laws.specs.Explored.{IsSetUp};
+ghost use Rattle.ls_explore_images.specs.Faults.{IsLate};
+ghost use Rattle.ls_explore_images.specs.Settings.{EndsAt, IsFew, IsSetting};
+ghost use Rattle.ls_translation.specs.MachineRuns.{has_acted};
+ghost use Rattle.ls_translation.specs.Texts.{file_of, program_of};
+
+use crate::fault::ExploreFault;
+use ls_checked::program::Program;
+use ls_checked::tree::File;
+use ls_code::step::ThreadState;
+use ls_events::schedule::Schedule;
+use ls_image::image::Image;
+use ls_machine::Machine;
+use ls_meaning::step::Did;
+use ls_source::run::SourceRun;
+use ls_translation::laws::translates_back;
+use ls_translation::to_machine;
+use std::alloc::{AllocError, Global};
+
+/// The most source steps of a setup, and one more.
+const TOO_MANY_STEPS: usize = 100_001;
+
+/// How the setup goes.
+#[derive(Copy)]
+pub(crate) enum Setting {
+    /// It ends after so many source steps.
+    Ends(usize),
+    /// It stands still after so many, and has not ended: it has been trapped.
+    Sticks(usize),
+    /// It has not ended with as many as it may take.
+    GoesOn,
+}
+
+impl Clone for Setting {
+    fn clone(&self) -> Result<Setting, AllocError> {
+        Ok(*self)
+    }
+}
+
+/// Whether a step of the source acted.
+fn has_acted(did: &Did) -> bool
+    ensures { result ≡ has_acted did.now }
+{
+    match did {
+        Did::Acted(_, _) => true,
+        Did::Waits | Did::Idle => false,
+    }
+}
+
+/// How the setup goes.
+pub(crate) fn setting_of(
+    alloc: Global,
+    file: &File,
+    program: &Program,
+) -> Result<Setting, AllocError>
+    ensures setting { IfOk result (IsSetting (plain_file file.now) (plain_program program.now)) }
+    ensures few { IfOk result IsFew }
+{
+    let mut run = SourceRun::new(alloc, file, program)?;
+    for count in 0..TOO_MANY_STEPS {
+        if run.has_setup_ended()? {
+            return Ok(Setting::Ends(count));
+        }
+        let did = run.step(alloc, 0)?;
+        if !has_acted(&did) {
+            return Ok(Setting::Sticks(count));
+        }
+    }
+    Ok(Setting::GoesOn)
+}
+
+/// So many steps of the setup.
+pub(crate) fn setup_steps(alloc: Global, count: usize) -> Result<Schedule, AllocError>
+    requires { count ≤ 100000 }
+    ensures { IfOk result (λ schedule. schedule ≡ replicate count 0) }
+{
+    let steps = vec![in alloc; 0usize; count]?;
+    Ok(Schedule::of(steps))
+}
+
+/// Whether a machine hasn't stopped and its setup has ended. True only where it is so.
+fn is_ready(machine: &Machine) -> bool
+    ensures goes { IsTrue result → machine.now.stopped ≡ false }
+    ensures ready { IsTrue result → setup_ended (slice_get machine.now.threads 0) ≡ true }
+{
+    if !machine.is_set_up() {
+        return false;
+    }
+    match machine.state_of(0) {
+        ThreadState::Ended => true,
+        ThreadState::NotStarted
+        | ThreadState::Running
+        | ThreadState::Trapped
+        | ThreadState::Stopped => false,
+    }
+}
+
+/// The steps of a machine of an image, with so many cells, that set its program up, where its source does so with so many steps.
+pub(crate) fn set_up(
+    alloc: Global,
+    image: &Image,
+    cells: usize,
+    count: usize,
+) -> Result<Schedule, ExploreFault>
+    requires cells { IsCells (code_of_image image.now) cells }
+    requires few { count ≤ 100000 }
+    requires ends { EndsAt (file_of image.now) (program_of image.now) count }
+    ensures late { IfErr result (IsLate (code_of_image image.now).names cells) }
+    ensures steps { IfOk result (λ steps. IsSetUp (file_of image.now) (program_of image.now) (code_of_image image.now) cells count (machine_run (loaded (code_of_image image.now) cells) steps)) }
+{
+    translates_back(image, cells);
+    let source = setup_steps(alloc, count)?;
+    let steps = to_machine(alloc, image, cells, &source)?;
+    let mut machine = Machine::load(alloc, image.code(), cells)?;
+    machine.run(&steps);
+    if !is_ready(&machine) {
+        return Err(ExploreFault::NotSetUp);
+    }
+    Ok(steps)
+}

@@ -1,0 +1,10 @@
+pub mod SourceSteps
+pub mod Bursting
+pub mod Open
+pub mod Following
+pub mod SettingUp
+pub mod Covering
+pub mod Along
+pub mod Ending
+pub mod Rounds
+pub mod Sticking

@@ -1,0 +1,4 @@
+pub mod Bursts
+pub mod Explored
+pub mod Ends
+pub mod Stuck

@@ -1,0 +1,44 @@
+// The laws, each as the contract of a function that computes nothing.
+
+ghost use Rattle.ls_explore_laws.specs.Bursts.{NeverActs};
+ghost use Rattle.ls_explore_laws.specs.Explored.{Covers, LeadsAsSource};
+ghost use Rattle.ls_explore_laws.specs.Ends.{Ends, StandsStill, StandsStillAlong};
+ghost use Rattle.ls_explore_laws.specs.Stuck.{StuckCovers};
+
+/// A list of machines that has the one whose setup has ended, and is closed under what each thread does until it acts, shows the
+/// history of each schedule of source steps that fits the cells, of any length.
+pub fn covers()
+    ensures { Covers }
+{}
+
+/// Such a list has, for each schedule that fits and after which no thread of the source acts, a machine of the same history in which no
+/// thread acts.
+pub fn ends()
+    ensures { Ends }
+{}
+
+/// Where each thread of a machine that hasn't stopped stands still, no thread of the source acts.
+pub fn stands_still()
+    ensures { StandsStill }
+{}
+
+/// The machine to which threads lead from the one whose setup has ended has the history of a schedule of source steps: those of the
+/// setup, and then one of each of these threads.
+pub fn leads_as_source()
+    ensures { LeadsAsSource }
+{}
+
+/// Where threads lead to a machine whose threads are all quiet, no thread of the source acts after the same steps.
+pub fn stands_still_along()
+    ensures { StandsStillAlong }
+{}
+
+/// Where the setup is stuck, its history is the only one: each schedule has a beginning of it.
+pub fn stuck_covers()
+    ensures { StuckCovers }
+{}
+
+/// A thread that comes back in silence to where it stood never acts: so it is one that waits for a lock.
+pub fn never_acts()
+    ensures { NeverActs }
+{}
