@@ -65,3 +65,7 @@ a_drawing p = refl
 version : (p : ValueParser) → request_of p (codes "listset" ∷ codes "--version" ∷ []) ≡ None
 unfolding clap_on_literals
 version p = refl
+
+few_states : (p : ValueParser) → request_of p (codes "listset" ∷ codes "explore" ∷ codes "--states" ∷ codes "12" ∷ []) ≡ Some (plainly (request.Explore 65536 12))
+unfolding clap_on_literals
+few_states p = refl

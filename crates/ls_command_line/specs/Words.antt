@@ -79,6 +79,9 @@ batch_line =
     (number_rule true (codes "steps")))
     cells_rule
 
+abbrev pub explore_line : App
+explore_line = with_rule (with_rule (with_explain (codes "explore")) cells_rule) (number_rule false (codes "states"))
+
 -- the program without its commands, one of which is wanted
 abbrev pub top_line : App
 top_line = on_top (λ s. record s { has_version = true; subcommand_required = true }) (new_app (codes "listset"))
@@ -94,7 +97,10 @@ line p =
     (with_subcommand
     (with_subcommand
     (with_subcommand
+    (with_subcommand
+    (with_subcommand
     (with_subcommand top_line (with_explain (codes "check")).top)
+    (with_explain (codes "order")).top)
     (with_explain (codes "compile")).top)
     replay_line.top)
     (with_explain (codes "source")).top)
@@ -102,7 +108,8 @@ line p =
     state_line.top)
     (translate_line p).top)
     live_line.top)
-    batch_line.top
+    batch_line.top)
+    explore_line.top
 
 -- the number that a text writes, and else the default
 abbrev pub number_or : ℕ → Option Text → ℕ
@@ -129,7 +136,8 @@ side_of rows = option_map_or named_side (first_of (codes "to") rows) sides.Machi
 -- what a command of this name with these options asks for
 abbrev pub asked : Text → List Row → Request
 asked name rows =
-    if bytes_eq name (codes "compile") then requests.Compile
+    if bytes_eq name (codes "order") then requests.Order
+    else (if bytes_eq name (codes "compile") then requests.Compile
     else (if bytes_eq name (codes "replay") then requests.Replay (cells_of rows) (flag_of (codes "live") rows)
     else (if bytes_eq name (codes "source") then requests.Source
     else (if bytes_eq name (codes "trace") then requests.Trace (number_of (codes "from") 1 rows) (number_of (codes "to") 1000000 rows)
@@ -138,7 +146,8 @@ asked name rows =
     else (if bytes_eq name (codes "live") then requests.Live (cells_of rows) (number_of (codes "limit") 5000 rows)
     else (if bytes_eq name (codes "batch")
     then requests.Batch (number_of (codes "seed") 0 rows) (number_of (codes "count") 0 rows) (number_of (codes "steps") 0 rows) (cells_of rows)
-    else requests.Check)))))))
+    else (if bytes_eq name (codes "explore") then requests.Explore (cells_of rows) (number_of (codes "states") 1000000 rows)
+    else requests.Check)))))))))
 
 -- with what all commands are asked
 abbrev pub asked_by : Option (Text × List Row) → CommandLine

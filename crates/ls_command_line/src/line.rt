@@ -3,7 +3,7 @@
 ghost use Rattle.std.specs.Prelude.{◌≡◌, IfOk, codes, false};
 ghost use Rattle.clap.specs.Words.{App, Rule, app_of, rule_of, with_rule, with_subcommand};
 ghost use Rattle.clap.specs.declared.builder.command.Command.TheViews.{out-Command};
-ghost use Rattle.ls_command_line.specs.Words.{NamesSides, batch_line, flag_rule, line, live_line, number_rule, replay_line, side_rule, state_line, top_line, trace_line, translate_line, u64_parser, with_explain};
+ghost use Rattle.ls_command_line.specs.Words.{NamesSides, batch_line, explore_line, flag_rule, line, live_line, number_rule, replay_line, side_rule, state_line, top_line, trace_line, translate_line, u64_parser, with_explain};
 
 use clap::{Arg, ArgAction, Command};
 use std::alloc::{AllocError, Global};
@@ -93,7 +93,7 @@ fn cells_option<'a>(alloc: Global) -> Arg<'a>
         alloc,
         "cells",
         false,
-        "how many words of memory the machine has, 1 to 1048576 [default: 65536]",
+        "how many words of memory the machine has, 1 to 4194304 [default: 65536]",
     )
 }
 
@@ -204,6 +204,26 @@ fn batch_command<'a>(alloc: Global) -> Result<Command<'a>, AllocError>
     with_option(with_option(command, steps), cells_option(alloc))
 }
 
+fn explore_command<'a>(alloc: Global) -> Result<Command<'a>, AllocError>
+    ensures shape { IfOk result (λ c. app_of c ≡ explore_line) }
+    ensures local { IfOk result (λ c. (out-Command c).has_globals ≡ false) }
+{
+    let command = plain_command(
+        alloc,
+        "explore",
+        "Finds the histories of all schedules of a program, with a schedule of source steps for each",
+        "Standard input has two parts, class text and thread program, with a line %% between them:\n  \
+         printf 'class C { }\\n%%%%\\nsetup { c = new C(); }\\n' | listset explore",
+    );
+    let states = number_option(
+        alloc,
+        "states",
+        false,
+        "how many states are kept at the most, 1 to 16777216 [default: 1000000]",
+    );
+    with_option(with_option(command, cells_option(alloc)), states)
+}
+
 fn check_command<'a>(alloc: Global) -> Result<Command<'a>, AllocError>
     ensures shape { IfOk result (λ c. app_of c ≡ with_explain (codes "check")) }
     ensures local { IfOk result (λ c. (out-Command c).has_globals ≡ false) }
@@ -214,6 +234,19 @@ fn check_command<'a>(alloc: Global) -> Result<Command<'a>, AllocError>
         "Tells whether an order of a history's set calls is legal",
         "Standard input has two parts, a history and an order, with a line %% between them:\n  \
          printf 'A.1 call s.add(1)\\nA.1 return true\\n%%%%\\nA.1\\n' | listset check",
+    )
+}
+
+fn order_command<'a>(alloc: Global) -> Result<Command<'a>, AllocError>
+    ensures shape { IfOk result (λ c. app_of c ≡ with_explain (codes "order")) }
+    ensures local { IfOk result (λ c. (out-Command c).has_globals ≡ false) }
+{
+    plain_command(
+        alloc,
+        "order",
+        "Finds a legal order of a history's set calls, or the event with which there is none",
+        "Standard input is a history:\n  \
+         printf 'A.1 call s.add(1)\\nA.1 return true\\n' | listset order",
     )
 }
 
@@ -304,6 +337,7 @@ pub(crate) fn program<'a>(alloc: Global) -> Result<Command<'a>, AllocError>
 {
     let program = Ok(top_command(alloc));
     let program = with_command(program, check_command(alloc));
+    let program = with_command(program, order_command(alloc));
     let program = with_command(program, compile_command(alloc));
     let program = with_command(program, replay_command(alloc));
     let program = with_command(program, source_command(alloc));
@@ -311,5 +345,6 @@ pub(crate) fn program<'a>(alloc: Global) -> Result<Command<'a>, AllocError>
     let program = with_command(program, state_command(alloc));
     let program = with_command(program, translate_command(alloc));
     let program = with_command(program, live_command(alloc));
-    with_command(program, batch_command(alloc))
+    let program = with_command(program, batch_command(alloc));
+    with_command(program, explore_command(alloc))
 }

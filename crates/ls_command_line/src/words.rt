@@ -26,6 +26,7 @@ impl Clone for Side {
 #[derive(Copy)]
 pub enum Request {
     Check,
+    Order,
     Compile,
     Replay {
         cells: u64,
@@ -55,6 +56,11 @@ pub enum Request {
         steps: u64,
         cells: u64,
     },
+    /// The cells of the machine, and the most states that are kept.
+    Explore {
+        cells: u64,
+        states: u64,
+    },
 }
 
 impl Clone for Request {
@@ -79,6 +85,9 @@ impl Clone for CommandLine {
 
 /// The cells of a machine where none are asked for.
 const CELLS: u64 = 65_536;
+
+/// The states that are kept where no number is asked for.
+const STATES: u64 = 1_000_000;
 
 /// The steps that a live run records where no limit is asked for.
 const LIMIT: u64 = 5_000;
@@ -173,6 +182,7 @@ fn asked(name: &str, options: &ArgMatches<'_>) -> Request
     ensures { result ≡ asked name.now (rows_of (found_of options.now)) }
 {
     match name {
+        "order" => Request::Order,
         "compile" => Request::Compile,
         "replay" => Request::Replay {
             cells: number(options, "cells", CELLS),
@@ -199,6 +209,10 @@ fn asked(name: &str, options: &ArgMatches<'_>) -> Request
             count: number(options, "count", 0),
             steps: number(options, "steps", 0),
             cells: number(options, "cells", CELLS),
+        },
+        "explore" => Request::Explore {
+            cells: number(options, "cells", CELLS),
+            states: number(options, "states", STATES),
         },
         _ => Request::Check,
     }

@@ -1,5 +1,5 @@
 -- What is said behind the line of a fault.
-use Rattle.std.specs.Prelude.{ℕ, ◌+◌, ◌-◌, ◌==◌, ◌&&◌, max, Bool, true, false, List, [], ◌∷◌, ◌++◌, take, Option, Some, None, replicate, slice_get, codes, if◌then◌else◌}
+use Rattle.std.specs.Prelude.{ℕ, ◌+◌, ◌-◌, ◌==◌, ◌&&◌, max, Bool, true, false, List, [], ◌∷◌, ◌++◌, length, take, Option, Some, None, replicate, slice_get, codes, if◌then◌else◌}
 use Rattle.std.specs.Fmt.{decimal}
 use Rattle.std.specs.List.{flat_map, list_any}
 use Rattle.std.specs.Option.{option_map_or}
@@ -10,6 +10,7 @@ use Rattle.ls_explanations.specs.declared.place.Part.{Part}
 use Rattle.ls_explanations.specs.declared.place.Part.TheVariants as parts
 use Rattle.ls_explanations.specs.declared.place.Place.{Place}
 use Rattle.ls_explanations.specs.Places.{place_of}
+use Rattle.ls_explanations.specs.Sentences.{sentence}
 use Rattle.ls_explanations.specs.Spots.{Bytes, before, begins_character, characters, from_on, line_number}
 
 abbrev pub part_name : Part → Bytes
@@ -52,12 +53,14 @@ explanation place text = heading place.part text place.span.start ++ shown text 
 abbrev pub in_part : List Bytes → Place → Bytes
 in_part texts place = option_map_or (explanation place) (slice_get texts (part_number place.part)) []
 
--- a carriage return is white space in class texts and programs, and a part of a line elsewhere
+-- a part, empty where there is none
+abbrev pub part_text : List Bytes → ℕ → Bytes
+part_text texts number = option_map_or (λ t. t) (slice_get texts number) []
+
+-- a carriage return is a part of its line in histories and where parts are cut, and a gap or white space elsewhere
 abbrev pub minds_returns : ToolFault → Bool
 minds_returns faults.WrongParts = true
-minds_returns (faults.Schedule f) = true
 minds_returns (faults.History f) = true
-minds_returns (faults.Order f) = true
 minds_returns _ = false
 
 abbrev pub has_return : Bytes → Bool
@@ -69,6 +72,13 @@ return_hint = codes "lines end with a line feed alone here, and the input has ca
 abbrev pub hint : ToolFault → List Bytes → Bytes
 hint f texts = if minds_returns f && list_any has_return texts then return_hint else []
 
--- What is said of a fault of these parts. A fault without a place has no explanation.
+-- what is said where the command reads another number of parts
+abbrev pub counted : ToolFault → ℕ → Bytes
+counted faults.WrongParts count = codes "parts of this input: " ++ (decimal count ++ codes "\n")
+counted _ count = []
+
+-- What is said of a fault of these parts: where it stands, if it has a place, and what is wrong there.
 abbrev pub note : ToolFault → List Bytes → Bytes
-note f texts = option_map_or (in_part texts) (place_of f) [] ++ hint f texts
+note f texts =
+    option_map_or (in_part texts) (place_of f) []
+    ++ (sentence f (part_text texts 0) ++ (counted f (length texts) ++ hint f texts))

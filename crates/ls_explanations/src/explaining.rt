@@ -1,17 +1,18 @@
 // What is said behind the line of a fault.
 
-ghost use Rattle.std.specs.Prelude.{◌≡◌, ◌++◌, IfOk, OnOk, map, replicate, string_bytes};
+ghost use Rattle.std.specs.Prelude.{◌≡◌, ◌++◌, IfOk, OnOk, length, map, replicate, string_bytes};
 ghost use Rattle.std.specs.List.{flat_map, list_any};
-ghost use Rattle.ls_explanations.specs.Explanations.{explanation, has_return, heading, hint, in_part, marks, minds_returns, note, shown, space_below};
+ghost use Rattle.ls_explanations.specs.Explanations.{counted, explanation, has_return, heading, hint, in_part, marks, minds_returns, note, part_text, shown, space_below};
 
 use crate::place::{Part, Place, place_of};
+use crate::sentence::sentence;
 use crate::spot::{Spot, begins_character, characters, spot_of};
 use ls_faults::fault::ToolFault;
 use ls_lexer::token::Span;
 use std::alloc::{AllocError, Global};
 use std::fmt::Write;
 
-/// What is said where a carriage return isn't white space.
+/// What is said where a carriage return is a part of its line.
 const RETURN_HINT: &str =
     "lines end with a line feed alone here, and the input has carriage returns\n";
 
@@ -102,10 +103,7 @@ fn push_in_part(
 fn minds_returns(fault: ToolFault) -> bool
     ensures { result ≡ minds_returns fault }
 {
-    matches!(
-        fault,
-        ToolFault::WrongParts | ToolFault::Schedule(_) | ToolFault::History(_) | ToolFault::Order(_)
-    )
+    matches!(fault, ToolFault::WrongParts | ToolFault::History(_))
 }
 
 fn have_returns(texts: &[String]) -> bool
@@ -128,8 +126,44 @@ fn push_hint(out: &mut Vec<u8>, fault: ToolFault, texts: &[String]) -> Result<()
     Ok(())
 }
 
-/// What is said of a fault behind its line, as bytes to write: where its place is, and the line of that place with marks under it.
-/// A fault without a place has no more than a hint, if that.
+/// A part, empty where there is none.
+fn part_text(texts: &[String], number: usize) -> &[u8]
+    ensures { result.now ≡ part_text (map string_bytes texts.now) number }
+{
+    match texts.get(number) {
+        Some(text) => text.as_bytes(),
+        None => b"".as_slice(),
+    }
+}
+
+/// How many parts there are.
+fn count_of(texts: &[String]) -> usize
+    ensures { result ≡ length (map string_bytes texts.now) }
+{
+    texts.len()
+}
+
+/// How many parts there are, where the command reads another number of them.
+fn push_count(
+    alloc: Global,
+    out: &mut Vec<u8>,
+    fault: ToolFault,
+    count: usize,
+) -> Result<(), AllocError>
+    ensures { OnOk result (out.new.items ≡ out.old.items ++ counted fault count) }
+{
+    match fault {
+        ToolFault::WrongParts => {
+            let mut line = String::new(alloc);
+            write!(line, "parts of this input: {count}\n")?;
+            out.extend_from_slice(line.as_bytes())
+        }
+        _ => Ok(()),
+    }
+}
+
+/// What is said of a fault after its line, as bytes to write: where its place is, the line of that place with marks under it, and what
+/// is wrong there. A fault without a place has a sentence or a hint, or nothing.
 pub fn explain(alloc: Global, fault: ToolFault, texts: &[String]) -> Result<Vec<u8>, AllocError>
     ensures { IfOk result (λ bytes. bytes.items ≡ note fault (map string_bytes texts.now)) }
 {
@@ -137,6 +171,8 @@ pub fn explain(alloc: Global, fault: ToolFault, texts: &[String]) -> Result<Vec<
     if let Some(place) = place_of(fault) {
         push_in_part(alloc, &mut out, texts, place)?;
     }
+    out.extend_from_slice(sentence(fault, part_text(texts, 0)).as_bytes())?;
+    push_count(alloc, &mut out, fault, count_of(texts))?;
     push_hint(&mut out, fault, texts)?;
     Ok(out)
 }

@@ -1,8 +1,10 @@
-//! What `--explain` says behind a fault's line: the line of the text in which it stands, with a mark under its place.
+//! What `--explain` says behind a fault's line: the line of the text in which it stands, with a mark under its place, and
+//! what to write there.
 #![tactic(auto)]
 
 mod explaining;
 mod place;
+mod sentence;
 mod spot;
 
 pub use explaining::explain;

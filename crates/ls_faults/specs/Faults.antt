@@ -5,6 +5,8 @@ use Rattle.ls_report.specs.declared.fault.HistoryFault.{HistoryFault}
 use Rattle.ls_report.specs.declared.fault.HistoryFault.TheVariants as history
 use Rattle.ls_orders.specs.declared.fault.OrderFault.{OrderFault}
 use Rattle.ls_orders.specs.declared.fault.OrderFault.TheVariants as order
+use Rattle.ls_order_search.specs.declared.fault.SearchFault.{SearchFault}
+use Rattle.ls_order_search.specs.declared.fault.SearchFault.TheVariants as search
 use Rattle.ls_lexer.specs.declared.token.Span.{Span}
 use Rattle.ls_lexer.specs.declared.fault.TextFault.{TextFault}
 use Rattle.ls_lexer.specs.declared.fault.TextFault.TheVariants as text
@@ -35,6 +37,8 @@ use Rattle.ls_following.specs.declared.fault.PlayFault.{PlayFault as TurnsFault}
 use Rattle.ls_following.specs.declared.fault.PlayFault.TheVariants as turns
 use Rattle.ls_batch.specs.declared.fault.BatchFault.{BatchFault}
 use Rattle.ls_batch.specs.declared.fault.BatchFault.TheVariants as batch
+use Rattle.ls_explore_images.specs.declared.fault.ExploreFault.{ExploreFault}
+use Rattle.ls_explore_images.specs.declared.fault.ExploreFault.TheVariants as explore
 use Rattle.ls_faults.specs.declared.fault.ToolFault.{ToolFault}
 use Rattle.ls_faults.specs.declared.fault.ToolFault.TheVariants as faults
 
@@ -46,6 +50,11 @@ lifted_history f = faults.History f
 abbrev pub lifted_order : OrderFault → ToolFault
 lifted_order order.Memory = faults.Memory
 lifted_order f = faults.Order f
+
+abbrev pub lifted_search : SearchFault → ToolFault
+lifted_search search.Memory = faults.Memory
+lifted_search (search.BadHistory at) = faults.History (history.BadHistory at)
+lifted_search search.TooManyTrapped = faults.TooManyTrapped
 
 abbrev pub lifted_text : TextFault → ToolFault
 lifted_text text.Memory = faults.Memory
@@ -98,6 +107,12 @@ abbrev pub lifted_batch : BatchFault → ToolFault
 lifted_batch batch.Memory = faults.Memory
 lifted_batch batch.BadCells = faults.BadCells
 lifted_batch batch.BadCount = faults.Batch batch.BadCount
+
+abbrev pub lifted_explore : ExploreFault → ToolFault
+lifted_explore explore.Memory = faults.Memory
+lifted_explore explore.BadCells = faults.BadCells
+lifted_explore (explore.Setup f) = faults.Translation f
+lifted_explore f = faults.Explore f
 
 -- `fault N Name`
 abbrev pub plain : List ℕ → List ℕ
@@ -188,6 +203,14 @@ batch_line batch.Memory = plain (codes "1 Memory")
 batch_line batch.BadCells = plain (codes "35 BadCells")
 batch_line batch.BadCount = plain (codes "60 BadCount")
 
+abbrev pub explore_line : ExploreFault → List ℕ
+explore_line explore.Memory = plain (codes "1 Memory")
+explore_line explore.BadCells = plain (codes "35 BadCells")
+explore_line explore.BadStates = plain (codes "61 BadStates")
+explore_line explore.SetupEndless = plain (codes "62 SetupEndless")
+explore_line explore.NotSetUp = plain (codes "63 NotSetUp")
+explore_line (explore.Setup f) = translation_line f
+
 abbrev pub history_line : HistoryFault → List ℕ
 history_line history.Memory = plain (codes "1 Memory")
 history_line (history.BadHistory at) = placed (codes "77 BadHistory") at
@@ -208,8 +231,10 @@ fault_line (faults.Translation f) = translation_line f
 fault_line (faults.Live f) = live_line f
 fault_line (faults.Turns f) = turns_line f
 fault_line (faults.Batch f) = batch_line f
+fault_line (faults.Explore f) = explore_line f
 fault_line (faults.History f) = history_line f
 fault_line (faults.Order f) = order_line f
+fault_line faults.TooManyTrapped = plain (codes "79 TooManyTrapped")
 fault_line faults.WrongParts = plain (codes "80 WrongParts")
 fault_line faults.NotText = plain (codes "81 NotText")
 fault_line faults.ReadFailed = plain (codes "82 ReadFailed")

@@ -1,6 +1,5 @@
 -- Histories that are printed are read again.
-use Rattle.std.specs.Prelude.{◌≡◌, ◌++◌, ℕ, List, Result, Ok, Err}
-use Rattle.ls_schedule.specs.Printing.{schedule_text}
+use Rattle.std.specs.Prelude.{List, Result, Ok, Err}
 use Rattle.ls_report.specs.Events.{Event, Text}
 use Rattle.ls_report.specs.Reading.{Says}
 use Rattle.ls_faults.specs.declared.fault.ToolFault.{ToolFault}
@@ -13,9 +12,3 @@ IsHistoryText text = (events : List Event) × Says text events
 abbrev pub ReadsBack : Result Text ToolFault → Type 0
 ReadsBack (Ok text) = IsHistoryText text
 ReadsBack (Err f) = Unit {0}
-
--- where a text is answered, it is a schedule's and a history's behind it
-abbrev pub ReadsBackBehind : List Text → Result Text ToolFault → Type 0
-ReadsBackBehind names (Ok text) =
-    (steps : List ℕ) × (history : Text) × (text ≡ schedule_text names steps ++ history) × IsHistoryText history
-ReadsBackBehind names (Err f) = Unit {0}

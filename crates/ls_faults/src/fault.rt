@@ -1,18 +1,20 @@
 // Faults of the program and of the layers below.
 
 ghost use Rattle.std.specs.Prelude.{◌≡◌};
-ghost use Rattle.ls_faults.specs.Faults.{lifted_batch, lifted_build, lifted_cells, lifted_check, lifted_compile, lifted_history, lifted_live, lifted_order, lifted_program, lifted_schedule, lifted_text, lifted_translation, lifted_turns};
+ghost use Rattle.ls_faults.specs.Faults.{lifted_batch, lifted_build, lifted_cells, lifted_check, lifted_compile, lifted_explore, lifted_history, lifted_live, lifted_order, lifted_program, lifted_schedule, lifted_search, lifted_text, lifted_translation, lifted_turns};
 ghost use Rattle.ls_faults.specs.declared.fault.ToolFault.TheVariants.{Memory};
 
 use ls_batch::BatchFault;
 use ls_compiler::fault::CompileFault;
 use ls_emit::fault::EmitFault;
+use ls_explore_images::ExploreFault;
 use ls_following::{FollowFault, PlayFault as TurnsPlayFault};
 use ls_lexer::fault::TextFault;
 use ls_linker::fault::{BuildFault, LinkFault};
 use ls_live::{LiveFault, PlayFault as LivePlayFault};
 use ls_lowered::fault::LowerFault;
 use ls_machine::LoadFault;
+use ls_order_search::SearchFault;
 use ls_orders::OrderFault;
 use ls_report::HistoryFault;
 use ls_schedule::fault::ScheduleFault;
@@ -48,9 +50,13 @@ pub enum ToolFault {
     #[error(transparent)]
     Batch(BatchFault),
     #[error(transparent)]
+    Explore(ExploreFault),
+    #[error(transparent)]
     History(HistoryFault),
     #[error(transparent)]
     Order(OrderFault),
+    #[error("an item has more trapped calls than are decided on")]
+    TooManyTrapped,
     #[error("the command wants another number of parts")]
     WrongParts,
     #[error("the input isn't UTF-8")]
@@ -95,6 +101,18 @@ impl From<OrderFault> for ToolFault {
         match fault {
             OrderFault::Memory => ToolFault::Memory,
             other => ToolFault::Order(other),
+        }
+    }
+}
+
+impl From<SearchFault> for ToolFault {
+    ghost from_gives = { λ f e. e ≡ lifted_search f };
+
+    fn from(fault: SearchFault) -> ToolFault {
+        match fault {
+            SearchFault::Memory => ToolFault::Memory,
+            SearchFault::BadHistory { at } => ToolFault::History(HistoryFault::BadHistory { at }),
+            SearchFault::TooManyTrapped => ToolFault::TooManyTrapped,
         }
     }
 }
@@ -224,6 +242,19 @@ impl From<BatchFault> for ToolFault {
             BatchFault::Memory => ToolFault::Memory,
             BatchFault::BadCells => ToolFault::BadCells,
             BatchFault::BadCount => ToolFault::Batch(BatchFault::BadCount),
+        }
+    }
+}
+
+impl From<ExploreFault> for ToolFault {
+    ghost from_gives = { λ f e. e ≡ lifted_explore f };
+
+    fn from(fault: ExploreFault) -> ToolFault {
+        match fault {
+            ExploreFault::Memory => ToolFault::Memory,
+            ExploreFault::BadCells => ToolFault::BadCells,
+            ExploreFault::Setup(fault) => ToolFault::Translation(fault),
+            other => ToolFault::Explore(other),
         }
     }
 }

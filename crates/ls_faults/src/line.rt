@@ -1,11 +1,12 @@
 // The line of a fault, made without memory.
 
 ghost use Rattle.std.specs.Prelude.{◌≡◌, ◌≤◌, length};
-ghost use Rattle.ls_faults.specs.Faults.{batch_line, build_line, cells_line, check_line, fault_line, live_line, placed, plain, program_line, rule_name, schedule_line, spanned, text_line, translation_line, turns_line};
+ghost use Rattle.ls_faults.specs.Faults.{batch_line, build_line, cells_line, check_line, explore_line, fault_line, live_line, placed, plain, program_line, rule_name, schedule_line, spanned, text_line, translation_line, turns_line};
 
 use crate::fault::ToolFault;
 use ls_batch::BatchFault;
 use ls_emit::fault::EmitFault;
+use ls_explore_images::ExploreFault;
 use ls_following::{FollowFault, PlayFault as TurnsPlayFault};
 use ls_lexer::fault::TextFault;
 use ls_lexer::token::Span;
@@ -265,6 +266,19 @@ fn batch_line(fault: BatchFault) -> Line
     }
 }
 
+fn explore_line(fault: ExploreFault) -> Line
+    ensures { result ≡ explore_line fault }
+{
+    match fault {
+        ExploreFault::Memory => plain("1 Memory"),
+        ExploreFault::BadCells => plain("35 BadCells"),
+        ExploreFault::BadStates => plain("61 BadStates"),
+        ExploreFault::SetupEndless => plain("62 SetupEndless"),
+        ExploreFault::NotSetUp => plain("63 NotSetUp"),
+        ExploreFault::Setup(fault) => translation_line(fault),
+    }
+}
+
 /// The line of the fault on the standard error.
 pub fn fault_line(fault: ToolFault) -> Line
     ensures { result ≡ fault_line fault }
@@ -283,8 +297,10 @@ pub fn fault_line(fault: ToolFault) -> Line
         ToolFault::Live(fault) => live_line(fault),
         ToolFault::Turns(fault) => turns_line(fault),
         ToolFault::Batch(fault) => batch_line(fault),
+        ToolFault::Explore(fault) => explore_line(fault),
         ToolFault::History(HistoryFault::BadHistory { at }) => placed("77 BadHistory", at),
         ToolFault::Order(OrderFault::BadOrder { at }) => placed("78 BadOrder", at),
+        ToolFault::TooManyTrapped => plain("79 TooManyTrapped"),
         ToolFault::WrongParts => plain("80 WrongParts"),
         ToolFault::NotText => plain("81 NotText"),
         ToolFault::ReadFailed => plain("82 ReadFailed"),

@@ -4,10 +4,12 @@ use Rattle.std.specs.Global.{Global}
 use Rattle.std.specs.Io.KnownBytes.{Appends, Keeps}
 use Rattle.ls_report.specs.Events.{Text}
 use Rattle.ls_views.specs.Check.{ChecksTo}
+use Rattle.ls_views.specs.Ordered.{OrdersTo}
 use Rattle.ls_commands.specs.Compiled.{CountsTo, ReplaysTo}
 use Rattle.ls_commands.specs.Lived.{LivesTo, ReplaysLiveTo}
 use Rattle.ls_commands.specs.Tallied.{sampling, TalliesTo}
 use Rattle.ls_commands.specs.Translated.{TranslatesTo}
+use Rattle.ls_explore_commands.specs.Explored.{ExploresTo}
 use Rattle.ls_views.specs.Viewed.{ViewsTo}
 use Rattle.ls_views.specs.declared.viewing.View.TheVariants as views
 use Rattle.ls_explanations.specs.Explanations.{note}
@@ -17,18 +19,26 @@ use Rattle.ls_command_line.specs.Words.{AsksFor}
 use Rattle.ls_command_line.specs.declared.words.CommandLine.{CommandLine}
 use Rattle.ls_command_line.specs.declared.words.Request.{Request}
 use Rattle.ls_command_line.specs.declared.words.Request.TheVariants as requests
+use Rattle.ls_command_line.specs.declared.words.WordsFault.{WordsFault}
+use Rattle.ls_command_line.specs.declared.words.WordsFault.TheVariants as word_faults
 use Rattle.ls_faults.specs.declared.fault.ToolFault.{ToolFault}
 use Rattle.ls_faults.specs.declared.fault.ToolFault.TheVariants as faults
 use Rattle.ls_tool.specs.declared.running.Exit.{Exit}
 use Rattle.ls_tool.specs.declared.refusal.Refusal.{Refusal}
 use Rattle.ls_tool.specs.declared.refusal.Refusal.TheVariants as refusals
 
--- what a command may answer on two texts: a text or a fault
+-- what a command may answer on one text: a text or a fault
+abbrev pub OnOne : Request → Text → Result Text ToolFault → Type 0
+OnOne requests.Order history answer = OrdersTo history answer
+OnOne other text answer = answer ≡ Err faults.WrongParts
+
+-- and on two
 abbrev pub OnTwo : Request → Text → Text → Result Text ToolFault → Type 0
 OnTwo requests.Check history order answer = ChecksTo history order answer
 OnTwo requests.Compile classes program answer = CountsTo classes program answer
 OnTwo (requests.Live cells limit) classes program answer = LivesTo cells limit classes program answer
 OnTwo (requests.Batch seed count steps cells) classes program answer = TalliesTo cells (sampling seed count steps) classes program answer
+OnTwo (requests.Explore cells states) classes program answer = ExploresTo cells states classes program answer
 OnTwo other first second answer = answer ≡ Err faults.WrongParts
 
 -- and on three
@@ -44,6 +54,7 @@ OnThree other classes program schedule answer = answer ≡ Err faults.WrongParts
 
 -- and on the parts of an input
 abbrev pub Answers : Request → List Text → Result Text ToolFault → Type 0
+Answers r (text ∷ []) answer = OnOne r text answer
 Answers r (first ∷ second ∷ []) answer = OnTwo r first second answer
 Answers r (classes ∷ program ∷ schedule ∷ []) answer = OnThree r classes program schedule answer
 Answers r other answer = answer ≡ Err faults.WrongParts
@@ -85,14 +96,38 @@ RefusesAs explain f input (refusals.Fault faults.Memory) = Unit {0}
 RefusesAs explain f input (refusals.Fault g) = (g ≡ f) × (explain ≡ false)
 RefusesAs explain f input (refusals.Explained bytes) = (bytes.items ≡ told true f input) × (explain ≡ true) × (f ≢ faults.Memory)
 
--- memory ran out, or the reader failed after the command line was taken, or it is an ending of the words and the input
+-- the words ask for nothing, or memory ran out before they were read
+abbrev pub refused_words : WordsFault → Refusal
+refused_words word_faults.Memory = refusals.Fault faults.Memory
+refused_words (word_faults.BadLine e) = refusals.BadLine e
+
+-- it isn't said that the words ask for nothing
+abbrev pub IsTaken : Result (String Global) Refusal → Type 0
+IsTaken (Err (refusals.BadLine e)) = ⊥
+IsTaken other = Unit {0}
+
+-- it is an ending of the words and the input, or memory ran out
 abbrev pub Decides : List Text → Text → Result (String Global) Refusal → Type 0
 Decides words input (Ok text) = IsEnding words input (Prints (string_bytes text))
 Decides words input (Err (refusals.BadLine e)) = IsEnding words input Helps
 Decides words input (Err (refusals.Fault faults.Memory)) = Unit {0}
-Decides words input (Err (refusals.Fault faults.ReadFailed)) = (l : CommandLine) × AsksFor words (Some l)
 Decides words input (Err (refusals.Fault f)) = IsEnding words input (Tells (fault_line f))
 Decides words input (Err (refusals.Explained bytes)) = IsEnding words input (Tells bytes.items)
+
+-- the same over a reader, which may fail once the command line is taken
+pub data Responds (words : List Text) (input : Text) : Result (String Global) Refusal → Type 0 where
+  Decided : (answer : Result (String Global) Refusal) → Decides words input answer → Responds words input answer
+  Unreadable : (l : CommandLine) → AsksFor words (Some l) → Responds words input (Err (refusals.Fault faults.ReadFailed))
+
+-- it holds of what a reader has left, where that is known, and else of some input
+abbrev pub OfInput : Option Text → (Text → Type 0) → Type 0
+OfInput None May = (input : Text) × May input
+OfInput (Some input) May = May input
+
+-- where the words ask for nothing, the reader is as it was
+abbrev pub ReadsAfterWords : {R : Type 0} → R → R → Result (String Global) Refusal → Type 0
+ReadsAfterWords old new (Err (refusals.BadLine e)) = new ≡ old
+ReadsAfterWords old new other = Unit {0}
 
 -- ---- what a run leaves behind
 

@@ -1,25 +1,46 @@
 // What the words and the input ask for.
 
-ghost use Rattle.std.specs.Prelude.{IfSome, map, string_bytes};
+ghost use Rattle.std.specs.Prelude.{List, Some, map, string_bytes};
+ghost use Rattle.ls_command_line.specs.Words.{AsksFor};
 ghost use Rattle.ls_faults.specs.Given.{Gives};
-ghost use Rattle.ls_tool.specs.Output.{Answers, AnswersText, Decides, OnThree, OnTwo};
+ghost use Rattle.ls_report.specs.Events.{Text};
+ghost use Rattle.ls_tool.specs.Output.{Answers, AnswersText, Decides, IsTaken, OnOne, OnThree, OnTwo};
 
 use crate::explained::refusal_of;
 use crate::refusal::Refusal;
-use crate::streams::read_whole;
-use ls_command_line::{Request, WordsFault, read_words};
+use ls_command_line::{CommandLine, Request, read_words};
 use ls_commands::compiled::{count, replay};
 use ls_commands::living::{live, replay_live};
 use ls_commands::tallying::{Sampling, batch};
 use ls_commands::translating::translate;
+use ls_explore_commands::explore;
 use ls_faults::fault::ToolFault;
 use ls_parts::{parts_of, text_of};
 use ls_views::checking::check;
+use ls_views::ordering::order;
 use ls_views::viewing::{View, show};
 use std::alloc::Global;
-use std::io::Read;
 use std::sync::Wait;
 use std::thread::Threads;
+
+/// What the command answers on one text.
+fn on_one(alloc: Global, request: Request, text: &str) -> Result<String, ToolFault>
+    ensures { Gives (OnOne request text.now) result }
+{
+    match request {
+        Request::Order => order(alloc, text),
+        Request::Check
+        | Request::Compile
+        | Request::Replay { .. }
+        | Request::Source
+        | Request::Trace { .. }
+        | Request::State { .. }
+        | Request::Translate { .. }
+        | Request::Live { .. }
+        | Request::Batch { .. }
+        | Request::Explore { .. } => Err(ToolFault::WrongParts),
+    }
+}
 
 /// What the command answers on two texts.
 fn on_two<R: Threads + Wait + Sync>(
@@ -50,7 +71,11 @@ fn on_two<R: Threads + Wait + Sync>(
             };
             batch(rt, alloc, sampling, cells as usize, first, second)
         }
-        Request::Replay { .. }
+        Request::Explore { cells, states } => {
+            explore(alloc, cells as usize, states as usize, first, second)
+        }
+        Request::Order
+        | Request::Replay { .. }
         | Request::Source
         | Request::Trace { .. }
         | Request::State { .. }
@@ -89,9 +114,12 @@ fn on_three<R: Threads + Wait + Sync>(
         Request::Translate { to, cells } => {
             translate(alloc, to, cells as usize, classes, program, schedule)
         }
-        Request::Check | Request::Compile | Request::Live { .. } | Request::Batch { .. } => {
-            Err(ToolFault::WrongParts)
-        }
+        Request::Check
+        | Request::Order
+        | Request::Compile
+        | Request::Live { .. }
+        | Request::Batch { .. }
+        | Request::Explore { .. } => Err(ToolFault::WrongParts),
     }
 }
 
@@ -105,6 +133,7 @@ fn decide<R: Threads + Wait + Sync>(
     ensures { Gives (Answers request (map string_bytes parts.now)) result }
 {
     match parts {
+        [text] => on_one(alloc, request, text.as_str()),
         [first, second] => on_two(rt, alloc, request, first.as_str(), second.as_str()),
         [classes, program, schedule] => on_three(
             rt,
@@ -133,27 +162,32 @@ fn answer_of<R: Threads + Wait + Sync>(
     decide(rt, alloc, request, parts.as_slice())
 }
 
-/// The whole output for the words and what the reader has left, or why there is none.
-pub fn respond<'a, H: Threads + Wait + Sync, R: Read>(
-    rt: &H,
+/// What a command line asks for of an input, or why there is no output.
+pub(crate) fn answer_line<R: Threads + Wait + Sync>(
+    rt: &R,
+    alloc: Global,
+    line: CommandLine,
+    input: &[u8],
+) -> Result<String, Refusal>
+    ensures decides { (words : List Text) → AsksFor words (Some line) → Decides words input.now result }
+    ensures taken { IsTaken result }
+{
+    match answer_of(rt, alloc, line.request, input) {
+        Ok(text) => Ok(text),
+        Err(fault) => Err(refusal_of(alloc, line.explain, fault, input)),
+    }
+}
+
+/// The whole output for the words of a command line, the program's own name first, and the bytes of an input; or why there is
+/// none. It is the program without its streams.
+pub fn answer<'a, R: Threads + Wait + Sync>(
+    rt: &R,
     alloc: Global,
     words: &'a [String],
-    reader: &mut R,
+    input: &[u8],
 ) -> Result<String, Refusal>
-    ensures { IfSome (R.remaining reader.old) (λ input. Decides (map string_bytes words.entry.now) input result) }
+    ensures { Decides (map string_bytes words.entry.now) input.now result }
 {
-    let line = match read_words(alloc, words) {
-        Ok(line) => line,
-        Err(WordsFault::Memory) => return Err(Refusal::Fault(ToolFault::Memory)),
-        Err(WordsFault::BadLine(error)) => return Err(Refusal::BadLine(error)),
-    };
-    let input = match read_whole(alloc, reader) {
-        Ok(input) => input,
-        Err(fault) => return Err(Refusal::Fault(fault)),
-    };
-    let bytes = input.as_slice();
-    match answer_of(rt, alloc, line.request, bytes) {
-        Ok(text) => Ok(text),
-        Err(fault) => Err(refusal_of(alloc, line.explain, fault, bytes)),
-    }
+    let line = read_words(alloc, words)?;
+    answer_line(rt, alloc, line, input)
 }

@@ -1,13 +1,12 @@
 //! The program, but for the handing over of the real streams.
 #![tactic(auto)]
 
-mod answer;
+pub mod answer;
 mod explained;
 mod refusal;
 mod running;
 mod streams;
 
-pub use answer::respond;
 pub use ls_command_line::Request;
 pub use ls_faults::fault::ToolFault;
 pub use refusal::Refusal;

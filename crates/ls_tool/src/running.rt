@@ -1,12 +1,13 @@
 // The whole run, over any streams.
 
-ghost use Rattle.std.specs.Prelude.{◌≡◌, IfSome, map, string_bytes};
+ghost use Rattle.std.specs.Prelude.{◌≡◌, map, string_bytes};
 ghost use Rattle.ls_faults.specs.Faults.{fault_line};
-ghost use Rattle.ls_tool.specs.Output.{Ends, Told};
+ghost use Rattle.ls_tool.specs.Output.{Ends, OfInput, ReadsAfterWords, Responds, Told};
 
-use crate::answer::respond;
+use crate::answer::answer_line;
 use crate::refusal::Refusal;
-use crate::streams::write_out;
+use crate::streams::{read_whole, write_out};
+use ls_command_line::read_words;
 use ls_faults::fault::ToolFault;
 use ls_faults::line::fault_line;
 use std::alloc::{AllocError, Global};
@@ -47,7 +48,24 @@ fn tell_line<E: Write>(err: &mut E, fault: ToolFault) -> Exit
     tell(err, line.as_bytes())
 }
 
-/// Does what the words ask for, and answers the exit status. Threads are started by `live`, `batch` and `replay --live` alone.
+/// The answer to the words and to what the reader has left. Words that ask for nothing are answered before anything is read.
+fn respond<'a, H: Threads + Wait + Sync, R: Read>(
+    rt: &H,
+    alloc: Global,
+    words: &'a [String],
+    reader: &mut R,
+) -> Result<String, Refusal>
+    ensures responds { OfInput (R.remaining reader.old) (λ input. Responds (map string_bytes words.entry.now) input result) }
+    ensures unread { ReadsAfterWords reader.old reader.new result }
+{
+    let line = read_words(alloc, words)?;
+    let input = read_whole(alloc, reader)?;
+    answer_line(rt, alloc, line, input.as_slice())
+}
+
+/// Does what the words ask for: reads the input, answers it as `answer` does, and writes. Answers the exit status; with status 2
+/// nothing is read. If it isn't known what the reader has left, as it isn't of standard input, the run ends as for some input.
+/// Threads are started by `live`, `batch` and `replay --live` alone.
 pub fn run<'a, H: Threads + Wait + Sync, R: Read, W: Write, E: Write>(
     rt: &H,
     alloc: Global,
@@ -56,8 +74,9 @@ pub fn run<'a, H: Threads + Wait + Sync, R: Read, W: Write, E: Write>(
     out: &mut W,
     err: &mut E,
 ) -> Exit
-    ensures { IfSome (R.remaining reader.old) (λ input. Ends (map string_bytes words.entry.now) input result
+    ensures ends { OfInput (R.remaining reader.old) (λ input. Ends (map string_bytes words.entry.now) input result
         (W.contents out.old) (W.contents out.new) (E.contents err.old) (E.contents err.new)) }
+    ensures unread { result.status ≡ 2 → reader.new ≡ reader.old }
 {
     match respond(rt, alloc, words, reader) {
         Ok(text) => match write_out(out, text.as_bytes()) {

@@ -5,11 +5,13 @@ pub returns : goal.returns
 returns c =
     let to = c.translate_command.ensures.shape in
     let one = c.with_command-program.ensures _ _ c.top_command.ensures c.check_command.ensures.shape in
-    let two = c.with_command-program-2.ensures _ _ one c.compile_command.ensures.shape in
-    let three = c.with_command-program-3.ensures _ _ two c.replay_command.ensures.shape in
-    let four = c.with_command-program-4.ensures _ _ three c.source_command.ensures.shape in
-    let five = c.with_command-program-5.ensures _ _ four c.trace_command.ensures.shape in
-    let six = c.with_command-program-6.ensures _ _ five c.state_command.ensures.shape in
-    let seven = c.with_command-program-7.ensures _ _ six to.2 in
-    let eight = c.with_command-program-8.ensures _ _ seven c.live_command.ensures.shape in
-    IfOk-weaker c.with_command.result _ _ (λ r h. (to.0, to.1, h)) (c.with_command.ensures _ _ eight c.batch_command.ensures.shape)
+    let two = c.with_command-program-2.ensures _ _ one c.order_command.ensures.shape in
+    let three = c.with_command-program-3.ensures _ _ two c.compile_command.ensures.shape in
+    let four = c.with_command-program-4.ensures _ _ three c.replay_command.ensures.shape in
+    let five = c.with_command-program-5.ensures _ _ four c.source_command.ensures.shape in
+    let six = c.with_command-program-6.ensures _ _ five c.trace_command.ensures.shape in
+    let seven = c.with_command-program-7.ensures _ _ six c.state_command.ensures.shape in
+    let eight = c.with_command-program-8.ensures _ _ seven to.2 in
+    let nine = c.with_command-program-9.ensures _ _ eight c.live_command.ensures.shape in
+    let ten = c.with_command-program-10.ensures _ _ nine c.batch_command.ensures.shape in
+    IfOk-weaker c.with_command.result _ _ (λ r h. (to.0, to.1, h)) (c.with_command.ensures _ _ ten c.explore_command.ensures.shape)

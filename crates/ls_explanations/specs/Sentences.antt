@@ -1,0 +1,78 @@
+-- What is wrong at a fault, and what to write in its place, in a sentence or two; nothing where the fault's name says it.
+use Rattle.std.specs.Prelude.{ℕ, [], codes}
+use Rattle.ls_lexer.specs.declared.fault.TextFault.{TextFault}
+use Rattle.ls_lexer.specs.declared.fault.TextFault.TheVariants as text
+use Rattle.ls_types_elaboration.specs.declared.rule.CheckFault.{CheckFault}
+use Rattle.ls_types_elaboration.specs.declared.rule.CheckFault.TheVariants as check
+use Rattle.ls_types_elaboration.specs.declared.rule.Rule.{Rule}
+use Rattle.ls_types_elaboration.specs.declared.rule.Rule.TheVariants as rules
+use Rattle.ls_types.specs.declared.fault.ProgramFault.{ProgramFault}
+use Rattle.ls_types.specs.declared.fault.ProgramFault.TheVariants as program
+use Rattle.ls_schedule.specs.declared.fault.ScheduleFault.{ScheduleFault}
+use Rattle.ls_schedule.specs.declared.fault.ScheduleFault.TheVariants as schedule
+use Rattle.ls_report.specs.declared.fault.HistoryFault.TheVariants as history
+use Rattle.ls_orders.specs.declared.fault.OrderFault.TheVariants as order
+use Rattle.ls_faults.specs.declared.fault.ToolFault.{ToolFault}
+use Rattle.ls_faults.specs.declared.fault.ToolFault.TheVariants as faults
+use Rattle.ls_lessons.specs.Tokens.{Bytes, byte_at}
+use Rattle.ls_lessons.specs.Lessons.{byte_lesson, name_lesson, syntax_lesson, type_lesson}
+
+-- by the class text
+abbrev pub text_sentence : TextFault → Bytes → Bytes
+text_sentence text.Memory classes = []
+text_sentence text.TooLong classes = []
+text_sentence (text.BadByte at) classes = byte_lesson (byte_at classes at) at
+text_sentence (text.OpenComment at) classes = codes "this comment has no */. Write it at the comment's end\n"
+text_sentence (text.BadNumber at) classes =
+    codes "a number has decimal digits alone, no 0 in front, and is at most 2147483647\n"
+text_sentence (text.Syntax at) classes = syntax_lesson classes at
+text_sentence (text.TooDeep at) classes =
+    codes "too much stands in one another here. Write a part of it as a method or a statement of its own\n"
+
+abbrev pub rule_sentence : Rule → Bytes → ℕ → Bytes
+rule_sentence rules.UnknownName classes at = name_lesson classes at
+rule_sentence rules.TwiceDeclared classes at =
+    codes "a class has one method of a name and one constructor, and a name stands once. Write another\n"
+rule_sentence rules.UnknownType classes at = type_lesson classes at
+rule_sentence rules.WrongType classes at = codes "another type is wanted here than this has, or this has none\n"
+rule_sentence rules.WrongArguments classes at =
+    codes "this call has another number of arguments than there are parameters\n"
+rule_sentence rules.NotAssignable classes at = codes "only a local, a field or an element can be assigned\n"
+rule_sentence rules.NoLoop classes at = codes "this stands in no loop\n"
+rule_sentence rules.UnknownLabel classes at = codes "no loop round this has that label\n"
+rule_sentence rules.MissingReturn classes at =
+    codes "this method answers a value, and can end without. Of loops while (true) alone is known to go on\n"
+rule_sentence rules.ReservedClass classes at = codes "a class of the library has this name. Write another name\n"
+rule_sentence rules.Limit classes at = codes "here are more classes, fields, methods or locals than are taken\n"
+
+abbrev pub check_sentence : CheckFault → Bytes → Bytes
+check_sentence check.Memory classes = []
+check_sentence (check.Broken b) classes = rule_sentence b.rule classes b.span.start
+
+abbrev pub program_sentence : ProgramFault → Bytes
+program_sentence program.Memory = []
+program_sentence program.ProgramLimit = []
+program_sentence (program.BadProgram at) =
+    codes "a program is setup { .. } and then thread NAME { .. } as often as wanted, with calls as s.m(1);\n"
+program_sentence (program.UnknownThing at) =
+    codes "no class, setup name or method has this name, or the arguments don't fit\n"
+program_sentence (program.ReferenceResult at) =
+    codes "this method answers a reference. Call one that answers an int, a boolean or nothing\n"
+
+abbrev pub schedule_sentence : ScheduleFault → Bytes
+schedule_sentence schedule.Memory = []
+schedule_sentence schedule.TooManySteps = []
+schedule_sentence (schedule.BadItem at) = codes "an item is a name, or a name with * and a count from 1 on, as A*5\n"
+schedule_sentence (schedule.UnknownThread at) =
+    codes "no thread of the program is named so. Items name its threads, setup, or all\n"
+
+-- the class text is the first part, where there is one
+abbrev pub sentence : ToolFault → Bytes → Bytes
+sentence (faults.Text f) classes = text_sentence f classes
+sentence (faults.Check f) classes = check_sentence f classes
+sentence (faults.Program f) classes = program_sentence f
+sentence (faults.Schedule f) classes = schedule_sentence f
+sentence (faults.History (history.BadHistory at)) classes =
+    codes "no history goes on so: a thread's calls are numbered 1, 2 .., and an answer follows its call\n"
+sentence (faults.Order (order.BadOrder at)) classes = codes "an item of an order is a call, as A.1\n"
+sentence _ classes = []

@@ -1,0 +1,37 @@
+-- What stands round a place of a text.
+use Rattle.std.specs.Prelude.{ℕ, ◌-◌, ◌==◌, ◌&&◌, ◌||◌, nat_le, Bool, List, length, take, drop, not, slice_get}
+use Rattle.std.specs.List.{before_first, suffix_len}
+use Rattle.std.specs.Option.{option_map_or}
+
+abbrev pub Bytes : Type 0
+Bytes = List ℕ
+
+-- a byte of a name or a number: a letter, a digit, `_` or `$`
+abbrev pub is_part : ℕ → Bool
+is_part b = (nat_le 48 b && nat_le b 57) || (nat_le 65 b && nat_le b 90) || (nat_le 97 b && nat_le b 122) || b == 95 || b == 36
+
+abbrev pub is_white : ℕ → Bool
+is_white b = b == 32 || b == 9 || b == 12 || b == 13 || b == 10
+
+-- the name, word or number at the front, which is empty where none begins there
+abbrev pub front_name : Bytes → Bytes
+front_name text = before_first (λ b. not (is_part b)) text
+
+-- a text without the white space at its end
+abbrev pub trimmed : Bytes → Bytes
+trimmed text = take (length text - suffix_len is_white text) text
+
+-- the white space at its end
+abbrev pub gap : Bytes → Bytes
+gap text = drop (length text - suffix_len is_white text) text
+
+-- the name, word or number at its end
+abbrev pub last_name : Bytes → Bytes
+last_name text = drop (length text - suffix_len is_part text) text
+
+-- a byte of a text, 0 where there is none
+abbrev pub byte_at : Bytes → ℕ → ℕ
+byte_at text at = option_map_or (λ b. b) (slice_get text at) 0
+
+abbrev pub last_byte : Bytes → ℕ
+last_byte text = byte_at text (length text - 1)

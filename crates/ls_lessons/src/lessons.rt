@@ -1,0 +1,135 @@
+// What is said of a fault of a class text, by what stands at its place.
+
+ghost use Rattle.std.specs.Prelude.{◌≡◌};
+ghost use Rattle.ls_lessons.specs.Lessons.{byte_lesson, lacks_semicolon, lesson_between, name_lesson, or_else, semicolon_lesson, sign_lesson, syntax_lesson, token_lesson, type_lesson, word_lesson};
+
+use crate::names::method_lesson;
+use crate::signs::operator_lesson;
+use crate::tokens::{Cut, byte_at, cut_at, end_of, front_name, last_byte, last_name};
+use crate::types::atomic_lesson;
+use crate::words::member_lesson;
+
+/// The first of two that isn't empty.
+fn or_else(first: &'static str, other: &'static str) -> &'static str
+    ensures { result.now ≡ or_else first.now other.now }
+{
+    if first.is_empty() { other } else { first }
+}
+
+fn word_lesson(name: &[u8], last: u8) -> &'static str
+    ensures { result.now ≡ word_lesson name.now last }
+{
+    if name == b"class".as_slice() {
+        if last == b'.' {
+            "a class is no value. Write an object, as in synchronized (this)\n"
+        } else {
+            "no class stands in a class. Write it beside the other, and hand it what it uses of that\n"
+        }
+    } else if (name == b"int".as_slice() || name == b"boolean".as_slice()) && last == b'(' {
+        "no cast is taken. Leave it out\n"
+    } else {
+        member_lesson(name)
+    }
+}
+
+fn sign_lesson(before: &[u8], from_on: &[u8]) -> &'static str
+    ensures { result.now ≡ sign_lesson before.now from_on.now }
+{
+    let sign = byte_at(from_on, 0);
+    let next = byte_at(from_on, 1);
+    let last = last_byte(before);
+    if sign == b'<' {
+        or_else(
+            atomic_lesson(last_name(before)),
+            operator_lesson(sign, next, last),
+        )
+    } else {
+        operator_lesson(sign, next, last)
+    }
+}
+
+/// Whether a token begins its line, or is a }, after what ends no statement.
+fn lacks_semicolon(before: &[u8], between: &[u8], from_on: &[u8]) -> bool
+    ensures { result ≡ lacks_semicolon before.now between.now from_on.now }
+{
+    let last = last_byte(before);
+    let ends = last == b';' || last == b'{' || last == b'}' || last == 0;
+    (between.contains(&b'\n') || byte_at(from_on, 0) == b'}') && !ends
+}
+
+fn semicolon_lesson(before: &[u8], between: &[u8], from_on: &[u8]) -> &'static str
+    ensures { result.now ≡ semicolon_lesson before.now between.now from_on.now }
+{
+    if lacks_semicolon(before, between, from_on) {
+        "perhaps a ; is missing before this\n"
+    } else {
+        ""
+    }
+}
+
+fn token_lesson(before: &[u8], between: &[u8], from_on: &[u8]) -> &'static str
+    ensures { result.now ≡ token_lesson before.now between.now from_on.now }
+{
+    let name = front_name(from_on);
+    let own = if byte_at(name, 0) == 0 {
+        sign_lesson(before, from_on)
+    } else {
+        word_lesson(name, last_byte(before))
+    };
+    or_else(own, semicolon_lesson(before, between, from_on))
+}
+
+/// By what stands before a place, and from it on.
+fn lesson_between(gone: &[u8], from_on: &[u8]) -> &'static str
+    ensures { result.now ≡ lesson_between gone.now from_on.now }
+{
+    let (before, between) = gone.split_at(end_of(gone));
+    token_lesson(before, between, from_on)
+}
+
+/// What is said where a token can't stand in a class text (6).
+pub fn syntax_lesson(text: &[u8], at: usize) -> &'static str
+    ensures { result.now ≡ syntax_lesson text.now at }
+{
+    let Cut { gone, left } = cut_at(text, at);
+    lesson_between(gone, left)
+}
+
+/// What is said of a byte that begins no token (3), at its place.
+pub fn byte_lesson(byte: u8, at: usize) -> &'static str
+    ensures { result.now ≡ byte_lesson byte at }
+{
+    if byte == b'"' {
+        "no text in quotes is taken. Leave out what prints it: histories and traces tell what was done\n"
+    } else if byte == b'\'' {
+        "no character is taken. Write a number\n"
+    } else if byte == 239 && at == 0 {
+        "the text begins with a byte order mark. Save it without one\n"
+    } else if byte >= 128 {
+        "outside of comments all is ASCII. Write names of the letters A to Z\n"
+    } else {
+        ""
+    }
+}
+
+/// What is said of a type that isn't there (12).
+pub fn type_lesson(text: &[u8], at: usize) -> &'static str
+    ensures { result.now ≡ type_lesson text.now at }
+{
+    let Cut { gone: _, left } = cut_at(text, at);
+    or_else(
+        atomic_lesson(front_name(left)),
+        "neither the text nor the library (Lock, ReentrantLock, AtomicMarkableReference) has this class\n",
+    )
+}
+
+/// What is said of a name that nothing there has (10).
+pub fn name_lesson(text: &[u8], at: usize) -> &'static str
+    ensures { result.now ≡ name_lesson text.now at }
+{
+    let Cut { gone: _, left } = cut_at(text, at);
+    or_else(
+        method_lesson(front_name(left)),
+        "no local that is in scope here, field or method of that class has this name\n",
+    )
+}

@@ -1,0 +1,12 @@
+//! What is wrong with a token of Java that isn't taken here, and what to write in its place.
+#![tactic(auto)]
+
+mod lessons;
+mod names;
+mod signs;
+mod tokens;
+mod types;
+mod words;
+
+pub use lessons::{byte_lesson, name_lesson, syntax_lesson, type_lesson};
+pub use tokens::byte_at;

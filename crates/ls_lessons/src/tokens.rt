@@ -1,0 +1,88 @@
+// What stands round a place of a text.
+
+ghost use Rattle.std.specs.Prelude.{◌≡◌, ◌≤◌, ◌-◌, drop, length, take};
+ghost use Rattle.std.specs.List.{suffix_len};
+ghost use Rattle.ls_lessons.specs.Tokens.{byte_at, front_name, is_part, is_white, last_byte, last_name};
+
+/// A byte of a name or a number.
+fn is_part(b: u8) -> bool
+    ensures { result ≡ is_part b }
+{
+    (b >= b'0' && b <= b'9')
+        || (b >= b'A' && b <= b'Z')
+        || (b >= b'a' && b <= b'z')
+        || b == b'_'
+        || b == b'$'
+}
+
+fn is_white(b: u8) -> bool
+    ensures { result ≡ is_white b }
+{
+    b == b' ' || b == b'\t' || b == 12 || b == b'\r' || b == b'\n'
+}
+
+/// The name, word or number at the front.
+pub(crate) fn front_name(text: &[u8]) -> &[u8]
+    ensures { result.now ≡ front_name text.now }
+{
+    let mut end = 0;
+    while end < text.len() && is_part(text[end]) {
+        end += 1;
+    }
+    &text[..end]
+}
+
+/// Where the white space at the end of a text begins.
+pub(crate) fn end_of(text: &[u8]) -> usize
+    ensures within { result ≤ length text.now }
+    ensures value { result ≡ length text.now - suffix_len is_white text.now }
+{
+    let mut end = text.len();
+    while end > 0 && is_white(text[end - 1]) {
+        end -= 1;
+    }
+    end
+}
+
+/// The name, word or number at the end.
+pub(crate) fn last_name(text: &[u8]) -> &[u8]
+    ensures { result.now ≡ last_name text.now }
+{
+    let mut start = text.len();
+    while start > 0 && is_part(text[start - 1]) {
+        start -= 1;
+    }
+    &text[start..]
+}
+
+/// A byte of a text, 0 where there is none.
+pub fn byte_at(text: &[u8], at: usize) -> u8
+    ensures { result ≡ byte_at text.now at }
+{
+    match text.get(at) {
+        Some(byte) => *byte,
+        None => 0,
+    }
+}
+
+pub(crate) fn last_byte(text: &[u8]) -> u8
+    ensures { result ≡ last_byte text.now }
+{
+    byte_at(text, text.len().saturating_sub(1))
+}
+
+/// What stands before a place of a text, and from it on.
+#[derive(Clone, Copy)]
+pub(crate) struct Cut<'t> {
+    pub gone: &'t [u8],
+    pub left: &'t [u8],
+}
+
+/// A place behind the end is the end.
+pub(crate) fn cut_at(text: &[u8], at: usize) -> Cut<'_>
+    ensures gone { result.gone.now ≡ take at text.now }
+    ensures left { result.left.now ≡ drop at text.now }
+{
+    let (gone, left) = text.split_at(at.min(text.len()));
+    Cut { gone, left }
+}
