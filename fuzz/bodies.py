@@ -88,6 +88,24 @@ def assignment(w, depth):
     return [f"{f'({text})' if w.r.random() < 0.03 else text} = {expression(w, type_)};"], True
 
 
+def changed_count(w, depth):
+    """`+=`, `++` or `--` on a local or a field of type int; its target may be what any expression answers."""
+    left = [text for text, type_ in assigned_places(w) if type_ == "int"]
+    if w.r.random() < 0.3:
+        shape = w.r.choice(w.world.classes)
+        names = [name for type_, name in shape.fields if type_ == "int"]
+        base = target(w, shape.name, 1) if names else None
+        left = [f"{base}.{w.r.choice(names)}"] if base else left
+    if not left:
+        return [";"], True
+    w.cost += 2 * w.times
+    text = w.r.choice(left)
+    text = f"({text})" if w.r.random() < 0.06 else text
+    if w.r.random() < 0.4:
+        return [f"{text} += {expression(w, 'int')};"], True
+    return [f"{w.r.choice((f'{text}++', f'{text}--', f'++{text}', f'--{text}'))};"], True
+
+
 def api_call(w, depth):
     """A statement that is an operation of a lock or a markable."""
     w.cost += w.times
@@ -157,6 +175,8 @@ def loop(w, depth):
     head = f"{label}: " if label else ""
     if w.world.free and w.r.random() < 0.4:
         return free_loop(w, depth, label, head)
+    if w.r.random() < 0.5:
+        return for_loop(w, depth, label, head, counter)
     size = len(w.scope)
     w.scope.append((counter, "int", False))
     turns, lines = looped(w, depth, label)
@@ -169,10 +189,48 @@ def loop(w, depth):
     return ["{", *indented([*body, *indented(lines), "}"]), "}"], True
 
 
+def simple_parts(w, most):
+    """Up to so many simple statements without their semicolons, as the head of a `for` has them."""
+    drawn = [w.r.choice((changed_count, assignment, call_statement))(w, 1)[0][0][:-1] for _ in range(w.r.randrange(most + 1))]
+    return [text for text in drawn if text]
+
+
+def for_loop(w, depth, label, head, counter):
+    """A `for` that ends: its counter goes up or down in the updates, or first in each turn."""
+    size = len(w.scope)
+    w.scope.append((counter, "int", False))
+    opening, other = simple_parts(w, 2), w.name()
+    also_declared = not opening and other and w.r.random() < 0.3
+    if also_declared:
+        w.scope.append((other, "int", True))
+    turns, lines = looped(w, depth, label)
+    times, w.times = w.times, w.times * (turns + 1)
+    more = simple_parts(w, 2)
+    w.times = times
+    also = f" && {shown(w, value(w, 'boolean', 2), 3)}" if w.r.random() < 0.2 else ""
+    del w.scope[size:]
+    up = w.r.random() < 0.6
+    step = w.r.choice((f"{counter}++", f"++{counter}", f"{counter} += 1") if up else (f"{counter}--", f"--{counter}", f"{counter} += -1"))
+    first, updates = ([f"{step};"], more) if w.r.random() < 0.2 else ([], w.r.choice(([step, *more], [*more, step])))
+    start = f"{counter} = {0 if up else turns}"
+    test = f"{counter} < {turns}{also}" if up else w.r.choice((f"{counter} > 0{also}", "", "true"))
+    if test in ("", "true"):
+        first = [f"if ({counter} <= 0) break;", *first]
+    body = [*indented([*first, *lines]), "}"]
+    if opening or not also_declared and w.r.random() < 0.2:
+        whole = [f"int {counter} = 7;", f"{head}for ({', '.join([start, *opening])}; {test}; {', '.join(updates)}) {{", *body]
+        return ["{", *indented(whole), "}"], True
+    more_declared = f", {other} = {w.r.randrange(9)}" if also_declared else ""
+    return [f"{head}for (int {start}{more_declared}; {test}; {', '.join(updates)}) {{", *body], True
+
+
 def free_loop(w, depth, label, head):
     test = w.r.choice((condition(w), "true", "false"))
     _, lines = looped(w, depth, label)
     first = [f"  if ({condition(w)}) break;"] if test == "true" else []
+    if w.r.random() < 0.5:
+        opening, updates = ", ".join(simple_parts(w, 2)), ", ".join(simple_parts(w, 2))
+        return [f"{head}for ({opening}; {w.r.choice((test, '')) if test == 'true' else test}; {updates}) {{", *first, *indented(lines), "}"], True
     return [f"{head}while ({test}) {{", *first, *indented(lines), "}"], True
 
 
@@ -193,6 +251,14 @@ def locked(w, depth):
     return [f"{base}.lock();", "try {", *indented(first), f"}} finally {{ {base}.unlock(); }}"], completes
 
 
+def synchronized(w, depth):
+    """A block in the monitor of an object, which may be null."""
+    base = target(w, w.r.choice(w.world.classes).name, 1) or "this"
+    w.cost += 2 * w.times
+    lines, completes = nested(w, depth)
+    return [f"synchronized ({f'({base})' if w.r.random() < 0.06 else base}) {{", *indented(lines), "}"], completes
+
+
 def jump(w, depth):
     if w.loops and w.r.random() < 0.7:
         label = w.r.choice(w.labels)
@@ -211,13 +277,13 @@ def braces(w, depth):
     return ["{", *indented(lines), "}"], completes
 
 
-SIMPLE = (declaration, assignment, call_statement)
-NESTED = (conditional, conditional, loop, loop, guarded, locked, braces)
+SIMPLE = (declaration, assignment, call_statement, changed_count)
+NESTED = (conditional, conditional, loop, loop, loop, guarded, locked, synchronized, braces)
 
 
 def statement(w, depth):
     if depth <= 0 or w.r.random() < 0.55 or w.cost > w.most:
-        return w.r.choices(SIMPLE, (4, 4, 3))[0](w, depth)
+        return w.r.choices(SIMPLE, (4, 4, 3, 3))[0](w, depth)
     return w.r.choice(NESTED)(w, depth)
 
 
@@ -257,11 +323,11 @@ def written(world, call):
         initialised(w)
     declared = call.name or call.owner.declared_make
     lines = body(w) if declared else []
-    result = f"{call.result} " if call.name else ""
+    result = f"{'synchronized ' if call.synchronized else ''}{call.result} " if call.name else ""
     params = ", ".join(f"{type_} {name}" for type_, name in call.params)
     call.text = [f"{result}{call.name or call.owner.name}({params}) {{", *indented(lines), "}"] if declared else []
     turns = 5 if call.recursive else 1
-    call.cost, call.depth, call.ready = w.cost * turns, w.depth + turns, True
+    call.cost, call.depth, call.ready = (w.cost + 2 * call.synchronized) * turns, w.depth + turns, True
 
 
 def initialised(w):

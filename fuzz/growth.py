@@ -17,10 +17,11 @@ DEEP = {"parentheses": (b"x = ", b"(", b"1", b")", 124), "minuses": (b"x = ", b"
     "sums": (b"x = ", b"1 + ", b"1", b"", 125), "right_sums": (b"x = ", b"1 + (", b"1", b")", 62), "ands": (b"b = ", b"b && (", b"b", b")", 62),
     "calls": (b"x = ", b"g(", b"1", b")", 125), "dots": (b"x = n", b".n", b".x", b"", 120), "indices": (b"b = ", b"a[g(", b"1", b")]", 0),
     "blocks": (b"", b"{", b"", b"}", 126), "ifs": (b"", b"if (b) ", b";", b"", 125), "loops": (b"", b"while (b) ", b";", b"", 125),
+    "fors": (b"", b"for (; b; ) ", b";", b"", 125), "monitors": (b"", b"synchronized (this) { ", b"", b" }", 42),
     "finallys": (b"", b"try { } finally { ", b"", b" }", 62), "tries": (b"", b"try { ", b"x = 1 / x;", b" } finally { }", 61),
     "recursion": (b"x = ", b"1 + (", b"h()", b")", 60), "recursion_in_tries": (b"", b"try { ", b"f();", b" } finally { }", 61),
-    "recursion_in_calls": (b"x = ", b"g(", b"h()", b")", 120)}
-METHODS = b"int g(int y) { return y; } int h() { f(); return 1; }"
+    "recursion_in_calls": (b"x = ", b"g(", b"h()", b")", 120), "last_arguments": (b"x = ", b"p(" + b"0, " * 125, b"1", b")", 125)}
+METHODS = b"int g(int y) { return y; } int h() { f(); return 1; } int p(%b) { return y0; }" % b", ".join(b"int y%d" % i for i in range(126))
 WAYS = (["compile"], ["source"], ["replay"], ["translate", "--to", "machine"], ["translate", "--to", "source"], ["live", "--limit", "100000"],
     ["replay", "--live"], ["batch", "--seed", "1", "--count", "2", "--steps", "20000"])
 
@@ -46,7 +47,7 @@ def families():
     yield "tally_of_many_histories", ["batch", "--seed", "1", "--steps", "200", "--count"], 8_000, tally
     yield "samples_of_one_history", ["batch", "--seed", "1", "--steps", "20", "--count"], 8_000, lambda n: b"class C{}" + EMPTY
     for name, piece in (("empty_statements", b";"), ("blocks", b"{}"), ("assignments", b"x=1;"), ("calls", b"f();"), ("conditions", b"if(b);else;"),
-            ("loops", b"while(b);"), ("tries", b"try{}finally{}"), ("exits", b"if(b)return;"), ("locals", b"{int v;}"), ("dots", b"n.n.n.n=n.n.n;"),
+            ("loops", b"while(b);"), ("fors", b"for(;b;);"), ("counts", b"x++;"), ("field_counts", b"n.x+=x;"), ("tries", b"try{}finally{}"), ("exits", b"if(b)return;"), ("locals", b"{int v;}"), ("dots", b"n.n.n.n=n.n.n;"),
             ("locks", b"l.lock();"), ("makings", b"new C();"), ("exchanges", b"m.set(n,b);")):
         yield f"text_of_{name}", compile_, 60_000 // len(piece), lambda n, piece=piece: typed(piece * n) + EMPTY
     yield "exits_of_a_try", compile_, 500, lambda n: typed(b"try { " + b"if (b) return; " * n + b"} finally { x = 1; }") + EMPTY

@@ -27,7 +27,8 @@ def openings():
         yield f"open_{name}", ["compile"], method(b"return " + opening * (200_000 // len(opening))) + EMPTY, (6, 7)
         yield f"open_{name}_ended", ["compile"], method(b"return " + opening * (200_000 // len(opening)) + b"1; ") + EMPTY, (6, 7)
     for name, opening in (("braces", b"{"), ("ifs", b"if (b) "), ("elses", b"if (b) ; else "), ("loops", b"while (b) "), ("tries", b"try { "),
-            ("finallys", b"try { } finally { "), ("labels", b"L: while (b) ")):
+            ("finallys", b"try { } finally { "), ("labels", b"L: while (b) "), ("fors", b"for (;;) "), ("heads", b"for (x = "),
+            ("monitors", b"synchronized (this) { ")):
         yield f"open_{name}", ["compile"], method(opening * (200_000 // len(opening))) + EMPTY, (6, 7)
 
 
@@ -53,6 +54,11 @@ def lists():
     yield "annotations", ["compile"], fill(b"@A ") + b"class C{}" + EMPTY, 0
     yield "package", ["compile"], b"package a" + fill(b".a") + b";" + EMPTY, 0
     yield "imports", ["compile"], fill(b"import a.*;") + EMPTY, 0
+    yield "counts", ["compile"], method(fill(b"x++;")) + EMPTY, (0, 32, 33)
+    yield "loops_with_for", ["compile"], method(fill(b"for(;b;);")) + EMPTY, (0, 32, 33)
+    yield "first_parts", ["compile"], method(b"for (x = 1" + fill(b",x=1") + b"; b; ) ;") + EMPTY, (0, 32, 33)
+    yield "updates", ["compile"], method(b"for (; b; x++" + fill(b",x++") + b") ;") + EMPTY, (0, 32, 33)
+    yield "monitors", ["compile"], method(fill(b"synchronized(this){}")) + EMPTY, (30, 31)
     yield "long_chain", ["compile"], method(b"x=1" + fill(b"+1") + b";") + EMPTY, 7
     yield "calls_in_a_program", ["compile"], b"class C{void f(){}}\n%%\nsetup{s=new C();}thread A{" + fill(b"s.f();") + b"}\n", 24
     yield "threads_in_a_program", ["compile"], b"\n%%\nsetup{}" + b"".join(b"thread A%d{}" % i for i in range(15_000)) + b"\n", 24
@@ -79,7 +85,9 @@ def towers():
         "breaks_in_tries": (b"while (b) try { if (b) break; ", b"", b" } finally { if (b) continue; }"),
         "both": (b"try { try { } finally { } ", b"", b" } finally { try { } finally { } }"),
         "ifs": (b"if (b) { while (true) { } } else { ", b"", b" }"), "loops": (b"while (true) { if (b) break; ", b"", b" }"),
-        "labels": (b"while (true) { while (b) { break; } ", b"", b" }")}
+        "labels": (b"while (true) { while (b) { break; } ", b"", b" }"), "fors": (b"for (;;) { if (b) continue; ", b"", b" }"),
+        "monitors": (b"synchronized (this) { if (b) return; ", b"", b" }"),
+        "fors_in_monitors": (b"for (; b; x++) synchronized (this) { if (b) continue; ", b"", b" }")}
     for name, (opening, middle, ending) in kinds.items():
         for depth in (10, 20, 30, 41, 42, 50, 62, 63, 64, 100, 126, 127, 128):
             yield f"tower_of_{name}_{depth}", ["compile"], method(nest(opening, middle, ending, depth)) + EMPTY, (0, 7, 30, 31, 32, 33)

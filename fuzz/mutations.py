@@ -1,7 +1,7 @@
 """Ways to spoil a text, each a function of a random source and bytes. None of them cares whether what comes is still a text."""
 import re
 
-TOKENS = re.compile(rb"[A-Za-z_$][A-Za-z0-9_$]*|[0-9]+|[ \t\r\n\f]+|%%|&&|\|\||[=!<>]=|[^\x00]")
+TOKENS = re.compile(rb"[A-Za-z_$][A-Za-z0-9_$]*|[0-9]+|[ \t\r\n\f]+|%%|&&|\|\||\+\+|--|[=!<>+]=|[^\x00]")
 WORDS = (b"class", b"int", b"boolean", b"void", b"new", b"this", b"null", b"true", b"false", b"while", b"if", b"else", b"try",
     b"finally", b"return", b"break", b"continue", b"Integer", b"Lock", b"ReentrantLock", b"AtomicMarkableReference", b"package",
     b"import", b"final", b"volatile", b"public", b"setup", b"thread", b"all", b"synchronized", b"for", b"goto", b"static",
@@ -17,7 +17,8 @@ ODD = (b"\xff", b"\xc3", b"\xc3\xa9", b"\xef\xbb\xbf", b"\x00", b"\x1a", b"\\u00
 NESTS = ((b"(", b"1", b")"), (b"!", b"true", b""), (b"- ", b"1", b""), (b"{", b"", b"}"), (b"if (true) ", b";", b""),
     (b"try { ", b"", b" } finally { }"), (b"try { } finally { ", b"", b" }"), (b"while (true) try { } finally { ", b"", b" }"),
     (b"while (true) { ", b"", b" }"), (b"1 + (", b"1", b")"), (b"x.f(", b"1", b")"), (b"a[", b"0", b"]"), (b"1 + ", b"1", b""),
-    (b"true && ", b"true", b""), (b"a.", b"b", b""), (b"L: while (true) ", b"break;", b""), (b"new C(", b"", b")"))
+    (b"true && ", b"true", b""), (b"a.", b"b", b""), (b"L: while (true) ", b"break;", b""), (b"new C(", b"", b")"),
+    (b"for (;;) ", b"break;", b""), (b"for (int i = 0; i < 2; i++) { ", b"", b" }"), (b"synchronized (this) { ", b"", b" }"))
 
 
 def spot(r, text):

@@ -19,6 +19,7 @@ from threads import drawn_program, drawn_schedule
 from tool import PROGRAM, joined, keep, run
 
 AT_ONCE = 250
+MOST_THREADS = 64
 
 
 class Tally:
@@ -73,7 +74,8 @@ def threads(program, tally, seed):
     if not accepted(program, tally, text, drawn_threads):
         return
     parts = [text.encode(), drawn_threads.text().encode()]
-    schedule = drawn_schedule(r, drawn_threads, 400).encode()
+    # a turn of 64 live threads takes long
+    schedule = drawn_schedule(r, drawn_threads, 20 if r_threads(seed) == MOST_THREADS else 400).encode()
     for check in sides.CHECKS:
         wrong = check(program, parts, schedule, r, tally)
         if wrong:
@@ -81,7 +83,8 @@ def threads(program, tally, seed):
 
 
 def r_threads(seed):
-    return (2, 2, 3, 1, 4, 2)[seed % 6]
+    """How many threads a program has: up to four, and for each hundredth seed as many as there may be."""
+    return MOST_THREADS if seed % 100 == 50 else (2, 2, 3, 1, 4, 2)[seed % 6]
 
 
 def on_the_jvm(program, tally, seeds):

@@ -56,11 +56,12 @@ def literal(r, body):
 
 
 def sign(r, body):
-    found = list(re.finditer(rb" (?:[-+*/%<>]|[<>=!]=|&&|\|\||=) ", body))
+    found = list(re.finditer(rb" (?:[-+*/%<>]|[<>=!+]=|&&|\|\||=) |\+\+|--", body))
     if not found:
         return body
     one = r.choice(found)
-    return body[:one.start()] + r.choice((b" + ", b" < ", b" == ", b" && ", b" = ", b" != ", b" / ")) + body[one.end():]
+    others = (b" + ", b" < ", b" == ", b" && ", b" = ", b" += ", b" != ", b" / ") if one.group().startswith(b" ") else (b"++", b"--", b" += 1", b" = 1", b"")
+    return body[:one.start()] + r.choice(others) + body[one.end():]
 
 
 def line_left_out(r, body):
@@ -119,15 +120,15 @@ def refused_alone(program, texts, said):
 
 
 def is_left_out(text, fault):
-    """Whether `compile` refuses what the profile leaves out: the diamond, unary plus, assignments as values, a `;` alone among members,
-    a block among members, a label on what isn't `while`, comparing a Lock with a thing of a class."""
+    """Whether `compile` refuses what the profile leaves out: the diamond, unary plus, assignments, `++` and `--` as values, a `;` alone among
+    members, a block among members, a label on what isn't a loop, comparing a Lock with a thing of a class, monitors of locks and the like."""
     at, _, end = fault.split(" at ")[1].strip().partition("-")
     if end:
-        return re.search(r"[=!]= ", text[int(at):int(end)]) is not None
+        return re.search(r"[=!]= ", text[int(at):int(end)]) is not None or text[:int(at)].endswith("synchronized (")
     before, behind = text[:int(at)], text[int(at):]
-    labels = re.search(r"\w *: *$", before) is not None and not behind.startswith("while")
+    labels = re.search(r"\w *: *$", before) is not None and not behind.startswith(("while", "for"))
     blocks = behind.startswith("{") and before.rstrip().endswith((";", "{", "}")) and before.count("{") == before.count("}") + 1
-    return labels or blocks or before.endswith("<") or behind.startswith(("+ ", "= ", ";\n"))
+    return labels or blocks or before.endswith("<") or behind.startswith(("+ ", "= ", "+= ", "++", "--", ";\n"))
 
 
 def difference(program, package, text, said):

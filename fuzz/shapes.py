@@ -12,7 +12,7 @@ class Call:
 
     def __init__(self, owner, name, result, params):
         self.owner, self.name, self.result, self.params = owner, name, result, params
-        self.recursive = False
+        self.recursive = self.synchronized = False
         self.ready = False
         self.cost = self.depth = 0
         self.text = ""
@@ -73,6 +73,7 @@ def drawn_method(world, shape, name):
     result = r.choices(("int", "boolean", "void", "any"), (5, 4, 3, 2))[0]
     params = drawn_params(world, ("x", "y", "z", "v", "p"), 3, r.random() < 0.6)
     method = Call(shape, name, drawn_type(world) if result == "any" else result, params)
+    method.synchronized = r.random() < 0.2
     if r.random() < 0.25:
         method.recursive = True
         method.params = [("int", "n")] + method.params

@@ -57,7 +57,7 @@ def drawn_program(world, threads):
         program.setup.append(made(world, program))
         call = called(world, program) if random.random() < 0.25 else None
         program.setup += [call] if call else []
-    for name in NAMES[:threads]:
+    for name in NAMES[:threads] if threads <= len(NAMES) else [f"T{number}" for number in range(threads)]:
         calls = [called(world, program) for _ in range(random.choice((1, 2, 3, 5, 8)))]
         program.threads.append((name, [call for call in calls if call]))
     return program

@@ -3,8 +3,8 @@
 COMMANDS = ("compile", "replay", "source", "translate", "live", "batch", "check")
 OPTIONS = {"compile": (), "source": (), "check": (), "replay": ("--cells", "--live"), "translate": ("--to", "--cells"),
     "live": ("--cells", "--limit"), "batch": ("--seed", "--count", "--steps", "--cells")}
-GREATEST = {"--cells": 1_048_576, "--limit": 1_000_000, "--seed": 2**64 - 1, "--count": 100_000, "--steps": 900_000}
-SMALL = {"--cells": (1, 2, 3, 5, 10, 100, 65536, 1_048_576), "--limit": (0, 1, 7, 300, 5000), "--seed": (0, 7, 2**63),
+GREATEST = {"--cells": 4_194_304, "--limit": 1_000_000, "--seed": 2**64 - 1, "--count": 100_000, "--steps": 900_000}
+SMALL = {"--cells": (1, 2, 3, 5, 10, 100, 65536, 4_194_304), "--limit": (0, 1, 7, 300, 5000), "--seed": (0, 7, 2**63),
     "--count": (1, 2, 5), "--steps": (0, 1, 30, 300)}
 ODD = ("0", "1", "-1", str(2**64), str(2**64 - 1), str(2**63), "x", "", " 1", "1 ", "1.5", "1e3", "0x10", "+1", "01", "٣", "９",
     "1,000", "1_000", "--", "-", "9" * 500, "source", "SOURCE", "mach")
