@@ -24,6 +24,7 @@ function print_broken(line,  at, indent) {
 /three parts/ { files = "my.java my.program my.schedule" }
 /two parts, class/ { files = "my.java my.program" }
 /two parts, a history/ { files = "my.history my.order" }
+/input is a history/ { files = "my.history" }
 /^Usage: listset [a-z]/ { command = $3 }
 /^  (printf|listset) / { gsub(/ \| /, " |\n    ") }
 {
