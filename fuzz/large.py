@@ -114,6 +114,8 @@ def schedules():
     for name, text, wanted in (("items", b"A B " * (sixteen // 4), 42), ("million_items", b"A " * 1_000_000, 0), ("million_and_one", b"A " * 1_000_001, 42),
             ("gaps", b" " * sixteen, 0), ("lines", b"\n" * sixteen, 0), ("digits", b"A*" + b"9" * sixteen, 42), ("name", b"q" * sixteen, 41),
             ("stars", b"A*" * (sixteen // 2), 40), ("zeros", b"all*0 " * (sixteen // 6), 40), ("gap_each", (b"A" + b" " * 15) * (sixteen // 17), 0),
+            ("groups", b"@2 " + b"(A B) " * (sixteen // 8), 42), ("open_groups", b"@2 " + b"(" * sixteen, 40), ("closed_groups", b"@2 " + b")" * sixteen, 40),
+            ("groups_of_none", b"@2 A " + b"(A B)*999999999 " * (sixteen // 16), 42), ("nested_counts", b"@2 " + b"(" * 8 + b"A" + b")*999999999" * 8, 42),
             ("carriage_returns", b"A\r\n" * 900_000, 0), ("alternating", b"A B " * 500_000, 0)):
         for command in (["replay"], ["source"], ["translate", "--to", "machine"], ["translate", "--to", "source"]):
             yield f"schedule_of_{name}_{command[-1]}", command, program + text + b"\n", wanted

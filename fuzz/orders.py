@@ -125,13 +125,24 @@ def check_orders(program, r):
     return wanted.split(" at ")[0].rsplit(" ", 1)[0].strip(), None if came == wanted else (words, text, came, wanted)
 
 
+def grouped(r, items, gap, outer):
+    """The items with groups round some of them, a little too deep at times."""
+    if not items or outer > 9 or r.random() < 0.3:
+        return items
+    first, last = sorted(r.choices(range(len(items) + 1), k=2))
+    inner = gap.join(grouped(r, items[first:last], gap, outer + 1))
+    group = r.choice(("(", "( ")) + inner + r.choice((")", " )")) + r.choice(("", "*1", "*2", "*3", "*70"))
+    return [*items[:first], group, *grouped(r, items[last:], gap, outer + 1)]
+
+
 def check_schedules(program, r):
     """A schedule text, right or a little wrong."""
     threads = ["A", "B", "Cc"][:r.choice((0, 1, 2, 3))]
     calls = "".join(f"thread {name} {{ s.f(); s.get(); }} " for name in threads)
     parts = [TEXTS, f"setup {{ s = new C(); }} {calls}\n".encode()]
     items = [r.choice([*threads, "setup", "all"]) + r.choice(("", "", "*1", "*2", "*7", "*30")) for _ in range(r.choice((0, 1, 5, 20)))]
-    text = r.choice((" ", "\n", "\t", "\r\n", "  ")).join(["setup*5", *items]).encode()
+    gap = r.choice((" ", "\n", "\t", "\r\n", "  "))
+    text = gap.join(["setup*5", *items] if r.random() < 0.5 else ["@2", "setup*5", *grouped(r, items, gap, 0)]).encode()
     if r.random() < 0.6:
         text = mutations.spoilt(r, text, r.choice((1, 1, 2)))
     if b"%%" in text or not is_text(text):

@@ -9,6 +9,9 @@ short static strictfp super switch synchronized this throw throws transient try 
 NAME = r"[A-Za-z_$][A-Za-z0-9_$]*"
 VALUE = r"(?:true|false|0|-?[1-9][0-9]*)"
 ITEM = re.compile(rf"({NAME})(?:\*([1-9][0-9]*))?")
+VERSION = re.compile(r"[ \t\r\n]*@2(?=[ \t\r\n)]|\Z)")
+PIECE = re.compile(r"[()]|[^ \t\r\n()]+")
+TIMES = re.compile(r"(?:\*([1-9][0-9]*))?(?=[ \t\r\n)]|\Z)")
 ENTRY = re.compile(rf"({NAME})\.([1-9][0-9]*)")
 VALUES = rf"({VALUE}(?:, {VALUE})*)?"
 LINE = re.compile(rf"({NAME})\.([1-9][0-9]*) (?:call ({NAME}) = new ({NAME})\({VALUES}\)|call ({NAME})\.({NAME})\({VALUES}\)|"
@@ -27,19 +30,70 @@ def items(text):
 
 def read_schedule(text, threads):
     """The threads of each step, the setup being 0; 40 and 41 come before 42."""
-    names, turns, total = {name: place for place, name in enumerate(["setup", *threads])}, [], 0
-    for at, item in items(text):
-        form = ITEM.fullmatch(item)
-        if not form or not is_name(form.group(1)):
-            return 40, at
-        if form.group(1) not in names and form.group(1) != "all":
-            return 41, at
-        who = range(1, len(names)) if form.group(1) == "all" else [names[form.group(1)]]
-        digits = form.group(2) or "1"
-        count = int(digits) if len(digits) < 9 else 10**9
-        turns.append((list(who), count))
-        total += len(turns[-1][0]) * count
-    return (42, None) if total > 1_000_000 else [step for who, count in turns for step in who * count]
+    names = {name: place for place, name in enumerate(["setup", *threads])}
+    version = VERSION.match(text)
+    turns = read_groups(text, version.end(), len(text), 0, names) if version else [read_item(at, item, names) for at, item in items(text)]
+    faults = [turns] if isinstance(turns, tuple) else [turn for turn in turns if isinstance(turn[0], int)]
+    if faults:
+        return faults[0]
+    return (42, None) if length_of(turns) > 1_000_000 else steps_of(turns)
+
+
+def count_of(digits):
+    return int(digits or "1") if len(digits or "1") < 9 else 10**9
+
+
+def read_item(at, item, names):
+    """The threads that an item names and its count, or its fault."""
+    form = ITEM.fullmatch(item)
+    if not form or not is_name(form.group(1)):
+        return 40, at
+    if form.group(1) not in names and form.group(1) != "all":
+        return 41, at
+    who = range(1, len(names)) if form.group(1) == "all" else [names[form.group(1)]]
+    return list(who), count_of(form.group(2))
+
+
+def closing(text, at):
+    """The place of the parenthesis that closes the one at this place, or None."""
+    deep = 0
+    for place in range(at, len(text)):
+        deep += {"(": 1, ")": -1}.get(text[place], 0)
+        if deep == 0:
+            return place
+    return None
+
+
+def read_groups(text, at, end, outer, names):
+    """The items and groups between two places, each with its count, within so many groups; or the first fault."""
+    turns = []
+    while found := PIECE.search(text, at, end):
+        at, piece = found.end(), found.group()
+        if piece == ")":
+            return 40, found.start()
+        if piece == "(":
+            close = closing(text, found.start())
+            times = None if close is None else TIMES.match(text, close + 1)
+            if outer == 8 or not times or not items(text[at:close]):
+                return 40, found.start()
+            turn = read_groups(text, at, close, outer + 1, names), count_of(times.group(1))
+            at = times.end()
+            if isinstance(turn[0], tuple):
+                return turn[0]
+        else:
+            turn = (40, found.start()) if text[at:at + 1] == "(" else read_item(found.start(), piece, names)
+            if isinstance(turn[0], int):
+                return turn
+        turns.append(turn)
+    return turns
+
+
+def length_of(turns):
+    return sum(count * (length_of(what) if what and isinstance(what[0], tuple) else len(what)) for what, count in turns)
+
+
+def steps_of(turns):
+    return [step for what, count in turns if what for step in (steps_of(what) if isinstance(what[0], tuple) else what) * count]
 
 
 def in_range(text):

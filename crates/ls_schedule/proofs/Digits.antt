@@ -24,9 +24,9 @@ value_more ds i n e lt h =
     let is : digit_value (get_or ds i 0) ≡ get_or ds i 0 - 48 = grind (arith, common_steps) in
     omega arith
 
--- the fault of an item is that of all, where it isn't want of memory
-pub fails_ends : {X Y : Type 0} (d : ScheduleFault) (one : Result X ScheduleFault) (all : Result Y ScheduleFault) → (one ≡ Err d → all ≡ Err d) → Fails d one → Fails d all
-fails_ends fault.Memory one all f h = tt
-fails_ends (fault.BadItem at) one all f h = f h
-fails_ends (fault.UnknownThread at) one all f h = f h
-fails_ends fault.TooManySteps one all f h = f h
+-- what a fault is, it is also where memory may run out
+pub fails_of : {X : Type 0} (e : ScheduleFault) (all : Result X ScheduleFault) → all ≡ Err e → Fails e all
+fails_of fault.Memory all h = tt
+fails_of (fault.BadItem at) all h = h
+fails_of (fault.UnknownThread at) all h = h
+fails_of fault.TooManySteps all h = h

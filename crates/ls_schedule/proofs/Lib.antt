@@ -1,6 +1,13 @@
 pub mod Digits
+pub mod Fronts
 pub mod Named
+pub mod OnceMore
+pub mod OnePass
+pub mod Passed
+pub mod Passes
+pub mod Plain
 pub mod RoundTrip
 pub mod Runs
+pub mod Spoilt
 pub mod Steps
 pub mod Words

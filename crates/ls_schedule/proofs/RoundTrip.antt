@@ -11,10 +11,13 @@ use Rattle.std.proofs.lemmas.Slice.Eq.{bytes_eq-Decides}
 use Rattle.ls_lexer.specs.Names.{is_name}
 use Rattle.ls_schedule.specs.declared.fault.ScheduleFault.TheVariants as fault
 use Rattle.ls_items.specs.Items.{is_gap, items}
-use Rattle.ls_schedule.specs.Reading.{Turns, counted, each, known, parts_of, repeated, steps_of, threads_named, turns_of, within, ◌>>=◌}
-use Rattle.ls_schedule.specs.Printing.{Run, item_text, items_text, more_text, name_of, runs_of, times, with_step}
+use Rattle.ls_schedule.specs.Pieces.{Gap, pieces, second_version, with_byte}
+use Rattle.ls_schedule.specs.Reading.{Turns, by_version, counted, each, group_schedule, known, parts_of, repeated, schedule_of, steps_of, threads_named, turns_of, within, ◌>>=◌}
+use Rattle.ls_schedule.specs.Printing.{Run, item_text, more_text, name_of, runs_of, times, with_step}
 use Rattle.ls_schedule.specs.RoundTrip.{AreThreadNames, ReadsBack}
-use Rattle.ls_schedule.proofs.Words.{Each, NoGaps, Parts, count_read, decimal_digits, digits_gaps, each_append, name_parts, parts_gaps, parts_once, parts_times, word_items}
+use Rattle.ls_schedule.proofs.Fronts.{at_gap}
+use Rattle.ls_schedule.proofs.Plain.{without_groups}
+use Rattle.ls_schedule.proofs.Words.{Each, IsPlain, NoGaps, NoGroups, Parts, count_read, decimal_digits, digits_gaps, digits_plain, each_append, name_parts, parts_gaps, parts_once, parts_plain, parts_times, word_items}
 
 -- ---- a name is that of its thread
 
@@ -139,10 +142,6 @@ read_more : (names : List (List ℕ)) (at : ℕ) (rs : List Run) → AreThreadNa
 read_more names at [] a f = refl
 read_more names at (r ∷ rs) a f = read_one names (at + 1) r rs a f.0 (λ next. read_more names next rs a f.1)
 
-read_all : (names : List (List ℕ)) (rs : List Run) → AreThreadNames names → AllFit names rs → each (turns_of names) (items 0 (items_text names rs ++ 10 ∷ [])) ≡ Ok (map turn rs)
-read_all names [] a f = refl
-read_all names (r ∷ rs) a f = read_one names 0 r rs a f.0 (λ next. read_more names next rs a f.1)
-
 -- ---- the steps of the runs
 
 step_on : (t : ℕ) (rs : List Run) → steps_of (map turn (with_step t rs)) ≡ t ∷ steps_of (map turn rs)
@@ -193,10 +192,44 @@ each_of : (P : ℕ → Type 0) (xs : List ℕ) → All P xs → Each P xs
 each_of P [] h = tt
 each_of P (x ∷ xs) h = (h 0 0 (omega arith), each_of P xs (λ k d lt. h (suc k) d (omega arith)))
 
+-- ---- a printed text has no parentheses
+
+times_plain : (n : ℕ) → n ≤ 1000000 → NoGroups (times n)
+times_plain n le =
+    elim (cases_Bool (n == 1)) [
+      | inl e ↦ subst NoGroups (sym (ap (λ b. cond b [] (42 ∷ decimal n)) e)) tt
+      | inr e ↦ subst NoGroups (sym (ap (λ b. cond b [] (42 ∷ decimal n)) e)) ((refl, refl), digits_plain (decimal n) (decimal_digits n (omega arith)))
+    ]
+
+item_plain : (names : List (List ℕ)) (r : Run) → AreThreadNames names → Fits names r → NoGroups (item_text names r)
+item_plain names r a f =
+    let name : List ℕ = name_at names r.0 in
+    let n = name_parts name (a.formed r.0 name (got names r.0 f.0)) in
+    let text : name ++ times r.1 ≡ item_text names r = ap (λ l. l ++ times r.1) (sym (name_is names r.0 f.0)) in
+    subst NoGroups text (each_append IsPlain name (times r.1) (parts_plain name n.1) (times_plain r.1 f.2))
+
+more_plain : (names : List (List ℕ)) (rs : List Run) → AreThreadNames names → AllFit names rs → NoGroups (more_text names rs)
+more_plain names [] a f = tt
+more_plain names (r ∷ rs) a f = ((refl, refl), each_append IsPlain (item_text names r) (more_text names rs) (item_plain names r a f.0) (more_plain names rs a f.1))
+
+-- ---- and has version 2
+
+versioned : (names : List (List ℕ)) (text : List ℕ) (c : ℕ) (rest : List ℕ) → text ≡ c ∷ rest → is_gap c ≡ true
+    → schedule_of names (codes "@2" ++ text) ≡ group_schedule names (pieces 2 text)
+versioned names text c rest e g =
+    let is : pieces 2 text ≡ Gap ∷ pieces 3 rest = ap (pieces 2) e ∙ at_gap 2 c rest g in
+    ap (λ ps. by_version names (codes "@2" ++ text) (second_version (with_byte 0 64 (with_byte 1 50 ps)))) is
+    ∙ ap (group_schedule names) (sym is)
+
 pub reads_back : ReadsBack
 reads_back names steps a there le =
     let rs : List Run = runs_of steps in
     let f : AllFit names rs = fit names (length steps) rs le (runs_upto names steps (each_of (λ t. t < length names) steps there)) in
-    ap (λ x. x >>= λ turns. within (steps_of turns)) (read_all names rs a f)
+    let text : List ℕ = more_text names rs ++ 10 ∷ [] in
+    let g = gap_first names rs in
+    let plain : NoGroups text = each_append IsPlain (more_text names rs) (10 ∷ []) (more_plain names rs a f) ((refl, refl), tt) in
+    versioned names text g.0 g.1 g.2 g.3
+    ∙ without_groups names 2 text plain
+    ∙ ap (λ x. x >>= λ turns. within (steps_of turns)) (read_more names 2 rs a f)
     ∙ ap within (runs_steps steps)
     ∙ ap (λ b. cond b (Err fault.TooManySteps) (Ok steps)) (le-ltb 1000000 (length steps) le)

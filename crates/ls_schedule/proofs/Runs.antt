@@ -1,8 +1,8 @@
 -- The runs of a list of steps, one after the other.
-use Rattle.std.proofs.Common.{◌≡◌, ◌∙◌, ◌+◌, ◌==◌, ◌<◌, ℕ, suc, Bool, true, false, cond, List, [], ◌∷◌, ◌++◌, length, drop, get_or, refl, sym, ap, subst, eq-eqb, append_assoc, append-nil, arith, eqb-true}
+use Rattle.std.proofs.Common.{◌≡◌, ◌∙◌, ◌+◌, ◌==◌, ◌<◌, ℕ, suc, Bool, true, false, cond, List, [], ◌∷◌, ◌++◌, length, drop, get_or, refl, sym, ap, subst, eq-eqb, append_assoc, arith, eqb-true}
 use Rattle.std.specs.List.{prefix_len}
 use Rattle.std.proofs.lemmas.Bool.Decides.{nat_tests}
-use Rattle.ls_schedule.specs.Printing.{item_text, items_text, more_text, runs_of, with_step}
+use Rattle.ls_schedule.specs.Printing.{item_text, more_text, runs_of, with_step}
 
 -- how often t stands first
 abbrev pub first_len : ℕ → List ℕ → ℕ
@@ -42,26 +42,21 @@ first_run t (u ∷ us) = go (t == u) refl (first_run u us)
     go true e h = let is : t ≡ u = eqb-true _ _ e in same_run t u us is e (rw is (eq-eqb u u refl)) h
     go false e h = other_run t u us e (false_back t u e) h
 
-glue : (first : Bool) (out new item more all : List ℕ) → new ≡ (out ++ cond first [] (32 ∷ [])) ++ item
-    → out ++ cond first (item ++ more) (32 ∷ (item ++ more)) ≡ all → new ++ more ≡ all
-glue true out new item more all e h =
-    ap (λ x. x ++ more) e ∙ ap (λ x. (x ++ item) ++ more) (append-nil out) ∙ append_assoc out item more ∙ h
-glue false out new item more all e h =
-    ap (λ x. x ++ more) e ∙ append_assoc (out ++ 32 ∷ []) item more ∙ append_assoc out (32 ∷ []) (item ++ more) ∙ h
-
 -- the text after one more item
-pub goes_on : (names : List (List ℕ)) (first : Bool) (out new rest back : List ℕ) (t len : ℕ) (all : List ℕ)
+pub goes_on : (names : List (List ℕ)) (out new rest back : List ℕ) (t len : ℕ) (all : List ℕ)
     → 0 < length rest → t ≡ get_or rest 0 0 → len ≡ first_len t rest → back ≡ drop len rest
-    → new ≡ (out ++ cond first [] (32 ∷ [])) ++ item_text names (t, len)
-    → out ++ cond first (items_text names (runs_of rest)) (more_text names (runs_of rest)) ≡ all
+    → new ≡ (out ++ 32 ∷ []) ++ item_text names (t, len)
+    → out ++ more_text names (runs_of rest) ≡ all
     → new ++ more_text names (runs_of back) ≡ all
-goes_on names first out new [] back t len all some head l b e h = absurd (omega arith)
-goes_on names first out new (u ∷ us) back t len all some head l b e h =
+goes_on names out new [] back t len all some head l b e h = absurd (omega arith)
+goes_on names out new (u ∷ us) back t len all some head l b e h =
     let k : ℕ = first_len t us in
     let same : (u == t) ≡ true = rw head (eq-eqb u u refl) in
     let one : 1 + k ≡ suc k = omega arith in
     let n : len ≡ suc k = l ∙ ap (λ c. cond c (1 + k) 0) same ∙ one in
     let split : runs_of (u ∷ us) ≡ (t, len) ∷ runs_of back =
     rw (sym head, n, b ∙ ap (λ m. drop m (u ∷ us)) n) (first_run t us) in
-    glue first out new (item_text names (t, len)) (more_text names (runs_of back)) all e
-    (ap (λ rs. out ++ cond first (items_text names rs) (more_text names rs)) (sym split) ∙ h)
+    let item : List ℕ = item_text names (t, len) in
+    let more : List ℕ = more_text names (runs_of back) in
+    ap (λ x. x ++ more) e ∙ append_assoc (out ++ 32 ∷ []) item more ∙ append_assoc out (32 ∷ []) (item ++ more)
+    ∙ (ap (λ rs. out ++ more_text names rs) (sym split) ∙ h)

@@ -7,7 +7,8 @@ use Rattle.ls_schedule.specs.declared.fault.ScheduleFault.{ScheduleFault}
 use Rattle.ls_schedule.specs.declared.fault.ScheduleFault.TheVariants as fault
 use Rattle.ls_schedule.specs.Answers.{capped, capped_schedule, more_steps}
 use Rattle.ls_items.specs.Items.{Item, items}
-use Rattle.ls_schedule.specs.Reading.{Turns, each, repeated, schedule_of, steps_of, turns_of, within, ◌>>=◌}
+use Rattle.ls_schedule.specs.Pieces.{pieces, second_version}
+use Rattle.ls_schedule.specs.Reading.{Turns, by_version, each, plain_schedule, repeated, schedule_of, steps_of, turns_of, within, ◌>>=◌}
 
 -- ---- one more turn, and too many
 
@@ -16,7 +17,7 @@ longer zero n ts h = omega arith
 longer (suc m) zero ts h = absurd (omega arith)
 longer (suc m) (suc n) ts h = omega (arith, longer m n ts (omega arith), length-append ts (repeated m ts), length-append ts (repeated n ts))
 
-repeated_none : (n : ℕ) → repeated n [] ≡ []
+pub repeated_none : (n : ℕ) → repeated n [] ≡ []
 repeated_none zero = refl
 repeated_none (suc n) = repeated_none n
 
@@ -40,12 +41,12 @@ pub no_threads : (base ts : List ℕ) (n : ℕ) → length ts ≡ 0 → base ≡
 no_threads base [] n e = sym (ap (λ xs. base ++ xs) (repeated_none n) ∙ append-nil base)
 no_threads base (t ∷ ts) n e = absurd (omega arith)
 
-at_least : (n t : ℕ) (ts : List ℕ) → n ≤ length (repeated n (t ∷ ts))
+pub at_least : (n t : ℕ) (ts : List ℕ) → n ≤ length (repeated n (t ∷ ts))
 at_least zero t ts = omega arith
 at_least (suc n) t ts = omega (arith, at_least n t ts, length-append (t ∷ ts) (repeated n (t ∷ ts)))
 
 -- where the capped count gives at most a million steps, it is the count, or there is no step
-cap_is : (p : Turns) → length (repeated (min p.1 1000001) p.0) ≤ 1000000 → repeated (min p.1 1000001) p.0 ≡ repeated p.1 p.0
+pub cap_is : (p : Turns) → length (repeated (min p.1 1000001) p.0) ≤ 1000000 → repeated (min p.1 1000001) p.0 ≡ repeated p.1 p.0
 cap_is ([], n) h = repeated_none (min n 1000001) ∙ sym (repeated_none n)
 cap_is (t ∷ ts, n) h = ap (λ k. repeated k (t ∷ ts)) (omega (arith, at_least (min n 1000001) t ts))
 
@@ -161,6 +162,10 @@ with_cap (Ok ps) = sym (within_capped ps)
 with_cap (Err e) = refl
 
 -- the schedule by what is kept of the items
-pub whole : (names : List (List ℕ)) (text : List ℕ) → schedule_of names text ≡ capped_schedule names text
+pub whole : (names : List (List ℕ)) (text : List ℕ) → plain_schedule names text ≡ capped_schedule names text
 whole names text =
     with_cap (each (turns_of names) (items 0 text)) ∙ ap (λ r. r >>= λ ps. within (steps_of ps)) (sym (each_capped (turns_of names) (items 0 text)))
+
+-- a text whose first item isn't `@2`
+pub plain_read : (names : List (List ℕ)) (text : List ℕ) → None ≡ second_version (pieces 0 text) → capped_schedule names text ≡ schedule_of names text
+plain_read names text none = sym (whole names text) ∙ ap (by_version names text) none

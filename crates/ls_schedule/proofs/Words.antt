@@ -27,6 +27,13 @@ Parts = Each (λ b. is_part b ≡ true)
 abbrev pub NoGaps : List ℕ → Type 0
 NoGaps = Each (λ b. is_gap b ≡ false)
 
+-- neither a parenthesis that begins a group nor one that ends it
+abbrev pub IsPlain : ℕ → Type 0
+IsPlain b = ((b == 40) ≡ false) × ((b == 41) ≡ false)
+
+abbrev pub NoGroups : List ℕ → Type 0
+NoGroups = Each IsPlain
+
 each_weaker : (P Q : ℕ → Type 0) → ((b : ℕ) → P b → Q b) → (bs : List ℕ) → Each P bs → Each Q bs
 each_weaker P Q f [] h = tt
 each_weaker P Q f (b ∷ bs) h = (f b h.0, each_weaker P Q f bs h.1)
@@ -56,6 +63,15 @@ part_gap b h = elim (cases_Bool (is_gap b)) [ inl g ↦ absurd (part_not_gap b h
 
 part_star : (b : ℕ) → is_part b ≡ true → (b == 42) ≡ false
 part_star b h = elim (cases_Bool (b == 42)) [ inl e ↦ absurd (clash b 42 e refl h) | inr e ↦ e ]
+
+part_plain : (b : ℕ) → is_part b ≡ true → IsPlain b
+part_plain b h = (
+  elim (cases_Bool (b == 40)) [ inl e ↦ absurd (clash b 40 e refl h) | inr e ↦ e ],
+  elim (cases_Bool (b == 41)) [ inl e ↦ absurd (clash b 41 e refl h) | inr e ↦ e ],
+)
+
+pub parts_plain : (bs : List ℕ) → Parts bs → NoGroups bs
+parts_plain bs h = each_weaker (λ b. is_part b ≡ true) IsPlain part_plain bs h
 
 pub parts_gaps : (bs : List ℕ) → Parts bs → NoGaps bs
 parts_gaps bs h = each_weaker (λ b. is_part b ≡ true) (λ b. is_gap b ≡ false) part_gap bs h
@@ -125,6 +141,15 @@ digit_gap b h = elim (cases_Bool (is_gap b)) [ inl g ↦ absurd (omega (arith, g
 pub digits_gaps : (ds : List ℕ) → list_all is_digit ds ≡ true → NoGaps ds
 digits_gaps [] h = tt
 digits_gaps (d ∷ ds) h = let p = and_parts (is_digit d) (list_all is_digit ds) h in (digit_gap d p.0, digits_gaps ds p.1)
+
+digit_not : (b k : ℕ) → k < 48 → is_digit b ≡ true → (b == k) ≡ false
+digit_not b k small h = elim (cases_Bool (b == k)) [ inl e ↦ absurd (omega (arith, eqb-true b k e, small, (digit_range b h).0)) | inr e ↦ e ]
+
+pub digits_plain : (ds : List ℕ) → list_all is_digit ds ≡ true → NoGroups ds
+digits_plain [] h = tt
+digits_plain (d ∷ ds) h =
+    let p = and_parts (is_digit d) (list_all is_digit ds) h in
+    ((digit_not d 40 (omega arith) p.0, digit_not d 41 (omega arith) p.0), digits_plain ds p.1)
 
 not_zero : (d : ℕ) → 48 < d → (d == 48) ≡ false
 not_zero d lt = elim (cases_Bool (d == 48)) [ inl e ↦ absurd (omega (arith, eqb-true d 48 e)) | inr e ↦ e ]

@@ -46,3 +46,8 @@ abbrev pub more_steps : Option (List ℕ) → List ℕ → ℕ → Option (List 
 more_steps None threads count = None
 more_steps (Some steps) threads count =
     let all = steps ++ repeated count threads in so_far (not (nat_lt 1000000 (length all))) all
+
+-- a function returned what reading gives, seen by view: memory never runs out
+abbrev pub Says : {X Y : Type 0} → (X → Y) → Result X ScheduleFault → Result Y ScheduleFault → Type 0
+Says view (Ok x) read = read ≡ Ok (view x)
+Says view (Err e) read = read ≡ Err e

@@ -1,4 +1,6 @@
 pub mod Answers
+pub mod Passing
+pub mod Pieces
 pub mod Printing
 pub mod Reading
 pub mod Records

@@ -1,5 +1,5 @@
 -- How a schedule is printed.
-use Rattle.std.specs.Prelude.{◌==◌, ◌+◌, ℕ, List, [], ◌∷◌, ◌++◌, if◌then◌else◌, slice_get, unwrap_or}
+use Rattle.std.specs.Prelude.{◌==◌, ◌+◌, ℕ, List, [], ◌∷◌, ◌++◌, if◌then◌else◌, slice_get, unwrap_or, codes}
 use Rattle.std.specs.Fmt.{decimal}
 
 -- a thread, and how many steps of it stand in a row
@@ -31,10 +31,6 @@ abbrev pub more_text : List (List ℕ) → List Run → List ℕ
 more_text names [] = []
 more_text names (r ∷ rs) = 32 ∷ (item_text names r ++ more_text names rs)
 
--- items, with a space between two
-abbrev pub items_text : List (List ℕ) → List Run → List ℕ
-items_text names [] = []
-items_text names (r ∷ rs) = item_text names r ++ more_text names rs
-
+-- `@2`, the items and a line feed
 abbrev pub schedule_text : List (List ℕ) → List ℕ → List ℕ
-schedule_text names steps = items_text names (runs_of steps) ++ 10 ∷ []
+schedule_text names steps = codes "@2" ++ more_text names (runs_of steps) ++ 10 ∷ []

@@ -2,9 +2,12 @@
 #![tactic(auto)]
 
 pub mod fault;
+mod groups;
 pub mod laws;
+mod pieces;
 mod printing;
 mod reading;
+mod repeating;
 mod replaying;
 
 pub use printing::print_schedule;

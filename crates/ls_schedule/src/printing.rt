@@ -10,7 +10,6 @@ ghost use Rattle.std.specs.Prelude.{
   ◌∷◌,
   [],
   ◌≤◌,
-  if◌then◌else◌,
   IfOk,
   OnOk,
   length,
@@ -68,18 +67,16 @@ fn push_item(
     push_times(out, count)
 }
 
-// A space, but for the first item.
-fn push_gap(out: &mut String, first: bool) -> Result<(), AllocError>
-    ensures { OnOk result (string_bytes out.new ≡ string_bytes out.old ++ (if first then [] else 32 ∷ [])) }
+fn push_gap(out: &mut String) -> Result<(), AllocError>
+    ensures { OnOk result (string_bytes out.new ≡ string_bytes out.old ++ 32 ∷ []) }
 {
-    if !first {
-        out.push_str(" ")?;
-    }
+    out.push_str(" ")?;
     Ok(())
 }
 
-/// The text of a schedule of a program: neighbouring steps of one thread are one item, as `name` or `name*count`, with
-/// a space between two items and a line feed at the end. A thread that isn't there has no name.
+/// The text of a schedule of a program, of version 2 without groups: `@2`, and neighbouring steps of one thread as one
+/// item, `name` or `name*count`, with a space before each and a line feed at the end. A thread that isn't there has no
+/// name.
 pub fn print_schedule(
     alloc: Global,
     schedule: &Schedule,
@@ -89,14 +86,13 @@ pub fn print_schedule(
 {
     let threads = program.threads.as_slice();
     let mut out = String::new(alloc);
-    let mut first = true;
+    out.push_str("@2")?;
     let mut rest = schedule.steps();
     'items: while !rest.is_empty() {
         let thread = rest[0];
         let len = run_len(thread, rest);
-        push_gap(&mut out, first)?;
+        push_gap(&mut out)?;
         push_item(&mut out, threads, thread, len)?;
-        first = false;
         rest = rest.split_at(len).1;
     }
     out.push_str("\n")?;

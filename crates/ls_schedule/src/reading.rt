@@ -1,7 +1,7 @@
 // From a text to its schedule.
 
 ghost use Rattle.ls_lexer.specs.Names.{is_name};
-ghost use Rattle.ls_schedule.specs.Answers.{Gives, capped_schedule, capped_turns, more_steps, so_far, threads_of, view};
+ghost use Rattle.ls_schedule.specs.Answers.{Gives, Says, capped_schedule, capped_turns, more_steps, so_far, threads_of, view};
 ghost use Rattle.ls_items.specs.Items.{items};
 ghost use Rattle.ls_schedule.specs.Reading.{
   count_of,
@@ -43,6 +43,8 @@ ghost use Rattle.std.specs.Str.Parse.{digits_value};
 ghost use Rattle.std.specs.Str.{bytes_eq};
 
 use crate::fault::ScheduleFault;
+use crate::groups::read_groups;
+use crate::pieces::after_version;
 use ls_checked::program::{Program, ThreadProgram};
 use ls_events::schedule::{MOST_STEPS, Schedule};
 use ls_items::item_len;
@@ -112,7 +114,7 @@ fn value(digits: &[u8]) -> u64
 }
 
 // The number of times, where the text has the form of a count.
-fn count(text: &[u8]) -> Option<u64>
+pub fn count(text: &[u8]) -> Option<u64>
     ensures { result ≡ option_map (λ n. min n 1000001) (count_of text.now) }
 {
     if is_count(text) {
@@ -150,8 +152,8 @@ fn threads_behind(threads: &[ThreadProgram], name: &[u8]) -> Option<Who>
 }
 
 // An item: a name, and where a star follows it a count.
-fn read_item(at: usize, item: &[u8], threads: &[ThreadProgram]) -> Result<Said, ScheduleFault>
-    ensures { Gives (view (length threads.now)) result (capped_turns (map thread_name threads.now) (at, item.now)) }
+pub fn read_item(at: usize, item: &[u8], threads: &[ThreadProgram]) -> Result<Said, ScheduleFault>
+    ensures { Says (view (length threads.now)) result (capped_turns (map thread_name threads.now) (at, item.now)) }
 {
     let (name, count) = match star_at(item) {
         Some(i) => (&item[..i], count(&item[i + 1..])),
@@ -210,7 +212,7 @@ fn append(schedule: &mut Schedule, threads: &[usize], count: u64) -> Result<(), 
 }
 
 // The numbers of all threads but the setup.
-fn all_threads(alloc: Global, threads: usize) -> Result<Vec<usize>, AllocError>
+pub fn all_threads(alloc: Global, threads: usize) -> Result<Vec<usize>, AllocError>
     ensures { IfOk result (λ v. v.items ≡ range_with_len 1 (threads - 1)) }
 {
     let mut all = Vec::new(alloc);
@@ -234,7 +236,7 @@ fn goes_on(schedule: &mut Schedule, threads: &[usize], count: u64) -> Result<boo
 }
 
 // Appends the steps of an item if those so far fit, and tells whether they all do.
-fn goes_on_with(
+pub fn goes_on_with(
     fits: bool,
     schedule: &mut Schedule,
     said: Said,
@@ -253,7 +255,8 @@ fn goes_on_with(
     }
 }
 
-// The steps of all items of the text. Once they are too many, the other items are only looked at.
+// The steps of all items of a text of version 1. Once they are too many, the other items are only looked at.
+#[tactic(auto, using(crate::proofs::Steps::whole))]
 fn read_steps(
     alloc: Global,
     text: &[u8],
@@ -287,9 +290,10 @@ fn read_steps(
     }
 }
 
-/// The schedule that a text names, for the threads of a program. Refused with the first item of the text that has not
-/// the form of one or names no thread, and where there is none such with `TooManySteps` if the steps are too many.
-#[tactic(auto, using(crate::proofs::Steps::whole))]
+/// The schedule that a text names, for the threads of a program. A text whose first item is `@2` has version 2, with groups
+/// in parentheses; without it the text has version 1. Refused with the first item or group of the text that has not the
+/// form of one, or the first item that names no thread, and where there is none such with `TooManySteps` if the steps are
+/// too many.
 pub fn read_schedule(
     alloc: Global,
     text: &str,
@@ -297,5 +301,10 @@ pub fn read_schedule(
 ) -> Result<Schedule, ScheduleFault>
     ensures { Gives (λ s. s) result (schedule_of (thread_names program.now) text.now) }
 {
-    read_steps(alloc, text.as_bytes(), program.threads.as_slice())
+    let bytes = text.as_bytes();
+    let threads = program.threads.as_slice();
+    match after_version(bytes) {
+        Some(start) => read_groups(alloc, bytes, start, threads),
+        None => read_steps(alloc, bytes, threads),
+    }
 }

@@ -1,7 +1,8 @@
 -- Counts of seven and more digits, and the most steps that a schedule has.
-use Rattle.std.specs.Prelude.{◌≡◌, ℕ, [], ◌∷◌, codes, replicate, Ok, Err}
+use Rattle.std.specs.Prelude.{◌≡◌, ◌<◌, ◌*◌, ℕ, List, [], ◌∷◌, length, codes, replicate, Some, Ok, Err}
 use Rattle.ls_schedule.specs.declared.fault.ScheduleFault.TheVariants.{BadItem, UnknownThread, TooManySteps}
-use Rattle.ls_schedule.specs.Reading.{turns_of, within}
+use Rattle.ls_schedule.specs.Pieces.{Piece}
+use Rattle.ls_schedule.specs.Reading.{group_schedule, nothing, repeated, steps_in, times_of, turns_of, within}
 use Rattle.ls_schedule_rows.specs.Said.{names, IsRefused}
 
 -- a count has as many digits as are written
@@ -19,7 +20,22 @@ MostSteps = (t : ℕ) → within (replicate 1000000 t) ≡ Ok (replicate 1000000
 abbrev pub OneStepTooMany : Type 0
 OneStepTooMany = (t : ℕ) → within (replicate 1000001 t) ≡ Err TooManySteps
 
+-- so has the count of a group
+abbrev pub LongGroupCounts : Type 0
+LongGroupCounts = (times_of (codes "*7654321") ≡ Some 7654321) × (times_of (codes "*98765432109876543210") ≡ Some 98765432109876543210)
+
+-- counts of groups in one another multiply, however large what comes of it is
+abbrev pub CountsInOneAnother : Type 0
+CountsInOneAnother = (m n : ℕ) (steps : List ℕ) → 1000000 < m * (n * length steps) → within (repeated m (repeated n steps)) ≡ Err TooManySteps
+
+-- and what they say together has at most 1,000,000 steps
+abbrev pub GroupsPastTheLimit : Type 0
+GroupsPastTheLimit =
+    (ps : List Piece) (steps : List ℕ) → steps_in names [] nothing ps ≡ Ok steps → 1000000 < length steps → group_schedule names ps ≡ Err TooManySteps
+
 -- an item with a fault is told before the length is
 abbrev pub FaultsBeforeTheLength : Type 0
 FaultsBeforeTheLength =
-    IsRefused (codes "A*2000000 A*0") (BadItem 10) × IsRefused (codes "A*2000000 C") (UnknownThread 10)
+    IsRefused (codes "A*2000000 A*0") (BadItem 10)
+    × IsRefused (codes "A*2000000 C") (UnknownThread 10)
+    × IsRefused (codes "@2 (A*1000001 C)*0") (BadItem 3)

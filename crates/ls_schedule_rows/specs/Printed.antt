@@ -3,19 +3,20 @@ use Rattle.std.specs.Prelude.{◌≡◌, ℕ, List, [], ◌∷◌, ◌++◌, cod
 use Rattle.ls_schedule.specs.Printing.{schedule_text}
 use Rattle.ls_schedule_rows.specs.Said.{names}
 
--- the steps are this text and a line feed
+-- the steps are this text and a line feed: `@2` stands first
 abbrev pub IsPrinted : List ℕ → List ℕ → Type 0
 IsPrinted steps text = schedule_text names steps ≡ text ++ 10 ∷ []
 
 abbrev pub NoSteps : Type 0
-NoSteps = IsPrinted [] []
+NoSteps = IsPrinted [] (codes "@2")
 
 -- neighbouring steps of one thread are one item, without a count where it is 1
 abbrev pub StepsInARow : Type 0
 StepsInARow =
-    IsPrinted (1 ∷ []) (codes "A")
-    × IsPrinted (1 ∷ 1 ∷ 2 ∷ 1 ∷ []) (codes "A*2 B A")
-    × IsPrinted (2 ∷ 2 ∷ 2 ∷ 2 ∷ 2 ∷ 2 ∷ 2 ∷ 2 ∷ 2 ∷ 2 ∷ 2 ∷ []) (codes "B*11")
+    IsPrinted (1 ∷ []) (codes "@2 A")
+    × IsPrinted (1 ∷ 1 ∷ 2 ∷ 1 ∷ []) (codes "@2 A*2 B A")
+    × IsPrinted (1 ∷ 1 ∷ 2 ∷ 1 ∷ 1 ∷ 2 ∷ 1 ∷ 2 ∷ []) (codes "@2 A*2 B A*2 B A B")
+    × IsPrinted (2 ∷ 2 ∷ 2 ∷ 2 ∷ 2 ∷ 2 ∷ 2 ∷ 2 ∷ 2 ∷ 2 ∷ 2 ∷ []) (codes "@2 B*11")
 
 abbrev pub NamesByNumber : Type 0
-NamesByNumber = IsPrinted (0 ∷ 1 ∷ 2 ∷ []) (codes "setup A B")
+NamesByNumber = IsPrinted (0 ∷ 1 ∷ 2 ∷ []) (codes "@2 setup A B")

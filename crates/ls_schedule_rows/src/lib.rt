@@ -4,7 +4,9 @@
 
 ghost use Rattle.ls_schedule_rows.specs.Texts.{OneStepEach, NothingAtAll, EachGap, GapsRoundAText, Times, All, AllSeveralTimes, SetupIsZero, AllOfNone};
 ghost use Rattle.ls_schedule_rows.specs.Faults.{ZeroTimes, BadCounts, BadNames, OtherGaps, UnknownNames, ReservedNames, FirstFault, PlacesOfFaults};
-ghost use Rattle.ls_schedule_rows.specs.Limits.{LongCounts, MostSteps, OneStepTooMany, FaultsBeforeTheLength};
+ghost use Rattle.ls_schedule_rows.specs.Groups.{VersionAlone, ItemsAlone, GroupsTimes, GroupsInARow, GapsInGroups, EightInOneAnother, GroupOfNone};
+ghost use Rattle.ls_schedule_rows.specs.GroupFaults.{GroupsOfVersionOne, OtherVersions, NotClosed, EmptyGroups, BadGroupCounts, WithoutGaps, NineInOneAnother, FirstOfGroups};
+ghost use Rattle.ls_schedule_rows.specs.Limits.{LongCounts, LongGroupCounts, MostSteps, OneStepTooMany, CountsInOneAnother, GroupsPastTheLimit, FaultsBeforeTheLength};
 ghost use Rattle.ls_schedule_rows.specs.Printed.{NoSteps, StepsInARow, NamesByNumber};
 
 /// Texts that say steps.
@@ -32,11 +34,37 @@ pub fn faults()
     ensures places_of_faults { PlacesOfFaults }
 {}
 
+/// Texts of version 2 that say steps, with groups.
+pub fn groups()
+    ensures version_alone { VersionAlone }
+    ensures items_alone { ItemsAlone }
+    ensures groups_times { GroupsTimes }
+    ensures groups_in_a_row { GroupsInARow }
+    ensures gaps_in_groups { GapsInGroups }
+    ensures eight_in_one_another { EightInOneAnother }
+    ensures group_of_none { GroupOfNone }
+{}
+
+/// Texts with groups that are refused, and where.
+pub fn group_faults()
+    ensures groups_of_version_one { GroupsOfVersionOne }
+    ensures other_versions { OtherVersions }
+    ensures not_closed { NotClosed }
+    ensures empty_groups { EmptyGroups }
+    ensures bad_group_counts { BadGroupCounts }
+    ensures without_gaps { WithoutGaps }
+    ensures nine_in_one_another { NineInOneAnother }
+    ensures first_of_groups { FirstOfGroups }
+{}
+
 /// Counts of many digits, and the most steps.
 pub fn limits()
     ensures long_counts { LongCounts }
+    ensures long_group_counts { LongGroupCounts }
     ensures most_steps { MostSteps }
     ensures one_step_too_many { OneStepTooMany }
+    ensures counts_in_one_another { CountsInOneAnother }
+    ensures groups_past_the_limit { GroupsPastTheLimit }
     ensures faults_before_the_length { FaultsBeforeTheLength }
 {}
 

@@ -1,6 +1,6 @@
 -- Schedules of a program that a text is.
 use Rattle.std.proofs.Common.{◌≡◌, ℕ, zero, suc, ◌+◌, ◌-◌, ◌<◌, ◌≤◌, refl, sym, ◌∙◌, subst, arith, Bool, true, false, List, [], ◌∷◌, ◌++◌, length, map, Option, Some, None, Result, Ok, Err, codes}
-use Rattle.std.specs.Prelude.{All, slice_get, nat_lt, option_map, if◌then◌else◌}
+use Rattle.std.specs.Prelude.{◌&&◌, All, slice_get, nat_lt, option_map, if◌then◌else◌}
 use Rattle.std.specs.List.{position, position_or_len, range_with_len}
 use Rattle.std.specs.Str.{bytes_eq}
 use Rattle.std.proofs.lemmas.Bool.Decides.{nat_tests}
@@ -12,7 +12,8 @@ use Rattle.ls_types_programs.proofs.Pieces.{some_none, same_some}
 use Rattle.ls_schedule.specs.declared.fault.ScheduleFault.{ScheduleFault}
 use Rattle.ls_schedule.specs.declared.fault.ScheduleFault.TheVariants as fault
 use Rattle.ls_items.specs.Items.{Item, items}
-use Rattle.ls_schedule.specs.Reading.{Turns, counted, each, known, parts_of, repeated, schedule_of, steps_of, thread_name, thread_names, threads_named, turns_of, within, ◌>>=◌}
+use Rattle.ls_schedule.specs.Pieces.{Piece, Gap, Word, Opens, Closes, opens, pieces, second_version}
+use Rattle.ls_schedule.specs.Reading.{Content, Group, Turns, by_version, closed, counted, each, ended, followed_by, group_schedule, group_steps, group_times, item_turns, known, nothing, parts_of, plain_schedule, repeated, schedule_of, steps_in, steps_of, thread_name, thread_names, threads_named, turns_of, within, ◌>>=◌}
 use Rattle.ls_schedule.proofs.RoundTrip.{reads_back}
 use Rattle.ls_text_laws.specs.Schedules.{NamesAreRead, SchedulesReadBack, WhatIsReadIsASchedule, IsReadAgain}
 use Rattle.ls_text_laws.proofs.Names.{program_names}
@@ -125,14 +126,78 @@ module _ (names : List (List ℕ)) where
           let few : length steps ≤ 1000000 = grind (arith, nat_tests) in
           (same, subst (λ (l : List ℕ). length l ≤ 1000000) same few)
 
-  read_fits : (said steps : List ℕ) → schedule_of names said ≡ Ok steps → Each n steps × (length steps ≤ 1000000)
-  read_fits said steps = by_items (each (turns_of names) (items 0 said)) refl
+  plain_fits : (said steps : List ℕ) → plain_schedule names said ≡ Ok steps → Each n steps × (length steps ≤ 1000000)
+  plain_fits said steps = by_items (each (turns_of names) (items 0 said)) refl
     where
       by_items : (x : Result (List Turns) ScheduleFault) → each (turns_of names) (items 0 said) ≡ x → (x >>= λ turns. within (steps_of turns)) ≡ Ok steps → Each n steps × (length steps ≤ 1000000)
       by_items (Err f) read e = let g : ⊥ = cc in absurd g
       by_items (Ok ts) read e =
           let h = within_fits (steps_of ts) steps e in
           (subst (Each n) h.0 (steps_fit ts (each_fits (items 0 said) ts read)), h.1)
+
+  -- ---- groups
+
+  abbrev Fit : Result (List ℕ) ScheduleFault → Type 0
+  Fit (Ok ts) = Each n ts
+  Fit (Err f) = Unit {0}
+
+  fit_joined : (x y : Result (List ℕ) ScheduleFault) → Fit x → Fit y → Fit (x >>= λ ts. y >>= λ us. Ok (ts ++ us))
+  fit_joined (Err f) y h k = tt
+  fit_joined (Ok ts) (Err f) h k = tt
+  fit_joined (Ok ts) (Ok us) h k = each_append n ts us h k
+
+  fit_repeated : (k : ℕ) (x : Result (List ℕ) ScheduleFault) → Fit x → Fit (x >>= λ ts. Ok (repeated k ts))
+  fit_repeated k (Err f) h = tt
+  fit_repeated k (Ok ts) h = each_repeated n k ts h
+
+  fit_item : (x : Result Turns ScheduleFault) → ((t : Turns) → x ≡ Ok t → Each n t.0) → Fit (x >>= λ p. Ok (repeated p.1 p.0))
+  fit_item (Err f) h = tt
+  fit_item (Ok t) h = each_repeated n t.1 t.0 (h t refl)
+
+  item_fits : (at : ℕ) (bytes : List ℕ) (joined : Bool) (t : Turns) → item_turns names at bytes joined ≡ Ok t → Each n t.0
+  item_fits at bytes true t is = let f : ⊥ = cc in absurd f
+  item_fits at bytes false t is = counted_fits at (parts_of bytes).0 (parts_of bytes).1 t is
+
+  fit_group : (at : ℕ) (formed : Bool) (times : Option ℕ) (x : Result (List ℕ) ScheduleFault) → Fit x → Fit (group_steps at formed times x)
+  fit_group at formed None x h = tt
+  fit_group at false (Some k) x h = tt
+  fit_group at true (Some k) x h = fit_repeated k x h
+
+  abbrev GroupsFit : List Group → Type 0
+  GroupsFit [] = Unit {0}
+  GroupsFit (g ∷ gs) = Fit g.before.steps × GroupsFit gs
+
+  ended_fits : (gs : List Group) (c : Content) → GroupsFit gs → Fit c.steps → Fit (ended gs c)
+  ended_fits [] c h k = k
+  ended_fits (g ∷ gs) c h k = ended_fits gs (followed_by g.before (Err (fault.BadItem g.at))) h.1 (fit_joined g.before.steps (Err (fault.BadItem g.at)) h.0 tt)
+
+  in_fits : (gs : List Group) (c : Content) (ps : List Piece) → GroupsFit gs → Fit c.steps → Fit (steps_in names gs c ps)
+  in_fits gs c [] h k = ended_fits gs c h k
+  in_fits gs c (Gap ∷ ps) h k = in_fits gs c ps h k
+  in_fits gs c (Word at bytes ∷ ps) h k =
+      let x : Result Turns ScheduleFault = item_turns names at bytes (opens ps) in
+      in_fits gs (followed_by c (x >>= λ p. Ok (repeated p.1 p.0))) ps h
+      (fit_joined c.steps (x >>= λ p. Ok (repeated p.1 p.0)) k (fit_item x (item_fits at bytes (opens ps))))
+  in_fits gs c (Opens at ∷ ps) h k = in_fits (record { at = at; before = c } ∷ gs) nothing ps (k, h) tt
+  in_fits [] c (Closes at after ∷ ps) h k = in_fits [] (followed_by c (Err (fault.BadItem at))) ps h (fit_joined c.steps (Err (fault.BadItem at)) k tt)
+  in_fits (g ∷ gs) c (Closes at after ∷ ps) h k =
+      let times : Option ℕ = group_times after (opens ps) in
+      let formed : Bool = nat_lt (length gs) 8 && c.filled in
+      in_fits gs (closed g gs c times) ps h.1 (fit_joined g.before.steps (group_steps g.at formed times c.steps) h.0 (fit_group g.at formed times c.steps k))
+
+  group_fits : (ps : List Piece) (steps : List ℕ) → group_schedule names ps ≡ Ok steps → Each n steps × (length steps ≤ 1000000)
+  group_fits ps steps = by_read (steps_in names [] nothing ps) (in_fits [] nothing ps tt tt)
+    where
+      by_read : (x : Result (List ℕ) ScheduleFault) → Fit x → (x >>= within) ≡ Ok steps → Each n steps × (length steps ≤ 1000000)
+      by_read (Err f) h e = let g : ⊥ = cc in absurd g
+      by_read (Ok ts) h e = let w = within_fits ts steps e in (subst (Each n) w.0 h, w.1)
+
+  read_fits : (said steps : List ℕ) → schedule_of names said ≡ Ok steps → Each n steps × (length steps ≤ 1000000)
+  read_fits said steps = by_case (second_version (pieces 0 said))
+    where
+      by_case : (v : Option (List Piece)) → by_version names said v ≡ Ok steps → Each n steps × (length steps ≤ 1000000)
+      by_case None e = plain_fits said steps e
+      by_case (Some ps) e = group_fits ps steps e
 
 pub what_is_read : WhatIsReadIsASchedule
 what_is_read program said steps e =

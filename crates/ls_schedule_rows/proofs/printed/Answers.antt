@@ -7,7 +7,7 @@ returns-clause-no_steps c = refl
 
 pub returns-clause-steps_in_a_row : goal.returns-clause-steps_in_a_row
 unfolding digits
-returns-clause-steps_in_a_row c = (refl, refl, refl)
+returns-clause-steps_in_a_row c = (refl, refl, refl, refl)
 
 pub returns-clause-names_by_number : goal.returns-clause-names_by_number
 returns-clause-names_by_number c = refl

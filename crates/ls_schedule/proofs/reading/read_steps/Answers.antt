@@ -3,7 +3,7 @@ use Rattle.std.proofs.lemmas.Result.{err_from_is_err_and}
 use Rattle.ls_schedule.specs.Answers.{capped_turns, so_far}
 use Rattle.ls_items.specs.Items.{Item, items}
 use Rattle.ls_schedule.specs.Reading.{each, thread_name}
-use Rattle.ls_schedule.proofs.Digits.{fails_ends}
+use Rattle.ls_schedule.proofs.Digits.{fails_of}
 use Rattle.ls_items.proofs.Items.{items_split}
 use Rattle.ls_schedule.proofs.Steps.{ends_with, goes_on_to, goes_to}
 use Rattle.ls_schedule.proofs.reading.read_steps.Goals as goal
@@ -16,7 +16,7 @@ returns-in_err-said c =
     let split = items_split c.loop-all.at _ c.loop-all.rest.now _ _ c.item_len-len.ensures c.if-len-eq0.false c.split_at.ensures.front c.split_at.ensures.back in
     let item : Item = (c.loop-all.at, c.split_at.result.0.now) in
     let more = items (c.loop-all.at + c.item_len-len.result) c.split_at.result.1.now in
-    rw (p.1, p.2) (fails_ends _ _ _ (λ e. ends_with f state item _ more _ e (ap (λ is. goes_to state (each f is)) (sym split) ∙ c.loop-all.invariant.read)) c.in_err-said.ensures)
+    rw (p.1, p.2) (fails_of _ _ (ends_with f state item _ more _ c.in_err-said.ensures (ap (λ is. goes_to state (each f is)) (sym split) ∙ c.loop-all.invariant.read)))
 
 pub loop-all-preserved : goal.loop-all-preserved
 loop-all-preserved c =
