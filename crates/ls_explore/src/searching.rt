@@ -6,9 +6,11 @@ ghost use Rattle.ls_explore_laws.specs.Bursts.{IsClosed};
 ghost use Rattle.ls_explore.specs.Walks.{led_to, root_of, walked};
 ghost use Rattle.ls_explore.specs.Searches.{AllAct, Grows, IsClosedTo, IsSound, Leads, paths_of, seen_with};
 
+use crate::table::number_of;
 use crate::walking::{Ground, go_to, has_acted, see};
 use ls_code::step::{Did, is_stop};
 use ls_machine::Machine;
+use ls_machine_moves::stirring::stir;
 use std::alloc::{AllocError, Global};
 use std::collections::HashMap;
 
@@ -156,7 +158,7 @@ fn look(
     if !has_acted(did) {
         return Ok(Some(did));
     }
-    let number = walker.mix();
+    let number = stir(walker.mix(), number_of(walker.history()));
     if nodes.has(walker, other, ground, number) {
         return Ok(Some(did));
     }

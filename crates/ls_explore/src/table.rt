@@ -50,7 +50,7 @@ fn stir_event(seed: u64, event: &Event) -> u64 {
 }
 
 /// A number made of a history.
-fn number_of(history: &[Event]) -> u64 {
+pub(crate) fn number_of(history: &[Event]) -> u64 {
     let mut mixed = 0;
     for event in history {
         mixed = stir_event(mixed, event);
