@@ -1,5 +1,7 @@
 pub mod Products
 pub mod More
+pub mod Blocks
+pub mod Times
 pub mod Outward
 pub mod Flats
 pub mod Exits

@@ -1,11 +1,11 @@
 // Copies and instructions of a statement without `try`, counted.
 
-ghost use Rattle.std.specs.Prelude.{◌≡◌, ◌+◌, ◌*◌, ◌++◌, ◌≤◌, min, OnOk};
+ghost use Rattle.std.specs.Prelude.{◌≡◌, ◌+◌, ◌*◌, ◌++◌, ◌≤◌, min, IfOk, OnOk};
 ghost use Rattle.std.specs.Option.{SomeIff};
 ghost use Rattle.ls_lowered.specs.LoweredTree.{Try, Leavable};
 ghost use Rattle.ls_lowered.specs.Plain.{plain, plain_statement, statements_of};
 ghost use Rattle.ls_emit_laws.specs.Expressions.{size};
-ghost use Rattle.ls_finally_counts.specs.Counts.{ways_of, all_ways, copied, all_copied, flat_size, all_flat_size, own_size};
+ghost use Rattle.ls_finally_counts.specs.Counts.{total, returned, ways_of, all_ways, copied, all_copied, flat_size, all_flat_size, own_size};
 ghost use Rattle.ls_finally_counts.specs.Refused.{Fits};
 
 use crate::fault::CountFault;
@@ -22,15 +22,6 @@ const MOST_COPIES: usize = 4096;
 pub struct Counting {
     pub copies: usize,
     pub length: usize,
-}
-
-/// What a `try` comes to besides its body: how often its finally block is there, how many returns lead out of the body, and what
-/// is counted of one copy.
-#[derive(Drop)]
-struct Blocks {
-    count: usize,
-    returns: usize,
-    inside: Counting,
 }
 
 // So many copies of a finally block and those before it, where there are so many copies in the block. None where they are too
@@ -273,8 +264,6 @@ impl Counting {
     {
         let mut ways = Vec::new(alloc);
         self.count(alloc, body, &mut ways)?;
-        let count = blocks_of(&ways)?;
-        let returns = returns_of(&ways)?;
         put_all(out, &ways)?;
         let mut inside = Counting {
             copies: 0,
@@ -282,34 +271,27 @@ impl Counting {
         };
         let mut inner = Vec::new(alloc);
         inside.count(alloc, finally, &mut inner)?;
-        self.with_blocks(&Blocks {
-            count,
-            returns,
-            inside,
-        })?;
-        put_scaled(out, count, &inner)?;
+        let blocks = self.add_blocks(&ways, &inside)?;
+        put_scaled(out, blocks, &inner)?;
         Ok(())
     }
 
-    // So many copies of a finally block, with those in it and with its instructions.
-    fn with_blocks(&mut self, blocks: &Blocks) -> Result<(), CountFault>
-        requires few { blocks.now.inside.copies ≤ 4096 }
+    // The copies of a finally block for a body with these ways out, where so much is inside of one copy. Answers how many there are.
+    fn add_blocks(&mut self, ways: &[Way], inside: &Counting) -> Result<usize, CountFault>
+        requires few { inside.now.copies ≤ 4096 }
         requires short { self.old.length ≤ 65537 }
-        requires finally { blocks.now.inside.length ≤ 65537 }
-        ensures copies { OnOk result (self.new.copies ≡ self.old.copies + blocks.now.count * (1 + blocks.now.inside.copies)) }
-        ensures length { OnOk result (self.new.length ≡ min (self.old.length + blocks.now.count * (blocks.now.inside.length + 2) + 2 * blocks.now.returns + 4) 65537) }
-        ensures few { Fits result (self.old.copies + blocks.now.count * (1 + blocks.now.inside.copies)) }
+        requires finally { inside.now.length ≤ 65537 }
+        ensures count { IfOk result (λ n. n ≡ 2 + total ways.now) }
+        ensures copies { OnOk result (self.new.copies ≡ self.old.copies + (2 + total ways.now) * (1 + inside.now.copies)) }
+        ensures length { OnOk result (self.new.length ≡ min (self.old.length + (2 + total ways.now) * (inside.now.length + 2) + 2 * returned ways.now + 4) 65537) }
+        ensures few { Fits result (self.old.copies + (2 + total ways.now) * (1 + inside.now.copies)) }
     {
-        let Some(copies) = with_copies(self.copies, blocks.count, blocks.inside.copies) else {
+        let count = blocks_of(ways);
+        let Some(copies) = with_copies(self.copies, count, inside.copies) else {
             return Err(CountFault::TooManyCopies);
         };
         self.copies = copies;
-        self.length = with_length(
-            self.length,
-            blocks.count,
-            blocks.inside.length,
-            blocks.returns,
-        );
-        Ok(())
+        self.length = with_length(self.length, count, inside.length, returns_of(ways));
+        Ok(count)
     }
 }

@@ -1,6 +1,6 @@
 // The exits that a statement has without `try`, each with how often it is there.
 
-ghost use Rattle.std.specs.Prelude.{◌≡◌, ℕ, ◌+◌, ◌*◌, ◌++◌, ◌∷◌, [], Some, None, IfOk, OnOk};
+ghost use Rattle.std.specs.Prelude.{◌≡◌, ℕ, ◌+◌, ◌*◌, ◌≤◌, ◌++◌, ◌∷◌, [], Some, None, All, IfOk, OnOk, min};
 ghost use Rattle.ls_finally_exits.specs.Exits.{outward};
 ghost use Rattle.ls_finally_counts.specs.Counts.{total, returned, once, scaled, beyond, one_beyond};
 
@@ -19,44 +19,38 @@ impl Clone for Way {
     }
 }
 
-// How often there is any. More than a number holds are answered as want of memory.
-fn total_of(ways: &[Way]) -> Result<usize, AllocError>
-    ensures { IfOk result (λ n. n ≡ total ways.now) }
+// Once more than a method may have copies. What is there so often or more often is counted so.
+const TOO_OFTEN: usize = 4097;
+
+// How often there is any, as far as it isn't too often.
+fn total_of(ways: &[Way]) -> usize
+    ensures { result ≡ min (total ways.now) 4097 }
 {
     let mut all = 0usize;
     for way in ways {
-        let Some(more) = all.checked_add(way.times) else {
-            return Err(AllocError);
-        };
-        all = more;
+        all = all.saturating_add(way.times).min(TOO_OFTEN);
     }
-    Ok(all)
+    all
 }
 
-/// How often there is a return. More than a number holds are answered as want of memory.
-pub fn returns_of(ways: &[Way]) -> Result<usize, AllocError>
-    ensures { IfOk result (λ n. n ≡ returned ways.now) }
+/// How often there is a return, as far as it isn't too often.
+pub fn returns_of(ways: &[Way]) -> usize
+    ensures { result ≡ min (returned ways.now) 4097 }
 {
     let mut all = 0usize;
     for way in ways {
         if way.number.is_none() {
-            let Some(more) = all.checked_add(way.times) else {
-                return Err(AllocError);
-            };
-            all = more;
+            all = all.saturating_add(way.times).min(TOO_OFTEN);
         }
     }
-    Ok(all)
+    all
 }
 
-/// How many copies of its finally block the exits of a body make.
-pub fn blocks_of(ways: &[Way]) -> Result<usize, AllocError>
-    ensures { IfOk result (λ n. n ≡ 2 + total ways.now) }
+/// How many copies of its finally block the exits of a body make, as far as they aren't too many.
+pub fn blocks_of(ways: &[Way]) -> usize
+    ensures { result ≡ min (2 + total ways.now) 4099 }
 {
-    match total_of(ways)?.checked_add(2) {
-        Some(blocks) => Ok(blocks),
-        None => Err(AllocError),
-    }
+    2 + total_of(ways)
 }
 
 /// Puts a leave or a return that is there once behind those that are there.
@@ -79,15 +73,14 @@ pub fn put_all(out: &mut Vec<Way>, ways: &[Way]) -> Result<(), AllocError>
 
 /// Puts the ways of so many copies behind those that are there.
 pub fn put_scaled(out: &mut Vec<Way>, times: usize, ways: &[Way]) -> Result<(), AllocError>
+    requires { All (λ w. times * w.times ≤ 4096) ways.now }
     ensures { IfOk result (λ _. out.new.items ≡ out.old.items ++ scaled times ways.now) }
 {
     for way in ways {
-        let Some(more) = times.checked_mul(way.times) else {
-            return Err(AllocError);
-        };
+        let times = times * way.times;
         out.push(Way {
             number: way.number,
-            times: more,
+            times,
         })?;
     }
     Ok(())

@@ -1,4 +1,4 @@
-use Rattle.std.proofs.Common.{◌≡◌, ℕ, ◌+◌, ◌*◌, ◌∷◌, ◌++◌, suc, append_assoc, drop, ap, subst, ◌∙◌, rules, arith, List, OnOk, length}
+use Rattle.std.proofs.Common.{◌≡◌, ℕ, ◌+◌, ◌*◌, ◌∷◌, ◌++◌, ◌≤◌, suc, append_assoc, drop, ap, subst, sym, ◌∙◌, rules, arith, List, OnOk, length}
 use Rattle.std.specs.Prelude.{min}
 use Rattle.ls_lowered.specs.declared.tree.Statement.{Statement}
 use Rattle.ls_lowered.specs.LoweredTree.{Leavable}
@@ -8,8 +8,9 @@ use Rattle.ls_finally_exits.proofs.Counted.{counted}
 use Rattle.ls_finally_copies.proofs.Fronts.{left_at, leavable_read}
 use Rattle.ls_finally_copies.proofs.Weights.{size, size_at}
 use Rattle.ls_finally_counts.specs.declared.ways.Way.{Way}
-use Rattle.ls_finally_counts.specs.Counts.{beyond, ways_of, all_ways, total, returned, flat_size}
+use Rattle.ls_finally_counts.specs.Counts.{beyond, ways_of, all_ways, copied, total, returned, flat_size}
 use Rattle.ls_finally_counts.proofs.More.{capped}
+use Rattle.ls_finally_counts.proofs.Times.{scaled_few}
 use Rattle.ls_finally_counts.proofs.counting.Counting.+count.Goals as goal
 
 pub count-count_leavable-requires : goal.count-count_leavable-requires
@@ -69,6 +70,18 @@ count_leavable-returns-clause-ways t c =
     ∙ append_assoc before (beyond (suc (count (statements_of own))) inner) others in
     subst (λ (ws : List Way). OnOk c.count_all.result (c.count_all.new.out.items ≡ ws)) whole c.count_all.ensures.ways
 
+pub count_try-put_scaled-requires : goal.count_try-put_scaled-requires
+count_try-put_scaled-requires t c =
+    let f = plain_statement c.args.finally.now in
+    let before : ℕ = c.count.new.self.copies in
+    let n : ℕ = c.in_ok-blocks.blocks in
+    let inside : ℕ = c.count-2.new.self.copies in
+    let all : List Way → List Way = λ ws. ws ++ ways_of f in
+    let found : c.deref-3.result.now ≡ ways_of f = c.deref-3.ensures.value ∙ c.in_ok-count-2.ensures.ways ∙ ap all c.new-inner.ensures.items in
+    let one : inside ≡ copied f = omega (arith, c.in_ok-count-2.ensures.copies) in
+    let few : before + n * (1 + inside) ≤ 4096 = subst (λ k. before + k * (1 + inside) ≤ 4096) (sym c.in_ok-blocks.ensures.count) c.in_ok-blocks.ensures.few in
+    scaled_few before n f c.deref-3.result.now found (subst (λ k. before + n * (1 + k) ≤ 4096) one few)
+
 pub count_try-returns-clause-length : goal.count_try-returns-clause-length
 count_try-returns-clause-length t c =
     let inner : List Way = ways_of (plain_statement c.args.body.now) in
@@ -77,15 +90,13 @@ count_try-returns-clause-length t c =
     let before : ℕ = c.args.self.now.length in
     let all : List Way → List Way = λ ws. ws ++ inner in
     let counted = c.in_ok-count.ensures.ways ∙ ap all c.new-ways.ensures.items in
-    let blocks : c.in_ok-count-2.count ≡ 2 + total inner = c.in_ok-count-2.ensures ∙ ap (λ ws. 2 + total ws) (c.deref.ensures.value ∙ counted) in
-    let back : c.in_ok-returns.returns ≡ returned inner = c.in_ok-returns.ensures ∙ ap returned (c.deref-2.ensures.value ∙ counted) in
+    let seen : c.deref-2.result.now ≡ inner = c.deref-2.ensures.value ∙ counted in
     let body : c.count.new.self.length ≡ min (before + first) 65537 = c.in_ok-count.ensures.length in
-    let inside : c.count-2.new.self.length ≡ min second 65537 = omega (arith, c.in_ok-count-3.ensures.length) in
-    let whole : c.with_blocks.new.self.length ≡ min (before + first + (2 + total inner) * (second + 2) + 2 * returned inner + 4) 65537 =
-    c.in_ok-with_blocks.ensures.length
-    ∙ ap (λ n. min (c.count.new.self.length + n * (c.count-2.new.self.length + 2) + 2 * c.in_ok-returns.returns + 4) 65537) blocks
-    ∙ ap (λ n. min (c.count.new.self.length + (2 + total inner) * (n + 2) + 2 * c.in_ok-returns.returns + 4) 65537) inside
-    ∙ ap (λ n. min (c.count.new.self.length + (2 + total inner) * (min second 65537 + 2) + 2 * n + 4) 65537) back
+    let inside : c.count-2.new.self.length ≡ min second 65537 = omega (arith, c.in_ok-count-2.ensures.length) in
+    let whole : c.add_blocks.new.self.length ≡ min (before + first + (2 + total inner) * (second + 2) + 2 * returned inner + 4) 65537 =
+    c.in_ok-blocks.ensures.length
+    ∙ ap (λ (ws : List Way). min (c.count.new.self.length + (2 + total ws) * (c.count-2.new.self.length + 2) + 2 * returned ws + 4) 65537) seen
+    ∙ ap (λ n. min (c.count.new.self.length + (2 + total inner) * (n + 2) + 2 * returned inner + 4) 65537) inside
     ∙ ap (λ n. min (n + (2 + total inner) * (min second 65537 + 2) + 2 * returned inner + 4) 65537) body
     ∙ capped (before + first) (total inner) second (returned inner) in
     omega (arith, whole)
