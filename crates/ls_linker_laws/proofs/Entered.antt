@@ -21,7 +21,7 @@ use Rattle.ls_code.specs.Fed.{Fed}
 use Rattle.ls_code.specs.Fed as fed
 use Rattle.ls_code.specs.declared.instruction.Instruction.TheVariants as op
 use Rattle.ls_code.specs.declared.code.Method.{Method as MethodRow}
-use Rattle.ls_emit_laws.specs.Units.{LieIn, unit_of, units_of}
+use Rattle.ls_emit_laws.specs.Units.{CodeUnit, LieIn}
 use Rattle.ls_emit_laws.specs.Entering.{told_by, given_back, IsEntering, TakesAll, EntersAs}
 use Rattle.ls_refs_calls.specs.ValueWords.{value_word, IsSmall}
 use Rattle.ls_types_judgement.specs.Typing.{parameters_of}
@@ -30,9 +30,10 @@ use Rattle.ls_headline.specs.InWords.{word_of}
 use Rattle.ls_headline.specs.Sorts.{Suited}
 use Rattle.ls_headline.specs.Threads.{told}
 use Rattle.ls_linker_laws.specs.Laws.{CallAsks, LoweredAsks}
+use Rattle.ls_linker_laws.specs.Units.{TakeAsMany}
 use Rattle.ls_soundness.specs.InCall.{then_next}
 use Rattle.ls_types_judgement.specs.Programs.{AreArguments}
-use Rattle.ls_linker_laws.proofs.Lists.{get_map, laid, laid_is, laid_get}
+use Rattle.ls_linker_laws.proofs.Lists.{laid, laid_is, laid_get}
 use Rattle.ls_linker_laws.proofs.SameWords.{values_are, action_is}
 use Rattle.ls_linker_laws.proofs.InKind.{arguments_have, as_many}
 use Rattle.ls_linker_laws.proofs.Running.{Setting, Guarded, here, feeds, traps, throws, throws_at}
@@ -43,7 +44,9 @@ pub record Files (s : Setting) : Type 0 where
   pub program : Program
   pub lowered : low.File
   pub words : ℕ
-  pub lie : LieIn s.code words (units_of lowered)
+  pub units : List CodeUnit
+  pub take : TakeAsMany lowered units
+  pub lie : LieIn s.code words units
   pub enter : EntersAs lowered s.code words
   pub asks : LoweredAsks file lowered
   pub room : 2 + 64 * (words + 1) ≤ s.bound
@@ -96,10 +99,11 @@ module _ (s : Setting) (f : Files s) where
   throws_null p e n number m vs q has found fit low high enough =
       let takes = f.asks.takes number m found in
       let t = entering p 0 vs [] e in
-      let lies = f.lie.at number (unit_of takes.0) (get_map unit_of f.lowered number takes.0 takes.1) in
-      let row : MethodRow = record { start = lies.0; arguments = takes.0.arguments; more = takes.0.locals; need = (unit_of takes.0).need } in
-      let place : takes.0.arguments - 1 ≡ length (map word_of vs) + 0 = omega (arith, takes.2, as_many (parameters_of m) vs fit, length-map vs word_of) in
-      let this : slice_get (laid (map word_of vs) (0 ∷ [])) (takes.0.arguments - 1) ≡ Some 0 = ap (slice_get (laid (map word_of vs) (0 ∷ []))) place ∙ laid_get (map word_of vs) (0 ∷ []) 0 in
+      let unit = f.take number takes.0 takes.1 in
+      let lies = f.lie.at number unit.0 unit.1 in
+      let row : MethodRow = record { start = lies.0; arguments = unit.0.arguments; more = unit.0.more; need = unit.0.need } in
+      let place : unit.0.arguments - 1 ≡ length (map word_of vs) + 0 = omega (arith, unit.2, takes.2, as_many (parameters_of m) vs fit, length-map vs word_of) in
+      let this : slice_get (laid (map word_of vs) (0 ∷ [])) (unit.0.arguments - 1) ≡ Some 0 = ap (slice_get (laid (map word_of vs) (0 ∷ []))) place ∙ laid_get (map word_of vs) (0 ∷ []) 0 in
       throws_at s f.guarded p e n (laid (map word_of vs) (0 ∷ [])) kinds.NullPointer (answer_words q) low high enough
       (ap (fetched_move s.code t) has
       ∙ ap (found_move s.code t number) lies.1

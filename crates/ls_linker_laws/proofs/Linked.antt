@@ -16,7 +16,7 @@ use Rattle.ls_code.specs.declared.instruction.Instruction.{Instruction}
 use Rattle.ls_code.specs.declared.instruction.Instruction.TheVariants as op
 use Rattle.ls_code.specs.declared.code.CallResult.{CallResult}
 use Rattle.ls_code.specs.declared.code.CallResult.TheVariants as result
-use Rattle.ls_emit_laws.specs.Units.{LieIn, units_of}
+use Rattle.ls_emit_laws.specs.Units.{CodeUnit, LieIn}
 use Rattle.ls_emit_laws.specs.Entering.{UnitsAsk}
 use Rattle.ls_refs_calls.specs.ValueWords.{IsSmall}
 use Rattle.ls_refs.specs.Laws.{answer_words}
@@ -30,7 +30,8 @@ use Rattle.ls_linker_laws.specs.Laws.{LoweredAsks}
 use Rattle.ls_types_judgement.specs.Programs.{IsTypedCall, IsTypedProgram}
 use Rattle.ls_linker_laws.proofs.Lists.{RowsEnd, get_map}
 use Rattle.ls_emit_laws.proofs.Places.{HasAt, has_front, has_after}
-use Rattle.ls_linker_laws.proofs.Units.{all_within, units_end, units_long, lie_in}
+use Rattle.ls_linker_laws.specs.Units.{TakeAsMany}
+use Rattle.ls_linker_laws.proofs.Units.{AllWithin, units_end, units_long, units_lie_in}
 use Rattle.ls_linker_laws.proofs.Threads.{Thread, threads_from, threads_lie, started_as}
 use Rattle.ls_linker_laws.proofs.SameWords.{answers_are}
 use Rattle.ls_linker_laws.proofs.Running.{Setting, Guarded, here, feeds, halts}
@@ -123,20 +124,20 @@ module _ (s : Setting) (f : Files s) where
       (omega (arith, within, long)) (omega (arith, w.need)) (omega (arith, bound, long)) (omega (arith, w.long)) table
       (subst (λ k. Onward s f e p cs k) here_is (λ q u. calls_run cs (e + 1) (p + length one) s.bound (follows_on (Calling name m text answers vs) cs e p w) (omega (arith, bound, long)) q u)) n q u
 
-module _ (file : File) (program : Program) (lowered : low.File) (asks : LoweredAsks file lowered) (units : UnitsAsk lowered (units_of lowered)) (typed : IsTypedProgram file program) where
+module _ (file : File) (program : Program) (lowered : low.File) (us : List CodeUnit) (asks : LoweredAsks file lowered) (take : TakeAsMany lowered us) (within : AllWithin us) (units : UnitsAsk lowered us) (typed : IsTypedProgram file program) where
   abbrev code : Code
-  code = linked file program (units_of lowered)
+  code = linked file program us
 
   abbrev words : ℕ
-  words = words_of (units_of lowered)
+  words = words_of us
 
-  lies : LieIn code words (units_of lowered)
-  lies = lie_in code lowered (threads_code file.classes program.threads) (threads_rows file.classes words program.threads) (threads_from file.classes program.threads words) refl refl refl
+  lies : LieIn code words us
+  lies = units_lie_in code us (threads_code file.classes program.threads) (threads_rows file.classes words program.threads) within (threads_from file.classes program.threads words) refl refl refl
 
   thread_at : (t : ℕ) (s : Start) → slice_get code.starts t ≡ Some s → Thread code file.classes program.threads words t s
   thread_at t s e =
-      threads_lie code file.classes program.threads words words (units_code 0 (units_of lowered)) (units_rows 0 (units_of lowered)) (omega arith) (sym (units_long (units_of lowered) 0))
-      (let same : 0 + words ≡ words = omega arith in subst (λ k. RowsEnd k (units_rows 0 (units_of lowered))) same (units_end (units_of lowered) 0 (all_within lowered))) refl refl t s e
+      threads_lie code file.classes program.threads words words (units_code 0 us) (units_rows 0 us) (omega arith) (sym (units_long us 0))
+      (let same : 0 + words ≡ words = omega arith in subst (λ k. RowsEnd k (units_rows 0 us)) same (units_end us 0 within)) refl refl t s e
 
   thread_asks : (t : ℕ) (s : Start) (had : Answers) → slice_get code.starts t ≡ Some s → InKind file program t had → fed code t (most_silent code) (most_silent code) (started s) (map (map_answer word_of) had) ≡ told (next file program t had)
   thread_asks t s had e kind =
@@ -153,6 +154,8 @@ module _ (file : File) (program : Program) (lowered : low.File) (asks : LoweredA
         program = program;
         lowered = lowered;
         words = words;
+        units = us;
+        take = take;
         lie = lies;
         enter = units code words lies;
         asks = asks;

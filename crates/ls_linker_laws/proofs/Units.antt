@@ -1,6 +1,8 @@
 -- The units lie in the linked code.
 use Rattle.std.proofs.Common.{◌≡◌, ℕ, zero, suc, ◌+◌, ◌≤◌, List, [], ◌∷◌, ◌++◌, length, map, Some, slice_get, refl, sym, ap, ◌∙◌, subst, arith, append_assoc, length-append}
+use Rattle.std.specs.Prelude.{All}
 use Rattle.std.proofs.lemmas.List.{length-map}
+use Rattle.std.proofs.lemmas.List.Elements.{All-head, All-tail}
 use Rattle.ls_code.specs.Code.{Code}
 use Rattle.ls_code.specs.Throws.{find_row}
 use Rattle.ls_code.specs.declared.instruction.Instruction.{Instruction}
@@ -10,8 +12,9 @@ use Rattle.ls_code.specs.declared.code.Method.{Method as MethodRow}
 use Rattle.ls_lowered.specs.LoweredTree.{Statement, Block, SetLocal, SetField, AddField, SetItem, Evaluate, If, While, Return, Try, Guarded, Throw, Leavable, Leave, Statements, Done, Then, Method, File}
 use Rattle.ls_emit_laws.specs.Expressions.{size}
 use Rattle.ls_emit_laws.specs.Statements.{row_of, statement_size, statements_size, exits_size, statement_code, statement_rows, statements_rows, exits_rows}
-use Rattle.ls_emit_laws.specs.Units.{CodeUnit, moved, moved_row, method_code, units_of, LiesAt, LieIn}
+use Rattle.ls_emit_laws.specs.Units.{CodeUnit, moved, moved_row, method_code, unit_of, units_of, LiesAt, LieIn}
 use Rattle.ls_linker_laws.specs.Linked.{words_of, units_code, units_rows, method_rows}
+use Rattle.ls_linker_laws.specs.Units.{TakeAsMany}
 use Rattle.ls_linker_laws.proofs.Lists.{behind, in_front, get_map, RowsEnd, RowsFrom, end_append, end_more, from_append, from_less, rows_behind, rows_front}
 use Rattle.ls_emit_laws.proofs.StatementPlaces.{statement_size_is}
 
@@ -139,12 +142,31 @@ units_lie c (v ∷ us) p pre post before after n ends from within ec er (suc m) 
     (r.0, r.1, omega (arith, r.2), r.3)
 
 -- behind them stand other instructions, with rows of their own
+pub units_lie_in : (c : Code) (us : List CodeUnit) (post : List Instruction) (after : List HandlerRow) → AllWithin us → RowsFrom (words_of us) after → c.instructions ≡ units_code 0 us ++ post → c.handlers ≡ units_rows 0 us ++ after →
+    c.methods ≡ method_rows 0 us → LieIn c (words_of us) us
+units_lie_in c us post after within from ec er em = record {
+  at = λ m u e.
+      let r = units_lie c us 0 [] post [] after refl tt (from_less (0 + words_of us) (words_of us) after (omega arith) from) within ec er m u e in
+      (r.0, ap (λ l. slice_get l m) em ∙ r.1, omega (arith, r.2), r.3);
+}
+
 pub lie_in : (c : Code) (ms : File) (post : List Instruction) (after : List HandlerRow) → RowsFrom (words_of (units_of ms)) after → c.instructions ≡ units_code 0 (units_of ms) ++ post → c.handlers ≡ units_rows 0 (units_of ms) ++ after →
     c.methods ≡ method_rows 0 (units_of ms) → LieIn c (words_of (units_of ms)) (units_of ms)
-lie_in c ms post after from ec er em =
-    let us = units_of ms in
-    record {
-      at = λ m u e.
-          let r = units_lie c us 0 [] post [] after refl tt (from_less (0 + words_of us) (words_of us) after (omega arith) from) (all_within ms) ec er m u e in
-          (r.0, ap (λ l. slice_get l m) em ∙ r.1, omega (arith, r.2), r.3);
-    }
+lie_in c ms post after from ec er em = units_lie_in c (units_of ms) post after (all_within ms) from ec er em
+
+rows_within : (n : ℕ) (rs : List HandlerRow) → All (λ (r : HandlerRow). r.to ≤ n) rs → RowsEnd n rs
+rows_within n [] h = tt
+rows_within n (r ∷ rs) h =
+    let P : HandlerRow → Type 0 = λ r. r.to ≤ n in
+    (All-head P r rs h, rows_within n rs (All-tail P r rs h))
+
+-- the same, of each element
+pub each_within : (us : List CodeUnit) → All (λ (u : CodeUnit). All (λ (r : HandlerRow). r.to ≤ length u.instructions) u.handlers) us → AllWithin us
+each_within [] h = tt
+each_within (u ∷ us) h =
+    let P : CodeUnit → Type 0 = λ u. All (λ (r : HandlerRow). r.to ≤ length u.instructions) u.handlers in
+    (rows_within (length u.instructions) u.handlers (All-head P u us h), each_within us (All-tail P u us h))
+
+-- those that are emitted take as many arguments as their methods
+pub emitted_take : (ms : File) → TakeAsMany ms (units_of ms)
+emitted_take ms n m e = (unit_of m, get_map unit_of ms n m e, refl)

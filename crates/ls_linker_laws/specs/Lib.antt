@@ -7,3 +7,4 @@ pub mod Counts
 pub mod Quick
 pub mod Own
 pub mod Runs
+pub mod Units

@@ -13,12 +13,32 @@ ghost use Rattle.ls_linker_laws.specs.Linked.{linked};
 ghost use Rattle.ls_linker_laws.specs.Laws.{LoweredAsks};
 ghost use Rattle.ls_types_judgement.specs.Programs.{IsTypedProgram};
 ghost use Rattle.ls_linker_laws.specs.Example.{LinksSo};
+ghost use Rattle.ls_linker_laws.specs.Units.{AnyUnitsAsk, AnyUnitsAreSame};
+
+use ls_headline::laws::same_traces;
+use ls_soundness::laws::is_sound;
 
 /// The threads of the whole code ask what the threads of the source ask, where the lowered file asks as its file and its
 /// units ask as its methods, in whatever code they lie.
 pub fn linked_asks()
     ensures { (file : File) (program : Program) (lowered : low.File) → LoweredAsks file lowered → IsEmittableFile lowered → UnitsAsk lowered (units_of lowered) → IsTypedProgram file program → Asks file program (linked file program (units_of lowered)) }
 {}
+
+/// So do the threads of any units that stand for the methods of the lowered file: whoever emitted them, each takes as many arguments as its
+/// method, and asks what it asks within the bound of one frame.
+pub fn any_units_ask()
+    ensures { AnyUnitsAsk }
+{}
+
+/// The code that any such units are linked to is the same as the source: each schedule of instructions has a schedule of source
+/// steps with the same trace and history, and each schedule of source steps that fits has a schedule of instructions.
+pub fn any_units_are_same()
+    ensures { AnyUnitsAreSame }
+{
+    any_units_ask();
+    is_sound();
+    same_traces();
+}
 
 /// The whole code takes locks by load and exchange alone.
 #[tactic(auto, using(crate::proofs::Exchanged::linked_exchanges))]
