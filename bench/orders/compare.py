@@ -1,11 +1,12 @@
 #!/usr/bin/env python3
-"""What `check` costs beside the same work in plain Rust (plain.rs).
+"""What `check` or `order` costs beside the same work in plain Rust (plain.rs).
 
-  compare.py LISTSET [RUNS]
+  compare.py LISTSET [RUNS [order]]
 
 LISTSET is the built program. Each row is a history of so many threads with so many calls each, whose events come in a random
-order, and a legal order of it: instructions of the processor by callgrind, without those of a history without events, and the least
-user and system time of RUNS runs (15 where it isn't given), of both programs by turns. Both must say that the order is legal.
+order, and for `check` a legal order of it: instructions of the processor by callgrind, without those of a history without events, and the
+least user and system time of RUNS runs (15 where it isn't given), of both programs by turns. Both must say that the order is legal; for
+`order` both must find one and the same order, and in the last row, whose last call answers what it can't, the same event.
 """
 import os
 import pathlib
@@ -18,6 +19,9 @@ import tempfile
 
 HERE = pathlib.Path(__file__).resolve().parent
 ROWS = [(1, 256), (4, 256), (16, 256), (16, 1024), (16, 4096)]
+# histories of more events are timed alone: callgrind takes minutes for one
+LONG = 500_000
+ORDER_ROWS = [(16, 4096, True), (16, 31_250, True), (16, 31_250, False)]
 
 
 def text_of(threads, calls):
@@ -43,6 +47,16 @@ def text_of(threads, calls):
     return ('\n'.join(lines) + '\n%%\n' + ' '.join(order) + '\n').encode(), len(lines)
 
 
+def history_of(threads, calls, is_legal):
+    """Its history alone, or with another answer of the last call."""
+    text, events = text_of(threads, calls)
+    history = text.partition(b'%%\n')[0]
+    if not is_legal:
+        front, last = history[:-1].rsplit(b' ', 1)
+        history = front + (b' false\n' if last == b'true' else b' true\n')
+    return history, events
+
+
 def spent():
     usage = resource.getrusage(resource.RUSAGE_CHILDREN)
     return usage.ru_utime + usage.ru_stime
@@ -60,29 +74,41 @@ def counted(words, text):
     return int(re.search(rb'Collected : (\d+)', told)[1])
 
 
+def row(both, starts, runs, text):
+    """Returns the counts, the least times and what both print, which must be the same."""
+    is_long = text.count(b'\n') > LONG
+    counts = [None if is_long else counted(words, text) - start for words, start in zip(both, starts)]
+    times, said = [[], []], set()
+    for _ in range(runs):
+        for words, of_one in zip(both, times):
+            took, printed = run(words, text)
+            of_one.append(took)
+            said.add(printed)
+    if len(said) != 1:
+        sys.exit(f'they print {[it[-300:].decode() for it in said]}')
+    return counts, [min(of_one) for of_one in times], said.pop()
+
+
 def main():
     if len(sys.argv) < 2:
         sys.exit(__doc__)
     runs = int(sys.argv[2]) if len(sys.argv) > 2 else 15
+    command = sys.argv[3] if len(sys.argv) > 3 else 'check'
     with tempfile.TemporaryDirectory() as folder:
         plain = f'{folder}/plain'
         subprocess.run(['rustc', '--edition', '2021', '-O', '-o', plain, HERE / 'plain.rs'], check=True)
-        both = [[os.path.abspath(sys.argv[1]), 'check'], [plain]]
-        starts = [counted(words, b'%%\n') for words in both]
+        both = [[os.path.abspath(sys.argv[1]), command], [plain, command]]
+        starts = [counted(words, b'%%\n' if command == 'check' else b'') for words in both]
         print('| Threads x calls | Events | Instructions | Plain Rust | Ratio | listset | Plain Rust | Ratio |')
         print('|---|---|---|---|---|---|---|---|')
-        for threads, calls in ROWS:
-            text, events = text_of(threads, calls)
-            counts = [counted(words, text) - start for words, start in zip(both, starts)]
-            times = [[], []]
-            for _ in range(runs):
-                for words, of_one in zip(both, times):
-                    took, said = run(words, text)
-                    of_one.append(took)
-                    if said != b'legal\n':
-                        sys.exit(f'{words}: {said.decode()}')
-            least = [min(of_one) for of_one in times]
-            print(f'| {threads} x {calls} | {events:,} | {counts[0] / 1e6:.2f} million | {counts[1] / 1e6:.2f} million | {counts[0] / counts[1]:.2f} '
+        for threads, calls, is_legal in ORDER_ROWS if command == 'order' else [(*it, True) for it in ROWS]:
+            text, events = text_of(threads, calls) if command == 'check' else history_of(threads, calls, is_legal)
+            counts, least, said = row(both, starts, runs, text)
+            if (said != b'legal\n') if command == 'check' else said.startswith(b'hopeless ') == is_legal:
+                sys.exit(f'they print {said[-300:].decode()}')
+            name = f'{threads} x {calls}' + ('' if is_legal else ', no legal order')
+            by_count = f'{counts[0] / 1e6:.2f} million | {counts[1] / 1e6:.2f} million | {counts[0] / counts[1]:.2f}' if counts[0] else ' | | '
+            print(f'| {name} | {events:,} | {by_count} '
                   f'| {least[0]:.1f} ms | {least[1]:.1f} ms | {least[0] / least[1]:.2f} |', flush=True)
 
 

@@ -1,4 +1,5 @@
-//! `listset check` in plain Rust: the same answers, but that a refusal says no place.
+//! `listset check` in plain Rust: the same answers, but that a refusal says no place. With the word `order` it is `listset order`, by the
+//! same search, for histories of one set without trapped calls.
 
 use std::collections::{BTreeSet, HashMap, HashSet};
 use std::io::{Read, Write};
@@ -316,10 +317,96 @@ fn check(events: &[Event], order: &[String]) -> String {
     "legal".to_string()
 }
 
+/// Whether the item has to be present before the call. None: it stands nowhere.
+fn want(call: &SetCall) -> Option<bool> {
+    match (call.end, call.operation) {
+        (End::Returned(_, None), _) | (End::Pending | End::Trapped(_), Operation::Contains) => None,
+        (End::Returned(_, Some(reply)), Operation::Add) => Some(!reply),
+        (End::Returned(_, Some(reply)), _) => Some(reply),
+        (_, Operation::Add) => Some(false),
+        (_, Operation::Remove) => Some(true),
+    }
+}
+
+fn end_of(call: &SetCall) -> Option<usize> {
+    match call.end {
+        End::Pending => None,
+        End::Trapped(at) | End::Returned(at, _) => Some(at),
+    }
+}
+
+/// The place of a call that changes nothing, or else of the first to end of those that change the set.
+fn choose(pool: &[SetCall], item: i32, was: bool) -> Option<usize> {
+    let fits = |call: &SetCall| call.item == item && want(call) == Some(was);
+    let changes = |call: &SetCall| match call.operation {
+        Operation::Add => !was,
+        Operation::Remove => was,
+        Operation::Contains => false,
+    };
+    if let Some(place) = pool.iter().position(|call| fits(call) && !changes(call)) {
+        return Some(place);
+    }
+    let changers = (0..pool.len()).filter(|place| fits(&pool[*place]));
+    changers.min_by_key(|place| end_of(&pool[*place]).unwrap_or(usize::MAX))
+}
+
+fn find_order(events: &[Event]) -> Option<Vec<SetCall>> {
+    let calls = set_calls(events);
+    let (mut set, mut pool, mut placed, mut next) = (BTreeSet::new(), Vec::new(), Vec::with_capacity(calls.len()), 0);
+    for at in 0..events.len() {
+        while next < calls.len() && calls[next].called <= at {
+            pool.push(calls[next]);
+            next += 1;
+        }
+        while let Some(ends) = pool.iter().find(|call| end_of(call) == Some(at)) {
+            let item = ends.item;
+            let call = pool.remove(choose(&pool, item, set.contains(&item))?);
+            placed.push(call);
+            match call.operation {
+                Operation::Add => {
+                    set.insert(call.item);
+                }
+                Operation::Remove => {
+                    set.remove(&call.item);
+                }
+                Operation::Contains => {}
+            }
+        }
+    }
+    Some(placed)
+}
+
+fn names_of(events: &[Event], order: &[SetCall]) -> String {
+    order.iter().map(|call| name_of(&events[call.called])).collect::<Vec<_>>().join(" ")
+}
+
+fn order(text: &str, events: &[Event]) -> String {
+    if let Some(event) = first_foreign(events) {
+        return format!("broken 76 {}", name_of(event));
+    }
+    if let Some(order) = find_order(events) {
+        return names_of(events, &order);
+    }
+    let (mut at, mut illegal, mut front) = (0, events.len(), Vec::new());
+    while illegal - at > 1 {
+        let middle = at + (illegal - at) / 2;
+        match find_order(&events[..middle]) {
+            Some(order) => (at, front) = (middle, order),
+            None => illegal = middle,
+        }
+    }
+    format!("hopeless {} {}\n{}", at + 1, text.split('\n').nth(at).unwrap(), names_of(events, &front))
+}
+
 fn main() {
     let mut bytes = Vec::new();
     std::io::stdin().read_to_end(&mut bytes).unwrap();
     let text = String::from_utf8(bytes).unwrap();
+    if std::env::args().any(|word| word == "order") {
+        let answer = read_history(&text).map_or("no history".to_string(), |events| order(&text, &events));
+        writeln!(std::io::stdout(), "{answer}").unwrap();
+        return;
+    }
     let (history, order) = text.split_once("%%\n").unwrap();
     let answer = match (read_history(history), read_order(order)) {
         (None, _) => "no history".to_string(),

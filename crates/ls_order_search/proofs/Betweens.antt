@@ -6,7 +6,7 @@ use Rattle.ls_orders.specs.declared.calls.SetCall.{SetCall}
 use Rattle.ls_orders.specs.Rules.{ended_before}
 use Rattle.ls_orders.specs.Legal.{Set, empty}
 use Rattle.ls_order_search.specs.Plans.{Among, Distinct, IsPlan, has_end}
-use Rattle.ls_order_search.specs.Search.{HasPlan, CalledAfter, Between, Calls, Closed, Due, Lasting, NoPlanOn, NotDue, Rising, Stuck, Within, ends_at, is_item, on_items}
+use Rattle.ls_order_search.specs.Search.{HasPlan, CalledAfter, CalledFrom, Between, Calls, Closed, Due, Lasting, LastUntil, NoPlanOn, NotDue, Rising, Stuck, Within, ends_at, is_item, on_items}
 use Rattle.ls_order_search.proofs.Lists.{among_back, among_cases, among_front}
 use Rattle.ls_order_search.proofs.Sets.{Same}
 use Rattle.ls_order_search.proofs.Steps.{goes_by, plan_same, sooner}
@@ -112,6 +112,21 @@ module _ (events : ℕ) (calls : Calls) (at next : ℕ) (s : Set) (pool placed :
       known : (c : SetCall) → Among c less ⊎ Among c rest → Among c calls
       known c (inl a) = b.known c (among_front c pool rest (k.2.among c a))
       known c (inr a) = b.known c (among_back c pool rest a)
+
+-- ---- events are passed over at which no call comes or ends
+
+pub skipped : (events : ℕ) (calls : Calls) (at next : ℕ) (s : Set) (pool placed : Calls) → Between events calls at next s pool placed
+    → (to : ℕ) → at ≤ to → (LastUntil at pool → LastUntil to pool) → CalledFrom to (drop next calls) → Between events calls to next s pool placed
+skipped events calls at next s pool placed b to le last comes = record {
+  plan = b.plan;
+  distinct = b.distinct;
+  up_to = λ c a. let by : c.called ≤ at = b.up_to c a in omega arith;
+  from = comes;
+  rising = b.rising;
+  known = b.known;
+  lasts = λ l. last (b.lasts l);
+  back = b.back;
+}
 
 -- ---- at the end
 

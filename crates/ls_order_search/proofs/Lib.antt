@@ -6,6 +6,7 @@ pub mod Steps
 pub mod Choices
 pub mod Closings
 pub mod Betweens
+pub mod Skips
 pub mod Tries
 pub mod Legality
 pub mod Names

@@ -68,6 +68,9 @@ Place pool P i = (i < length pool) × ((d : SetCall) → P (slice_index_or pool 
 abbrev pub CalledAfter : ℕ → Calls → Type 0
 CalledAfter at rest = (c : SetCall) → Among c rest → at < c.called
 
+abbrev pub CalledFrom : ℕ → Calls → Type 0
+CalledFrom at rest = (c : SetCall) → Among c rest → at ≤ c.called
+
 abbrev pub CalledBy : ℕ → Calls → Type 0
 CalledBy at pool = (c : SetCall) → Among c pool → c.called ≤ at
 

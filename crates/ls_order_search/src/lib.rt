@@ -7,6 +7,7 @@ pub mod fault;
 pub mod finding;
 mod items;
 pub mod judging;
+mod places;
 pub mod printing;
 mod search;
 pub mod telling;

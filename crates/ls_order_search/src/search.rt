@@ -1,4 +1,4 @@
-// The search, from the first event to the last.
+// The search, from the first event to the last. Events at which no call comes or ends are passed over.
 
 ghost use Rattle.std.specs.Prelude.{IfOk, IfNone, IfSome, MatchBool};
 ghost use Rattle.ls_orders.specs.Legal.{empty};
@@ -6,6 +6,7 @@ ghost use Rattle.ls_order_search.specs.Plans.{IsPlan};
 ghost use Rattle.ls_order_search.specs.Search.{Due, Lasting, NoPlanOn, NotDue, Rising, Within};
 
 use crate::closing::close;
+use crate::places::{next_call, next_end};
 use ls_orders::calls::SetCall;
 use std::alloc::{AllocError, Global};
 use std::collections::BTreeSet;
@@ -31,7 +32,8 @@ pub(crate) fn search(
     let mut pool = Vec::new(alloc);
     let mut placed = Vec::new(alloc);
     let mut next = 0;
-    for at in 0..events {
+    let mut at = 0;
+    'places: while at < events {
         'due: while is_due(calls, next, at) {
             pool.push(calls[next])?;
             next += 1;
@@ -39,6 +41,8 @@ pub(crate) fn search(
         if !close(&mut set, &mut pool, &mut placed, at)? {
             return Ok(None);
         }
+        let call = next_call(calls, next, events);
+        at = next_end(pool.as_slice(), at + 1, call);
     }
     Ok(Some(placed))
 }

@@ -1,0 +1,58 @@
+-- Events are passed over at which no call comes or ends.
+use Rattle.std.proofs.Common.{◌≡◌, ◌∙◌, ◌⊎◌, ◌+◌, ◌<◌, ◌≤◌, inl, inr, ℕ, false, [], ◌∷◌, ◌++◌, length, get_or, drop, take, min, refl, sym, ap, subst, arith}
+use Rattle.std.proofs.lemmas.List.{drop_more, get_or_default, take_more}
+use Rattle.ls_orders.specs.declared.calls.SetCall.{SetCall}
+use Rattle.ls_orders.specs.Rules.{ended_before}
+use Rattle.ls_order_search.specs.Plans.{Among}
+use Rattle.ls_order_search.specs.Search.{CalledFrom, Calls, LastUntil, Rising}
+use Rattle.ls_order_search.proofs.Lists.{among_at, among_cases}
+use Rattle.ls_order_search.proofs.Steps.{sooner}
+
+-- of one call more none ends before
+pub one_more_end : (pool : Calls) (i : ℕ) (x : SetCall) (from place next : ℕ) → i < length pool → x ≡ get_or pool i x → next ≤ place
+    → (LastUntil from pool → LastUntil place (take i pool)) → (ended_before x.end from ≡ false → ended_before x.end next ≡ false)
+    → LastUntil from pool → LastUntil next (take (i + 1) pool)
+one_more_end pool i x from place next lt is le so own l c a = by (among_cases c (take i pool) (get_or pool i x ∷ []) (subst (λ q. Among c q) (take_more pool i x lt) a))
+  where
+    there : Among x pool
+    there = subst (λ d. Among d pool) (sym is) (among_at pool i x lt)
+
+    by : Among c (take i pool) ⊎ Among c (get_or pool i x ∷ []) → ended_before c.end next ≡ false
+    by (inl b) = sooner next place c.end (so l c b) le
+    by (inr (inl e)) = subst (λ (d : SetCall). ended_before d.end next ≡ false) (is ∙ e) (own (l x there))
+    by (inr (inr b)) = absurd b
+
+module _ (calls : Calls) (next : ℕ) (x : SetCall) (lt : next < length calls) (is : x ≡ get_or calls next x) where
+  split : drop next calls ≡ x ∷ drop (next + 1) calls
+  split = drop_more calls next x lt ∙ ap (λ y. y ∷ drop (next + 1) calls) (sym is)
+
+  -- the next call is the first of those that come
+  pub first_called : Rising (drop next calls) → (n : ℕ) → n ≤ x.called → CalledFrom n (drop next calls)
+  first_called r n le c a = by (subst (λ l. Among c l) split a)
+    where
+      rising : Rising (x ∷ drop (next + 1) calls)
+      rising = subst Rising split r
+
+      by : (x ≡ c) ⊎ Among c (drop (next + 1) calls) → n ≤ c.called
+      by (inl e) = subst (λ (d : SetCall). n ≤ d.called) e le
+      by (inr b) = let lower : x.called < c.called = rising.0 c b in omega arith
+
+  pub no_later : (n : ℕ) → CalledFrom n (drop next calls) → n ≤ x.called
+  no_later n h = h x (subst (λ l. Among x l) (sym split) (inl refl))
+
+-- the first place of the next call and the number of events
+module _ (calls : Calls) (next : ℕ) (d : SetCall) (events first : ℕ) (lt : next < length calls) (is : first ≡ min (get_or calls next d).called events) where
+  x_is : get_or calls next d ≡ get_or calls next (get_or calls next d)
+  x_is = get_or_default calls next d (get_or calls next d) lt
+
+  pub first_comes : Rising (drop next calls) → CalledFrom first (drop next calls)
+  first_comes r = first_called calls next (get_or calls next d) lt x_is r first (omega arith)
+
+  pub first_is_last : (n : ℕ) → n ≤ events → CalledFrom n (drop next calls) → n ≤ first
+  first_is_last n le h = let low : n ≤ (get_or calls next d).called = no_later calls next (get_or calls next d) lt x_is n h in omega arith
+
+pub one_end_more : (pool : Calls) (i : ℕ) (d : SetCall) (from place next : ℕ) → i < length pool → next ≤ place
+    → (LastUntil from pool → LastUntil place (take i pool)) → (ended_before (get_or pool i d).end from ≡ false → ended_before (get_or pool i d).end next ≡ false)
+    → LastUntil from pool → LastUntil next (take (i + 1) pool)
+one_end_more pool i d from place next lt le so own =
+    one_more_end pool i (get_or pool i d) from place next lt (get_or_default pool i d (get_or pool i d) lt) le so own
