@@ -1,0 +1,11 @@
+-- The verdict that an outcome comes to.
+use Rattle.ls_order_search.specs.declared.judging.Outcome.{Outcome}
+use Rattle.ls_order_search.specs.declared.judging.Outcome.TheVariants as outcomes
+use Rattle.ls_verdicts.specs.declared.verdicts.Verdict.{Verdict}
+use Rattle.ls_verdicts.specs.declared.verdicts.Verdict.TheVariants as verdicts
+
+abbrev pub verdict_of : Outcome → Verdict
+verdict_of (outcomes.NotOneSet call) = verdicts.NotOneSet
+verdict_of outcomes.TooManyTrapped = verdicts.TooManyTrapped
+verdict_of (outcomes.Legal order) = verdicts.Legal
+verdict_of (outcomes.Hopeless at order) = verdicts.Illegal

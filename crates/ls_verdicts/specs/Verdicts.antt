@@ -1,0 +1,40 @@
+-- What there is to say of the history of a run.
+use Rattle.std.specs.Prelude.{◌≡◌, true, List, Some, None, codes, map}
+use Rattle.ls_events.specs.declared.event.Event.{Event as RunEvent}
+use Rattle.ls_checked.specs.CheckedProgram.{Program}
+use Rattle.ls_report.specs.Discipline.{is_history}
+use Rattle.ls_report.specs.Events.{Event, Text}
+use Rattle.ls_report.specs.Printing.{named}
+use Rattle.ls_orders.specs.SetCalls.{first_foreign, set_calls}
+use Rattle.ls_order_search.specs.Answers.{HasOrder, IsDecided, NoneIsLegal}
+use Rattle.ls_order_search.specs.Trapped.{has_many_trapped}
+use Rattle.ls_verdicts.specs.declared.verdicts.Verdict.{Verdict}
+use Rattle.ls_verdicts.specs.declared.verdicts.Verdict.TheVariants as verdicts
+
+-- the events are those of the run, each with the names of its call, and a history
+pub record IsNamed (p : Program) (run : List RunEvent) (events : List Event) : Type 0 where
+  pub is_named : map (named p) run ≡ map Some events
+  pub history : is_history events ≡ true
+
+-- as what is printed of each run of a checked program
+abbrev pub IsHistoryOf : Program → List RunEvent → Type 0
+IsHistoryOf p run = (events : List Event) × IsNamed p run events
+
+-- Some legal order of all set calls on one object, or none; or a call of another kind, or too many trapped calls on an item.
+abbrev pub IsVerdictOn : List Event → Verdict → Type 0
+IsVerdictOn events verdicts.Legal = IsDecided events × HasOrder events
+IsVerdictOn events verdicts.Illegal = IsDecided events × NoneIsLegal events
+IsVerdictOn events verdicts.NotOneSet = (e : Event) × (first_foreign events ≡ Some e)
+IsVerdictOn events verdicts.TooManyTrapped = (first_foreign events ≡ None) × (has_many_trapped (set_calls events) ≡ true)
+
+-- the verdict on the events with their names
+pub record IsVerdict (p : Program) (run : List RunEvent) (v : Verdict) : Type 0 where
+  pub events : List Event
+  pub named : IsNamed p run events
+  pub verdict : IsVerdictOn events v
+
+abbrev pub verdict_text : Verdict → Text
+verdict_text verdicts.Legal = codes "legal"
+verdict_text verdicts.Illegal = codes "illegal"
+verdict_text verdicts.NotOneSet = codes "no set"
+verdict_text verdicts.TooManyTrapped = codes "not judged"

@@ -1,0 +1,7 @@
+//! What there is to say of the history of a run of a program: whether it has a legal order.
+#![tactic(auto)]
+
+mod naming;
+mod verdicts;
+
+pub use verdicts::{Verdict, verdict_on, verdict_word};

@@ -1,0 +1,70 @@
+// Verdicts on the histories of runs.
+
+ghost use Rattle.std.specs.Prelude.{◌≡◌, IfOk};
+ghost use Rattle.ls_checked.specs.PlainProgram.{plain_program};
+ghost use Rattle.ls_verdicts.specs.Outcomes.{verdict_of};
+ghost use Rattle.ls_verdicts.specs.Verdicts.{IsHistoryOf, IsVerdict, verdict_text};
+
+use crate::naming::named_events;
+use ls_checked::program::Program;
+use ls_events::event::Event;
+use ls_order_search::judging::{Outcome, judge};
+use std::alloc::{AllocError, Global};
+
+/// What there is to say of a history.
+#[derive(Copy, PartialEq, Eq)]
+pub enum Verdict {
+    /// All calls are set calls on one object, and they have a legal order.
+    Legal,
+    /// All calls are set calls on one object, and no order of them is legal.
+    Illegal,
+    /// A call is no set call on the one object.
+    NotOneSet,
+    /// All calls are set calls on one object, and an item has more than 12 trapped ones.
+    TooManyTrapped,
+}
+
+impl Clone for Verdict {
+    fn clone(&self) -> Result<Verdict, AllocError> {
+        Ok(*self)
+    }
+}
+
+/// The verdict that the outcome comes to.
+fn verdict_of(outcome: &Outcome) -> Verdict
+    ensures { result ≡ verdict_of outcome.now }
+{
+    match outcome {
+        Outcome::NotOneSet(_) => Verdict::NotOneSet,
+        Outcome::TooManyTrapped => Verdict::TooManyTrapped,
+        Outcome::Legal(_) => Verdict::Legal,
+        Outcome::Hopeless { .. } => Verdict::Illegal,
+    }
+}
+
+/// The verdict on a history of a run of the program, by the names that the program gives to the calls.
+pub fn verdict_on(
+    alloc: Global,
+    history: &[Event],
+    program: &Program,
+) -> Result<Verdict, AllocError>
+    requires { IsHistoryOf (plain_program program.now) history.now }
+    ensures { IfOk result (IsVerdict (plain_program program.now) history.now) }
+{
+    let events = named_events(alloc, history, program)?;
+    let outcome = judge(alloc, events.as_slice())?;
+    Ok(verdict_of(&outcome))
+}
+
+/// The verdict in a word or two: `legal`, `illegal`, `no set` where a call is no set call on the one object, and `not judged`
+/// where an item has too many trapped calls.
+pub fn verdict_word(verdict: Verdict) -> &'static str
+    ensures { result.now ≡ verdict_text verdict }
+{
+    match verdict {
+        Verdict::Legal => "legal",
+        Verdict::Illegal => "illegal",
+        Verdict::NotOneSet => "no set",
+        Verdict::TooManyTrapped => "not judged",
+    }
+}
