@@ -1,5 +1,8 @@
 -- A sample, entry by entry.
-use Rattle.std.proofs.Common.{◌≡◌, ℕ, ◌+◌, ◌%◌, ◌<◌, zero, suc, List, [], ◌∷◌, ◌++◌, refl, ap, ◌∙◌, sym, arith, append_assoc, append-nil}
+use Rattle.std.proofs.Common.{◌≡◌, ℕ, ◌+◌, ◌%◌, ◌<◌, ◌≤◌, length, zero, suc, List, [], ◌∷◌, ◌++◌, refl, ap, ◌∙◌, sym, arith, append_assoc, append-nil}
+use Rattle.std.specs.Prelude.{All}
+use Rattle.std.proofs.lemmas.List.Elements.{All-cons, All-nil}
+use Rattle.std.proofs.lemmas.Nat.{mod_below}
 use Rattle.rand_xoshiro.specs.SplitMix64.{mix_u64}
 use Rattle.ls_code.specs.Machine.{Machine, machine_step, machine_run}
 use Rattle.ls_batch.specs.Samples.{draws, sample_of}
@@ -38,3 +41,25 @@ pub drawn_run : (threads steps n x seed : ℕ) (s t : Machine) → 0 < threads �
 drawn_run zero steps n x seed s t some none h = absurd (omega arith)
 drawn_run (suc threads) steps n x seed s t some none h =
     ap (machine_run t) (sym (draws_none (suc threads) x) ∙ ap (λ (k : ℕ). draws (suc threads) k x) (sym none)) ∙ h
+
+-- the entries are those of threads that are there
+drawn_there : (threads n x : ℕ) → 0 < threads → All (λ t. t < threads + 1) (draws threads n x)
+unfolding draws
+drawn_there threads zero x some = All-nil (λ t. t < threads + 1)
+drawn_there threads (suc n) x some =
+    let below = mod_below (mix_u64 x).0 threads some in
+    All-cons (λ t. t < threads + 1) _ _ (omega arith) (drawn_there threads n (mix_u64 x).1 some)
+
+pub sample_there : (seed threads steps : ℕ) → All (λ t. t < threads + 1) (sample_of seed threads steps)
+sample_there seed zero steps = All-nil (λ t. t < 0 + 1)
+sample_there seed (suc threads) steps = drawn_there (suc threads) steps seed (omega arith)
+
+-- as many as are asked for
+drawn_count : (threads n x : ℕ) → length (draws threads n x) ≡ n
+unfolding draws
+drawn_count threads zero x = refl
+drawn_count threads (suc n) x = ap suc (drawn_count threads n (mix_u64 x).1)
+
+pub sample_count : (seed threads steps : ℕ) → length (sample_of seed threads steps) ≤ steps
+sample_count seed zero steps = omega arith
+sample_count seed (suc threads) steps = let all = drawn_count (suc threads) steps seed in omega arith

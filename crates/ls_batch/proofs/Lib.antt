@@ -2,3 +2,4 @@ pub mod Drawn
 pub mod Settled
 pub mod Batched
 pub mod Replayed
+pub mod Judged

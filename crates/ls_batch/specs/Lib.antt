@@ -1,3 +1,4 @@
 pub mod Samples
 pub mod Printing
+pub mod Judged
 pub mod Replays

@@ -1,14 +1,16 @@
--- Each seed's history is that of a schedule.
-use Rattle.std.specs.Prelude.{◌≡◌, ℕ, ◌++◌, ◌≤◌, replicate}
+-- Each seed's history is that of its schedule.
+use Rattle.std.specs.Prelude.{◌≡◌, ◌+◌, ◌<◌, ◌≤◌, ℕ, All, length}
 use Rattle.ls_code.specs.Code.{Code}
-use Rattle.ls_code.specs.Machine.{machine_history}
-use Rattle.ls_batch.specs.Samples.{history_of, sample_of, threads_of}
+use Rattle.ls_code.specs.Machine.{loaded, machine_history}
+use Rattle.ls_batch.specs.Samples.{history_of, seed_schedule, settling}
 
--- so many steps of the setup, and then the seed's sample, have this history on the machine
+-- The setup takes at most 100,000 steps, the machine's history of the seed's schedule is that of its run, and the schedule's
+-- steps are of threads that are there.
 pub record Replays (code : Code) (cells seed steps : ℕ) : Type 0 where
-  pub setup : ℕ
-  pub few : setup ≤ 100000
-  pub history : history_of code cells seed steps ≡ machine_history code cells (replicate setup 0 ++ sample_of seed (threads_of code) steps)
+  pub few : settling 100000 (loaded code cells) ≤ 100000
+  pub history : history_of code cells seed steps ≡ machine_history code cells (seed_schedule code cells seed steps)
+  pub there : 0 < length code.starts → All (λ t. t < length code.starts) (seed_schedule code cells seed steps)
+  pub count : length (seed_schedule code cells seed steps) ≤ 100000 + steps
 
 abbrev pub SeedsReplay : Type 0
 SeedsReplay = (code : Code) (cells seed steps : ℕ) → Replays code cells seed steps

@@ -1,5 +1,5 @@
 -- The schedule that a seed gives, and the run of one seed.
-use Rattle.std.specs.Prelude.{◌≡◌, ℕ, zero, suc, ◌+◌, ◌-◌, ◌%◌, ◌^◌, ◌<◌, ◌⊎◌, List, [], ◌∷◌, length, map, if◌then◌else◌, Bool, true, false}
+use Rattle.std.specs.Prelude.{◌≡◌, ℕ, zero, suc, ◌+◌, ◌-◌, ◌%◌, ◌^◌, ◌<◌, ◌⊎◌, List, [], ◌∷◌, ◌++◌, length, map, replicate, if◌then◌else◌, Bool, true, false}
 use Rattle.std.specs.List.{range_with_len}
 use Rattle.rand_xoshiro.specs.SplitMix64.{mix_u64}
 use Rattle.ls_code.specs.Code.{Code}
@@ -30,6 +30,11 @@ unfoldable pub settled : ℕ → Machine → Machine
 settled zero m = m
 settled (suc n) m = if goes_on (machine_state m 0) then settled n (machine_step m 0).machine else m
 
+-- how many steps of the setup that takes
+unfoldable pub settling : ℕ → Machine → ℕ
+settling zero m = zero
+settling (suc n) m = if goes_on (machine_state m 0) then suc (settling n (machine_step m 0).machine) else zero
+
 -- the machine after a seed's run: at most 100,000 steps of the setup, then the seed's sample
 unfoldable pub played : Machine → ℕ → ℕ → ℕ → Machine
 played m threads seed steps = machine_run (settled 100000 m) (sample_of seed threads steps)
@@ -42,7 +47,11 @@ threads_of code = length code.starts - 1
 abbrev pub history_of : Code → ℕ → ℕ → ℕ → List Event
 history_of code cells seed steps = (played (loaded code cells) (threads_of code) seed steps).history
 
--- those of so many seeds from the first on
+-- the schedule of a seed's run on so many cells: the setup's steps, then the seed's sample
+abbrev pub seed_schedule : Code → ℕ → ℕ → ℕ → List ℕ
+seed_schedule code cells seed steps = replicate (settling 100000 (loaded code cells)) 0 ++ sample_of seed (threads_of code) steps
+
+-- the histories of so many seeds from the first on
 abbrev pub histories_of : Code → ℕ → ℕ → ℕ → ℕ → List (List Event)
 histories_of code cells first count steps = map (λ i. history_of code cells (first + i) steps) (range_with_len 0 count)
 

@@ -22,14 +22,14 @@ const MOST_SEEDS: usize = 100_000;
 const MOST_STEPS: usize = 900_000;
 
 /// Whether no machine of the code has so many cells.
-fn are_bad_cells(code: &Code, cells: usize) -> bool
+pub(crate) fn are_bad_cells(code: &Code, cells: usize) -> bool
     ensures { IsTrue result ↔ AreBadCells code.now.names cells }
 {
     cells == 0 || cells > MOST_CELLS || cells < code.names()
 }
 
 /// Whether there are no seeds, too many or one past the greatest, or too many steps.
-fn is_bad_count(first_seed: u64, count: usize, steps: usize) -> bool
+pub(crate) fn is_bad_count(first_seed: u64, count: usize, steps: usize) -> bool
     ensures { IsTrue result ↔ IsBadCount first_seed count steps }
 {
     count == 0

@@ -1,16 +1,20 @@
-//! Samples of schedules by number, their runs in many threads, and the tally of the runs.
+//! Samples of schedules by number, their runs in many threads, and the tally of the runs, also with a verdict on each history.
 #![tactic(auto)]
 
 mod batching;
 mod fault;
 mod gathering;
+mod judging;
 pub mod laws;
 mod printing;
 mod runs;
 mod samples;
+mod schedules;
 
 pub use batching::batch;
 pub use fault::BatchFault;
+pub use judging::print_judged;
 pub use ls_batch_tally::{Entry, Tally};
 pub use printing::print_tally;
 pub use samples::sample;
+pub use schedules::sampled;

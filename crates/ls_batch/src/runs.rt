@@ -2,7 +2,7 @@
 
 ghost use Rattle.std.specs.Prelude.{◌≡◌, IfOk};
 ghost use Rattle.ls_code.specs.Machine.{loaded, machine_state};
-ghost use Rattle.ls_batch.specs.Samples.{goes_on, history_of, played, settled, threads_of};
+ghost use Rattle.ls_batch.specs.Samples.{goes_on, history_of, played, settled, settling, threads_of};
 
 use crate::samples::run_sample;
 use ls_batch_tally::copied;
@@ -14,7 +14,7 @@ use ls_machine::laws::runs_keep;
 use std::alloc::{AllocError, Global};
 
 /// The most steps of the setup before a sample.
-const MOST_SETUP_STEPS: usize = 100_000;
+pub(crate) const MOST_SETUP_STEPS: usize = 100_000;
 
 /// How many threads there are beside the setup.
 pub(crate) fn threads_of(code: &Code) -> usize
@@ -34,17 +34,19 @@ fn goes_on(machine: &Machine) -> bool
     }
 }
 
-/// Takes steps of the setup until it has ended, trapped or stopped, and at most so many.
+/// Takes steps of the setup until it has ended, trapped or stopped, and at most so many. Answers how many it took.
 #[tactic(auto, using(crate::proofs::Settled::settled_none, crate::proofs::Settled::settled_stop, crate::proofs::Settled::settled_more))]
-fn settle(machine: &mut Machine, most: usize)
-    ensures { machine.new ≡ settled most machine.old }
+pub(crate) fn settle(machine: &mut Machine, most: usize) -> usize
+    ensures machine { machine.new ≡ settled most machine.old }
+    ensures steps { result ≡ settling most machine.old }
 {
-    for _ in 0..most {
+    for taken in 0..most {
         if !goes_on(machine) {
-            return;
+            return taken;
         }
         let _ = machine.step(0);
     }
+    most
 }
 
 /// Runs a loaded machine by a seed: its setup, then the seed's sample.
@@ -52,7 +54,7 @@ fn settle(machine: &mut Machine, most: usize)
 fn run_seed(machine: &mut Machine, threads: usize, seed: u64, steps: usize)
     ensures { machine.new ≡ played machine.old threads seed steps }
 {
-    settle(machine, MOST_SETUP_STEPS);
+    let _taken = settle(machine, MOST_SETUP_STEPS);
     run_sample(machine, seed, threads, steps);
 }
 
