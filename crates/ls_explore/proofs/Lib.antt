@@ -2,4 +2,5 @@ pub mod Walks
 pub mod Closing
 pub mod Seeing
 pub mod Loops
+pub mod Order
 pub mod Telling

@@ -6,6 +6,8 @@ use Rattle.std.proofs.lemmas.Bool.{cases_lt}
 use Rattle.std.proofs.lemmas.List.{length-map}
 use Rattle.std.proofs.lemmas.List.Elements.{All-push, All-same}
 use Rattle.ls_events.specs.declared.event.Event.{Event}
+use Rattle.ls_checked.specs.CheckedTree.{File}
+use Rattle.ls_checked.specs.CheckedProgram.{Program}
 use Rattle.ls_meaning.specs.Runs.{source_history}
 use Rattle.ls_code.specs.Code.{Code}
 use Rattle.ls_code.specs.Machine.{Machine, loaded, machine_run}
@@ -16,15 +18,15 @@ use Rattle.ls_headline.proofs.Lists.{get_left, get_right, get_within, get_there,
 use Rattle.ls_ends.specs.Acting.{first_did}
 use Rattle.ls_explore_laws.specs.Bursts.{ActsAlong, IsClosed, burst}
 use Rattle.ls_explore_laws.specs.Ends.{AreQuiet, IsEnd as IsEndOf, IsQuiet}
-use Rattle.ls_explore_laws.specs.Explored.{IsBeginning, IsSetUp, IsShown}
+use Rattle.ls_explore_laws.specs.Explored.{IsBeginning, IsRoomy, IsSetUp, IsShown}
 use Rattle.ls_explore_laws.proofs.Along.{leads_as_source}
-use Rattle.ls_explore_laws.proofs.Covering.{covers_all}
-use Rattle.ls_explore_laws.proofs.Ending.{ends_all, stands_still_along}
+use Rattle.ls_explore_laws.proofs.Covering.{covers_all, covers_whole}
+use Rattle.ls_explore_laws.proofs.Ending.{ends_all, ends_whole, stands_still_along}
 use Rattle.ls_explore.specs.declared.rows.Ending.{Ending}
 use Rattle.ls_explore.specs.declared.searching.Seen.{Seen}
 use Rattle.ls_explore.specs.Walks.{has_acted, led_to, walked}
 use Rattle.ls_explore.specs.Searches.{IsSeen, IsSound}
-use Rattle.ls_explore.specs.Rows.{AllEnd, EndsAs, HasEnd, HasRow, HaveBegun, HaveEnds, IsEnd, IsTold, IsToldBy, Keeps, TellsAll, TellsEnds, TellsOver, TellsTruth, Told, ending_of, ending_of_seen, row_of}
+use Rattle.ls_explore.specs.Rows.{AllEnd, EndsAs, HasEnd, HasRow, HaveBegun, HaveEnds, IsEnd, IsTold, IsToldBy, Keeps, TellsAll, TellsEnds, TellsOver, TellsTruth, TellsWhole, Told, ending_of, ending_of_seen, row_of}
 use Rattle.ls_explore.proofs.Closing.{there_at, there_left, there_last}
 use Rattle.ls_explore.proofs.Walks.{burst_first}
 
@@ -161,6 +163,9 @@ module _ (n : ℕ) (root : Machine) (paths : List (List ℕ)) where
   pub ends_kept : (seen : List Seen) (i : ℕ) (old new : List Told) → Keeps old new → HaveEnds n root paths seen i old → HaveEnds n root paths seen i new
   ends_kept seen i old new keeps h = λ j path s lt at seen_at stands. end_kept old new (walked n root path).history keeps (h j path s lt at seen_at stands)
 
+  pub begun_kept : (i : ℕ) (old new : List Told) → Keeps old new → HaveBegun n root paths i old → HaveBegun n root paths i new
+  begun_kept i old new keeps h = λ j path past there. told_by_kept old new (walked n root path).history keeps (h j path past there)
+
   pub begun_more : (i at : ℕ) (old new : List Told) → at + i + 1 ≡ length paths → Keeps old new → ((path : List ℕ) → slice_get paths at ≡ Some path → IsToldBy new (walked n root path).history) → HaveBegun n root paths i old → HaveBegun n root paths (i + 1) new
   begun_more i at old new place keeps here h = λ j path past there. by_place j path past there (cases_lt (length paths) (j + i + 1))
     where
@@ -205,30 +210,42 @@ module _ (code : Code) (cells : ℕ) (setup : List ℕ) (threads n : ℕ) (root 
     closed_for : (count : ℕ) → count ≡ threads → IsClosed (most_silent code + 1) count (led_to n root paths)
     closed_for count e = subst (λ j. IsClosed j count (led_to n root paths)) en (subst (λ t. IsClosed n t (led_to n root paths)) (sym e) closed)
 
+    begun_by : (i : ℕ) → length paths ≤ i → HaveBegun n root paths i rows → (m : Machine) → Contains (led_to n root paths) m → (h : List Event) → IsBeginning h m.history → IsToldBy rows h
+    begun_by i past have m there h shows =
+        let p = path_to n root paths m there in
+        let lt = get_within paths p.0 p.1 p.2 in
+        told_by rows h m.history shows (subst (λ (z : Machine). IsToldBy rows z.history) p.3 (have p.0 p.1 (omega arith) p.2))
+
     -- rows for all that closed paths lead to tell of all schedules
     pub tells_all : (i : ℕ) → length paths ≤ i → HaveBegun n root paths i rows → TellsAll code cells setup threads rows
     tells_all i past have = λ file program k within acts histories up count schedule fits.
         let up' : IsSetUp file program code cells k root = subst (IsSetUp file program code cells k) (sym er) up in
         let s : IsShown file program (led_to n root paths) schedule = covers_all file program code cells k root (led_to n root paths) within acts histories up' first (closed_for (length program.threads) count) schedule fits in
-        let p = path_to n root paths s.machine s.there in
-        let lt = get_within paths p.0 p.1 p.2 in
-        told_by rows (source_history file program schedule) s.machine.history s.shows
-        (subst (λ (m : Machine). IsToldBy rows m.history) p.3 (have p.0 p.1 (omega arith) p.2))
+        begun_by i past have s.machine s.there (source_history file program schedule) s.shows
 
-    -- and of all that end
-    pub tells_ends : (seen : List Seen) → length seen ≡ length paths → IsSound n threads root paths seen → HaveEnds n root paths seen (length seen) rows → TellsEnds code cells setup threads rows
-    tells_ends seen whole sound have = λ file program k within acts histories has_steps up count schedule fits over.
-        let up' : IsSetUp file program code cells k root = subst (IsSetUp file program code cells k) (sym er) up in
-        let e : IsEndOf (most_silent code + 1) (length program.threads) file program (led_to n root paths) schedule =
-        ends_all file program code cells k root (led_to n root paths) within acts histories has_steps up' first (closed_for (length program.threads) count) schedule fits over in
-        let p = path_to n root paths e.machine e.there in
+    -- what is seen of a machine that the paths lead to
+    seen_of : (seen : List Seen) → length seen ≡ length paths → IsSound n threads root paths seen → (m : Machine) → Contains (led_to n root paths) m → (j : ℕ) × (path : List ℕ) × (s : Seen) × (j < length seen) × (slice_get paths j ≡ Some path) × (slice_get seen j ≡ Some s) × (walked n root path ≡ m) × IsSeen n threads m s
+    seen_of seen whole sound m there =
+        let p = path_to n root paths m there in
         let lt : p.0 < length seen = omega (arith, whole, get_within paths p.0 p.1 p.2) in
         let s = get_there seen p.0 lt in
-        let known : IsSeen n threads e.machine s.0 = subst (λ m. IsSeen n threads m s.0) p.3 (sound.known p.0 p.1 s.0 p.2 s.1) in
+        (p.0, p.1, s.0, lt, p.2, s.1, p.3, subst (λ z. IsSeen n threads z s.0) p.3 (sound.known p.0 p.1 s.0 p.2 s.1))
+
+    seen_roomy : (seen : List Seen) → length seen ≡ length paths → IsSound n threads root paths seen → All (λ (s : Seen). s.stops ≡ false) seen → IsRoomy n threads (led_to n root paths)
+    seen_roomy seen whole sound none m t there lt stopped =
+        let s = seen_of seen whole sound m there in
+        s.7.roomy (all_at seen (λ (x : Seen). x.stops ≡ false) none s.0 s.2 s.5) t lt stopped
+      where
+        all_at : {A : Type 0} (xs : List A) (P : A → Type 0) → All P xs → (j : ℕ) (x : A) → slice_get xs j ≡ Some x → P x
+        all_at xs P all j x at = subst P (index_there xs j x x at) (all j x (get_within xs j x at))
+
+    ended_by : (seen : List Seen) → length seen ≡ length paths → IsSound n threads root paths seen → HaveEnds n root paths seen (length seen) rows → (count : ℕ) → count ≡ threads → (file : File) (program : Program) (schedule : List ℕ) → IsEndOf (most_silent code + 1) count file program (led_to n root paths) schedule → HasEnd rows (source_history file program schedule)
+    ended_by seen whole sound have count ec file program schedule e =
+        let s = seen_of seen whole sound e.machine e.there in
         let still : (t : ℕ) → t < threads → burst n e.machine t ≡ None =
-        λ t less. ap (λ j. burst j e.machine t) en ∙ e.still t (subst (λ c. t < c) (sym count) less) in
-        let stands : s.0.acts ≡ false = not_acting e.machine s.0 known still s.0.acts refl in
-        let r : HasEnd rows e.machine.history = subst (λ (m : Machine). HasEnd rows m.history) p.3 (have p.0 p.1 s.0 lt p.2 s.1 stands) in
+        λ t less. ap (λ j. burst j e.machine t) en ∙ e.still t (subst (λ c. t < c) (sym ec) less) in
+        let stands : s.2.acts ≡ false = not_acting e.machine s.2 s.7 still s.2.acts refl in
+        let r : HasEnd rows e.machine.history = subst (λ (m : Machine). HasEnd rows m.history) s.6 (have s.0 s.1 s.2 s.3 s.4 s.5 stands) in
         record { row = r.row; there = r.there; same = r.same ∙ e.same; ends = r.ends }
       where
         not_acting : (m : Machine) (s : Seen) → IsSeen n threads m s → ((t : ℕ) → t < threads → burst n m t ≡ None) → (b : Bool) → s.acts ≡ b → b ≡ false
@@ -236,3 +253,22 @@ module _ (code : Code) (cells : ℕ) (setup : List ℕ) (threads n : ℕ) (root 
         not_acting m s known still true e =
             let a = known.acting e in
             absurd (no_some (sym (still a.0 a.1) ∙ a.2.1))
+
+    -- and of all that end
+    pub tells_ends : (seen : List Seen) → length seen ≡ length paths → IsSound n threads root paths seen → HaveEnds n root paths seen (length seen) rows → TellsEnds code cells setup threads rows
+    tells_ends seen whole sound have = λ file program k within acts histories has_steps up count schedule fits over.
+        let up' : IsSetUp file program code cells k root = subst (IsSetUp file program code cells k) (sym er) up in
+        ended_by seen whole sound have (length program.threads) count file program schedule
+        (ends_all file program code cells k root (led_to n root paths) within acts histories has_steps up' first (closed_for (length program.threads) count) schedule fits over)
+
+    -- and where no thread was seen to stop a machine, of all whatever
+    pub tells_whole : (seen : List Seen) → length seen ≡ length paths → IsSound n threads root paths seen → All (λ (s : Seen). s.stops ≡ false) seen → HaveEnds n root paths seen (length seen) rows → (i : ℕ) → length paths ≤ i → HaveBegun n root paths i rows → TellsWhole code cells setup threads rows
+    tells_whole seen whole sound none ends i past begun = λ file program k within acts histories has_steps up count schedule.
+        let up' : IsSetUp file program code cells k root = subst (IsSetUp file program code cells k) (sym er) up in
+        let all : IsClosed (most_silent code + 1) (length program.threads) (led_to n root paths) = closed_for (length program.threads) count in
+        let room : IsRoomy (most_silent code + 1) (length program.threads) (led_to n root paths) =
+        subst (λ j. IsRoomy j (length program.threads) (led_to n root paths)) en (subst (λ c. IsRoomy n c (led_to n root paths)) (sym count) (seen_roomy seen whole sound none)) in
+        let s : IsShown file program (led_to n root paths) schedule = covers_whole file program code cells k root (led_to n root paths) within acts histories up' first all room schedule in (
+          begun_by i past begun s.machine s.there (source_history file program schedule) s.shows,
+          λ over. ended_by seen whole sound ends (length program.threads) count file program schedule (ends_whole file program code cells k root (led_to n root paths) within acts histories has_steps up' first all room schedule over),
+        )

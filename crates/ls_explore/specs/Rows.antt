@@ -1,5 +1,8 @@
 -- Histories with paths that lead to them.
-use Rattle.std.specs.Prelude.{◌≡◌, ℕ, ◌+◌, ◌<◌, ◌++◌, Bool, true, false, List, Option, length, replicate, Contains, None, Some, slice_get}
+use Rattle.std.specs.Prelude.{◌≡◌, ◌≢◌, ℕ, ◌+◌, ◌<◌, ◌++◌, AllPairs, Bool, true, false, List, Option, length, replicate, Contains, None, Some, slice_get}
+use Rattle.std.specs.declared.cmp.Ordering.{Ordering}
+use Rattle.std.specs.Ordering.{nat_cmp, ordering_then}
+use Rattle.std.specs.Cmp.Lexicographic.{slice_cmp}
 use Rattle.ls_events.specs.declared.event.Event.{Event}
 use Rattle.ls_checked.specs.CheckedTree.{File}
 use Rattle.ls_checked.specs.CheckedProgram.{Program}
@@ -22,6 +25,14 @@ pub record Told : Type 0 where
   pub path : List ℕ
   pub history : List Event
   pub ending : Ending
+
+-- The shorter path comes first, and of two of one length the lesser: by the first thread at which they differ.
+abbrev pub row_order : Told → Told → Ordering
+row_order r s = ordering_then (nat_cmp (length r.path) (length s.path)) (slice_cmp nat_cmp r.path s.path)
+
+-- no two rows have one history
+abbrev pub AreApart : List Told → Type 0
+AreApart rows = AllPairs (λ (r s : Told). r.history ≢ s.history) rows
 
 -- what so many threads do after a machine: all are quiet; or none acts, and one would stop the machine for want of cells; or one acts
 abbrev pub EndsAs : ℕ → ℕ → Machine → Ending → Type 0
@@ -123,3 +134,11 @@ TellsEnds code cells setup threads rows =
     HasSteps file program code cells → IsSetUp file program code cells k (machine_run (loaded code cells) setup) →
     length program.threads ≡ threads → (schedule : List ℕ) → Fits file program cells schedule →
     IsOver file program (source_run file program schedule) → HasEnd rows (source_history file program schedule)
+
+-- Where no schedule runs out of cells: so it is of each schedule, whether it fits the cells or not.
+abbrev pub TellsWhole : Code → ℕ → List ℕ → ℕ → List Told → Type 0
+TellsWhole code cells setup threads rows =
+    (file : File) (program : Program) (k : ℕ) → IsCells code cells → ActsInTime file program code → HasHistories file program code cells →
+    HasSteps file program code cells → IsSetUp file program code cells k (machine_run (loaded code cells) setup) →
+    length program.threads ≡ threads → (schedule : List ℕ) → IsToldBy rows (source_history file program schedule)
+    × (IsOver file program (source_run file program schedule) → HasEnd rows (source_history file program schedule))

@@ -1,12 +1,12 @@
 // All that threads lead to from the machine after a setup.
 
-ghost use Rattle.std.specs.Prelude.{◌≡◌, ◌+◌, IfOk, IsTrue, IsErrOf, ◌↔◌, ◌≤◌, length};
+ghost use Rattle.std.specs.Prelude.{◌≡◌, ◌+◌, All, IfOk, IsSorted, IsTrue, IsErrOf, ◌↔◌, ◌≤◌, false, length};
 ghost use Rattle.ls_headline.specs.Translations.{most_silent};
 ghost use Rattle.ls_machine.specs.Room.{AreBadCells};
-ghost use Rattle.ls_explore.specs.Rows.{TellsAll, TellsEnds, TellsOver, TellsTruth};
+ghost use Rattle.ls_explore.specs.Rows.{AreApart, TellsAll, TellsEnds, TellsOver, TellsTruth, TellsWhole, row_order};
 
 use crate::rows::Row;
-use crate::searching::search;
+use crate::searching::{Seen, search};
 use crate::table::tell;
 use crate::walking::Ground;
 use ls_code::code::Code;
@@ -14,11 +14,12 @@ use ls_events::schedule::Schedule;
 use ls_machine::{LoadFault, Machine};
 use std::alloc::Global;
 
-/// Histories with paths that lead to them, whether they are all, and how many states were kept.
+/// Histories with paths that lead to them, whether they are all, whether no machine ran out of cells, and how many states were kept.
 #[derive(Drop)]
 pub struct Exploration {
     pub rows: Vec<Row>,
     pub complete: bool,
+    pub roomy: bool,
     pub states: usize,
 }
 
@@ -30,15 +31,22 @@ fn most_steps(code: &Code) -> u64
     64 * (code.instructions().len() as u64) + 1
 }
 
+/// Whether no thread was seen to stop a machine for want of cells.
+fn are_roomy(seen: &[Seen]) -> bool
+    ensures { IsTrue result → All (λ s. s.stops ≡ false) seen.now }
+{
+    seen.iter().all(|s| !s.stops)
+}
+
 /// Explores all that so many threads lead to from the machine after the setup's steps, on so many cells, and keeps at most so many
 /// states. Each row's history is that of a schedule of source steps: those of the setup, and then one of each thread of the row's path.
 /// After the schedule of a row that is over no thread of the source acts.
 ///
 /// Where the rows are complete, the history of each schedule of source steps that fits the cells, of any length, is the beginning of
 /// a row's, and that of one after which no thread acts is that of a row that ends. This is so for each text that the code runs as.
+/// Where they are complete and no machine ran out of cells, this is so of each schedule, whether it fits or not.
 ///
-/// First come the rows of the paths that end, the shortest first and among those of one length the least. Then come the others, the
-/// last path first.
+/// No history stands twice. The row of the shortest path comes first, and of those of one length the row of the least.
 pub fn explore(
     alloc: Global,
     code: &Code,
@@ -53,6 +61,9 @@ pub fn explore(
     ensures over { IfOk result (λ e. TellsOver code.now cells setup.now threads e.rows.items) }
     ensures tells { IfOk result (λ e. IsTrue e.complete → TellsAll code.now cells setup.now threads e.rows.items) }
     ensures ends { IfOk result (λ e. IsTrue e.complete → TellsEnds code.now cells setup.now threads e.rows.items) }
+    ensures whole { IfOk result (λ e. IsTrue e.complete → IsTrue e.roomy → TellsWhole code.now cells setup.now threads e.rows.items) }
+    ensures apart { IfOk result (λ e. AreApart e.rows.items) }
+    ensures order { IfOk result (λ e. IsSorted row_order e.rows.items) }
 {
     let mut walker = Machine::load(alloc, code, cells)?;
     let mut other = Machine::load(alloc, code, cells)?;
@@ -68,6 +79,7 @@ pub fn explore(
     Ok(Exploration {
         rows,
         complete: found.complete,
+        roomy: are_roomy(found.seen.as_slice()),
         states: found.paths.len(),
     })
 }

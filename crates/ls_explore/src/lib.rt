@@ -3,6 +3,7 @@
 
 mod exploring;
 mod rows;
+mod same;
 mod searching;
 mod table;
 mod walking;

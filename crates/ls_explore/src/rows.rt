@@ -1,13 +1,14 @@
 // Rows: histories with paths that lead to them.
 
-ghost use Rattle.std.specs.Prelude.{◌≡◌, IfOk, IsTrue, false};
-ghost use Rattle.ls_explore.specs.Rows.{IsEnd, ending_of};
+ghost use Rattle.std.specs.Prelude.{◌≡◌, Decides, IfOk, IsPermutation, IsSorted, IsTrue, false};
+ghost use Rattle.ls_explore.specs.Rows.{IsEnd, ending_of, row_order};
 ghost use Rattle.ls_explore_laws.specs.Explored.{IsBeginning};
 
+use crate::same::are_same_events;
 use crate::searching::Seen;
 use ls_events::event::Event;
-use ls_machine::sameness::are_same_events;
 use std::alloc::{AllocError, Global};
+use std::cmp::Ordering;
 use std::marker::Model;
 
 /// How a row ends: what the threads do after its path.
@@ -136,9 +137,9 @@ impl Row {
         self.ending
     }
 
-    /// Whether it has a history. True only where it does.
+    /// Whether it has a history.
     pub(crate) fn is_of(&self, history: &[Event]) -> bool
-        ensures { IsTrue result → self.now.history ≡ history.now }
+        ensures { Decides result (self.now.history ≡ history.now) }
     {
         are_same_events(self.history.as_slice(), history)
     }
@@ -149,4 +150,25 @@ impl Row {
     {
         begin_so(self.history.as_slice(), history)
     }
+
+    /// How it stands to another: the shorter path comes first, and of two of one length the lesser.
+    fn order(&self, other: &Row) -> Ordering
+        ensures { result ≡ row_order self.now other.now }
+    {
+        match self.path.len().cmp(&other.path.len()) {
+            Ordering::Less => Ordering::Less,
+            Ordering::Equal => self.path.as_slice().cmp(other.path.as_slice()),
+            Ordering::Greater => Ordering::Greater,
+        }
+    }
+}
+
+/// The same rows in order.
+pub(crate) fn in_order(rows: Vec<Row>) -> Vec<Row>
+    ensures same { IsPermutation rows.items result.items }
+    ensures order { IsSorted row_order result.items }
+{
+    let mut rows = rows;
+    rows.sort_unstable_by(|a, b| a.order(b));
+    rows
 }

@@ -1,14 +1,14 @@
 // The rows of all paths.
 
-ghost use Rattle.std.specs.Prelude.{◌≡◌, ◌<◌, ℕ, List, [], Some, IfOk, OnOk, IsTrue, false, length, slice_get};
+ghost use Rattle.std.specs.Prelude.{◌≡◌, ◌<◌, ℕ, List, [], Some, Decides, IfOk, IsSorted, OnOk, IsTrue, false, length, slice_get};
 ghost use Rattle.std.specs.List.{All};
 ghost use Rattle.ls_code.specs.Machine.{Machine as MachineValue};
-ghost use Rattle.ls_explore.specs.Rows.{AllEnd, HasRow, HaveBegun, HaveEnds, IsEnd, IsTold, IsToldBy, Keeps, row_of};
+ghost use Rattle.ls_explore.specs.Rows.{AllEnd, AreApart, HasRow, HaveBegun, HaveEnds, IsEnd, IsTold, IsToldBy, Keeps, row_of, row_order};
 ghost use Rattle.ls_explore.specs.declared.searching.Seen.{Seen as SeenValue};
 ghost use Rattle.ls_explore.specs.Searches.{IsSound, paths_of};
 ghost use Rattle.ls_explore.specs.Walks.{root_of, walked};
 
-use crate::rows::{Ending, Row, ending_of, is_end};
+use crate::rows::{Ending, Row, ending_of, in_order, is_end};
 use crate::searching::{Searched, Seen};
 use crate::walking::{Ground, go_to};
 use ls_events::event::{Event, Happening};
@@ -58,9 +58,9 @@ pub(crate) fn number_of(history: &[Event]) -> u64 {
     mixed
 }
 
-/// Whether one of the rows has a history. True only where it does.
+/// Whether one of the rows has a history.
 fn has_row(rows: &[Row], history: &[Event]) -> bool
-    ensures { IsTrue result → HasRow rows.now history.now }
+    ensures { Decides result (HasRow rows.now history.now) }
 {
     for i in 0..rows.len() {
         if rows[i].is_of(history) {
@@ -113,9 +113,9 @@ impl Table {
         }
     }
 
-    /// Whether one of the rows has a history of this number. True only where it does.
+    /// Whether one of the rows has a history of this number.
     fn has(&self, history: &[Event], number: u64) -> bool
-        ensures { IsTrue result → HasRow self.now.rows.items history.now }
+        ensures { Decides result (HasRow self.now.rows.items history.now) }
     {
         match self.whole.get(&number).copied() {
             None => has_row(self.rows.as_slice(), history),
@@ -148,6 +148,7 @@ impl Table {
         ensures has { OnOk result (HasRow self.new.rows.items history.now) }
         ensures told { OnOk result ((n threads : ℕ) (root : MachineValue) → All (IsTold n threads root) self.old.rows.items → IsTold n threads root (row_of path.now history.now ending) → All (IsTold n threads root) self.new.rows.items) }
         ensures ends { OnOk result (AllEnd self.old.rows.items → IsEnd ending → AllEnd self.new.rows.items) }
+        ensures apart { OnOk result (AreApart self.old.rows.items → AreApart self.new.rows.items) }
     {
         if self.has(history, number_of(history)) {
             return Ok(());
@@ -180,6 +181,7 @@ fn tell_end(
     ensures told { OnOk result (All (IsTold ground.now.most ground.now.threads (root_of walker.old ground.now.setup.now)) table.old.rows.items → All (IsTold ground.now.most ground.now.threads (root_of walker.old ground.now.setup.now)) table.new.rows.items) }
     ensures keeps { OnOk result (Keeps table.old.rows.items table.new.rows.items) }
     ensures ends { OnOk result (AllEnd table.old.rows.items → AllEnd table.new.rows.items) }
+    ensures apart { OnOk result (AreApart table.old.rows.items → AreApart table.new.rows.items) }
     ensures has { OnOk result ((path : List ℕ) (s : SeenValue) → slice_get (paths_of found.now.paths.items) at ≡ Some path → slice_get found.now.seen.items at ≡ Some s → s.acts ≡ false → HasRow table.new.rows.items (walked ground.now.most (root_of walker.old ground.now.setup.now) path).history) }
     ensures code { walker.new.code ≡ walker.old.code }
     ensures cells { walker.new.cells.limit ≡ walker.old.cells.limit }
@@ -202,6 +204,7 @@ fn tell_ends(
 ) -> Result<Table, AllocError>
     requires { IsSound ground.now.most ground.now.threads (root_of walker.old ground.now.setup.now) (paths_of found.now.paths.items) found.now.seen.items }
     ensures told { IfOk result (λ table. All (IsTold ground.now.most ground.now.threads (root_of walker.old ground.now.setup.now)) table.rows.items) }
+    ensures apart { IfOk result (λ table. AreApart table.rows.items) }
     ensures ends { IfOk result (λ table. HaveEnds ground.now.most (root_of walker.old ground.now.setup.now) (paths_of found.now.paths.items) found.now.seen.items (length found.now.seen.items) table.rows.items) }
     ensures code { walker.new.code ≡ walker.old.code }
     ensures cells { walker.new.cells.limit ≡ walker.old.cells.limit }
@@ -225,6 +228,7 @@ fn tell_one(
     requires sound { IsSound ground.now.most ground.now.threads (root_of walker.old ground.now.setup.now) (paths_of found.now.paths.items) found.now.seen.items }
     ensures told { OnOk result (All (IsTold ground.now.most ground.now.threads (root_of walker.old ground.now.setup.now)) table.old.rows.items → All (IsTold ground.now.most ground.now.threads (root_of walker.old ground.now.setup.now)) table.new.rows.items) }
     ensures keeps { OnOk result (Keeps table.old.rows.items table.new.rows.items) }
+    ensures apart { OnOk result (AreApart table.old.rows.items → AreApart table.new.rows.items) }
     ensures begun { OnOk result ((path : List ℕ) → slice_get (paths_of found.now.paths.items) at ≡ Some path → IsToldBy table.new.rows.items (walked ground.now.most (root_of walker.old ground.now.setup.now) path).history) }
     ensures code { walker.new.code ≡ walker.old.code }
     ensures cells { walker.new.cells.limit ≡ walker.old.cells.limit }
@@ -250,6 +254,7 @@ fn tell_rest(
     requires told { All (IsTold ground.now.most ground.now.threads (root_of walker.old ground.now.setup.now)) table.old.rows.items }
     ensures told { OnOk result (All (IsTold ground.now.most ground.now.threads (root_of walker.old ground.now.setup.now)) table.new.rows.items) }
     ensures keeps { OnOk result (Keeps table.old.rows.items table.new.rows.items) }
+    ensures apart { OnOk result (AreApart table.old.rows.items → AreApart table.new.rows.items) }
     ensures begun { OnOk result (HaveBegun ground.now.most (root_of walker.old ground.now.setup.now) (paths_of found.now.paths.items) (length found.now.paths.items) table.new.rows.items) }
 {
     let count = found.paths.len();
@@ -259,8 +264,8 @@ fn tell_rest(
     Ok(())
 }
 
-/// The rows of all paths: first one for each history of those that end, in the order of the first path of each; then one for each
-/// history of the others that isn't the beginning of a row's, the last path first.
+/// The rows of all paths, in order: one for each history of those that end, with the first path of each, and one for each history of
+/// the others that isn't the beginning of a row's, with the last.
 pub(crate) fn tell(
     walker: &mut Machine,
     ground: &Ground<'_>,
@@ -269,6 +274,8 @@ pub(crate) fn tell(
     requires { IsSound ground.now.most ground.now.threads (root_of walker.old ground.now.setup.now) (paths_of found.now.paths.items) found.now.seen.items }
     ensures told { IfOk result (λ rows. All (IsTold ground.now.most ground.now.threads (root_of walker.old ground.now.setup.now)) rows.items) }
     ensures ends { IfOk result (λ rows. HaveEnds ground.now.most (root_of walker.old ground.now.setup.now) (paths_of found.now.paths.items) found.now.seen.items (length found.now.seen.items) rows.items) }
+    ensures apart { IfOk result (λ rows. AreApart rows.items) }
+    ensures order { IfOk result (λ rows. IsSorted row_order rows.items) }
     ensures begun { IfOk result (λ rows. HaveBegun ground.now.most (root_of walker.old ground.now.setup.now) (paths_of found.now.paths.items) (length found.now.paths.items) rows.items) }
 {
     let mut table = tell_ends(walker, ground, found)?;
@@ -278,5 +285,5 @@ pub(crate) fn tell(
         whole: _,
         begun: _,
     } = table;
-    Ok(rows)
+    Ok(in_order(rows))
 }

@@ -1,6 +1,6 @@
 -- What the rows tell of the file and the program of an image.
 use Rattle.std.proofs.Common.{◌≡◌, ℕ, List, [], ◌∷◌, ◌++◌, length, map, replicate, refl, sym, ap, ◌∙◌, subst, arith, append-nil, slice_get, zero, suc, true, false}
-use Rattle.std.specs.Prelude.{Contains}
+use Rattle.std.specs.Prelude.{Contains, IsSorted}
 use Rattle.std.proofs.Math.Logic.{∥∥₁_elim}
 use Rattle.std.proofs.Props.{props}
 use Rattle.ls_events.specs.declared.value.Value.{Value}
@@ -21,9 +21,9 @@ use Rattle.ls_explore_laws.specs.Ends.{HasSteps, IsOver}
 use Rattle.ls_explore_laws.specs.Explored.{HasHistories, IsSetUp}
 use Rattle.ls_explore_laws.specs.Stuck.{IsAllOf}
 use Rattle.ls_explore.specs.declared.rows.Ending.TheVariants as ending
-use Rattle.ls_explore.specs.Rows.{IsEnd, TellsAll, TellsEnds, TellsOver, TellsTruth, Told}
+use Rattle.ls_explore.specs.Rows.{AreApart, IsEnd, TellsAll, TellsEnds, TellsOver, TellsTruth, TellsWhole, Told, row_order}
 use Rattle.ls_explore_images.specs.Settings.{EndsAt}
-use Rattle.ls_explore_images.specs.Tellings.{TellAll, TellTruth}
+use Rattle.ls_explore_images.specs.Tellings.{TellAll, TellTruth, TellWhole}
 
 pub same_threads : (file : File) (program : Program) (code : Code) → ∥ Runs file program code ∥₁ → length code.starts ≡ length program.threads
 same_threads file program code runs = ∥∥₁_elim runs (hlevel props) (λ r. r.same.threads)
@@ -71,6 +71,12 @@ module _ (file : File) (program : Program) (code : Code) (cells : ℕ) (runs : �
       ended = λ schedule fits over. ends file program k good acts has_histories (has_steps file program code cells runs good) up count schedule fits over;
     }
 
+    pub tell_whole : TellsWhole code cells setup threads rows → TellWhole file program rows
+    tell_whole tells = record {
+      begun = λ schedule. (tells file program k good acts has_histories (has_steps file program code cells runs good) up count schedule).0;
+      ended = λ schedule over. (tells file program k good acts has_histories (has_steps file program code cells runs good) up count schedule).1 over;
+    }
+
 -- ---- the one row of a setup that is stuck
 
 one_there : {A : Type 0} (x y : A) → Contains (x ∷ []) y → x ≡ y
@@ -90,8 +96,21 @@ module _ (file : File) (program : Program) (k : ℕ) (all : IsAllOf file program
     over = λ r there is. subst (λ ts. IsOver file program (source_run file program ts)) (sym (of_row r there)) all.over;
   }
 
+  pub stuck_whole : TellWhole file program (row ∷ [])
+  stuck_whole = record {
+    begun = λ schedule. let b = all.begins schedule in record { row = row; there = is_there row; begins = (b.0, b.1 ∙ sym has) };
+    ended = λ schedule ends. record { row = row; there = is_there row; same = has ∙ sym (all.whole schedule ends); ends = subst IsEnd (sym over) tt };
+  }
+
   pub stuck_all : (cells : ℕ) → TellAll file program cells (row ∷ [])
   stuck_all cells = record {
-    begun = λ schedule fits. let b = all.begins schedule in record { row = row; there = is_there row; begins = (b.0, b.1 ∙ sym has) };
-    ended = λ schedule fits ends. record { row = row; there = is_there row; same = has ∙ sym (all.whole schedule ends); ends = subst IsEnd (sym over) tt };
+    begun = λ schedule fits. stuck_whole.begun schedule;
+    ended = λ schedule fits ends. stuck_whole.ended schedule ends;
   }
+
+-- one row alone is apart from the others, and in order
+pub one_apart : (rows : List Told) (row : Told) → rows ≡ row ∷ [] → AreApart rows
+one_apart rows row e = subst AreApart (sym e) (λ i j d less within. absurd (omega arith))
+
+pub one_in_order : (rows : List Told) (row : Told) → rows ≡ row ∷ [] → IsSorted row_order rows
+one_in_order rows row e = subst (IsSorted row_order) (sym e) (λ k d low within. absurd (omega arith))

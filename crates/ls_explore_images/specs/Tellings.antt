@@ -23,3 +23,8 @@ pub record TellAll (file : File) (program : Program) (cells : ℕ) (rows : List 
   pub begun : (schedule : List ℕ) → Fits file program cells schedule → IsToldBy rows (source_history file program schedule)
   pub ended : (schedule : List ℕ) → Fits file program cells schedule → IsOver file program (source_run file program schedule) →
       HasEnd rows (source_history file program schedule)
+
+-- The same of each schedule of source steps, whether it fits the cells or not.
+pub record TellWhole (file : File) (program : Program) (rows : List Told) : Type 0 where
+  pub begun : (schedule : List ℕ) → IsToldBy rows (source_history file program schedule)
+  pub ended : (schedule : List ℕ) → IsOver file program (source_run file program schedule) → HasEnd rows (source_history file program schedule)

@@ -1,14 +1,15 @@
 // All schedules of the program of an image.
 
-ghost use Rattle.std.specs.Prelude.{◌≡◌, ◌<◌, ◌≤◌, ◌⊎◌, ◌↔◌, ℕ, IfErr, IfOk, IsErrOf, IsTrue, length};
+ghost use Rattle.std.specs.Prelude.{◌≡◌, ◌<◌, ◌≤◌, ◌⊎◌, ◌↔◌, ℕ, IfErr, IfOk, IsErrOf, IsSorted, IsTrue, length};
 ghost use Rattle.ls_headline.specs.Same.{IsCells};
 ghost use Rattle.ls_image.specs.Images.{code_of_image};
 ghost use Rattle.ls_machine.specs.Room.{AreBadCells};
 ghost use Rattle.ls_translation.specs.Texts.{file_of, program_of};
 ghost use Rattle.ls_explore_laws.specs.Stuck.{IsStuck};
+ghost use Rattle.ls_explore.specs.Rows.{AreApart, row_order};
 ghost use Rattle.ls_explore_images.specs.Faults.{IsLate};
 ghost use Rattle.ls_explore_images.specs.Settings.{EndsAt, GoesOnAfter};
-ghost use Rattle.ls_explore_images.specs.Tellings.{TellAll, TellTruth};
+ghost use Rattle.ls_explore_images.specs.Tellings.{TellAll, TellTruth, TellWhole};
 
 use crate::fault::ExploreFault;
 use crate::setting::{Setting, set_up, setting_of, setup_steps};
@@ -23,13 +24,14 @@ use std::alloc::{AllocError, Global};
 /// The most states that are kept.
 pub const MOST_STATES: usize = 16_777_216;
 
-/// How many source steps the setup takes; histories with paths that lead to them, whether they are all, and how many states were
-/// kept.
+/// How many source steps the setup takes; histories with paths that lead to them, whether they are all, whether no schedule runs out
+/// of cells, and how many states were kept.
 #[derive(Drop)]
 pub struct ImageExploration {
     pub setup: usize,
     pub rows: Vec<Row>,
     pub complete: bool,
+    pub roomy: bool,
     pub states: usize,
 }
 
@@ -58,6 +60,9 @@ fn explore_stuck(alloc: Global, image: &Image, count: usize) -> Result<ImageExpl
     requires stuck { IsStuck (file_of image.now) (program_of image.now) count }
     ensures told { IfOk result (λ e. TellTruth (file_of image.now) (program_of image.now) e.setup e.rows.items) }
     ensures tells { (cells : ℕ) → IfOk result (λ e. IsTrue e.complete → TellAll (file_of image.now) (program_of image.now) cells e.rows.items) }
+    ensures whole { IfOk result (λ e. IsTrue e.complete → IsTrue e.roomy → TellWhole (file_of image.now) (program_of image.now) e.rows.items) }
+    ensures apart { IfOk result (λ e. AreApart e.rows.items) }
+    ensures order { IfOk result (λ e. IsSorted row_order e.rows.items) }
 {
     stuck_covers();
     let steps = setup_steps(alloc, count)?;
@@ -67,6 +72,7 @@ fn explore_stuck(alloc: Global, image: &Image, count: usize) -> Result<ImageExpl
         setup: count,
         rows: vec![in alloc; row]?,
         complete: true,
+        roomy: true,
         states: 1,
     })
 }
@@ -85,6 +91,9 @@ fn explore_rest(
     ensures late { IfErr result (IsLate (code_of_image image.now).names cells) }
     ensures told { IfOk result (λ e. TellTruth (file_of image.now) (program_of image.now) e.setup e.rows.items) }
     ensures tells { IfOk result (λ e. IsTrue e.complete → TellAll (file_of image.now) (program_of image.now) cells e.rows.items) }
+    ensures whole { IfOk result (λ e. IsTrue e.complete → IsTrue e.roomy → TellWhole (file_of image.now) (program_of image.now) e.rows.items) }
+    ensures apart { IfOk result (λ e. AreApart e.rows.items) }
+    ensures order { IfOk result (λ e. IsSorted row_order e.rows.items) }
 {
     acts_in_time(image);
     is_short(image);
@@ -93,22 +102,28 @@ fn explore_rest(
     let Exploration {
         rows,
         complete,
+        roomy,
         states,
     } = explore(alloc, image.code(), cells, &steps, threads, states)?;
     Ok(ImageExploration {
         setup: count,
         rows,
         complete,
+        roomy,
         states,
     })
 }
 
 /// Explores all schedules of the program of an image on so many cells, and keeps at most so many states.
 ///
-/// Each row's history is that of its schedule of source steps: those of the setup, and then one of each thread of the row's path. After the schedule of a row that is over no thread acts: each has ended, is trapped, or waits for ever.
+/// Each row's history is that of its schedule of source steps: those of the setup, and then one of each thread of the row's path.
+/// After the schedule of a row that is over no thread acts: each has ended, is trapped, or waits for ever.
 ///
 /// Where the rows are complete, the history of each schedule of source steps that fits the cells, of any length, is the beginning of
-/// a row's, and that of one after which no thread acts is that of a row that ends. A setup that is trapped has its one history.
+/// a row's, and that of one after which no thread acts is that of a row that ends. Where they are roomy too, this is so of each
+/// schedule, whether it fits or not. A setup that is trapped has its one history.
+///
+/// No history stands twice. The row of the shortest schedule comes first, and of those of one length the row of the least.
 ///
 /// Refused with 61 where no states may be kept, or more than 16,777,216; else with 35 as `replay` is; else with 62 where the setup has
 /// not ended in 100,000 source steps; else as the setup's translation to the machine is, with 43 or 44.
@@ -124,6 +139,9 @@ pub fn explore_image(
     ensures endless { IsErrOf result ExploreFault.SetupEndless → GoesOnAfter (file_of image.now) (program_of image.now) 100001 }
     ensures told { IfOk result (λ e. TellTruth (file_of image.now) (program_of image.now) e.setup e.rows.items) }
     ensures tells { IfOk result (λ e. IsTrue e.complete → TellAll (file_of image.now) (program_of image.now) cells e.rows.items) }
+    ensures whole { IfOk result (λ e. IsTrue e.complete → IsTrue e.roomy → TellWhole (file_of image.now) (program_of image.now) e.rows.items) }
+    ensures apart { IfOk result (λ e. AreApart e.rows.items) }
+    ensures order { IfOk result (λ e. IsSorted row_order e.rows.items) }
 {
     if states == 0 || states > MOST_STATES {
         return Err(ExploreFault::BadStates);

@@ -22,7 +22,7 @@ use Rattle.ls_headline.proofs.Runs.{trace-append}
 use Rattle.ls_ends.specs.Acting.{ActsInTime, ActsAs, StepsAs, acts_or_stops, first_did, has_room}
 use Rattle.ls_explore_laws.specs.Bursts.{burst, IsClosed}
 use Rattle.ls_explore_laws.specs.Explored.{HasHistories, IsSetUp}
-use Rattle.ls_explore_laws.specs.Ends.{AreQuiet, Ends, HasSteps, IsEnd, IsOver, IsQuiet, IsStill, StandsStill, StandsStillAlong}
+use Rattle.ls_explore_laws.specs.Ends.{AreQuiet, Ends, EndsWhole, HasSteps, IsEnd, IsOver, IsQuiet, IsStill, StandsStill, StandsStillAlong}
 use Rattle.ls_explore_laws.proofs.SourceSteps.{Like, idle_still, waits_still}
 use Rattle.ls_explore_laws.proofs.SourceSteps as source_steps
 use Rattle.ls_explore_laws.proofs.Along.{IsAlong, along_is, ready_along, whole_run, whole_source}
@@ -141,3 +141,8 @@ pub ends_all : Ends
 ends_all file program code cells k root machines within acts histories has_steps up has_root closed ts fits over =
     ended file program code cells k root machines within acts histories has_steps up has_root closed ts over
     (SettingUp.place_of file program code cells within acts machines closed k root up has_root ts fits)
+
+pub ends_whole : EndsWhole
+ends_whole file program code cells k root machines within acts histories has_steps up has_root closed room ts over =
+    ended file program code cells k root machines within acts histories has_steps up has_root closed ts over
+    (SettingUp.place_roomy file program code cells within acts machines closed k root up has_root room ts)

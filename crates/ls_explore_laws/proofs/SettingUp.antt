@@ -19,7 +19,7 @@ use Rattle.ls_headline.specs.Translations.{most_silent, has_setup_ended}
 use Rattle.ls_headline.proofs.Shorter.{shorter}
 use Rattle.ls_ends.specs.Acting.{ActsInTime}
 use Rattle.ls_explore_laws.specs.Bursts.{IsClosed}
-use Rattle.ls_explore_laws.specs.Explored.{HasHistories, IsBeginning, IsSetUp, IsShown}
+use Rattle.ls_explore_laws.specs.Explored.{HasHistories, IsBeginning, IsRoomy, IsSetUp, IsShown}
 use Rattle.ls_explore_laws.proofs.SourceSteps.{Like, like_itself, like_more, like_still, idle_still}
 use Rattle.ls_explore_laws.proofs.SourceSteps as source_steps
 use Rattle.ls_explore_laws.proofs.Open.{IsReady}
@@ -82,23 +82,35 @@ module _ (file : File) (program : Program) (code : Code) (cells : ℕ) (within :
           let e : suc j ≡ k = omega arith in
           Past (at_root ts (subst (λ n. Like file program ts (replicate n 0)) e like))
 
-  place_more : (ts : List ℕ) (t : ℕ) → Place ts → Fits file program cells (ts ++ t ∷ []) → Place (ts ++ t ∷ [])
-  place_more ts t (Past r) fits = Past (Following.reaches_more file program code cells within acts machines closed ts t r fits)
-  place_more ts zero (Setting j lt like) fits =
+  place_more : (ts : List ℕ) (t : ℕ) → ((r : Reaches ts) → Following.GoesAlong file program code cells within acts machines closed ts t r) → Place ts → Place (ts ++ t ∷ [])
+  place_more ts t goes (Past r) = Past (Following.reaches_more file program code cells within acts machines closed ts t r (goes r))
+  place_more ts zero goes (Setting j lt like) =
       set_more j lt (ts ++ 0 ∷ []) (subst (Like file program (ts ++ 0 ∷ [])) (one_more j) (like_more file program ts (replicate j 0) 0 like))
-  place_more ts (suc t) (Setting j lt like) fits =
+  place_more ts (suc t) goes (Setting j lt like) =
       let early : has_setup_ended file program (source_run file program ts) ≡ false = ap (has_setup_ended file program) like.states ∙ up.before j lt in
       Setting j lt (like_still file program ts (replicate j 0) (suc t) (idle_still file program (source_run file program ts) (suc t) (not_started file program (source_run file program ts) t early)) like)
 
-  pub place_all : (us ts : List ℕ) → Place ts → Fits file program cells (ts ++ us) → Place (ts ++ us)
-  place_all [] ts p fits = subst Place (sym (append-nil ts)) p
-  place_all (u ∷ us) ts p fits =
-      let e : (ts ++ u ∷ []) ++ us ≡ ts ++ u ∷ us = append_assoc ts (u ∷ []) us in
-      let fits' : Fits file program cells ((ts ++ u ∷ []) ++ us) = subst (Fits file program cells) (sym e) fits in
-      subst Place e (place_all us (ts ++ u ∷ []) (place_more ts u p (shorter file program cells (ts ++ u ∷ []) us fits')) fits')
+  -- each schedule of a kind, where each beginning of one is one, and the machine goes along with it
+  module _ (Allowed : List ℕ → Type 0) (less : (ts us : List ℕ) → Allowed (ts ++ us) → Allowed ts) (goes : (ts : List ℕ) (t : ℕ) → Allowed (ts ++ t ∷ []) → (r : Reaches ts) → Following.GoesAlong file program code cells within acts machines closed ts t r) where
+    place_all : (us ts : List ℕ) → Place ts → Allowed (ts ++ us) → Place (ts ++ us)
+    place_all [] ts p allowed = subst Place (sym (append-nil ts)) p
+    place_all (u ∷ us) ts p allowed =
+        let e : (ts ++ u ∷ []) ++ us ≡ ts ++ u ∷ us = append_assoc ts (u ∷ []) us in
+        let allowed' : Allowed ((ts ++ u ∷ []) ++ us) = subst Allowed (sym e) allowed in
+        subst Place e (place_all us (ts ++ u ∷ []) (place_more ts u (goes ts u (less (ts ++ u ∷ []) us allowed')) p) allowed')
+
+    place_allowed : (ts : List ℕ) → Allowed ts → Place ts
+    place_allowed ts allowed = place_all ts [] begun allowed
 
   pub place_of : (ts : List ℕ) → Fits file program cells ts → Place ts
-  place_of ts fits = place_all ts [] begun fits
+  place_of =
+      place_allowed (Fits file program cells) (shorter file program cells)
+      (λ ts t fits r. Following.goes_fitting file program code cells within acts machines closed ts t r fits)
+
+  pub place_roomy : IsRoomy (most_silent code + 1) (length program.threads) machines → (ts : List ℕ) → Place ts
+  place_roomy room ts =
+      place_allowed (λ us. Unit {0}) (λ us vs h. tt)
+      (λ us t h r. Following.goes_roomy file program code cells within acts machines closed us t r room) ts tt
 
   pub shown : HasHistories file program code cells → (ts : List ℕ) → Place ts → IsShown file program machines ts
   shown histories ts (Past r) = record {

@@ -15,7 +15,7 @@ use Rattle.ls_headline.specs.Same.{Fits, IsCells}
 use Rattle.ls_headline.specs.Translations.{to_source, most_silent}
 use Rattle.ls_ends.specs.Acting.{ActsInTime, first_did}
 use Rattle.ls_explore_laws.specs.Bursts.{ActsAlong, IsClosed, burst}
-use Rattle.ls_explore_laws.specs.Explored.{HasHistories, IsSetUp}
+use Rattle.ls_explore_laws.specs.Explored.{HasHistories, IsRoomy, IsSetUp}
 
 abbrev pub IsStill : Did → Type 0
 IsStill (did.Acted action answer) = ⊥
@@ -46,6 +46,15 @@ Ends =
     HasHistories file program code cells → HasSteps file program code cells → IsSetUp file program code cells k root → Contains machines root →
     IsClosed (most_silent code + 1) (length program.threads) machines → (schedule : List ℕ) → Fits file program cells schedule →
     IsOver file program (source_run file program schedule) → IsEnd (most_silent code + 1) (length program.threads) file program machines schedule
+
+-- Where none of the machines would stop, so it is of each schedule after which no thread of the source acts.
+abbrev pub EndsWhole : Type 0
+EndsWhole =
+    (file : File) (program : Program) (code : Code) (cells k : ℕ) (root : Machine) (machines : List Machine) → IsCells code cells → ActsInTime file program code →
+    HasHistories file program code cells → HasSteps file program code cells → IsSetUp file program code cells k root → Contains machines root →
+    IsClosed (most_silent code + 1) (length program.threads) machines → IsRoomy (most_silent code + 1) (length program.threads) machines →
+    (schedule : List ℕ) → IsOver file program (source_run file program schedule) →
+    IsEnd (most_silent code + 1) (length program.threads) file program machines schedule
 
 abbrev pub IsQuiet : MachineDid → Type 0
 IsQuiet (machine_did.Acted action answer) = ⊥

@@ -1,8 +1,8 @@
 // The laws, each as the contract of a function that computes nothing.
 
 ghost use Rattle.ls_explore_laws.specs.Bursts.{NeverActs};
-ghost use Rattle.ls_explore_laws.specs.Explored.{Covers, LeadsAsSource};
-ghost use Rattle.ls_explore_laws.specs.Ends.{Ends, StandsStill, StandsStillAlong};
+ghost use Rattle.ls_explore_laws.specs.Explored.{Covers, CoversWhole, LeadsAsSource};
+ghost use Rattle.ls_explore_laws.specs.Ends.{Ends, EndsWhole, StandsStill, StandsStillAlong};
 ghost use Rattle.ls_explore_laws.specs.Stuck.{StuckCovers};
 
 /// A list of machines that has the one whose setup has ended, and is closed under what each thread does until it acts, shows the
@@ -11,10 +11,20 @@ pub fn covers()
     ensures { Covers }
 {}
 
+/// Where no thread of these machines would stop it for want of cells, it shows the history of each schedule whatever.
+pub fn covers_whole()
+    ensures { CoversWhole }
+{}
+
 /// Such a list has, for each schedule that fits and after which no thread of the source acts, a machine of the same history in which no
 /// thread acts.
 pub fn ends()
     ensures { Ends }
+{}
+
+/// Where no thread of these machines would stop it, so it is of each schedule after which no thread of the source acts.
+pub fn ends_whole()
+    ensures { EndsWhole }
 {}
 
 /// Where each thread of a machine that hasn't stopped stands still, no thread of the source acts.

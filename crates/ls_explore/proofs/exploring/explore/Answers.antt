@@ -1,5 +1,5 @@
-use Rattle.std.proofs.Common.{◌≡◌, ◌≤◌, ◌∙◌, ℕ, List, length, sym, ap, subst, arith, Vec, Global}
-use Rattle.std.specs.Prelude.{Contains}
+use Rattle.std.proofs.Common.{◌≡◌, ◌≤◌, ◌∙◌, false, ℕ, List, length, sym, ap, subst, arith, Vec, Global}
+use Rattle.std.specs.Prelude.{All, Contains}
 use Rattle.std.proofs.lemmas.List.{length-map}
 use Rattle.ls_code.specs.Machine.{Machine}
 use Rattle.ls_explore_laws.specs.Bursts.{IsClosed}
@@ -8,7 +8,7 @@ use Rattle.ls_explore.specs.Searches.{IsSound, paths_of}
 use Rattle.ls_explore.specs.Walks.{led_to, root_of}
 use Rattle.ls_explore.proofs.Closing.{first_there}
 use Rattle.ls_explore.proofs.Loops.{root_same}
-use Rattle.ls_explore.proofs.Telling.{tells_all, tells_ends, tells_over, tells_truth}
+use Rattle.ls_explore.proofs.Telling.{tells_all, tells_ends, tells_over, tells_truth, tells_whole}
 use Rattle.ls_explore.proofs.Walks.{walked_none}
 use Rattle.ls_explore.proofs.exploring.explore.Goals as goal
 
@@ -61,3 +61,18 @@ returns-clause-ends c = λ yes.
     let closed = closed_there c.in_ok-walker.walker c.search.new.walker setup c.search.ensures.code c.search.ensures.cells n c.args.threads paths (c.in_ok-found.ensures.closed yes) in
     let first : Contains (led_to n root paths) root = first_there n c.args.threads root paths sound.first (walked_none n root) in
     tells_ends c.args.code.now c.args.cells setup c.args.threads n root c.in_ok-rows.rows.items c.most_steps.ensures er paths first closed seen (c.in_ok-found.ensures.count yes) sound c.in_ok-rows.ensures.ends
+
+pub returns-clause-whole : goal.returns-clause-whole
+returns-clause-whole c = λ yes room.
+    let setup : List ℕ = c.args.setup.now in
+    let n : ℕ = c.most_steps.result in
+    let root : Machine = root_of c.search.new.walker setup in
+    let paths : List (List ℕ) = paths_of c.in_ok-found.found.paths.items in
+    let seen = c.in_ok-found.found.seen.items in
+    let er = root_same c.in_ok-walker.walker c.search.new.walker setup c.search.ensures.code c.search.ensures.cells ∙ ap (λ (m : Machine). root_of m setup) c.in_ok-walker.ensures.loaded in
+    let sound = sound_there c.in_ok-walker.walker c.search.new.walker setup c.search.ensures.code c.search.ensures.cells n c.args.threads paths seen c.in_ok-found.ensures.sound in
+    let closed = closed_there c.in_ok-walker.walker c.search.new.walker setup c.search.ensures.code c.search.ensures.cells n c.args.threads paths (c.in_ok-found.ensures.closed yes) in
+    let first : Contains (led_to n root paths) root = first_there n c.args.threads root paths sound.first (walked_none n root) in
+    let past : length paths ≤ length c.in_ok-found.found.paths.items = omega (arith, length-map c.in_ok-found.found.paths.items (λ (w : Vec ℕ Global). w.items)) in
+    tells_whole c.args.code.now c.args.cells setup c.args.threads n root c.in_ok-rows.rows.items c.most_steps.ensures er paths first closed seen (c.in_ok-found.ensures.count yes) sound
+    (subst (λ s. All (λ (x : Seen). x.stops ≡ false) s) c.as_slice.ensures.value (c.are_roomy.ensures room)) c.in_ok-rows.ensures.ends (length c.in_ok-found.found.paths.items) past c.in_ok-rows.ensures.begun

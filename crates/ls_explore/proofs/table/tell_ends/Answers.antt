@@ -6,6 +6,7 @@ use Rattle.ls_explore.specs.Rows.{HasRow, IsTold}
 use Rattle.ls_explore.specs.Searches.{IsSound, paths_of}
 use Rattle.ls_explore.specs.Walks.{root_of, walked}
 use Rattle.ls_explore.proofs.Loops.{root_same}
+use Rattle.ls_explore.proofs.Order.{apart_none}
 use Rattle.ls_explore.proofs.Telling.{ends_more, no_ends, no_rows_end, no_rows_told}
 use Rattle.ls_explore.proofs.table.tell_ends.Goals as goal
 
@@ -17,6 +18,7 @@ loop-at-init c =
       no_ends c.args.ground.now.most root (paths_of c.args.found.now.paths.items) c.args.found.now.seen.items c.new-table.result.rows.items,
       refl,
       refl,
+      apart_none c.new-table.result.rows.items c.new-table.ensures,
     )
 
 pub tell_end-requires-clause-at : goal.tell_end-requires-clause-at
@@ -41,4 +43,5 @@ loop-at-preserved c =
           (λ path s there here stands. subst (λ r. HasRow new (walked most r path).history) same (c.in_ok-tell_end.ensures.has path s there here stands)) c.loop-at.invariant.2,
       c.tell_end.ensures.code ∙ c.loop-at.invariant.3,
       c.tell_end.ensures.cells ∙ c.loop-at.invariant.4,
+      c.in_ok-tell_end.ensures.apart c.loop-at.invariant.5,
     )

@@ -17,6 +17,7 @@ loop-back-init c =
       begun_none c.args.ground.now.most root (paths_of c.args.found.now.paths.items) c.args.table.now.rows.items,
       refl,
       refl,
+      (λ h. h),
     )
 
 pub tell_one-requires-clause-sound : goal.tell_one-requires-clause-sound
@@ -38,4 +39,5 @@ loop-back-preserved c =
           (λ path there. subst (λ r. IsToldBy new (walked most r path).history) same (c.in_ok-tell_one.ensures.begun path there)) c.loop-back.invariant.2,
       c.tell_one.ensures.code ∙ c.loop-back.invariant.3,
       c.tell_one.ensures.cells ∙ c.loop-back.invariant.4,
+      (λ h. c.in_ok-tell_one.ensures.apart (c.loop-back.invariant.5 h)),
     )

@@ -2,9 +2,9 @@ use Rattle.std.proofs.Common.{ℕ, List, subst}
 use Rattle.ls_checked.specs.CheckedTree.{File}
 use Rattle.ls_checked.specs.CheckedProgram.{Program}
 use Rattle.ls_code.specs.Code.{Code}
-use Rattle.ls_explore.specs.Rows.{TellsAll, TellsEnds, TellsOver, TellsTruth}
+use Rattle.ls_explore.specs.Rows.{TellsAll, TellsEnds, TellsOver, TellsTruth, TellsWhole}
 use Rattle.ls_translation.specs.Texts.{file_of, program_of}
-use Rattle.ls_explore_images.proofs.Tellings.{tell_all, tell_truth}
+use Rattle.ls_explore_images.proofs.Tellings.{tell_all, tell_truth, tell_whole}
 use Rattle.ls_explore_images.proofs.exploring.explore_rest.Goals as goal
 
 pub returns-clause-told : goal.returns-clause-told
@@ -30,3 +30,14 @@ returns-clause-tells c = λ yes.
     tell_all file program code c.args.cells c.args.image.now.kept c.requires.cells setup c.args.count threads rows c.acts_in_time.ensures c.in_ok-steps.ensures.steps c.count_threads-threads.ensures
     (subst (λ (p : Code). TellsAll p c.args.cells setup threads rows) c.code.ensures (c.in_ok-rows.ensures.tells yes))
     (subst (λ (p : Code). TellsEnds p c.args.cells setup threads rows) c.code.ensures (c.in_ok-rows.ensures.ends yes))
+
+pub returns-clause-whole : goal.returns-clause-whole
+returns-clause-whole c = λ yes room.
+    let file : File = file_of c.args.image.now in
+    let program : Program = program_of c.args.image.now in
+    let code : Code = c.args.image.now.code in
+    let setup : List ℕ = c.in_ok-steps.steps in
+    let threads : ℕ = c.count_threads-threads.result in
+    let rows = c.in_ok-rows.field-0.rows.items in
+    tell_whole file program code c.args.cells c.args.image.now.kept c.requires.cells setup c.args.count threads rows c.acts_in_time.ensures c.in_ok-steps.ensures.steps c.count_threads-threads.ensures
+    (subst (λ (p : Code). TellsWhole p c.args.cells setup threads rows) c.code.ensures (c.in_ok-rows.ensures.whole yes room))

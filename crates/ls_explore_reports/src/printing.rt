@@ -1,0 +1,298 @@
+// The text of an exploration.
+
+ghost use Rattle.std.specs.Prelude.{◌≡◌, ◌⊎◌, ◌++◌, ◌∷◌, [], IfErr, IfOk, OnOk, map, string_bytes};
+ghost use Rattle.ls_checked.specs.Plain.{plain_file};
+ghost use Rattle.ls_checked.specs.PlainProgram.{plain_program};
+ghost use Rattle.ls_meaning.specs.Runs.{source_run};
+ghost use Rattle.ls_schedule.specs.Reading.{thread_name, thread_names};
+ghost use Rattle.ls_source.specs.Shown.{progress_of};
+ghost use Rattle.ls_explore_reports.specs.Printing.{asking, asks_in, counts_text, end_text, ending_text, explored_text, if_asks, illegal_text, is_shown, last_text, over_text, row_text, rows_text, shown, verdict_part};
+ghost use Rattle.ls_explore_images.specs.Tellings.{schedule_of};
+ghost use Rattle.ls_translation.specs.declared.fault.TranslationFault.TheVariants.{Memory, ResultTooLong};
+
+use crate::judging::{JudgedRow, are_decided, count_illegal, is_illegal};
+use ls_checked::program::{Program, ThreadProgram};
+use ls_checked::tree::File;
+use ls_events::schedule::{MOST_STEPS, Schedule};
+use ls_explore::{Ending, Row};
+use ls_explore_images::ImageExploration;
+use ls_meaning::step::Asked;
+use ls_report::print_history;
+use ls_schedule::print_schedule;
+use ls_source::run::SourceRun;
+use ls_translation::fault::TranslationFault;
+use ls_verdicts::Verdict;
+use std::alloc::{AllocError, Global};
+use std::fmt::Write;
+
+/// What is explored, and what of it is printed.
+#[derive(Copy)]
+pub struct Exploring {
+    /// How many cells the machine has.
+    pub cells: usize,
+    /// How many states are kept at the most.
+    pub states: usize,
+    /// Whether the rows without a legal order are printed alone.
+    pub illegal: bool,
+    /// Whether the first of the rows is printed alone.
+    pub first: bool,
+}
+
+impl Clone for Exploring {
+    fn clone(&self) -> Result<Exploring, AllocError> {
+        Ok(*self)
+    }
+}
+
+/// A file and its program.
+#[derive(Drop)]
+pub struct Texts<'a> {
+    pub file: &'a File,
+    pub program: &'a Program,
+}
+
+/// Adds a step.
+fn push_step(schedule: &mut Schedule, thread: usize) -> Result<(), TranslationFault>
+    ensures steps { OnOk result (schedule.new ≡ schedule.old ++ thread ∷ []) }
+    ensures only { IfErr result (λ e. (e ≡ Memory) ⊎ (e ≡ ResultTooLong)) }
+{
+    if schedule.len() >= MOST_STEPS {
+        return Err(TranslationFault::ResultTooLong);
+    }
+    schedule.push(thread)?;
+    Ok(())
+}
+
+/// The schedule of a row: so many steps of the setup, and then one of each thread of its path.
+fn schedule_of(alloc: Global, setup: usize, row: &Row) -> Result<Schedule, TranslationFault>
+    ensures steps { IfOk result (λ s. s ≡ schedule_of setup row.now) }
+    ensures only { IfErr result (λ e. (e ≡ Memory) ⊎ (e ≡ ResultTooLong)) }
+{
+    let mut schedule = Schedule::new(alloc);
+    for _ in 0..setup {
+        push_step(&mut schedule, 0)?;
+    }
+    for thread in row.path() {
+        push_step(&mut schedule, *thread as usize)?;
+    }
+    Ok(schedule)
+}
+
+/// Whether a thread asks for an action.
+fn asks(alloc: Global, run: &SourceRun<'_>, thread: usize) -> Result<bool, AllocError>
+    ensures { IfOk result (λ b. b ≡ asks_in (progress_of run.now).file (progress_of run.now).program (progress_of run.now).state thread) }
+{
+    match run.next(alloc, thread)? {
+        Asked::Asks(_) => Ok(true),
+        Asked::Ended | Asked::NotStarted => Ok(false),
+    }
+}
+
+/// The name of a thread that asks, after a space.
+fn push_if(out: &mut String, asks: bool, name: &str) -> Result<(), AllocError>
+    ensures { OnOk result (string_bytes out.new ≡ string_bytes out.old ++ if_asks asks name.now) }
+{
+    if asks {
+        out.push_str(" ")?;
+        out.push_str(name)?;
+    }
+    Ok(())
+}
+
+/// A run after these steps.
+fn run_after<'a>(
+    alloc: Global,
+    texts: &Texts<'a>,
+    steps: &[usize],
+) -> Result<SourceRun<'a>, AllocError>
+    ensures file { IfOk result (λ r. (progress_of r).file ≡ plain_file texts.now.file.now) }
+    ensures program { IfOk result (λ r. (progress_of r).program ≡ plain_program texts.now.program.now) }
+    ensures state { IfOk result (λ r. (progress_of r).state ≡ source_run (plain_file texts.now.file.now) (plain_program texts.now.program.now) steps.now) }
+{
+    let mut run = SourceRun::new(alloc, texts.file, texts.program)?;
+    for thread in steps {
+        let _did = run.step(alloc, *thread)?;
+    }
+    Ok(run)
+}
+
+/// The names of the threads that ask for an action, each after a space.
+fn names_asking(
+    alloc: Global,
+    run: &SourceRun<'_>,
+    threads: &[ThreadProgram],
+) -> Result<String, AllocError>
+    ensures { IfOk result (λ names. string_bytes names ≡ asking (progress_of run.now).file (progress_of run.now).program (progress_of run.now).state 0 (map thread_name threads.now)) }
+{
+    let mut out = String::new(alloc);
+    for number in 0..threads.len() {
+        let asks = asks(alloc, run, number)?;
+        push_if(&mut out, asks, threads[number].name.as_str())?;
+    }
+    Ok(out)
+}
+
+/// The names of the threads that ask for an action after a schedule, each after a space.
+fn asking_after(alloc: Global, texts: &Texts<'_>, schedule: &Schedule) -> Result<String, AllocError>
+    ensures { IfOk result (λ names. string_bytes names ≡ asking (plain_file texts.now.file.now) (plain_program texts.now.program.now) (source_run (plain_file texts.now.file.now) (plain_program texts.now.program.now) schedule.now) 0 (thread_names texts.now.program.now)) }
+{
+    let run = run_after(alloc, texts, schedule.steps())?;
+    names_asking(alloc, &run, texts.program.threads.as_slice())
+}
+
+/// That all threads have ended or are trapped, or which of them wait.
+fn push_over(out: &mut String, waiting: &str) -> Result<(), AllocError>
+    ensures { OnOk result (string_bytes out.new ≡ string_bytes out.old ++ over_text waiting.now) }
+{
+    if waiting.is_empty() {
+        return out.push_str("ended");
+    }
+    out.push_str("waits")?;
+    out.push_str(waiting)
+}
+
+/// How a row ends.
+fn push_ending(out: &mut String, ending: Ending, waiting: &str) -> Result<(), AllocError>
+    ensures { OnOk result (string_bytes out.new ≡ string_bytes out.old ++ ending_text ending waiting.now) }
+{
+    match ending {
+        Ending::Over => push_over(out, waiting),
+        Ending::OutOfCells => out.push_str("out of cells"),
+        Ending::GoesOn => out.push_str("goes on"),
+        Ending::NotSeen => out.push_str("not seen"),
+    }
+}
+
+/// The verdict, where there is one on set calls.
+fn verdict_part(verdict: Verdict) -> &'static str
+    ensures { result.now ≡ verdict_part verdict }
+{
+    match verdict {
+        Verdict::Legal => ", legal",
+        Verdict::Illegal => ", illegal",
+        Verdict::TooManyTrapped => ", not judged",
+        Verdict::NotOneSet => "",
+    }
+}
+
+/// A row: how it ends and the verdict, its schedule, its history's lines, an empty line.
+fn push_row(
+    alloc: Global,
+    out: &mut String,
+    texts: &Texts<'_>,
+    setup: usize,
+    judged: &JudgedRow<'_>,
+) -> Result<(), TranslationFault>
+    ensures text { OnOk result (string_bytes out.new ≡ string_bytes out.old ++ row_text (plain_file texts.now.file.now) (plain_program texts.now.program.now) (thread_names texts.now.program.now) setup judged.now) }
+    ensures only { IfErr result (λ e. (e ≡ Memory) ⊎ (e ≡ ResultTooLong)) }
+{
+    let row = judged.row();
+    let schedule = schedule_of(alloc, setup, row)?;
+    let waiting = asking_after(alloc, texts, &schedule)?;
+    let steps = print_schedule(alloc, &schedule, texts.program)?;
+    let history = print_history(alloc, row.history(), texts.program)?;
+    push_ending(out, row.ending(), waiting.as_str())?;
+    out.push_str(verdict_part(judged.verdict()))?;
+    out.push_str("\n")?;
+    out.push_str(steps.as_str())?;
+    out.push_str(history.as_str())?;
+    out.push_str("\n")?;
+    Ok(())
+}
+
+/// Whether a row is printed.
+fn is_shown(illegal: bool, verdict: Verdict) -> bool
+    ensures { result ≡ is_shown illegal verdict }
+{
+    if illegal { is_illegal(verdict) } else { true }
+}
+
+/// The rows that are printed, one after another.
+fn push_rows(
+    alloc: Global,
+    out: &mut String,
+    texts: &Texts<'_>,
+    setup: usize,
+    judged: &[JudgedRow<'_>],
+    exploring: Exploring,
+) -> Result<(), TranslationFault>
+    ensures text { OnOk result (string_bytes out.new ≡ string_bytes out.old ++ rows_text (plain_file texts.now.file.now) (plain_program texts.now.program.now) (thread_names texts.now.program.now) setup (shown exploring judged.now)) }
+    ensures only { IfErr result (λ e. (e ≡ Memory) ⊎ (e ≡ ResultTooLong)) }
+{
+    for one in judged {
+        if !is_shown(exploring.illegal, one.verdict()) {
+            continue;
+        }
+        push_row(alloc, out, texts, setup, one)?;
+        if exploring.first {
+            return Ok(());
+        }
+    }
+    Ok(())
+}
+
+/// How many states were kept, and how many histories there are.
+fn push_counts(out: &mut String, states: usize, histories: usize) -> Result<(), AllocError>
+    ensures { OnOk result (string_bytes out.new ≡ string_bytes out.old ++ counts_text states histories) }
+{
+    write!(out, "states {states} histories {histories}")?;
+    Ok(())
+}
+
+/// How many histories have no legal order, where each verdict says if there is one.
+fn push_illegal(out: &mut String, decided: bool, illegal: usize) -> Result<(), AllocError>
+    ensures { OnOk result (string_bytes out.new ≡ string_bytes out.old ++ illegal_text decided illegal) }
+{
+    if decided {
+        write!(out, " illegal {illegal}")?;
+    }
+    Ok(())
+}
+
+/// Whether the histories are complete, and whether a schedule runs out of cells.
+fn end_words(complete: bool, roomy: bool) -> &'static str
+    ensures { result.now ≡ end_text complete roomy }
+{
+    if !complete {
+        return " cut\n";
+    }
+    if roomy {
+        return " complete\n";
+    }
+    " complete in these cells\n"
+}
+
+/// The last line: how many states were kept, how many histories there are, how many of them have no legal order, and whether they are
+/// complete.
+fn push_last(
+    out: &mut String,
+    states: usize,
+    judged: &[JudgedRow<'_>],
+    complete: bool,
+    roomy: bool,
+) -> Result<(), AllocError>
+    ensures { OnOk result (string_bytes out.new ≡ string_bytes out.old ++ last_text states judged.now complete roomy) }
+{
+    push_counts(out, states, judged.len())?;
+    push_illegal(out, are_decided(judged), count_illegal(judged))?;
+    out.push_str(end_words(complete, roomy))
+}
+
+/// The text of an exploration, each of whose rows has its verdict.
+///
+/// Refused where memory runs out, and where a row's schedule has over 1,000,000 steps.
+pub fn print_exploration(
+    alloc: Global,
+    texts: &Texts<'_>,
+    found: &ImageExploration,
+    judged: &[JudgedRow<'_>],
+    exploring: Exploring,
+) -> Result<String, TranslationFault>
+    ensures text { IfOk result (λ text. string_bytes text ≡ explored_text (plain_file texts.now.file.now) (plain_program texts.now.program.now) (thread_names texts.now.program.now) found.now.setup judged.now found.now.states found.now.complete found.now.roomy exploring) }
+    ensures only { IfErr result (λ e. (e ≡ Memory) ⊎ (e ≡ ResultTooLong)) }
+{
+    let mut out = String::new(alloc);
+    push_rows(alloc, &mut out, texts, found.setup, judged, exploring)?;
+    push_last(&mut out, found.states, judged, found.complete, found.roomy)?;
+    Ok(out)
+}

@@ -1,0 +1,12 @@
+// The laws, each as the contract of a function that computes nothing.
+
+ghost use Rattle.ls_explore_verdicts.specs.Verdicts.{EachIsLegal, EachThatFitsIsLegal};
+
+/// Where an exploration is complete and each of its rows has a legal order, the history of each schedule of the program that fits the
+/// cells, of any length, has one. Where no schedule runs out of cells, the history of each schedule whatever has one.
+///
+/// A history is read with the names that the program gives its calls, as it is printed.
+pub fn every_schedule_is_legal()
+    ensures fitting { EachThatFitsIsLegal }
+    ensures whole { EachIsLegal }
+{}

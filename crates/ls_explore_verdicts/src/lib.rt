@@ -1,0 +1,4 @@
+//! What an exploration tells of the legal orders of all schedules' histories.
+#![tactic(auto)]
+
+pub mod laws;
