@@ -1,5 +1,5 @@
 -- What is said behind the line of a fault.
-use Rattle.std.specs.Prelude.{ℕ, ◌+◌, ◌-◌, ◌==◌, ◌&&◌, max, Bool, true, false, List, [], ◌∷◌, ◌++◌, length, take, Option, Some, None, replicate, slice_get, codes, if◌then◌else◌}
+use Rattle.std.specs.Prelude.{ℕ, nat_lt, ◌+◌, ◌-◌, ◌==◌, ◌&&◌, max, Bool, true, false, List, [], ◌∷◌, ◌++◌, length, take, Option, Some, None, replicate, slice_get, codes, if◌then◌else◌}
 use Rattle.std.specs.Fmt.{decimal}
 use Rattle.std.specs.List.{flat_map, list_any}
 use Rattle.std.specs.Option.{option_map_or}
@@ -20,13 +20,13 @@ part_name parts.Schedule = codes "schedule"
 part_name parts.History = codes "history"
 part_name parts.Order = codes "order"
 
--- which part of an input it is, from 0
-abbrev pub part_number : Part → ℕ
-part_number parts.Classes = 0
-part_number parts.Program = 1
-part_number parts.Schedule = 2
-part_number parts.History = 0
-part_number parts.Order = 1
+-- which part of an input of so many it is, from 0: an order is the last
+abbrev pub part_number : Part → ℕ → ℕ
+part_number parts.Classes count = 0
+part_number parts.Program count = 1
+part_number parts.Schedule count = 2
+part_number parts.History count = 0
+part_number parts.Order count = count - 1
 
 -- a space below each character, a tab below a tab
 abbrev pub space_below : ℕ → Bytes
@@ -50,12 +50,16 @@ shown text span =
 abbrev pub explanation : Place → Bytes → Bytes
 explanation place text = heading place.part text place.span.start ++ shown text place.span
 
-abbrev pub in_part : List Bytes → Place → Bytes
-in_part texts place = option_map_or (explanation place) (slice_get texts (part_number place.part)) []
-
 -- a part, empty where there is none
 abbrev pub part_text : List Bytes → ℕ → Bytes
 part_text texts number = option_map_or (λ t. t) (slice_get texts number) []
+
+-- nothing where there is no such part
+abbrev pub in_part : List Bytes → Place → Bytes
+in_part texts place =
+    if nat_lt (part_number place.part (length texts)) (length texts)
+    then explanation place (part_text texts (part_number place.part (length texts)))
+    else []
 
 -- a carriage return is a part of its line in histories and where parts are cut, and a gap or white space elsewhere
 abbrev pub minds_returns : ToolFault → Bool

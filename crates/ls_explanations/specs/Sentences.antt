@@ -62,7 +62,7 @@ program_sentence (program.ReferenceResult at) =
 abbrev pub schedule_sentence : ScheduleFault → Bytes
 schedule_sentence schedule.Memory = []
 schedule_sentence schedule.TooManySteps = []
-schedule_sentence (schedule.BadItem at) = codes "an item is a name, or a name with * and a count from 1 on, as A*5\n"
+schedule_sentence (schedule.BadItem at) = codes "an item is a name, or a name with * and a count from 1 on, as A*5; after @2 also a group, as (A*2 B)*3\n"
 schedule_sentence (schedule.UnknownThread at) =
     codes "no thread of the program is named so. Items name its threads, setup, or all\n"
 

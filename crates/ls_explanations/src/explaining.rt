@@ -86,6 +86,24 @@ fn push_explanation(
     push_shown(out, text, place.span)
 }
 
+/// How many parts there are.
+fn count_of(texts: &[String]) -> usize
+    ensures { result ≡ length (map string_bytes texts.now) }
+{
+    texts.len()
+}
+
+/// A part, empty where there is none.
+fn part_text(texts: &[String], number: usize) -> &[u8]
+    ensures { result.now ≡ part_text (map string_bytes texts.now) number }
+{
+    match texts.get(number) {
+        Some(text) => text.as_bytes(),
+        None => b"".as_slice(),
+    }
+}
+
+/// What is said of a place in its part, if there is such a part.
 fn push_in_part(
     alloc: Global,
     out: &mut Vec<u8>,
@@ -94,9 +112,12 @@ fn push_in_part(
 ) -> Result<(), AllocError>
     ensures { OnOk result (out.new.items ≡ out.old.items ++ in_part (map string_bytes texts.now) place) }
 {
-    match texts.get(place.part.number()) {
-        Some(text) => push_explanation(alloc, out, place, text.as_bytes()),
-        None => Ok(()),
+    let count = count_of(texts);
+    let number = place.part.number(count);
+    if number < count {
+        push_explanation(alloc, out, place, part_text(texts, number))
+    } else {
+        Ok(())
     }
 }
 
@@ -124,23 +145,6 @@ fn push_hint(out: &mut Vec<u8>, fault: ToolFault, texts: &[String]) -> Result<()
         out.extend_from_slice(RETURN_HINT.as_bytes())?;
     }
     Ok(())
-}
-
-/// A part, empty where there is none.
-fn part_text(texts: &[String], number: usize) -> &[u8]
-    ensures { result.now ≡ part_text (map string_bytes texts.now) number }
-{
-    match texts.get(number) {
-        Some(text) => text.as_bytes(),
-        None => b"".as_slice(),
-    }
-}
-
-/// How many parts there are.
-fn count_of(texts: &[String]) -> usize
-    ensures { result ≡ length (map string_bytes texts.now) }
-{
-    texts.len()
 }
 
 /// How many parts there are, where the command reads another number of them.

@@ -32,14 +32,15 @@ impl Clone for Part {
 }
 
 impl Part {
-    /// Which part of the input it is, from 0.
-    pub fn number(self) -> usize
-        ensures { result ≡ part_number self }
+    /// Which part of an input of so many parts it is, from 0. An order is the last.
+    pub fn number(self, count: usize) -> usize
+        ensures { result ≡ part_number self count }
     {
         match self {
             Part::Classes | Part::History => 0,
-            Part::Program | Part::Order => 1,
+            Part::Program => 1,
             Part::Schedule => 2,
+            Part::Order => count.saturating_sub(1),
         }
     }
 

@@ -89,7 +89,7 @@ fn schedule_sentence(fault: ScheduleFault) -> &'static str
     match fault {
         ScheduleFault::Memory | ScheduleFault::TooManySteps => "",
         ScheduleFault::BadItem { at: _ } => {
-            "an item is a name, or a name with * and a count from 1 on, as A*5\n"
+            "an item is a name, or a name with * and a count from 1 on, as A*5; after @2 also a group, as (A*2 B)*3\n"
         }
         ScheduleFault::UnknownThread { at: _ } => {
             "no thread of the program is named so. Items name its threads, setup, or all\n"

@@ -71,7 +71,7 @@ pub program_runs : (v : View) (o : Outcome) (p s : Text) (q : Program) (r : Resu
 program_runs v o p s q r e g = wider (λ a. a ≡ viewed v (names_in o q) s) (RunsTo v o p s) r (λ a h. subst (RunsTo v o p s) (sym h) (Ran q e)) g
 
 -- the names of the threads
-names_are : (ts : List ThreadProgram) → map thread_name ts ≡ map (λ t. t.name) (map plain_thread ts)
+pub names_are : (ts : List ThreadProgram) → map thread_name ts ≡ map (λ t. t.name) (map plain_thread ts)
 names_are [] = refl
 names_are (t ∷ ts) = ap (λ (ns : List Text). thread_name t ∷ ns) (names_are ts)
 

@@ -24,7 +24,8 @@ fn rule_text(rule: Rule) -> &'static str
     }
 }
 
-fn verdict_text(alloc: Global, verdict: &Verdict) -> Result<String, AllocError>
+/// `legal`, or the rule that is broken and the call at which it is, in a line.
+pub fn verdict_text(alloc: Global, verdict: &Verdict) -> Result<String, AllocError>
     ensures { IfOk result (λ text. string_bytes text ≡ judgement_text (plain_verdict verdict.now)) }
 {
     match verdict {

@@ -43,7 +43,8 @@ impl Clone for View {
     }
 }
 
-fn names_in<'n>(checked: &'n Checked, program: &'n Program) -> Names<'n>
+/// The names of a checked file and a program of it.
+pub fn names_in<'n>(checked: &'n Checked, program: &'n Program) -> Names<'n>
     ensures { names_of result ≡ names_in (outcome_of checked.now) (plain_program program.now) }
 {
     Names {

@@ -1,0 +1,17 @@
+use Rattle.std.proofs.Common.{◌∙◌, ◌++◌, ap, string_bytes}
+use Rattle.std.proofs.lemmas.List.{append_assoc}
+use Rattle.ls_report.specs.Events.{Text}
+use Rattle.ls_labels.specs.Names.{names_of}
+use Rattle.ls_page.specs.Data.{head_text, texts_of, texts_text, told_text}
+use Rattle.ls_page.proofs.data.push_run.Goals as goal
+
+pub returns : goal.returns
+returns c =
+    let out : Text = string_bytes c.args.out.now in
+    let head : Text = head_text c.args.window.from in
+    let texts : Text = texts_text (texts_of c.args.texts) in
+    let told : Text = told_text (names_of c.args.names) c.args.steps.now c.args.window.from c.args.window.to in
+    c.in_ok-push_told.ensures
+    ∙ ap (λ w. w ++ told) (c.in_ok-push_texts.ensures ∙ ap (λ w. w ++ texts) c.in_ok-push_head.ensures)
+    ∙ append_assoc (out ++ head) texts told
+    ∙ append_assoc out head (texts ++ told)

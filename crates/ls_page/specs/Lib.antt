@@ -1,0 +1,4 @@
+pub mod Quoted
+pub mod Strings
+pub mod Laws
+pub mod Data

@@ -1,0 +1,3 @@
+pub mod JudgingLemmas
+pub mod PagedLemmas
+pub mod ReadableLemmas
