@@ -1,0 +1,75 @@
+// All of it: a step is shown, and the page begins.
+
+const ADDRESSED_AFTER = 250;   // milliseconds
+let addressed = null, resized = null;
+
+function show() {
+  run.go(view.count);
+  byId("slider").max = stops.count;
+  byId("slider").value = view.stop;
+  showStep();
+  byId("slider").setAttribute("aria-valuetext", byId("step").textContent);
+  for (const id of ["first", "back"]) byId(id).disabled = view.stop === 0;
+  for (const id of ["forth", "last"]) byId(id).disabled = view.stop === stops.count;
+  showState();
+  showList();
+  showSource();
+  showLanes();
+  showThreads();
+  drawHeap();
+  // browsers allow few changes of the address in a second, and a page in a frame may not change it
+  clearTimeout(addressed);
+  addressed = setTimeout(setAddress, ADDRESSED_AFTER);
+}
+function setAddress() {
+  try { history.replaceState(null, "", "#" + view.step); } catch { /* it stays as it is */ }
+}
+function goTo(stop) {
+  view.stop = Math.max(0, Math.min(stops.count, stop));
+  show();
+}
+function redraw() {
+  drawLanes();
+  show();
+}
+
+// The comment with which the class text begins.
+function showTitle() {
+  const comment = /^\s*((?:\/\/[^\n]*\n\s*)+)/.exec(data.classes);
+  const lines = comment ? comment[1].split("\n").map(line => line.trim().replace(/^\/\/ ?/, ""))
+    : ["A run, step by step"];
+  const words = lines.join(" ").trim().replace(/^(source|state|trace)( --\w+)*: */, "").replace(HIDDEN, "");
+  byId("title").textContent = byId("title").title = words;
+  document.title = "listset: " + words.slice(0, 60);
+}
+// What the page found wrong with itself.
+function showNotes() {
+  const notes = [];
+  if (data.listset !== 1) notes.push("These data have another format than this page reads. Don't trust it.");
+  if (run.disagrees)
+    notes.push("The page's own count of the objects differs from the last state: it has " + run.disagrees
+      + ". Don't trust the drawing.");
+  for (const { thread, why } of following.off) {
+    const whose = thread === null ? "of the threads" : "of thread " + thread;
+    notes.push("The page can't follow the text, so places and locals " + whose + " are left out: " + why + ".");
+  }
+  for (const note of notes) byId("foot").append(element("span", { class: "note" }, note));
+}
+// The step that the address ends in, else the end of the setup.
+function firstStop() {
+  const step = location.hash.length > 1 ? Number(location.hash.slice(1)) : NaN;
+  if (Number.isInteger(step)) return stops.at(Math.min(run.rows.length, step - run.from + 1));
+  return run.setupEnd === Infinity ? 0 : stops.at(run.setupEnd);
+}
+
+window.addEventListener("resize", () => {
+  clearTimeout(resized);
+  resized = setTimeout(redraw, 80);
+});
+window.addEventListener("beforeprint", redraw);
+showTitle();
+showNotes();
+drawOrder();
+byId("foot").hidden = byId("foot").childNodes.length === 0;
+view.stop = firstStop();
+redraw();

@@ -1,0 +1,134 @@
+// The three texts, with what was just done, and what each thread does next.
+
+const MOST_FRAMED = 3;                  // how many threads have their frames round one place
+const MARGIN = 58, COUNT_WIDTH = 30;    // in pixels: the room for names at a line, and for how many more there are
+const signWidth = name => textWidth(name, 11) + 10;
+
+// A text by lines. A range is { start, end, kind, colour }: it is shown by the class `kind`, and framed where it has a
+// colour.
+class Code {
+  constructor(id, text, isProgramText) {
+    this.text = text;
+    this.isNumbered = isProgramText;
+    this.lines = [];
+    this.changed = new Set();
+    const marks = isProgramText ? readTokens(text).marks : [];
+    let start = 0, first = 0;
+    for (const words of text.split("\n")) {
+      const end = start + words.length;
+      while (first < marks.length && marks[first].end <= start) first++;
+      const mine = [];
+      for (let at = first; at < marks.length && marks[at].start < end; at++) mine.push(marks[at]);
+      if (start < text.length || words !== "") this.addLine(byId(id), start, end, mine);
+      start = end + 1;
+    }
+  }
+  addLine(box, start, end, marks) {
+    const margin = element("span", { class: "margin" }), words = element("span");
+    const number = element("span", { class: "number" }, this.isNumbered ? String(this.lines.length + 1) : "");
+    const row = element("div", { class: "line" }, margin, number, words);
+    box.append(row);
+    this.lines.push({ start, end, marks, margin, words, row });
+    this.draw(this.lines.length - 1, []);
+  }
+  lineAt(place) { return Math.max(0, countBelow(this.lines, line => line.start, place + 1) - 1); }
+
+  draw(number, ranges) {
+    const line = this.lines[number], all = [...line.marks, ...ranges], cuts = new Set([line.start, line.end]);
+    for (const { start, end } of all)
+      for (const at of [start, end]) if (at > line.start && at < line.end) cuts.add(at);
+    const places = [...cuts].sort((a, b) => a - b);
+    line.words.replaceChildren(...places.slice(1).map((end, at) => this.piece(line, all, places[at], end)));
+    if (places.length < 2) line.words.append("\u200b");
+  }
+  piece(line, ranges, start, end) {
+    const words = named(this.text.slice(start, end).replace(/\r/g, ""));
+    const here = ranges.filter(range => range.start <= start && range.end >= end);
+    if (here.length === 0) return words;
+    const span = element("span", { class: here.map(range => range.kind).join(" ") }, words);
+    const edges = here.filter(range => range.colour).slice(0, MOST_FRAMED).flatMap((range, at) => {
+      const wide = 2 * (at + 1), sides = [[0, wide], [0, -wide]];
+      if (start === Math.max(range.start, line.start)) sides.push([wide, 0]);
+      if (end === Math.min(range.end, line.end)) sides.push([-wide, 0]);
+      return sides.map(([x, y]) => `inset ${x}px ${y}px 0 ${range.colour}`);
+    });
+    if (edges.length) span.style.boxShadow = edges.join(",");
+    return span;
+  }
+  *linesOf({ start, end }) {
+    for (let at = this.lineAt(start); at < this.lines.length && this.lines[at].start < end; at++) yield at;
+  }
+  // Shows ranges, and names in the margin: { start, name, isInner, title }.
+  show(ranges, signs) {
+    for (const number of this.changed) this.lines[number].margin.replaceChildren();
+    const before = this.changed, byLine = new Map();
+    for (const range of ranges)
+      for (const number of this.linesOf(range)) listed(byLine, number, range);
+    this.changed = new Set(byLine.keys());
+    for (const number of new Set([...before, ...byLine.keys()])) this.draw(number, byLine.get(number) || []);
+    const signed = new Map();
+    for (const sign of signs) listed(signed, this.lineAt(sign.start), sign);
+    for (const [number, list] of signed) this.sign(number, list);
+  }
+  sign(number, signs) {
+    const { margin } = this.lines[number], shown = [], whole = signs.reduce((sum, it) => sum + signWidth(it.name), 0);
+    for (let room = whole > MARGIN ? MARGIN - COUNT_WIDTH : MARGIN, at = 0; at < signs.length; at++) {
+      room -= signWidth(signs[at].name);
+      if (room < 0) break;
+      shown.push(signs[at]);
+    }
+    for (const { name, isInner, title } of shown) {
+      const own = colourOf(name), style = isInner ? "background:" + own : "border-color:" + own + ";color:" + own;
+      margin.append(element("b", { class: isInner ? "" : "outer", style, title }, name));
+    }
+    const left = signs.slice(shown.length);
+    const title = left.map(sign => sign.title).join("\n");
+    if (left.length) margin.append(element("b", { class: "more", title }, "+" + left.length));
+    this.changed.add(number);
+  }
+  reveal(place) {
+    const box = byId("source"), line = this.lines[this.lineAt(place)].row.getBoundingClientRect();
+    const all = box.getBoundingClientRect();
+    if (line.top < all.top + 20 || line.bottom > all.bottom - 30)
+      box.scrollTop += line.top - all.top - all.height * .4;
+  }
+}
+
+const codes = {
+  classes: new Code("classes", data.classes, true),
+  program: new Code("program", data.program, true),
+  schedule: new Code("schedule", data.schedule, false),
+};
+const scheduleText = new ScheduleText(data.schedule, run.threads.length - 1);
+
+// What a thread does next stands there, and the calls that it is in are named at their own lines.
+function markThread(thread, ranges, signs) {
+  const name = run.threads[thread], next = following.standsAt(thread, view.count);
+  if (!next || run.asked(thread, view.count)[0] === null) return null;
+  ranges[next.part].push({ start: next.start, end: next.end, kind: "next", colour: colour(thread) });
+  signs[next.part].push({ start: next.start, name, isInner: true, title: name + " does this next" });
+  for (const { at, title } of next.frames) {
+    const isThere = at.part === next.part && codes[at.part].lineAt(at.start) === codes[at.part].lineAt(next.start);
+    if (!isThere)
+      signs[at.part].push({ start: at.start, name, isInner: false, title: name + " is in this call of " + title });
+  }
+  return next.part === "classes" ? next.start : null;
+}
+
+function showSource() {
+  const ranges = { classes: [], program: [], schedule: [] }, signs = { classes: [], program: [], schedule: [] };
+  let revealed = null;
+  run.threads.forEach((name, thread) => {
+    const place = markThread(thread, ranges, signs);
+    if (place !== null && (view.row ? view.row.thread === name : revealed === null)) revealed = place;
+  });
+  const done = view.stop > 0 ? following.places[view.count - 1] : null;
+  if (done) {
+    ranges[done.part].push({ start: done.start, end: done.end, kind: "done" });
+    if (done.part === "classes") revealed = done.start;
+  }
+  const item = view.stop > 0 ? scheduleText.itemAt(view.step - 1) : null;
+  if (item) ranges.schedule.push({ start: item.start, end: item.end, kind: "done" });
+  for (const part in codes) codes[part].show(ranges[part], signs[part]);
+  if (revealed !== null) codes.classes.reveal(revealed);
+}

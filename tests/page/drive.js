@@ -1,0 +1,153 @@
+// Drives pages in headless Chromium, as jobs say that come as lines of JSON: { kind, name, page, .. }. Says what is
+// wrong with each, and ends with status 1 where something is. Each job fails on a message of the console and on a
+// request for anything but the page.
+const readline = require("readline");
+const { Browser } = require("./browser.js");
+
+const BACK = 10, ELSEWHERE = 30, FEW_ROWS = 400, SHIFT = 8;
+const SHOWN = `JSON.stringify({
+  step: view.step, words: byId("step").textContent,
+  state: [...byId("text").children].map(line => line.textContent).join("\\n") + "\\n",
+})`;
+let compared = 0;
+
+// What is wrong with the step that is shown, by the lines of `trace` and by what `state` prints after each step from
+// `first - 1` on.
+async function* lookedAt(page, { first, trace, states }, seen) {
+  const shown = JSON.parse(await page.evaluate(SHOWN)), wanted = states[shown.step - first + 1];
+  compared++;
+  seen.step = shown.step;
+  if (shown.state !== wanted)
+    yield `the state after step ${shown.step} is\n${shown.state}where it should be\n${wanted}`;
+  if (shown.step < first) return;
+  const line = trace[shown.step - first];
+  const words = line.slice(line.indexOf(" ") + 1).replace(/^([\w$]+(?:\.\d+)?) /, "$1");
+  if (!shown.words.replace(/^\d+(–\d+)?/, "").startsWith(words))
+    yield `step ${shown.step} is told as ${shown.words}, and its line is ${line}`;
+}
+// By the keys: each stop from the first to the last, with and without steps that do nothing, some back, some
+// elsewhere.
+async function* states(page, job) {
+  const read = "JSON.stringify([following.off, run.disagrees, run.rows.length])";
+  const [off, disagrees, rows] = JSON.parse(await page.evaluate(read));
+  if (off.length || disagrees) yield JSON.stringify([off, disagrees]);
+  const seen = { step: -1 };
+  await page.key("s");
+  for (const all of rows <= FEW_ROWS ? [false, true] : [false]) {
+    if (all) await page.key("a");
+    await page.key("Home");
+    for (let last = -1; ; last = seen.step) {
+      yield* lookedAt(page, job, seen);
+      if (seen.step === last) break;
+      await page.key("ArrowRight");
+    }
+    if (seen.step !== job.first + job.states.length - 2) yield "it ends at step " + seen.step;
+    for (let times = 0; times < BACK; times++) {
+      await page.key("ArrowLeft");
+      yield* lookedAt(page, job, seen);
+    }
+  }
+  if (rows > FEW_ROWS) await page.key("a");
+  for (let times = 0; times < ELSEWHERE; times++) {
+    await page.evaluate("goTo(Math.floor(Math.random() * (stops.count + 1)))");
+    yield* lookedAt(page, job, seen);
+  }
+}
+
+// What is falsified is said, and no place or local is shown of the thread, or of any.
+async function* says(page, { words, thread }) {
+  const foot = await page.evaluate("byId('foot').textContent");
+  if (!foot.includes(words)) yield "its foot says `" + foot + "`, and not `" + words + "`";
+  const shown = `(() => {
+    const found = [];
+    for (let stop = 0; stop <= stops.count; stop++) {
+      goTo(stop);
+      const mine = ${JSON.stringify(thread)};
+      found.push(...[...document.querySelectorAll(".margin b")].filter(it => mine === "" || it.textContent === mine));
+      const cards = [...document.querySelectorAll(".card")].filter(it => mine === ""
+        || it.getAttribute("aria-label") === "thread " + mine);
+      for (const card of cards) found.push(...card.querySelectorAll(".locals, .where"));
+    }
+    return found.map(it => it.textContent).join();
+  })()`;
+  const found = thread === null ? "" : await page.evaluate(shown);
+  if (found !== "") yield "it shows " + found;
+}
+
+// Each key leads to the step that it should.
+async function* keys(page, { pressed }) {
+  for (const [key, wanted, modifiers] of pressed) {
+    await page.key(key, modifiers ? SHIFT : 0);
+    const step = await page.evaluate("view.step");
+    if (step !== wanted) yield `${key} leads to step ${step}, and not to ${wanted}`;
+  }
+  for (const [key, panel] of [["l", "list"], ["s", "text"]]) {
+    await page.key(key);
+    if (await page.evaluate(`byId("${panel}").hidden`)) yield key + " doesn't show " + panel;
+  }
+  await page.key("?");
+  if (!(await page.evaluate("byId('keys').open"))) yield "? doesn't show the keys";
+  await page.key("?");
+  if (await page.evaluate("byId('keys').open")) yield "? doesn't hide the keys";
+  await page.key("d");
+  if ((await page.evaluate("document.documentElement.dataset.theme")) !== "dark") yield "d doesn't make it dark";
+  const whole = "document.documentElement";
+  const scrolls = `${whole}.scrollWidth > innerWidth || ${whole}.scrollHeight > innerHeight`;
+  if (await page.evaluate(scrolls)) yield "the whole page scrolls";
+}
+// A click on a cell or a lock leads to the step that changed it last.
+async function* clicks(page, { at, clicked }) {
+  for (const [title, wanted] of clicked) {
+    await page.evaluate(`goTo(stops.at(${at} - run.from + 1))`);
+    const place = await page.evaluate(`(() => {
+      const hits = [...document.querySelectorAll("#drawing .hit")];
+      const box = hits.find(it =>
+        it.querySelector("title").textContent.startsWith(${JSON.stringify(title)})).getBoundingClientRect();
+      return JSON.stringify([box.x + box.width / 2, box.y + box.height / 2]);
+    })()`);
+    await page.click(...JSON.parse(place));
+    const step = await page.evaluate("view.step");
+    if (step !== wanted) yield `a click on ${title} leads to step ${step}, and not to ${wanted}`;
+  }
+}
+// It opens, and a step takes no longer than this many milliseconds.
+async function* opens(page, { rows, most }) {
+  const found = await page.evaluate("run.rows.length");
+  if (found !== rows) yield "it has " + found + " rows";
+  const wrong = await page.evaluate("JSON.stringify([following.off, run.disagrees])");
+  if (wrong !== "[[],null]") yield wrong;
+  const timed = `(() => {
+    const start = performance.now(), first = Math.floor(stops.count / 2);
+    for (let at = 0; at < 20; at++) goTo(first + at);
+    return (performance.now() - start) / 20;
+  })()`;
+  const step = await page.evaluate(timed);
+  const opened = await page.evaluate("performance.timing.loadEventEnd - performance.timing.navigationStart");
+  console.log(`  ${rows} rows open in ${(opened / 1000).toFixed(1)} s, a step takes ${step.toFixed(0)} ms`);
+  if (step > most) yield `a step takes ${step.toFixed(0)} ms`;
+}
+
+const KINDS = { states, says, keys, clicks, opens };
+
+async function main() {
+  const browser = new Browser(), lines = readline.createInterface({ input: process.stdin });
+  let count = 0, wrong = 0;
+  for await (const line of lines) {
+    const job = JSON.parse(line), found = [], before = compared;
+    const page = await browser.open(job.page, job);
+    try {
+      for await (const words of KINDS[job.kind](page, job)) found.push(words);
+    } catch (failure) { found.push(failure.message); }
+    found.push(...page.problems());
+    await page.close();
+    count++;
+    if (found.length) wrong++;
+    const told = compared > before ? `, ${compared - before} states compared` : "";
+    console.log(`${found.length ? "WRONG" : "ok"} ${job.kind} ${job.name}${told}`);
+    for (const words of found.slice(0, 3)) console.log("  " + words);
+  }
+  browser.stop();
+  console.log(`${count - wrong} trials of pages passed, ${wrong} failed; ${compared} states compared`);
+  process.exit(wrong ? 1 : 0);
+}
+main();
