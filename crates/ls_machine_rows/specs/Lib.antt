@@ -5,3 +5,4 @@ pub mod Silent
 pub mod Acting
 pub mod Frames
 pub mod Whole
+pub mod Limits

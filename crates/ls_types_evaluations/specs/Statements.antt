@@ -1,5 +1,6 @@
 -- Statements in a method of class A: scopes, loops, what is assigned and returned (JLS 6.3, 6.4, 14, 15.26).
 use Rattle.std.specs.Prelude.{◌≡◌, ◌+◌, ℕ, negsuc, true, false, List, [], ◌∷◌, ◌++◌, length, replicate, codes, Option, Some, None, Ok, Err}
+use Rattle.ls_tree.specs.declared.tree.BinaryOp.TheVariants as written
 use Rattle.ls_events.specs.declared.value.Value.TheVariants as values
 use Rattle.ls_events.specs.declared.value.ValueType.{ValueType}
 use Rattle.ls_events.specs.declared.value.ValueType.TheVariants as types
@@ -12,7 +13,7 @@ use Rattle.ls_types_elaboration.specs.Trees.{Text, Name}
 use Rattle.ls_types_elaboration.specs.Trees as parsed
 use Rattle.ls_types_elaboration.specs.Scopes.{Body, Slots}
 use Rattle.ls_types_elaboration.specs.TypedStatements.{Loops, statement}
-use Rattle.ls_types_evaluations.specs.Written.{at, name, assign, evaluate, one, yes, nothing, self, named, field, call, items, variable, int, truth, null, block, known, locals, own}
+use Rattle.ls_types_evaluations.specs.Written.{at, name, assign, evaluate, one, yes, nothing, self, named, both, field, call, items, variable, int, truth, null, block, known, locals, own}
 
 -- a method that answers this, whose name stands at 99
 abbrev pub body : Option ValueType → Body
@@ -196,6 +197,13 @@ ForLoops =
     × Becomes None [] (loop (Some (codes "p")) (counting None (parsed.Continue (Some (name (codes "p") 3)) (at 2)))) (checked.While truth (counted 3 (checked.Continue 2))) (types.Int ∷ [])
     × Becomes None [] (parsed.For None (parsed.Performs []) None [] (parsed.Break None (at 2))) (checked.Block (block (checked.While truth (checked.Block (block (
     checked.While truth (checked.Block (block (checked.Break 1 ∷ checked.Break 0 ∷ []))) ∷ checked.Block checked.Done ∷ []))) ∷ []))) []
+    × Becomes None [] (parsed.For None (parsed.Performs (parsed.Assign (named (codes "x") 1) (one 2) ∷ [])) None [] parsed.Empty)
+    (checked.Block (block (checked.SetSlot 1 (int 1) ∷ checked.While truth (checked.Block (block (
+    checked.While truth (checked.Block (block (checked.Block checked.Done ∷ checked.Break 0 ∷ []))) ∷ checked.Block checked.Done ∷ []))) ∷ []))) []
+    × Becomes None [] (parsed.For None (parsed.Declares (variable parsed.Int (codes "i") 51 (Some (one 52)))) (Some (both written.Less (named (codes "i") 53) (one 54) 55)) [] parsed.Empty)
+    (checked.Block (block (checked.SetSlot 3 (int 0) ∷ checked.SetSlot 3 (int 1)
+    ∷ checked.While (checked.Binary operators.Less (checked.Slot 3) (int 1)) (checked.Block (block (
+    checked.While truth (checked.Block (block (checked.Block checked.Done ∷ checked.Break 0 ∷ []))) ∷ checked.Block checked.Done ∷ []))) ∷ []))) (types.Int ∷ [])
     × Breaks (parsed.Block (parsed.Do (counting None parsed.Empty) (items (set (codes "i") 5 ∷ set (codes "z") 7 ∷ [])))) rules.UnknownName 7
     × Breaks (counting None (parsed.Block (declare (codes "i") 5 parsed.NoItem))) rules.TwiceDeclared 5
     × Breaks (counting (Some (codes "p")) (counting (Some (codes "p")) parsed.Empty)) rules.TwiceDeclared 50
@@ -211,6 +219,7 @@ Additions =
     × Breaks (parsed.Perform (parsed.Add (named (codes "x") 1) (yes 2))) rules.WrongType 2
     × Breaks (parsed.Perform (parsed.Count true false (parsed.Item (named (codes "a") 1) (one 2) (at 3)))) rules.WrongType 3
     × Breaks (parsed.Perform (parsed.Count true false (named (codes "n") 1))) rules.WrongType 1
+    × Breaks (parsed.Perform (parsed.Count true false (field (self 1) (codes "b") 2))) rules.WrongType 3
     × Breaks (parsed.Perform (parsed.Count true false (self 1))) rules.NotAssignable 1
     × Breaks (parsed.Perform (parsed.Count true false (one 1))) rules.NotAssignable 1
 

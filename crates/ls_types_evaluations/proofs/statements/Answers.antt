@@ -41,10 +41,10 @@ pub returns-clause-conditions : goal.returns-clause-conditions
 returns-clause-conditions c = (refl, refl, refl, refl, refl, refl)
 
 pub returns-clause-for_loops : goal.returns-clause-for_loops
-returns-clause-for_loops c = (refl, refl, refl, refl, refl, refl, refl, refl, refl, refl)
+returns-clause-for_loops c = (refl, refl, refl, refl, refl, refl, refl, refl, refl, refl, refl, refl)
 
 pub returns-clause-additions : goal.returns-clause-additions
-returns-clause-additions c = (refl, refl, refl, refl, refl, refl, refl, refl, refl)
+returns-clause-additions c = (refl, refl, refl, refl, refl, refl, refl, refl, refl, refl)
 
 pub returns-clause-returns : goal.returns-clause-returns
 returns-clause-returns c = (refl, refl, refl, refl, refl, refl, refl, refl)
