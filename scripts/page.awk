@@ -22,6 +22,7 @@ function print_broken(line,  at, indent) {
 }
 
 /three parts/ { files = "my.java my.program my.schedule" }
+/three or four parts/ { files = "my.java my.program my.schedule my.order" }
 /two parts, class/ { files = "my.java my.program" }
 /two parts, a history/ { files = "my.history my.order" }
 /input is a history/ { files = "my.history" }
@@ -41,5 +42,11 @@ END {
         print "The parts can be named as files, in this order; one file may have several, - is"
         print "standard input, and after -- each word is a file:"
         print "  listset " command " " files
+        if (command == "page") {
+            print ""
+            print "The page is put round what the program prints:"
+            print "  listset page my.java my.program my.schedule > run.html"
+            print "With --data the data are printed alone. scripts/page puts the page round them."
+        }
     }
 }

@@ -22,7 +22,7 @@ default_limit : (p : ValueParser) → request_of p (codes "listset" ∷ codes "l
 unfolding clap_on_literals
 default_limit p = refl
 
-a_batch : (p : ValueParser) → request_of p (codes "listset" ∷ codes "batch" ∷ codes "--seed" ∷ codes "7" ∷ codes "--count=3" ∷ codes "--steps" ∷ codes "5" ∷ []) ≡ Some (plainly (request.Batch 7 3 5 65536))
+a_batch : (p : ValueParser) → request_of p (codes "listset" ∷ codes "batch" ∷ codes "--seed" ∷ codes "7" ∷ codes "--count=3" ∷ codes "--steps" ∷ codes "5" ∷ []) ≡ Some (plainly (request.Batch 7 3 5 65536 false))
 unfolding clap_on_literals
 a_batch p = refl
 
@@ -66,6 +66,27 @@ version : (p : ValueParser) → request_of p (codes "listset" ∷ codes "--versi
 unfolding clap_on_literals
 version p = refl
 
-few_states : (p : ValueParser) → request_of p (codes "listset" ∷ codes "explore" ∷ codes "--states" ∷ codes "12" ∷ []) ≡ Some (plainly (request.Explore 65536 12))
+few_states : (p : ValueParser) → request_of p (codes "listset" ∷ codes "explore" ∷ codes "--states" ∷ codes "12" ∷ []) ≡ Some (plainly (request.Explore 65536 12 false false))
 unfolding clap_on_literals
 few_states p = refl
+
+judged : (p : ValueParser) → request_of p (codes "listset" ∷ codes "batch" ∷ codes "--judge" ∷ codes "--seed=1" ∷ codes "--count=3" ∷ codes "--steps=5" ∷ [])
+    ≡ Some (plainly (request.Batch 1 3 5 65536 true))
+unfolding clap_on_literals
+judged p = refl
+
+a_sample : (p : ValueParser) → request_of p (codes "listset" ∷ codes "sample" ∷ codes "--seed" ∷ codes "7" ∷ codes "--steps=5" ∷ []) ≡ Some (plainly (request.Sample 7 5 65536))
+unfolding clap_on_literals
+a_sample p = refl
+
+no_seed : (p : ValueParser) → request_of p (codes "listset" ∷ codes "sample" ∷ codes "--steps=5" ∷ []) ≡ None
+unfolding clap_on_literals
+no_seed p = refl
+
+first_illegal : (p : ValueParser) → request_of p (codes "listset" ∷ codes "explore" ∷ codes "--illegal" ∷ codes "--first" ∷ []) ≡ Some (plainly (request.Explore 65536 1000000 true true))
+unfolding clap_on_literals
+first_illegal p = refl
+
+a_page : (p : ValueParser) → request_of p (codes "listset" ∷ codes "page" ∷ codes "--to=9" ∷ []) ≡ Some (plainly (request.Page 1 9))
+unfolding clap_on_literals
+a_page p = refl

@@ -60,6 +60,9 @@ replay_line = with_rule (with_rule (with_explain (codes "replay")) cells_rule) (
 abbrev pub trace_line : App
 trace_line = with_rule (with_rule (with_explain (codes "trace")) (number_rule false (codes "from"))) (number_rule false (codes "to"))
 
+abbrev pub page_line : App
+page_line = with_rule (with_rule (with_explain (codes "page")) (number_rule false (codes "from"))) (number_rule false (codes "to"))
+
 abbrev pub state_line : App
 state_line = with_rule (with_explain (codes "state")) (flag_rule (codes "dot"))
 
@@ -74,13 +77,30 @@ batch_line =
     with_rule
     (with_rule
     (with_rule
+    (with_rule
     (with_rule (with_explain (codes "batch")) (number_rule true (codes "seed")))
     (number_rule true (codes "count")))
+    (number_rule true (codes "steps")))
+    cells_rule)
+    (flag_rule (codes "judge"))
+
+abbrev pub sample_line : App
+sample_line =
+    with_rule
+    (with_rule
+    (with_rule (with_explain (codes "sample")) (number_rule true (codes "seed")))
     (number_rule true (codes "steps")))
     cells_rule
 
 abbrev pub explore_line : App
-explore_line = with_rule (with_rule (with_explain (codes "explore")) cells_rule) (number_rule false (codes "states"))
+explore_line =
+    with_rule
+    (with_rule
+    (with_rule
+    (with_rule (with_explain (codes "explore")) cells_rule)
+    (number_rule false (codes "states")))
+    (flag_rule (codes "illegal")))
+    (flag_rule (codes "first"))
 
 -- the program without its commands, one of which is wanted
 abbrev pub top_line : App
@@ -99,6 +119,8 @@ line p =
     (with_subcommand
     (with_subcommand
     (with_subcommand
+    (with_subcommand
+    (with_subcommand
     (with_subcommand top_line (with_explain (codes "check")).top)
     (with_explain (codes "order")).top)
     (with_explain (codes "compile")).top)
@@ -106,9 +128,11 @@ line p =
     (with_explain (codes "source")).top)
     trace_line.top)
     state_line.top)
+    page_line.top)
     (translate_line p).top)
     live_line.top)
     batch_line.top)
+    sample_line.top)
     explore_line.top
 
 -- the number that a text writes, and else the default
@@ -141,13 +165,18 @@ asked name rows =
     else (if bytes_eq name (codes "replay") then requests.Replay (cells_of rows) (flag_of (codes "live") rows)
     else (if bytes_eq name (codes "source") then requests.Source
     else (if bytes_eq name (codes "trace") then requests.Trace (number_of (codes "from") 1 rows) (number_of (codes "to") 1000000 rows)
+    else (if bytes_eq name (codes "page") then requests.Page (number_of (codes "from") 1 rows) (number_of (codes "to") 1000000 rows)
     else (if bytes_eq name (codes "state") then requests.State (flag_of (codes "dot") rows)
     else (if bytes_eq name (codes "translate") then requests.Translate (side_of rows) (cells_of rows)
     else (if bytes_eq name (codes "live") then requests.Live (cells_of rows) (number_of (codes "limit") 5000 rows)
     else (if bytes_eq name (codes "batch")
     then requests.Batch (number_of (codes "seed") 0 rows) (number_of (codes "count") 0 rows) (number_of (codes "steps") 0 rows) (cells_of rows)
-    else (if bytes_eq name (codes "explore") then requests.Explore (cells_of rows) (number_of (codes "states") 1000000 rows)
-    else requests.Check)))))))))
+    (flag_of (codes "judge") rows)
+    else (if bytes_eq name (codes "sample")
+    then requests.Sample (number_of (codes "seed") 0 rows) (number_of (codes "steps") 0 rows) (cells_of rows)
+    else (if bytes_eq name (codes "explore")
+    then requests.Explore (cells_of rows) (number_of (codes "states") 1000000 rows) (flag_of (codes "illegal") rows) (flag_of (codes "first") rows)
+    else requests.Check)))))))))))
 
 -- with what all commands are asked
 abbrev pub asked_by : Option (Text × List Row) → CommandLine

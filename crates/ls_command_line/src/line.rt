@@ -3,7 +3,7 @@
 ghost use Rattle.std.specs.Prelude.{◌≡◌, IfOk, codes, false};
 ghost use Rattle.clap.specs.Words.{App, Rule, app_of, rule_of, with_rule, with_subcommand};
 ghost use Rattle.clap.specs.declared.builder.command.Command.TheViews.{out-Command};
-ghost use Rattle.ls_command_line.specs.Words.{NamesSides, batch_line, explore_line, flag_rule, line, live_line, number_rule, replay_line, side_rule, state_line, top_line, trace_line, translate_line, u64_parser, with_explain};
+ghost use Rattle.ls_command_line.specs.Words.{NamesSides, batch_line, explore_line, flag_rule, line, live_line, number_rule, page_line, replay_line, sample_line, side_rule, state_line, top_line, trace_line, translate_line, u64_parser, with_explain};
 
 use clap::{Arg, ArgAction, Command};
 use std::alloc::{AllocError, Global};
@@ -201,6 +201,34 @@ fn batch_command<'a>(alloc: Global) -> Result<Command<'a>, AllocError>
         true,
         "how many steps each sample has behind the setup's, at most 900000",
     );
+    let command = with_option(with_option(command, steps), cells_option(alloc));
+    let judge = flag_option(
+        alloc,
+        "judge",
+        "says of each history whether a legal order of its set calls exists",
+    );
+    with_option(command, judge)
+}
+
+fn sample_command<'a>(alloc: Global) -> Result<Command<'a>, AllocError>
+    ensures shape { IfOk result (λ c. app_of c ≡ sample_line) }
+    ensures local { IfOk result (λ c. (out-Command c).has_globals ≡ false) }
+{
+    let command = plain_command(
+        alloc,
+        "sample",
+        "Prints the schedule of instructions that batch runs for one seed",
+        "Standard input has two parts, class text and thread program, with a line %% between them:\n  \
+         printf 'class C { }\\n%%%%\\nsetup { c = new C(); }\\n' | listset sample --seed 1 --steps 99",
+    );
+    let seed = number_option(alloc, "seed", true, "the seed");
+    let command = with_option(command, seed);
+    let steps = number_option(
+        alloc,
+        "steps",
+        true,
+        "how many steps the sample has after the setup's, at most 900000",
+    );
     with_option(with_option(command, steps), cells_option(alloc))
 }
 
@@ -221,7 +249,15 @@ fn explore_command<'a>(alloc: Global) -> Result<Command<'a>, AllocError>
         false,
         "how many states are kept at the most, 1 to 16777216 [default: 1000000]",
     );
-    with_option(with_option(command, cells_option(alloc)), states)
+    let command = with_option(with_option(command, cells_option(alloc)), states);
+    let illegal = flag_option(
+        alloc,
+        "illegal",
+        "prints only histories of which no order is legal",
+    );
+    let command = with_option(command, illegal);
+    let first = flag_option(alloc, "first", "prints only the first of the histories");
+    with_option(command, first)
 }
 
 fn check_command<'a>(alloc: Global) -> Result<Command<'a>, AllocError>
@@ -303,6 +339,33 @@ fn trace_command<'a>(alloc: Global) -> Result<Command<'a>, AllocError>
     with_option(command, to)
 }
 
+fn page_command<'a>(alloc: Global) -> Result<Command<'a>, AllocError>
+    ensures shape { IfOk result (λ c. app_of c ≡ page_line) }
+    ensures local { IfOk result (λ c. (out-Command c).has_globals ≡ false) }
+{
+    let command = plain_command(
+        alloc,
+        "page",
+        "Prints what a page shows of a run from the Java text",
+        "Standard input has three or four parts, class text, thread program, schedule and an order, with a line %% between them:\n  \
+         listset page < examples/lost_update.txt",
+    );
+    let from = number_option(
+        alloc,
+        "from",
+        false,
+        "the first step that is shown [default: 1]",
+    );
+    let command = with_option(command, from);
+    let to = number_option(
+        alloc,
+        "to",
+        false,
+        "the last step that is shown [default: 1000000]",
+    );
+    with_option(command, to)
+}
+
 fn state_command<'a>(alloc: Global) -> Result<Command<'a>, AllocError>
     ensures shape { IfOk result (λ c. app_of c ≡ state_line) }
     ensures local { IfOk result (λ c. (out-Command c).has_globals ≡ false) }
@@ -343,8 +406,10 @@ pub(crate) fn program<'a>(alloc: Global) -> Result<Command<'a>, AllocError>
     let program = with_command(program, source_command(alloc));
     let program = with_command(program, trace_command(alloc));
     let program = with_command(program, state_command(alloc));
+    let program = with_command(program, page_command(alloc));
     let program = with_command(program, translate_command(alloc));
     let program = with_command(program, live_command(alloc));
     let program = with_command(program, batch_command(alloc));
+    let program = with_command(program, sample_command(alloc));
     with_command(program, explore_command(alloc))
 }

@@ -38,6 +38,11 @@ pub enum Request {
         from: u64,
         to: u64,
     },
+    /// The steps that the page shows, from and to a number; they are numbered from 1.
+    Page {
+        from: u64,
+        to: u64,
+    },
     /// As a graph, or as text.
     State {
         dot: bool,
@@ -55,11 +60,23 @@ pub enum Request {
         count: u64,
         steps: u64,
         cells: u64,
+        /// Whether each history is judged.
+        judge: bool,
     },
-    /// The cells of the machine, and the most states that are kept.
+    /// A seed, its steps after the setup's, and the cells of the machine.
+    Sample {
+        seed: u64,
+        steps: u64,
+        cells: u64,
+    },
+    /// The cells of the machine, and the most states that are kept; which histories are printed.
     Explore {
         cells: u64,
         states: u64,
+        /// Only those of which no order is legal.
+        illegal: bool,
+        /// Only the first of them.
+        first: bool,
     },
 }
 
@@ -193,6 +210,10 @@ fn asked(name: &str, options: &ArgMatches<'_>) -> Request
             from: number(options, "from", 1),
             to: number(options, "to", LAST_STEP),
         },
+        "page" => Request::Page {
+            from: number(options, "from", 1),
+            to: number(options, "to", LAST_STEP),
+        },
         "state" => Request::State {
             dot: flag(options, "dot"),
         },
@@ -209,10 +230,18 @@ fn asked(name: &str, options: &ArgMatches<'_>) -> Request
             count: number(options, "count", 0),
             steps: number(options, "steps", 0),
             cells: number(options, "cells", CELLS),
+            judge: flag(options, "judge"),
+        },
+        "sample" => Request::Sample {
+            seed: number(options, "seed", 0),
+            steps: number(options, "steps", 0),
+            cells: number(options, "cells", CELLS),
         },
         "explore" => Request::Explore {
             cells: number(options, "cells", CELLS),
             states: number(options, "states", STATES),
+            illegal: flag(options, "illegal"),
+            first: flag(options, "first"),
         },
         _ => Request::Check,
     }

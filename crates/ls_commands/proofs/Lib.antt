@@ -4,3 +4,5 @@ pub mod TranslatedLemmas
 pub mod LivedLemmas
 pub mod ReadBackLemmas
 pub mod TalliedLemmas
+pub mod SampledLemmas
+pub mod JudgedLemmas

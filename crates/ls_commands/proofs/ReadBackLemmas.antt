@@ -25,12 +25,19 @@ use Rattle.ls_faults.specs.ReadBack.{IsHistoryText, ReadsBack}
 use Rattle.ls_faults.specs.Given.{Gives}
 use Rattle.ls_faults.specs.declared.fault.ToolFault.{ToolFault}
 
-are_cells : (code : Code) (cells : ℕ) → ¬ AreBadCells code.names cells → IsCells code cells
+pub are_cells : (code : Code) (cells : ℕ) → ¬ AreBadCells code.names cells → IsCells code cells
 are_cells code cells good = record {
   some = let h : cells ≡ 0 → ⊥ = λ e. good (inl e) in omega arith;
   most = let h : most_cells < cells → ⊥ = λ e. good (inr (inl e)) in omega arith;
   names = let h : cells < code.names → ⊥ = λ e. good (inr (inr e)) in omega arith;
 }
+
+-- as many names as threads that run
+pub names_count : (classes program : Text) (i : Image) → Compiles classes program i → length (names_of_image i) ≡ length (code_of_image i).starts
+names_count classes program i compiles =
+    length-map (program_of_image i).threads.items thread_name
+    ∙ sym (length-map (program_of_image i).threads.items plain_thread)
+    ∙ sym compiles.runs.same.threads
 
 module _ (readable : CompiledIsReadable) (classes program : Text) (i : Image) (compiles : Compiles classes program i) (cells : ℕ) where
   printed : (steps : List ℕ) → ¬ AreBadCells (code_of_image i).names cells → IsHistoryText (run_text (plain_program_of i) (machine_history (code_of_image i) cells steps))
@@ -53,19 +60,12 @@ module _ (readable : CompiledIsReadable) (classes program : Text) (i : Image) (c
   pub replayed_live_of : (s : Text) (r : Result (String Global) ToolFault) → Gives (ReplayedLive i cells (schedule_of (names_of_image i) s)) r → Gives (ReplayedLiveOf cells s i) r
   replayed_live_of s r g = wider (ReplayedLive i cells (schedule_of (names_of_image i) s)) (ReplayedLiveOf cells s i) r (λ a h. (h, replayed_live_back h)) g
 
-  -- as many names as threads that run
-  names_count : length (names_of_image i) ≡ length (code_of_image i).starts
-  names_count =
-      length-map (program_of_image i).threads.items thread_name
-      ∙ sym (length-map (program_of_image i).threads.items plain_thread)
-      ∙ sym compiles.runs.same.threads
-
   module _ (prints : SchedulesReadBack) (limit : ℕ) where
     read_again : (steps : List ℕ) → limit ≤ 1000000 → AreLived (code_of_image i) cells limit steps → schedule_of (names_of_image i) (lived_schedule i steps) ≡ Ok steps
     read_again steps most lived =
         let few = lived.few in
         prints (outcome_of (checked_of i)) program (program_of_image i) steps compiles.reads
-        (record { there = subst (λ n. All (λ t. t < n) steps) (sym names_count) lived.there; short = omega arith })
+        (record { there = subst (λ n. All (λ t. t < n) steps) (sym (names_count classes program i compiles)) lived.there; short = omega arith })
 
     reads_back_as : (steps : List ℕ) → ¬ AreBadCells (code_of_image i).names cells → limit ≤ 1000000 → AreLived (code_of_image i) cells limit steps → ReadsBackAs i cells steps
     reads_back_as steps good most lived =

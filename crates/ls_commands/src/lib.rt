@@ -2,6 +2,8 @@
 #![tactic(auto)]
 
 pub mod compiled;
+pub mod judging;
 pub mod living;
+pub mod sampling;
 pub mod tallying;
 pub mod translating;

@@ -1,33 +1,64 @@
 -- What `explore` may answer.
-use Rattle.std.proofs.Common.{◌≡◌, ◌↔◌, ◌<◌, ◌⊎◌, inl, inr, ℕ, Bool, true, List, Result, Ok, Err, refl, sym, subst}
-use Rattle.std.specs.Prelude.{IfErr, IfOk, IsErrOf, String, string_bytes}
-use Rattle.std.specs.Global.{Global}
+use Rattle.std.proofs.Common.{◌≡◌, ◌↔◌, ◌<◌, ◌∙◌, ◌⊎◌, inl, inr, ℕ, zero, suc, Bool, true, List, [], ◌∷◌, Result, Ok, Err, refl, sym, ap, subst, arith}
+use Rattle.std.specs.Prelude.{All, IsErrOf, IsSorted, slice_index_or, length}
 use Rattle.ls_machine.specs.Room.{AreBadCells}
+use Rattle.ls_meaning.specs.Runs.{source_history}
 use Rattle.ls_image.specs.Images.{code_of_image}
 use Rattle.ls_image.specs.declared.image.Image.{Image}
 use Rattle.ls_translation.specs.Texts.{file_of, program_of}
-use Rattle.ls_explore.specs.Rows.{Told}
+use Rattle.ls_explore.specs.Rows.{AreApart, Told, row_order}
 use Rattle.ls_explore_images.specs.Settings.{GoesOnAfter}
-use Rattle.ls_explore_images.specs.Tellings.{TellAll, TellTruth}
+use Rattle.ls_explore_images.specs.Tellings.{TellAll, TellTruth, TellWhole, schedule_of}
 use Rattle.ls_explore_images.specs.declared.exploring.ImageExploration.{ImageExploration}
 use Rattle.ls_explore_images.specs.declared.fault.ExploreFault.{ExploreFault}
 use Rattle.ls_explore_images.specs.declared.fault.ExploreFault.TheVariants as explore
 use Rattle.ls_report.specs.Events.{Text}
+use Rattle.ls_text_laws.specs.Histories.{IsReadable}
+use Rattle.ls_translation.specs.declared.fault.TranslationFault.{TranslationFault}
 use Rattle.ls_translation.specs.declared.fault.TranslationFault.TheVariants as translation
+use Rattle.ls_verdicts.specs.Verdicts.{IsHistoryOf}
 use Rattle.ls_faults.specs.declared.fault.ToolFault.{ToolFault}
 use Rattle.ls_faults.specs.declared.fault.ToolFault.TheVariants as faults
-use Rattle.ls_faults.specs.Faults.{lifted_explore}
+use Rattle.ls_faults.specs.Faults.{lifted_explore, lifted_translation}
 use Rattle.ls_faults.specs.Given.{Gives}
 use Rattle.ls_commands.specs.Compiled.{names_of_image}
-use Rattle.ls_explore_commands.specs.Explored.{Explored, Endless, NoCells, NoStates, NotSetUp, NotTranslated, Tells}
-use Rattle.ls_explore_commands.specs.Printing.{explored_text}
+use Rattle.ls_explore_reports.specs.declared.printing.Exploring.{Exploring}
+use Rattle.ls_explore_commands.specs.Explored.{Explored, Endless, IsExploration, NoCells, NoStates, NotSetUp, NotTranslated, Tells}
+use Rattle.ls_explore_reports.specs.Judged.{AreHistories, IsJudged, Judged, rows_of}
+use Rattle.ls_explore_reports.specs.Printing.{explored_text}
+use Rattle.ls_explore_commands.specs.Readable.{SourceRunsAreReadable}
 
-module _ (i : Image) (cells states : ℕ) where
+-- what the rows tell, with the verdicts on them
+pub judged_so : (i : Image) (cells k : ℕ) (rows : List Told) (judged : List Judged) (complete roomy : Bool) → rows_of judged ≡ rows → TellTruth (file_of i) (program_of i) k rows → (complete ≡ true → TellAll (file_of i) (program_of i) cells rows) →
+    (complete ≡ true → roomy ≡ true → TellWhole (file_of i) (program_of i) rows) → AreApart rows → IsSorted row_order rows → All (IsJudged (program_of i)) judged → IsExploration i cells k judged complete roomy
+judged_so i cells k rows judged complete roomy e truth all whole apart order verdicts = record {
+  truth = subst (TellTruth (file_of i) (program_of i) k) (sym e) truth;
+  all = λ yes. subst (TellAll (file_of i) (program_of i) cells) (sym e) (all yes);
+  whole = λ yes room. subst (TellWhole (file_of i) (program_of i)) (sym e) (whole yes room);
+  apart = subst AreApart (sym e) apart;
+  order = subst (IsSorted row_order) (sym e) order;
+  verdicts = verdicts;
+}
+
+any_default : (xs : List Told) (n : ℕ) (d e : Told) → n < length xs → slice_index_or xs n d ≡ slice_index_or xs n e
+any_default [] n d e h = absurd (omega arith)
+any_default (x ∷ xs) zero d e h = refl
+any_default (x ∷ xs) (suc n) d e h = any_default xs n d e (omega arith)
+
+-- each row's history is that of a schedule, so it is read as it is printed
+pub rows_named : (i : Image) (k : ℕ) (rows : List Told) → SourceRunsAreReadable i → TellTruth (file_of i) (program_of i) k rows → AreHistories (program_of i) rows
+rows_named i k rows readable truth = λ n d lt.
+    let r : Told = slice_index_or rows n d in
+    let is : IsReadable (program_of i) (source_history (file_of i) (program_of i) (schedule_of k r)) = readable (schedule_of k r) in
+    let of_run : IsHistoryOf (program_of i) (source_history (file_of i) (program_of i) (schedule_of k r)) = (is.events, record { is_named = is.is_named; history = is.says.history }) in
+    subst (IsHistoryOf (program_of i)) (sym (truth.told r (n, lt, any_default rows n r d lt))) of_run
+
+module _ (i : Image) (e : Exploring) where
   abbrev Refused : ExploreFault → Result ImageExploration ExploreFault
   Refused f = Err f
 
-  pub explore_fails : (f : ExploreFault) → (IsErrOf (Refused f) explore.BadStates ↔ ((states ≡ 0) ⊎ (16777216 < states))) → (IsErrOf (Refused f) explore.BadCells → AreBadCells (code_of_image i).names cells) →
-      (IsErrOf (Refused f) explore.SetupEndless → GoesOnAfter (file_of i) (program_of i) 100001) → Gives (Explored i cells states) (Err (lifted_explore f))
+  pub explore_fails : (f : ExploreFault) → (IsErrOf (Refused f) explore.BadStates ↔ ((e.states ≡ 0) ⊎ (16777216 < e.states))) → (IsErrOf (Refused f) explore.BadCells → AreBadCells (code_of_image i).names e.cells) →
+      (IsErrOf (Refused f) explore.SetupEndless → GoesOnAfter (file_of i) (program_of i) 100001) → Gives (Explored i e) (Err (lifted_explore f))
   explore_fails explore.Memory many bad endless = tt
   explore_fails explore.BadCells many bad endless = NoCells (bad refl)
   explore_fails explore.BadStates many bad endless = NoStates (many.0 refl)
@@ -35,14 +66,14 @@ module _ (i : Image) (cells states : ℕ) where
   explore_fails explore.NotSetUp many bad endless = NotSetUp
   explore_fails (explore.Setup f) many bad endless = NotTranslated f
 
-  pub explore_tells : (k : ℕ) (rows : List Told) (kept : ℕ) (complete : Bool) (t : Text) → (AreBadCells (code_of_image i).names cells → ⊥) → TellTruth (file_of i) (program_of i) k rows →
-      (complete ≡ true → TellAll (file_of i) (program_of i) cells rows) → t ≡ explored_text (file_of i) (program_of i) (names_of_image i) k rows kept complete → Explored i cells states (Ok t)
-  explore_tells k rows kept complete t good truth all said = subst (λ x. Explored i cells states (Ok x)) (sym said) (Tells k rows kept complete good truth all)
+  -- a text isn't made where memory runs out, or a schedule is too long
+  pub long_fails : (f : TranslationFault) → (f ≡ translation.Memory) ⊎ (f ≡ translation.ResultTooLong) → Gives (Explored i e) (Err (lifted_translation f))
+  long_fails translation.Memory only = tt
+  long_fails translation.BadCells (inl is) = absurd cc
+  long_fails translation.BadCells (inr is) = absurd cc
+  long_fails (translation.DoesNotFit step) only = NotTranslated (translation.DoesNotFit step)
+  long_fails translation.ResultTooLong only = NotTranslated translation.ResultTooLong
 
-  -- what is answered of a text: it, or that memory ran out, or that a schedule is too long
-  pub explore_given : (k : ℕ) (rows : List Told) (kept : ℕ) (complete : Bool) (r : Result (String Global) ToolFault) → (AreBadCells (code_of_image i).names cells → ⊥) → TellTruth (file_of i) (program_of i) k rows →
-      (complete ≡ true → TellAll (file_of i) (program_of i) cells rows) → IfOk r (λ t. string_bytes t ≡ explored_text (file_of i) (program_of i) (names_of_image i) k rows kept complete) →
-      IfErr r (λ e. (e ≡ faults.Memory) ⊎ (e ≡ faults.Translation translation.ResultTooLong)) → Gives (Explored i cells states) r
-  explore_given k rows kept complete (Ok t) good truth all said only = explore_tells k rows kept complete (string_bytes t) good truth all said
-  explore_given k rows kept complete (Err e) good truth all said (inl is) = subst (λ f. Gives (Explored i cells states) (Err f)) (sym is) tt
-  explore_given k rows kept complete (Err e) good truth all said (inr is) = subst (λ f. Gives (Explored i cells states) (Err f)) (sym is) (NotTranslated translation.ResultTooLong)
+  pub explore_tells : (k : ℕ) (judged : List Judged) (kept : ℕ) (complete roomy : Bool) (t : Text) → (AreBadCells (code_of_image i).names e.cells → ⊥) → IsExploration i e.cells k judged complete roomy →
+      t ≡ explored_text (file_of i) (program_of i) (names_of_image i) k judged kept complete roomy e → Explored i e (Ok t)
+  explore_tells k judged kept complete roomy t good is said = subst (λ x. Explored i e (Ok x)) (sym said) (Tells k judged kept complete roomy good is)

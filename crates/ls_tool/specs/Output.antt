@@ -6,10 +6,14 @@ use Rattle.ls_report.specs.Events.{Text}
 use Rattle.ls_views.specs.Check.{ChecksTo}
 use Rattle.ls_views.specs.Ordered.{OrdersTo}
 use Rattle.ls_commands.specs.Compiled.{CountsTo, ReplaysTo}
+use Rattle.ls_commands.specs.Judged.{JudgesTo}
 use Rattle.ls_commands.specs.Lived.{LivesTo, ReplaysLiveTo}
+use Rattle.ls_commands.specs.Sampled.{SamplesTo}
 use Rattle.ls_commands.specs.Tallied.{sampling, TalliesTo}
 use Rattle.ls_commands.specs.Translated.{TranslatesTo}
 use Rattle.ls_explore_commands.specs.Explored.{ExploresTo}
+use Rattle.ls_explore_reports.specs.declared.printing.Exploring.{Exploring}
+use Rattle.ls_paging.specs.Paged.{PagesTo, PagesWithOrderTo}
 use Rattle.ls_views.specs.Viewed.{ViewsTo}
 use Rattle.ls_views.specs.declared.viewing.View.TheVariants as views
 use Rattle.ls_explanations.specs.Explanations.{note}
@@ -32,13 +36,24 @@ abbrev pub OnOne : Request → Text → Result Text ToolFault → Type 0
 OnOne requests.Order history answer = OrdersTo history answer
 OnOne other text answer = answer ≡ Err faults.WrongParts
 
+abbrev exploring : ℕ → ℕ → Bool → Bool → Exploring
+exploring cells states illegal first = record { cells = cells; states = states; illegal = illegal; first = first }
+
+-- and what one that draws schedules by seeds may answer on two
+abbrev pub OnSamples : Request → Text → Text → Result Text ToolFault → Type 0
+OnSamples (requests.Batch seed count steps cells false) classes program answer = TalliesTo cells (sampling seed count steps) classes program answer
+OnSamples (requests.Batch seed count steps cells true) classes program answer = JudgesTo cells (sampling seed count steps) classes program answer
+OnSamples (requests.Sample seed steps cells) classes program answer = SamplesTo cells seed steps classes program answer
+OnSamples other classes program answer = answer ≡ Err faults.WrongParts
+
 -- and on two
 abbrev pub OnTwo : Request → Text → Text → Result Text ToolFault → Type 0
 OnTwo requests.Check history order answer = ChecksTo history order answer
 OnTwo requests.Compile classes program answer = CountsTo classes program answer
 OnTwo (requests.Live cells limit) classes program answer = LivesTo cells limit classes program answer
-OnTwo (requests.Batch seed count steps cells) classes program answer = TalliesTo cells (sampling seed count steps) classes program answer
-OnTwo (requests.Explore cells states) classes program answer = ExploresTo cells states classes program answer
+OnTwo (requests.Batch seed count steps cells judge) classes program answer = OnSamples (requests.Batch seed count steps cells judge) classes program answer
+OnTwo (requests.Sample seed steps cells) classes program answer = OnSamples (requests.Sample seed steps cells) classes program answer
+OnTwo (requests.Explore cells states illegal first) classes program answer = ExploresTo (exploring cells states illegal first) classes program answer
 OnTwo other first second answer = answer ≡ Err faults.WrongParts
 
 -- and on three
@@ -47,16 +62,23 @@ OnThree (requests.Replay cells false) classes program schedule answer = ReplaysT
 OnThree (requests.Replay cells true) classes program schedule answer = ReplaysLiveTo cells classes program schedule answer
 OnThree requests.Source classes program schedule answer = ViewsTo views.History classes program schedule answer
 OnThree (requests.Trace from to) classes program schedule answer = ViewsTo (views.Trace from to) classes program schedule answer
+OnThree (requests.Page from to) classes program schedule answer = PagesTo from to classes program schedule answer
 OnThree (requests.State false) classes program schedule answer = ViewsTo views.State classes program schedule answer
 OnThree (requests.State true) classes program schedule answer = ViewsTo views.Drawing classes program schedule answer
 OnThree (requests.Translate to cells) classes program schedule answer = TranslatesTo to cells classes program schedule answer
 OnThree other classes program schedule answer = answer ≡ Err faults.WrongParts
+
+-- and on four
+abbrev pub OnFour : Request → Text → Text → Text → Text → Result Text ToolFault → Type 0
+OnFour (requests.Page from to) classes program schedule order answer = PagesWithOrderTo from to classes program schedule order answer
+OnFour other classes program schedule order answer = answer ≡ Err faults.WrongParts
 
 -- and on the parts of an input
 abbrev pub Answers : Request → List Text → Result Text ToolFault → Type 0
 Answers r (text ∷ []) answer = OnOne r text answer
 Answers r (first ∷ second ∷ []) answer = OnTwo r first second answer
 Answers r (classes ∷ program ∷ schedule ∷ []) answer = OnThree r classes program schedule answer
+Answers r (classes ∷ program ∷ schedule ∷ order ∷ []) answer = OnFour r classes program schedule order answer
 Answers r other answer = answer ≡ Err faults.WrongParts
 
 abbrev pub AnswersText : Request → Text → Result Text ToolFault → Type 0

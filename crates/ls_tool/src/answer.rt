@@ -4,17 +4,21 @@ ghost use Rattle.std.specs.Prelude.{List, Some, map, string_bytes};
 ghost use Rattle.ls_command_line.specs.Words.{AsksFor};
 ghost use Rattle.ls_faults.specs.Given.{Gives};
 ghost use Rattle.ls_report.specs.Events.{Text};
-ghost use Rattle.ls_tool.specs.Output.{Answers, AnswersText, Decides, IsTaken, OnOne, OnThree, OnTwo};
+ghost use Rattle.ls_tool.specs.Output.{Answers, AnswersText, Decides, IsTaken, OnFour, OnOne, OnSamples, OnThree, OnTwo};
 
 use crate::explained::refusal_of;
 use crate::refusal::Refusal;
 use ls_command_line::{CommandLine, Request, read_words};
 use ls_commands::compiled::{count, replay};
+use ls_commands::judging::judge_batch;
 use ls_commands::living::{live, replay_live};
+use ls_commands::sampling::sample;
 use ls_commands::tallying::{Sampling, batch};
 use ls_commands::translating::translate;
-use ls_explore_commands::explore;
+use ls_explore_commands::{Exploring, explore};
 use ls_faults::fault::ToolFault;
+use ls_page::Window;
+use ls_paging::paging::{page, page_with_order};
 use ls_parts::{parts_of, text_of};
 use ls_views::checking::check;
 use ls_views::ordering::order;
@@ -34,11 +38,55 @@ fn on_one(alloc: Global, request: Request, text: &str) -> Result<String, ToolFau
         | Request::Replay { .. }
         | Request::Source
         | Request::Trace { .. }
+        | Request::Page { .. }
         | Request::State { .. }
         | Request::Translate { .. }
         | Request::Live { .. }
         | Request::Batch { .. }
+        | Request::Sample { .. }
         | Request::Explore { .. } => Err(ToolFault::WrongParts),
+    }
+}
+
+/// What a command that draws schedules by seeds answers on two texts.
+fn on_samples<R: Threads + Sync>(
+    rt: &R,
+    alloc: Global,
+    request: Request,
+    classes: &str,
+    program: &str,
+) -> Result<String, ToolFault>
+    ensures { Gives (OnSamples request classes.now program.now) result }
+{
+    match request {
+        Request::Batch {
+            seed,
+            count,
+            steps,
+            cells,
+            judge,
+        } => {
+            let sampling = Sampling {
+                first: seed,
+                count: count as usize,
+                steps: steps as usize,
+            };
+            if judge {
+                return judge_batch(rt, alloc, sampling, cells as usize, classes, program);
+            }
+            batch(rt, alloc, sampling, cells as usize, classes, program)
+        }
+        Request::Sample { seed, steps, cells } => {
+            sample(
+                alloc,
+                cells as usize,
+                seed,
+                steps as usize,
+                classes,
+                program,
+            )
+        }
+        _ => Err(ToolFault::WrongParts),
     }
 }
 
@@ -58,26 +106,28 @@ fn on_two<R: Threads + Wait + Sync>(
         Request::Live { cells, limit } => {
             live(rt, alloc, cells as usize, limit as usize, first, second)
         }
-        Request::Batch {
-            seed,
-            count,
-            steps,
-            cells,
-        } => {
-            let sampling = Sampling {
-                first: seed,
-                count: count as usize,
-                steps: steps as usize,
-            };
-            batch(rt, alloc, sampling, cells as usize, first, second)
+        Request::Batch { .. } | Request::Sample { .. } => {
+            on_samples(rt, alloc, request, first, second)
         }
-        Request::Explore { cells, states } => {
-            explore(alloc, cells as usize, states as usize, first, second)
+        Request::Explore {
+            cells,
+            states,
+            illegal,
+            first: one,
+        } => {
+            let exploring = Exploring {
+                cells: cells as usize,
+                states: states as usize,
+                illegal,
+                first: one,
+            };
+            explore(alloc, exploring, first, second)
         }
         Request::Order
         | Request::Replay { .. }
         | Request::Source
         | Request::Trace { .. }
+        | Request::Page { .. }
         | Request::State { .. }
         | Request::Translate { .. } => Err(ToolFault::WrongParts),
     }
@@ -109,6 +159,16 @@ fn on_three<R: Threads + Wait + Sync>(
             };
             show(alloc, steps, classes, program, schedule)
         }
+        Request::Page { from, to } => {
+            page(
+                alloc,
+                from as usize,
+                to as usize,
+                classes,
+                program,
+                schedule,
+            )
+        }
         Request::State { dot: false } => show(alloc, View::State, classes, program, schedule),
         Request::State { dot: true } => show(alloc, View::Drawing, classes, program, schedule),
         Request::Translate { to, cells } => {
@@ -119,7 +179,31 @@ fn on_three<R: Threads + Wait + Sync>(
         | Request::Compile
         | Request::Live { .. }
         | Request::Batch { .. }
+        | Request::Sample { .. }
         | Request::Explore { .. } => Err(ToolFault::WrongParts),
+    }
+}
+
+/// What the command answers on four texts.
+fn on_four(
+    alloc: Global,
+    request: Request,
+    classes: &str,
+    program: &str,
+    schedule: &str,
+    order: &str,
+) -> Result<String, ToolFault>
+    ensures { Gives (OnFour request classes.now program.now schedule.now order.now) result }
+{
+    match request {
+        Request::Page { from, to } => {
+            let window = Window {
+                from: from as usize,
+                to: to as usize,
+            };
+            page_with_order(alloc, window, classes, program, schedule, order)
+        }
+        _ => Err(ToolFault::WrongParts),
     }
 }
 
@@ -142,6 +226,14 @@ fn decide<R: Threads + Wait + Sync>(
             classes.as_str(),
             program.as_str(),
             schedule.as_str(),
+        ),
+        [classes, program, schedule, order] => on_four(
+            alloc,
+            request,
+            classes.as_str(),
+            program.as_str(),
+            schedule.as_str(),
+            order.as_str(),
         ),
         _ => Err(ToolFault::WrongParts),
     }
