@@ -1,5 +1,5 @@
 -- What an image of these parts is.
-use Rattle.std.proofs.Common.{◌≡◌, sym, subst, ap, ◌∙◌, Ok, Err}
+use Rattle.std.proofs.Common.{◌≡◌, ◌<◌, length, sym, subst, ap, ◌∙◌, Ok, Err, arith}
 use Rattle.std.specs.Prelude.{IsErrOf}
 use Rattle.ls_parser_placing.specs.Files.{IsFileOf}
 use Rattle.ls_lexer.specs.declared.fault.TextFault.{TextFault}
@@ -16,14 +16,17 @@ use Rattle.ls_types.specs.declared.check.Checked.{Checked}
 use Rattle.ls_types.specs.declared.source.Source.{Source}
 use Rattle.ls_linker.specs.Limits.{KeepsLimits, GoesPast}
 use Rattle.ls_linker.specs.declared.fault.BuildFault.{BuildFault}
+use Rattle.ls_linker_laws.specs.Compiled.{code_of}
 use Rattle.ls_linker_laws.specs.Runs.{Runs}
 use Rattle.ls_image.specs.Images.{Compiles, code_of_image, source_of}
 use Rattle.ls_compiler.specs.Answers.{IsWithinLimits}
 use Rattle.ls_image.specs.declared.image.Image.{Image}
 
+-- an error that is tested to be "too long" is it
 pub err_of : {T : Type 0} (f : TextFault) → IsErrOf {T = T} (Err f) text.TooLong → f ≡ text.TooLong
 err_of f e = cc
 
+-- the image is compiled from these texts, if each part is
 pub compiled : (classes text : Text) (file : File) (checked : Checked) (program : Program) (source : Source) (code : Code) (image : Image) →
     source_of image ≡ source → code_of_image image ≡ code → checked_of source ≡ checked → program_of source ≡ program →
     IsFileOf classes file → elaborated file ≡ Ok (outcome_of checked) →
@@ -39,9 +42,24 @@ compiled classes text file checked program source code image s d c p spelled ela
       (subst (λ z. Runs (source_file source) (source_program source) z) (sym d) runs);
 }
 
-pub limited : (source : Source) (image : Image) → source_of image ≡ source → KeepsLimits (source_file source) (source_program source) → IsWithinLimits image
-limited source image s within = subst (λ x. KeepsLimits (source_file x) (source_program x)) (sym s) within
+-- the code has a thread, since the program has a setup
+pub has_setup : (checked : Checked) (program : Program) (source : Source) (code : Code) (text : Text) → program_of source ≡ program →
+    IsTextOf (outcome_of checked) (plain_program program) text → Runs (source_file source) (source_program source) code → 0 < length code.starts
+has_setup checked program source code text p reads runs =
+    let many = runs.same.threads in
+    let same = ap (λ x. length (plain_program x).threads) p in
+    let parts = ap length reads.program.parts in
+    omega (arith, many, same, parts)
 
+-- the image has the code of its source, and keeps the limits that its source keeps
+pub limited : (source : Source) (code : Code) (image : Image) → source_of image ≡ source → code_of_image image ≡ code → code ≡ code_of (source_file source) (source_program source) →
+    KeepsLimits (source_file source) (source_program source) → IsWithinLimits image
+limited source code image s d made within = record {
+  made = d ∙ (made ∙ ap (λ x. code_of (source_file x) (source_program x)) (sym s));
+  limits = subst (λ x. KeepsLimits (source_file x) (source_program x)) (sym s) within;
+}
+
+-- a source that goes past a limit does so with the parts that it was made of
 pub past : (checked : Checked) (program : Program) (source : Source) (f : BuildFault) → checked_of source ≡ checked → program_of source ≡ program →
     GoesPast (source_file source) (source_program source) f → GoesPast (outcome_of checked).file (plain_program program) f
 past checked program source f c p goes =

@@ -16,21 +16,23 @@ use Rattle.ls_types.specs.ProgramRefusals.{IsNoProgram}
 use Rattle.ls_types_programs.specs.Programs.{IsTextOf}
 use Rattle.ls_types_elaboration.specs.declared.rule.CheckFault.{CheckFault}
 use Rattle.ls_types.specs.declared.fault.ProgramFault.{ProgramFault}
+use Rattle.ls_linker_laws.specs.Compiled.{code_of}
 use Rattle.ls_linker.specs.Limits.{KeepsLimits, GoesPast}
 use Rattle.ls_linker.specs.declared.fault.BuildFault.{BuildFault}
 use Rattle.ls_compiler.specs.declared.fault.CompileFault.{CompileFault}
 use Rattle.ls_compiler.specs.declared.fault.CompileFault.TheVariants as faults
-use Rattle.ls_image.specs.Images.{Compiles, checked_of, program_of_image}
+use Rattle.ls_image.specs.Images.{Compiles, checked_of, code_of_image, program_of_image}
 use Rattle.ls_image.specs.declared.image.Image.{Image}
 
--- an image keeps each limit of the code
-abbrev pub IsWithinLimits : Image → Type 0
-IsWithinLimits image = KeepsLimits (outcome_of (checked_of image)).file (plain_program (program_of_image image))
+-- An image has the code that is made of its file and its program, so that one code runs wherever two texts are compiled; and it keeps each limit
+-- of the code.
+pub record IsWithinLimits (image : Image) : Type 0 where
+  pub made : code_of_image image ≡ code_of (outcome_of (checked_of image)).file (plain_program (program_of_image image))
+  pub limits : KeepsLimits (outcome_of (checked_of image)).file (plain_program (program_of_image image))
 
--- The texts are compiled, or the fault says of them what their layer's fault says: that the class text spells no file, and then each
--- fault of its only where it may come, that
--- the file it spells breaks the rule that is named, that the program text is no program of that file, or that the two go
--- past the limit of the code that is named. Want of memory says nothing.
+-- The texts are compiled, or a fault says why not. The class text spells no file; then each fault comes only if it may
+-- come of the text. Or the file that it spells breaks the rule that is named. Or the program text is no program of
+-- that file. Or the code goes past the limit that is named. "Out of memory" says nothing.
 pub data CompilesTo (classes program : Text) : Result Image CompileFault → Type 0 where
   Compiled : (image : Image) → Compiles classes program image → CompilesTo classes program (Ok image)
   NoFile : (f : TextFault) → Refuses f ((file : ParsedFile) → TextSpells file classes → ⊥) → Comes classes f → CompilesTo classes program (Err (faults.Text f))

@@ -13,8 +13,8 @@ use ls_types_files::checking::check;
 use ls_types_reading::program::read_program;
 use std::alloc::Global;
 
-/// The image of a class text and a program text. Faults come in the order of the stages: those of the class text, of its
-/// check, of the program text, then of the code.
+/// The image of a class text and a program text. Faults come in the order of the stages: those of the class text, of
+/// its check, of the program text, and of the code. Memory may run out at any stage.
 pub fn compile(alloc: Global, classes: &str, program: &str) -> Result<Image, CompileFault>
     ensures compiled { IfOk result (λ image. Compiles classes.now program.now image) }
     ensures within { IfOk result IsWithinLimits }

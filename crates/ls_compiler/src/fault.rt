@@ -9,7 +9,7 @@ use ls_types::check::CheckFault;
 use ls_types::fault::ProgramFault;
 use thiserror::Error;
 
-/// Why two texts are not compiled, by the stage that refuses them. Want of memory is a fault of each stage.
+/// Why two texts are not compiled, by the stage that refuses them. At each stage memory may run out.
 #[derive(Clone, Copy, Debug, Error, PartialEq, Eq)]
 pub enum CompileFault {
     #[error("the class text is no class file")]

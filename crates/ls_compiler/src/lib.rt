@@ -1,4 +1,4 @@
-//! From a class text and a program text to an image that is the same as both.
+//! From a class text and a program text to an image that runs as these texts.
 #![tactic(auto)]
 
 pub mod compile;

@@ -23,7 +23,7 @@ impl Model for Schedule {
 }
 
 impl Schedule {
-    ghost use Rattle.std.specs.Prelude.{◌≡◌, ◌<◌, ◌≤◌, ◌↔◌, ◌++◌, ◌∷◌, [], length, IsTrue, OnOk, OnErr};
+    ghost use Rattle.std.specs.Prelude.{◌≡◌, ◌<◌, ◌≤◌, ◌↔◌, ◌++◌, ◌∷◌, [], length, IfOk, IsTrue, OnOk, OnErr};
 
     /// The empty schedule.
     pub fn new(alloc: Global) -> Schedule
@@ -53,6 +53,22 @@ impl Schedule {
         ensures { result ≡ length self.now }
     {
         self.steps.len()
+    }
+
+    /// A law: no schedule has more than `MOST_STEPS` steps.
+    pub fn fits(&self)
+        ensures { length self.now ≤ 1000000 }
+    {
+        let _ = self.steps.as_slice();
+    }
+
+    /// A copy of the schedule.
+    pub fn copied(&self, alloc: Global) -> Result<Schedule, AllocError>
+        ensures { IfOk result (λ copy. copy ≡ self.now) }
+    {
+        Ok(Schedule {
+            steps: self.steps.as_slice().to_vec(alloc)?,
+        })
     }
 
     pub fn is_empty(&self) -> bool

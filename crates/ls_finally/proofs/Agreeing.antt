@@ -18,6 +18,7 @@ use Rattle.ls_lowered.specs.Expressions.{find, find_all, unary_word, binary_word
 use Rattle.ls_lowered.specs.Statements.{Completion}
 use Rattle.ls_finally.specs.Agreement.{Agree, IsBelow, AreBelow}
 
+-- two steps after a course, grouped otherwise
 pub finish_finish : {A B C : Type 0} (x : Course A) (f : A → List ℕ → Answers → Course B) (g : B → List ℕ → Answers → Course C) → finish (finish x f) g ≡ finish x (λ c ls q. finish (f c ls q) g)
 finish_finish (Asks a) f g = refl
 finish_finish (Ends c ls q) f g = refl
@@ -28,12 +29,15 @@ pub record Above (k : ℕ) (old new : List ℕ) : Type 0 where
   pub long : length new ≡ length old
   pub at : (i : ℕ) → k ≤ i → slice_index new i ≡ slice_index old i
 
+-- locals are as they were, if nothing was set
 pub above_refl : (k : ℕ) (ls : List ℕ) → Above k ls ls
 above_refl k ls = record { long = refl; at = λ i l. refl }
 
+-- setting a local below k leaves the locals from k on
 pub above_set : (k i w : ℕ) (old new : List ℕ) → i < k → Above k old new → Above k old (slice_set new i w)
 above_set k i w old new lt a = record { long = length-set new i w ∙ a.long; at = λ j l. get_or-set_other new i j w 0 (λ e. omega arith) ∙ a.at j l }
 
+-- setting a local below k in both lists keeps them the same below k
 pub agree_set : (k i w : ℕ) (ls new : List ℕ) → i < k → Agree k ls new → Agree k (slice_set ls i w) (slice_set new i w)
 agree_set k i w ls new lt a = record {
   short = subst (λ n. k ≤ n) (sym (length-set ls i w)) a.short;
@@ -47,6 +51,7 @@ agree_set k i w ls new lt a = record {
       (cases_lt j i);
 }
 
+-- setting a local from k on keeps the lists the same below k
 pub agree_slot : (k r w : ℕ) (ls new : List ℕ) → k ≤ r → Agree k ls new → Agree k ls (slice_set new r w)
 agree_slot k r w ls new le a = record {
   short = a.short;
@@ -62,6 +67,7 @@ pub record Follows {A : Type 0} (k : ℕ) (old : List ℕ) (g g' : A → List �
 pub record Alike {A : Type 0} (k : ℕ) (f : List ℕ → Answers → Course A) : Type 0 where
   pub is : (old ls new : List ℕ) (q : Answers) (g g' : A → List ℕ → Answers → Course Completion) → Agree k ls new → Above k old new → Follows k old g g' → finish (f new q) g' ≡ finish (f ls q) g
 
+-- one expression, and then another
 pub then_alike : {A B : Type 0} (k : ℕ) (f : List ℕ → Answers → Course (Outcome A)) (go : A → List ℕ → Answers → Course (Outcome B)) → Alike k f → ((x : A) → Alike k (go x)) → Alike k (λ ls q. and_then (f ls q) go)
 then_alike {A = A} {B = B} k f go h t = record {
   is = λ old ls new q g g' a u s.
@@ -77,6 +83,7 @@ then_alike {A = A} {B = B} k f go h t = record {
 pub ends_alike : {A : Type 0} (k : ℕ) (o : A) → Alike k (λ ls q. Ends o ls q)
 ends_alike k o = record { is = λ old ls new q g g' a u s. s.goes o ls new q a u }
 
+-- one action, and the word of its answer
 pub ask_alike : (k : ℕ) (action : Action ℕ) → Alike k (λ ls q. ask action ls q)
 ask_alike k action = record { is = go }
   where
@@ -86,6 +93,7 @@ ask_alike k action = record { is = go }
     go old ls new (answers.Gives w ∷ q) g g' a u s = s.goes (Results w) ls new q a u
     go old ls new (answers.Fails kind ∷ q) g g' a u s = s.goes (Throws kind) ls new q a u
 
+-- one action that gives no word
 pub perform_alike : (k : ℕ) (action : Action ℕ) → Alike k (λ ls q. perform action ls q)
 perform_alike k action = then_alike k (λ ls q. ask action ls q) (λ w ls q. Ends (Results 0) ls q) (ask_alike k action) (λ w. ends_alike k (Results 0))
 
@@ -93,6 +101,7 @@ pub if_alike : {A : Type 0} (k : ℕ) (b : Bool) (f g : List ℕ → Answers →
 if_alike k true f g h t = record { is = h.is }
 if_alike k false f g h t = record { is = t.is }
 
+-- an expression, unless an address is null
 pub null_alike : {A : Type 0} (k x : ℕ) (f : List ℕ → Answers → Course (Outcome A)) → Alike k f → Alike k (λ ls q. unless_null x ls q (f ls q))
 null_alike {A = A} k x f h = if_alike {A = Outcome A} k (nat_eq x 0) (λ ls q. Ends (Throws NullPointer) ls q) f (ends_alike {A = Outcome A} k (Throws NullPointer)) h
 
@@ -114,6 +123,7 @@ local_alike k n lt = record { is = λ old ls new q g g' a u s. ap (λ w. g' (Res
 divided_alike : (k : ℕ) (o : BinaryOperator) (x y : ℕ) → Alike k (λ ls q. divided o x y ls q)
 divided_alike k o x y = if_alike k (nat_eq (y % 2 ^ 32) 0) (λ ls q. Ends (Throws Arithmetic) ls q) (λ ls q. Ends (Results (binary_word o x y)) ls q) (ends_alike k (Throws Arithmetic)) (ends_alike k (Results (binary_word o x y)))
 
+-- an operator on two words
 pub operate_alike : (k : ℕ) (o : BinaryOperator) (x y : ℕ) → Alike k (λ ls q. operate o x y ls q)
 operate_alike k op.Divide x y = record { is = (divided_alike k op.Divide x y).is }
 operate_alike k op.Remainder x y = record { is = (divided_alike k op.Remainder x y).is }
@@ -141,6 +151,7 @@ array_alike k n = if_alike k (int_lt (int_of n) (pos 0)) (λ ls q. Ends (Throws 
 
 module _ (calls : Calls) (k : ℕ) where
   mutual
+    -- each expression on locals below k goes on alike
     pub found_alike : (e : Expression) → IsBelow k e → Alike k (λ ls q. find calls e ls q)
     found_alike (Word w) t = ends_alike k (Results w)
     found_alike (Local n) t = local_alike k n t

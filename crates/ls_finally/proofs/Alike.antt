@@ -16,6 +16,7 @@ use Rattle.ls_finally.proofs.Agreeing.{finish_finish, Above, above_set, agree_se
 pub record GoesOn (k : ℕ) (old : List ℕ) (g g' : Go) : Type 0 where
   pub goes : (c : Completion) (ls new : List ℕ) (q : Answers) → Agree k ls new → Above k old new → g' c new q ≡ g c ls q
 
+-- a statement goes on alike, on locals that agree below k
 pub record Same (k : ℕ) (f : List ℕ → Answers → Course Completion) : Type 0 where
   pub is : (old ls new : List ℕ) (q : Answers) (g g' : Go) → Agree k ls new → Above k old new → GoesOn k old g g' → finish (f new q) g' ≡ finish (f ls q) g
 
@@ -23,6 +24,7 @@ pub record Same (k : ℕ) (f : List ℕ → Answers → Course Completion) : Typ
 pub field_alike : (calls : Calls) (k : ℕ) (e a : Expression) (f : ℕ) → IsBelow k e → IsBelow k a → Alike k (λ ls q. and_then (find calls e ls q) (λ x ls q. and_then (find calls a ls q) (λ y ls q. unless_null x ls q (perform (act.WriteField x (f + 1) y) ls q))))
 field_alike calls k e a f t u = then_alike k (find calls e) _ (found_alike calls k e t) (λ x. then_alike k (find calls a) _ (found_alike calls k a u) (λ y. null_alike k x (λ ls q. perform (act.WriteField x (f + 1) y) ls q) (perform_alike k (act.WriteField x (f + 1) y))))
 
+-- what is added to a field
 pub addition_alike : (calls : Calls) (k : ℕ) (e a : Expression) (f : ℕ) → IsBelow k e → IsBelow k a → Alike k (λ ls q. and_then (find calls e ls q) (λ x ls q. and_then (unless_null x ls q (ask (act.ReadField x (f + 1)) ls q)) (λ y ls q. and_then (find calls a ls q) (λ z ls q. and_then (operate op.Add y z ls q) (λ w ls q. unless_null x ls q (perform (act.WriteField x (f + 1) w) ls q))))))
 addition_alike calls k e a f t u =
     then_alike k (find calls e) _ (found_alike calls k e t) (λ x.
@@ -31,6 +33,7 @@ addition_alike calls k e a f t u =
     then_alike k (λ ls q. operate op.Add y z ls q) _ (operate_alike k op.Add y z) (λ w.
     null_alike k x (λ ls q. perform (act.WriteField x (f + 1) w) ls q) (perform_alike k (act.WriteField x (f + 1) w))))))
 
+-- the write of an item
 pub item_alike : (calls : Calls) (k : ℕ) (a i e : Expression) → IsBelow k a → IsBelow k i → IsBelow k e → Alike k (λ ls q. and_then (find calls a ls q) (λ x ls q. and_then (find calls i ls q) (λ n ls q. and_then (find calls e ls q) (λ y ls q. unless_null x ls q (perform (act.WriteItem x (int_of n) y) ls q)))))
 item_alike calls k a i e t u v = then_alike k (find calls a) _ (found_alike calls k a t) (λ x. then_alike k (find calls i) _ (found_alike calls k i u) (λ n. then_alike k (find calls e) _ (found_alike calls k e v) (λ y. null_alike k x (λ ls q. perform (act.WriteItem x (int_of n) y) ls q) (perform_alike k (act.WriteItem x (int_of n) y)))))
 
@@ -143,6 +146,7 @@ module _ (k : ℕ) where
 
 module _ (calls : Calls) (k : ℕ) where
   mutual
+    -- each statement on locals below k goes on alike
     pub same : (s : Statement) → Fits k s → Same k (execute calls s)
     same (Block ss) t = record { is = (all_same ss t).is }
     same (SetLocal n e) t = word_same k (find calls e) _ (found_alike calls k e t.1) (λ w. set_same k n w (λ ls q. Ends Normal ls q) t.0 (ends_same k Normal))

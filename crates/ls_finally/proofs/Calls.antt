@@ -90,6 +90,7 @@ module _ (ms : File) (calls calls' : Calls) (agree : (m : ℕ) (ws : List ℕ) (
 
   module _ (k : ℕ) where
     mutual
+      -- if calls do the same, each statement does the same
       pub runs : (s : Statement) → IsPlacedStatement ms k s → execute calls' s ≡ execute calls s
       runs (Block ss) t = all_run ss t
       runs (SetLocal n e) t = ap (λ (f : Finds). λ ls q. finish (f ls q) (on_word (λ w ls q. Ends Normal (slice_set ls n w) q))) (found e t.1.1)

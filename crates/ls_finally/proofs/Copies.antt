@@ -58,7 +58,7 @@ module _ (calls : Calls) (k room : ℕ) (b f : Statement) (fits_b : Fits k b) (f
   abbrev goals : Statements
   goals = Then f (Then (both f (Throw k)) (ways r f (exits 0 b)))
 
-  -- behind the body, in the tree and in the lowered tree
+  -- what comes after the body, in the tree and in the lowered tree
   abbrev behind : Go
   behind c ls q = finish (on_any (execute calls f) c ls q) g
 
@@ -126,6 +126,7 @@ module _ (calls : Calls) (k room : ℕ) (b f : Statement) (fits_b : Fits k b) (f
     out = out_ok;
   }
 
+  -- a `try` by copies of its finally block does what the `try` does
   pub copies_ok : (ls new : List ℕ) (q : Answers) → length new ≡ room → Agree k ls new → finish (execute calls (finally_of k b f) new q) g' ≡ finish (finish (execute calls b ls q) (on_any (execute calls f))) g
   copies_ok ls new q e a =
       finish_finish (execute calls (both body (Leave 0)) new q) (on_leave (leave_to calls goals)) g'

@@ -37,6 +37,7 @@ module _ (k m : ℕ) (le : k ≤ m) where
     all_below_more (More e es) t = (below_more e t.0, all_below_more es t.1)
 
   mutual
+    -- a statement on locals below k is one on locals below any larger number
     pub fits_more : (s : Statement) → Fits k s → Fits m s
     fits_more (Block ss) t = all_fit_more ss t
     fits_more (SetLocal n x) t = (omega (arith, t.0), below_more x t.1)
@@ -101,6 +102,7 @@ finally_fits k b f t u =
 
 module _ (ms : File) (m : ℕ) where
   mutual
+    -- the lowered form of a statement has its own locals, and two for each `try`
     pub flat_fits : (s : Statement) (k : ℕ) → m ≤ k → IsPlacedStatement ms m s → Fits (k + 2 * tries s) (flat k s)
     flat_fits (Block ss) k h t = all_flat_fit ss k h t
     flat_fits (SetLocal n e) k h t = (omega (arith, t.0), below_more m (k + 2 * 0) (omega arith) e t.1.0)

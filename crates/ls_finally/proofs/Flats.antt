@@ -63,6 +63,7 @@ module _ (m room : ℕ) where
 
   module _ (calls : Calls) (ms : File) where
     mutual
+      -- the lowered form of a statement does what the statement does
       pub flat_ok : (s : Statement) (k : ℕ) (g g' : Go) → IsPlacedStatement ms m s → m ≤ k → k + 2 * tries s ≤ room → Onward g g' → Both m room (execute calls s) (execute calls (flat k s)) g g'
       flat_ok (Block ss) k g g' t le lt h = all_flat_ok ss k g g' t le lt h
       flat_ok (SetLocal n e) k g g' t le lt h = word_both m room (find calls e) _ _ g g' (found_alike calls m e t.1.0) (λ w ls new q e2 a. h Normal (slice_set ls n w) (slice_set new n w) q (length-set new n w ∙ e2) (agree_set m n w ls new t.0 a)) (λ kind ls new q e a. h (Threw kind) ls new q e a)

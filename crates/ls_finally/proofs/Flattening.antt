@@ -24,6 +24,7 @@ copies_split : (free : ℕ) (items rest : List Statement) (s : Statement) → it
     all_copies free (statements_of items) ≡ copies free (plain_statement s) + all_copies (free + 2 * tries (plain_statement s)) (statements_of rest)
 copies_split free items rest s split = ap (λ (xs : List Statement). all_copies free (statements_of xs)) split
 
+-- one more statement of a block is lowered
 pub goes_on : (first so_far : ℕ) (whole done new : List Statement) (free after count more : ℕ) (items rest : List Statement) (s t : Statement) → items ≡ s ∷ rest →
     new ≡ done ++ t ∷ [] → plain_statement t ≡ flat free (plain_statement s) → after ≡ free + 2 * tries (plain_statement s) → more ≡ count + copies free (plain_statement s) → more ≤ 4096 →
     Flattening first so_far whole done free count items → Flattening first so_far whole new after more rest

@@ -69,5 +69,6 @@ invoke_ok methods t (suc d) m ws q n =
     ap (λ (o : Option Method). enter (Enter m) q (run_body (invoke (flat_file methods) d) o ws)) (slice_get-flat methods m)
     ∙ ap (enter (Enter m) q) (fun_ext (λ q. body_ok methods (invoke methods d) (invoke (flat_file methods) d) (invoke_ok methods t d) (slice_get methods m) ws q (placed_at methods methods m t) n))
 
+-- the law: the lowered tree keeps the courses of methods
 pub keeps : KeepsCourses
 keeps = invoke_ok

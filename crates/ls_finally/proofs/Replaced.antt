@@ -15,7 +15,7 @@ use Rattle.ls_finally.specs.Agreement.{Agree, IsBelow, Fits, AllFit}
 use Rattle.ls_finally.proofs.Agreeing.{finish_finish, Above, above_refl, agree_set, agree_slot, Alike, found_alike}
 use Rattle.ls_finally.proofs.Alike.{field_alike, addition_alike, item_alike}
 
--- a number that isn't beyond so many is below them
+-- a number that doesn't lead beyond l is below l
 inward : (l n : ℕ) → outward l n ≡ None → n < l
 inward zero n e = absurd (some e)
   where
@@ -51,12 +51,12 @@ nth_after [] ys i p e = let f : p ≡ i = omega arith in ap (nth ys) f
 nth_after (x ∷ xs) ys i zero e = absurd (let f : ⊥ = omega arith in f)
 nth_after (x ∷ xs) ys i (suc p) e = nth_after xs ys i p (omega arith)
 
--- leave p goes on as exit x does, which has its target beyond so many numbers
+-- leave p goes on as exit x does, whose target is beyond these numbers
 abbrev pub OutAt : ℕ → ℕ → ℕ → ℕ → Exit → ℕ → Go → Go → Type 0
 OutAt k r room l (LeaveOut m) p g g' = (n : ℕ) (ls new : List ℕ) (q : Answers) → n ≡ l + m → length new ≡ room → Agree k ls new → g' (Left p) new q ≡ g (Left n) ls q
 OutAt k r room l ReturnOut p g g' = (w : ℕ) (ls new : List ℕ) (q : Answers) → slice_index new r ≡ w → length new ≡ room → Agree k ls new → g' (Left p) new q ≡ g (Returned w) ls q
 
--- what follows goes on alike, inside so many numbers; beyond them exits are leaves from j on
+-- what follows goes on alike inside of l numbers; beyond them exits are leaves from j on
 pub record Goes (k r room l j : ℕ) (xs : List Exit) (g g' : Go) : Type 0 where
   pub normal : (ls new : List ℕ) (q : Answers) → length new ≡ room → Agree k ls new → g' Normal new q ≡ g Normal ls q
   pub threw : (kind : Kind) (ls new : List ℕ) (q : Answers) → length new ≡ room → Agree k ls new → g' (Threw kind) new q ≡ g (Threw kind) ls q
@@ -68,6 +68,7 @@ module _ (k room : ℕ) where
   abbrev pub Both : (f f' : List ℕ → Answers → Course Completion) (g g' : Go) → Type 0
   Both f f' g g' = (ls new : List ℕ) (q : Answers) → length new ≡ room → Agree k ls new → finish (f' new q) g' ≡ finish (f ls q) g
 
+  -- an expression, and then the rest of a statement
   pub word_both : (c : List ℕ → Answers → Course (Outcome ℕ)) (go go' : ℕ → List ℕ → Answers → Course Completion) (g g' : Go) → Alike k c → ((w : ℕ) → Both (go w) (go' w) g g') → ((kind : Kind) (ls new : List ℕ) (q : Answers) → length new ≡ room → Agree k ls new → g' (Threw kind) new q ≡ g (Threw kind) ls q) → Both (λ ls q. finish (c ls q) (on_word go)) (λ ls q. finish (c ls q) (on_word go')) g g'
   word_both c go go' g g' t h threw ls new q e a =
       finish_finish (c new q) (on_word go') g'
@@ -78,6 +79,7 @@ module _ (k room : ℕ) where
       goes (Results w) ls2 new2 q2 a2 u = h w ls2 new2 q2 (u.long ∙ e) a2
       goes (Throws kind) ls2 new2 q2 a2 u = threw kind ls2 new2 q2 (u.long ∙ e) a2
 
+  -- one of two statements, by a test
   pub if_both : (b : Bool) (f f' h h' : List ℕ → Answers → Course Completion) (g g' : Go) → Both f f' g g' → Both h h' g g' → Both (λ ls q. if b then f ls q else h ls q) (λ ls q. if b then f' ls q else h' ls q) g g'
   if_both true f f' h h' g g' t u = t
   if_both false f f' h h' g g' t u = u
@@ -86,6 +88,7 @@ module _ (k room : ℕ) where
   thrown_both None g g' t ls new q e a = refl
   thrown_both (Some kind) g g' t ls new q e a = t kind ls new q e a
 
+  -- back to the condition of a loop
   pub back_both : (f f' : List ℕ → Answers → Course Completion) (g g' : Go) → Both f f' g g' → ((kind : Kind) (ls new : List ℕ) (q : Answers) → length new ≡ room → Agree k ls new → g' (Threw kind) new q ≡ g (Threw kind) ls q) → Both (turn_back f) (turn_back f') g g'
   back_both f f' g g' t h ls new [] e a = refl
   back_both f f' g g' t h ls new (answers.Done ∷ q) e a = t ls new q e a
@@ -182,6 +185,7 @@ module _ (k r room : ℕ) (le : k ≤ r) (lt : r < room) where
     count_replaced l j (Then x xs) = ap suc (count_replaced l (j + length (exits l x)) xs)
 
     mutual
+      -- a statement with leaves to exits in place of its ways out does what the statement does
       pub replaced_ok : (s : Statement) (l j : ℕ) (g g' : Go) → Fits k s → Goes k r room l j (exits l s) g g' → Both k room (execute calls s) (execute calls (replaced r l j s)) g g'
       replaced_ok (Block ss) l j g g' t h = all_replaced_ok ss l j g g' t h
       replaced_ok (SetLocal n e) l j g g' t h = word_both k room (find calls e) _ _ g g' (found_alike calls k e t.1)

@@ -17,9 +17,11 @@ use Rattle.ls_lowered.proofs.Taken.{all_of_map, mapped_more}
 pub few_locals : (methods items : List Method) → methods ≡ items → All (λ m. locals_of (plain_method m) ≤ 128) methods → FewLocals (map plain_method items)
 few_locals methods items e h = All-map (λ m. locals_of m ≤ 128) plain_method items (subst (λ ms. All (λ m. locals_of (plain_method m) ≤ 128) ms) e h)
 
+-- if the file has few locals, each method has at most 128
 pub not_few_locals : (methods items : List Method) → methods ≡ items → FewLocals (map plain_method items) → All (λ m. locals_of (plain_method m) ≤ 128) methods
 not_few_locals methods items e h = subst (λ ms. All (λ m. locals_of (plain_method m) ≤ 128) ms) (sym e) (all_of_map (λ m. locals_of m ≤ 128) plain_method items h)
 
+-- if each method has at most 4096 copies, the file has few copies
 pub few_copies : (methods items : List Method) → methods ≡ items → All (λ m. copies_of (plain_method m) ≤ 4096) methods → FewCopies (map plain_method items)
 few_copies methods items e h = All-map (λ m. copies_of m ≤ 4096) plain_method items (subst (λ ms. All (λ m. copies_of (plain_method m) ≤ 4096) ms) e h)
 
@@ -30,7 +32,7 @@ too_many methods i m l e big = λ h.
     let few : copies_of (plain_method m) ≤ 4096 = subst (λ x. copies_of (plain_method x) ≤ 4096) (sym e) (all i m l) in
     omega (arith, few, big)
 
--- where the locals fit, want of memory may be answered
+-- if the locals fit, memory may still run out
 pub wants_memory : {A : Type 0} (methods : List Method) (r : Result A LowerFault) → All (λ m. locals_of (plain_method m) ≤ 128) methods → IfErr r (λ e. e ≡ Memory) → IfErr r (Refused (map plain_method methods))
 wants_memory methods (Ok x) fits e = tt
 wants_memory methods (Err e) fits is = subst (λ z. Refused (map plain_method methods) z) (sym is) (few_locals methods methods refl fits)
@@ -42,6 +44,7 @@ one_refused methods i m Memory l is fits h = few_locals methods methods refl fit
 one_refused methods i m TooManyLocals l is fits h = absurd h
 one_refused methods i m TooManyCopies l is fits h = too_many methods i m l is h
 
+-- the answer of one method is passed on
 pub passes_on : {A : Type 0} (methods : List Method) (i : ℕ) (m : Method) (r : Result A LowerFault) → i < length methods → m ≡ slice_index_or methods i m → All (λ m. locals_of (plain_method m) ≤ 128) methods →
     IfErr r (λ e. TooMany e (copies_of (plain_method m))) → IfErr r (Refused (map plain_method methods))
 passes_on methods i m (Ok x) l is fits h = tt

@@ -1,14 +1,14 @@
--- Locals that agree, and statements that speak of low locals alone.
+-- Locals that agree, and statements that name only low locals.
 use Rattle.std.specs.Prelude.{◌≡◌, ℕ, ◌<◌, ◌≤◌, List, length, slice_index}
 use Rattle.ls_lowered.specs.LoweredTree.{Expression, Word, Local, Unary, Binary, And, Or, Hold, Keep, After, Field, Item, SetFirst, ReadPair, SetPair, SwapPair, AttemptMark, OnLock, Call, MakeObject, MakeLock, MakeMarkable, MakeArray, Expressions, End, More, Statement, Block, SetLocal, SetField, AddField, SetItem, Evaluate, If, While, Return, Try, Guarded, Throw, Leavable, Leave, Statements, Done, Then}
 
--- the locals below k are there and the same
+-- each local below k exists in both lists, and is the same
 pub record Agree (k : ℕ) (ls new : List ℕ) : Type 0 where
   pub short : k ≤ length ls
   pub long : k ≤ length new
   pub at : (i : ℕ) → i < k → slice_index new i ≡ slice_index ls i
 
--- an expression that reads and sets locals below k alone
+-- an expression that reads and sets only locals below k
 abbrev mutual
   pub IsBelow : ℕ → Expression → Type 0
   IsBelow k (Word w) = Unit {0}
@@ -38,7 +38,7 @@ abbrev mutual
   AreBelow k End = Unit {0}
   AreBelow k (More e es) = IsBelow k e × AreBelow k es
 
--- a statement on locals below k alone, without `try`
+-- a statement without `try`, which names only locals below k
 abbrev mutual
   pub Fits : ℕ → Statement → Type 0
   Fits k (Block ss) = AllFit k ss

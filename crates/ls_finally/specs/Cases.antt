@@ -29,10 +29,11 @@ ThrowsOn = does (Try (Evaluate (Binary op.Divide (Word 1) (Word 0))) more) ≡ E
 abbrev pub ReturnReplaces : Type 0
 ReturnReplaces = does (Try (Evaluate (Binary op.Divide (Word 1) (Word 0))) (Return (Word 9))) ≡ Ends (Returned 9) (7 ∷ 1 ∷ 1 ∷ 0 ∷ 0 ∷ 0 ∷ []) []
 
--- `while (true) { try { x = x + 1; break; } finally { x = x + 1; } }` sees what the block assigned, and runs it once
+-- `while (true) { try { x = x + 1; break; } finally { x = x + 1; } }` sees what the try block assigned, and runs the
+-- finally block once
 abbrev pub BreaksThrough : Type 0
 BreaksThrough = does (Leavable (While (Word 1) (Try (Block (Then more (Then (Leave 0) Done))) more)) Done) ≡ Ends Normal (7 ∷ 3 ∷ 0 ∷ 0 ∷ 0 ∷ 0 ∷ []) []
 
--- a block that throws itself is not run again, and its reason replaces the first
+-- a finally block that throws is not run again, and its reason replaces the first
 abbrev pub ThrowReplaces : Type 0
 ThrowReplaces = does (Try (Return (Local 1)) (Block (Then more (Then (Evaluate (Binary op.Divide (Word 1) (Word 0))) Done)))) ≡ Ends (Threw Arithmetic) (7 ∷ 2 ∷ 0 ∷ 1 ∷ 0 ∷ 0 ∷ []) []

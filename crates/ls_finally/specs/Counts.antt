@@ -1,4 +1,4 @@
--- How many copies of finally blocks a method has without its `try`s, and which files are refused.
+-- How many copies of finally blocks a method has without `try`, and which files are refused.
 use Rattle.std.specs.Prelude.{ℕ, ◌+◌, ◌*◌, ◌≤◌, length, All}
 use Rattle.ls_lowered.specs.declared.fault.LowerFault.{LowerFault}
 use Rattle.ls_lowered.specs.declared.fault.LowerFault.TheVariants.{Memory, TooManyLocals, TooManyCopies}
@@ -6,9 +6,10 @@ use Rattle.ls_lowered.specs.LoweredTree.{Statement, Block, If, While, Try, Guard
 use Rattle.ls_finally_exits.specs.Exits.{exits, count}
 use Rattle.ls_finally.specs.Flat.{tries, flat}
 
--- The copies in a statement, whose tries' locals begin at k. Inner statements are lowered first. For `try b finally f`
--- there are two copies of lowered f, and one for each exit of lowered b out of the `try`; each has the copies in f with it.
--- What is to be lowered has no exits of leavable statements yet; where it has, each counts as a copy.
+-- The copies in a statement, if the locals of its tries begin at k. Inner statements are lowered first. For `try b
+-- finally f` there are two copies of lowered f, and one for each exit of lowered b out of the `try`. Each copy has the
+-- copies in f with it. A tree that is to be lowered has no exits of leavable statements yet. If it has any, each
+-- counts as a copy.
 abbrev mutual
   pub copies : ℕ → Statement → ℕ
   copies k (Block ss) = all_copies k ss

@@ -1,4 +1,5 @@
--- What the lowering keeps: a thread that enters a method asks for the same and ends so, whatever it is answered.
+-- What the lowering keeps: if a thread enters a method, it asks for the same and ends in the same way, whatever the
+-- answers are.
 use Rattle.std.specs.Prelude.{◌≡◌, ℕ, List, length}
 use Rattle.ls_lowered.specs.LoweredTree.{File}
 use Rattle.ls_lowered.specs.Course.{Answers}

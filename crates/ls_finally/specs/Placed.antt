@@ -1,4 +1,5 @@
--- What lowering asks of a tree: each local is there, each call has as many arguments as its method, and nothing is guarded yet.
+-- What the lowering asks of a tree: each local exists, each call has as many arguments as its method, and nothing is
+-- guarded yet.
 use Rattle.std.specs.Prelude.{◌≡◌, ℕ, suc, ◌+◌, ◌<◌, List, [], ◌∷◌, Option, Some, None, slice_get}
 use Rattle.ls_lowered.specs.LoweredTree.{Expression, Word, Local, Unary, Binary, And, Or, Hold, Keep, After, Field, Item, SetFirst, ReadPair, SetPair, SwapPair, AttemptMark, OnLock, Call, MakeObject, MakeLock, MakeMarkable, MakeArray, Expressions, End, More, Statement, Block, SetLocal, SetField, AddField, SetItem, Evaluate, If, While, Return, Try, Guarded, Throw, Leavable, Leave, Statements, Done, Then, Method, File}
 use Rattle.ls_finally.specs.Agreement.{IsBelow}
@@ -7,7 +8,7 @@ abbrev pub count : Expressions → ℕ
 count End = 0
 count (More e es) = suc (count es)
 
--- method number m is there and takes so many arguments, `this` among them
+-- method number m exists and takes n arguments, `this` among them
 abbrev pub TakesIn : Option Method → ℕ → Type 0
 TakesIn None n = ⊥
 TakesIn (Some g) n = n ≡ g.arguments

@@ -11,7 +11,7 @@ use ls_lowered::tree::{Method, Statement};
 /// The most locals of a method.
 pub const MOST_LOCALS: usize = 128;
 
-// More locals, where they aren't too many.
+// `count` locals more than `so_far`; none if that is over 128.
 fn more(so_far: usize, count: usize) -> Option<usize>
     requires { so_far ≤ 128 }
     ensures { SomeIff result (so_far + count ≤ 128) (so_far + count) }
@@ -23,7 +23,7 @@ fn more(so_far: usize, count: usize) -> Option<usize>
     }
 }
 
-// So many locals, and two for each `try` of a statement; none where they are over 128.
+// `so_far` locals, and two for each `try` of a statement; none if that is over 128.
 #[cycle(statements)]
 #[tactic(auto, using(ls_finally_copies::proofs::Fronts::block_read))]
 fn count_tries(s: &Statement, so_far: usize) -> Option<usize>
@@ -71,7 +71,7 @@ fn count_locals(method: &Method) -> Option<usize>
     count_tries(&method.body, own)
 }
 
-/// Whether no method has too many locals, with two for each `try`.
+/// Whether no method has over 128 locals, with two for each `try`.
 pub fn have_few_locals(methods: &[Method]) -> bool
     ensures { IsTrue result ↔ All (λ m. locals_of (plain_method m) ≤ 128) methods.now }
 {

@@ -16,7 +16,7 @@ use ls_lowered::fault::LowerFault;
 use ls_lowered::tree::{File, Method};
 use std::alloc::Global;
 
-// A method without `try`, where it would have few copies.
+// A method without `try`, if it has few enough copies.
 fn lower_method(alloc: Global, method: &Method) -> Result<Method, LowerFault>
     requires { locals_of (plain_method method.now) ≤ 128 }
     ensures tree { IfOk result (λ m. plain_method m ≡ flat_method (plain_method method.now)) }
@@ -34,7 +34,7 @@ fn lower_method(alloc: Global, method: &Method) -> Result<Method, LowerFault>
     })
 }
 
-// All methods without `try`, where each of them would have few copies.
+// All methods without `try`, if each has few enough copies.
 fn lower_methods(alloc: Global, methods: &[Method]) -> Result<Vec<Method>, LowerFault>
     requires { All (λ m. locals_of (plain_method m) ≤ 128) methods.now }
     ensures tree { IfOk result (λ v. map plain_method v.items ≡ flat_file (map plain_method methods.now)) }
@@ -48,8 +48,11 @@ fn lower_methods(alloc: Global, methods: &[Method]) -> Result<Vec<Method>, Lower
     Ok(out)
 }
 
-/// The tree of a file without `try`. A thread that enters a method asks for the same and ends so. A method whose locals,
-/// with two for each `try`, are over 128 is refused, and one that would have over 4,096 copies of finally blocks.
+/// The tree of a file without `try`. If a thread enters a method of it, the thread asks for the same and ends in the
+/// same way.
+///
+/// It is refused if a method has over 128 locals, with two for each `try`. It is refused if a method has over 4,096
+/// copies of finally blocks. Else the only refusal is that memory ran out.
 pub fn lower_finally(alloc: Global, tree: File) -> Result<File, LowerFault>
     requires { AllPlaced (plain_file tree) (plain_file tree) }
     ensures tree { IfOk result (λ t. plain_file t ≡ flat_file (plain_file tree)) }

@@ -11,7 +11,7 @@ ghost use Rattle.ls_finally.specs.Code.{Fits};
 
 use ls_finally_copies::copy::{block_of, copy_expression, copy_statement, leavable_of};
 use ls_finally_copies::together::{in_box, put};
-use ls_finally_exits::exits::collect_exits;
+use ls_finally_exits::exits::exits_of;
 use ls_finally_exits::replace::by_copies;
 use ls_lowered::fault::LowerFault;
 use ls_lowered::together::also;
@@ -21,15 +21,15 @@ use std::alloc::Global;
 /// The most copies of finally blocks of a method.
 pub const MOST_COPIES: usize = 4096;
 
-/// How far the lowering of a method has come: the first local that is free, and how many copies there are.
+/// How far the lowering of a method is: the first local that is free, and how many copies there are.
 #[derive(Drop)]
 pub struct Lowering {
     pub free: usize,
     pub count: usize,
 }
 
-// The copies of a `try` and those before it: so many up to the end of its body, so many exits of the body, so many copies
-// in the finally block. None where they are too many.
+// The copies of a `try` and those before it; none if they are too many. `body` are those up to the end of its body,
+// `ways` the exits of the body, and `finally` the copies in the finally block.
 fn total(body: usize, ways: usize, finally: usize) -> Option<usize>
     requires { finally ≤ 4096 }
     ensures { SomeIff result (body + (2 + ways) * (1 + finally) ≤ 4096) (body + (2 + ways) * (1 + finally)) }
@@ -44,7 +44,7 @@ fn total(body: usize, ways: usize, finally: usize) -> Option<usize>
     }
 }
 
-// What is there, with what comes next.
+// The first value, and what comes next. If what comes next is refused, so is this.
 fn beside<T: Drop, U: Drop>(first: T, next: Result<U, LowerFault>) -> Result<(T, U), LowerFault>
     ensures first { IfOk result (λ p. p.0 ≡ first) }
     ensures next { IfOk result (λ p. next ≡ Ok p.1) }
@@ -57,7 +57,8 @@ fn beside<T: Drop, U: Drop>(first: T, next: Result<U, LowerFault>) -> Result<(T,
 }
 
 impl Lowering {
-    /// A statement without `try`, where its copies and those so far aren't too many. Two locals serve each `try`.
+    /// A statement without `try`. It is refused if its copies and those so far are over 4,096, or if memory runs out.
+    /// Each `try` takes two locals.
     #[cycle(flatten)]
     #[tactic(auto, using(ls_finally_copies::proofs::Fronts::block_read, ls_lowered::proofs::Rows::block_made))]
     pub fn flatten(&mut self, alloc: Global, s: &Statement) -> Result<Statement, LowerFault>
@@ -207,7 +208,7 @@ impl Lowering {
         self.with_copies(alloc, &body, &finally, inside.count)
     }
 
-    // A `try` whose parts have none, where the finally block has so many copies of its own.
+    // A `try` whose parts have no `try`. Its finally block has `within` copies of its own.
     fn with_copies(
         &mut self,
         alloc: Global,
@@ -222,8 +223,7 @@ impl Lowering {
         ensures count { OnOk result (self.new.count ≡ self.old.count + (2 + length (exits 0 (plain_statement body.now))) * (1 + within)) }
         ensures few { Fits result (self.old.count + (2 + length (exits 0 (plain_statement body.now))) * (1 + within)) }
     {
-        let mut ways = Vec::new(alloc);
-        collect_exits(body, 0, &mut ways)?;
+        let ways = exits_of(alloc, body)?;
         let Some(count) = total(self.count, ways.len(), within) else {
             return Err(LowerFault::TooManyCopies);
         };

@@ -1,4 +1,4 @@
-//! `finally` by copied exits: the second lowering. Its definitions and its law stand in specs/.
+//! `finally` by copied exits: the second lowering. Its definitions and its law are in specs/.
 #![tactic(auto)]
 
 pub mod cases;

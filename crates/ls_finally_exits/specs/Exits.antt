@@ -79,7 +79,7 @@ abbrev pub exit_of : ℕ → Exit → Statement
 exit_of r (LeaveOut n) = Leave n
 exit_of r ReturnOut = Return (Local r)
 
--- each exit behind its own copy of the block
+-- each exit after its own copy of the block
 abbrev pub ways : ℕ → Statement → List Exit → Statements
 ways r f [] = Done
 ways r f (x ∷ xs) = Then (both f (exit_of r x)) (ways r f xs)

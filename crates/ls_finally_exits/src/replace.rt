@@ -3,10 +3,11 @@
 // A tree can be hundreds of levels high: what isn't recursive is kept out of the recursive functions, whose frames have to be
 // small.
 
-ghost use Rattle.std.specs.Prelude.{◌≡◌, ℕ, suc, ◌+◌, ◌<◌, ◌≤◌, ◌++◌, length, IfOk, OnOk};
+ghost use Rattle.std.specs.Prelude.{◌≡◌, ℕ, suc, ◌+◌, ◌<◌, ◌≤◌, ◌^◌, ◌++◌, length, IfOk, OnOk};
 ghost use Rattle.ls_lowered.specs.LoweredTree.{Statements, SetLocal, Leavable, Leave};
 ghost use Rattle.ls_lowered.specs.Plain.{plain, plain_statement, statements_of};
 ghost use Rattle.ls_finally_exits.specs.Exits.{count, exits, all_exits, exit_of, replaced, all_replaced, ways, finally_of};
+ghost use Rattle.ls_finally_exits.specs.Numbers.{numbers, all_numbers};
 ghost use Rattle.ls_finally_ways.specs.Ways.{both, first_ways};
 ghost use Rattle.ls_finally_exits.specs.PlainExits.{plain_exit, plain_exits};
 
@@ -21,7 +22,7 @@ use std::alloc::{AllocError, Global};
 // A leave in place of an exit.
 fn leave(inside: usize, next: &mut usize) -> Statement
     requires few { next.old < 10000 }
-    requires low { inside ≤ 1000000000 }
+    requires low { inside < 2 ^ 63 }
     ensures tree { plain_statement result ≡ Leave (inside + next.old) }
     ensures next { next.new ≡ next.old + 1 }
 {
@@ -40,7 +41,7 @@ fn leave_with(
     next: &mut usize,
 ) -> Result<Statement, AllocError>
     requires few { next.old < 10000 }
-    requires low { inside ≤ 1000000000 }
+    requires low { inside < 2 ^ 63 }
     ensures tree { IfOk result (λ t. plain_statement t ≡ both (SetLocal kept (plain e.now)) (Leave (inside + next.old))) }
     ensures next { OnOk result (next.new ≡ next.old + 1) }
 {
@@ -56,7 +57,8 @@ fn keeping(
     inside: usize,
     next: &mut usize,
 ) -> Result<Statement, AllocError>
-    requires { next.old + length (exits inside (plain_statement s.now)) ≤ 10000 }
+    requires few { next.old + length (exits inside (plain_statement s.now)) ≤ 10000 }
+    requires low { inside + numbers (plain_statement s.now) < 2 ^ 63 }
     ensures tree { IfOk result (λ t. plain_statement t ≡ plain_statement s.now) }
     ensures next { OnOk result (next.new ≡ next.old + length (exits inside (plain_statement s.now))) }
 {
@@ -77,7 +79,7 @@ fn replace_in_part(
     next: &mut usize,
 ) -> Result<Box<Statement>, AllocError>
     requires few { next.old + length (exits inside (plain_statement s.now)) ≤ 10000 }
-    requires low { inside ≤ 1000000000 }
+    requires low { inside + numbers (plain_statement s.now) < 2 ^ 63 }
     ensures tree { IfOk result (λ t. plain_statement t.value ≡ replaced kept inside next.old (plain_statement s.now)) }
     ensures next { OnOk result (next.new ≡ next.old + length (exits inside (plain_statement s.now))) }
 {
@@ -96,7 +98,7 @@ fn replace_in_two(
     next: &mut usize,
 ) -> Result<(Box<Statement>, Box<Statement>), AllocError>
     requires few { next.old + length (exits inside (plain_statement first.now) ++ exits inside (plain_statement second.now)) ≤ 10000 }
-    requires low { inside ≤ 1000000000 }
+    requires low { inside + (numbers (plain_statement first.now) + numbers (plain_statement second.now)) < 2 ^ 63 }
     ensures first { IfOk result (λ p. plain_statement p.0.value ≡ replaced kept inside next.old (plain_statement first.now)) }
     ensures second { IfOk result (λ p. plain_statement p.1.value ≡ replaced kept inside (next.old + length (exits inside (plain_statement first.now))) (plain_statement second.now)) }
     ensures next { OnOk result (next.new ≡ next.old + length (exits inside (plain_statement first.now) ++ exits inside (plain_statement second.now))) }
@@ -117,11 +119,11 @@ fn replace_in_leavable(
     next: &mut usize,
 ) -> Result<Statement, AllocError>
     requires few { next.old + length (exits (suc (count (statements_of own.now)) + inside) (plain_statement body.now) ++ all_exits inside (statements_of own.now)) ≤ 10000 }
-    requires low { inside ≤ 1000000000 }
+    requires low { inside + numbers (Leavable (plain_statement body.now) (statements_of own.now)) < 2 ^ 63 }
     ensures tree { IfOk result (λ t. plain_statement t ≡ replaced kept inside next.old (Leavable (plain_statement body.now) (statements_of own.now))) }
     ensures next { OnOk result (next.new ≡ next.old + length (exits (suc (count (statements_of own.now)) + inside) (plain_statement body.now) ++ all_exits inside (statements_of own.now))) }
 {
-    let body = replace_in_part(alloc, body, within(inside, own)?, kept, next)?;
+    let body = replace_in_part(alloc, body, within(inside, own), kept, next)?;
     let (body, own) = also(body, replace_in_all(alloc, own, inside, kept, next))?;
     Ok(leavable_of(body, own))
 }
@@ -136,7 +138,7 @@ fn replace_in_all(
     next: &mut usize,
 ) -> Result<Vec<Statement>, AllocError>
     requires few { next.old + length (all_exits inside (statements_of statements.now)) ≤ 10000 }
-    requires low { inside ≤ 1000000000 }
+    requires low { inside + all_numbers (statements_of statements.now) < 2 ^ 63 }
     ensures tree { IfOk result (λ v. statements_of v.items ≡ all_replaced kept inside next.old (statements_of statements.now)) }
     ensures next { OnOk result (next.new ≡ next.old + length (all_exits inside (statements_of statements.now))) }
 {
@@ -158,7 +160,7 @@ fn replace_exits(
     next: &mut usize,
 ) -> Result<Statement, AllocError>
     requires few { next.old + length (exits inside (plain_statement s.now)) ≤ 10000 }
-    requires low { inside ≤ 1000000000 }
+    requires low { inside + numbers (plain_statement s.now) < 2 ^ 63 }
     ensures tree { IfOk result (λ t. plain_statement t ≡ replaced kept inside next.old (plain_statement s.now)) }
     ensures next { OnOk result (next.new ≡ next.old + length (exits inside (plain_statement s.now))) }
 {
@@ -209,7 +211,7 @@ fn exit_statement(kept: usize, exit: Exit) -> Statement
     }
 }
 
-// All exits: behind the first two, each of the body's behind its own copy of the finally block.
+// All exits: after the first two, those of the body, each after its own copy of the finally block.
 fn all_ways(
     alloc: Global,
     finally: &Statement,
@@ -239,6 +241,7 @@ pub fn by_copies(
 ) -> Result<Statement, AllocError>
     requires those { plain_exits found.now ≡ exits 0 (plain_statement body.now) }
     requires few { length (exits 0 (plain_statement body.now)) ≤ 4096 }
+    requires low { numbers (plain_statement body.now) < 2 ^ 63 }
     requires room { free ≤ 128 }
     ensures { IfOk result (λ t. plain_statement t ≡ finally_of free (plain_statement body.now) (plain_statement finally.now)) }
 {

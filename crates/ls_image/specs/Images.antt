@@ -1,4 +1,4 @@
--- What an image shows, and what it owes the two texts that it is of.
+-- What an image shows, and what it owes the class text and the program text.
 use Rattle.std.specs.Prelude.{◌≡◌, Ok}
 use Rattle.ls_parser_placing.specs.Files.{IsFileOf}
 use Rattle.ls_checked.specs.CheckedProgram.{Program as PlainProgram}
@@ -27,11 +27,13 @@ program_of_image i = sources.program_of (source_of i)
 abbrev pub code_of_image : Image → Code
 code_of_image i = i.code
 
--- an image's code runs as its file and its program: it has the same histories, both ways, and no thread of it is silent for too long
+-- An image's code runs as its file and its program do. It has the same histories, both ways, and no thread of it is
+-- silent for too long.
 abbrev pub RunsAsItsTexts : Image → Type 0
 RunsAsItsTexts image = Runs (outcome_of (checked_of image)).file (plain_program (program_of_image image)) (code_of_image image)
 
--- the class text is a file that keeps every rule, the program text is a program of that file, and the code runs as the two
+-- The class text is a file that keeps every rule. The program text is a program of that file. The code runs as that
+-- file and that program do.
 pub record Compiles (classes program : Text) (image : Image) : Type 0 where
   pub file : File
   pub spelled : IsFileOf classes file

@@ -1,6 +1,6 @@
 // Images.
 
-ghost use Rattle.std.specs.Prelude.{◌≡◌};
+ghost use Rattle.std.specs.Prelude.{◌≡◌, ◌<◌, length};
 ghost use Rattle.ls_linker_laws.specs.Runs.{Runs};
 ghost use Rattle.ls_types.specs.Sources.{source_file, source_program};
 
@@ -9,21 +9,25 @@ use ls_code::code::Code;
 use ls_types::check::Checked;
 use ls_types::source::Source;
 
-/// The code of a class text and a program text, with the checked file and the program that they are. The code runs as the two:
-/// `laws` has what that says to whoever holds an image.
+/// The code of a class text and a program text, with the checked file and the program of these texts. The code runs as
+/// the file and the program do. What that means is in `laws`.
 #[derive(Drop)]
 pub struct Image {
     source: Source,
     code: Code,
     pub ghost kept: { ∥ Runs (source_file source) (source_program source) code ∥₁ },
+    /// The setup is a thread.
+    pub ghost setup: { 0 < length code.starts },
 }
 
 impl Image {
     ghost use Rattle.ls_image.specs.Images.{checked_of, code_of_image, program_of_image, source_of};
 
-    /// The image of a source and of code that runs as it, which is for its caller to show.
+    /// The image of a source and of code. The caller has to show that the code runs as the source does. The code has a
+    /// thread.
     pub fn new(source: Source, code: Code) -> Image
-        requires { Runs (source_file source) (source_program source) code }
+        requires runs { Runs (source_file source) (source_program source) code }
+        requires setup { 0 < length code.starts }
         ensures source { source_of result ≡ source }
         ensures code { code_of_image result ≡ code }
     {

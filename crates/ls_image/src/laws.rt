@@ -1,5 +1,6 @@
-// What each image keeps, as the contract of functions that compute nothing.
+// What each image keeps. The functions compute nothing; their contracts say it.
 
+ghost use Rattle.std.specs.Prelude.{◌<◌, length};
 ghost use Rattle.ls_checked.specs.PlainProgram.{plain_program};
 ghost use Rattle.ls_image.specs.Images.{RunsAsItsTexts, checked_of, code_of_image, program_of_image};
 ghost use Rattle.ls_ends.specs.Acting.{ActsInTime};
@@ -8,19 +9,24 @@ ghost use Rattle.ls_types.specs.CheckedFile.{outcome_of};
 
 use crate::image::Image;
 
-/// The code of an image runs as its file and its program.
+/// The code of an image runs as its file and its program do.
 pub fn runs(image: &Image)
     ensures { ∥ RunsAsItsTexts image.now ∥₁ }
 {}
 
-/// A thread of an image whose source acts next makes at most so many silent steps as may be silent in a row, and then acts; it
-/// stops the machine only where what the source's step makes has no room.
+/// The code of an image has a thread: the setup is one.
+pub fn has_setup(image: &Image)
+    ensures { 0 < length (code_of_image image.now).starts }
+{}
+
+/// If the source of a thread of an image acts next, the thread makes at most `most_silent` silent steps, and then
+/// acts. It stops the machine only if there is no room for what the source's step makes.
 pub fn acts_in_time(image: &Image)
     ensures { ActsInTime (outcome_of (checked_of image.now)).file (plain_program (program_of_image image.now)) (code_of_image image.now) }
 {}
 
-/// A thread of an image whose source has ended, or has been trapped, is so itself after at most so many steps of its own as may
-/// be silent in a row.
+/// If the source of a thread of an image has ended or has been trapped, the thread does the same in time. It takes at
+/// most `most_silent` steps of its own.
 pub fn ends_in_time(image: &Image)
     ensures { EndsInTime (outcome_of (checked_of image.now)).file (plain_program (program_of_image image.now)) (code_of_image image.now) }
 {}

@@ -1,4 +1,4 @@
-//! Images: the code of two texts, and what it keeps of their runs.
+//! Images: the code of a class text and a program text, with laws of how it runs.
 #![tactic(auto)]
 
 pub mod image;

@@ -57,6 +57,7 @@ module _ (file : File) (typed : IsTypedFile file) (suited : SuitedInCall file)
   takes_here : (n : ℕ) (m : Method) (k : ℕ) → slice_get file.methods n ≡ Some m → k ≡ m.parameters + 1 → Takes (lowered_file file) n k
   takes_here n m k e f = subst (λ o. TakesIn o k) (sym (lowered_at n m e)) f
 
+  -- the tree without `try` asks as its file
   pub lowered_asks : LoweredAsks file (flat_of file)
   lowered_asks = record {
     asks = λ depth n m o vs go throw q found types s.

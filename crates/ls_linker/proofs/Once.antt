@@ -1,4 +1,4 @@
--- That a code runs as a file and a program has one proof at most, so it follows where these merely are well typed.
+-- That code runs as a file and a program has at most one proof. So it follows if these merely are well typed.
 use Rattle.std.proofs.Common.{◌≡◌, ◌∙◌, sym, Option, Some, None}
 use Rattle.std.proofs.Props.{props}
 use mathlib.Core.HLevel.{Σ_prop_path}
@@ -22,5 +22,6 @@ calls_once None (Some t) = hlevel
 calls_once (Some s) None = hlevel
 calls_once (Some s) (Some t) = hlevel props
 
+-- that a code runs as a file and a program has at most one proof
 pub runs_once : (file : File) (program : Program) (code : Code) → IsProp (Runs file program code)
 runs_once file program code = hlevel (props, row_once, calls_once, acting_prop, ends_prop)

@@ -37,11 +37,13 @@ long_code file program floor long =
     omega (arith, no)
 
 module _ (file : File) (program : Program) (refs : low.File) (r : refs ≡ lowered_file file) where
+  -- a fault of the second lowering names the first limit that isn't kept
   pub finally_past : (f : LowerFault) → AllFit file.methods → FewLocals (lowered_file file) → Refused refs f → GoesPast file program (Lower f)
   finally_past Memory fits few refused = tt
   finally_past TooManyLocals fits few refused = absurd (refused (subst FewLocals (sym r) few))
   finally_past TooManyCopies fits few refused = (fits, λ copies. refused (subst FewCopies (sym r) copies))
 
+  -- so does a fault of counting
   pub counts_past : (f : CountFault) → CodeHoldsMethods → KeepsFloor → AllFit file.methods → counted.Refused refs f → GoesPast file program (of_counts f)
   counts_past counts.Memory holds floor fits refused = tt
   counts_past counts.TooManyCopies holds floor fits refused = (fits, λ copies. refused (subst FewCopies (sym r) copies))
@@ -60,6 +62,7 @@ module _ (file : File) (program : Program) (refs : low.File) (r : refs ≡ lower
       let too_long : ¬ AllShort (flat_of file) = λ short. long refl (subst AllShort (sym (e ∙ ap flat_file r)) short) in
       (fits, subst FewCopies r few, too_long, long_unit file program floor too_long)
 
+  -- so does a fault of linking
   pub link_past : (flat : low.File) (units : List CodeUnit) (f : LinkFault) → KeepsFloor → AllFit file.methods → FewCopies refs → flat ≡ flat_file refs → AllShort flat → units ≡ units_of flat →
       (f ≡ link.CodeTooLong → 65536 < length (linked file program units).instructions) → GoesPast file program (Link f)
   link_past flat units link.Memory floor fits few e short u long = tt

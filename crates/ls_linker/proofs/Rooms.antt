@@ -14,18 +14,21 @@ use Rattle.ls_linker_ranges.specs.Links.{ThreadLinks, Links}
 use Rattle.ls_linker.specs.Added.{AddsUnits}
 use Rattle.ls_linker.proofs.Wholes.{units_length}
 
+-- the first of all items has the property
 pub first_of_all : {A : Type 0} (P : A → Type 0) (x : A) (xs : List A) → All P (x ∷ xs) → P x
 first_of_all P x xs h = h 0 x (omega arith)
 
+-- the other items have the property
 pub others_of_all : {A : Type 0} (P : A → Type 0) (x : A) (xs : List A) → All P (x ∷ xs) → All P xs
 others_of_all P x xs h = λ k d below. h (suc k) d (omega (arith, below))
 
+-- a property of mapped items
 pub all_unmapped : {A B : Type 0} (P : B → Type 0) (f : A → B) (xs : List A) → All P (map f xs) → All (λ x. P (f x)) xs
 all_unmapped P f [] h k d below = absurd (let no : ⊥ = omega (arith, below) in no)
 all_unmapped P f (x ∷ xs) h zero d below = h 0 (f d) (omega arith)
 all_unmapped P f (x ∷ xs) h (suc k) d below = all_unmapped P f xs (others_of_all P (f x) (map f xs) h) k d (omega (arith, below))
 
--- behind a unit there is room for those after it
+-- after a unit there is room for those that follow it
 pub unit_room : (old new : Code) (u : CodeUnit) (us : List CodeUnit) → AddsUnits old (u ∷ []) new → UnitLands u →
     length old.instructions + 65536 * length (u ∷ us) ≤ 2 ^ 26 → length new.instructions + 65536 * length us ≤ 2 ^ 26
 unit_room old new u us a lands room =

@@ -21,6 +21,7 @@ last_place classes calls old new last a e =
     let s = calls_some classes 1 calls in
     omega (arith, e, e1, s)
 
+-- the code of a thread is put after other code
 pub thread_pushed : (classes : List Class) (calls : List ProgramCall) (old new : List Instruction) (from last : ℕ) →
     Adds old (calls_code classes 1 calls) new → from ≡ length old → last + 1 ≡ length new → PushesThread classes old calls new (record { from = from; to = last; handler = last; depth = 0 })
 thread_pushed classes calls old new from last a f e = record {
@@ -28,6 +29,7 @@ thread_pushed classes calls old new from last a f e = record {
   row_is = ap (λ x. row x last) f ∙ ap (row (length old)) (last_place classes calls old new last a e);
 }
 
+-- the code of a thread has at least two instructions
 pub code_some : (classes : List Class) (calls : List ProgramCall) (old new : List Instruction) → Adds old (calls_code classes 1 calls) new → 2 ≤ length new
 code_some classes calls old new a =
     let all = ap length a.is ∙ length-append old (calls_code classes 1 calls) in

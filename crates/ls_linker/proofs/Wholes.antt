@@ -12,6 +12,7 @@ length-map : {A B : Type 0} (f : A → B) (xs : List A) → length (map f xs) �
 length-map f [] = refl
 length-map f (x ∷ xs) = omega (arith, length-map f xs)
 
+-- how long the code of units is
 pub units_length : (p : ℕ) (us : List CodeUnit) → length (units_code p us) ≡ words_of us
 units_length p [] = refl
 units_length p (u ∷ us) =
@@ -24,6 +25,7 @@ parts a b i h m s t n =
     ∙ ap (λ x. record b { methods = x; sizes = a.sizes; starts = a.starts; names = a.names }) m ∙ ap (λ x. record b { sizes = x; starts = a.starts; names = a.names }) s
     ∙ ap (λ x. record b { starts = x; names = a.names }) t ∙ ap (λ x. record b { names = x }) n
 
+-- units and threads that are added make the whole code
 pub whole_linked : (file : File) (program : Program) (units : List CodeUnit) (first middle new : Code) → first ≡ first_parts file program →
     AddsUnits first units middle → AddsThreads file.classes middle program.threads new → new ≡ linked file program units
 whole_linked file program units first middle new e u b =

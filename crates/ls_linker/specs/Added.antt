@@ -9,7 +9,7 @@ use Rattle.ls_code.specs.declared.code.HandlerRow.{HandlerRow}
 use Rattle.ls_linker_laws.specs.Threads.{calls_code, thread_row}
 use Rattle.ls_linker_laws.specs.Linked.{units_code, units_rows, method_rows, threads_code, threads_rows, starts, class_size}
 
--- instructions behind others
+-- instructions after others
 pub record Adds (old added new : List Instruction) : Type 0 where
   pub is : new ≡ old ++ added
 
@@ -24,7 +24,7 @@ first_parts file program = record {
   names = length program.names;
 }
 
--- units behind what is there
+-- units after the code that is there
 pub record AddsUnits (old : Code) (units : List CodeUnit) (new : Code) : Type 0 where
   pub instructions : new.instructions ≡ old.instructions ++ units_code (length old.instructions) units
   pub handlers : new.handlers ≡ old.handlers ++ units_rows (length old.instructions) units
@@ -33,12 +33,12 @@ pub record AddsUnits (old : Code) (units : List CodeUnit) (new : Code) : Type 0 
   pub starts : new.starts ≡ old.starts
   pub names : new.names ≡ old.names
 
--- the code of a thread's calls behind other code, and its row
+-- the code of a thread's calls after other code, and its row
 pub record PushesThread (classes : List Class) (old : List Instruction) (calls : List ProgramCall) (new : List Instruction) (row : HandlerRow) : Type 0 where
   pub is : new ≡ old ++ calls_code classes 1 calls
   pub row_is : row ≡ thread_row (length old) (length (calls_code classes 1 calls))
 
--- threads behind what is there
+-- threads after the code that is there
 pub record AddsThreads (classes : List Class) (old : Code) (threads : List ThreadProgram) (new : Code) : Type 0 where
   pub instructions : new.instructions ≡ old.instructions ++ threads_code classes threads
   pub handlers : new.handlers ≡ old.handlers ++ threads_rows classes (length old.instructions) threads

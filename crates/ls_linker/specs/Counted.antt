@@ -1,4 +1,4 @@
--- What is told before a copy of a finally block is made, as the faults of the steps that would tell it.
+-- The faults that are found before any copy of a finally block is made, as faults of the steps that would find them.
 use Rattle.ls_finally_counts.specs.declared.fault.CountFault.{CountFault}
 use Rattle.ls_finally_counts.specs.declared.fault.CountFault.TheVariants as counts
 use Rattle.ls_lowered.specs.declared.fault.LowerFault.TheVariants.{Memory, TooManyCopies}

@@ -1,4 +1,4 @@
--- When no code is built of a checked file and a program, and what holds where one is.
+-- When no code is built of a checked file and a program, and what holds if code is built.
 use Rattle.std.specs.Prelude.{◌<◌, ◌≤◌, length}
 use Rattle.ls_checked.specs.CheckedTree.{File}
 use Rattle.ls_checked.specs.CheckedProgram.{Program}
@@ -13,16 +13,16 @@ use Rattle.ls_linker.specs.declared.fault.BuildFault.{BuildFault}
 use Rattle.ls_linker.specs.declared.fault.BuildFault.TheVariants.{Lower, Emit, Link}
 use Rattle.ls_linker_laws.specs.Compiled.{flat_of, code_of, count}
 
--- each limit of the code is kept: no method has over 128 locals, over 4,096 copies of finally blocks or over 65,536
--- instructions, and the whole code has no more than 65,536
+-- Each limit of the code is kept. No method has over 128 locals, over 4,096 copies of finally blocks or over 65,536
+-- instructions. The whole code has at most 65,536 instructions.
 pub record KeepsLimits (file : File) (program : Program) : Type 0 where
   pub locals : AllFit file.methods
   pub copies : FewCopies (lowered_file file)
   pub short : AllShort (flat_of file)
   pub whole : length (code_of file program).instructions ≤ 65536
 
--- A fault names the first limit that isn't kept: locals, then copies, then the instructions of a method, then those of the whole code. No code is too
--- long where the count is at most 4,096. Want of memory says nothing.
+-- A fault names the first limit that isn't kept: locals, then copies, then the instructions of a method, then those of
+-- the whole code. If the count is at most 4,096, no code is too long. "Out of memory" says nothing.
 abbrev pub GoesPast : File → Program → BuildFault → Type 0
 GoesPast file program (Lower lower.Memory) = Unit {0}
 GoesPast file program (Lower lower.TooManyLocals) = ¬ AllFit file.methods

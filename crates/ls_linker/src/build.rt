@@ -21,9 +21,11 @@ use ls_types::laws::source_is_well_typed;
 use ls_types::source::Source;
 use std::alloc::Global;
 
-/// The whole code of a checked file and its thread program, which runs as the two: it has the same histories, both ways,
-/// and no thread is silent for too long. Refused with 30 to 33, by the first limit that isn't kept. Where copies of finally blocks are too
-/// many, or the methods are too long with them, one or all together, none of them is made.
+/// The whole code of a checked file and its thread program. It runs as the file and the program do: it has the same
+/// histories, both ways, and no thread is silent for too long.
+///
+/// It is refused with 30 to 33, by the first limit that isn't kept, or if memory runs out. If there are too many
+/// copies of finally blocks, or if the code would be too long with them, no copy is made.
 pub fn build(alloc: Global, source: &Source) -> Result<Code, BuildFault>
     ensures code { IfOk result (λ code. code ≡ code_of (source_file source.now) (source_program source.now)) }
     ensures runs { IfOk result (Runs (source_file source.now) (source_program source.now)) }

@@ -16,7 +16,7 @@ use thiserror::Error;
 pub enum LinkFault {
     #[error("out of memory")]
     Memory,
-    /// The code has over 65,536 instructions in all.
+    /// The whole code has over 65,536 instructions.
     #[error("too long a code")]
     CodeTooLong,
 }

@@ -1,4 +1,4 @@
-// The law of the whole way, as the contract of a function that computes nothing.
+// The law of the whole way: the function computes nothing, and its contract says the law.
 
 ghost use Rattle.std.specs.Prelude.{◌≤◌, length};
 ghost use Rattle.ls_checked.specs.CheckedTree.{File};
@@ -19,7 +19,7 @@ use ls_linker_quick::laws::{frames_are_quick, threads_are_quick};
 use ls_linker_sizes::laws::sizes;
 use ls_soundness::laws::{is_sound, suited_in_call};
 
-/// The code of a well typed file and a well typed program of it runs as the two, where it isn't too long.
+/// The code of a well typed file and a well typed program of it runs as these do, if the code isn't too long.
 pub fn compiled_runs()
     ensures { (file : File) (program : Program) → ∥ IsWellTyped file ∥₁ → ∥ IsWellTypedProgram file program ∥₁ → AllPlaced (lowered_file file) (lowered_file file) → IsEmittableFile (flat_of file) → length (code_of file program).instructions ≤ 65536 → Runs file program (code_of file program) }
 {

@@ -1,4 +1,4 @@
-//! The whole code of a file and its threads: the units one after another, and the threads behind them.
+//! The whole code of a file and its threads: the units one after another, and the threads after them.
 #![tactic(auto)]
 
 pub mod build;

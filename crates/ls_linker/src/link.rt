@@ -79,7 +79,8 @@ fn linked_parts(
     Ok(parts)
 }
 
-/// The code of a file's units and of a program's threads.
+/// The code of a file's units and of a program's threads. Refused with `CodeTooLong` only if the code has over 65,536
+/// instructions. Else the only refusal is that memory ran out.
 pub fn link(
     alloc: Global,
     units: &[CodeUnit],

@@ -165,7 +165,8 @@ fn push_call(
     }
 }
 
-// The calls from a number on, and what stands behind them. No recursion is deeper than a thread has calls, 256.
+// The calls from a number on, and what comes after them. The recursion is at most as deep as a thread has calls, which
+// is at most 256.
 #[tactic(auto, using(crate::proofs::Rooms::first_of_all, crate::proofs::Rooms::others_of_all))]
 fn push_calls(
     code: &mut Vec<Instruction>,
@@ -219,7 +220,7 @@ fn call_results(alloc: Global, calls: &[ProgramCall]) -> Result<Vec<CallResult>,
     Ok(results)
 }
 
-// A thread's code, and the row that leads each throw to its end.
+// A thread's code, and the handler row that leads each throw to the end of that code.
 #[tactic(auto, using(crate::proofs::Sizes::thread_pushed))]
 fn push_thread(
     code: &mut Vec<Instruction>,
@@ -259,7 +260,7 @@ fn add_thread(
     Ok(())
 }
 
-/// Adds threads behind what is there.
+/// Puts threads after the code that is there. The only refusal is that memory ran out.
 #[tactic(auto, using(crate::proofs::Rooms::first_of_all, crate::proofs::Rooms::others_of_all))]
 pub fn add_threads(
     alloc: Global,

@@ -1,4 +1,4 @@
-// Units behind one another.
+// Units, one after another.
 
 ghost use Rattle.std.specs.Prelude.{◌≡◌, ◌++◌, ◌+◌, ◌*◌, ◌^◌, ◌≤◌, ◌∷◌, [], All, OnOk, length, map};
 ghost use Rattle.ls_emit_laws.specs.Units.{moved as the_moved, moved_row as the_moved_row};
@@ -10,7 +10,7 @@ use ls_code::instruction::Instruction;
 use ls_emit::code_unit::CodeUnit;
 use std::alloc::AllocError;
 
-/// An instruction of a unit that begins at a place.
+/// An instruction of a unit that begins at `start`.
 fn moved(start: u32, instruction: Instruction) -> Instruction
     requires room { start ≤ 2 ^ 26 }
     requires lands { Lands 65536 instruction }
@@ -86,7 +86,8 @@ fn add_unit(parts: &mut Parts, unit: &CodeUnit) -> Result<(), AllocError>
     Ok(())
 }
 
-/// Adds units behind what is there. A unit has at most 65,536 instructions, so each place is an operand.
+/// Puts units after the code that is there. A unit has at most 65,536 instructions, so each place is an operand. The
+/// only refusal is that memory ran out.
 #[tactic(auto, using(crate::proofs::Rooms::first_of_all, crate::proofs::Rooms::others_of_all, crate::proofs::Rooms::unit_room))]
 pub fn add_units(parts: &mut Parts, units: &[CodeUnit]) -> Result<(), AllocError>
     requires room { length parts.old.instructions + 65536 * length units.now ≤ 2 ^ 26 }

@@ -14,3 +14,4 @@ pub mod Frames
 pub mod Methods
 pub mod Slots
 pub mod Cases
+pub mod Jumps

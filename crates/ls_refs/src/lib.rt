@@ -4,5 +4,6 @@
 
 mod counts;
 pub mod laws;
+mod loops;
 pub mod lower;
 mod statements;

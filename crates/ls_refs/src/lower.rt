@@ -5,9 +5,12 @@ ghost use Rattle.ls_checked.specs.Plain.{plain_method as checked_method, plain_c
 ghost use Rattle.ls_lowered.specs.Plain.{plain_method, plain_file};
 ghost use Rattle.ls_refs_expressions.specs.Temporaries.{locals_of};
 ghost use Rattle.ls_refs_expressions.specs.Lowered.{lowered_method, lowered_file};
+ghost use Rattle.ls_types_completion.specs.Jumps.{JumpsInLoops};
+ghost use Rattle.ls_types_judgement.specs.Jumps.{HasItsLoops};
 ghost use Rattle.ls_refs.specs.Refused.{AllFit, AllSlotted, Refused};
 
 use crate::counts::count_locals;
+use crate::loops::count_loops;
 use crate::statements::lower_statement;
 use ls_checked::tree::{Class, File, Method};
 use ls_lowered::fault::LowerFault;
@@ -18,13 +21,15 @@ use std::alloc::{AllocError, Global};
 /// statements are as they were written.
 pub type RefTree = LoweredFile;
 
-// A method, where its locals aren't too many.
+// A method, where its locals aren't too many. After its loops were counted, each number of a jump is known to be a machine word.
 fn lower_method(alloc: Global, classes: &[Class], method: &Method) -> Result<Lowered, AllocError>
     requires slots { method.now.parameters < length method.now.slots.items }
     requires few { locals_of (checked_method method.now) ≤ 128 }
+    requires loops { JumpsInLoops 0 (checked_method method.now).body }
     ensures { IfOk result (λ m. plain_method m ≡ lowered_method (map plain_class classes.now) (checked_method method.now)) }
 {
     let arguments = method.parameters + 1;
+    count_loops(alloc, &method.body)?;
     let body = lower_statement(alloc, classes, method.slots.len(), &method.body)?;
     Ok(Lowered {
         arguments,
@@ -47,7 +52,8 @@ fn all_fit(methods: &[Method]) -> bool
 
 /// The tree of a file over words.
 pub fn lower_refs(alloc: Global, file: &File) -> Result<RefTree, LowerFault>
-    requires { AllSlotted (checked_file file.now).methods }
+    requires slots { AllSlotted (checked_file file.now).methods }
+    requires loops { HasItsLoops (checked_file file.now) }
     ensures tree { IfOk result (λ t. plain_file t ≡ lowered_file (checked_file file.now)) }
     ensures fits { OnOk result (AllFit (checked_file file.now).methods) }
     ensures refused { IfErr result (Refused (checked_file file.now)) }

@@ -1,11 +1,12 @@
 // Statements.
 
-ghost use Rattle.std.specs.Prelude.{◌≡◌, ℕ, ◌+◌, ◌*◌, ◌≤◌, IfOk, map};
+ghost use Rattle.std.specs.Prelude.{◌≡◌, ℕ, ◌+◌, ◌*◌, ◌<◌, ◌≤◌, ◌^◌, IfOk, map};
 ghost use Rattle.ls_checked.specs.Plain.{plain as checked, plain_statement as checked_statement, statements_of as checked_statements, plain_class};
 ghost use Rattle.ls_lowered.specs.LoweredTree.{Block, While, Leave, Statements};
 ghost use Rattle.ls_lowered.specs.Plain.{plain, plain_statement, statements_of, in_front};
 ghost use Rattle.ls_refs_expressions.specs.Temporaries.{statement_temporaries, block_temporaries};
 ghost use Rattle.ls_refs_expressions.specs.Lowered.{leavable as ended_by_leave, lowered_statement, lowered_block, ahead};
+ghost use Rattle.ls_refs.specs.Loops.{JumpsBelow};
 
 use ls_checked::tree::{Class, Statement};
 use ls_lowered::together::also;
@@ -54,16 +55,13 @@ fn boxed(alloc: Global, s: Tree) -> Result<Box<Tree>, AllocError>
     Ok(Box::new(alloc, s)?)
 }
 
-// The leave that a jump is: of two numbers to a loop. No memory has a statement with so many loops round it that they
-// aren't numbers.
-fn leave(loops: usize, more: usize) -> Result<Tree, AllocError>
-    requires { more ≤ 1 }
-    ensures { IfOk result (λ t. plain_statement t ≡ Leave (2 * loops + more)) }
+// The leave that a jump is: of two numbers to a loop.
+fn leave(loops: usize, more: usize) -> Tree
+    requires low { loops < 2 ^ 63 }
+    requires two { more ≤ 1 }
+    ensures { plain_statement result ≡ Leave (2 * loops + more) }
 {
-    if loops >= 1 << 62 {
-        return Err(AllocError);
-    }
-    Ok(Tree::Leave(2 * loops + more))
+    Tree::Leave(2 * loops + more)
 }
 
 /// A statement, with its temporaries from `free` on.
@@ -75,7 +73,8 @@ pub fn lower_statement(
     free: usize,
     s: &Statement,
 ) -> Result<Placed<Tree>, AllocError>
-    requires { free + statement_temporaries (checked_statement s.now) ≤ 128 }
+    requires few { free + statement_temporaries (checked_statement s.now) ≤ 128 }
+    requires jumps { JumpsBelow (2 ^ 63) (checked_statement s.now) }
     ensures tree { IfOk result (λ r. plain_statement r.tree ≡ lowered_statement (map plain_class classes.now) free (checked_statement s.now)) }
     ensures free { IfOk result (λ r. r.free ≡ free + statement_temporaries (checked_statement s.now)) }
 {
@@ -169,11 +168,11 @@ pub fn lower_statement(
             })
         }
         Statement::Break(n) => Ok(Placed {
-            tree: leave(*n, 1)?,
+            tree: leave(*n, 1),
             free,
         }),
         Statement::Continue(n) => Ok(Placed {
-            tree: leave(*n, 0)?,
+            tree: leave(*n, 0),
             free,
         }),
         Statement::ReturnNothing => Ok(Placed {
@@ -206,7 +205,8 @@ fn lower_part(
     free: usize,
     s: &Statement,
 ) -> Result<Placed<Box<Tree>>, AllocError>
-    requires { free + statement_temporaries (checked_statement s.now) ≤ 128 }
+    requires few { free + statement_temporaries (checked_statement s.now) ≤ 128 }
+    requires jumps { JumpsBelow (2 ^ 63) (checked_statement s.now) }
     ensures tree { IfOk result (λ r. plain_statement r.tree.value ≡ lowered_statement (map plain_class classes.now) free (checked_statement s.now)) }
     ensures free { IfOk result (λ r. r.free ≡ free + statement_temporaries (checked_statement s.now)) }
 {

@@ -231,7 +231,8 @@ fn goes_on(schedule: &mut Schedule, threads: &[usize], count: u64) -> Result<boo
     match append(schedule, threads, count) {
         Ok(()) => Ok(true),
         Err(ScheduleFault::TooManySteps) => Ok(false),
-        Err(_) => Err(AllocError),
+        Err(ScheduleFault::Memory) => Err(AllocError),
+        Err(_) => unreachable!(),
     }
 }
 
@@ -290,10 +291,9 @@ fn read_steps(
     }
 }
 
-/// The schedule that a text names, for the threads of a program. A text whose first item is `@2` has version 2, with groups
-/// in parentheses; without it the text has version 1. Refused with the first item or group of the text that has not the
-/// form of one, or the first item that names no thread, and where there is none such with `TooManySteps` if the steps are
-/// too many.
+/// The schedule that a text names, for the threads of a program. A text whose first item is `@2` has version 2, with
+/// groups in parentheses. Any other text has version 1. Refused with the first item or group of another form, or the
+/// first item that names no thread. If there is none, refused with `TooManySteps` if the steps are too many.
 pub fn read_schedule(
     alloc: Global,
     text: &str,

@@ -71,7 +71,8 @@ fn goes_over(schedule: &mut Schedule, from: usize, times: u64) -> Result<bool, A
     match append_again(schedule, from, times) {
         Ok(()) => Ok(true),
         Err(ScheduleFault::TooManySteps) => Ok(false),
-        Err(_) => Err(AllocError),
+        Err(ScheduleFault::Memory) => Err(AllocError),
+        Err(_) => unreachable!(),
     }
 }
 

@@ -1,6 +1,6 @@
 // Replaying a schedule on the machine.
 
-ghost use Rattle.std.specs.Prelude.{◌≡◌, ◌↔◌, IfOk, IsErrOf};
+ghost use Rattle.std.specs.Prelude.{◌↔◌, IfOk, IsErrOf};
 ghost use Rattle.ls_image.specs.Images.{RunsAsItsTexts, code_of_image};
 ghost use Rattle.ls_code.specs.Machine.{Machine as MachineValue, machine_run};
 ghost use Rattle.ls_machine.specs.Room.{AreBadCells};
@@ -11,7 +11,7 @@ use ls_events::schedule::Schedule;
 use ls_image::image::Image;
 use ls_image::laws::runs;
 use ls_machine::{LoadFault, Machine};
-use std::alloc::{AllocError, Global};
+use std::alloc::Global;
 
 /// A schedule of instructions, and the machine after it.
 #[derive(Drop)]
@@ -47,20 +47,6 @@ impl Record {
     }
 }
 
-fn copied(alloc: Global, schedule: &Schedule) -> Result<Schedule, AllocError>
-    ensures { IfOk result (λ copy. copy ≡ schedule.now) }
-{
-    let mut copy = Schedule::new(alloc);
-    for thread in schedule.steps() {
-        // Never so: no schedule has more steps than another has room for.
-        if copy.is_full() {
-            return Err(AllocError);
-        }
-        copy.push(*thread)?;
-    }
-    Ok(copy)
-}
-
 /// The record of a schedule of instructions on a machine with so many cells: the schedule, and the machine's history of it. The
 /// image runs as its texts, whoever compiled it, so the history is one of the Java text.
 /// Refused with 35 where there are no cells, more than 4,194,304, or fewer than setup names.
@@ -76,7 +62,7 @@ pub fn replay(
 {
     runs(image);
     let mut machine = Machine::load(alloc, image.code(), cells)?;
-    let schedule = copied(alloc, schedule)?;
+    let schedule = schedule.copied(alloc)?;
     machine.run(&schedule);
     Ok(Record::new(schedule, machine))
 }

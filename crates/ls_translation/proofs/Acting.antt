@@ -1,5 +1,5 @@
 -- The acting steps, one after another.
-use Rattle.std.proofs.Common.{◌≡◌, ℕ, ◌+◌, ◌<◌, List, ◌++◌, length, map, drop, get_or, refl, sym, ap, ◌∙◌}
+use Rattle.std.proofs.Common.{◌≡◌, ℕ, ◌+◌, ◌<◌, ◌≤◌, List, ◌++◌, length, map, drop, get_or, refl, sym, ap, ◌∙◌, arith, length-append}
 use Rattle.std.proofs.lemmas.List.{append_assoc, drop_more}
 use Rattle.ls_code.specs.Machine.{Machine, Entry, machine_step, machine_trace, traced}
 use Rattle.ls_code.specs.declared.step.Did.{Did}
@@ -22,3 +22,18 @@ acting_more m m' ts i d done done' whole within is more h =
     ∙ ap (λ l. done ++ l) (sym (acted_first t (machine_step m t).did (machine_trace (machine_step m t).machine (drop (i + 1) ts))))
     ∙ ap (λ l. done ++ acting m l) (sym (drop_more ts i d within))
     ∙ h
+
+at_most_one : (t : ℕ) (d : Did) → length (if_acts t d) ≤ 1
+at_most_one t (did.Acted action answer) = omega arith
+at_most_one t did.Silent = omega arith
+at_most_one t did.Waits = omega arith
+at_most_one t did.Idle = omega arith
+at_most_one t did.Stopped = omega arith
+
+-- a step adds at most one acting step
+pub one_more : (done done' : List ℕ) (t : ℕ) (d : Did) → done' ≡ done ++ if_acts t d → length done' ≤ length done + 1
+one_more done done' t d e =
+    let one = at_most_one t d in
+    let len = length-append done (if_acts t d) in
+    let same = ap length e in
+    omega (arith, one, len, same)

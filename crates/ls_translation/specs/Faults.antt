@@ -10,7 +10,7 @@ abbrev pub fault_of_load : LoadFault → TranslationFault
 fault_of_load load.BadCells = BadCells
 fault_of_load load.Memory = Memory
 
--- why these steps aren't answered: they are more than a schedule can have; want of memory says nothing
+-- why these steps aren't answered: they are more than a schedule can have; being out of memory says nothing
 abbrev pub CutsShort : List ℕ → TranslationFault → Type 0
 CutsShort steps Memory = Unit {0}
 CutsShort steps BadCells = ⊥

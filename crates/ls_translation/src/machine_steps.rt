@@ -87,11 +87,14 @@ fn most_silent(image: &Image) -> u64
     64 * (image.code().instructions().len() as u64)
 }
 
-/// The schedule of instructions for a schedule of source steps, on a machine with so many cells: for each source step that
-/// changes the state, its thread's instructions up to and with the acting one; as soon as the setup's source has ended, the
-/// setup's instructions to its end; and nothing for other steps. It shows the source's history, whoever compiled the image.
-/// Refused with 35 where there are no cells, more than 4,194,304, or fewer than setup names; else with 43 at the first step
-/// that makes what has no room in the cells; else with 44 where the schedule would have over 1,000,000 steps.
+/// The schedule of instructions for a schedule of source steps, on a machine with so many cells. For each source step
+/// that changes the state it has its thread's instructions up to and with the acting one. As soon as the setup's
+/// source has ended, it has the setup's instructions to its end. It has nothing for other steps. It shows the
+/// source's history, whoever compiled the image.
+///
+/// Refused with 35 if there are no cells, more than 4,194,304, or fewer than setup names. Else refused with 43 at the
+/// first step that makes what has no room in the cells. Else refused with 44 if the schedule would have over
+/// 1,000,000 steps.
 pub fn to_machine(
     alloc: Global,
     image: &Image,

@@ -14,25 +14,19 @@ ghost use Rattle.ls_translation.specs.declared.fault.TranslationFault.TheVariant
 
 use crate::fault::TranslationFault;
 use ls_code::step::Did;
-use ls_events::schedule::{MOST_STEPS, Schedule};
+use ls_events::schedule::Schedule;
 use ls_image::image::Image;
 use ls_machine::Machine;
 use std::alloc::{AllocError, Global};
 
 /// Takes a step, and adds its thread where it acts.
 fn take(machine: &mut Machine, acting: &mut Schedule, thread: usize) -> Result<(), AllocError>
+    requires { length acting.old < 1000000 }
     ensures machine { OnOk result (machine.new ≡ (machine_step machine.old thread).machine) }
     ensures acting { OnOk result (acting.new ≡ acting.old ++ if_acts thread (machine_step machine.old thread).did) }
 {
     match machine.step(thread) {
-        Did::Acted(_, _) => {
-            // Never so: no schedule has more steps than another has room for.
-            if acting.len() >= MOST_STEPS {
-                return Err(AllocError);
-            }
-            acting.push(thread)?;
-            Ok(())
-        }
+        Did::Acted(_, _) => acting.push(thread),
         Did::Silent | Did::Waits | Did::Idle | Did::Stopped => Ok(()),
     }
 }
@@ -45,6 +39,7 @@ fn acting_steps(
 ) -> Result<Schedule, AllocError>
     ensures { IfOk result (λ steps. steps ≡ acting machine schedule.now) }
 {
+    schedule.fits();
     let mut machine = machine;
     let mut acting = Schedule::new(alloc);
     for thread in schedule.steps() {

@@ -36,9 +36,9 @@ use crate::turn::Turn;
 use crate::view::View;
 use atomic_table::{Seat, Table};
 use ls_code::step::Did;
-use ls_events::schedule::{MOST_STEPS, Schedule};
+use ls_events::schedule::Schedule;
 use ls_image::image::Image;
-use ls_image::laws::runs;
+use ls_image::laws::{has_setup, runs};
 use ls_machine::{LoadFault, Machine};
 use ls_schedule::Record;
 use std::alloc::{AllocError, Global};
@@ -65,9 +65,9 @@ impl Model for Turnstile {
 }
 
 impl Turnstile {
-    /// The turnstile of an image's machine with so many cells and of a tape, which is copied, with one seat for each thread, the
-    /// setup's first. Entries of the tape whose thread isn't there are nobody's: no seat goes on behind such an entry.
-    /// Refused with 35 where there are no cells, more than 4,194,304, or fewer than setup names.
+    /// The turnstile of an image's machine with so many cells and of a tape, which is copied. There is one seat for
+    /// each thread, the setup's first. Entries of the tape whose thread isn't there are nobody's: no seat goes on
+    /// after such an entry. Refused with 35 if there are no cells, more than 4,194,304, or fewer than setup names.
     pub fn open(
         alloc: Global,
         image: &Image,
@@ -86,12 +86,10 @@ impl Turnstile {
         ensures image { ∥ RunsAsItsTexts image.now ∥₁ }
     {
         runs(image);
+        has_setup(image);
+        tape.fits();
         let machine = Machine::load(alloc, image.code(), cells)?;
         let seats = image.code().starts().len();
-        // Never so: the setup is a thread, and no schedule has more steps.
-        if seats == 0 || tape.len() > MOST_STEPS {
-            return Err(LoadFault::Memory);
-        }
         let tape = tape.steps().to_vec(alloc)?;
         let about = About {
             code: Snapshot::of(image.code()),

@@ -3,8 +3,9 @@
 use ls_machine::Machine;
 use std::collections::LinkedList;
 
-/// How the machine began, the tape, how many of the seats it stands for, whether it deals the seats out or steps, its thread, how
-/// many entries it has seen done, how many of them it did, whether its turn has come, and whether the machine is out with it.
+/// How the machine began, the tape, and how many of the seats it stands for. Whether it deals the seats out or steps,
+/// its thread, and how many entries it has seen done. How many of them it did, whether its turn has come, and whether
+/// the machine is out with it.
 pub struct View {
     pub start: Machine,
     pub tape: LinkedList<usize>,

@@ -4,14 +4,18 @@ use Rattle.ls_types.specs.CheckedFile.{outcome_of}
 use Rattle.std.proofs.lemmas.Result.{err_from_is_err_and}
 use Rattle.ls_types_reading.proofs.Standing.{no_program}
 use Rattle.ls_compiler.specs.Answers.{Compiled, NoFile, Breaks, NoProgram, PastLimit}
-use Rattle.ls_compiler.proofs.Put.{compiled, limited, past, err_of}
+use Rattle.ls_compiler.proofs.Put.{compiled, has_setup, limited, past, err_of}
 use Rattle.ls_compiler.proofs.compile.compile.Goals as goal
 
 pub new-source-requires : goal.new-source-requires
 new-source-requires c = c.in_ok-program.ensures.kept
 
-pub new-requires : goal.new-requires
-new-requires c = c.in_ok-code.ensures.runs
+pub new-requires-clause-runs : goal.new-requires-clause-runs
+new-requires-clause-runs c = c.in_ok-code.ensures.runs
+
+pub new-requires-clause-setup : goal.new-requires-clause-setup
+new-requires-clause-setup c =
+    has_setup c.in_ok-checked.checked c.in_ok-program.program c.new-source.result c.in_ok-code.code c.args.program.now c.new-source.ensures.program c.in_ok-program.ensures.spelled c.in_ok-code.ensures.runs
 
 pub returns-clause-compiled : goal.returns-clause-compiled
 returns-clause-compiled c =
@@ -20,7 +24,7 @@ returns-clause-compiled c =
     c.in_ok-parsed.ensures.file c.in_ok-checked.ensures.checked c.in_ok-program.ensures.spelled c.in_ok-code.ensures.runs
 
 pub returns-clause-within : goal.returns-clause-within
-returns-clause-within c = limited c.new-source.result c.new.result c.new.ensures.source c.in_ok-code.ensures.within
+returns-clause-within c = limited c.new-source.result c.in_ok-code.code c.new.result c.new.ensures.source c.new.ensures.code c.in_ok-code.ensures.code c.in_ok-code.ensures.within
 
 pub returns-clause-refused : goal.returns-clause-refused
 returns-clause-refused c = Compiled c.new.result (returns-clause-compiled c)

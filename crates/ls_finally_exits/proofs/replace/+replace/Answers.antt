@@ -1,11 +1,13 @@
-use Rattle.std.proofs.Common.{◌≡◌, ◌+◌, ◌∷◌, length, drop, ap, rules, arith, List}
+use Rattle.std.proofs.Common.{◌≡◌, ◌+◌, ◌<◌, ◌^◌, ◌∷◌, length, drop, ap, subst, rules, arith, List}
 use Rattle.ls_lowered.specs.declared.tree.Statement.{Statement}
 use Rattle.ls_lowered.specs.LoweredTree as lowered
 use Rattle.ls_lowered.specs.LoweredTree.{Leavable}
 use Rattle.ls_lowered.specs.Plain.{plain_statement, statements_of}
 use Rattle.ls_finally_exits.specs.Exits.{exits}
+use Rattle.ls_finally_exits.specs.Numbers.{numbers}
 use Rattle.ls_finally_copies.proofs.Fronts.{left_at, leavable_read}
 use Rattle.ls_finally_exits.proofs.Blocks.{goes_on, one_fits}
+use Rattle.ls_finally_exits.proofs.Numbered.{numbers_at}
 use Rattle.ls_finally_copies.proofs.Weights.{size, size_at}
 use Rattle.ls_finally_exits.proofs.replace.+replace.Goals as goal
 
@@ -16,7 +18,8 @@ replace_in_all-replace_exits-requires t c =
     let s = c.s-item.result in
     let split : drop i xs ≡ s ∷ drop (i + 1) xs = left_at xs i s (search rules) c.s-item.is in
     let less = size_at xs i s split in
-    (omega (arith, less), (one_fits c.args.kept c.args.inside c.args.next.now xs c.loop-s.out.items c.loop-s.next (drop i xs) (drop (i + 1) xs) s split c.loop-s.invariant, c.requires.low))
+    let low = numbers_at xs i s split in
+    (omega (arith, less), (one_fits c.args.kept c.args.inside c.args.next.now xs c.loop-s.out.items c.loop-s.next (drop i xs) (drop (i + 1) xs) s split c.loop-s.invariant, omega (arith, low, c.requires.low)))
 
 pub replace_in_all-loop-s-preserved : goal.replace_in_all-loop-s-preserved
 replace_in_all-loop-s-preserved t c =
@@ -31,7 +34,7 @@ replace_exits-replace_in_leavable-requires t c =
     let body = c.deref-in-Leavable.result.now in
     let own = c.deref-in-Leavable-2.result.now in
     let e : plain_statement c.args.s.now ≡ Leavable (plain_statement body) (statements_of own) = leavable_read c.args.s.now c.in-Leavable.body c.in-Leavable.own body own c.deref-in-Leavable.ensures c.deref-in-Leavable-2.ensures.value c.in-Leavable.is in
-    (omega (arith, ap size e), (omega (arith, ap (λ (x : lowered.Statement). length (exits c.args.inside x)) e), c.requires.low))
+    (omega (arith, ap size e), (omega (arith, ap (λ (x : lowered.Statement). length (exits c.args.inside x)) e), subst (λ (x : lowered.Statement). c.args.inside + numbers x < 2 ^ 63) e c.requires.low))
 
 pub replace_exits-returns-in-Leavable-clause-tree : goal.replace_exits-returns-in-Leavable-clause-tree
 replace_exits-returns-in-Leavable-clause-tree t c =

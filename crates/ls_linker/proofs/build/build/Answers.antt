@@ -6,6 +6,7 @@ use Rattle.ls_checked.specs.PlainProgram.{plain_program}
 use Rattle.ls_lowered.specs.Plain as lowered
 use Rattle.ls_code.specs.Code.{Code}
 use Rattle.ls_refs.specs.Refused.{AllSlotted}
+use Rattle.ls_refs.proofs.Jumps.{loops_once}
 use Rattle.ls_types_judgement.specs.WellTyped.{IsWellTyped, IsWellTypedProgram}
 use Rattle.ls_linker_laws.specs.Runs.{Runs}
 use Rattle.ls_linker.specs.Limits.{GoesPast}
@@ -17,12 +18,18 @@ use Rattle.ls_linker.proofs.Built.{both, placed_here, emittable_here, code_here,
 use Rattle.ls_linker.proofs.build.build.Goals as goal
 
 -- the goals are of the file and the program that the source lends, its facts of those that it is of
-pub lower_refs-requires : goal.lower_refs-requires
-lower_refs-requires c =
+pub lower_refs-requires-clause-slots : goal.lower_refs-requires-clause-slots
+lower_refs-requires-clause-slots c =
     let file = plain_file c.file-file.result.now in
     let here = sym c.file-file.ensures in
     let slotted : IsProp (AllSlotted file.methods) = hlevel props in
     ∥∥₁_elim c.source_is_well_typed.ensures.file slotted (λ well. c.has_slots.ensures file (subst IsWellTyped here well).typed)
+
+pub lower_refs-requires-clause-loops : goal.lower_refs-requires-clause-loops
+lower_refs-requires-clause-loops c =
+    let file = plain_file c.file-file.result.now in
+    let here = sym c.file-file.ensures in
+    ∥∥₁_elim c.source_is_well_typed.ensures.file (loops_once file) (λ well. (subst IsWellTyped here well).loops)
 
 pub lower_finally-requires : goal.lower_finally-requires
 lower_finally-requires c =
