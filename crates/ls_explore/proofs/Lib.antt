@@ -2,5 +2,6 @@ pub mod Walks
 pub mod Closing
 pub mod Seeing
 pub mod Loops
+pub mod Saving
 pub mod Order
 pub mod Telling

@@ -3,6 +3,7 @@ use Rattle.std.specs.Prelude.{◌≡◌, ℕ, ◌<◌, ◌≤◌, ◌⊎◌, ◌
 use Rattle.std.specs.Global.{Vec}
 use Rattle.ls_code.specs.Machine.{Machine, stops}
 use Rattle.ls_code.specs.declared.step.Did.{Did}
+use Rattle.ls_machine.specs.Saved.{Standing, standing}
 use Rattle.ls_code.specs.declared.step.Did.TheVariants as did
 use Rattle.ls_ends.specs.Acting.{first_did}
 use Rattle.ls_explore_laws.specs.Bursts.{ActsAlong, burst}
@@ -47,3 +48,7 @@ pub record IsSound (n threads : ℕ) (root : Machine) (paths : List (List ℕ)) 
   pub acts : AllAct n root paths
   pub few : length seen ≤ length paths
   pub known : (j : ℕ) (path : List ℕ) (s : Seen) → slice_get paths j ≡ Some path → slice_get seen j ≡ Some s → IsSeen n threads (walked n root path) s
+
+-- what was saved at each of these paths is how the machine stands to which it leads
+abbrev pub AreSaved : ℕ → Machine → List (List ℕ) → List Standing → Type 0
+AreSaved n root paths saved = saved ≡ map (λ path. standing (walked n root path)) paths

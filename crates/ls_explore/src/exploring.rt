@@ -38,15 +38,17 @@ fn are_roomy(seen: &[Seen]) -> bool
     seen.iter().all(|s| !s.stops)
 }
 
-/// Explores all that so many threads lead to from the machine after the setup's steps, on so many cells, and keeps at most so many
-/// states. Each row's history is that of a schedule of source steps: those of the setup, and then one of each thread of the row's path.
-/// After the schedule of a row that is over no thread of the source acts.
+/// Explores all that so many threads lead to from the machine after the setup's steps, on so many cells. At most so
+/// many states are kept. Each row's history is that of a schedule of source steps: the steps of the setup, and then
+/// one step of each thread of the row's path. After the schedule of a row that is over, no thread of the source acts.
 ///
-/// Where the rows are complete, the history of each schedule of source steps that fits the cells, of any length, is the beginning of
-/// a row's, and that of one after which no thread acts is that of a row that ends. This is so for each text that the code runs as.
-/// Where they are complete and no machine ran out of cells, this is so of each schedule, whether it fits or not.
+/// If the rows are complete, take a schedule of source steps that fits the cells, of any length. Its history is the
+/// beginning of a row's. If no thread acts after the schedule, its history is that of a row that ends. This is so for
+/// each text that the code runs as. If also no machine ran out of cells, this is so of each schedule, whether it fits
+/// or not.
 ///
-/// No history stands twice. The row of the shortest path comes first, and of those of one length the row of the least.
+/// No history stands twice. The row of the shortest path comes first, and of those of one length the row of the
+/// least.
 pub fn explore(
     alloc: Global,
     code: &Code,

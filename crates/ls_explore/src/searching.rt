@@ -1,15 +1,17 @@
 // The search for all that threads lead to.
 
-ghost use Rattle.std.specs.Prelude.{◌≡◌, ◌<◌, ◌+◌, ◌⊎◌, ◌++◌, [], ◌∷◌, false, length, IfOk, IfSome, OnOk, IsTrue, Contains, slice_index_or};
+ghost use Rattle.std.specs.Prelude.{◌≡◌, ℕ, ◌<◌, ◌+◌, ◌⊎◌, ◌++◌, [], ◌∷◌, false, length, IfOk, IfSome, OnOk, IsTrue, Contains, slice_index_or};
+ghost use Rattle.ls_code.specs.Machine.{Machine as MachineValue};
+ghost use Rattle.ls_machine.specs.Saved.{standing};
 ghost use Rattle.ls_ends.specs.Acting.{first_did};
 ghost use Rattle.ls_explore_laws.specs.Bursts.{IsClosed};
 ghost use Rattle.ls_explore.specs.Walks.{led_to, root_of, walked};
-ghost use Rattle.ls_explore.specs.Searches.{AllAct, Grows, IsClosedTo, IsSound, Leads, paths_of, seen_with};
+ghost use Rattle.ls_explore.specs.Searches.{AllAct, AreSaved, Grows, IsClosedTo, IsSound, Leads, paths_of, seen_with};
 
 use crate::table::number_of;
-use crate::walking::{Ground, go_to, has_acted, see};
+use crate::walking::{Ground, Place, go_to, has_acted, see};
 use ls_code::step::{Did, is_stop};
-use ls_machine::Machine;
+use ls_machine::{Machine, Saved, Shelf};
 use ls_machine_moves::stirring::stir;
 use std::alloc::{AllocError, Global};
 use std::collections::HashMap;
@@ -38,12 +40,14 @@ fn seen_with(seen: Seen, did: Did) -> Seen
     }
 }
 
-/// The paths so far, and what is seen after the first of them. For a number that is made of the machine to which one leads, a place
+/// The paths so far, the machines that they lead to as they were saved, and what is seen after the first of them. For a number that is made of the machine to which one leads, a place
 /// where that path may be; nothing rests on that.
 #[derive(Drop)]
 pub(crate) struct Nodes {
     pub(crate) paths: Vec<Vec<u8>>,
+    pub(crate) saved: Vec<Saved>,
     pub(crate) seen: Vec<Seen>,
+    shelf: Shelf,
     hints: HashMap<u64, usize>,
 }
 
@@ -51,73 +55,66 @@ pub(crate) struct Nodes {
 fn longer(alloc: Global, path: &[u8], thread: u8) -> Result<Vec<u8>, AllocError>
     ensures { IfOk result (λ v. v.items ≡ path.now ++ thread ∷ []) }
 {
-    let mut more = Vec::new(alloc);
+    let mut more = Vec::with_capacity(alloc, path.len() + 1)?;
     more.extend_from_slice(path)?;
     more.push(thread)?;
     Ok(more)
 }
 
-/// Whether a machine is the one that the path at a place leads to. True only where it is.
-fn is_there(
-    machine: &Machine,
-    other: &mut Machine,
-    ground: &Ground<'_>,
-    paths: &[Vec<u8>],
-    place: usize,
-) -> bool
-    requires { machine.now.code ≡ other.old.code }
-    ensures there { IsTrue result → Contains (led_to ground.now.most (root_of other.old ground.now.setup.now) (paths_of paths.now)) machine.now }
-    ensures code { other.new.code ≡ other.old.code }
-    ensures cells { other.new.cells.limit ≡ other.old.cells.limit }
+/// Whether a machine is the one that was saved at a place. True only where it is.
+fn is_there(machine: &Machine, saved: &[Saved], place: usize) -> bool
+    ensures { IsTrue result → Contains saved.now (standing machine.now) }
 {
-    if place >= paths.len() {
-        return false;
-    }
-    go_to(other, ground, paths[place].as_slice());
-    machine.is_same(other)
+    place < saved.len() && machine.is_saved(&saved[place])
 }
 
 impl Nodes {
-    /// The empty path alone.
-    fn new(alloc: Global) -> Result<Nodes, AllocError>
+    /// The empty path alone, which leads to this machine.
+    fn new(alloc: Global, machine: &Machine) -> Result<Nodes, AllocError>
         ensures paths { IfOk result (λ nodes. paths_of nodes.paths.items ≡ [] ∷ []) }
+        ensures saved { IfOk result (λ nodes. nodes.saved.items ≡ standing machine.now ∷ []) }
         ensures seen { IfOk result (λ nodes. nodes.seen.items ≡ []) }
     {
+        let mut shelf = Shelf::new(alloc);
+        let first = machine.saved(alloc, &mut shelf, number_of(machine.history()))?;
+        let mut saved = Vec::new(alloc);
+        saved.push(first)?;
         let mut paths = Vec::new(alloc);
         paths.push(Vec::new(alloc))?;
         Ok(Nodes {
             paths,
+            saved,
             seen: Vec::new(alloc),
+            shelf,
             hints: HashMap::new(alloc),
         })
     }
 
-    /// Whether a machine of this number is one that the paths lead to. True only where it is.
-    fn has(&self, machine: &Machine, other: &mut Machine, ground: &Ground<'_>, number: u64) -> bool
-        requires { machine.now.code ≡ other.old.code }
-        ensures there { IsTrue result → Contains (led_to ground.now.most (root_of other.old ground.now.setup.now) (paths_of self.now.paths.items)) machine.now }
-        ensures code { other.new.code ≡ other.old.code }
-        ensures cells { other.new.cells.limit ≡ other.old.cells.limit }
+    /// Whether a machine of this number was saved. True only where it was.
+    fn has(&self, machine: &Machine, number: u64) -> bool
+        ensures { IsTrue result → Contains self.now.saved.items (standing machine.now) }
     {
         match self.hints.get(&number).copied() {
             None => false,
-            Some(place) => is_there(machine, other, ground, self.paths.as_slice(), place),
+            Some(place) => is_there(machine, self.saved.as_slice(), place),
         }
     }
 
-    /// Keeps the path at a place and one more thread, which leads to a machine of this number. Answers false where there are as many
+    /// Keeps the path at a place and one more thread, which leads to this machine of this number. Answers false where there are as many
     /// paths as there may be.
     fn keep(
         &mut self,
         ground: &Ground<'_>,
         at: usize,
         thread: u8,
+        machine: &Machine,
         number: u64,
     ) -> Result<bool, AllocError>
         requires { at < length self.old.paths.items }
         ensures seen { self.new.seen.items ≡ self.old.seen.items }
         ensures full { IfOk result (λ kept. kept ≡ false → self.new.paths.items ≡ self.old.paths.items) }
         ensures grown { OnOk result ((paths_of self.new.paths.items ≡ paths_of self.old.paths.items) ⊎ (paths_of self.new.paths.items ≡ paths_of self.old.paths.items ++ (slice_index_or (paths_of self.old.paths.items) at [] ++ thread ∷ []) ∷ [])) }
+        ensures saved { OnOk result ((n : ℕ) (root : MachineValue) → machine.now ≡ walked n root (slice_index_or (paths_of self.old.paths.items) at [] ++ thread ∷ []) → AreSaved n root (paths_of self.old.paths.items) self.old.saved.items → AreSaved n root (paths_of self.new.paths.items) self.new.saved.items) }
         ensures kept { IfOk result (λ kept. IsTrue kept → paths_of self.new.paths.items ≡ paths_of self.old.paths.items ++ (slice_index_or (paths_of self.old.paths.items) at [] ++ thread ∷ []) ∷ []) }
     {
         let count = self.paths.len();
@@ -125,14 +122,17 @@ impl Nodes {
             return Ok(false);
         }
         let more = longer(ground.alloc, self.paths[at].as_slice(), thread)?;
+        let history = number_of(machine.history());
+        let saved = machine.saved(ground.alloc, &mut self.shelf, history)?;
         self.hints.insert(number, count)?;
         self.paths.push(more)?;
+        self.saved.push(saved)?;
         Ok(true)
     }
 }
 
-/// Looks at what a thread does after the path at a place, and keeps that path and the thread where the machine after them is none
-/// that the paths lead to. Answers what the thread does; nothing where there are as many paths as there may be.
+/// Looks at what a thread does after the path at a place. If no path leads to the machine after that yet, the path
+/// and the thread are kept. Answers what the thread does, or nothing if there are as many paths as there may be.
 fn look(
     walker: &mut Machine,
     other: &mut Machine,
@@ -144,6 +144,8 @@ fn look(
     requires at { at < length nodes.old.paths.items }
     requires code { walker.old.code ≡ other.old.code }
     requires cells { walker.old.cells.limit ≡ other.old.cells.limit }
+    requires saves { AreSaved ground.now.most (root_of walker.old ground.now.setup.now) (paths_of nodes.old.paths.items) nodes.old.saved.items }
+    ensures saves { OnOk result (AreSaved ground.now.most (root_of walker.old ground.now.setup.now) (paths_of nodes.new.paths.items) nodes.new.saved.items) }
     ensures grows { OnOk result (Grows (paths_of nodes.old.paths.items) (paths_of nodes.new.paths.items)) }
     ensures acts { OnOk result (AllAct ground.now.most (root_of walker.old ground.now.setup.now) (paths_of nodes.old.paths.items) → AllAct ground.now.most (root_of walker.old ground.now.setup.now) (paths_of nodes.new.paths.items)) }
     ensures leads { IfOk result (λ found. IfSome found (λ did. Leads ground.now.most (root_of walker.old ground.now.setup.now) (paths_of nodes.new.paths.items) (slice_index_or (paths_of nodes.old.paths.items) at []) thread)) }
@@ -154,15 +156,19 @@ fn look(
     ensures other_code { other.new.code ≡ other.old.code }
     ensures other_cells { other.new.cells.limit ≡ other.old.cells.limit }
 {
-    let did = see(walker, other, ground, nodes.paths[at].as_slice(), thread);
+    let place = Place {
+        path: nodes.paths[at].as_slice(),
+        saved: &nodes.saved[at],
+    };
+    let did = see(walker, other, ground, &place, thread);
     if !has_acted(did) {
         return Ok(Some(did));
     }
     let number = stir(walker.mix(), number_of(walker.history()));
-    if nodes.has(walker, other, ground, number) {
+    if nodes.has(walker, number) {
         return Ok(Some(did));
     }
-    if !nodes.keep(ground, at, thread, number)? {
+    if !nodes.keep(ground, at, thread, walker, number)? {
         return Ok(None);
     }
     Ok(Some(did))
@@ -180,8 +186,10 @@ fn expand(
     requires count { length nodes.old.seen.items ≡ at }
     requires code { walker.old.code ≡ other.old.code }
     requires cells { walker.old.cells.limit ≡ other.old.cells.limit }
+    requires saves { AreSaved ground.now.most (root_of walker.old ground.now.setup.now) (paths_of nodes.old.paths.items) nodes.old.saved.items }
     requires sound { IsSound ground.now.most ground.now.threads (root_of walker.old ground.now.setup.now) (paths_of nodes.old.paths.items) nodes.old.seen.items }
     requires closed { IsClosedTo ground.now.most ground.now.threads (root_of walker.old ground.now.setup.now) (paths_of nodes.old.paths.items) at 0 }
+    ensures saves { OnOk result (AreSaved ground.now.most (root_of walker.old ground.now.setup.now) (paths_of nodes.new.paths.items) nodes.new.saved.items) }
     ensures sound { OnOk result (IsSound ground.now.most ground.now.threads (root_of walker.old ground.now.setup.now) (paths_of nodes.new.paths.items) nodes.new.seen.items) }
     ensures count { IfOk result (λ found. IsTrue found → length nodes.new.seen.items ≡ at + 1) }
     ensures closed { IfOk result (λ found. IsTrue found → IsClosedTo ground.now.most ground.now.threads (root_of walker.old ground.now.setup.now) (paths_of nodes.new.paths.items) (at + 1) 0) }
@@ -213,8 +221,10 @@ fn close(
 ) -> Result<bool, AllocError>
     requires code { walker.old.code ≡ other.old.code }
     requires cells { walker.old.cells.limit ≡ other.old.cells.limit }
+    requires saves { AreSaved ground.now.most (root_of walker.old ground.now.setup.now) (paths_of nodes.old.paths.items) nodes.old.saved.items }
     requires none { nodes.old.seen.items ≡ [] }
     requires sound { IsSound ground.now.most ground.now.threads (root_of walker.old ground.now.setup.now) (paths_of nodes.old.paths.items) nodes.old.seen.items }
+    ensures saves { OnOk result (AreSaved ground.now.most (root_of walker.old ground.now.setup.now) (paths_of nodes.new.paths.items) nodes.new.saved.items) }
     ensures sound { OnOk result (IsSound ground.now.most ground.now.threads (root_of walker.old ground.now.setup.now) (paths_of nodes.new.paths.items) nodes.new.seen.items) }
     ensures count { IfOk result (λ found. IsTrue found → length nodes.new.seen.items ≡ length (paths_of nodes.new.paths.items)) }
     ensures closed { IfOk result (λ found. IsTrue found → IsClosed ground.now.most ground.now.threads (led_to ground.now.most (root_of walker.old ground.now.setup.now) (paths_of nodes.new.paths.items))) }
@@ -234,16 +244,17 @@ fn close(
     Ok(nodes.paths.len() <= ground.limit)
 }
 
-/// What a search has found: paths, what is seen after the first of them, and whether they are all.
+/// What a search has found: paths, the machines that they lead to as they were saved, what is seen after the first of them, and whether they are all.
 #[derive(Drop)]
 pub(crate) struct Searched {
     pub(crate) paths: Vec<Vec<u8>>,
+    pub(crate) saved: Vec<Saved>,
     pub(crate) seen: Vec<Seen>,
     pub(crate) complete: bool,
 }
 
-/// Looks for all that the threads lead to from the machine after the setup, the shortest paths first, and among those of one length
-/// the least. Two machines of the same code and number of cells go to and fro.
+/// Looks for all that the threads lead to from the machine after the setup. The shortest paths come first, and of
+/// those of one length the least. Two machines of the same code and number of cells take turns.
 pub(crate) fn search(
     walker: &mut Machine,
     other: &mut Machine,
@@ -251,21 +262,26 @@ pub(crate) fn search(
 ) -> Result<Searched, AllocError>
     requires code { walker.old.code ≡ other.old.code }
     requires cells { walker.old.cells.limit ≡ other.old.cells.limit }
+    ensures saves { IfOk result (λ found. AreSaved ground.now.most (root_of walker.old ground.now.setup.now) (paths_of found.paths.items) found.saved.items) }
     ensures sound { IfOk result (λ found. IsSound ground.now.most ground.now.threads (root_of walker.old ground.now.setup.now) (paths_of found.paths.items) found.seen.items) }
     ensures count { IfOk result (λ found. IsTrue found.complete → length found.seen.items ≡ length (paths_of found.paths.items)) }
     ensures closed { IfOk result (λ found. IsTrue found.complete → IsClosed ground.now.most ground.now.threads (led_to ground.now.most (root_of walker.old ground.now.setup.now) (paths_of found.paths.items))) }
     ensures code { walker.new.code ≡ walker.old.code }
     ensures cells { walker.new.cells.limit ≡ walker.old.cells.limit }
 {
-    let mut nodes = Nodes::new(ground.alloc)?;
+    go_to(other, ground, &[]);
+    let mut nodes = Nodes::new(ground.alloc, other)?;
     let complete = close(walker, other, ground, &mut nodes)?;
     let Nodes {
         paths,
+        saved,
         seen,
+        shelf: _,
         hints: _,
     } = nodes;
     Ok(Searched {
         paths,
+        saved,
         seen,
         complete,
     })

@@ -5,12 +5,12 @@ ghost use Rattle.std.specs.List.{All};
 ghost use Rattle.ls_code.specs.Machine.{Machine as MachineValue};
 ghost use Rattle.ls_explore.specs.Rows.{AllEnd, AreApart, HasRow, HaveBegun, HaveEnds, IsEnd, IsTold, IsToldBy, Keeps, row_of, row_order};
 ghost use Rattle.ls_explore.specs.declared.searching.Seen.{Seen as SeenValue};
-ghost use Rattle.ls_explore.specs.Searches.{IsSound, paths_of};
+ghost use Rattle.ls_explore.specs.Searches.{AreSaved, IsSound, paths_of};
 ghost use Rattle.ls_explore.specs.Walks.{root_of, walked};
 
 use crate::rows::{Ending, Row, ending_of, in_order, is_end};
 use crate::searching::{Searched, Seen};
-use crate::walking::{Ground, go_to};
+use crate::walking::{Ground, Place, stand};
 use ls_events::event::{Event, Happening};
 use ls_events::value::Value;
 use ls_machine::Machine;
@@ -18,8 +18,8 @@ use ls_machine_moves::stirring::stir;
 use std::alloc::{AllocError, Global};
 use std::collections::HashMap;
 
-/// The rows so far. For a number that is made of a history, a place where its row may be, and one of a row that may begin so; nothing
-/// rests on these.
+/// The rows so far. For a number that is made of a history, a place where its row may be, and a place of a row that
+/// may begin so. Nothing depends on these places.
 #[derive(Drop)]
 pub(crate) struct Table {
     pub(crate) rows: Vec<Row>,
@@ -177,6 +177,7 @@ fn tell_end(
     table: &mut Table,
 ) -> Result<(), AllocError>
     requires at { at < length found.now.paths.items }
+    requires saves { AreSaved ground.now.most (root_of walker.old ground.now.setup.now) (paths_of found.now.paths.items) found.now.saved.items }
     requires sound { IsSound ground.now.most ground.now.threads (root_of walker.old ground.now.setup.now) (paths_of found.now.paths.items) found.now.seen.items }
     ensures told { OnOk result (All (IsTold ground.now.most ground.now.threads (root_of walker.old ground.now.setup.now)) table.old.rows.items → All (IsTold ground.now.most ground.now.threads (root_of walker.old ground.now.setup.now)) table.new.rows.items) }
     ensures keeps { OnOk result (Keeps table.old.rows.items table.new.rows.items) }
@@ -191,7 +192,11 @@ fn tell_end(
         return Ok(());
     }
     let path = found.paths[at].as_slice();
-    go_to(walker, ground, path);
+    let place = Place {
+        path,
+        saved: &found.saved[at],
+    };
+    stand(walker, ground, &place);
     table.add(ground.alloc, path, walker.history(), ending)?;
     Ok(())
 }
@@ -202,7 +207,8 @@ fn tell_ends(
     ground: &Ground<'_>,
     found: &Searched,
 ) -> Result<Table, AllocError>
-    requires { IsSound ground.now.most ground.now.threads (root_of walker.old ground.now.setup.now) (paths_of found.now.paths.items) found.now.seen.items }
+    requires saves { AreSaved ground.now.most (root_of walker.old ground.now.setup.now) (paths_of found.now.paths.items) found.now.saved.items }
+    requires sound { IsSound ground.now.most ground.now.threads (root_of walker.old ground.now.setup.now) (paths_of found.now.paths.items) found.now.seen.items }
     ensures told { IfOk result (λ table. All (IsTold ground.now.most ground.now.threads (root_of walker.old ground.now.setup.now)) table.rows.items) }
     ensures apart { IfOk result (λ table. AreApart table.rows.items) }
     ensures ends { IfOk result (λ table. HaveEnds ground.now.most (root_of walker.old ground.now.setup.now) (paths_of found.now.paths.items) found.now.seen.items (length found.now.seen.items) table.rows.items) }
@@ -225,6 +231,7 @@ fn tell_one(
     table: &mut Table,
 ) -> Result<(), AllocError>
     requires at { at < length found.now.paths.items }
+    requires saves { AreSaved ground.now.most (root_of walker.old ground.now.setup.now) (paths_of found.now.paths.items) found.now.saved.items }
     requires sound { IsSound ground.now.most ground.now.threads (root_of walker.old ground.now.setup.now) (paths_of found.now.paths.items) found.now.seen.items }
     ensures told { OnOk result (All (IsTold ground.now.most ground.now.threads (root_of walker.old ground.now.setup.now)) table.old.rows.items → All (IsTold ground.now.most ground.now.threads (root_of walker.old ground.now.setup.now)) table.new.rows.items) }
     ensures keeps { OnOk result (Keeps table.old.rows.items table.new.rows.items) }
@@ -234,7 +241,11 @@ fn tell_one(
     ensures cells { walker.new.cells.limit ≡ walker.old.cells.limit }
 {
     let path = found.paths[at].as_slice();
-    go_to(walker, ground, path);
+    let place = Place {
+        path,
+        saved: &found.saved[at],
+    };
+    stand(walker, ground, &place);
     if table.begins(walker.history()) {
         return Ok(());
     }
@@ -250,6 +261,7 @@ fn tell_rest(
     found: &Searched,
     table: &mut Table,
 ) -> Result<(), AllocError>
+    requires saves { AreSaved ground.now.most (root_of walker.old ground.now.setup.now) (paths_of found.now.paths.items) found.now.saved.items }
     requires sound { IsSound ground.now.most ground.now.threads (root_of walker.old ground.now.setup.now) (paths_of found.now.paths.items) found.now.seen.items }
     requires told { All (IsTold ground.now.most ground.now.threads (root_of walker.old ground.now.setup.now)) table.old.rows.items }
     ensures told { OnOk result (All (IsTold ground.now.most ground.now.threads (root_of walker.old ground.now.setup.now)) table.new.rows.items) }
@@ -264,14 +276,15 @@ fn tell_rest(
     Ok(())
 }
 
-/// The rows of all paths, in order: one for each history of those that end, with the first path of each, and one for each history of
-/// the others that isn't the beginning of a row's, with the last.
+/// The rows of all paths, in order. Each history that ends has one row, with the first path of it. Each other history
+/// that isn't the beginning of a row's has one row, with the last path.
 pub(crate) fn tell(
     walker: &mut Machine,
     ground: &Ground<'_>,
     found: &Searched,
 ) -> Result<Vec<Row>, AllocError>
-    requires { IsSound ground.now.most ground.now.threads (root_of walker.old ground.now.setup.now) (paths_of found.now.paths.items) found.now.seen.items }
+    requires saves { AreSaved ground.now.most (root_of walker.old ground.now.setup.now) (paths_of found.now.paths.items) found.now.saved.items }
+    requires sound { IsSound ground.now.most ground.now.threads (root_of walker.old ground.now.setup.now) (paths_of found.now.paths.items) found.now.seen.items }
     ensures told { IfOk result (λ rows. All (IsTold ground.now.most ground.now.threads (root_of walker.old ground.now.setup.now)) rows.items) }
     ensures ends { IfOk result (λ rows. HaveEnds ground.now.most (root_of walker.old ground.now.setup.now) (paths_of found.now.paths.items) found.now.seen.items (length found.now.seen.items) rows.items) }
     ensures apart { IfOk result (λ rows. AreApart rows.items) }

@@ -2,14 +2,15 @@
 
 ghost use Rattle.std.specs.Prelude.{◌≡◌, ℕ, suc, ◌++◌, ◌∷◌, [], true, false, None, Some, IsTrue};
 ghost use Rattle.ls_code.specs.declared.step.Did.TheVariants.{Silent};
+ghost use Rattle.ls_machine.specs.Saved.{standing};
 ghost use Rattle.ls_ends.specs.Acting.{first_did};
 ghost use Rattle.ls_explore_laws.specs.Bursts.{IsSilentTo, burst};
 ghost use Rattle.ls_explore.specs.Walks.{has_acted, is_silent, root_of, tried, walked};
 
 use ls_code::step::Did;
 use ls_events::schedule::Schedule;
-use ls_machine::Machine;
 use ls_machine::laws::runs_keep;
+use ls_machine::{Machine, Saved};
 use std::alloc::Global;
 
 /// What a search goes by.
@@ -24,6 +25,13 @@ pub(crate) struct Ground<'a> {
     pub(crate) threads: u8,
     /// The most paths.
     pub(crate) limit: usize,
+}
+
+/// A path, and the machine to which it leads as it was saved.
+#[derive(Drop)]
+pub(crate) struct Place<'a> {
+    pub(crate) path: &'a [u8],
+    pub(crate) saved: &'a Saved,
 }
 
 /// Whether a step did nothing that another thread could notice.
@@ -81,15 +89,35 @@ pub(crate) fn go_to(machine: &mut Machine, ground: &Ground<'_>, path: &[u8])
     walk(machine, ground.most, path);
 }
 
-/// Goes to where a path leads, and then takes a thread's steps up to and with the first that isn't silent, at most so many. Answers
-/// what the last of them did.
-fn advance(machine: &mut Machine, ground: &Ground<'_>, count: u64, path: &[u8], thread: u8) -> Did
-    ensures machine { machine.new ≡ (tried count (walked ground.now.most (root_of machine.old ground.now.setup.now) path.now) thread).machine }
-    ensures did { result ≡ (tried count (walked ground.now.most (root_of machine.old ground.now.setup.now) path.now) thread).did }
+/// Goes to where a path leads: takes what was saved there, or else goes along the path.
+pub(crate) fn stand(machine: &mut Machine, ground: &Ground<'_>, place: &Place<'_>)
+    requires { place.now.saved.now ≡ standing (walked ground.now.most (root_of machine.old ground.now.setup.now) place.now.path.now) }
+    ensures at { machine.new ≡ walked ground.now.most (root_of machine.old ground.now.setup.now) place.now.path.now }
     ensures code { machine.new.code ≡ machine.old.code }
     ensures cells { machine.new.cells.limit ≡ machine.old.cells.limit }
 {
-    go_to(machine, ground, path);
+    if machine.set_as(place.saved) {
+        return;
+    }
+    go_to(machine, ground, place.path);
+}
+
+/// Goes to where a path leads, and then takes a thread's steps up to and with the first that isn't silent, at most so many. Answers
+/// what the last of them did.
+fn advance(
+    machine: &mut Machine,
+    ground: &Ground<'_>,
+    count: u64,
+    place: &Place<'_>,
+    thread: u8,
+) -> Did
+    requires { place.now.saved.now ≡ standing (walked ground.now.most (root_of machine.old ground.now.setup.now) place.now.path.now) }
+    ensures machine { machine.new ≡ (tried count (walked ground.now.most (root_of machine.old ground.now.setup.now) place.now.path.now) thread).machine }
+    ensures did { result ≡ (tried count (walked ground.now.most (root_of machine.old ground.now.setup.now) place.now.path.now) thread).did }
+    ensures code { machine.new.code ≡ machine.old.code }
+    ensures cells { machine.new.cells.limit ≡ machine.old.cells.limit }
+{
+    stand(machine, ground, place);
     try_thread(machine, count, thread as usize)
 }
 
@@ -129,25 +157,26 @@ fn comes_back(machine: &mut Machine, other: &Machine, count: u64, thread: usize)
     false
 }
 
-/// Whether a thread never acts after a path, where it has taken so many silent steps, since it comes back in silence to where it
-/// stood. True only where it is so.
+/// Whether a thread never acts after a path on which it has taken so many silent steps: it comes back in silence to
+/// where it stood. True only if it is so.
 fn goes_round(
     machine: &mut Machine,
     other: &mut Machine,
     ground: &Ground<'_>,
     count: u64,
-    path: &[u8],
+    place: &Place<'_>,
     thread: u8,
 ) -> bool
     requires code { machine.old.code ≡ other.old.code }
-    requires silent { IsSilentTo count (walked ground.now.most (root_of other.old ground.now.setup.now) path.now) thread machine.old }
-    ensures never { IsTrue result → (n : ℕ) → (burst n (walked ground.now.most (root_of other.old ground.now.setup.now) path.now) thread ≡ None) × (first_did n (walked ground.now.most (root_of other.old ground.now.setup.now) path.now) thread ≡ Silent) }
+    requires saves { place.now.saved.now ≡ standing (walked ground.now.most (root_of other.old ground.now.setup.now) place.now.path.now) }
+    requires silent { IsSilentTo count (walked ground.now.most (root_of other.old ground.now.setup.now) place.now.path.now) thread machine.old }
+    ensures never { IsTrue result → (n : ℕ) → (burst n (walked ground.now.most (root_of other.old ground.now.setup.now) place.now.path.now) thread ≡ None) × (first_did n (walked ground.now.most (root_of other.old ground.now.setup.now) place.now.path.now) thread ≡ Silent) }
     ensures code { machine.new.code ≡ machine.old.code }
     ensures cells { machine.new.cells.limit ≡ machine.old.cells.limit }
     ensures other_code { other.new.code ≡ other.old.code }
     ensures other_cells { other.new.cells.limit ≡ other.old.cells.limit }
 {
-    go_to(other, ground, path);
+    stand(other, ground, place);
     if !go_silently(other, count, thread as usize) {
         return false;
     }
@@ -160,27 +189,28 @@ pub(crate) fn see(
     machine: &mut Machine,
     other: &mut Machine,
     ground: &Ground<'_>,
-    path: &[u8],
+    place: &Place<'_>,
     thread: u8,
 ) -> Did
     requires code { machine.old.code ≡ other.old.code }
     requires cells { machine.old.cells.limit ≡ other.old.cells.limit }
-    ensures did { result ≡ first_did ground.now.most (walked ground.now.most (root_of machine.old ground.now.setup.now) path.now) thread }
-    ensures acts { has_acted result ≡ true → burst ground.now.most (walked ground.now.most (root_of machine.old ground.now.setup.now) path.now) thread ≡ Some machine.new }
-    ensures at { has_acted result ≡ true → machine.new ≡ walked ground.now.most (root_of machine.old ground.now.setup.now) (path.now ++ thread ∷ []) }
-    ensures none { has_acted result ≡ false → burst ground.now.most (walked ground.now.most (root_of machine.old ground.now.setup.now) path.now) thread ≡ None }
+    requires saves { place.now.saved.now ≡ standing (walked ground.now.most (root_of machine.old ground.now.setup.now) place.now.path.now) }
+    ensures did { result ≡ first_did ground.now.most (walked ground.now.most (root_of machine.old ground.now.setup.now) place.now.path.now) thread }
+    ensures acts { has_acted result ≡ true → burst ground.now.most (walked ground.now.most (root_of machine.old ground.now.setup.now) place.now.path.now) thread ≡ Some machine.new }
+    ensures at { has_acted result ≡ true → machine.new ≡ walked ground.now.most (root_of machine.old ground.now.setup.now) (place.now.path.now ++ thread ∷ []) }
+    ensures none { has_acted result ≡ false → burst ground.now.most (walked ground.now.most (root_of machine.old ground.now.setup.now) place.now.path.now) thread ≡ None }
     ensures code { machine.new.code ≡ machine.old.code }
     ensures cells { machine.new.cells.limit ≡ machine.old.cells.limit }
     ensures other_code { other.new.code ≡ other.old.code }
     ensures other_cells { other.new.cells.limit ≡ other.old.cells.limit }
 {
     let few = ground.most.min(FEW);
-    let did = advance(machine, ground, few, path, thread);
+    let did = advance(machine, ground, few, place, thread);
     if !is_silent(did) {
         return did;
     }
-    if goes_round(machine, other, ground, few, path, thread) {
+    if goes_round(machine, other, ground, few, place, thread) {
         return Did::Silent;
     }
-    advance(machine, ground, ground.most, path, thread)
+    advance(machine, ground, ground.most, place, thread)
 }

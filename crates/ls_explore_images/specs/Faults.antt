@@ -1,10 +1,17 @@
 -- Why the schedules of an image aren't explored.
-use Rattle.std.specs.Prelude.{ℕ}
+use Rattle.std.specs.Prelude.{◌≡◌, ◌<◌, ◌⊎◌, ℕ, true, false, length, replicate, slice_get}
+use Rattle.ls_checked.specs.CheckedTree.{File}
+use Rattle.ls_checked.specs.CheckedProgram.{Program}
+use Rattle.ls_code.specs.Code.{Code}
+use Rattle.ls_code.specs.Machine.{Machine, loaded, machine_run, setup_ended}
+use Rattle.ls_headline.specs.Translations.{to_machine}
 use Rattle.ls_machine.specs.Room.{AreBadCells}
 use Rattle.ls_machine.specs.declared.fault.LoadFault.{LoadFault}
 use Rattle.ls_machine.specs.declared.fault.LoadFault.TheVariants as load
+use Rattle.ls_translation.specs.Room.{IsFirstUnfit}
 use Rattle.ls_translation.specs.declared.fault.TranslationFault.{TranslationFault}
 use Rattle.ls_translation.specs.declared.fault.TranslationFault.TheVariants as translation
+use Rattle.ls_explore_images.specs.Settings.{EndsAt}
 use Rattle.ls_explore_images.specs.declared.fault.ExploreFault.{ExploreFault}
 use Rattle.ls_explore_images.specs.declared.fault.ExploreFault.TheVariants.{Memory, BadCells, BadStates, SetupEndless, NotSetUp, Setup}
 
@@ -20,11 +27,35 @@ fault_of_translation translation.BadCells = BadCells
 fault_of_translation (translation.DoesNotFit step) = Setup (translation.DoesNotFit step)
 fault_of_translation translation.ResultTooLong = Setup translation.ResultTooLong
 
--- a refusal that comes after the numbers and the setup's source have been looked at
-abbrev pub IsLate : ℕ → ℕ → ExploreFault → Type 0
-IsLate names cells Memory = Unit {0}
-IsLate names cells NotSetUp = Unit {0}
-IsLate names cells (Setup f) = Unit {0}
-IsLate names cells BadCells = AreBadCells names cells
-IsLate names cells BadStates = ⊥
-IsLate names cells SetupEndless = ⊥
+-- the machine's setup has not ended, or the machine has stopped
+abbrev pub IsUnready : Machine → Type 0
+IsUnready m = (setup_ended (slice_get m.threads 0) ≡ false) ⊎ (m.stopped ≡ true)
+
+-- So it is after the instructions for so many source steps of the setup.
+abbrev pub StaysUnready : File → Program → Code → ℕ → ℕ → Type 0
+StaysUnready file program code cells k = IsUnready (machine_run (loaded code cells) (to_machine file program code cells (replicate k 0)))
+
+-- Why so many source steps of the setup aren't translated: what one of them makes has no room, or the machine would take too many.
+abbrev pub StaysSource : File → Program → Code → ℕ → ℕ → TranslationFault → Type 0
+StaysSource file program code cells k translation.Memory = ⊥
+StaysSource file program code cells k translation.BadCells = ⊥
+StaysSource file program code cells k (translation.DoesNotFit step) = IsFirstUnfit file program cells (replicate k 0) step
+StaysSource file program code cells k translation.ResultTooLong = 1000000 < length (to_machine file program code cells (replicate k 0))
+
+-- a refusal that comes after the numbers have been looked at, and the setup's source, which ends with so many steps
+abbrev pub IsLate : File → Program → Code → ℕ → ℕ → ExploreFault → Type 0
+IsLate file program code cells k Memory = Unit {0}
+IsLate file program code cells k NotSetUp = StaysUnready file program code cells k
+IsLate file program code cells k (Setup f) = StaysSource file program code cells k f
+IsLate file program code cells k BadCells = AreBadCells code.names cells
+IsLate file program code cells k BadStates = ⊥
+IsLate file program code cells k SetupEndless = ⊥
+
+-- A fault of the setup's run on the machine comes only where the setup's source ends and its run goes so; of other faults more is said elsewhere.
+abbrev pub IsOfSetup : File → Program → Code → ℕ → ExploreFault → Type 0
+IsOfSetup file program code cells Memory = Unit {0}
+IsOfSetup file program code cells NotSetUp = (k : ℕ) × EndsAt file program k × StaysUnready file program code cells k
+IsOfSetup file program code cells (Setup f) = (k : ℕ) × EndsAt file program k × StaysSource file program code cells k f
+IsOfSetup file program code cells BadCells = Unit {0}
+IsOfSetup file program code cells BadStates = Unit {0}
+IsOfSetup file program code cells SetupEndless = Unit {0}

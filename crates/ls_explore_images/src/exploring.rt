@@ -7,7 +7,7 @@ ghost use Rattle.ls_machine.specs.Room.{AreBadCells};
 ghost use Rattle.ls_translation.specs.Texts.{file_of, program_of};
 ghost use Rattle.ls_explore_laws.specs.Stuck.{IsStuck};
 ghost use Rattle.ls_explore.specs.Rows.{AreApart, row_order};
-ghost use Rattle.ls_explore_images.specs.Faults.{IsLate};
+ghost use Rattle.ls_explore_images.specs.Faults.{IsLate, IsOfSetup};
 ghost use Rattle.ls_explore_images.specs.Settings.{EndsAt, GoesOnAfter};
 ghost use Rattle.ls_explore_images.specs.Tellings.{TellAll, TellTruth, TellWhole};
 
@@ -24,8 +24,8 @@ use std::alloc::{AllocError, Global};
 /// The most states that are kept.
 pub const MOST_STATES: usize = 16_777_216;
 
-/// How many source steps the setup takes; histories with paths that lead to them, whether they are all, whether no schedule runs out
-/// of cells, and how many states were kept.
+/// How many source steps the setup takes, and histories with paths that lead to them. Also whether they are all,
+/// whether no schedule runs out of cells, and how many states were kept.
 #[derive(Drop)]
 pub struct ImageExploration {
     pub setup: usize,
@@ -88,7 +88,7 @@ fn explore_rest(
     requires cells { IsCells (code_of_image image.now) cells }
     requires few { count ≤ 100000 }
     requires ends { EndsAt (file_of image.now) (program_of image.now) count }
-    ensures late { IfErr result (IsLate (code_of_image image.now).names cells) }
+    ensures late { IfErr result (IsLate (file_of image.now) (program_of image.now) (code_of_image image.now) cells count) }
     ensures told { IfOk result (λ e. TellTruth (file_of image.now) (program_of image.now) e.setup e.rows.items) }
     ensures tells { IfOk result (λ e. IsTrue e.complete → TellAll (file_of image.now) (program_of image.now) cells e.rows.items) }
     ensures whole { IfOk result (λ e. IsTrue e.complete → IsTrue e.roomy → TellWhole (file_of image.now) (program_of image.now) e.rows.items) }
@@ -116,17 +116,20 @@ fn explore_rest(
 
 /// Explores all schedules of the program of an image on so many cells, and keeps at most so many states.
 ///
-/// Each row's history is that of its schedule of source steps: those of the setup, and then one of each thread of the row's path.
-/// After the schedule of a row that is over no thread acts: each has ended, is trapped, or waits for ever.
+/// Each row's history is that of its schedule of source steps: the steps of the setup, and then one step of each
+/// thread of the row's path. After the schedule of a row that is over no thread acts: each has ended, is trapped, or
+/// waits for ever.
 ///
-/// Where the rows are complete, the history of each schedule of source steps that fits the cells, of any length, is the beginning of
-/// a row's, and that of one after which no thread acts is that of a row that ends. Where they are roomy too, this is so of each
-/// schedule, whether it fits or not. A setup that is trapped has its one history.
+/// If the rows are complete, take a schedule of source steps that fits the cells, of any length. Its history is the
+/// beginning of a row's. If no thread acts after the schedule, its history is that of a row that ends. If the rows
+/// are roomy too, this is so of each schedule, whether it fits or not. A setup that is trapped has its one history.
 ///
-/// No history stands twice. The row of the shortest schedule comes first, and of those of one length the row of the least.
+/// No history stands twice. The row of the shortest schedule comes first, and of those of one length the row of the
+/// least.
 ///
-/// Refused with 61 where no states may be kept, or more than 16,777,216; else with 35 as `replay` is; else with 62 where the setup has
-/// not ended in 100,000 source steps; else as the setup's translation to the machine is, with 43 or 44.
+/// Refused with 61 if no states may be kept, or more than 16,777,216; else with 35 as `replay` is. Else refused with
+/// 62 if the setup has not ended in 100,000 source steps; else as the setup's translation to the machine is, with 43
+/// or 44.
 pub fn explore_image(
     alloc: Global,
     image: &Image,
@@ -137,6 +140,7 @@ pub fn explore_image(
     ensures cells { IsErrOf result ExploreFault.BadCells → AreBadCells (code_of_image image.now).names cells }
     ensures good { IfOk result (λ e. AreBadCells (code_of_image image.now).names cells → ⊥) }
     ensures endless { IsErrOf result ExploreFault.SetupEndless → GoesOnAfter (file_of image.now) (program_of image.now) 100001 }
+    ensures setup { IfErr result (IsOfSetup (file_of image.now) (program_of image.now) (code_of_image image.now) cells) }
     ensures told { IfOk result (λ e. TellTruth (file_of image.now) (program_of image.now) e.setup e.rows.items) }
     ensures tells { IfOk result (λ e. IsTrue e.complete → TellAll (file_of image.now) (program_of image.now) cells e.rows.items) }
     ensures whole { IfOk result (λ e. IsTrue e.complete → IsTrue e.roomy → TellWhole (file_of image.now) (program_of image.now) e.rows.items) }

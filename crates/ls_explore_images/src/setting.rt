@@ -7,7 +7,7 @@ ghost use Rattle.ls_checked.specs.PlainProgram.{plain_program};
 ghost use Rattle.ls_headline.specs.Same.{IsCells};
 ghost use Rattle.ls_image.specs.Images.{code_of_image};
 ghost use Rattle.ls_explore_laws.specs.Explored.{IsSetUp};
-ghost use Rattle.ls_explore_images.specs.Faults.{IsLate};
+ghost use Rattle.ls_explore_images.specs.Faults.{IsLate, IsUnready};
 ghost use Rattle.ls_explore_images.specs.Settings.{EndsAt, IsFew, IsSetting};
 ghost use Rattle.ls_translation.specs.MachineRuns.{has_acted};
 ghost use Rattle.ls_translation.specs.Texts.{file_of, program_of};
@@ -86,10 +86,11 @@ pub(crate) fn setup_steps(alloc: Global, count: usize) -> Result<Schedule, Alloc
     Ok(Schedule::of(steps))
 }
 
-/// Whether a machine hasn't stopped and its setup has ended. True only where it is so.
+/// Whether a machine hasn't stopped and its setup has ended.
 fn is_ready(machine: &Machine) -> bool
     ensures goes { IsTrue result → machine.now.stopped ≡ false }
     ensures ready { IsTrue result → setup_ended (slice_get machine.now.threads 0) ≡ true }
+    ensures unready { result ≡ false → IsUnready machine.now }
 {
     if !machine.is_set_up() {
         return false;
@@ -103,7 +104,8 @@ fn is_ready(machine: &Machine) -> bool
     }
 }
 
-/// The steps of a machine of an image, with so many cells, that set its program up, where its source does so with so many steps.
+/// The steps of a machine of an image, with so many cells, that set its program up, if its source does so with so
+/// many steps.
 pub(crate) fn set_up(
     alloc: Global,
     image: &Image,
@@ -113,7 +115,7 @@ pub(crate) fn set_up(
     requires cells { IsCells (code_of_image image.now) cells }
     requires few { count ≤ 100000 }
     requires ends { EndsAt (file_of image.now) (program_of image.now) count }
-    ensures late { IfErr result (IsLate (code_of_image image.now).names cells) }
+    ensures late { IfErr result (IsLate (file_of image.now) (program_of image.now) (code_of_image image.now) cells count) }
     ensures steps { IfOk result (λ steps. IsSetUp (file_of image.now) (program_of image.now) (code_of_image image.now) cells count (machine_run (loaded (code_of_image image.now) cells) steps)) }
 {
     translates_back(image, cells);

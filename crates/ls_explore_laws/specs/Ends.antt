@@ -67,8 +67,8 @@ IsQuiet machine_did.Idle = Unit {0}
 abbrev pub AreQuiet : ℕ → ℕ → Machine → Type 0
 AreQuiet n threads m = (t : ℕ) → t < threads → IsQuiet (first_did n m t)
 
--- Where the machine behind some steps hasn't stopped, its setup has ended, and each thread is silent, or stands still, for as long as one may be that acts:
--- no thread of the source acts.
+-- If the machine after some steps hasn't stopped, its setup has ended, and each thread is silent, or stands still,
+-- for as long as one may be that acts: no thread of the source acts.
 abbrev pub StandsStill : Type 0
 StandsStill =
     (file : File) (program : Program) (code : Code) (cells : ℕ) → IsCells code cells → ActsInTime file program code → (steps : List ℕ) →

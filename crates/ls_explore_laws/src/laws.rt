@@ -5,8 +5,8 @@ ghost use Rattle.ls_explore_laws.specs.Explored.{Covers, CoversWhole, LeadsAsSou
 ghost use Rattle.ls_explore_laws.specs.Ends.{Ends, EndsWhole, StandsStill, StandsStillAlong};
 ghost use Rattle.ls_explore_laws.specs.Stuck.{StuckCovers};
 
-/// A list of machines that has the one whose setup has ended, and is closed under what each thread does until it acts, shows the
-/// history of each schedule of source steps that fits the cells, of any length.
+/// Take a list of machines that has the one whose setup has ended, and is closed under what each thread does until it
+/// acts. It shows the history of each schedule of source steps that fits the cells, of any length.
 pub fn covers()
     ensures { Covers }
 {}
@@ -16,8 +16,8 @@ pub fn covers_whole()
     ensures { CoversWhole }
 {}
 
-/// Such a list has, for each schedule that fits and after which no thread of the source acts, a machine of the same history in which no
-/// thread acts.
+/// Take a schedule that fits, and after which no thread of the source acts. Such a list has a machine of the same
+/// history in which no thread acts.
 pub fn ends()
     ensures { Ends }
 {}

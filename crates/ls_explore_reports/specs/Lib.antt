@@ -1,3 +1,4 @@
 pub mod Judged
 pub mod Printing
 pub mod Laws
+pub mod Long

@@ -4,8 +4,8 @@ ghost use Rattle.ls_explore_reports.specs.Laws.{NoneIllegal, NoneIllegalThatFits
 
 use ls_explore_verdicts::laws::every_schedule_is_legal;
 
-/// Where the last line says `illegal 0` and that the rows are complete, the history of each schedule of the program that fits the
-/// cells has a legal order; where it says `complete` alone, that of each schedule whatever.
+/// If the last line says `illegal 0` and that the rows are complete, the history of each schedule of the program that
+/// fits the cells has a legal order. If it says `complete` alone, this is so of every schedule.
 pub fn none_is_illegal()
     ensures fitting { NoneIllegalThatFits }
     ensures whole { NoneIllegal }

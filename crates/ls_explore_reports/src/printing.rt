@@ -1,6 +1,6 @@
 // The text of an exploration.
 
-ghost use Rattle.std.specs.Prelude.{◌≡◌, ◌⊎◌, ◌++◌, ◌∷◌, [], IfErr, IfOk, OnOk, map, string_bytes};
+ghost use Rattle.std.specs.Prelude.{◌≡◌, ◌<◌, ◌≤◌, ◌⊎◌, ◌++◌, ◌∷◌, [], IfErr, IfOk, IsErrOf, OnOk, length, map, string_bytes};
 ghost use Rattle.ls_checked.specs.Plain.{plain_file};
 ghost use Rattle.ls_checked.specs.PlainProgram.{plain_program};
 ghost use Rattle.ls_meaning.specs.Runs.{source_run};
@@ -8,6 +8,8 @@ ghost use Rattle.ls_schedule.specs.Reading.{thread_name, thread_names};
 ghost use Rattle.ls_source.specs.Shown.{progress_of};
 ghost use Rattle.ls_explore_reports.specs.Printing.{asking, asks_in, counts_text, end_text, ending_text, explored_text, if_asks, illegal_text, is_shown, last_text, over_text, row_text, rows_text, shown, verdict_part};
 ghost use Rattle.ls_explore_images.specs.Tellings.{schedule_of};
+ghost use Rattle.ls_explore_reports.specs.Judged.{rows_of};
+ghost use Rattle.ls_explore_reports.specs.Long.{HasLong};
 ghost use Rattle.ls_translation.specs.declared.fault.TranslationFault.TheVariants.{Memory, ResultTooLong};
 
 use crate::judging::{JudgedRow, are_decided, count_illegal, is_illegal};
@@ -55,6 +57,7 @@ pub struct Texts<'a> {
 fn push_step(schedule: &mut Schedule, thread: usize) -> Result<(), TranslationFault>
     ensures steps { OnOk result (schedule.new ≡ schedule.old ++ thread ∷ []) }
     ensures only { IfErr result (λ e. (e ≡ Memory) ⊎ (e ≡ ResultTooLong)) }
+    ensures long { IsErrOf result ResultTooLong → 1000000 ≤ length schedule.old }
 {
     if schedule.len() >= MOST_STEPS {
         return Err(TranslationFault::ResultTooLong);
@@ -67,6 +70,7 @@ fn push_step(schedule: &mut Schedule, thread: usize) -> Result<(), TranslationFa
 fn schedule_of(alloc: Global, setup: usize, row: &Row) -> Result<Schedule, TranslationFault>
     ensures steps { IfOk result (λ s. s ≡ schedule_of setup row.now) }
     ensures only { IfErr result (λ e. (e ≡ Memory) ⊎ (e ≡ ResultTooLong)) }
+    ensures long { IsErrOf result ResultTooLong → 1000000 < length (schedule_of setup row.now) }
 {
     let mut schedule = Schedule::new(alloc);
     for _ in 0..setup {
@@ -185,6 +189,7 @@ fn push_row(
 ) -> Result<(), TranslationFault>
     ensures text { OnOk result (string_bytes out.new ≡ string_bytes out.old ++ row_text (plain_file texts.now.file.now) (plain_program texts.now.program.now) (thread_names texts.now.program.now) setup judged.now) }
     ensures only { IfErr result (λ e. (e ≡ Memory) ⊎ (e ≡ ResultTooLong)) }
+    ensures long { IsErrOf result ResultTooLong → 1000000 < length (schedule_of setup judged.now.row) }
 {
     let row = judged.row();
     let schedule = schedule_of(alloc, setup, row)?;
@@ -218,6 +223,7 @@ fn push_rows(
 ) -> Result<(), TranslationFault>
     ensures text { OnOk result (string_bytes out.new ≡ string_bytes out.old ++ rows_text (plain_file texts.now.file.now) (plain_program texts.now.program.now) (thread_names texts.now.program.now) setup (shown exploring judged.now)) }
     ensures only { IfErr result (λ e. (e ≡ Memory) ⊎ (e ≡ ResultTooLong)) }
+    ensures long { IsErrOf result ResultTooLong → HasLong setup (rows_of judged.now) }
 {
     for one in judged {
         if !is_shown(exploring.illegal, one.verdict()) {
@@ -290,6 +296,7 @@ pub fn print_exploration(
 ) -> Result<String, TranslationFault>
     ensures text { IfOk result (λ text. string_bytes text ≡ explored_text (plain_file texts.now.file.now) (plain_program texts.now.program.now) (thread_names texts.now.program.now) found.now.setup judged.now found.now.states found.now.complete found.now.roomy exploring) }
     ensures only { IfErr result (λ e. (e ≡ Memory) ⊎ (e ≡ ResultTooLong)) }
+    ensures long { IsErrOf result ResultTooLong → HasLong found.now.setup (rows_of judged.now) }
 {
     let mut out = String::new(alloc);
     push_rows(alloc, &mut out, texts, found.setup, judged, exploring)?;

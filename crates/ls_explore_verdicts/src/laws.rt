@@ -2,8 +2,9 @@
 
 ghost use Rattle.ls_explore_verdicts.specs.Verdicts.{EachIsLegal, EachThatFitsIsLegal};
 
-/// Where an exploration is complete and each of its rows has a legal order, the history of each schedule of the program that fits the
-/// cells, of any length, has one. Where no schedule runs out of cells, the history of each schedule whatever has one.
+/// If an exploration is complete and each of its rows has a legal order, then the history of each schedule of the
+/// program that fits the cells, of any length, has one. If no schedule runs out of cells, the history of every
+/// schedule has one.
 ///
 /// A history is read with the names that the program gives its calls, as it is printed.
 pub fn every_schedule_is_legal()

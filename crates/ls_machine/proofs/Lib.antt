@@ -4,3 +4,4 @@ pub mod Starting
 pub mod Keeping
 pub mod Back
 pub mod SameAt
+pub mod Saving

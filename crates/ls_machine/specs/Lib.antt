@@ -5,3 +5,4 @@ pub mod Takes
 pub mod Outcomes
 pub mod Room
 pub mod Back
+pub mod Saved

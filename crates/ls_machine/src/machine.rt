@@ -24,6 +24,8 @@ use ls_machine_threads::thread::Thread;
 use std::alloc::{AllocError, Global};
 use std::marker::Model;
 
+pub mod saving;
+
 /// The most cells of a machine.
 pub const MOST_CELLS: usize = 4_194_304;
 

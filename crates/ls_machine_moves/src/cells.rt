@@ -1,12 +1,13 @@
 // The cells that all threads share.
 ghost use Rattle.std.specs.Prelude.{◌≡◌, ℕ, ◌+◌, ◌-◌, ◌*◌, ◌^◌, ◌<◌, ◌≤◌, List, [], ◌∷◌, replicate, IfOk};
-ghost use Rattle.std.specs.Prelude.{unsigned_abs, MatchOption, slice_set, slice_get, IsSome, IsTrue, None, length, Some};
+ghost use Rattle.std.specs.Prelude.{unsigned_abs, MatchOption, slice_set, slice_get, IsSome, IsTrue, None, false, length, Some};
 ghost use Rattle.ls_code.specs.Cells.{place_at, written_at, cell_at, read_effect, written, making, new_effect, on_item, on_name, array_effect, unlock_effect, swap_effect, mark_effect, effect};
 ghost use Rattle.ls_code.specs.Limits.{most_cells};
 ghost use Rattle.ls_code.specs.Machine.{first_cells};
 ghost use Rattle.ls_machine_moves.specs.Replies.{cells_after, reply_of};
 
 use crate::flow::Reply;
+use crate::overwriting::overwrite;
 use crate::stirring::stir_all;
 use crate::words;
 use ls_code::lock_word::{Left, Taken, is_own_word, lock_word, unlock_word};
@@ -34,6 +35,23 @@ impl Model for Cells {
     ghost view = { λ c. record { words = c.words.items; limit = c.limit; names = c.names; sizes = c.sizes.items } };
 
     ghost invariant = { λ c. (vec_len c.words ≤ c.limit) × (c.limit ≤ vec_capacity c.words) × (c.limit ≤ most_cells) };
+}
+
+/// Cells as they stood, in memory for no more than were taken.
+#[derive(Drop)]
+pub struct SavedCells {
+    words: Vec<u64>,
+    limit: usize,
+    names: usize,
+    sizes: Vec<usize>,
+}
+
+impl Model for SavedCells {
+    ghost use Rattle.ls_code.specs.Cells.{Cells as CellsValue};
+
+    ghost Value = { CellsValue };
+
+    ghost view = { λ c. record { words = c.words.items; limit = c.limit; names = c.names; sizes = c.sizes.items } };
 }
 
 impl Cells {
@@ -325,6 +343,47 @@ impl Cells {
         ensures { IsTrue result → self.now ≡ other.now }
     {
         self.limit == other.limit && self.words.as_slice() == other.words.as_slice()
+    }
+
+    /// These cells, in memory for no more than are taken.
+    pub fn saved(&self, alloc: Global) -> Result<SavedCells, AllocError>
+        ensures { IfOk result (λ saved. saved ≡ self.now) }
+    {
+        let words = self.words.as_slice().to_vec(alloc)?;
+        let sizes = self.sizes.as_slice().to_vec(alloc)?;
+        Ok(SavedCells {
+            words,
+            limit: self.limit,
+            names: self.names,
+            sizes,
+        })
+    }
+
+    /// Whether these cells are as they were saved. True only where they are.
+    pub fn is_saved(&self, saved: &SavedCells) -> bool
+        ensures { IsTrue result → self.now ≡ saved.now }
+    {
+        self.limit == saved.limit
+            && self.names == saved.names
+            && self.sizes.as_slice() == saved.sizes.as_slice()
+            && self.words.as_slice() == saved.words.as_slice()
+    }
+
+    /// Makes these cells as they were saved, in the memory that they have. Answers false, and changes nothing, where those were other
+    /// cells or that is too little.
+    pub fn set_as(&mut self, saved: &SavedCells) -> bool
+        ensures same { IsTrue result → self.new ≡ saved.now }
+        ensures stays { result ≡ false → self.new ≡ self.old }
+        ensures kept { (self.new.limit ≡ self.old.limit) × (self.new.names ≡ self.old.names) × (self.new.sizes ≡ self.old.sizes) }
+    {
+        if self.limit != saved.limit || self.names != saved.names {
+            return false;
+        }
+        if saved.words.len() > self.limit || self.sizes.as_slice() != saved.sizes.as_slice() {
+            return false;
+        }
+        overwrite(&mut self.words, saved.words.as_slice());
+        true
     }
 
     /// A number that cells which are the same have in common, made of another.

@@ -6,6 +6,7 @@ ghost use Rattle.ls_code.specs.Moves.{stored};
 ghost use Rattle.ls_code.specs.Throws.{caught};
 ghost use Rattle.ls_code.specs.Calls.{entered, calling};
 
+use crate::overwriting::overwrite;
 use crate::stirring::{stir, stir_all};
 use crate::words;
 use ls_code::code::{HandlerRow, Method};
@@ -302,6 +303,44 @@ impl Frame {
             && self.need() == other.need()
             && are_same(self.locals(), other.locals())
             && are_same(self.operands(), other.operands())
+    }
+
+    /// The same frame, in memory for no more than it holds.
+    pub fn saved(&self, alloc: Global) -> Result<Frame, AllocError>
+        ensures { IfOk result (λ f. f.frame ≡ self.now.frame) }
+    {
+        let first = self.floor.min(self.top);
+        let locals = self.locals().to_vec(alloc)?;
+        let operands = self.operands[first..].to_vec(alloc)?;
+        Ok(Frame {
+            counter: self.counter,
+            count: self.count,
+            top: self.top - first,
+            floor: self.floor - first,
+            locals,
+            operands,
+            locals_room: 0,
+            operands_room: 0,
+        })
+    }
+
+    /// Makes this the other frame, in the memory that it has. Answers false, and changes nothing, where that is too little.
+    pub fn set_as(&mut self, other: &Frame) -> bool
+        ensures same { IsTrue result → self.new ≡ keeping self.old other.now.frame }
+        ensures stays { result ≡ false → self.new ≡ self.old }
+    {
+        let first = other.floor.min(other.top);
+        let operands = &other.operands[first..];
+        if other.count > self.locals_room || operands.len() > self.operands_room {
+            return false;
+        }
+        overwrite(&mut self.locals, other.locals());
+        overwrite(&mut self.operands, operands);
+        self.counter = other.counter;
+        self.count = other.count;
+        self.top = other.top - first;
+        self.floor = other.floor - first;
+        true
     }
 
     /// A number that frames which are the same have in common, made of another.

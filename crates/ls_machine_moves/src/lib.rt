@@ -5,6 +5,7 @@ pub mod acting;
 pub mod cells;
 pub mod flow;
 pub mod frame;
+mod overwriting;
 pub mod silent;
 pub mod stirring;
 pub mod words;

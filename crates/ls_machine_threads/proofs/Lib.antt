@@ -1,3 +1,4 @@
 pub mod Frames
 pub mod Rooms
 pub mod SameLists
+pub mod Saving

@@ -17,7 +17,7 @@ module _ (ks : List Kept) (at locals operands : ℕ) (old new : Kept) (f : Frame
   room_at j within (inl e) = rw (e, get_or-set_same ks at new no_frame there) same_rooms
   room_at j within (inr n) = rw (get_or-set_other ks at j new no_frame n) (has j within)
 
-  rooms_stay : HaveRooms locals operands (set ks at new)
+  pub rooms_stay : HaveRooms locals operands (set ks at new)
   rooms_stay = let count = length-set ks at new in λ j within. room_at j (omega (arith, count, within)) (cases_eq j at)
 
 -- the frame that changes is innermost now

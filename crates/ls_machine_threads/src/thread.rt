@@ -23,6 +23,8 @@ use ls_machine_moves::{acting, silent};
 use std::alloc::{AllocError, Global};
 use std::marker::Model;
 
+pub mod saving;
+
 /// The most frames of a thread above its lowest.
 const MOST_CALLED: usize = 64;
 

@@ -4,7 +4,7 @@ use Rattle.std.proofs.lemmas.List.{length-map}
 use Rattle.ls_code.specs.Machine.{Machine}
 use Rattle.ls_explore_laws.specs.Bursts.{IsClosed}
 use Rattle.ls_explore.specs.declared.searching.Seen.{Seen}
-use Rattle.ls_explore.specs.Searches.{IsSound, paths_of}
+use Rattle.ls_explore.specs.Searches.{AreSaved, IsSound, paths_of}
 use Rattle.ls_explore.specs.Walks.{led_to, root_of}
 use Rattle.ls_explore.proofs.Closing.{first_there}
 use Rattle.ls_explore.proofs.Loops.{root_same}
@@ -20,9 +20,14 @@ module _ (m m' : Machine) (setup : List ℕ) (code : m'.code ≡ m.code) (cells 
   pub sound_there : (n threads : ℕ) (paths : List (List ℕ)) (seen : List Seen) → IsSound n threads (root_of m setup) paths seen → IsSound n threads (root_of m' setup) paths seen
   sound_there n threads paths seen h = subst (λ r. IsSound n threads r paths seen) (sym (root_same m m' setup code cells)) h
 
-pub tell-requires : goal.tell-requires
-tell-requires c =
+pub tell-requires-clause-sound : goal.tell-requires-clause-sound
+tell-requires-clause-sound c =
     sound_there c.in_ok-walker.walker c.search.new.walker c.args.setup.now c.search.ensures.code c.search.ensures.cells c.most_steps.result c.args.threads (paths_of c.in_ok-found.found.paths.items) c.in_ok-found.found.seen.items c.in_ok-found.ensures.sound
+
+pub tell-requires-clause-saves : goal.tell-requires-clause-saves
+tell-requires-clause-saves c =
+    subst (λ r. AreSaved c.most_steps.result r (paths_of c.in_ok-found.found.paths.items) c.in_ok-found.found.saved.items)
+    (sym (root_same c.in_ok-walker.walker c.search.new.walker c.args.setup.now c.search.ensures.code c.search.ensures.cells)) c.in_ok-found.ensures.saves
 
 pub returns-clause-told : goal.returns-clause-told
 returns-clause-told c =

@@ -1,7 +1,7 @@
 use Rattle.std.proofs.Common.{ℕ, ◌+◌, ◌≤◌, map, length, refl, sym, ap, subst, arith, Vec, Global}
 use Rattle.std.proofs.lemmas.Bool.{leb-true}
 use Rattle.std.proofs.lemmas.List.{length-map}
-use Rattle.ls_explore.specs.Searches.{IsClosedTo, IsSound, paths_of}
+use Rattle.ls_explore.specs.Searches.{AreSaved, IsClosedTo, IsSound, paths_of}
 use Rattle.ls_explore.specs.Walks.{root_of}
 use Rattle.ls_explore.proofs.Closing.{closed_all, closed_none}
 use Rattle.ls_explore.proofs.Loops.{kept_more, root_same}
@@ -13,6 +13,7 @@ loop-at-init c = (
   ap length c.requires.none,
   c.requires.sound,
   closed_none c.args.ground.now.most c.args.ground.now.threads (root_of c.args.walker.now c.args.ground.now.setup.now) (paths_of c.args.nodes.now.paths.items),
+  c.requires.saves,
 )
 
 pub expand-requires-clause-sound : goal.expand-requires-clause-sound
@@ -35,6 +36,7 @@ loop-at-preserved c =
       c.in_ok-expand.ensures.count c.if-not-branch.false,
       subst (λ r. IsSound c.args.ground.now.most c.args.ground.now.threads r (paths_of c.expand.new.nodes.paths.items) c.expand.new.nodes.seen.items) same c.in_ok-expand.ensures.sound,
       subst (λ r. IsClosedTo c.args.ground.now.most c.args.ground.now.threads r (paths_of c.expand.new.nodes.paths.items) (c.loop-at.at + 1) 0) same (c.in_ok-expand.ensures.closed c.if-not-branch.false),
+      subst (λ r. AreSaved c.args.ground.now.most r (paths_of c.expand.new.nodes.paths.items) c.expand.new.nodes.saved.items) same c.in_ok-expand.ensures.saves,
     )
 
 pub returns-then-not-branch-clause-sound : goal.returns-then-not-branch-clause-sound
@@ -64,3 +66,15 @@ returns-clause-closed c = λ yes.
     let few : c.len-2.result ≤ c.args.ground.now.limit = leb-true c.len-2.result c.args.ground.now.limit yes in
     let past : length (map items c.loop-at.nodes.paths.items) ≤ c.loop-at.at = omega (arith, few, length-map c.loop-at.nodes.paths.items items) in
     closed_all c.args.ground.now.most c.args.ground.now.threads (root_of c.args.walker.now c.args.ground.now.setup.now) (map items c.loop-at.nodes.paths.items) c.loop-at.at past c.loop-at.invariant.3
+
+pub expand-requires-clause-saves : goal.expand-requires-clause-saves
+expand-requires-clause-saves c =
+    let kept = c.loop-at.invariant.0 in
+    let same = root_same c.args.walker.now c.loop-at.walker c.args.ground.now.setup.now kept.walker_code kept.walker_cells in
+    subst (λ r. AreSaved c.args.ground.now.most r (paths_of c.loop-at.nodes.paths.items) c.loop-at.nodes.saved.items) (sym same) c.loop-at.invariant.4
+
+pub returns-then-not-branch-clause-saves : goal.returns-then-not-branch-clause-saves
+returns-then-not-branch-clause-saves c =
+    let kept = c.loop-at.invariant.0 in
+    let same = root_same c.args.walker.now c.loop-at.walker c.args.ground.now.setup.now kept.walker_code kept.walker_cells in
+    subst (λ r. AreSaved c.args.ground.now.most r (paths_of c.expand.new.nodes.paths.items) c.expand.new.nodes.saved.items) same c.in_ok-expand.ensures.saves

@@ -1,5 +1,5 @@
 use Rattle.std.proofs.Common.{◌≡◌, length}
-use Rattle.ls_explore.specs.Searches.{IsClosedTo, IsSound, paths_of}
+use Rattle.ls_explore.specs.Searches.{AreSaved, IsClosedTo, IsSound, paths_of}
 use Rattle.ls_explore.specs.Walks.{root_of}
 use Rattle.ls_explore.proofs.Loops.{AreKept}
 use Rattle.ls_explore.proofs.searching.close.Given as goal
@@ -10,3 +10,4 @@ invariant-loop-at l =
     × (length l.nodes.seen.items ≡ l.at)
     × IsSound l.ground.most l.ground.threads (root_of l.fn.walker l.ground.setup.now) (paths_of l.nodes.paths.items) l.nodes.seen.items
     × IsClosedTo l.ground.most l.ground.threads (root_of l.fn.walker l.ground.setup.now) (paths_of l.nodes.paths.items) l.at 0
+    × AreSaved l.ground.most (root_of l.fn.walker l.ground.setup.now) (paths_of l.nodes.paths.items) l.nodes.saved.items

@@ -1,12 +1,13 @@
-use Rattle.std.proofs.Common.{◌≡◌, ℕ, ◌++◌, List, [], ◌∷◌, get_or, Some, sym, ap, ◌∙◌, subst, slice_get, Vec, Global}
-use Rattle.std.specs.Prelude.{Contains}
-use Rattle.ls_code.specs.Machine.{Machine}
+use Rattle.std.proofs.Common.{◌≡◌, ℕ, ◌++◌, List, [], ◌∷◌, get_or, Some, sym, ap, ◌∙◌, subst, arith, slice_get, Vec, Global}
+use Rattle.ls_code.specs.Machine.{Machine, loaded}
+use Rattle.ls_machine.proofs.Back.{runs_keep}
 use Rattle.ls_ends.specs.Acting.{first_did}
 use Rattle.ls_headline.proofs.Lists.{index_there}
-use Rattle.ls_explore.specs.Walks.{led_to, root_of, walked}
-use Rattle.ls_explore.proofs.Loops.{root_same}
+use Rattle.ls_explore.specs.Walks.{root_of, walked}
 use Rattle.ls_explore.specs.Searches.{Leads, paths_of}
 use Rattle.ls_explore.proofs.Closing.{acts_grown, leads_new, leads_none, leads_there, path_is}
+use Rattle.ls_explore.proofs.Saving.{saved_there, saves_within, there_saved}
+use Rattle.ls_explore.proofs.Walks.{walked_keeps}
 use Rattle.ls_explore.proofs.searching.look.Goals as goal
 
 -- the path at a place, twice told
@@ -29,19 +30,31 @@ returns-then-not-has_acted-clause-did c =
     let here : slice_get (paths_of c.args.nodes.now.paths.items) c.args.at ≡ Some path = path_is c.args.nodes.now.paths.items c.args.at c.index.result.now path c.requires.at c.index.ensures c.as_slice.ensures.value in
     c.see-did.ensures.did ∙ ap (λ p. first_did c.args.ground.now.most (walked c.args.ground.now.most root p) c.args.thread) (sym (at_place c.args.nodes.now.paths.items c.args.at path here))
 
+pub index-requires-2 : goal.index-requires-2
+index-requires-2 c =
+    let within = saves_within c.args.ground.now.most (root_of c.args.walker.now c.args.ground.now.setup.now) c.args.nodes.now.paths.items c.args.nodes.now.saved.items c.args.at c.requires.saves c.requires.at in
+    omega (arith, within, c.args.nodes.now.saved.ok.0)
+
+pub see-did-requires-clause-saves : goal.see-did-requires-clause-saves
+see-did-requires-clause-saves c =
+    let path : List ℕ = c.as_slice.result.now in
+    let here : slice_get (paths_of c.args.nodes.now.paths.items) c.args.at ≡ Some path = path_is c.args.nodes.now.paths.items c.args.at c.index.result.now path c.requires.at c.index.ensures c.as_slice.ensures.value in
+    saved_there c.args.ground.now.most (root_of c.args.walker.now c.args.ground.now.setup.now) c.args.nodes.now.paths.items c.args.nodes.now.saved.items c.args.at path c.index-2.result.now c.requires.saves c.requires.at here c.index-2.ensures
+
 pub returns-then-has-clause-leads : goal.returns-then-has-clause-leads
 returns-then-has-clause-leads c =
     let most : ℕ = c.args.ground.now.most in
     let setup : List ℕ = c.args.ground.now.setup.now in
-    let root : Machine = root_of c.args.walker.now setup in
+    let walker : Machine = c.args.walker.now in
+    let root : Machine = root_of walker setup in
     let path : List ℕ = c.as_slice.result.now in
     let old : List (List ℕ) = paths_of c.args.nodes.now.paths.items in
     let here : slice_get old c.args.at ≡ Some path = path_is c.args.nodes.now.paths.items c.args.at c.index.result.now path c.requires.at c.index.ensures c.as_slice.ensures.value in
-    let same : root_of c.see-did.new.other setup ≡ root = root_same c.args.other.now c.see-did.new.other setup c.see-did.ensures.other_code c.see-did.ensures.other_cells ∙ root_same c.args.walker.now c.args.other.now setup (sym c.requires.code) (sym c.requires.cells) in
     let acted = sym c.has_acted.ensures ∙ c.if-not-has_acted.false in
+    let code : (p : List ℕ) → (walked most root p).code ≡ c.see-did.new.machine.code = λ p. (walked_keeps runs_keep most root p).0 ∙ (runs_keep (loaded walker.code walker.cells.limit) setup).0 ∙ sym c.see-did.ensures.code in
     subst (λ p. Leads most root old p c.args.thread) (sym (at_place c.args.nodes.now.paths.items c.args.at path here))
     (leads_there most 0 root old path c.args.thread c.see-did.new.machine (c.see-did.ensures.acts acted)
-    (subst (λ r. Contains (led_to most r old) c.see-did.new.machine) same (c.has.ensures.there c.if-has.true)))
+    (there_saved most root old c.args.nodes.now.saved.items c.see-did.new.machine code c.requires.saves (c.has.ensures c.if-has.true)))
 
 pub returns-then-has-clause-did : goal.returns-then-has-clause-did
 returns-then-has-clause-did c =
@@ -81,3 +94,13 @@ returns-clause-did c =
     let path : List ℕ = c.as_slice.result.now in
     let here : slice_get (paths_of c.args.nodes.now.paths.items) c.args.at ≡ Some path = path_is c.args.nodes.now.paths.items c.args.at c.index.result.now path c.requires.at c.index.ensures c.as_slice.ensures.value in
     c.see-did.ensures.did ∙ ap (λ p. first_did c.args.ground.now.most (walked c.args.ground.now.most root p) c.args.thread) (sym (at_place c.args.nodes.now.paths.items c.args.at path here))
+
+pub returns-clause-saves : goal.returns-clause-saves
+returns-clause-saves c =
+    let most : ℕ = c.args.ground.now.most in
+    let root : Machine = root_of c.args.walker.now c.args.ground.now.setup.now in
+    let path : List ℕ = c.as_slice.result.now in
+    let here : slice_get (paths_of c.args.nodes.now.paths.items) c.args.at ≡ Some path = path_is c.args.nodes.now.paths.items c.args.at c.index.result.now path c.requires.at c.index.ensures c.as_slice.ensures.value in
+    let is = at_place c.args.nodes.now.paths.items c.args.at path here in
+    let acted = sym c.has_acted.ensures ∙ c.if-not-has_acted.false in
+    c.in_ok-keep.ensures.saved most root (c.see-did.ensures.at acted ∙ ap (λ p. walked most root (p ++ c.args.thread ∷ [])) (sym is)) c.requires.saves

@@ -3,7 +3,7 @@ use Rattle.std.specs.List.{All}
 use Rattle.std.proofs.lemmas.List.Sorted.{All-permutation, Contains-permutation}
 use Rattle.ls_code.specs.Machine.{Machine}
 use Rattle.ls_explore.specs.Rows.{HaveBegun, IsTold}
-use Rattle.ls_explore.specs.Searches.{IsSound, paths_of}
+use Rattle.ls_explore.specs.Searches.{AreSaved, IsSound, paths_of}
 use Rattle.ls_explore.specs.Walks.{root_of}
 use Rattle.ls_explore.proofs.Loops.{root_same}
 use Rattle.ls_explore.proofs.Order.{apart_kept}
@@ -13,7 +13,12 @@ use Rattle.ls_explore.proofs.table.tell.Goals as goal
 pub tell_rest-requires-clause-sound : goal.tell_rest-requires-clause-sound
 tell_rest-requires-clause-sound c =
     let same = root_same c.args.walker.now c.tell_ends.new.walker c.args.ground.now.setup.now c.tell_ends.ensures.code c.tell_ends.ensures.cells in
-    subst (λ r. IsSound c.args.ground.now.most c.args.ground.now.threads r (paths_of c.args.found.now.paths.items) c.args.found.now.seen.items) (sym same) c.requires
+    subst (λ r. IsSound c.args.ground.now.most c.args.ground.now.threads r (paths_of c.args.found.now.paths.items) c.args.found.now.seen.items) (sym same) c.requires.sound
+
+pub tell_rest-requires-clause-saves : goal.tell_rest-requires-clause-saves
+tell_rest-requires-clause-saves c =
+    let same = root_same c.args.walker.now c.tell_ends.new.walker c.args.ground.now.setup.now c.tell_ends.ensures.code c.tell_ends.ensures.cells in
+    subst (λ r. AreSaved c.args.ground.now.most r (paths_of c.args.found.now.paths.items) c.args.found.now.saved.items) (sym same) c.requires.saves
 
 pub tell_rest-requires-clause-told : goal.tell_rest-requires-clause-told
 tell_rest-requires-clause-told c =

@@ -3,7 +3,7 @@ use Rattle.std.proofs.lemmas.List.{length-map}
 use Rattle.std.specs.List.{All}
 use Rattle.ls_code.specs.Machine.{Machine}
 use Rattle.ls_explore.specs.Rows.{HasRow, IsTold}
-use Rattle.ls_explore.specs.Searches.{IsSound, paths_of}
+use Rattle.ls_explore.specs.Searches.{AreSaved, IsSound, paths_of}
 use Rattle.ls_explore.specs.Walks.{root_of, walked}
 use Rattle.ls_explore.proofs.Loops.{root_same}
 use Rattle.ls_explore.proofs.Order.{apart_none}
@@ -22,12 +22,17 @@ loop-at-init c =
     )
 
 pub tell_end-requires-clause-at : goal.tell_end-requires-clause-at
-tell_end-requires-clause-at c = omega (arith, c.loop-at-test.true, c.requires.few, length-map c.args.found.now.paths.items (λ (w : Vec ℕ Global). w.items))
+tell_end-requires-clause-at c = omega (arith, c.loop-at-test.true, c.requires.sound.few, length-map c.args.found.now.paths.items (λ (w : Vec ℕ Global). w.items))
 
 pub tell_end-requires-clause-sound : goal.tell_end-requires-clause-sound
 tell_end-requires-clause-sound c =
     let same = root_same c.args.walker.now c.loop-at.walker c.args.ground.now.setup.now c.loop-at.invariant.3 c.loop-at.invariant.4 in
-    subst (λ r. IsSound c.args.ground.now.most c.args.ground.now.threads r (paths_of c.args.found.now.paths.items) c.args.found.now.seen.items) (sym same) c.requires
+    subst (λ r. IsSound c.args.ground.now.most c.args.ground.now.threads r (paths_of c.args.found.now.paths.items) c.args.found.now.seen.items) (sym same) c.requires.sound
+
+pub tell_end-requires-clause-saves : goal.tell_end-requires-clause-saves
+tell_end-requires-clause-saves c =
+    let same = root_same c.args.walker.now c.loop-at.walker c.args.ground.now.setup.now c.loop-at.invariant.3 c.loop-at.invariant.4 in
+    subst (λ r. AreSaved c.args.ground.now.most r (paths_of c.args.found.now.paths.items) c.args.found.now.saved.items) (sym same) c.requires.saves
 
 pub loop-at-preserved : goal.loop-at-preserved
 loop-at-preserved c =

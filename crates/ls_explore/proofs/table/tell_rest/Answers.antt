@@ -3,7 +3,7 @@ use Rattle.std.proofs.lemmas.List.{length-map}
 use Rattle.std.specs.List.{All}
 use Rattle.ls_code.specs.Machine.{Machine}
 use Rattle.ls_explore.specs.Rows.{IsTold, IsToldBy}
-use Rattle.ls_explore.specs.Searches.{IsSound, paths_of}
+use Rattle.ls_explore.specs.Searches.{AreSaved, IsSound, paths_of}
 use Rattle.ls_explore.specs.Walks.{root_of, walked}
 use Rattle.ls_explore.proofs.Loops.{root_same}
 use Rattle.ls_explore.proofs.Telling.{begun_more, begun_none}
@@ -24,6 +24,11 @@ pub tell_one-requires-clause-sound : goal.tell_one-requires-clause-sound
 tell_one-requires-clause-sound c =
     let same = root_same c.args.walker.now c.loop-back.walker c.args.ground.now.setup.now c.loop-back.invariant.3 c.loop-back.invariant.4 in
     subst (λ r. IsSound c.args.ground.now.most c.args.ground.now.threads r (paths_of c.args.found.now.paths.items) c.args.found.now.seen.items) (sym same) c.requires.sound
+
+pub tell_one-requires-clause-saves : goal.tell_one-requires-clause-saves
+tell_one-requires-clause-saves c =
+    let same = root_same c.args.walker.now c.loop-back.walker c.args.ground.now.setup.now c.loop-back.invariant.3 c.loop-back.invariant.4 in
+    subst (λ r. AreSaved c.args.ground.now.most r (paths_of c.args.found.now.paths.items) c.args.found.now.saved.items) (sym same) c.requires.saves
 
 pub loop-back-preserved : goal.loop-back-preserved
 loop-back-preserved c =
