@@ -6,6 +6,7 @@ use Rattle.std.proofs.lemmas.List.{length-map, map-append, take_more}
 use Rattle.std.proofs.lemmas.List.FromFn.{length-range_with_len}
 use Rattle.std.proofs.lemmas.Bool.{cases_lt}
 use Rattle.ls_batch.specs.Samples.{IsBadCount}
+use Rattle.ls_batch.specs.declared.samples.Drawing.{Drawing}
 use Rattle.ls_batch_tally.specs.Tallies.{History}
 
 -- the histories of one seed more
@@ -46,7 +47,7 @@ pub batched_len : {V : Type 0} (h : ℕ → History) (f : V → History) (first 
 batched_len h f first count vs e = sym (length-map vs f) ∙ (ap length e ∙ (length-map (range_with_len 0 count) (λ i. h (first + i)) ∙ length-range_with_len 0 count))
 
 -- where the count isn't bad
-pub within : (first count steps : ℕ) (b : Bool) → b ≡ false → (IsTrue b ↔ IsBadCount first count steps) → (count ≤ 100000) × (first + count ≤ 2 ^ 64)
-within first count steps b good says =
-    let bad : IsBadCount first count steps → ⊥ = λ h. true≢false (sym (says.1 h) ∙ good) in
-    (⊎_elim (λ lt. absurd (bad (inr (inl lt)))) (λ le. le) (cases_lt 100000 count), ⊎_elim (λ lt. absurd (bad (inr (inr (inr lt))))) (λ le. le) (cases_lt (2 ^ 64) (first + count)))
+pub within : (first count : ℕ) (d : Drawing) (b : Bool) → b ≡ false → (IsTrue b ↔ IsBadCount first count d) → (count ≤ 100000) × (first + count ≤ 2 ^ 64)
+within first count d b good says =
+    let bad : IsBadCount first count d → ⊥ = λ h. true≢false (sym (says.1 h) ∙ good) in
+    (⊎_elim (λ lt. absurd (bad (inr (inl lt)))) (λ le. le) (cases_lt 100000 count), ⊎_elim (λ lt. absurd (bad (inr (inr (inl lt))))) (λ le. le) (cases_lt (2 ^ 64) (first + count)))

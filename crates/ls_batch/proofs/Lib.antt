@@ -1,4 +1,5 @@
 pub mod Drawn
+pub mod Evened
 pub mod Settled
 pub mod Batched
 pub mod Replayed

@@ -7,6 +7,7 @@ use Rattle.ls_code.specs.Code.{Code}
 use Rattle.ls_code.specs.Machine.{Machine, loaded, machine_state, machine_step, machine_run}
 use Rattle.ls_batch.specs.Samples.{goes_on, played, sample_of, seed_schedule, settled, settling, threads_of}
 use Rattle.ls_batch.specs.Replays.{Replays}
+use Rattle.ls_batch.specs.declared.samples.Drawing.{Drawing}
 use Rattle.ls_machine.specs.Back.{RunsKeep}
 use Rattle.ls_batch.proofs.Drawn.{sample_count, sample_there}
 use Rattle.ls_batch.proofs.Settled.{settled_none, settled_on, settled_stop, settling_none, settling_on, settling_stop}
@@ -44,9 +45,9 @@ settles zero m =
     }
 settles (suc n) m = settles_more n m (settles n (machine_step m 0).machine) (goes_on (machine_state m 0)) refl
 
-played_is : (m : Machine) (threads seed steps : ℕ) → played m threads seed steps ≡ machine_run (settled 100000 m) (sample_of seed threads steps)
+played_is : (m : Machine) (threads seed : ℕ) (d : Drawing) → played m threads seed d ≡ machine_run (settled 100000 m) (sample_of seed threads d)
 unfolding played
-played_is m threads seed steps = refl
+played_is m threads seed d = refl
 
 -- a schedule of so many steps of the setup and a sample
 seed_count : (taken steps : ℕ) (sample : List ℕ) → taken ≤ 100000 → length sample ≤ steps → length (replicate taken 0 ++ sample) ≤ 100000 + steps
@@ -55,30 +56,30 @@ seed_count taken steps sample few short =
     let zeros = length-replicate {A = ℕ} taken 0 in
     omega (arith, both, zeros, few, short)
 
-pub seeds_replay : (code : Code) (cells seed steps : ℕ) → Replays code cells seed steps
-seeds_replay code cells seed steps =
+pub seeds_replay : (code : Code) (cells seed : ℕ) (d : Drawing) → Replays code cells seed d
+seeds_replay code cells seed d =
     let m = loaded code cells in
-    let sample = sample_of seed (threads_of code) steps in
+    let sample = sample_of seed (threads_of code) d in
     let s = settles 100000 m in
     record {
       few = s.few;
       there = λ some. All-append (λ t. t < length code.starts) (replicate (settling 100000 m) 0) sample
           (All-replicate (λ t. t < length code.starts) (settling 100000 m) 0 some)
-          (subst (λ n. All (λ t. t < n) sample) (omega arith) (sample_there seed (threads_of code) steps));
-      count = seed_count (settling 100000 m) steps sample s.few (sample_count seed (threads_of code) steps);
+          (subst (λ n. All (λ t. t < n) sample) (omega arith) (sample_there seed (threads_of code) d));
+      count = seed_count (settling 100000 m) d.steps sample s.few (sample_count seed (threads_of code) d);
       history = ap (λ (z : Machine). z.history)
-          (played_is m (threads_of code) seed steps
+          (played_is m (threads_of code) seed d
           ∙ (ap (λ (z : Machine). machine_run z sample) s.same ∙ sym (run_append m (replicate (settling 100000 m) 0) sample)));
     }
 
 -- a seed's run from its start keeps the code and the number of cells
-pub played_keeps : (m : Machine) (threads seed steps : ℕ) → RunsKeep → ((played m threads seed steps).code ≡ m.code) × ((played m threads seed steps).cells.limit ≡ m.cells.limit)
-played_keeps m threads seed steps keep =
+pub played_keeps : (m : Machine) (threads seed : ℕ) (d : Drawing) → RunsKeep → ((played m threads seed d).code ≡ m.code) × ((played m threads seed d).cells.limit ≡ m.cells.limit)
+played_keeps m threads seed d keep =
     let s = settles 100000 m in
     let first = keep m (replicate (settling 100000 m) 0) in
-    let then = keep (settled 100000 m) (sample_of seed threads steps) in
+    let then = keep (settled 100000 m) (sample_of seed threads d) in
     let code : Machine → Code = λ z. z.code in
     let cells : Machine → ℕ = λ z. z.cells.limit in (
-      ap code (played_is m threads seed steps) ∙ (then.0 ∙ (ap code s.same ∙ first.0)),
-      ap cells (played_is m threads seed steps) ∙ (then.1 ∙ (ap cells s.same ∙ first.1)),
+      ap code (played_is m threads seed d) ∙ (then.0 ∙ (ap code s.same ∙ first.0)),
+      ap cells (played_is m threads seed d) ∙ (then.1 ∙ (ap cells s.same ∙ first.1)),
     )

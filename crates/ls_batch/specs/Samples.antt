@@ -1,5 +1,5 @@
 -- The schedule that a seed gives, and the run of one seed.
-use Rattle.std.specs.Prelude.{◌≡◌, ℕ, zero, suc, ◌+◌, ◌-◌, ◌%◌, ◌^◌, ◌<◌, ◌⊎◌, List, [], ◌∷◌, ◌++◌, length, map, replicate, if◌then◌else◌, Bool, true, false}
+use Rattle.std.specs.Prelude.{◌≡◌, ℕ, zero, suc, ◌+◌, ◌-◌, ◌/◌, ◌%◌, ◌^◌, ◌<◌, ◌⊎◌, ◌||◌, ◌==◌, List, [], ◌∷◌, ◌++◌, length, map, replicate, if◌then◌else◌, Bool, true, false}
 use Rattle.std.specs.List.{range_with_len}
 use Rattle.rand_xoshiro.specs.SplitMix64.{mix_u64}
 use Rattle.ls_code.specs.Code.{Code}
@@ -7,16 +7,25 @@ use Rattle.ls_code.specs.Machine.{Machine, loaded, machine_step, machine_run, ma
 use Rattle.ls_code.specs.declared.step.ThreadState.{ThreadState}
 use Rattle.ls_code.specs.declared.step.ThreadState.TheVariants as state
 use Rattle.ls_events.specs.declared.event.Event.{Event}
+use Rattle.ls_batch.specs.declared.samples.Drawing.{Drawing}
 
--- the next n entries of the generator at x: each of its words gives one of the threads 1, 2, .., as many as there are
-unfoldable pub draws : ℕ → ℕ → ℕ → List ℕ
-draws threads zero x = []
-draws threads (suc n) x = (1 + (mix_u64 x).0 % threads) ∷ draws threads n (mix_u64 x).1
+-- The thread of the next step, by a word of the generator. After the setup, which is 0, and else by chance 1 in
+-- `switch`, it is drawn: one of the threads 1, 2, .., as many as there are. Otherwise `last`, the thread of the step
+-- before, goes on.
+abbrev pub next_thread : ℕ → ℕ → ℕ → ℕ → ℕ
+next_thread threads switch last word = if last == 0 || word % switch == 0 then 1 + word / switch % threads else last
+
+-- the next n entries of the generator at x, after a step of the thread `last`
+unfoldable pub draws : ℕ → ℕ → ℕ → ℕ → ℕ → List ℕ
+draws threads switch last zero x = []
+draws threads switch last (suc n) x =
+    let next = next_thread threads switch last (mix_u64 x).0 in
+    next ∷ draws threads switch next n (mix_u64 x).1
 
 -- no threads, no entries
-abbrev pub sample_of : ℕ → ℕ → ℕ → List ℕ
-sample_of seed zero steps = []
-sample_of seed (suc threads) steps = draws (suc threads) steps seed
+abbrev pub sample_of : ℕ → ℕ → Drawing → List ℕ
+sample_of seed zero d = []
+sample_of seed (suc threads) d = draws (suc threads) d.switch 0 d.steps seed
 
 abbrev pub goes_on : ThreadState → Bool
 goes_on state.NotStarted = true
@@ -36,25 +45,29 @@ settling zero m = zero
 settling (suc n) m = if goes_on (machine_state m 0) then suc (settling n (machine_step m 0).machine) else zero
 
 -- the machine after a seed's run: at most 100,000 steps of the setup, then the seed's sample
-unfoldable pub played : Machine → ℕ → ℕ → ℕ → Machine
-played m threads seed steps = machine_run (settled 100000 m) (sample_of seed threads steps)
+unfoldable pub played : Machine → ℕ → ℕ → Drawing → Machine
+played m threads seed d = machine_run (settled 100000 m) (sample_of seed threads d)
 
 -- the threads beside the setup
 abbrev pub threads_of : Code → ℕ
 threads_of code = length code.starts - 1
 
 -- the events of a seed's run on so many cells
-abbrev pub history_of : Code → ℕ → ℕ → ℕ → List Event
-history_of code cells seed steps = (played (loaded code cells) (threads_of code) seed steps).history
+abbrev pub history_of : Code → ℕ → ℕ → Drawing → List Event
+history_of code cells seed d = (played (loaded code cells) (threads_of code) seed d).history
 
 -- the schedule of a seed's run on so many cells: the setup's steps, then the seed's sample
-abbrev pub seed_schedule : Code → ℕ → ℕ → ℕ → List ℕ
-seed_schedule code cells seed steps = replicate (settling 100000 (loaded code cells)) 0 ++ sample_of seed (threads_of code) steps
+abbrev pub seed_schedule : Code → ℕ → ℕ → Drawing → List ℕ
+seed_schedule code cells seed d = replicate (settling 100000 (loaded code cells)) 0 ++ sample_of seed (threads_of code) d
 
 -- the histories of so many seeds from the first on
-abbrev pub histories_of : Code → ℕ → ℕ → ℕ → ℕ → List (List Event)
-histories_of code cells first count steps = map (λ i. history_of code cells (first + i) steps) (range_with_len 0 count)
+abbrev pub histories_of : Code → ℕ → ℕ → ℕ → Drawing → List (List Event)
+histories_of code cells first count d = map (λ i. history_of code cells (first + i) d) (range_with_len 0 count)
 
--- no seeds, more than 100,000, more than 900,000 steps, or a seed past the greatest u64
-abbrev pub IsBadCount : ℕ → ℕ → ℕ → Type 0
-IsBadCount first count steps = (count ≡ 0) ⊎ (100000 < count) ⊎ (900000 < steps) ⊎ (2 ^ 64 < first + count)
+-- more than 900,000 steps, or the chance is none, or less than 1 in 900,000
+abbrev pub IsBadDrawing : Drawing → Type 0
+IsBadDrawing d = (900000 < d.steps) ⊎ (d.switch ≡ 0) ⊎ (900000 < d.switch)
+
+-- no seeds, more than 100,000, a seed past the greatest u64, or a bad drawing
+abbrev pub IsBadCount : ℕ → ℕ → Drawing → Type 0
+IsBadCount first count d = (count ≡ 0) ⊎ (100000 < count) ⊎ (2 ^ 64 < first + count) ⊎ IsBadDrawing d

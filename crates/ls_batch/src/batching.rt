@@ -4,11 +4,12 @@ ghost use Rattle.std.specs.Prelude.{◌≡◌, ◌↔◌, ℕ, ◌+◌, ◌≤�
 ghost use Rattle.std.specs.List.{range_with_len};
 ghost use Rattle.ls_image.specs.Images.{RunsAsItsTexts, code_of_image};
 ghost use Rattle.ls_machine.specs.Room.{AreBadCells};
-ghost use Rattle.ls_batch.specs.Samples.{IsBadCount, histories_of};
+ghost use Rattle.ls_batch.specs.Samples.{IsBadCount, IsBadDrawing, histories_of};
 ghost use Rattle.ls_batch_tally.specs.Tallies.{IsTally};
 
 use crate::fault::BatchFault;
 use crate::gathering::histories;
+use crate::samples::Drawing;
 use ls_batch_tally::{Tally, tally_of};
 use ls_code::code::Code;
 use ls_image::image::Image;
@@ -21,6 +22,8 @@ const MOST_SEEDS: usize = 100_000;
 
 const MOST_STEPS: usize = 900_000;
 
+const MOST_SWITCH: u64 = 900_000;
+
 /// Whether no machine of the code has so many cells.
 pub(crate) fn are_bad_cells(code: &Code, cells: usize) -> bool
     ensures { IsTrue result ↔ AreBadCells code.now.names cells }
@@ -28,14 +31,21 @@ pub(crate) fn are_bad_cells(code: &Code, cells: usize) -> bool
     cells == 0 || cells > MOST_CELLS || cells < code.names()
 }
 
-/// Whether there are no seeds, too many or one past the greatest, or too many steps.
-pub(crate) fn is_bad_count(first_seed: u64, count: usize, steps: usize) -> bool
-    ensures { IsTrue result ↔ IsBadCount first_seed count steps }
+/// Whether there are too many steps, or the chance is none or too small.
+fn is_bad_drawing(drawing: Drawing) -> bool
+    ensures { IsTrue result ↔ IsBadDrawing drawing }
+{
+    drawing.steps > MOST_STEPS || drawing.switch == 0 || drawing.switch > MOST_SWITCH
+}
+
+/// Whether there are no seeds, too many or one past the greatest, or the drawing is bad.
+pub(crate) fn is_bad_count(first_seed: u64, count: usize, drawing: Drawing) -> bool
+    ensures { IsTrue result ↔ IsBadCount first_seed count drawing }
 {
     count == 0
         || count > MOST_SEEDS
-        || steps > MOST_STEPS
         || first_seed > u64::MAX - (count as u64 - 1)
+        || is_bad_drawing(drawing)
 }
 
 /// So many seeds, one after the other.
@@ -50,12 +60,14 @@ fn seeds_from(alloc: Global, first: u64, count: usize) -> Result<Vec<u64>, Alloc
     Ok(seeds)
 }
 
-/// The tally of the runs of so many seeds, from the first on, each on a machine with so many cells: steps of the setup until
-/// it has ended, trapped or stopped, at most 100,000, then the seed's sample of so many steps of the other threads. It is the
-/// same for every number of processors, each of which runs a part of the seeds. The image runs as its texts, so each
-/// history is one of the Java text.
-/// `BadCells` comes where there are no cells, more than 4,194,304, or fewer than setup names. Otherwise `BadCount` comes where
-/// there are no seeds, more than 100,000, a seed past the greatest `u64`, or more than 900,000 steps.
+/// The tally of the runs of so many seeds, from the first on, each on a machine with so many cells. A run has steps
+/// of the setup until it has ended, trapped or stopped, at most 100,000. Then it has the seed's sample of the other
+/// threads, drawn as `drawing` says. The tally is the same for every number of processors, each of which runs a part
+/// of the seeds. The image runs as its texts, so each history is one of the Java text.
+///
+/// `BadCells` comes if there are no cells, more than 4,194,304, or fewer than setup names. Otherwise `BadCount` comes
+/// in these cases: there are no seeds, or more than 100,000; a seed is past the greatest `u64`; there are more than
+/// 900,000 steps; the chance isn't 1 in 1 to 900,000.
 pub fn batch(
     rt: &(impl Threads + Sync),
     alloc: Global,
@@ -63,11 +75,11 @@ pub fn batch(
     cells: usize,
     first_seed: u64,
     count: usize,
-    steps: usize,
+    drawing: Drawing,
 ) -> Result<Tally, BatchFault>
     ensures bad_cells { IsErrOf result BatchFault.BadCells ↔ AreBadCells (code_of_image image.now).names cells }
-    ensures bad_count { IsErrOf result BatchFault.BadCount ↔ (¬ AreBadCells (code_of_image image.now).names cells × IsBadCount first_seed count steps) }
-    ensures tally { IfOk result (λ tally. IsTally (histories_of (code_of_image image.now) cells first_seed count steps) first_seed tally) }
+    ensures bad_count { IsErrOf result BatchFault.BadCount ↔ (¬ AreBadCells (code_of_image image.now).names cells × IsBadCount first_seed count drawing) }
+    ensures tally { IfOk result (λ tally. IsTally (histories_of (code_of_image image.now) cells first_seed count drawing) first_seed tally) }
     ensures image { ∥ RunsAsItsTexts image.now ∥₁ }
 {
     runs(image);
@@ -75,11 +87,11 @@ pub fn batch(
     if are_bad_cells(code, cells) {
         return Err(BatchFault::BadCells);
     }
-    if is_bad_count(first_seed, count, steps) {
+    if is_bad_count(first_seed, count, drawing) {
         return Err(BatchFault::BadCount);
     }
     let seeds = seeds_from(alloc, first_seed, count)?;
-    let histories = histories(rt, alloc, code, cells, seeds.as_slice(), steps)?;
+    let histories = histories(rt, alloc, code, cells, seeds.as_slice(), drawing)?;
     let tally = tally_of(alloc, histories.as_slice(), first_seed)?;
     Ok(tally)
 }

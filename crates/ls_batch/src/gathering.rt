@@ -3,9 +3,11 @@
 ghost use Rattle.std.specs.Prelude.{◌≡◌, ◌<◌, ℕ, IfOk, Ok, map};
 ghost use Rattle.std.specs.List.{AllZip, flat_map};
 ghost use Rattle.rayon.specs.Lists.{chunks_of};
+ghost use Rattle.ls_machine.specs.Room.{AreBadCells};
 ghost use Rattle.ls_batch.specs.Samples.{history_of};
 
 use crate::runs::{load, one_run, threads_of};
+use crate::samples::Drawing;
 use ls_code::code::Code;
 use ls_events::event::Event;
 use rayon::prelude::*;
@@ -26,15 +28,17 @@ fn run_part(
     code: &Code,
     cells: usize,
     seeds: &[u64],
-    steps: usize,
+    drawing: Drawing,
 ) -> Result<Vec<Vec<Event>>, AllocError>
-    ensures { IfOk result (λ histories. map (λ h. h.items) histories.items ≡ map (λ seed. history_of code.now cells seed steps) seeds.now) }
+    requires cells { ¬ AreBadCells code.now.names cells }
+    requires chance { 0 < drawing.switch }
+    ensures { IfOk result (λ histories. map (λ h. h.items) histories.items ≡ map (λ seed. history_of code.now cells seed drawing) seeds.now) }
 {
     let mut machine = load(alloc, code, cells)?;
     let threads = threads_of(code);
     let mut histories = Vec::new(alloc);
     for seed in seeds {
-        histories.push(one_run(alloc, &mut machine, threads, *seed, steps)?)?;
+        histories.push(one_run(alloc, &mut machine, threads, *seed, drawing)?)?;
     }
     Ok(histories)
 }
@@ -46,17 +50,21 @@ fn run_parts(
     code: &Code,
     cells: usize,
     seeds: &[u64],
-    steps: usize,
+    drawing: Drawing,
 ) -> Result<Vec<Result<Vec<Vec<Event>>, AllocError>>, AllocError>
-    ensures { IfOk result (λ runs. (size : ℕ) × (0 < size) × AllZip (λ part run. IfOk run (λ histories. map (λ h. h.items) histories.items ≡ map (λ seed. history_of code.now cells seed steps) part)) (chunks_of size seeds.now) runs.items) }
+    requires cells { ¬ AreBadCells code.now.names cells }
+    requires chance { 0 < drawing.switch }
+    ensures { IfOk result (λ runs. (size : ℕ) × (0 < size) × AllZip (λ part run. IfOk run (λ histories. map (λ h. h.items) histories.items ≡ map (λ seed. history_of code.now cells seed drawing) part)) (chunks_of size seeds.now) runs.items) }
 {
     seeds
         .par_chunks(seeds_at_once(seeds.len()))
         .with_min_len(1)
         .map(
             |part: &[u64]| -> Result<Vec<Vec<Event>>, AllocError>
-                ensures { IfOk result (λ histories. map (λ h. h.items) histories.items ≡ map (λ seed. history_of code.entry.now cells seed steps) part.now) }
-            { run_part(alloc, code, cells, part, steps) },
+                requires cells { ¬ AreBadCells code.now.names cells }
+                requires chance { 0 < drawing.switch }
+                ensures { IfOk result (λ histories. map (λ h. h.items) histories.items ≡ map (λ seed. history_of code.entry.now cells seed drawing) part.now) }
+            { run_part(alloc, code, cells, part, drawing) },
         )
         .collect(rt, alloc)
 }
@@ -93,11 +101,13 @@ pub(crate) fn histories(
     code: &Code,
     cells: usize,
     seeds: &[u64],
-    steps: usize,
+    drawing: Drawing,
 ) -> Result<Vec<Vec<Event>>, AllocError>
-    ensures { IfOk result (λ histories. map (λ h. h.items) histories.items ≡ map (λ seed. history_of code.now cells seed steps) seeds.now) }
+    requires cells { ¬ AreBadCells code.now.names cells }
+    requires chance { 0 < drawing.switch }
+    ensures { IfOk result (λ histories. map (λ h. h.items) histories.items ≡ map (λ seed. history_of code.now cells seed drawing) seeds.now) }
 {
-    let runs = run_parts(rt, alloc, code, cells, seeds, steps)?;
+    let runs = run_parts(rt, alloc, code, cells, seeds, drawing)?;
     let parts = gathered(alloc, runs)?;
     let histories = joined(alloc, parts)?;
     Ok(histories)

@@ -16,5 +16,5 @@ pub use fault::BatchFault;
 pub use judging::print_judged;
 pub use ls_batch_tally::{Entry, Tally};
 pub use printing::print_tally;
-pub use samples::sample;
+pub use samples::{Drawing, sample};
 pub use schedules::sampled;

@@ -1,16 +1,17 @@
 // The run of a seed.
 
-ghost use Rattle.std.specs.Prelude.{◌≡◌, IfOk};
+ghost use Rattle.std.specs.Prelude.{◌≡◌, ◌<◌, IfOk};
 ghost use Rattle.ls_code.specs.Machine.{loaded, machine_state};
+ghost use Rattle.ls_machine.specs.Room.{AreBadCells};
 ghost use Rattle.ls_batch.specs.Samples.{goes_on, history_of, played, settled, settling, threads_of};
 
-use crate::samples::run_sample;
+use crate::samples::{Drawing, run_sample};
 use ls_batch_tally::copied;
 use ls_code::code::Code;
 use ls_code::step::ThreadState;
 use ls_events::event::Event;
-use ls_machine::Machine;
 use ls_machine::laws::runs_keep;
+use ls_machine::{LoadFault, Machine};
 use std::alloc::{AllocError, Global};
 
 /// The most steps of the setup before a sample.
@@ -51,21 +52,23 @@ pub(crate) fn settle(machine: &mut Machine, most: usize) -> usize
 
 /// Runs a loaded machine by a seed: its setup, then the seed's sample.
 #[tactic(auto, unfolding(crate::specs::Samples::played))]
-fn run_seed(machine: &mut Machine, threads: usize, seed: u64, steps: usize)
-    ensures { machine.new ≡ played machine.old threads seed steps }
+fn run_seed(machine: &mut Machine, threads: usize, seed: u64, drawing: Drawing)
+    requires { 0 < drawing.switch }
+    ensures { machine.new ≡ played machine.old threads seed drawing }
 {
     let _taken = settle(machine, MOST_SETUP_STEPS);
-    run_sample(machine, seed, threads, steps);
+    run_sample(machine, seed, threads, drawing);
 }
 
-/// The machine of the code at its start, for the runs of many seeds. A number of cells that no machine has is answered as want of memory: who calls this
-/// has looked at the cells.
+/// The machine of the code at its start, for the runs of many seeds.
 pub(crate) fn load(alloc: Global, code: &Code, cells: usize) -> Result<Machine, AllocError>
+    requires { ¬ AreBadCells code.now.names cells }
     ensures { IfOk result (λ machine. machine ≡ loaded code.now cells) }
 {
     match Machine::load(alloc, code, cells) {
         Ok(machine) => Ok(machine),
-        Err(_) => Err(AllocError),
+        Err(LoadFault::Memory) => Err(AllocError),
+        Err(LoadFault::BadCells) => unreachable!(),
     }
 }
 
@@ -75,15 +78,16 @@ pub(crate) fn one_run(
     machine: &mut Machine,
     threads: usize,
     seed: u64,
-    steps: usize,
+    drawing: Drawing,
 ) -> Result<Vec<Event>, AllocError>
-    requires { threads ≡ threads_of machine.old.code }
-    ensures history { IfOk result (λ history. history.items ≡ history_of machine.old.code machine.old.cells.limit seed steps) }
+    requires threads { threads ≡ threads_of machine.old.code }
+    requires chance { 0 < drawing.switch }
+    ensures history { IfOk result (λ history. history.items ≡ history_of machine.old.code machine.old.cells.limit seed drawing) }
     ensures code { machine.new.code ≡ machine.old.code }
     ensures cells { machine.new.cells.limit ≡ machine.old.cells.limit }
 {
     runs_keep();
     machine.set_back();
-    run_seed(machine, threads, seed, steps);
+    run_seed(machine, threads, seed, drawing);
     copied(alloc, machine.history())
 }

@@ -1,6 +1,6 @@
 // The schedule of a seed's run.
 
-ghost use Rattle.std.specs.Prelude.{◌≡◌, ◌↔◌, ◌++◌, ◌≤◌, IfOk, IsErrOf, length, replicate};
+ghost use Rattle.std.specs.Prelude.{◌≡◌, ◌↔◌, ◌++◌, ◌<◌, ◌≤◌, IfOk, IsErrOf, length, replicate};
 ghost use Rattle.ls_code.specs.Machine.{loaded, machine_history};
 ghost use Rattle.ls_image.specs.Images.{code_of_image};
 ghost use Rattle.ls_machine.specs.Room.{AreBadCells};
@@ -10,7 +10,7 @@ use crate::batching::{are_bad_cells, is_bad_count};
 use crate::fault::BatchFault;
 use crate::laws::seeds_replay;
 use crate::runs::{MOST_SETUP_STEPS, load, settle, threads_of};
-use crate::samples::sample;
+use crate::samples::{Drawing, sample};
 use ls_code::code::Code;
 use ls_events::schedule::Schedule;
 use ls_image::image::Image;
@@ -18,6 +18,7 @@ use std::alloc::{AllocError, Global};
 
 /// How many steps of the setup are taken before a sample.
 fn setup_steps(alloc: Global, code: &Code, cells: usize) -> Result<usize, AllocError>
+    requires { ¬ AreBadCells code.now.names cells }
     ensures { IfOk result (λ taken. taken ≡ settling 100000 (loaded code.now cells)) }
 {
     let mut machine = load(alloc, code, cells)?;
@@ -39,40 +40,42 @@ fn schedule_of(
     code: &Code,
     cells: usize,
     seed: u64,
-    steps: usize,
+    drawing: Drawing,
 ) -> Result<Schedule, AllocError>
-    requires { steps ≤ 900000 }
-    ensures { IfOk result (λ schedule. schedule ≡ seed_schedule code.now cells seed steps) }
+    requires cells { ¬ AreBadCells code.now.names cells }
+    requires steps { drawing.steps ≤ 900000 }
+    requires chance { 0 < drawing.switch }
+    ensures { IfOk result (λ schedule. schedule ≡ seed_schedule code.now cells seed drawing) }
 {
     seeds_replay();
-    let sampled = sample(alloc, seed, threads_of(code), steps)?;
+    let sampled = sample(alloc, seed, threads_of(code), drawing)?;
     let taken = setup_steps(alloc, code, cells)?;
     let all = after_setup(alloc, taken, sampled.steps())?;
     Ok(Schedule::of(all))
 }
 
 /// The schedule of machine instructions that `batch` runs for a seed on so many cells: steps of the setup until it has ended,
-/// trapped or stopped, at most 100,000, then the seed's sample of so many steps of the other threads. The machine's history of it
+/// trapped or stopped, at most 100,000, then the seed's sample of the other threads, drawn so. The machine's history of it
 /// is that of the seed. It is refused as `batch` is for that one seed.
 pub fn sampled(
     alloc: Global,
     image: &Image,
     cells: usize,
     seed: u64,
-    steps: usize,
+    drawing: Drawing,
 ) -> Result<Schedule, BatchFault>
     ensures bad_cells { IsErrOf result BatchFault.BadCells ↔ AreBadCells (code_of_image image.now).names cells }
-    ensures bad_count { IsErrOf result BatchFault.BadCount ↔ (¬ AreBadCells (code_of_image image.now).names cells × IsBadCount seed 1 steps) }
-    ensures schedule { IfOk result (λ schedule. schedule ≡ seed_schedule (code_of_image image.now) cells seed steps) }
-    ensures history { IfOk result (λ schedule. machine_history (code_of_image image.now) cells schedule ≡ history_of (code_of_image image.now) cells seed steps) }
+    ensures bad_count { IsErrOf result BatchFault.BadCount ↔ (¬ AreBadCells (code_of_image image.now).names cells × IsBadCount seed 1 drawing) }
+    ensures schedule { IfOk result (λ schedule. schedule ≡ seed_schedule (code_of_image image.now) cells seed drawing) }
+    ensures history { IfOk result (λ schedule. machine_history (code_of_image image.now) cells schedule ≡ history_of (code_of_image image.now) cells seed drawing) }
 {
     seeds_replay();
     let code = image.code();
     if are_bad_cells(code, cells) {
         return Err(BatchFault::BadCells);
     }
-    if is_bad_count(seed, 1, steps) {
+    if is_bad_count(seed, 1, drawing) {
         return Err(BatchFault::BadCount);
     }
-    Ok(schedule_of(alloc, code, cells, seed, steps)?)
+    Ok(schedule_of(alloc, code, cells, seed, drawing)?)
 }

@@ -79,8 +79,8 @@ impl Tally {
     }
 }
 
-/// The entries so far, and for each history the place of its entry, so that a search takes no longer with their number than
-/// its logarithm.
+/// The entries so far, and for each history the place of its entry. So the time of a search grows with the logarithm
+/// of their number.
 #[derive(Drop)]
 pub(crate) struct Counted {
     pub(crate) entries: Vec<Entry>,

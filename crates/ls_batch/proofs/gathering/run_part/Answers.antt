@@ -6,7 +6,7 @@ use Rattle.ls_batch.proofs.gathering.run_part.Goals as goal
 
 pub loop-seed-preserved : goal.loop-seed-preserved
 loop-seed-preserved c =
-    let h : ℕ → History = λ s. history_of c.args.code.now c.args.cells s c.args.steps in
+    let h : ℕ → History = λ s. history_of c.args.code.now c.args.cells s c.args.drawing in
     let ran = rw (c.loop-seed.invariant.code, c.loop-seed.invariant.cells) at c.in_ok-one_run.ensures.history in
     record {
       code = c.in_ok-one_run.ensures.code ∙ c.loop-seed.invariant.code;

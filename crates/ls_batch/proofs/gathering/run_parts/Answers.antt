@@ -14,5 +14,5 @@ returns g c =
       size,
       omega arith,
       rw h.2
-          (slice-AllZip chain.0 (chunks_of size c.args.seeds.now) (chain.1 ∙ parts) (λ part run. IfOk run (λ histories. map (λ h. h.items) histories.items ≡ map (λ seed. history_of c.args.code.now c.args.cells seed c.args.steps) part)) h.0 chain.2),
+          (slice-AllZip chain.0 (chunks_of size c.args.seeds.now) (chain.1 ∙ parts) (λ part run. IfOk run (λ histories. map (λ h. h.items) histories.items ≡ map (λ seed. history_of c.args.code.now c.args.cells seed c.args.drawing) part)) h.0 chain.2),
     ))

@@ -4,5 +4,5 @@ use Rattle.ls_batch.proofs.samples.run_sample.Goals as goal
 
 pub loop-preserved : goal.loop-preserved
 loop-preserved c =
-    run_step c.args.threads (c.args.steps - c.loop.counter) (c.args.steps - (c.loop.counter + 1)) c.loop.rng c.draw.result c.draw.new.rng c.loop.machine c.step.new.self _ (omega arith) c.draw.ensures.entry c.draw.ensures.state c.step.ensures.machine
-    c.loop.invariant
+    run_step c.args.threads c.args.drawing.switch c.loop.last (c.args.drawing.steps - c.loop.counter) (c.args.drawing.steps - (c.loop.counter + 1)) c.loop.rng c.next_thread-last.result c.next_thread-last.new.rng c.loop.machine c.step.new.self _ (omega arith)
+    c.next_thread-last.ensures.entry c.next_thread-last.ensures.state c.step.ensures.machine c.loop.invariant

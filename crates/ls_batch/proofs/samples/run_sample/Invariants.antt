@@ -4,4 +4,4 @@ use Rattle.ls_batch.specs.Samples.{draws}
 use Rattle.ls_batch.proofs.samples.run_sample.Given as goal
 
 abbrev pub invariant-loop : goal.invariant-loop
-invariant-loop l = machine_run l.machine (draws l.threads (l.steps - l.counter) l.rng) ≡ machine_run l.initial.machine (draws l.threads l.steps l.seed)
+invariant-loop l = machine_run l.machine (draws l.threads l.drawing.switch l.last (l.drawing.steps - l.counter) l.rng) ≡ machine_run l.initial.machine (draws l.threads l.drawing.switch 0 l.drawing.steps l.seed)
