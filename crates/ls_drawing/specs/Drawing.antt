@@ -25,7 +25,7 @@ name_node n = codes "n" ++ decimal n
 abbrev pub label_text : Text → Text
 label_text text = codes ", label=\"" ++ (text ++ codes "\"];\n")
 
--- a row of a record: a reference is a port, as `|<f1> next`, and all else a text, as `|item = 5` and `|next = null`
+-- a row of a record: a port for a reference, as `|<f1> next`; a text for all else, as `|item = 5` and `|next = null`
 abbrev pub row_text : Names → List Label → Text → ℕ → Value → Text
 row_text names ls name port v =
     if reference_of v == 0
@@ -53,7 +53,7 @@ rows_text names ls o (Markable pair) =
     codes "|mark = " ++ (boolean_text (mark_of pair) ++ reference_row (reference_of pair))
 rows_text names ls o (Array size items) = codes "|" ++ array_text size items
 
--- a lock that a thread owns is filled, and so is an object whose monitor it owns
+-- a lock that a thread owns is filled; so is an object whose monitor a thread owns
 abbrev pub fill_text : Thing → Text
 fill_text (LockOf (HeldBy owner holds)) = codes ", style=filled, fillcolor=lightgray"
 fill_text (Object (HeldBy owner holds) fields) = codes ", style=filled, fillcolor=lightgray"
@@ -78,7 +78,7 @@ port_arrow o port style target = arrow_text (object_node o ++ (codes ":f" ++ dec
 abbrev pub field_arrow : ℕ → ℕ → Value → Text
 field_arrow o field v = port_arrow o field [] (reference_of v)
 
--- a reference with a mark is told apart
+-- the style of an arrow for a reference with a mark
 abbrev pub mark_style : Bool → Text
 mark_style mark = if mark then codes " [style=dashed, color=red, label=marked]" else []
 

@@ -5,7 +5,7 @@ ghost use Rattle.ls_checked.specs.PlainProgram.{plain_name};
 ghost use Rattle.ls_labels.specs.Names.{names_of};
 ghost use Rattle.ls_labels.specs.Objects.{object_text};
 ghost use Rattle.ls_source_store.specs.SeenThing.{hold_of, thing_of};
-ghost use Rattle.ls_drawing.specs.Drawing.{arrow_text, arrows_text, drawing_text, drawn_name, drawn_name_of, drawn_thing, field_arrow, field_row, fill_text, head_text, label_text, mark_style, monitor_row, name_node, node_text, null_text, port_arrow, reference_row, row_text, rows_text};
+ghost use Rattle.ls_drawing.specs.Drawing.{arrow_text, arrows_text, drawing_text, drawn_name, drawn_name_of, drawn_thing, field_arrow, field_row, fill_text, graph_of, head_text, label_text, mark_style, monitor_row, name_node, node_text, null_text, port_arrow, reference_row, row_text, rows_text};
 ghost use Rattle.ls_state.specs.Parts.{numbered};
 ghost use Rattle.ls_state.specs.Seen.{names_in, scene_seen};
 
@@ -21,7 +21,7 @@ use ls_state::scene::Scene;
 use std::alloc::{AllocError, Global};
 use std::fmt::Write;
 
-// Adds a row of a record: a reference is a port, and all else a text.
+// Adds a row of a record: a port for a reference, a text for all else.
 fn push_row(
     out: &mut String,
     scene: &Scene,
@@ -107,7 +107,7 @@ fn push_rows(out: &mut String, scene: &Scene, object: u64, thing: &Thing) -> Res
     }
 }
 
-// A lock that a thread owns is filled, and so is an object whose monitor it owns.
+// A lock that a thread owns is filled. So is an object whose monitor a thread owns.
 fn fill_of(thing: &Thing) -> &'static str
     ensures { result.now ≡ fill_text (thing_of thing.now) }
 {
@@ -133,7 +133,7 @@ fn push_label(out: &mut String, scene: &Scene, object: u64, thing: &Thing) -> Re
     out.push_str("\"];\n")
 }
 
-// Adds what stands before the label of an object's node.
+// Adds what comes before the label of an object's node.
 fn push_head(out: &mut String, object: u64, fill: &str) -> Result<(), AllocError>
     ensures { OnOk result (string_bytes out.new ≡ string_bytes out.old ++ head_text object fill.now) }
 {
@@ -175,7 +175,7 @@ fn push_field_arrows(out: &mut String, object: u64, fields: &[Value]) -> Result<
     Ok(())
 }
 
-// How a reference with a mark is told apart.
+// The style of an arrow for a reference with a mark.
 fn mark_style(mark: bool) -> &'static str
     ensures { result.now ≡ mark_style mark }
 {
@@ -223,7 +223,7 @@ fn push_things(out: &mut String, scene: &Scene) -> Result<(), AllocError>
     Ok(())
 }
 
-// What is said of a setup name that is null.
+// What is added to a setup name that is null.
 fn null_of(target: u64) -> &'static str
     ensures { result.now ≡ null_text target }
 {
@@ -280,16 +280,24 @@ fn push_names(out: &mut String, scene: &Scene) -> Result<(), AllocError>
     Ok(())
 }
 
-/// The objects and the setup names after a schedule, whose steps are numbers of threads, as a graph in the language of Graphviz: a
-/// record for each object with its fields, and an arrow for each reference that isn't null. Refused where memory runs out.
+/// Adds the graph of a run.
+pub(crate) fn push_graph(out: &mut String, scene: &Scene) -> Result<(), AllocError>
+    ensures { OnOk result (string_bytes out.new ≡ string_bytes out.old ++ graph_of (names_in scene.now) (scene_seen scene.now)) }
+{
+    out.push_str("digraph state {\nrankdir=LR;\n")?;
+    push_things(out, scene)?;
+    push_names(out, scene)?;
+    out.push_str("}\n")
+}
+
+/// The objects and the setup names after a schedule, as a graph in the language of Graphviz. The steps of the schedule
+/// are numbers of threads. There is a record for each object with its fields, and an arrow for each reference that
+/// isn't null. The only refusal is that memory ran out.
 pub fn drawing<'n>(alloc: Global, names: Names<'n>, steps: &[usize]) -> Result<String, AllocError>
     ensures { IfOk result (λ text. string_bytes text ≡ drawing_text (names_of names.entry) steps.now) }
 {
     let scene = Scene::after(alloc, names, steps)?;
     let mut out = String::new(alloc);
-    out.push_str("digraph state {\nrankdir=LR;\n")?;
-    push_things(&mut out, &scene)?;
-    push_names(&mut out, &scene)?;
-    out.push_str("}\n")?;
+    push_graph(&mut out, &scene)?;
     Ok(out)
 }

@@ -33,7 +33,7 @@ after_if : (b : Bool) (s : State) (t : ℕ) (st : Step) → after s (stepped t s
 after_if true s t st h = h
 after_if false s t st h = refl
 
-after_step_is : (file : File) (program : Program) (s : State) (t : ℕ) → after s (source_step file program s t) ≡ (step file program s t).after
+pub after_step_is : (file : File) (program : Program) (s : State) (t : ℕ) → after s (source_step file program s t) ≡ (step file program s t).after
 after_step_is file program s t =
     after_if (has_started file program s t) s t (step_of file s t (next file program t (answers_of s t))) (after_next file s t (next file program t (answers_of s t)))
 
@@ -51,7 +51,7 @@ end_step file program s s' ts i d whole within is h =
     ∙ ap (end_of file program s) (sym (drop_more ts i d within))
     ∙ h
 
-label_first : (t : ℕ) (x : Did) (s : State) (lines : List (Entry Value)) → labels_of (traced (stepped t x s) lines) ≡ made_by x ++ labels_of lines
+pub label_first : (t : ℕ) (x : Did) (s : State) (lines : List (Entry Value)) → labels_of (traced (stepped t x s) lines) ≡ made_by x ++ labels_of lines
 label_first t (did.Acted action answer) s lines = by_label (label_of action)
   where
     by_label : (o : Option Label) → cons_option o (labels_of lines) ≡ option_to_list o ++ labels_of lines
@@ -81,7 +81,7 @@ pub record IsRest (file : File) (program : Program) (steps : List ℕ) (r : Prog
   pub labels : labels_after file program r.state ls ts ≡ labels_of (source_trace file program steps)
   pub history : rest_of r ts ≡ source_history file program steps
 
-step_is : (r : Progress) (file : File) (program : Program) (t : ℕ) → r.file ≡ file → r.program ≡ program → step r.file r.program r.state t ≡ step file program r.state t
+pub step_is : (r : Progress) (file : File) (program : Program) (t : ℕ) → r.file ≡ file → r.program ≡ program → step r.file r.program r.state t ≡ step file program r.state t
 step_is r file program t f p = ap (λ x. step x r.program r.state t) f ∙ ap (λ x. step file x r.state t) p
 
 pub rest_step : (file : File) (program : Program) (steps : List ℕ) (r r' : Progress) (ls ls' : List Label) (x : Did) (i d : ℕ) → i < length steps →

@@ -3,4 +3,5 @@ pub mod Scene
 pub mod Objects
 pub mod Asking
 pub mod State
+pub mod Each
 pub mod Seen

@@ -27,13 +27,13 @@ abbrev pub field_part : Names → List Label → ℕ → ℕ → Value → Text
 field_part names ls o field v =
     (if field == 0 then codes ": " else codes ", ") ++ (field_name_of names ls o field ++ (codes " = " ++ value_text names ls v))
 
--- behind so many fields, the monitor that a thread owns, as `, monitor held by A, 1 hold`
+-- after so many fields, the monitor that a thread owns, as `, monitor held by A, 1 hold`
 abbrev pub monitor_part : Names → ℕ → Hold → Text
 monitor_part names count Free = []
 monitor_part names count (HeldBy owner holds) =
     (if count == 0 then codes ": monitor " else codes ", monitor ") ++ held_text names.program owner holds
 
--- what stands behind an object's name
+-- what stands after an object's name
 abbrev pub thing_text : Names → List Label → ℕ → Thing → Text
 thing_text names ls o (Object monitor fields) =
     numbered (field_part names ls o) 0 fields ++ monitor_part names (length fields) monitor

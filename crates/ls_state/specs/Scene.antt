@@ -1,9 +1,10 @@
 -- What a run leaves.
-use Rattle.std.specs.Prelude.{ℕ, List, [], option_to_list}
+use Rattle.std.specs.Prelude.{ℕ, List, [], ◌++◌, option_to_list}
 use Rattle.ls_events.specs.declared.event.Event.{Event}
 use Rattle.ls_meaning.specs.declared.step.Did.{Did}
 use Rattle.ls_meaning.specs.declared.step.Did.TheVariants.{Acted, Waits, Idle}
-use Rattle.ls_meaning.specs.Runs.{State, source_run, source_trace, source_history}
+use Rattle.ls_meaning.specs.Steps.{traced}
+use Rattle.ls_meaning.specs.Runs.{State, history_of, source_run, source_step, source_trace, source_history, step}
 use Rattle.ls_labels.specs.declared.label.Label.{Label}
 use Rattle.ls_labels.specs.Labels.{label_of, labels_of}
 use Rattle.ls_labels.specs.Names.{Names}
@@ -26,3 +27,11 @@ abbrev pub made_by : Did → List Label
 made_by (Acted action answer) = option_to_list (label_of action)
 made_by Waits = []
 made_by Idle = []
+
+-- a scene after one more step, of a thread
+abbrev pub scene_after : Names → Scene → ℕ → Scene
+scene_after names scene thread = record {
+  state = (step names.file names.program scene.state thread).after;
+  labels = scene.labels ++ made_by (step names.file names.program scene.state thread).did;
+  history = scene.history ++ history_of (traced (source_step names.file names.program scene.state thread) []);
+}

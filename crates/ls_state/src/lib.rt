@@ -3,6 +3,7 @@
 
 pub mod array;
 mod asking;
+pub mod each;
 pub mod objects;
 pub mod scene;
 pub mod state;

@@ -76,7 +76,7 @@ fn push_fields(
     Ok(())
 }
 
-// Adds the monitor that a thread owns, behind so many fields.
+// Adds the monitor that a thread owns, after so many fields.
 fn push_monitor(
     out: &mut String,
     scene: &Scene,
@@ -100,7 +100,7 @@ fn push_monitor(
     }
 }
 
-// Adds what stands behind an object's name.
+// Adds what stands after an object's name.
 fn push_thing(out: &mut String, scene: &Scene, object: u64, thing: &Thing) -> Result<(), AllocError>
     ensures { OnOk result (string_bytes out.new
         ≡ string_bytes out.old ++ thing_text (names_in scene.now) (scene_seen scene.now).labels object (thing_of thing.now)) }

@@ -18,13 +18,15 @@ use Rattle.ls_labels.specs.declared.label.Label.TheVariants as labels
 use Rattle.ls_labels.specs.Names.{Names}
 use Rattle.ls_state.specs.Scene.{Scene, scene_of}
 use Rattle.ls_state.specs.State.{things_text, names_text, state_text, threads_text}
+use Rattle.ls_state.specs.Each.{states_text}
 use Rattle.ls_drawing.specs.Drawing.{graph_of}
+use Rattle.ls_drawing.specs.Each.{drawings_text}
 
 -- a class with these fields
 abbrev pub sign : List Text → ClassSign
 sign fields = record { fields = map (λ n. record { name = n; type = types.Int }) fields; methods = []; constructor = 0; parameters = [] }
 
--- a class `L` whose constructor makes its one field, a lock, and whose method `hold` takes it
+-- a class `L`: its constructor makes its one field, a lock, and its method `hold` takes that lock
 abbrev pub locking : File
 locking = record {
   classes = record { fields = types.Lock ∷ []; constructor = 0 } ∷ [];
@@ -126,7 +128,7 @@ AtFirst = state_text names [] ≡
     codes "l = null\nm = null\nsetup.1 call l = new L()\n"
     ++ codes "A hasn't started: the setup hasn't ended\nB hasn't started: the setup hasn't ended\n"
 
--- a run that the setup has ended with these answers of A and B, and of which these are the events
+-- a run in which the setup has ended, with these answers of A and B, and these events
 abbrev pub held : List (Answer Value) → List (Answer Value) → List Event → Scene
 held a b events = record {
   state = record {
@@ -140,7 +142,7 @@ held a b events = record {
 abbrev pub called_by : ℕ → Event
 called_by thread = record { thread = thread; call = 1; happening = happenings.Called }
 
--- up to the lock
+-- the answers up to the lock
 abbrev pub at_the_lock : List (Answer Value)
 at_the_lock = IsDone ∷ Gives (Reference 1) ∷ IsDone ∷ Gives (Reference 2) ∷ []
 
@@ -154,7 +156,7 @@ abbrev pub Reading : Type 0
 Reading = threads_text names (held at_the_lock (IsDone ∷ Gives (Reference 1) ∷ IsDone ∷ []) (called_by 0 ∷ called_by 2 ∷ called_by 1 ∷ [])) ≡
     codes "setup has ended\nA.1 locks ReentrantLock#2\nB.1 reads L#1.lock\n"
 
--- A has ended, and B by a trap
+-- A has ended, and B has ended by a trap
 abbrev pub Over : Type 0
 Over = threads_text names (held (at_the_lock ++ IsDone ∷ IsDone ∷ []) (IsDone ∷ Gives (Reference 0) ∷ IsDone ∷ []) (called_by 0 ∷ called_by 2 ∷ called_by 1 ∷ [])) ≡
     codes "setup has ended\nA has ended\nB has ended with a trap\n"
@@ -191,3 +193,24 @@ Left = scene_of names (replicate 9 0 ++ replicate 3 1) ≡ record {
   labels = labels.Class 0 ∷ labels.Lock ∷ [];
   history = called_by 0 ∷ record { thread = 0; call = 1; happening = happenings.Returned None } ∷ called_by 1 ∷ [];
 }
+
+-- the states after the second and the third step
+abbrev pub Each : Type 0
+Each = states_text names (0 ∷ 1 ∷ 0 ∷ 0 ∷ []) 2 3 ≡
+    codes "after step 2\nl = null\nm = null\nsetup.1 makes L\n"
+    ++ codes "A hasn't started: the setup hasn't ended\nB hasn't started: the setup hasn't ended\n\n"
+    ++ codes "after step 3\nL#1: lock = null\nl = null\nm = null\nsetup.1 enters new L\n"
+    ++ codes "A hasn't started: the setup hasn't ended\nB hasn't started: the setup hasn't ended\n\n"
+
+-- after the last step there is none
+abbrev pub EachAtTheEnd : Type 0
+EachAtTheEnd = states_text names (1 ∷ []) 1 9 ≡
+    codes "after step 1\nl = null\nm = null\nsetup.1 call l = new L()\n"
+    ++ codes "A hasn't started: the setup hasn't ended\nB hasn't started: the setup hasn't ended\n\n"
+
+abbrev pub EachGraph : Type 0
+EachGraph = drawings_text names (1 ∷ 1 ∷ []) 2 2 ≡
+    codes "// after step 2\ndigraph state {\nrankdir=LR;\n"
+    ++ codes "n0 [shape=plaintext, label=\"l = null\"];\n"
+    ++ codes "n1 [shape=plaintext, label=\"m = null\"];\n"
+    ++ codes "}\n\n"

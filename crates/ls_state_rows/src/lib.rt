@@ -1,7 +1,7 @@
 //! What is shown of small states.
 #![tactic(auto)]
 
-ghost use Rattle.ls_state_rows.specs.Rows.{AtFirst, BeforeACall, Graph, Left, NeverStarts, Over, Reading, SetupNames, Things, Waiting};
+ghost use Rattle.ls_state_rows.specs.Rows.{AtFirst, BeforeACall, Each, EachAtTheEnd, EachGraph, Graph, Left, NeverStarts, Over, Reading, SetupNames, Things, Waiting};
 
 /// Each kind of thing.
 pub fn things()
@@ -19,4 +19,11 @@ pub fn threads()
     ensures never_starts { NeverStarts }
     ensures before_a_call { BeforeACall }
     ensures left { Left }
+{}
+
+/// States after many steps.
+pub fn each()
+    ensures range { Each }
+    ensures end { EachAtTheEnd }
+    ensures graph { EachGraph }
 {}

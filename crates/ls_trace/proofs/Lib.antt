@@ -1,2 +1,5 @@
 pub mod Calls
 pub mod Rests
+pub mod LinesLeft
+pub mod Quiet
+pub mod Told

@@ -27,8 +27,8 @@ pub struct Teller<'a> {
     calls: Vec<usize>,
 }
 
-// No calls yet, for each thread.
-fn no_calls(alloc: Global, threads: &[ThreadProgram]) -> Result<Vec<usize>, AllocError>
+/// No calls or steps yet, for each thread.
+pub(crate) fn no_steps(alloc: Global, threads: &[ThreadProgram]) -> Result<Vec<usize>, AllocError>
     ensures { IfOk result (λ v. v.items ≡ map (λ t. 0) threads.now) }
 {
     let mut calls = Vec::new(alloc);
@@ -71,7 +71,7 @@ impl<'a> Teller<'a> {
         ensures names { IfOk result (λ t. names_in t ≡ names_of names.entry) }
         ensures runs { IfOk result (λ t. RunsNamed t) }
     {
-        let calls = no_calls(alloc, &names.program.threads)?;
+        let calls = no_steps(alloc, &names.program.threads)?;
         let run = SourceRun::new(alloc, names.file, names.program)?;
         Ok(Teller {
             names,
@@ -145,7 +145,8 @@ impl<'a> Teller<'a> {
         self.push_still(out, thread, asked)
     }
 
-    fn push_step(
+    /// Adds what is told of the step that the run has just made, by its thread and what it did.
+    pub(crate) fn push_step(
         &self,
         alloc: Global,
         out: &mut String,

@@ -7,6 +7,7 @@ use Rattle.ls_checked.specs.CheckedTree.{Block, Call, Done, End, Evaluate, Field
 use Rattle.ls_checked.specs.CheckedProgram.{Making, Calling, Program}
 use Rattle.ls_report.specs.Events.{Text}
 use Rattle.ls_labels.specs.Names.{Names}
+use Rattle.ls_trace.specs.Folds.{folded_text}
 use Rattle.ls_trace.specs.Lines.{trace_text}
 
 -- setup { c = new C(); } thread A { c.f(); } thread B { c.f(); }
@@ -67,3 +68,32 @@ abbrev pub LinesInARange : Type 0
 LinesInARange =
     trace_text one_lock schedule 8 10
     ≡ each_line (codes "8 setup.1 return" ∷ codes "9 setup has ended" ∷ codes "10 A.1 call c.f()" ∷ [])
+
+-- reads and an entered method are one line, and what changes something is a line of its own
+abbrev pub FoldedReads : Type 0
+FoldedReads =
+    folded_text one_lock schedule 8 15
+    ≡ each_line (codes "8 (7) setup.1 return"
+    ∷ codes "9 (8) setup has ended"
+    ∷ codes "10 (2) A.1 call c.f()"
+    ∷ codes "11-13 (3-5) A.1 reads C#1.lock: ReentrantLock#2, last of 3 steps that change nothing"
+    ∷ codes "14 (6) A.1 locks ReentrantLock#2"
+    ∷ codes "15 (7) A.1 return"
+    ∷ [])
+
+-- steps that wait are another line than reads; a range may begin within a fold
+abbrev pub FoldedWaits : Type 0
+FoldedWaits =
+    folded_text one_lock (replicate 7 0 ++ replicate 5 1 ++ replicate 6 2) 15 18
+    ≡ each_line (codes "15-16 (3-4) B.1 reads C#1.lock: ReentrantLock#2, last of 2 steps that change nothing"
+    ∷ codes "17-18 (5-6) B.1 waits for ReentrantLock#2, which A owns, for 2 steps"
+    ∷ [])
+
+-- threads in turn are no neighbours
+abbrev pub FoldedTurns : Type 0
+FoldedTurns =
+    folded_text one_lock (1 ∷ 2 ∷ 2 ∷ 1 ∷ []) 1 9
+    ≡ each_line (codes "1 (1) A hasn't started: the setup hasn't ended"
+    ∷ codes "2-3 (1-2) B hasn't started: the setup hasn't ended, for 2 steps"
+    ∷ codes "4 (2) A hasn't started: the setup hasn't ended"
+    ∷ [])

@@ -1,0 +1,5 @@
+pub mod Fitting
+pub mod Finding
+pub mod Dividing
+pub mod Going
+pub mod Taking

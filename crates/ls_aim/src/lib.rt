@@ -1,0 +1,13 @@
+//! Schedules by what happens: targets that threads go on to, and the steps that they take.
+#![tactic(auto)]
+
+mod aiming;
+mod counts;
+pub mod fault;
+mod items;
+mod labels;
+mod reading;
+mod runner;
+mod texts;
+
+pub use aiming::aim;

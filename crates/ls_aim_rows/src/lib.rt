@@ -1,0 +1,4 @@
+//! Targets whose steps are worked out by hand.
+#![tactic(auto)]
+
+mod rows;
