@@ -1,0 +1,6 @@
+//! The command `merge`.
+#![tactic(auto)]
+
+mod merging;
+
+pub use merging::merge;

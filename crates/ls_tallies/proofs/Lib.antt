@@ -1,0 +1,4 @@
+pub mod Places
+pub mod Told
+pub mod MergeLemmas
+pub mod Sorted

@@ -1,0 +1,5 @@
+use Rattle.ls_tallies.proofs.MergeLemmas.{merges_merge}
+use Rattle.ls_tallies.proofs.laws.merges_merge.Goals as goal
+
+pub returns : goal.returns
+returns c = merges_merge

@@ -1,0 +1,4 @@
+pub mod BlockLemmas
+pub mod HeadLemmas
+pub mod EntryLemmas
+pub mod Listed
