@@ -22,7 +22,7 @@ default_limit : (p : ValueParser) → request_of p (codes "listset" ∷ codes "l
 unfolding clap_on_literals
 default_limit p = refl
 
-a_batch : (p : ValueParser) → request_of p (codes "listset" ∷ codes "batch" ∷ codes "--seed" ∷ codes "7" ∷ codes "--count=3" ∷ codes "--steps" ∷ codes "5" ∷ []) ≡ Some (plainly (request.Batch 7 3 5 65536 false))
+a_batch : (p : ValueParser) → request_of p (codes "listset" ∷ codes "batch" ∷ codes "--seed" ∷ codes "7" ∷ codes "--count=3" ∷ codes "--steps" ∷ codes "5" ∷ []) ≡ Some (plainly (request.Batch 7 3 5 1 65536 false))
 unfolding clap_on_literals
 a_batch p = refl
 
@@ -54,11 +54,11 @@ explained : (p : ValueParser) → request_of p (codes "listset" ∷ codes "sourc
 unfolding clap_on_literals
 explained p = refl
 
-some_steps : (p : ValueParser) → request_of p (codes "listset" ∷ codes "trace" ∷ codes "--from" ∷ codes "12" ∷ []) ≡ Some (plainly (request.Trace 12 1000000))
+some_steps : (p : ValueParser) → request_of p (codes "listset" ∷ codes "trace" ∷ codes "--from" ∷ codes "12" ∷ []) ≡ Some (plainly (request.Trace 12 1000000 false))
 unfolding clap_on_literals
 some_steps p = refl
 
-a_drawing : (p : ValueParser) → request_of p (codes "listset" ∷ codes "state" ∷ codes "--dot" ∷ []) ≡ Some (plainly (request.State true))
+a_drawing : (p : ValueParser) → request_of p (codes "listset" ∷ codes "state" ∷ codes "--dot" ∷ []) ≡ Some (plainly (request.State true 1000000))
 unfolding clap_on_literals
 a_drawing p = refl
 
@@ -71,13 +71,22 @@ unfolding clap_on_literals
 few_states p = refl
 
 judged : (p : ValueParser) → request_of p (codes "listset" ∷ codes "batch" ∷ codes "--judge" ∷ codes "--seed=1" ∷ codes "--count=3" ∷ codes "--steps=5" ∷ [])
-    ≡ Some (plainly (request.Batch 1 3 5 65536 true))
+    ≡ Some (plainly (request.Batch 1 3 5 1 65536 true))
 unfolding clap_on_literals
 judged p = refl
 
-a_sample : (p : ValueParser) → request_of p (codes "listset" ∷ codes "sample" ∷ codes "--seed" ∷ codes "7" ∷ codes "--steps=5" ∷ []) ≡ Some (plainly (request.Sample 7 5 65536))
+a_sample : (p : ValueParser) → request_of p (codes "listset" ∷ codes "sample" ∷ codes "--seed" ∷ codes "7" ∷ codes "--steps=5" ∷ []) ≡ Some (plainly (request.Sample 7 5 1 65536))
 unfolding clap_on_literals
 a_sample p = refl
+
+rarely : (p : ValueParser) → request_of p (codes "listset" ∷ codes "sample" ∷ codes "--seed" ∷ codes "7" ∷ codes "--steps=5" ∷ codes "--switch" ∷ codes "20" ∷ []) ≡ Some (plainly (request.Sample 7 5 20 65536))
+unfolding clap_on_literals
+rarely p = refl
+
+rarely_judged : (p : ValueParser) → request_of p (codes "listset" ∷ codes "batch" ∷ codes "--switch=20" ∷ codes "--seed=1" ∷ codes "--count=3" ∷ codes "--steps=5" ∷ codes "--judge" ∷ [])
+    ≡ Some (plainly (request.Batch 1 3 5 20 65536 true))
+unfolding clap_on_literals
+rarely_judged p = refl
 
 no_seed : (p : ValueParser) → request_of p (codes "listset" ∷ codes "sample" ∷ codes "--steps=5" ∷ []) ≡ None
 unfolding clap_on_literals
@@ -87,6 +96,34 @@ first_illegal : (p : ValueParser) → request_of p (codes "listset" ∷ codes "e
 unfolding clap_on_literals
 first_illegal p = refl
 
+an_aim : (p : ValueParser) → request_of p (codes "listset" ∷ codes "aim" ∷ []) ≡ Some (plainly request.Aim)
+unfolding clap_on_literals
+an_aim p = refl
+
 a_page : (p : ValueParser) → request_of p (codes "listset" ∷ codes "page" ∷ codes "--to=9" ∷ []) ≡ Some (plainly (request.Page 1 9))
 unfolding clap_on_literals
 a_page p = refl
+
+a_fold : (p : ValueParser) → request_of p (codes "listset" ∷ codes "trace" ∷ codes "--fold" ∷ codes "--to=9" ∷ []) ≡ Some (plainly (request.Trace 1 9 true))
+unfolding clap_on_literals
+a_fold p = refl
+
+each_state : (p : ValueParser) → request_of p (codes "listset" ∷ codes "state" ∷ codes "--each" ∷ codes "--to" ∷ codes "7" ∷ []) ≡ Some (plainly (request.States false 1 7))
+unfolding clap_on_literals
+each_state p = refl
+
+states_from : (p : ValueParser) → request_of p (codes "listset" ∷ codes "state" ∷ codes "--from" ∷ codes "3" ∷ []) ≡ Some (plainly (request.States false 3 1000000))
+unfolding clap_on_literals
+states_from p = refl
+
+state_to : (p : ValueParser) → request_of p (codes "listset" ∷ codes "state" ∷ codes "--to" ∷ codes "7" ∷ []) ≡ Some (plainly (request.State false 7))
+unfolding clap_on_literals
+state_to p = refl
+
+a_merge : (p : ValueParser) → request_of p (codes "listset" ∷ codes "merge" ∷ codes "--count=80000" ∷ []) ≡ Some (plainly (request.Merge (Some 80000)))
+unfolding clap_on_literals
+a_merge p = refl
+
+any_merge : (p : ValueParser) → request_of p (codes "listset" ∷ codes "merge" ∷ []) ≡ Some (plainly (request.Merge None))
+unfolding clap_on_literals
+any_merge p = refl

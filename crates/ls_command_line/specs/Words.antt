@@ -1,5 +1,5 @@
 -- What the command line may be, and what it asks for.
-use Rattle.std.specs.Prelude.{◌≡◌, ℕ, Bool, true, false, List, [], ◌∷◌, map, codes, Option, Some, None, Result, Ok, Err, bytes_eq, if◌then◌else◌}
+use Rattle.std.specs.Prelude.{◌≡◌, ◌||◌, ℕ, Bool, true, false, is_some, List, [], ◌∷◌, map, codes, Option, Some, None, Result, Ok, Err, bytes_eq, if◌then◌else◌}
 use Rattle.std.specs.Option.{option_map_or}
 use Rattle.std.specs.Str.Parse.{digits_value, without_leading_plus}
 use Rattle.clap.specs.Words.{App, Row, Rule, Text, fault_of, first_of, new_app, new_rule, one_of, subcommand_of, with_rule, with_subcommand}
@@ -58,13 +58,25 @@ abbrev pub replay_line : App
 replay_line = with_rule (with_rule (with_explain (codes "replay")) cells_rule) (flag_rule (codes "live"))
 
 abbrev pub trace_line : App
-trace_line = with_rule (with_rule (with_explain (codes "trace")) (number_rule false (codes "from"))) (number_rule false (codes "to"))
+trace_line =
+    with_rule
+    (with_rule
+    (with_rule (with_explain (codes "trace")) (number_rule false (codes "from")))
+    (number_rule false (codes "to")))
+    (flag_rule (codes "fold"))
 
 abbrev pub page_line : App
 page_line = with_rule (with_rule (with_explain (codes "page")) (number_rule false (codes "from"))) (number_rule false (codes "to"))
 
 abbrev pub state_line : App
-state_line = with_rule (with_explain (codes "state")) (flag_rule (codes "dot"))
+state_line =
+    with_rule
+    (with_rule
+    (with_rule
+    (with_rule (with_explain (codes "state")) (flag_rule (codes "dot")))
+    (flag_rule (codes "each")))
+    (number_rule false (codes "from")))
+    (number_rule false (codes "to"))
 
 abbrev pub translate_line : ValueParser → App
 translate_line p = with_rule (with_rule (with_explain (codes "translate")) (side_rule p)) cells_rule
@@ -72,15 +84,21 @@ translate_line p = with_rule (with_rule (with_explain (codes "translate")) (side
 abbrev pub live_line : App
 live_line = with_rule (with_rule (with_explain (codes "live")) cells_rule) (number_rule false (codes "limit"))
 
+-- the option of a thread that is drawn by chance 1 in a number
+abbrev pub switch_rule : Rule
+switch_rule = number_rule false (codes "switch")
+
 abbrev pub batch_line : App
 batch_line =
     with_rule
     (with_rule
     (with_rule
     (with_rule
+    (with_rule
     (with_rule (with_explain (codes "batch")) (number_rule true (codes "seed")))
     (number_rule true (codes "count")))
     (number_rule true (codes "steps")))
+    switch_rule)
     cells_rule)
     (flag_rule (codes "judge"))
 
@@ -88,8 +106,10 @@ abbrev pub sample_line : App
 sample_line =
     with_rule
     (with_rule
+    (with_rule
     (with_rule (with_explain (codes "sample")) (number_rule true (codes "seed")))
     (number_rule true (codes "steps")))
+    switch_rule)
     cells_rule
 
 abbrev pub explore_line : App
@@ -101,6 +121,9 @@ explore_line =
     (number_rule false (codes "states")))
     (flag_rule (codes "illegal")))
     (flag_rule (codes "first"))
+
+abbrev pub merge_line : App
+merge_line = with_rule (with_explain (codes "merge")) (number_rule false (codes "count"))
 
 -- the program without its commands, one of which is wanted
 abbrev pub top_line : App
@@ -121,6 +144,8 @@ line p =
     (with_subcommand
     (with_subcommand
     (with_subcommand
+    (with_subcommand
+    (with_subcommand
     (with_subcommand top_line (with_explain (codes "check")).top)
     (with_explain (codes "order")).top)
     (with_explain (codes "compile")).top)
@@ -129,11 +154,13 @@ line p =
     trace_line.top)
     state_line.top)
     page_line.top)
+    (with_explain (codes "aim")).top)
     (translate_line p).top)
     live_line.top)
     batch_line.top)
     sample_line.top)
-    explore_line.top
+    explore_line.top)
+    merge_line.top
 
 -- the number that a text writes, and else the default
 abbrev pub number_or : ℕ → Option Text → ℕ
@@ -144,8 +171,19 @@ number_or default (Some text) = if accepts false u64_parser text then digits_val
 abbrev pub number_of : Text → ℕ → List Row → ℕ
 number_of name default rows = number_or default (one_of name rows)
 
+-- the number that a text writes, if there is a text
+abbrev pub number_in : Option Text → Option ℕ
+number_in None = None
+number_in (Some text) = if accepts false u64_parser text then Some (digits_value 10 (without_leading_plus text)) else None
+
+abbrev pub number_asked : Text → List Row → Option ℕ
+number_asked name rows = number_in (one_of name rows)
+
 abbrev pub cells_of : List Row → ℕ
 cells_of rows = number_of (codes "cells") 65536 rows
+
+abbrev pub switch_of : List Row → ℕ
+switch_of rows = number_of (codes "switch") 1 rows
 
 -- whether the option of this name is given
 abbrev pub flag_of : Text → List Row → Bool
@@ -157,6 +195,16 @@ named_side name = if bytes_eq name (codes "source") then sides.Source else sides
 abbrev pub side_of : List Row → Side
 side_of rows = option_map_or named_side (first_of (codes "to") rows) sides.Machine
 
+abbrev pub is_given : Text → List Row → Bool
+is_given name rows = is_some (first_of name rows)
+
+-- the state after the last step, or the states after many: if `--each` or the first of them is given
+abbrev pub asked_state : List Row → Request
+asked_state rows =
+    if flag_of (codes "each") rows || is_given (codes "from") rows
+    then requests.States (flag_of (codes "dot") rows) (number_of (codes "from") 1 rows) (number_of (codes "to") 1000000 rows)
+    else requests.State (flag_of (codes "dot") rows) (number_of (codes "to") 1000000 rows)
+
 -- what a command of this name with these options asks for
 abbrev pub asked : Text → List Row → Request
 asked name rows =
@@ -164,19 +212,22 @@ asked name rows =
     else (if bytes_eq name (codes "compile") then requests.Compile
     else (if bytes_eq name (codes "replay") then requests.Replay (cells_of rows) (flag_of (codes "live") rows)
     else (if bytes_eq name (codes "source") then requests.Source
-    else (if bytes_eq name (codes "trace") then requests.Trace (number_of (codes "from") 1 rows) (number_of (codes "to") 1000000 rows)
+    else (if bytes_eq name (codes "trace")
+    then requests.Trace (number_of (codes "from") 1 rows) (number_of (codes "to") 1000000 rows) (flag_of (codes "fold") rows)
     else (if bytes_eq name (codes "page") then requests.Page (number_of (codes "from") 1 rows) (number_of (codes "to") 1000000 rows)
-    else (if bytes_eq name (codes "state") then requests.State (flag_of (codes "dot") rows)
+    else (if bytes_eq name (codes "state") then asked_state rows
+    else (if bytes_eq name (codes "aim") then requests.Aim
     else (if bytes_eq name (codes "translate") then requests.Translate (side_of rows) (cells_of rows)
     else (if bytes_eq name (codes "live") then requests.Live (cells_of rows) (number_of (codes "limit") 5000 rows)
     else (if bytes_eq name (codes "batch")
-    then requests.Batch (number_of (codes "seed") 0 rows) (number_of (codes "count") 0 rows) (number_of (codes "steps") 0 rows) (cells_of rows)
+    then requests.Batch (number_of (codes "seed") 0 rows) (number_of (codes "count") 0 rows) (number_of (codes "steps") 0 rows) (switch_of rows) (cells_of rows)
     (flag_of (codes "judge") rows)
     else (if bytes_eq name (codes "sample")
-    then requests.Sample (number_of (codes "seed") 0 rows) (number_of (codes "steps") 0 rows) (cells_of rows)
+    then requests.Sample (number_of (codes "seed") 0 rows) (number_of (codes "steps") 0 rows) (switch_of rows) (cells_of rows)
     else (if bytes_eq name (codes "explore")
     then requests.Explore (cells_of rows) (number_of (codes "states") 1000000 rows) (flag_of (codes "illegal") rows) (flag_of (codes "first") rows)
-    else requests.Check)))))))))))
+    else (if bytes_eq name (codes "merge") then requests.Merge (number_asked (codes "count") rows)
+    else requests.Check)))))))))))))
 
 -- with what all commands are asked
 abbrev pub asked_by : Option (Text × List Row) → CommandLine

@@ -3,7 +3,7 @@
 ghost use Rattle.std.specs.Prelude.{◌≡◌, IfOk, codes, false};
 ghost use Rattle.clap.specs.Words.{App, Rule, app_of, rule_of, with_rule, with_subcommand};
 ghost use Rattle.clap.specs.declared.builder.command.Command.TheViews.{out-Command};
-ghost use Rattle.ls_command_line.specs.Words.{NamesSides, batch_line, explore_line, flag_rule, line, live_line, number_rule, page_line, replay_line, sample_line, side_rule, state_line, top_line, trace_line, translate_line, u64_parser, with_explain};
+ghost use Rattle.ls_command_line.specs.Words.{NamesSides, batch_line, explore_line, flag_rule, line, live_line, merge_line, number_rule, page_line, replay_line, sample_line, side_rule, state_line, switch_rule, top_line, trace_line, translate_line, u64_parser, with_explain};
 
 use clap::{Arg, ArgAction, Command};
 use std::alloc::{AllocError, Global};
@@ -94,6 +94,18 @@ fn cells_option<'a>(alloc: Global) -> Arg<'a>
         "cells",
         false,
         "how many words of memory the machine has, 1 to 4194304 [default: 65536]",
+    )
+}
+
+fn switch_option<'a>(alloc: Global) -> Arg<'a>
+    ensures rule { rule_of result ≡ switch_rule }
+    ensures local { result.global ≡ false }
+{
+    number_option(
+        alloc,
+        "switch",
+        false,
+        "draws a step's thread anew by chance 1 in N, 1 to 900000 [default: 1]",
     )
 }
 
@@ -201,7 +213,8 @@ fn batch_command<'a>(alloc: Global) -> Result<Command<'a>, AllocError>
         true,
         "how many steps each sample has behind the setup's, at most 900000",
     );
-    let command = with_option(with_option(command, steps), cells_option(alloc));
+    let command = with_option(with_option(command, steps), switch_option(alloc));
+    let command = with_option(command, cells_option(alloc));
     let judge = flag_option(
         alloc,
         "judge",
@@ -229,7 +242,8 @@ fn sample_command<'a>(alloc: Global) -> Result<Command<'a>, AllocError>
         true,
         "how many steps the sample has after the setup's, at most 900000",
     );
-    with_option(with_option(command, steps), cells_option(alloc))
+    let command = with_option(with_option(command, steps), switch_option(alloc));
+    with_option(command, cells_option(alloc))
 }
 
 fn explore_command<'a>(alloc: Global) -> Result<Command<'a>, AllocError>
@@ -258,6 +272,21 @@ fn explore_command<'a>(alloc: Global) -> Result<Command<'a>, AllocError>
     let command = with_option(command, illegal);
     let first = flag_option(alloc, "first", "prints only the first of the histories");
     with_option(command, first)
+}
+
+fn merge_command<'a>(alloc: Global) -> Result<Command<'a>, AllocError>
+    ensures shape { IfOk result (λ c. app_of c ≡ merge_line) }
+    ensures local { IfOk result (λ c. (out-Command c).has_globals ≡ false) }
+{
+    let command = plain_command(
+        alloc,
+        "merge",
+        "Adds tallies of batch up to the tally of all their seeds",
+        "Standard input is tallies, one after another, with a line %% between them or without:\n  \
+         cat tally.1 tally.2 | listset merge",
+    );
+    let count = number_option(alloc, "count", false, "how many seeds there are in all");
+    with_option(command, count)
 }
 
 fn check_command<'a>(alloc: Global) -> Result<Command<'a>, AllocError>
@@ -336,7 +365,13 @@ fn trace_command<'a>(alloc: Global) -> Result<Command<'a>, AllocError>
         false,
         "the last step that is shown [default: 1000000]",
     );
-    with_option(command, to)
+    let command = with_option(command, to);
+    let fold = flag_option(
+        alloc,
+        "fold",
+        "shows steps that change nothing in one line, and counts each thread's own steps",
+    );
+    with_option(command, fold)
 }
 
 fn page_command<'a>(alloc: Global) -> Result<Command<'a>, AllocError>
@@ -377,9 +412,40 @@ fn state_command<'a>(alloc: Global) -> Result<Command<'a>, AllocError>
         "Standard input has three parts, class text, thread program and schedule, with a line %% between them:\n  \
          listset state < examples/lost_update.txt",
     );
-    with_option(
-        command,
-        flag_option(alloc, "dot", "draws it as a graph for Graphviz"),
+    let dot = flag_option(alloc, "dot", "draws it as a graph for Graphviz");
+    let command = with_option(command, dot);
+    let each = flag_option(
+        alloc,
+        "each",
+        "shows the state after each step, under the step's number",
+    );
+    let command = with_option(command, each);
+    let from = number_option(
+        alloc,
+        "from",
+        false,
+        "the first step after which the state is shown, as with --each [default: 1]",
+    );
+    let command = with_option(command, from);
+    let to = number_option(
+        alloc,
+        "to",
+        false,
+        "the last step that is made [default: 1000000]",
+    );
+    with_option(command, to)
+}
+
+fn aim_command<'a>(alloc: Global) -> Result<Command<'a>, AllocError>
+    ensures shape { IfOk result (λ c. app_of c ≡ with_explain (codes "aim")) }
+    ensures local { IfOk result (λ c. (out-Command c).has_globals ≡ false) }
+{
+    plain_command(
+        alloc,
+        "aim",
+        "Prints the schedule of source steps that stops threads before what they are to do",
+        "Standard input has three parts, class text, thread program and targets, with a line %% between them:\n  \
+         listset aim < examples/lost_update_aimed.txt",
     )
 }
 
@@ -407,9 +473,11 @@ pub(crate) fn program<'a>(alloc: Global) -> Result<Command<'a>, AllocError>
     let program = with_command(program, trace_command(alloc));
     let program = with_command(program, state_command(alloc));
     let program = with_command(program, page_command(alloc));
+    let program = with_command(program, aim_command(alloc));
     let program = with_command(program, translate_command(alloc));
     let program = with_command(program, live_command(alloc));
     let program = with_command(program, batch_command(alloc));
     let program = with_command(program, sample_command(alloc));
-    with_command(program, explore_command(alloc))
+    let program = with_command(program, explore_command(alloc));
+    with_command(program, merge_command(alloc))
 }

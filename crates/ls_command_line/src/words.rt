@@ -2,7 +2,7 @@
 
 ghost use Rattle.std.specs.Prelude.{◌≡◌, codes, map, string_bytes};
 ghost use Rattle.clap.specs.Words.{found_of, rows_of, subcommand_rows_of};
-ghost use Rattle.ls_command_line.specs.Words.{IsWordsAnswer, asked, asked_by, flag_of, named_side, number_of, side_of};
+ghost use Rattle.ls_command_line.specs.Words.{IsWordsAnswer, asked, asked_by, asked_state, flag_of, is_given, named_side, number_asked, number_of, side_of};
 
 use crate::line::program;
 use clap::error::ErrorKind;
@@ -37,16 +37,27 @@ pub enum Request {
     Trace {
         from: u64,
         to: u64,
+        /// Whether neighbouring steps that change nothing are one line.
+        fold: bool,
     },
     /// The steps that the page shows, from and to a number; they are numbered from 1.
     Page {
         from: u64,
         to: u64,
     },
-    /// As a graph, or as text.
+    /// As a graph, or as text; after so many steps.
     State {
         dot: bool,
+        to: u64,
     },
+    /// The states after each step, from and to a number; they are numbered from 1.
+    States {
+        dot: bool,
+        from: u64,
+        to: u64,
+    },
+    /// The schedule to which targets lead.
+    Aim,
     Translate {
         to: Side,
         cells: u64,
@@ -59,14 +70,16 @@ pub enum Request {
         seed: u64,
         count: u64,
         steps: u64,
+        switch: u64,
         cells: u64,
         /// Whether each history is judged.
         judge: bool,
     },
-    /// A seed, its steps after the setup's, and the cells of the machine.
+    /// A seed, its steps after the setup's, by which chance one draws a thread, and the cells of the machine.
     Sample {
         seed: u64,
         steps: u64,
+        switch: u64,
         cells: u64,
     },
     /// The cells of the machine, and the most states that are kept; which histories are printed.
@@ -77,6 +90,10 @@ pub enum Request {
         illegal: bool,
         /// Only the first of them.
         first: bool,
+    },
+    /// The number that the counts are to come to, if one is wanted.
+    Merge {
+        count: Option<u64>,
     },
 }
 
@@ -108,6 +125,9 @@ const STATES: u64 = 1_000_000;
 
 /// The steps that a live run records where no limit is asked for.
 const LIMIT: u64 = 5_000;
+
+/// By which chance a step draws a thread where none is asked for: 1 in so many, so each does.
+const SWITCH: u64 = 1;
 
 /// The last step that is shown where none is asked for: the most that a schedule has.
 const LAST_STEP: u64 = 1_000_000;
@@ -166,6 +186,13 @@ fn number(options: &ArgMatches<'_>, name: &str, default: u64) -> u64
     }
 }
 
+/// The number of an option, if it is given.
+fn number_asked(options: &ArgMatches<'_>, name: &str) -> Option<u64>
+    ensures { result ≡ number_asked name.now (rows_of (found_of options.now)) }
+{
+    options.get_one::<u64>(name)
+}
+
 fn side_named(name: &str) -> Side
     ensures { result ≡ named_side name.now }
 {
@@ -195,6 +222,28 @@ fn flag(options: &ArgMatches<'_>, name: &str) -> bool
     }
 }
 
+/// Whether an option is given.
+fn is_given(options: &ArgMatches<'_>, name: &str) -> bool
+    ensures { result ≡ is_given name.now (rows_of (found_of options.now)) }
+{
+    match options.get_str(name) {
+        Some(_text) => true,
+        None => false,
+    }
+}
+
+fn asked_state(options: &ArgMatches<'_>) -> Request
+    ensures { result ≡ asked_state (rows_of (found_of options.now)) }
+{
+    let dot = flag(options, "dot");
+    let to = number(options, "to", LAST_STEP);
+    if flag(options, "each") || is_given(options, "from") {
+        let from = number(options, "from", 1);
+        return Request::States { dot, from, to };
+    }
+    Request::State { dot, to }
+}
+
 fn asked(name: &str, options: &ArgMatches<'_>) -> Request
     ensures { result ≡ asked name.now (rows_of (found_of options.now)) }
 {
@@ -209,14 +258,14 @@ fn asked(name: &str, options: &ArgMatches<'_>) -> Request
         "trace" => Request::Trace {
             from: number(options, "from", 1),
             to: number(options, "to", LAST_STEP),
+            fold: flag(options, "fold"),
         },
         "page" => Request::Page {
             from: number(options, "from", 1),
             to: number(options, "to", LAST_STEP),
         },
-        "state" => Request::State {
-            dot: flag(options, "dot"),
-        },
+        "state" => asked_state(options),
+        "aim" => Request::Aim,
         "translate" => Request::Translate {
             to: chosen_side(options),
             cells: number(options, "cells", CELLS),
@@ -229,12 +278,14 @@ fn asked(name: &str, options: &ArgMatches<'_>) -> Request
             seed: number(options, "seed", 0),
             count: number(options, "count", 0),
             steps: number(options, "steps", 0),
+            switch: number(options, "switch", SWITCH),
             cells: number(options, "cells", CELLS),
             judge: flag(options, "judge"),
         },
         "sample" => Request::Sample {
             seed: number(options, "seed", 0),
             steps: number(options, "steps", 0),
+            switch: number(options, "switch", SWITCH),
             cells: number(options, "cells", CELLS),
         },
         "explore" => Request::Explore {
@@ -242,6 +293,9 @@ fn asked(name: &str, options: &ArgMatches<'_>) -> Request
             states: number(options, "states", STATES),
             illegal: flag(options, "illegal"),
             first: flag(options, "first"),
+        },
+        "merge" => Request::Merge {
+            count: number_asked(options, "count"),
         },
         _ => Request::Check,
     }

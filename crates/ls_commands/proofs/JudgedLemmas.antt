@@ -45,27 +45,27 @@ module _ (i : Image) (cells : ℕ) (s : Sampling) where
   Bad = AreBadCells (code_of_image i).names cells
 
   abbrev Many : Type 0
-  Many = IsBadCount s.first s.count s.steps
+  Many = IsBadCount s.first s.count s.drawing
 
   abbrev Refused : BatchFault → Result (List Row) BatchFault
   Refused f = Err f
 
   abbrev AreRows : List Row → Type 0
-  AreRows rows = IsTally (histories_of (code_of_image i) cells s.first s.count s.steps) s.first rows
+  AreRows rows = IsTally (histories_of (code_of_image i) cells s.first s.count s.drawing) s.first rows
 
   -- each row's history is that of a machine's run
-  seed_named : RunsAreReadable i → SeedsReplay → ¬ Bad → (seed : ℕ) → IsHistoryOf (plain_program_of i) (history_of (code_of_image i) cells seed s.steps)
+  seed_named : RunsAreReadable i → SeedsReplay → ¬ Bad → (seed : ℕ) → IsHistoryOf (plain_program_of i) (history_of (code_of_image i) cells seed s.drawing)
   seed_named readable replay good seed =
       let code = code_of_image i in
-      let r = replay code cells seed s.steps in
-      let steps = seed_schedule code cells seed s.steps in
+      let r = replay code cells seed s.drawing in
+      let steps = seed_schedule code cells seed s.drawing in
       subst (IsHistoryOf (plain_program_of i)) (sym r.history)
       (readable_named (plain_program_of i) (machine_history code cells steps) (readable cells (are_cells code cells good) steps))
 
   row_named : RunsAreReadable i → SeedsReplay → ¬ Bad → (rows : List Row) → AreRows rows → (k : ℕ) (r : Row) → slice_get rows k ≡ Some r → IsHistoryOf (plain_program_of i) r.history
   row_named readable replay good rows is k r e =
       let t = is.tells k r e in
-      let from = of_one (λ n. history_of (code_of_image i) cells (s.first + n) s.steps) (range_with_len 0 s.count) t.at r.history t.there in
+      let from = of_one (λ n. history_of (code_of_image i) cells (s.first + n) s.drawing) (range_with_len 0 s.count) t.at r.history t.there in
       subst (IsHistoryOf (plain_program_of i)) (sym from.1) (seed_named readable replay good (s.first + from.0))
 
   pub rows_named : RunsAreReadable i → SeedsReplay → (rows : List Row) → (IsErrOf {E = BatchFault} (Ok rows) batch.BadCells ↔ Bad) → AreRows rows → AreHistoriesOf (plain_program_of i) rows

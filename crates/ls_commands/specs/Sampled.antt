@@ -1,5 +1,5 @@
 -- What the command `sample` says.
-use Rattle.std.specs.Prelude.{◌≡◌, ℕ, ◌≤◌, Result, Ok, Err}
+use Rattle.std.specs.Prelude.{◌≡◌, ℕ, Result, Ok, Err}
 use Rattle.ls_machine.specs.Room.{AreBadCells}
 use Rattle.ls_image.specs.Images.{code_of_image}
 use Rattle.ls_image.specs.declared.image.Image.{Image}
@@ -7,6 +7,7 @@ use Rattle.ls_schedule.specs.Printing.{schedule_text}
 use Rattle.ls_schedule.specs.Reading.{schedule_of}
 use Rattle.ls_batch.specs.Samples.{history_of, IsBadCount, seed_schedule}
 use Rattle.ls_batch.specs.declared.fault.BatchFault.TheVariants as batch
+use Rattle.ls_batch.specs.declared.samples.Drawing.{Drawing}
 use Rattle.ls_report.specs.Events.{Text}
 use Rattle.ls_report.specs.Printing.{run_text}
 use Rattle.ls_faults.specs.declared.fault.ToolFault.{ToolFault}
@@ -14,23 +15,23 @@ use Rattle.ls_faults.specs.declared.fault.ToolFault.TheVariants as faults
 use Rattle.ls_commands.specs.Compiled.{AnswersOn, names_of_image, plain_program_of, Replayed}
 
 -- the schedule that `batch` runs for the seed
-abbrev pub sample_text : Image → ℕ → ℕ → ℕ → Text
-sample_text i cells seed steps = schedule_text (names_of_image i) (seed_schedule (code_of_image i) cells seed steps)
+abbrev pub sample_text : Image → ℕ → ℕ → Drawing → Text
+sample_text i cells seed d = schedule_text (names_of_image i) (seed_schedule (code_of_image i) cells seed d)
 
 -- What is printed reads back as the seed's schedule, and `replay` of it prints the history that `batch` counts for the seed.
-pub record ReplaysAsSeed (i : Image) (cells seed steps : ℕ) : Type 0 where
-  pub schedule : schedule_of (names_of_image i) (sample_text i cells seed steps) ≡ Ok (seed_schedule (code_of_image i) cells seed steps)
-  pub replays : Replayed i cells (schedule_of (names_of_image i) (sample_text i cells seed steps))
-      (Ok (run_text (plain_program_of i) (history_of (code_of_image i) cells seed steps)))
+pub record ReplaysAsSeed (i : Image) (cells seed : ℕ) (d : Drawing) : Type 0 where
+  pub schedule : schedule_of (names_of_image i) (sample_text i cells seed d) ≡ Ok (seed_schedule (code_of_image i) cells seed d)
+  pub replays : Replayed i cells (schedule_of (names_of_image i) (sample_text i cells seed d))
+      (Ok (run_text (plain_program_of i) (history_of (code_of_image i) cells seed d)))
 
--- The schedule of the seed, of which more is said; or the cells are too few or too many, or the steps too many.
-pub data Sampled (i : Image) (cells seed steps : ℕ) (More : Type 0) : Result Text ToolFault → Type 0 where
-  Samples : ¬ AreBadCells (code_of_image i).names cells → steps ≤ 900000 → More → Sampled i cells seed steps More (Ok (sample_text i cells seed steps))
-  NoCells : AreBadCells (code_of_image i).names cells → Sampled i cells seed steps More (Err faults.BadCells)
-  BadCount : ¬ AreBadCells (code_of_image i).names cells → IsBadCount seed 1 steps → Sampled i cells seed steps More (Err (faults.Batch batch.BadCount))
+-- The schedule of the seed, of which more is said; or the cells are too few or too many, or the drawing is bad.
+pub data Sampled (i : Image) (cells seed : ℕ) (d : Drawing) (More : Type 0) : Result Text ToolFault → Type 0 where
+  Samples : ¬ AreBadCells (code_of_image i).names cells → ¬ IsBadCount seed 1 d → More → Sampled i cells seed d More (Ok (sample_text i cells seed d))
+  NoCells : AreBadCells (code_of_image i).names cells → Sampled i cells seed d More (Err faults.BadCells)
+  BadCount : ¬ AreBadCells (code_of_image i).names cells → IsBadCount seed 1 d → Sampled i cells seed d More (Err (faults.Batch batch.BadCount))
 
-abbrev pub SampledOf : ℕ → ℕ → ℕ → Image → Result Text ToolFault → Type 0
-SampledOf cells seed steps i answer = Sampled i cells seed steps (ReplaysAsSeed i cells seed steps) answer
+abbrev pub SampledOf : ℕ → ℕ → Drawing → Image → Result Text ToolFault → Type 0
+SampledOf cells seed d i answer = Sampled i cells seed d (ReplaysAsSeed i cells seed d) answer
 
-abbrev pub SamplesTo : ℕ → ℕ → ℕ → Text → Text → Result Text ToolFault → Type 0
-SamplesTo cells seed steps classes program answer = AnswersOn classes program (SampledOf cells seed steps) answer
+abbrev pub SamplesTo : ℕ → ℕ → Drawing → Text → Text → Result Text ToolFault → Type 0
+SamplesTo cells seed d classes program answer = AnswersOn classes program (SampledOf cells seed d) answer

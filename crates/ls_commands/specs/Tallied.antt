@@ -7,21 +7,25 @@ use Rattle.ls_batch.specs.Printing.{tally_text}
 use Rattle.ls_batch.specs.Samples.{histories_of, IsBadCount}
 use Rattle.ls_batch_tally.specs.Tallies.{IsTally, Row}
 use Rattle.ls_batch.specs.declared.fault.BatchFault.TheVariants as batch
+use Rattle.ls_batch.specs.declared.samples.Drawing.{Drawing}
 use Rattle.ls_report.specs.Events.{Text}
 use Rattle.ls_faults.specs.declared.fault.ToolFault.{ToolFault}
 use Rattle.ls_faults.specs.declared.fault.ToolFault.TheVariants as faults
 use Rattle.ls_commands.specs.declared.tallying.Sampling.{Sampling}
 use Rattle.ls_commands.specs.Compiled.{AnswersOn, plain_program_of}
 
-abbrev pub sampling : ℕ → ℕ → ℕ → Sampling
-sampling first count steps = record { first = first; count = count; steps = steps }
+abbrev pub drawing : ℕ → ℕ → Drawing
+drawing steps switch = record { steps = steps; switch = switch }
 
--- the tally of the seeds' histories; or the cells are too few or too many, or the seeds or the steps
+abbrev pub sampling : ℕ → ℕ → Drawing → Sampling
+sampling first count d = record { first = first; count = count; drawing = d }
+
+-- the tally of the seeds' histories; or the cells are too few or too many, or the seeds or the drawing are bad
 pub data Tallied (i : Image) (cells : ℕ) (s : Sampling) : Result Text ToolFault → Type 0 where
-  Tallies : (rows : List Row) → ¬ AreBadCells (code_of_image i).names cells → ¬ IsBadCount s.first s.count s.steps →
-      IsTally (histories_of (code_of_image i) cells s.first s.count s.steps) s.first rows → Tallied i cells s (Ok (tally_text (plain_program_of i) rows))
+  Tallies : (rows : List Row) → ¬ AreBadCells (code_of_image i).names cells → ¬ IsBadCount s.first s.count s.drawing →
+      IsTally (histories_of (code_of_image i) cells s.first s.count s.drawing) s.first rows → Tallied i cells s (Ok (tally_text (plain_program_of i) rows))
   NoCells : AreBadCells (code_of_image i).names cells → Tallied i cells s (Err faults.BadCells)
-  BadCount : ¬ AreBadCells (code_of_image i).names cells → IsBadCount s.first s.count s.steps → Tallied i cells s (Err (faults.Batch batch.BadCount))
+  BadCount : ¬ AreBadCells (code_of_image i).names cells → IsBadCount s.first s.count s.drawing → Tallied i cells s (Err (faults.Batch batch.BadCount))
 
 abbrev pub TalliesTo : ℕ → Sampling → Text → Text → Result Text ToolFault → Type 0
 TalliesTo cells s classes program answer = AnswersOn classes program (λ i. Tallied i cells s) answer

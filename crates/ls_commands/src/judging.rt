@@ -33,7 +33,7 @@ fn judged(
         cells,
         sampling.first,
         sampling.count,
-        sampling.steps,
+        sampling.drawing,
     )?;
     Ok(print_judged(alloc, &tally, image.program())?)
 }

@@ -31,7 +31,7 @@ impl Gate for Open {
     fn pass(&self, _thread: usize) {}
 }
 
-/// The schedule of a record, and its history behind it.
+/// The schedule of a record, and after it its history.
 fn record_text(alloc: Global, kept: &Record, program: &Program) -> Result<String, AllocError>
     ensures { IfOk result (λ text. string_bytes text ≡ schedule_text (thread_names program.now) (scheduled kept.now) ++ run_text (plain_program program.now) (happened kept.now)) }
 {

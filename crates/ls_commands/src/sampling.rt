@@ -3,6 +3,7 @@
 ghost use Rattle.ls_commands.specs.Sampled.{Sampled, SamplesTo};
 ghost use Rattle.ls_faults.specs.Given.{Gives};
 
+use crate::tallying::Drawing;
 use ls_batch::laws::seeds_replay;
 use ls_compiler::compile::compile;
 use ls_faults::fault::ToolFault;
@@ -17,28 +18,28 @@ fn sampled(
     image: &Image,
     cells: usize,
     seed: u64,
-    steps: usize,
+    drawing: Drawing,
 ) -> Result<String, ToolFault>
-    ensures { Gives (Sampled image.now cells seed steps (Unit {0})) result }
+    ensures { Gives (Sampled image.now cells seed drawing (Unit {0})) result }
 {
-    let schedule = ls_batch::sampled(alloc, image, cells, seed, steps)?;
+    let schedule = ls_batch::sampled(alloc, image, cells, seed, drawing)?;
     Ok(print_schedule(alloc, &schedule, image.program())?)
 }
 
-/// The schedule of machine instructions that `batch` runs for a seed of the compiled program: the setup's steps, then so many
-/// drawn ones. `replay` of it prints the history that `batch` counts for the seed.
+/// The schedule of machine instructions that `batch` runs for a seed of the compiled program: the setup's steps, then those
+/// that are drawn. `replay` of it prints the history that `batch` counts for the seed.
 pub fn sample(
     alloc: Global,
     cells: usize,
     seed: u64,
-    steps: usize,
+    drawing: Drawing,
     classes: &str,
     program: &str,
 ) -> Result<String, ToolFault>
-    ensures { Gives (SamplesTo cells seed steps classes.now program.now) result }
+    ensures { Gives (SamplesTo cells seed drawing classes.now program.now) result }
 {
     let image = compile(alloc, classes, program)?;
     schedules_read_back();
     seeds_replay();
-    sampled(alloc, &image, cells, seed, steps)
+    sampled(alloc, &image, cells, seed, drawing)
 }

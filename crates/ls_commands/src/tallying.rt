@@ -3,6 +3,7 @@
 ghost use Rattle.ls_commands.specs.Tallied.{Tallied, TalliesTo};
 ghost use Rattle.ls_faults.specs.Given.{Gives};
 
+pub use ls_batch::Drawing;
 use ls_batch::print_tally;
 use ls_compiler::compile::compile;
 use ls_faults::fault::ToolFault;
@@ -10,12 +11,12 @@ use ls_image::image::Image;
 use std::alloc::{AllocError, Global};
 use std::thread::Threads;
 
-/// Which seeds are run, and how many steps each sample has behind the setup's.
+/// Which seeds are run, and how the steps after the setup's are drawn.
 #[derive(Copy)]
 pub struct Sampling {
     pub first: u64,
     pub count: usize,
-    pub steps: usize,
+    pub drawing: Drawing,
 }
 
 impl Clone for Sampling {
@@ -45,7 +46,7 @@ fn tallied(
         cells,
         sampling.first,
         sampling.count,
-        sampling.steps,
+        sampling.drawing,
     )?;
     Ok(print_tally(alloc, &tally, image.program())?)
 }

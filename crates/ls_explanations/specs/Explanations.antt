@@ -1,4 +1,4 @@
--- What is said behind the line of a fault.
+-- What is said after the line of a fault.
 use Rattle.std.specs.Prelude.{ℕ, nat_lt, ◌+◌, ◌-◌, ◌==◌, ◌&&◌, max, Bool, true, false, List, [], ◌∷◌, ◌++◌, length, take, Option, Some, None, replicate, slice_get, codes, if◌then◌else◌}
 use Rattle.std.specs.Fmt.{decimal}
 use Rattle.std.specs.List.{flat_map, list_any}
@@ -19,20 +19,22 @@ part_name parts.Program = codes "program"
 part_name parts.Schedule = codes "schedule"
 part_name parts.History = codes "history"
 part_name parts.Order = codes "order"
+part_name parts.Tallies = codes "tallies"
 
--- which part of an input of so many it is, from 0: an order is the last
+-- the number of the part, from 0, in an input of `count` parts; an order is the last part
 abbrev pub part_number : Part → ℕ → ℕ
 part_number parts.Classes count = 0
 part_number parts.Program count = 1
 part_number parts.Schedule count = 2
 part_number parts.History count = 0
 part_number parts.Order count = count - 1
+part_number parts.Tallies count = 0
 
 -- a space below each character, a tab below a tab
 abbrev pub space_below : ℕ → Bytes
 space_below byte = if begins_character byte then (if byte == 9 then 9 else 32) ∷ [] else []
 
--- a mark below each character of the place that stands in its line, and at least one
+-- a mark below each character of the place, as far as the place is in its line, and at least one mark
 abbrev pub marks : Bytes → Span → Bytes
 marks text span = replicate (max 1 (characters (take (span.end - span.start) (from_on text span.start)))) 94
 
@@ -42,7 +44,7 @@ heading part text at =
     part_name part ++ (codes ", line " ++ (decimal (line_number text at)
     ++ (codes ", column " ++ (decimal (1 + characters (before text at)) ++ codes ":\n"))))
 
--- the line of the place, and under it a mark
+-- the line of the place, and a mark under the place
 abbrev pub shown : Bytes → Span → Bytes
 shown text span =
     before text span.start ++ (from_on text span.start ++ (10 ∷ (flat_map space_below (before text span.start) ++ (marks text span ++ 10 ∷ []))))
@@ -50,18 +52,18 @@ shown text span =
 abbrev pub explanation : Place → Bytes → Bytes
 explanation place text = heading place.part text place.span.start ++ shown text place.span
 
--- a part, empty where there is none
+-- a part, or nothing if there is none
 abbrev pub part_text : List Bytes → ℕ → Bytes
 part_text texts number = option_map_or (λ t. t) (slice_get texts number) []
 
--- nothing where there is no such part
+-- nothing if the part doesn't exist
 abbrev pub in_part : List Bytes → Place → Bytes
 in_part texts place =
     if nat_lt (part_number place.part (length texts)) (length texts)
     then explanation place (part_text texts (part_number place.part (length texts)))
     else []
 
--- a carriage return is a part of its line in histories and where parts are cut, and a gap or white space elsewhere
+-- A carriage return is a part of its line in histories and where parts are cut. Elsewhere it is a gap or white space.
 abbrev pub minds_returns : ToolFault → Bool
 minds_returns faults.WrongParts = true
 minds_returns (faults.History f) = true
@@ -76,12 +78,12 @@ return_hint = codes "lines end with a line feed alone here, and the input has ca
 abbrev pub hint : ToolFault → List Bytes → Bytes
 hint f texts = if minds_returns f && list_any has_return texts then return_hint else []
 
--- what is said where the command reads another number of parts
+-- what is said if the command reads another number of parts
 abbrev pub counted : ToolFault → ℕ → Bytes
 counted faults.WrongParts count = codes "parts of this input: " ++ (decimal count ++ codes "\n")
 counted _ count = []
 
--- What is said of a fault of these parts: where it stands, if it has a place, and what is wrong there.
+-- What is said of a fault of these parts: where it is, if it has a place, and what is wrong there.
 abbrev pub note : ToolFault → List Bytes → Bytes
 note f texts =
     option_map_or (in_part texts) (place_of f) []

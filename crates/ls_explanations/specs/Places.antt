@@ -1,4 +1,4 @@
--- Where a fault stands.
+-- The place of a fault.
 use Rattle.std.specs.Prelude.{ℕ, Option, Some, None}
 use Rattle.ls_lexer.specs.declared.token.Span.{Span}
 use Rattle.ls_lexer.specs.declared.fault.TextFault.{TextFault}
@@ -9,10 +9,14 @@ use Rattle.ls_types.specs.declared.fault.ProgramFault.{ProgramFault}
 use Rattle.ls_types.specs.declared.fault.ProgramFault.TheVariants as program
 use Rattle.ls_schedule.specs.declared.fault.ScheduleFault.{ScheduleFault}
 use Rattle.ls_schedule.specs.declared.fault.ScheduleFault.TheVariants as schedule
+use Rattle.ls_aim.specs.declared.fault.AimFault.{AimFault}
+use Rattle.ls_aim.specs.declared.fault.AimFault.TheVariants as aim
 use Rattle.ls_report.specs.declared.fault.HistoryFault.{HistoryFault}
 use Rattle.ls_report.specs.declared.fault.HistoryFault.TheVariants as history
 use Rattle.ls_orders.specs.declared.fault.OrderFault.{OrderFault}
 use Rattle.ls_orders.specs.declared.fault.OrderFault.TheVariants as order
+use Rattle.ls_tallies_reading.specs.declared.fault.TallyFault.{TallyFault}
+use Rattle.ls_tallies_reading.specs.declared.fault.TallyFault.TheVariants as tally
 use Rattle.ls_faults.specs.declared.fault.ToolFault.{ToolFault}
 use Rattle.ls_faults.specs.declared.fault.ToolFault.TheVariants as faults
 use Rattle.ls_explanations.specs.declared.place.Part.{Part}
@@ -53,6 +57,13 @@ schedule_place (schedule.BadItem at) = at_byte parts.Schedule at
 schedule_place (schedule.UnknownThread at) = at_byte parts.Schedule at
 schedule_place schedule.TooManySteps = None
 
+abbrev pub aim_place : AimFault → Option Place
+aim_place aim.Memory = None
+aim_place (aim.Schedule f) = schedule_place f
+aim_place (aim.NotStarted at) = at_byte parts.Schedule at
+aim_place (aim.NotMet at) = at_byte parts.Schedule at
+aim_place (aim.TooFar at) = at_byte parts.Schedule at
+
 abbrev pub history_place : HistoryFault → Option Place
 history_place history.Memory = None
 history_place (history.BadHistory at) = at_byte parts.History at
@@ -61,12 +72,20 @@ abbrev pub order_place : OrderFault → Option Place
 order_place order.Memory = None
 order_place (order.BadOrder at) = at_byte parts.Order at
 
--- limits of whole texts, and faults of a run and of the streams, stand at no place
+abbrev pub tally_place : TallyFault → Option Place
+tally_place tally.Memory = None
+tally_place (tally.BadTally at) = at_byte parts.Tallies at
+tally_place tally.CountTooGreat = None
+tally_place tally.OtherCount = None
+
+-- limits of whole texts, faults of a run and faults of the streams have no place
 abbrev pub place_of : ToolFault → Option Place
 place_of (faults.Text f) = text_place f
 place_of (faults.Check f) = check_place f
 place_of (faults.Program f) = program_place f
 place_of (faults.Schedule f) = schedule_place f
+place_of (faults.Aim f) = aim_place f
 place_of (faults.History f) = history_place f
 place_of (faults.Order f) = order_place f
+place_of (faults.Tally f) = tally_place f
 place_of _ = None

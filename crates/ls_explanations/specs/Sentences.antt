@@ -1,4 +1,5 @@
--- What is wrong at a fault, and what to write in its place, in a sentence or two; nothing where the fault's name says it.
+-- What is wrong at a fault, and what to write in its place, in a sentence or two. If the fault's name says it,
+-- nothing.
 use Rattle.std.specs.Prelude.{ℕ, [], codes}
 use Rattle.ls_lexer.specs.declared.fault.TextFault.{TextFault}
 use Rattle.ls_lexer.specs.declared.fault.TextFault.TheVariants as text
@@ -10,8 +11,11 @@ use Rattle.ls_types.specs.declared.fault.ProgramFault.{ProgramFault}
 use Rattle.ls_types.specs.declared.fault.ProgramFault.TheVariants as program
 use Rattle.ls_schedule.specs.declared.fault.ScheduleFault.{ScheduleFault}
 use Rattle.ls_schedule.specs.declared.fault.ScheduleFault.TheVariants as schedule
+use Rattle.ls_aim.specs.declared.fault.AimFault.{AimFault}
+use Rattle.ls_aim.specs.declared.fault.AimFault.TheVariants as aim
 use Rattle.ls_report.specs.declared.fault.HistoryFault.TheVariants as history
 use Rattle.ls_orders.specs.declared.fault.OrderFault.TheVariants as order
+use Rattle.ls_tallies_reading.specs.declared.fault.TallyFault.TheVariants as tally
 use Rattle.ls_faults.specs.declared.fault.ToolFault.{ToolFault}
 use Rattle.ls_faults.specs.declared.fault.ToolFault.TheVariants as faults
 use Rattle.ls_lessons.specs.Tokens.{Bytes, byte_at}
@@ -66,13 +70,23 @@ schedule_sentence (schedule.BadItem at) = codes "an item is a name, or a name wi
 schedule_sentence (schedule.UnknownThread at) =
     codes "no thread of the program is named so. Items name its threads, setup, or all\n"
 
--- the class text is the first part, where there is one
+abbrev pub aim_sentence : AimFault → Bytes
+aim_sentence aim.Memory = []
+aim_sentence (aim.Schedule f) = schedule_sentence f
+aim_sentence (aim.NotStarted at) = codes "this thread hasn't started: before it the setup has to end, as setup! lets it\n"
+aim_sentence (aim.NotMet at) =
+    codes "this thread ends or waits before a step with this text. trace shows the text of each step\n"
+aim_sentence (aim.TooFar at) = codes "this thread goes on without it until the schedule has 1,000,000 steps\n"
+
+-- the class text is the first part, if there is one
 abbrev pub sentence : ToolFault → Bytes → Bytes
 sentence (faults.Text f) classes = text_sentence f classes
 sentence (faults.Check f) classes = check_sentence f classes
 sentence (faults.Program f) classes = program_sentence f
 sentence (faults.Schedule f) classes = schedule_sentence f
+sentence (faults.Aim f) classes = aim_sentence f
 sentence (faults.History (history.BadHistory at)) classes =
     codes "no history goes on so: a thread's calls are numbered 1, 2 .., and an answer follows its call\n"
 sentence (faults.Order (order.BadOrder at)) classes = codes "an item of an order is a call, as A.1\n"
+sentence (faults.Tally (tally.BadTally at)) classes = codes "here begins no line as seed 7 count 3 with a history after it and an empty line at its end\n"
 sentence _ classes = []

@@ -1,4 +1,4 @@
--- The line of a text in which a byte stands.
+-- The line of a text that has a given byte.
 use Rattle.std.specs.Prelude.{ℕ, ◌+◌, ◌-◌, ◌==◌, Bool, true, List, length, take, drop, not, nat_lt, if◌then◌else◌}
 use Rattle.std.specs.List.{before_first, count_by, suffix_len}
 
@@ -15,7 +15,7 @@ begins_character byte = if nat_lt byte 128 then true else not (nat_lt byte 192)
 abbrev pub characters : Bytes → ℕ
 characters bytes = count_by begins_character bytes
 
--- what stands behind the last line feed
+-- the text after the last line feed
 abbrev pub last_line : Bytes → Bytes
 last_line bytes = drop (length bytes - suffix_len (λ b. not (is_feed b)) bytes) bytes
 
@@ -23,10 +23,10 @@ last_line bytes = drop (length bytes - suffix_len (λ b. not (is_feed b)) bytes)
 abbrev pub line_number : Bytes → ℕ → ℕ
 line_number text at = 1 + count_by is_feed (take at text)
 
--- what stands before a byte in its line
+-- the text of a byte's line before the byte
 abbrev pub before : Bytes → ℕ → Bytes
 before text at = last_line (take at text)
 
--- and what stands from it on
+-- the text from the byte on
 abbrev pub from_on : Bytes → ℕ → Bytes
 from_on text at = before_first is_feed (drop at text)

@@ -1,4 +1,4 @@
-// What is said behind the line of a fault.
+// What is said after the line of a fault.
 
 ghost use Rattle.std.specs.Prelude.{◌≡◌, ◌++◌, IfOk, OnOk, length, map, replicate, string_bytes};
 ghost use Rattle.std.specs.List.{flat_map, list_any};
@@ -12,11 +12,11 @@ use ls_lexer::token::Span;
 use std::alloc::{AllocError, Global};
 use std::fmt::Write;
 
-/// What is said where a carriage return is a part of its line.
+/// What is said if a carriage return is a part of its line.
 const RETURN_HINT: &str =
     "lines end with a line feed alone here, and the input has carriage returns\n";
 
-/// The part, and the line and column of a byte.
+/// Adds the name of the part, and the line and column of a byte.
 fn push_heading(
     alloc: Global,
     out: &mut Vec<u8>,
@@ -55,7 +55,7 @@ fn push_marks(out: &mut Vec<u8>, count: usize) -> Result<(), AllocError>
     Ok(())
 }
 
-/// The line of a place, and a mark under it.
+/// Adds the line of a place, and a mark under the place.
 fn push_shown(out: &mut Vec<u8>, text: &[u8], span: Span) -> Result<(), AllocError>
     ensures { OnOk result (out.new.items ≡ out.old.items ++ shown text.now span) }
 {
@@ -93,7 +93,7 @@ fn count_of(texts: &[String]) -> usize
     texts.len()
 }
 
-/// A part, empty where there is none.
+/// A part, or nothing if there is none.
 fn part_text(texts: &[String], number: usize) -> &[u8]
     ensures { result.now ≡ part_text (map string_bytes texts.now) number }
 {
@@ -103,7 +103,7 @@ fn part_text(texts: &[String], number: usize) -> &[u8]
     }
 }
 
-/// What is said of a place in its part, if there is such a part.
+/// Adds what is said of a place in its part, if the part exists.
 fn push_in_part(
     alloc: Global,
     out: &mut Vec<u8>,
@@ -147,7 +147,7 @@ fn push_hint(out: &mut Vec<u8>, fault: ToolFault, texts: &[String]) -> Result<()
     Ok(())
 }
 
-/// How many parts there are, where the command reads another number of them.
+/// If the command reads another number of parts, adds how many there are.
 fn push_count(
     alloc: Global,
     out: &mut Vec<u8>,
@@ -166,8 +166,9 @@ fn push_count(
     }
 }
 
-/// What is said of a fault after its line, as bytes to write: where its place is, the line of that place with marks under it, and what
-/// is wrong there. A fault without a place has a sentence or a hint, or nothing.
+/// What is said of a fault after its line, as bytes to write. It has where its place is, the line of that place with
+/// marks under it, and what is wrong there. A fault without a place has a sentence or a hint, or nothing. The only
+/// refusal is that memory ran out.
 pub fn explain(alloc: Global, fault: ToolFault, texts: &[String]) -> Result<Vec<u8>, AllocError>
     ensures { IfOk result (λ bytes. bytes.items ≡ note fault (map string_bytes texts.now)) }
 {

@@ -1,5 +1,5 @@
-//! What `--explain` says behind a fault's line: the line of the text in which it stands, with a mark under its place, and
-//! what to write there.
+//! What `--explain` says after a fault's line: the line of the text, with a mark under the fault's place, and what to
+//! write there.
 #![tactic(auto)]
 
 mod explaining;

@@ -1,16 +1,18 @@
-// Where a fault stands.
+// The place of a fault.
 
 ghost use Rattle.std.specs.Prelude.{◌≡◌};
 ghost use Rattle.ls_explanations.specs.declared.place.Part.TheVariants as parts;
-ghost use Rattle.ls_explanations.specs.Places.{at_byte as byte_place, at_span as span_place, check_place, history_place, order_place, place_of, program_place, schedule_place, text_place};
+ghost use Rattle.ls_explanations.specs.Places.{aim_place, at_byte as byte_place, at_span as span_place, check_place, history_place, order_place, place_of, program_place, schedule_place, tally_place, text_place};
 ghost use Rattle.ls_explanations.specs.Explanations.{part_name, part_number};
 
+use ls_aim::fault::AimFault;
 use ls_faults::fault::ToolFault;
 use ls_lexer::fault::TextFault;
 use ls_lexer::token::Span;
 use ls_orders::OrderFault;
 use ls_report::HistoryFault;
 use ls_schedule::fault::ScheduleFault;
+use ls_tallies_reading::TallyFault;
 use ls_types::check::CheckFault;
 use ls_types::fault::ProgramFault;
 use std::alloc::AllocError;
@@ -23,6 +25,7 @@ pub enum Part {
     Schedule,
     History,
     Order,
+    Tallies,
 }
 
 impl Clone for Part {
@@ -32,12 +35,12 @@ impl Clone for Part {
 }
 
 impl Part {
-    /// Which part of an input of so many parts it is, from 0. An order is the last.
+    /// The number of the part, from 0, in an input of `count` parts. An order is the last part.
     pub fn number(self, count: usize) -> usize
         ensures { result ≡ part_number self count }
     {
         match self {
-            Part::Classes | Part::History => 0,
+            Part::Classes | Part::History | Part::Tallies => 0,
             Part::Program => 1,
             Part::Schedule => 2,
             Part::Order => count.saturating_sub(1),
@@ -54,6 +57,7 @@ impl Part {
             Part::Schedule => "schedule",
             Part::History => "history",
             Part::Order => "order",
+            Part::Tallies => "tallies",
         }
     }
 }
@@ -132,6 +136,18 @@ fn schedule_place(fault: ScheduleFault) -> Option<Place>
     }
 }
 
+fn aim_place(fault: AimFault) -> Option<Place>
+    ensures { result ≡ aim_place fault }
+{
+    match fault {
+        AimFault::Memory => None,
+        AimFault::Schedule(fault) => schedule_place(fault),
+        AimFault::NotStarted { at } | AimFault::NotMet { at } | AimFault::TooFar { at } => {
+            at_byte(Part::Schedule, at)
+        }
+    }
+}
+
 fn history_place(fault: HistoryFault) -> Option<Place>
     ensures { result ≡ history_place fault }
 {
@@ -150,8 +166,17 @@ fn order_place(fault: OrderFault) -> Option<Place>
     }
 }
 
-/// Where the fault stands in its part. Those of programs, schedules, histories and orders stand at one byte; limits of whole
-/// texts, faults of a run and of the streams stand at no place.
+fn tally_place(fault: TallyFault) -> Option<Place>
+    ensures { result ≡ tally_place fault }
+{
+    match fault {
+        TallyFault::BadTally { at } => at_byte(Part::Tallies, at),
+        TallyFault::Memory | TallyFault::CountTooGreat | TallyFault::OtherCount => None,
+    }
+}
+
+/// The place of a fault in its part, or none. Faults of programs, schedules, histories, orders and tallies are at one
+/// byte. Limits of whole texts, faults of a run and faults of the streams have no place.
 pub fn place_of(fault: ToolFault) -> Option<Place>
     ensures { result ≡ place_of fault }
 {
@@ -160,8 +185,10 @@ pub fn place_of(fault: ToolFault) -> Option<Place>
         ToolFault::Check(fault) => check_place(fault),
         ToolFault::Program(fault) => program_place(fault),
         ToolFault::Schedule(fault) => schedule_place(fault),
+        ToolFault::Aim(fault) => aim_place(fault),
         ToolFault::History(fault) => history_place(fault),
         ToolFault::Order(fault) => order_place(fault),
+        ToolFault::Tally(fault) => tally_place(fault),
         _ => None,
     }
 }

@@ -1,15 +1,17 @@
 // What is wrong at a fault, and what to write in its place.
 
 ghost use Rattle.std.specs.Prelude.{◌≡◌};
-ghost use Rattle.ls_explanations.specs.Sentences.{check_sentence, program_sentence, rule_sentence, schedule_sentence, sentence, text_sentence};
+ghost use Rattle.ls_explanations.specs.Sentences.{aim_sentence, check_sentence, program_sentence, rule_sentence, schedule_sentence, sentence, text_sentence};
 ghost use Rattle.ls_lessons.specs.Tokens.{byte_at};
 
+use ls_aim::fault::AimFault;
 use ls_faults::fault::ToolFault;
 use ls_lessons::{byte_at, byte_lesson, name_lesson, syntax_lesson, type_lesson};
 use ls_lexer::fault::TextFault;
 use ls_orders::OrderFault;
 use ls_report::HistoryFault;
 use ls_schedule::fault::ScheduleFault;
+use ls_tallies_reading::TallyFault;
 use ls_types::check::CheckFault;
 use ls_types::fault::ProgramFault;
 use ls_types_elaboration::rule::Rule;
@@ -97,7 +99,26 @@ fn schedule_sentence(fault: ScheduleFault) -> &'static str
     }
 }
 
-/// What is said of a fault in a sentence or two; the class text is the first part of its input, if there is one.
+fn aim_sentence(fault: AimFault) -> &'static str
+    ensures { result.now ≡ aim_sentence fault }
+{
+    match fault {
+        AimFault::Memory => "",
+        AimFault::Schedule(fault) => schedule_sentence(fault),
+        AimFault::NotStarted { at: _ } => {
+            "this thread hasn't started: before it the setup has to end, as setup! lets it\n"
+        }
+        AimFault::NotMet { at: _ } => {
+            "this thread ends or waits before a step with this text. trace shows the text of each step\n"
+        }
+        AimFault::TooFar { at: _ } => {
+            "this thread goes on without it until the schedule has 1,000,000 steps\n"
+        }
+    }
+}
+
+/// What is said of a fault in a sentence or two. `classes` is the class text, which is the first part of the input, if
+/// there is one.
 pub(crate) fn sentence(fault: ToolFault, classes: &[u8]) -> &'static str
     ensures { result.now ≡ sentence fault classes.now }
 {
@@ -106,11 +127,15 @@ pub(crate) fn sentence(fault: ToolFault, classes: &[u8]) -> &'static str
         ToolFault::Check(fault) => check_sentence(fault, classes),
         ToolFault::Program(fault) => program_sentence(fault),
         ToolFault::Schedule(fault) => schedule_sentence(fault),
+        ToolFault::Aim(fault) => aim_sentence(fault),
         ToolFault::History(HistoryFault::BadHistory { at: _ }) => {
             "no history goes on so: a thread's calls are numbered 1, 2 .., and an answer follows its call\n"
         }
         ToolFault::Order(OrderFault::BadOrder { at: _ }) => {
             "an item of an order is a call, as A.1\n"
+        }
+        ToolFault::Tally(TallyFault::BadTally { at: _ }) => {
+            "here begins no line as seed 7 count 3 with a history after it and an empty line at its end\n"
         }
         _ => "",
     }

@@ -1,4 +1,4 @@
-// The line of a text in which a byte stands.
+// The line of a text that has a given byte.
 
 ghost use Rattle.std.specs.Prelude.{◌≡◌};
 ghost use Rattle.std.specs.List.{before_first, count_by};
@@ -36,7 +36,7 @@ fn feeds(bytes: &[u8]) -> usize
     count
 }
 
-/// What stands behind the last line feed.
+/// The text after the last line feed.
 fn last_line(bytes: &[u8]) -> &[u8]
     ensures { result.now ≡ last_line bytes.now }
 {
@@ -47,7 +47,7 @@ fn last_line(bytes: &[u8]) -> &[u8]
     &bytes[start..]
 }
 
-/// What stands before the first line feed.
+/// The text before the first line feed.
 fn first_line(bytes: &[u8]) -> &[u8]
     ensures { result.now ≡ before_first is_feed bytes.now }
 {
@@ -58,18 +58,18 @@ fn first_line(bytes: &[u8]) -> &[u8]
     &bytes[..end]
 }
 
-/// Where a byte of a text stands.
+/// The line and column of a byte of a text.
 #[derive(Clone, Copy)]
 pub(crate) struct Spot<'t> {
     /// The number of its line, from 1.
     pub line: usize,
-    /// What stands before it in that line.
+    /// The text of that line before the byte.
     pub before: &'t [u8],
-    /// And from it on.
+    /// The text from the byte on.
     pub from_on: &'t [u8],
 }
 
-/// Where a byte stands. One behind the end stands at the end.
+/// The line and column of a byte. A byte after the end counts as the end.
 pub(crate) fn spot_of(text: &[u8], at: usize) -> Spot<'_>
     ensures line { result.line ≡ line_number text.now at }
     ensures before { result.before.now ≡ before text.now at }

@@ -7,6 +7,7 @@ use Rattle.ls_image.specs.Images.{code_of_image}
 use Rattle.ls_image.specs.declared.image.Image.{Image}
 use Rattle.ls_translation.specs.Texts.{file_of, program_of}
 use Rattle.ls_explore.specs.Rows.{AreApart, Told, row_order}
+use Rattle.ls_explore_images.specs.Faults.{IsOfSetup}
 use Rattle.ls_explore_images.specs.Settings.{GoesOnAfter}
 use Rattle.ls_explore_images.specs.Tellings.{TellAll, TellTruth, TellWhole, schedule_of}
 use Rattle.ls_explore_images.specs.declared.exploring.ImageExploration.{ImageExploration}
@@ -23,8 +24,9 @@ use Rattle.ls_faults.specs.Faults.{lifted_explore, lifted_translation}
 use Rattle.ls_faults.specs.Given.{Gives}
 use Rattle.ls_commands.specs.Compiled.{names_of_image}
 use Rattle.ls_explore_reports.specs.declared.printing.Exploring.{Exploring}
-use Rattle.ls_explore_commands.specs.Explored.{Explored, Endless, IsExploration, NoCells, NoStates, NotSetUp, NotTranslated, Tells}
+use Rattle.ls_explore_commands.specs.Explored.{Explored, Endless, IsExploration, NoCells, NoStates, NotSetUp, NotTranslated, RowTooLong, Tells}
 use Rattle.ls_explore_reports.specs.Judged.{AreHistories, IsJudged, Judged, rows_of}
+use Rattle.ls_explore_reports.specs.Long.{HasLong}
 use Rattle.ls_explore_reports.specs.Printing.{explored_text}
 use Rattle.ls_explore_commands.specs.Readable.{SourceRunsAreReadable}
 
@@ -58,21 +60,25 @@ module _ (i : Image) (e : Exploring) where
   Refused f = Err f
 
   pub explore_fails : (f : ExploreFault) → (IsErrOf (Refused f) explore.BadStates ↔ ((e.states ≡ 0) ⊎ (16777216 < e.states))) → (IsErrOf (Refused f) explore.BadCells → AreBadCells (code_of_image i).names e.cells) →
-      (IsErrOf (Refused f) explore.SetupEndless → GoesOnAfter (file_of i) (program_of i) 100001) → Gives (Explored i e) (Err (lifted_explore f))
-  explore_fails explore.Memory many bad endless = tt
-  explore_fails explore.BadCells many bad endless = NoCells (bad refl)
-  explore_fails explore.BadStates many bad endless = NoStates (many.0 refl)
-  explore_fails explore.SetupEndless many bad endless = Endless (endless refl)
-  explore_fails explore.NotSetUp many bad endless = NotSetUp
-  explore_fails (explore.Setup f) many bad endless = NotTranslated f
+      (IsErrOf (Refused f) explore.SetupEndless → GoesOnAfter (file_of i) (program_of i) 100001) → IsOfSetup (file_of i) (program_of i) (code_of_image i) e.cells f → Gives (Explored i e) (Err (lifted_explore f))
+  explore_fails explore.Memory many bad endless setup = tt
+  explore_fails explore.BadCells many bad endless setup = NoCells (bad refl)
+  explore_fails explore.BadStates many bad endless setup = NoStates (many.0 refl)
+  explore_fails explore.SetupEndless many bad endless setup = Endless (endless refl)
+  explore_fails explore.NotSetUp many bad endless setup = NotSetUp setup.0 setup.1 setup.2
+  explore_fails (explore.Setup f) many bad endless setup = NotTranslated setup.0 f setup.1 setup.2
 
-  -- a text isn't made where memory runs out, or a schedule is too long
-  pub long_fails : (f : TranslationFault) → (f ≡ translation.Memory) ⊎ (f ≡ translation.ResultTooLong) → Gives (Explored i e) (Err (lifted_translation f))
-  long_fails translation.Memory only = tt
-  long_fails translation.BadCells (inl is) = absurd cc
-  long_fails translation.BadCells (inr is) = absurd cc
-  long_fails (translation.DoesNotFit step) only = NotTranslated (translation.DoesNotFit step)
-  long_fails translation.ResultTooLong only = NotTranslated translation.ResultTooLong
+  -- a text isn't made where memory runs out, or a row's schedule is too long
+  pub long_fails : {T : Type 0} (f : TranslationFault) (k : ℕ) (judged slice : List Judged) (complete roomy : Bool) → (f ≡ translation.Memory) ⊎ (f ≡ translation.ResultTooLong) →
+      (AreBadCells (code_of_image i).names e.cells → ⊥) → IsExploration i e.cells k judged complete roomy → slice ≡ judged →
+      (IsErrOf {T = T} (Err f) translation.ResultTooLong → HasLong k (rows_of slice)) → Gives (Explored i e) (Err (lifted_translation f))
+  long_fails translation.Memory k judged slice complete roomy only good so is long = tt
+  long_fails translation.BadCells k judged slice complete roomy (inl wrong) good so is long = absurd cc
+  long_fails translation.BadCells k judged slice complete roomy (inr wrong) good so is long = absurd cc
+  long_fails (translation.DoesNotFit step) k judged slice complete roomy (inl wrong) good so is long = absurd cc
+  long_fails (translation.DoesNotFit step) k judged slice complete roomy (inr wrong) good so is long = absurd cc
+  long_fails translation.ResultTooLong k judged slice complete roomy only good so is long =
+      RowTooLong k judged complete roomy good so (subst (λ (js : List Judged). HasLong k (rows_of js)) is (long refl))
 
   pub explore_tells : (k : ℕ) (judged : List Judged) (kept : ℕ) (complete roomy : Bool) (t : Text) → (AreBadCells (code_of_image i).names e.cells → ⊥) → IsExploration i e.cells k judged complete roomy →
       t ≡ explored_text (file_of i) (program_of i) (names_of_image i) k judged kept complete roomy e → Explored i e (Ok t)

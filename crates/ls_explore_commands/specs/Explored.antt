@@ -5,8 +5,10 @@ use Rattle.ls_image.specs.Images.{code_of_image}
 use Rattle.ls_image.specs.declared.image.Image.{Image}
 use Rattle.ls_translation.specs.Texts.{file_of, program_of}
 use Rattle.ls_translation.specs.declared.fault.TranslationFault.{TranslationFault}
+use Rattle.ls_translation.specs.declared.fault.TranslationFault.TheVariants as translation
 use Rattle.ls_explore.specs.Rows.{AreApart, row_order}
-use Rattle.ls_explore_images.specs.Settings.{GoesOnAfter}
+use Rattle.ls_explore_images.specs.Faults.{StaysSource, StaysUnready}
+use Rattle.ls_explore_images.specs.Settings.{EndsAt, GoesOnAfter}
 use Rattle.ls_explore_images.specs.Tellings.{TellAll, TellTruth, TellWhole}
 use Rattle.ls_explore_images.specs.declared.fault.ExploreFault.TheVariants as explore
 use Rattle.ls_report.specs.Events.{Text}
@@ -15,6 +17,7 @@ use Rattle.ls_faults.specs.declared.fault.ToolFault.TheVariants as faults
 use Rattle.ls_commands.specs.Compiled.{AnswersOn, names_of_image}
 use Rattle.ls_explore_reports.specs.declared.printing.Exploring.{Exploring}
 use Rattle.ls_explore_reports.specs.Judged.{IsJudged, Judged, rows_of}
+use Rattle.ls_explore_reports.specs.Long.{HasLong}
 use Rattle.ls_explore_reports.specs.Printing.{explored_text}
 
 -- Rows that tell the truth, the shortest schedule first, no two with one history, each with its verdict. Where they are complete they tell of all
@@ -36,9 +39,14 @@ pub data Explored (i : Image) (e : Exploring) : Result Text ToolFault → Type 0
   NoCells : AreBadCells (code_of_image i).names e.cells → Explored i e (Err faults.BadCells)
   Endless : GoesOnAfter (file_of i) (program_of i) 100001 → Explored i e (Err (faults.Explore explore.SetupEndless))
   -- the machine has not ended the setup with its source
-  NotSetUp : Explored i e (Err (faults.Explore explore.NotSetUp))
-  -- the setup has no room, or it or a row's schedule is longer than a schedule may be
-  NotTranslated : (f : TranslationFault) → Explored i e (Err (faults.Translation f))
+  NotSetUp : (k : ℕ) → EndsAt (file_of i) (program_of i) k → StaysUnready (file_of i) (program_of i) (code_of_image i) e.cells k →
+      Explored i e (Err (faults.Explore explore.NotSetUp))
+  -- what the setup makes has no room, or its instructions are more than a schedule may have
+  NotTranslated : (k : ℕ) (f : TranslationFault) → EndsAt (file_of i) (program_of i) k → StaysSource (file_of i) (program_of i) (code_of_image i) e.cells k f →
+      Explored i e (Err (faults.Translation f))
+  -- so are the steps of a row
+  RowTooLong : (k : ℕ) (judged : List Judged) (complete roomy : Bool) → ¬ AreBadCells (code_of_image i).names e.cells →
+      IsExploration i e.cells k judged complete roomy → HasLong k (rows_of judged) → Explored i e (Err (faults.Translation translation.ResultTooLong))
 
 abbrev pub ExploresTo : Exploring → Text → Text → Result Text ToolFault → Type 0
 ExploresTo e classes program answer = AnswersOn classes program (λ i. Explored i e) answer

@@ -5,6 +5,8 @@ use Rattle.ls_report.specs.declared.fault.HistoryFault.{HistoryFault}
 use Rattle.ls_report.specs.declared.fault.HistoryFault.TheVariants as history
 use Rattle.ls_orders.specs.declared.fault.OrderFault.{OrderFault}
 use Rattle.ls_orders.specs.declared.fault.OrderFault.TheVariants as order
+use Rattle.ls_tallies_reading.specs.declared.fault.TallyFault.{TallyFault}
+use Rattle.ls_tallies_reading.specs.declared.fault.TallyFault.TheVariants as tally
 use Rattle.ls_order_search.specs.declared.fault.SearchFault.{SearchFault}
 use Rattle.ls_order_search.specs.declared.fault.SearchFault.TheVariants as search
 use Rattle.ls_lexer.specs.declared.token.Span.{Span}
@@ -27,6 +29,8 @@ use Rattle.ls_machine.specs.declared.fault.LoadFault.{LoadFault}
 use Rattle.ls_machine.specs.declared.fault.LoadFault.TheVariants as load
 use Rattle.ls_schedule.specs.declared.fault.ScheduleFault.{ScheduleFault}
 use Rattle.ls_schedule.specs.declared.fault.ScheduleFault.TheVariants as schedule
+use Rattle.ls_aim.specs.declared.fault.AimFault.{AimFault}
+use Rattle.ls_aim.specs.declared.fault.AimFault.TheVariants as aim
 use Rattle.ls_translation.specs.declared.fault.TranslationFault.{TranslationFault}
 use Rattle.ls_translation.specs.declared.fault.TranslationFault.TheVariants as translation
 use Rattle.ls_live.specs.declared.fault.LiveFault.TheVariants as opening
@@ -51,6 +55,10 @@ abbrev pub lifted_order : OrderFault → ToolFault
 lifted_order order.Memory = faults.Memory
 lifted_order f = faults.Order f
 
+abbrev pub lifted_tally : TallyFault → ToolFault
+lifted_tally tally.Memory = faults.Memory
+lifted_tally f = faults.Tally f
+
 abbrev pub lifted_search : SearchFault → ToolFault
 lifted_search search.Memory = faults.Memory
 lifted_search (search.BadHistory at) = faults.History (history.BadHistory at)
@@ -71,6 +79,11 @@ lifted_program f = faults.Program f
 abbrev pub lifted_schedule : ScheduleFault → ToolFault
 lifted_schedule schedule.Memory = faults.Memory
 lifted_schedule f = faults.Schedule f
+
+abbrev pub lifted_aim : AimFault → ToolFault
+lifted_aim aim.Memory = faults.Memory
+lifted_aim (aim.Schedule f) = lifted_schedule f
+lifted_aim f = faults.Aim f
 
 abbrev pub lifted_build : BuildFault → ToolFault
 lifted_build (build.Lower lower.Memory) = faults.Memory
@@ -175,6 +188,13 @@ schedule_line (schedule.BadItem at) = placed (codes "40 BadItem") at
 schedule_line (schedule.UnknownThread at) = placed (codes "41 UnknownThread") at
 schedule_line schedule.TooManySteps = plain (codes "42 TooManySteps")
 
+abbrev pub aim_line : AimFault → List ℕ
+aim_line aim.Memory = plain (codes "1 Memory")
+aim_line (aim.Schedule f) = schedule_line f
+aim_line (aim.NotStarted at) = placed (codes "85 NotStarted") at
+aim_line (aim.NotMet at) = placed (codes "86 NotMet") at
+aim_line (aim.TooFar at) = placed (codes "87 TooFar") at
+
 abbrev pub cells_line : LoadFault → List ℕ
 cells_line load.Memory = plain (codes "1 Memory")
 cells_line load.BadCells = plain (codes "35 BadCells")
@@ -219,6 +239,12 @@ abbrev pub order_line : OrderFault → List ℕ
 order_line order.Memory = plain (codes "1 Memory")
 order_line (order.BadOrder at) = placed (codes "78 BadOrder") at
 
+abbrev pub tally_line : TallyFault → List ℕ
+tally_line tally.Memory = plain (codes "1 Memory")
+tally_line (tally.BadTally at) = placed (codes "84 BadTally") at
+tally_line tally.CountTooGreat = plain (codes "88 CountTooGreat")
+tally_line tally.OtherCount = plain (codes "89 OtherCount")
+
 abbrev pub fault_line : ToolFault → List ℕ
 fault_line faults.Memory = plain (codes "1 Memory")
 fault_line (faults.Text f) = text_line f
@@ -232,8 +258,10 @@ fault_line (faults.Live f) = live_line f
 fault_line (faults.Turns f) = turns_line f
 fault_line (faults.Batch f) = batch_line f
 fault_line (faults.Explore f) = explore_line f
+fault_line (faults.Aim f) = aim_line f
 fault_line (faults.History f) = history_line f
 fault_line (faults.Order f) = order_line f
+fault_line (faults.Tally f) = tally_line f
 fault_line faults.TooManyTrapped = plain (codes "79 TooManyTrapped")
 fault_line faults.WrongParts = plain (codes "80 WrongParts")
 fault_line faults.NotText = plain (codes "81 NotText")

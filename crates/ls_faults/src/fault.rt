@@ -1,9 +1,10 @@
 // Faults of the program and of the layers below.
 
 ghost use Rattle.std.specs.Prelude.{◌≡◌};
-ghost use Rattle.ls_faults.specs.Faults.{lifted_batch, lifted_build, lifted_cells, lifted_check, lifted_compile, lifted_explore, lifted_history, lifted_live, lifted_order, lifted_program, lifted_schedule, lifted_search, lifted_text, lifted_translation, lifted_turns};
+ghost use Rattle.ls_faults.specs.Faults.{lifted_aim, lifted_batch, lifted_build, lifted_cells, lifted_check, lifted_compile, lifted_explore, lifted_history, lifted_live, lifted_order, lifted_program, lifted_schedule, lifted_search, lifted_tally, lifted_text, lifted_translation, lifted_turns};
 ghost use Rattle.ls_faults.specs.declared.fault.ToolFault.TheVariants.{Memory};
 
+use ls_aim::fault::AimFault;
 use ls_batch::BatchFault;
 use ls_compiler::fault::CompileFault;
 use ls_emit::fault::EmitFault;
@@ -18,6 +19,7 @@ use ls_order_search::SearchFault;
 use ls_orders::OrderFault;
 use ls_report::HistoryFault;
 use ls_schedule::fault::ScheduleFault;
+use ls_tallies_reading::TallyFault;
 use ls_translation::fault::TranslationFault;
 use ls_types::check::CheckFault;
 use ls_types::fault::ProgramFault;
@@ -52,9 +54,13 @@ pub enum ToolFault {
     #[error(transparent)]
     Explore(ExploreFault),
     #[error(transparent)]
+    Aim(AimFault),
+    #[error(transparent)]
     History(HistoryFault),
     #[error(transparent)]
     Order(OrderFault),
+    #[error(transparent)]
+    Tally(TallyFault),
     #[error("an item has more trapped calls than are decided on")]
     TooManyTrapped,
     #[error("the command wants another number of parts")]
@@ -101,6 +107,17 @@ impl From<OrderFault> for ToolFault {
         match fault {
             OrderFault::Memory => ToolFault::Memory,
             other => ToolFault::Order(other),
+        }
+    }
+}
+
+impl From<TallyFault> for ToolFault {
+    ghost from_gives = { λ f e. e ≡ lifted_tally f };
+
+    fn from(fault: TallyFault) -> ToolFault {
+        match fault {
+            TallyFault::Memory => ToolFault::Memory,
+            other => ToolFault::Tally(other),
         }
     }
 }
@@ -157,6 +174,18 @@ impl From<ScheduleFault> for ToolFault {
         match fault {
             ScheduleFault::Memory => ToolFault::Memory,
             other => ToolFault::Schedule(other),
+        }
+    }
+}
+
+impl From<AimFault> for ToolFault {
+    ghost from_gives = { λ f e. e ≡ lifted_aim f };
+
+    fn from(fault: AimFault) -> ToolFault {
+        match fault {
+            AimFault::Memory => ToolFault::Memory,
+            AimFault::Schedule(fault) => ToolFault::from(fault),
+            other => ToolFault::Aim(other),
         }
     }
 }

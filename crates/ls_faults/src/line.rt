@@ -1,9 +1,10 @@
 // The line of a fault, made without memory.
 
 ghost use Rattle.std.specs.Prelude.{◌≡◌, ◌≤◌, length};
-ghost use Rattle.ls_faults.specs.Faults.{batch_line, build_line, cells_line, check_line, explore_line, fault_line, live_line, placed, plain, program_line, rule_name, schedule_line, spanned, text_line, translation_line, turns_line};
+ghost use Rattle.ls_faults.specs.Faults.{aim_line, batch_line, build_line, cells_line, check_line, explore_line, fault_line, live_line, placed, plain, program_line, rule_name, schedule_line, spanned, tally_line, text_line, translation_line, turns_line};
 
 use crate::fault::ToolFault;
+use ls_aim::fault::AimFault;
 use ls_batch::BatchFault;
 use ls_emit::fault::EmitFault;
 use ls_explore_images::ExploreFault;
@@ -17,6 +18,7 @@ use ls_machine::LoadFault;
 use ls_orders::OrderFault;
 use ls_report::HistoryFault;
 use ls_schedule::fault::ScheduleFault;
+use ls_tallies_reading::TallyFault;
 use ls_translation::fault::TranslationFault;
 use ls_types::check::CheckFault;
 use ls_types::fault::ProgramFault;
@@ -213,6 +215,18 @@ fn schedule_line(fault: ScheduleFault) -> Line
     }
 }
 
+fn aim_line(fault: AimFault) -> Line
+    ensures { result ≡ aim_line fault }
+{
+    match fault {
+        AimFault::Memory => plain("1 Memory"),
+        AimFault::Schedule(fault) => schedule_line(fault),
+        AimFault::NotStarted { at } => placed("85 NotStarted", at),
+        AimFault::NotMet { at } => placed("86 NotMet", at),
+        AimFault::TooFar { at } => placed("87 TooFar", at),
+    }
+}
+
 fn cells_line(fault: LoadFault) -> Line
     ensures { result ≡ cells_line fault }
 {
@@ -279,6 +293,17 @@ fn explore_line(fault: ExploreFault) -> Line
     }
 }
 
+fn tally_line(fault: TallyFault) -> Line
+    ensures { result ≡ tally_line fault }
+{
+    match fault {
+        TallyFault::Memory => plain("1 Memory"),
+        TallyFault::BadTally { at } => placed("84 BadTally", at),
+        TallyFault::CountTooGreat => plain("88 CountTooGreat"),
+        TallyFault::OtherCount => plain("89 OtherCount"),
+    }
+}
+
 /// The line of the fault on the standard error.
 pub fn fault_line(fault: ToolFault) -> Line
     ensures { result ≡ fault_line fault }
@@ -298,8 +323,10 @@ pub fn fault_line(fault: ToolFault) -> Line
         ToolFault::Turns(fault) => turns_line(fault),
         ToolFault::Batch(fault) => batch_line(fault),
         ToolFault::Explore(fault) => explore_line(fault),
+        ToolFault::Aim(fault) => aim_line(fault),
         ToolFault::History(HistoryFault::BadHistory { at }) => placed("77 BadHistory", at),
         ToolFault::Order(OrderFault::BadOrder { at }) => placed("78 BadOrder", at),
+        ToolFault::Tally(fault) => tally_line(fault),
         ToolFault::TooManyTrapped => plain("79 TooManyTrapped"),
         ToolFault::WrongParts => plain("80 WrongParts"),
         ToolFault::NotText => plain("81 NotText"),

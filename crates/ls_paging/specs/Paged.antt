@@ -27,7 +27,7 @@ use Rattle.ls_views.specs.Check.{judged_by}
 use Rattle.ls_views.specs.Viewed.{names_in, thread_names_of}
 use Rattle.ls_paging.specs.declared.wanted.Wanted.{Wanted as GivenWanted}
 
--- the texts of an input, the first and the last step that are told, and an order if there is one
+-- the texts of an input, the first and the last step that are shown, and an order if there is one
 pub record Wanted : Type 0 where
   pub texts : Texts
   pub from : ℕ
@@ -42,7 +42,8 @@ wanted_of w = record {
   order = option_map (λ o. o.now) w.order;
 }
 
--- The history is that of these events, and the answer what `check` says of them and the order: a verdict, or the order's fault.
+-- The history is that of these events. The answer is what `check` says of the events and the order: a verdict, or the
+-- order's fault.
 pub data JudgesTo (history order : Text) : Result Text ToolFault → Type 0 where
   Judged : (events : List Event) → Says history events → JudgesTo history order (judged_by events (order_of order))
 
@@ -52,14 +53,15 @@ with_verdict w names steps order (Ok verdict) =
     Ok (ordered_page_text names w.texts steps w.from w.to (record { order = order; verdict = verdict }))
 with_verdict w names steps order (Err f) = Err f
 
--- The answer is the page of these steps. With an order the verdict is on the history of the steps up to the last that is told.
+-- The answer is the page of these steps. With an order, the verdict is on the history of the steps up to the last that
+-- is shown.
 pub data TellsTo (w : Wanted) (names : Names) (steps : List ℕ) : Option Text → Result Text ToolFault → Type 0 where
   Plain : TellsTo w names steps None (Ok (page_text names w.texts steps w.from w.to))
   Ordered : (order : Text) (verdict : Result Text ToolFault) →
       JudgesTo (history_text names (take w.to steps)) order verdict →
       TellsTo w names steps (Some order) (with_verdict w names steps order verdict)
 
--- the schedule part is these steps, and the answer that of the run of them; or it breaks
+-- the schedule part is these steps, and the answer is that of their run; or the schedule part breaks
 pub data PlaysTo (w : Wanted) (names : Names) : Result Text ToolFault → Type 0 where
   Played : (steps : List ℕ) (answer : Result Text ToolFault) →
       schedule_of (thread_names_of names.program) w.texts.schedule ≡ Ok steps → TellsTo w names steps w.order answer →
@@ -67,15 +69,15 @@ pub data PlaysTo (w : Wanted) (names : Names) : Result Text ToolFault → Type 0
   NoSchedule : (f : ScheduleFault) → schedule_of (thread_names_of names.program) w.texts.schedule ≡ Err f →
       PlaysTo w names (Err (lifted_schedule f))
 
--- the program part is a program of the file, and the answer that of its schedule; or it is none
+-- the program part is a program of the file, and the answer is that of its schedule; or the program part is no program
 pub data RunsTo (w : Wanted) (o : Outcome) : Result Text ToolFault → Type 0 where
   Ran : (p : Program) (answer : Result Text ToolFault) →
       IsTextOf o p w.texts.program → PlaysTo w (names_in o p) answer →
       RunsTo w o answer
   NoProgram : (f : ProgramFault) → IsNoProgram o w.texts.program f → RunsTo w o (Err (lifted_program f))
 
--- The class part is a file that keeps every rule, and the answer is that of its program; or it is one that breaks the rule that
--- is named; or it spells none, and the fault is one that may come of it.
+-- The class part is a file that keeps every rule, and the answer is that of its program. Or it is a file that breaks
+-- the named rule. Or it is no file, and the fault is one that may come of it.
 pub data Pages (w : Wanted) : Result Text ToolFault → Type 0 where
   Checks : (file : File) (o : Outcome) (answer : Result Text ToolFault) →
       IsFileOf w.texts.classes file → elaborated file ≡ Ok o → RunsTo w o answer →
@@ -90,12 +92,12 @@ pub data Pages (w : Wanted) : Result Text ToolFault → Type 0 where
 abbrev pub texts_in : Text → Text → Text → Texts
 texts_in classes program schedule = record { classes = classes; program = program; schedule = schedule }
 
--- of three parts
+-- the page of three parts
 abbrev pub PagesTo : ℕ → ℕ → Text → Text → Text → Result Text ToolFault → Type 0
 PagesTo from to classes program schedule =
     Pages (record { texts = texts_in classes program schedule; from = from; to = to; order = None })
 
--- of four
+-- the page of four parts
 abbrev pub PagesWithOrderTo : ℕ → ℕ → Text → Text → Text → Text → Result Text ToolFault → Type 0
 PagesWithOrderTo from to classes program schedule order =
     Pages (record { texts = texts_in classes program schedule; from = from; to = to; order = Some order })

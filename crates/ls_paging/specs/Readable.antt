@@ -1,4 +1,4 @@
--- Histories that are printed of runs are read again.
+-- Histories that are printed of runs can be read.
 use Rattle.std.specs.Prelude.{ℕ, List}
 use Rattle.ls_checked.specs.CheckedProgram.{Program}
 use Rattle.ls_types_elaboration.specs.Elaboration.{Outcome}
@@ -12,6 +12,6 @@ use Rattle.ls_page.specs.Data.{history_text}
 abbrev pub HistoriesRead : Names → Type 0
 HistoriesRead names = (steps : List ℕ) → IsHistoryText (history_text names steps)
 
--- so it is of each program of a file
+-- the same holds of each program of a file
 abbrev pub ProgramsRead : Outcome → Type 0
 ProgramsRead o = (p : Program) (text : Text) → IsTextOf o p text → HistoriesRead (names_in o p)

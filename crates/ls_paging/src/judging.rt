@@ -10,7 +10,7 @@ use ls_report::read_history;
 use ls_views::checking::verdict_text;
 use std::alloc::Global;
 
-/// The verdict on an order of a history. Refused where the order breaks, or memory runs out.
+/// The verdict on an order of a history. Refused if the order is no order, or if memory runs out.
 pub fn judge(alloc: Global, history: &str, order: &str) -> Result<String, ToolFault>
     requires { IsHistoryText history.now }
     ensures { Gives (JudgesTo history.now order.now) result }

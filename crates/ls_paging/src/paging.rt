@@ -21,7 +21,7 @@ use ls_types_reading::program::read_program;
 use ls_views::viewing::names_in;
 use std::alloc::Global;
 
-// The page of a run with an order, whose verdict is on the history of the steps up to the last that is told.
+// The page of a run with an order. The verdict is on the history of the steps up to the last that is shown.
 fn judged(
     alloc: Global,
     wanted: Wanted,
@@ -83,11 +83,11 @@ fn paged(alloc: Global, wanted: Wanted) -> Result<String, ToolFault>
     run(alloc, wanted, &checked)
 }
 
-/// The data of a page on a run, from the Java text: a JSON object in one line. It holds the three texts, the trace of the steps
-/// `from..=to`, the states at both ends, and the history before. Steps are numbered from 1.
+/// The data of a page on a run, from the Java text: a JSON object in one line. It has the three texts, the trace of
+/// the steps `from..=to`, the states at both ends, and the history before. Steps are numbered from 1.
 ///
-/// The first text that breaks is refused with its fault: the class text before the program, and the program before the
-/// schedule. Refused too where memory runs out.
+/// The first text that breaks is refused with its fault: first the class text, then the program, then the schedule. It
+/// is also refused if memory runs out.
 pub fn page(
     alloc: Global,
     from: usize,
@@ -115,8 +115,8 @@ pub fn page(
     )
 }
 
-/// The same with an order of the calls, and what `check` says of it and the history of the steps up to the window's end. An order
-/// with an item that is no call is refused after the other texts.
+/// The same with an order of the calls, and what `check` says of the order. The verdict is on the history of the steps
+/// up to the window's end. An order with an item that is no call is refused, after the other texts.
 pub fn page_with_order(
     alloc: Global,
     window: Window,

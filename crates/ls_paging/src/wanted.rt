@@ -2,7 +2,7 @@
 
 use ls_page::{Texts, Window};
 
-/// The texts that a run comes from, the steps that are told, and an order of its calls if there is one.
+/// The texts of a run, the steps that are shown, and an order of its calls if there is one.
 #[derive(Clone, Copy)]
 pub struct Wanted<'t> {
     pub texts: Texts<'t>,

@@ -3,18 +3,21 @@ use Rattle.std.specs.Prelude.{◌≡◌, ◌≢◌, ◌≤◌, ℕ, List, [], �
 use Rattle.std.specs.Global.{Global}
 use Rattle.std.specs.Io.KnownBytes.{Appends, Keeps}
 use Rattle.ls_report.specs.Events.{Text}
+use Rattle.ls_views.specs.Aimed.{AimsTo}
 use Rattle.ls_views.specs.Check.{ChecksTo}
 use Rattle.ls_views.specs.Ordered.{OrdersTo}
 use Rattle.ls_commands.specs.Compiled.{CountsTo, ReplaysTo}
 use Rattle.ls_commands.specs.Judged.{JudgesTo}
 use Rattle.ls_commands.specs.Lived.{LivesTo, ReplaysLiveTo}
 use Rattle.ls_commands.specs.Sampled.{SamplesTo}
-use Rattle.ls_commands.specs.Tallied.{sampling, TalliesTo}
+use Rattle.ls_commands.specs.Tallied.{drawing, sampling, TalliesTo}
 use Rattle.ls_commands.specs.Translated.{TranslatesTo}
+use Rattle.ls_merging.specs.Merging.{MergesTo}
 use Rattle.ls_explore_commands.specs.Explored.{ExploresTo}
 use Rattle.ls_explore_reports.specs.declared.printing.Exploring.{Exploring}
 use Rattle.ls_paging.specs.Paged.{PagesTo, PagesWithOrderTo}
 use Rattle.ls_views.specs.Viewed.{ViewsTo}
+use Rattle.ls_views.specs.declared.viewing.View.{View}
 use Rattle.ls_views.specs.declared.viewing.View.TheVariants as views
 use Rattle.ls_explanations.specs.Explanations.{note}
 use Rattle.ls_faults.specs.Faults.{fault_line}
@@ -41,9 +44,9 @@ exploring cells states illegal first = record { cells = cells; states = states; 
 
 -- and what one that draws schedules by seeds may answer on two
 abbrev pub OnSamples : Request → Text → Text → Result Text ToolFault → Type 0
-OnSamples (requests.Batch seed count steps cells false) classes program answer = TalliesTo cells (sampling seed count steps) classes program answer
-OnSamples (requests.Batch seed count steps cells true) classes program answer = JudgesTo cells (sampling seed count steps) classes program answer
-OnSamples (requests.Sample seed steps cells) classes program answer = SamplesTo cells seed steps classes program answer
+OnSamples (requests.Batch seed count steps switch cells false) classes program answer = TalliesTo cells (sampling seed count (drawing steps switch)) classes program answer
+OnSamples (requests.Batch seed count steps switch cells true) classes program answer = JudgesTo cells (sampling seed count (drawing steps switch)) classes program answer
+OnSamples (requests.Sample seed steps switch cells) classes program answer = SamplesTo cells seed (drawing steps switch) classes program answer
 OnSamples other classes program answer = answer ≡ Err faults.WrongParts
 
 -- and on two
@@ -51,20 +54,31 @@ abbrev pub OnTwo : Request → Text → Text → Result Text ToolFault → Type 
 OnTwo requests.Check history order answer = ChecksTo history order answer
 OnTwo requests.Compile classes program answer = CountsTo classes program answer
 OnTwo (requests.Live cells limit) classes program answer = LivesTo cells limit classes program answer
-OnTwo (requests.Batch seed count steps cells judge) classes program answer = OnSamples (requests.Batch seed count steps cells judge) classes program answer
-OnTwo (requests.Sample seed steps cells) classes program answer = OnSamples (requests.Sample seed steps cells) classes program answer
+OnTwo (requests.Batch seed count steps switch cells judge) classes program answer = OnSamples (requests.Batch seed count steps switch cells judge) classes program answer
+OnTwo (requests.Sample seed steps switch cells) classes program answer = OnSamples (requests.Sample seed steps switch cells) classes program answer
 OnTwo (requests.Explore cells states illegal first) classes program answer = ExploresTo (exploring cells states illegal first) classes program answer
 OnTwo other first second answer = answer ≡ Err faults.WrongParts
+
+-- what is shown of a run
+abbrev pub trace_view : Bool → ℕ → ℕ → View
+trace_view fold from to = if fold then views.Folded from to else views.Trace from to
+
+abbrev pub state_view : Bool → ℕ → View
+state_view dot to = if dot then views.Drawing to else views.State to
+
+abbrev pub states_view : Bool → ℕ → ℕ → View
+states_view dot from to = if dot then views.Drawings from to else views.States from to
 
 -- and on three
 abbrev pub OnThree : Request → Text → Text → Text → Result Text ToolFault → Type 0
 OnThree (requests.Replay cells false) classes program schedule answer = ReplaysTo cells classes program schedule answer
 OnThree (requests.Replay cells true) classes program schedule answer = ReplaysLiveTo cells classes program schedule answer
 OnThree requests.Source classes program schedule answer = ViewsTo views.History classes program schedule answer
-OnThree (requests.Trace from to) classes program schedule answer = ViewsTo (views.Trace from to) classes program schedule answer
+OnThree (requests.Trace from to fold) classes program schedule answer = ViewsTo (trace_view fold from to) classes program schedule answer
 OnThree (requests.Page from to) classes program schedule answer = PagesTo from to classes program schedule answer
-OnThree (requests.State false) classes program schedule answer = ViewsTo views.State classes program schedule answer
-OnThree (requests.State true) classes program schedule answer = ViewsTo views.Drawing classes program schedule answer
+OnThree (requests.State dot to) classes program schedule answer = ViewsTo (state_view dot to) classes program schedule answer
+OnThree (requests.States dot from to) classes program schedule answer = ViewsTo (states_view dot from to) classes program schedule answer
+OnThree requests.Aim classes program targets answer = AimsTo classes program targets answer
 OnThree (requests.Translate to cells) classes program schedule answer = TranslatesTo to cells classes program schedule answer
 OnThree other classes program schedule answer = answer ≡ Err faults.WrongParts
 
@@ -81,16 +95,25 @@ Answers r (classes ∷ program ∷ schedule ∷ []) answer = OnThree r classes p
 Answers r (classes ∷ program ∷ schedule ∷ order ∷ []) answer = OnFour r classes program schedule order answer
 Answers r other answer = answer ≡ Err faults.WrongParts
 
-abbrev pub AnswersText : Request → Text → Result Text ToolFault → Type 0
-AnswersText r input answer = MatchBool (is_text input) (Answers r (parts_of input) answer) (answer ≡ Err faults.NotText)
+-- and on an input, which is cut into parts unless it is one of tallies
+abbrev pub AnswersInput : Request → Text → Result Text ToolFault → Type 0
+AnswersInput (requests.Merge count) input answer = MergesTo count input answer
+AnswersInput r input answer = Answers r (parts_of input) answer
 
--- the parts of an input, where it is text
-abbrev pub texts_of : Text → List Text
-texts_of input = if is_text input then parts_of input else []
+abbrev pub AnswersText : Request → Text → Result Text ToolFault → Type 0
+AnswersText r input answer = MatchBool (is_text input) (AnswersInput r input answer) (answer ≡ Err faults.NotText)
+
+-- the texts in which a fault can stand: the parts of an input, where it is text, or all of it if it is one of tallies
+abbrev pub cut_for : ToolFault → Text → List Text
+cut_for (faults.Tally f) input = input ∷ []
+cut_for other input = parts_of input
+
+abbrev pub texts_of : ToolFault → Text → List Text
+texts_of f input = if is_text input then cut_for f input else []
 
 -- what is told of a fault: its line, and with `--explain` the line in which it stands
 abbrev pub told : Bool → ToolFault → Text → Text
-told true f input = fault_line f ++ note f (texts_of input)
+told true f input = fault_line f ++ note f (texts_of f input)
 told false f input = fault_line f
 
 -- what a run ends with: a text, what is told of a fault, or no more than the command line's own text
@@ -151,7 +174,7 @@ abbrev pub ReadsAfterWords : {R : Type 0} → R → R → Result (String Global)
 ReadsAfterWords old new (Err (refusals.BadLine e)) = new ≡ old
 ReadsAfterWords old new other = Unit {0}
 
--- ---- what a run leaves behind
+-- ---- what a run leaves
 
 -- a beginning of the bytes went to the writer
 abbrev pub Begins : Option Text → Option Text → Text → Type 0

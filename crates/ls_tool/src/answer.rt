@@ -1,25 +1,29 @@
 // What the words and the input ask for.
 
-ghost use Rattle.std.specs.Prelude.{List, Some, map, string_bytes};
+ghost use Rattle.std.specs.Prelude.{◌≡◌, List, Some, map, string_bytes};
 ghost use Rattle.ls_command_line.specs.Words.{AsksFor};
+ghost use Rattle.ls_commands.specs.Tallied.{drawing};
 ghost use Rattle.ls_faults.specs.Given.{Gives};
 ghost use Rattle.ls_report.specs.Events.{Text};
-ghost use Rattle.ls_tool.specs.Output.{Answers, AnswersText, Decides, IsTaken, OnFour, OnOne, OnSamples, OnThree, OnTwo};
+ghost use Rattle.ls_tool.specs.Output.{Answers, AnswersInput, AnswersText, Decides, IsTaken, OnFour, OnOne, OnSamples, OnThree, OnTwo};
 
 use crate::explained::refusal_of;
 use crate::refusal::Refusal;
+use crate::views::{state_view, states_view, trace_view};
 use ls_command_line::{CommandLine, Request, read_words};
 use ls_commands::compiled::{count, replay};
 use ls_commands::judging::judge_batch;
 use ls_commands::living::{live, replay_live};
 use ls_commands::sampling::sample;
-use ls_commands::tallying::{Sampling, batch};
+use ls_commands::tallying::{Drawing, Sampling, batch};
 use ls_commands::translating::translate;
 use ls_explore_commands::{Exploring, explore};
 use ls_faults::fault::ToolFault;
+use ls_merging::merge;
 use ls_page::Window;
 use ls_paging::paging::{page, page_with_order};
 use ls_parts::{parts_of, text_of};
+use ls_views::aiming::aim;
 use ls_views::checking::check;
 use ls_views::ordering::order;
 use ls_views::viewing::{View, show};
@@ -40,11 +44,24 @@ fn on_one(alloc: Global, request: Request, text: &str) -> Result<String, ToolFau
         | Request::Trace { .. }
         | Request::Page { .. }
         | Request::State { .. }
+        | Request::States { .. }
+        | Request::Aim
         | Request::Translate { .. }
         | Request::Live { .. }
         | Request::Batch { .. }
         | Request::Sample { .. }
-        | Request::Explore { .. } => Err(ToolFault::WrongParts),
+        | Request::Explore { .. }
+        | Request::Merge { .. } => Err(ToolFault::WrongParts),
+    }
+}
+
+/// So many steps, each of which draws a thread by chance 1 in a number.
+fn drawing_of(steps: u64, switch: u64) -> Drawing
+    ensures { result ≡ drawing steps switch }
+{
+    Drawing {
+        steps: steps as usize,
+        switch,
     }
 }
 
@@ -63,28 +80,28 @@ fn on_samples<R: Threads + Sync>(
             seed,
             count,
             steps,
+            switch,
             cells,
             judge,
         } => {
             let sampling = Sampling {
                 first: seed,
                 count: count as usize,
-                steps: steps as usize,
+                drawing: drawing_of(steps, switch),
             };
             if judge {
                 return judge_batch(rt, alloc, sampling, cells as usize, classes, program);
             }
             batch(rt, alloc, sampling, cells as usize, classes, program)
         }
-        Request::Sample { seed, steps, cells } => {
-            sample(
-                alloc,
-                cells as usize,
-                seed,
-                steps as usize,
-                classes,
-                program,
-            )
+        Request::Sample {
+            seed,
+            steps,
+            switch,
+            cells,
+        } => {
+            let drawing = drawing_of(steps, switch);
+            sample(alloc, cells as usize, seed, drawing, classes, program)
         }
         _ => Err(ToolFault::WrongParts),
     }
@@ -129,7 +146,10 @@ fn on_two<R: Threads + Wait + Sync>(
         | Request::Trace { .. }
         | Request::Page { .. }
         | Request::State { .. }
-        | Request::Translate { .. } => Err(ToolFault::WrongParts),
+        | Request::States { .. }
+        | Request::Aim
+        | Request::Translate { .. }
+        | Request::Merge { .. } => Err(ToolFault::WrongParts),
     }
 }
 
@@ -152,12 +172,14 @@ fn on_three<R: Threads + Wait + Sync>(
             replay_live(rt, alloc, cells as usize, classes, program, schedule)
         }
         Request::Source => show(alloc, View::History, classes, program, schedule),
-        Request::Trace { from, to } => {
-            let steps = View::Trace {
-                from: from as usize,
-                to: to as usize,
-            };
-            show(alloc, steps, classes, program, schedule)
+        Request::Trace { from, to, fold } => {
+            show(
+                alloc,
+                trace_view(fold, from, to),
+                classes,
+                program,
+                schedule,
+            )
         }
         Request::Page { from, to } => {
             page(
@@ -169,8 +191,19 @@ fn on_three<R: Threads + Wait + Sync>(
                 schedule,
             )
         }
-        Request::State { dot: false } => show(alloc, View::State, classes, program, schedule),
-        Request::State { dot: true } => show(alloc, View::Drawing, classes, program, schedule),
+        Request::State { dot, to } => {
+            show(alloc, state_view(dot, to), classes, program, schedule)
+        }
+        Request::States { dot, from, to } => {
+            show(
+                alloc,
+                states_view(dot, from, to),
+                classes,
+                program,
+                schedule,
+            )
+        }
+        Request::Aim => aim(alloc, classes, program, schedule),
         Request::Translate { to, cells } => {
             translate(alloc, to, cells as usize, classes, program, schedule)
         }
@@ -180,7 +213,8 @@ fn on_three<R: Threads + Wait + Sync>(
         | Request::Live { .. }
         | Request::Batch { .. }
         | Request::Sample { .. }
-        | Request::Explore { .. } => Err(ToolFault::WrongParts),
+        | Request::Explore { .. }
+        | Request::Merge { .. } => Err(ToolFault::WrongParts),
     }
 }
 
@@ -239,6 +273,22 @@ fn decide<R: Threads + Wait + Sync>(
     }
 }
 
+/// What the command answers on a text, which is cut into parts unless it is one of tallies.
+fn answer_text<R: Threads + Wait + Sync>(
+    rt: &R,
+    alloc: Global,
+    request: Request,
+    text: &str,
+) -> Result<String, ToolFault>
+    ensures { Gives (AnswersInput request text.now) result }
+{
+    if let Request::Merge { count } = request {
+        return merge(alloc, count, text);
+    }
+    let parts = parts_of(alloc, text)?;
+    decide(rt, alloc, request, parts.as_slice())
+}
+
 fn answer_of<R: Threads + Wait + Sync>(
     rt: &R,
     alloc: Global,
@@ -250,8 +300,7 @@ fn answer_of<R: Threads + Wait + Sync>(
     let Some(text) = text_of(input) else {
         return Err(ToolFault::NotText);
     };
-    let parts = parts_of(alloc, text)?;
-    decide(rt, alloc, request, parts.as_slice())
+    answer_text(rt, alloc, request, text)
 }
 
 /// What a command line asks for of an input, or why there is no output.
@@ -270,8 +319,8 @@ pub(crate) fn answer_line<R: Threads + Wait + Sync>(
     }
 }
 
-/// The whole output for the words of a command line, the program's own name first, and the bytes of an input; or why there is
-/// none. It is the program without its streams.
+/// The whole output for the words of a command line and the bytes of an input, or why there is none. The first word
+/// is the program's own name. It is the program without its streams.
 pub fn answer<'a, R: Threads + Wait + Sync>(
     rt: &R,
     alloc: Global,

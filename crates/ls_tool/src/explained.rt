@@ -1,7 +1,7 @@
 // A fault with what is said of it.
 
-ghost use Rattle.std.specs.Prelude.{◌≡◌, IfOk, true};
-ghost use Rattle.ls_tool.specs.Output.{RefusesAs, told};
+ghost use Rattle.std.specs.Prelude.{◌≡◌, IfOk, map, string_bytes, true};
+ghost use Rattle.ls_tool.specs.Output.{RefusesAs, cut_for, texts_of, told};
 
 use crate::refusal::Refusal;
 use ls_explanations::explain;
@@ -10,14 +10,34 @@ use ls_faults::line::fault_line;
 use ls_parts::{parts_of, text_of};
 use std::alloc::{AllocError, Global};
 
-/// The fault's line, and behind it the line of the input in which it stands.
+/// The texts in which the fault can stand: the parts of the input, or all of it if it is one of tallies.
+fn cut_for(alloc: Global, fault: ToolFault, text: &str) -> Result<Vec<String>, AllocError>
+    ensures { IfOk result (λ texts. map string_bytes texts.items ≡ cut_for fault text.now) }
+{
+    match fault {
+        ToolFault::Tally(_) => {
+            let mut texts = Vec::new(alloc);
+            texts.push(String::from_str(alloc, text)?)?;
+            Ok(texts)
+        }
+        _ => parts_of(alloc, text),
+    }
+}
+
+fn texts_of(alloc: Global, fault: ToolFault, input: &[u8]) -> Result<Vec<String>, AllocError>
+    ensures { IfOk result (λ texts. map string_bytes texts.items ≡ texts_of fault input.now) }
+{
+    match text_of(input) {
+        Some(text) => cut_for(alloc, fault, text),
+        None => Ok(Vec::new(alloc)),
+    }
+}
+
+/// The fault's line, and after it the line of the input in which it stands.
 fn explained(alloc: Global, fault: ToolFault, input: &[u8]) -> Result<Vec<u8>, AllocError>
     ensures { IfOk result (λ bytes. bytes.items ≡ told true fault input.now) }
 {
-    let texts = match text_of(input) {
-        Some(text) => parts_of(alloc, text)?,
-        None => Vec::new(alloc),
-    };
+    let texts = texts_of(alloc, fault, input)?;
     let note = explain(alloc, fault, texts.as_slice())?;
     let mut told = Vec::new(alloc);
     told.extend_from_slice(fault_line(fault).as_bytes())?;

@@ -6,6 +6,7 @@ mod explained;
 mod refusal;
 mod running;
 mod streams;
+mod views;
 
 pub use ls_command_line::Request;
 pub use ls_faults::fault::ToolFault;

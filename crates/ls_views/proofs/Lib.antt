@@ -1,3 +1,4 @@
+pub mod AimedLemmas
 pub mod CheckLemmas
 pub mod OrderLemmas
 pub mod ShowsBack

@@ -26,5 +26,8 @@ module _ (readable : SourceIsReadable) (file : File) (o : Outcome) (checks : ela
   pub shows_back : (v : View) {a : Result Text ToolFault} → RunsTo v o program schedule a → ShowsBack v a
   shows_back views.History h = history_back h
   shows_back (views.Trace from to) h = tt
-  shows_back views.State h = tt
-  shows_back views.Drawing h = tt
+  shows_back (views.Folded from to) h = tt
+  shows_back (views.State to) h = tt
+  shows_back (views.Drawing to) h = tt
+  shows_back (views.States from to) h = tt
+  shows_back (views.Drawings from to) h = tt

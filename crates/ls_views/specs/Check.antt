@@ -30,7 +30,7 @@ abbrev pub ends_line : Option ℕ → Bool
 ends_line None = true
 ends_line (Some b) = b == 10
 
--- a line feed behind a part that isn't empty and doesn't end in one
+-- a line feed after a part that isn't empty and doesn't end in one
 abbrev pub with_feed : Text → Text
 with_feed part = if ends_line (slice_get part (length part - 1)) then part else part ++ 10 ∷ []
 

@@ -1,3 +1,4 @@
 pub mod Check
 pub mod Ordered
 pub mod Viewed
+pub mod Aimed

@@ -1,5 +1,5 @@
 -- What the commands `source`, `trace` and `state` say.
-use Rattle.std.specs.Prelude.{◌≡◌, ℕ, List, map, Some, None, Result, Ok, Err}
+use Rattle.std.specs.Prelude.{◌≡◌, ℕ, List, map, take, Some, None, Result, Ok, Err}
 use Rattle.ls_lexer.specs.declared.fault.TextFault.{TextFault}
 use Rattle.ls_tree.specs.Trees.{File as ParsedFile}
 use Rattle.ls_parser_spelling.specs.Spells.{TextSpells}
@@ -20,9 +20,12 @@ use Rattle.ls_schedule.specs.declared.fault.ScheduleFault.{ScheduleFault}
 use Rattle.ls_report.specs.Events.{Text}
 use Rattle.ls_report.specs.Printing.{run_text}
 use Rattle.ls_labels.specs.Names.{Names}
+use Rattle.ls_trace.specs.Folds.{folded_text}
 use Rattle.ls_trace.specs.Lines.{trace_text}
+use Rattle.ls_state.specs.Each.{states_text}
 use Rattle.ls_state.specs.State.{state_text}
 use Rattle.ls_drawing.specs.Drawing.{drawing_text}
+use Rattle.ls_drawing.specs.Each.{drawings_text}
 use Rattle.ls_faults.specs.Faults.{lifted_text, lifted_check, lifted_program, lifted_schedule}
 use Rattle.ls_faults.specs.declared.fault.ToolFault.{ToolFault}
 use Rattle.ls_faults.specs.ReadBack.{ReadsBack}
@@ -36,8 +39,11 @@ names_in o p = record { classes = o.names; signs = o.signs; file = o.file; progr
 abbrev pub shown : View → Names → List ℕ → Text
 shown views.History names steps = run_text names.program (source_history names.file names.program steps)
 shown (views.Trace from to) names steps = trace_text names steps from to
-shown views.State names steps = state_text names steps
-shown views.Drawing names steps = drawing_text names steps
+shown (views.Folded from to) names steps = folded_text names steps from to
+shown (views.State to) names steps = state_text names (take to steps)
+shown (views.Drawing to) names steps = drawing_text names (take to steps)
+shown (views.States from to) names steps = states_text names steps from to
+shown (views.Drawings from to) names steps = drawings_text names steps from to
 
 -- the same of what a schedule's text is, or the schedule's fault
 abbrev pub viewed_by : View → Names → Result (List ℕ) ScheduleFault → Result Text ToolFault

@@ -48,7 +48,7 @@ fn ends_line(part: &[u8]) -> bool
     }
 }
 
-/// The part with a line feed behind it, where it isn't empty and doesn't end in one.
+/// The part with a line feed after it, if the part isn't empty and doesn't end in one.
 pub(crate) fn with_feed(alloc: Global, part: &str) -> Result<String, AllocError>
     ensures { IfOk result (λ text. string_bytes text ≡ with_feed part.now) }
 {

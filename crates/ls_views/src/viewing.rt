@@ -1,6 +1,6 @@
 // What is shown of a run from the Java text: the commands `source`, `trace` and `state`.
 
-ghost use Rattle.std.specs.Prelude.{◌≡◌, IfOk, string_bytes};
+ghost use Rattle.std.specs.Prelude.{◌≡◌, IfOk, string_bytes, take};
 ghost use Rattle.ls_checked.specs.PlainProgram.{plain_program};
 ghost use Rattle.ls_types.specs.CheckedFile.{outcome_of};
 ghost use Rattle.ls_labels.specs.Names.{names_of};
@@ -9,15 +9,17 @@ ghost use Rattle.ls_views.specs.Viewed.{names_in, shown, viewed, RunsTo, ViewsTo
 
 use ls_checked::program::Program;
 use ls_drawing::drawing::drawing;
+use ls_drawing::each::drawings;
 use ls_faults::fault::ToolFault;
 use ls_labels::names::Names;
 use ls_parser::parse::parse_text;
 use ls_report::print_history;
 use ls_schedule::read_schedule;
 use ls_source::run::play;
+use ls_state::each::states;
 use ls_state::state::state;
 use ls_text_laws::source_is_readable;
-use ls_trace::trace;
+use ls_trace::{folded_trace, trace};
 use ls_types::check::Checked;
 use ls_types_files::checking::check;
 use ls_types_reading::program::read_program;
@@ -29,8 +31,14 @@ pub enum View {
     History,
     /// What each step does, from one step to another; they are numbered from 1.
     Trace { from: usize, to: usize },
-    State,
-    Drawing,
+    /// The same, with neighbouring steps that change nothing in one line.
+    Folded { from: usize, to: usize },
+    /// What holds after so many steps.
+    State { to: usize },
+    Drawing { to: usize },
+    /// What holds after each step, from one to another.
+    States { from: usize, to: usize },
+    Drawings { from: usize, to: usize },
 }
 
 impl Clone for View {
@@ -55,6 +63,13 @@ pub fn names_in<'n>(checked: &'n Checked, program: &'n Program) -> Names<'n>
     }
 }
 
+// So many steps, or all if there are fewer.
+fn first_steps(steps: &[usize], count: usize) -> &[usize]
+    ensures { result.now ≡ take count steps.now }
+{
+    &steps[..count.min(steps.len())]
+}
+
 /// What is shown of the run of a schedule.
 fn shown(alloc: Global, view: View, names: Names, steps: &[usize]) -> Result<String, AllocError>
     ensures { IfOk result (λ text. string_bytes text ≡ shown view (names_of names.entry) steps.now) }
@@ -65,8 +80,11 @@ fn shown(alloc: Global, view: View, names: Names, steps: &[usize]) -> Result<Str
             print_history(alloc, &events, names.program)
         }
         View::Trace { from, to } => trace(alloc, names, steps, from, to),
-        View::State => state(alloc, names, steps),
-        View::Drawing => drawing(alloc, names, steps),
+        View::Folded { from, to } => folded_trace(alloc, names, steps, from, to),
+        View::State { to } => state(alloc, names, first_steps(steps, to)),
+        View::Drawing { to } => drawing(alloc, names, first_steps(steps, to)),
+        View::States { from, to } => states(alloc, names, steps, from, to),
+        View::Drawings { from, to } => drawings(alloc, names, steps, from, to),
     }
 }
 

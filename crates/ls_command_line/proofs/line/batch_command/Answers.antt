@@ -5,5 +5,6 @@ returns-clause-shape c =
     let seeded = c.with_option-command.ensures.shape _ _ c.plain_command-command.ensures.shape c.number_option-seed.ensures.rule in
     let counted = c.with_option-command-2.ensures.shape _ _ seeded c.number_option-count.ensures.rule in
     let stepped = c.with_option.ensures.shape _ _ counted c.number_option-steps.ensures.rule in
-    let celled = c.with_option-command-3.ensures.shape _ _ stepped c.cells_option.ensures.rule in
+    let switched = c.with_option-command-3.ensures.shape _ _ stepped c.switch_option.ensures.rule in
+    let celled = c.with_option-command-4.ensures.shape _ _ switched c.cells_option.ensures.rule in
     c.with_option-2.ensures.shape _ _ celled c.flag_option-judge.ensures.rule

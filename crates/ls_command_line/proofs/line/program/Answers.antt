@@ -12,8 +12,10 @@ returns c =
     let six = c.with_command-program-6.ensures _ _ five c.trace_command.ensures.shape in
     let seven = c.with_command-program-7.ensures _ _ six c.state_command.ensures.shape in
     let eight = c.with_command-program-8.ensures _ _ seven c.page_command.ensures.shape in
-    let nine = c.with_command-program-9.ensures _ _ eight to.2 in
-    let ten = c.with_command-program-10.ensures _ _ nine c.live_command.ensures.shape in
-    let eleven = c.with_command-program-11.ensures _ _ ten c.batch_command.ensures.shape in
-    let twelve = c.with_command-program-12.ensures _ _ eleven c.sample_command.ensures.shape in
-    IfOk-weaker c.with_command.result _ _ (λ r h. (to.0, to.1, h)) (c.with_command.ensures _ _ twelve c.explore_command.ensures.shape)
+    let nine = c.with_command-program-9.ensures _ _ eight c.aim_command.ensures.shape in
+    let ten = c.with_command-program-10.ensures _ _ nine to.2 in
+    let eleven = c.with_command-program-11.ensures _ _ ten c.live_command.ensures.shape in
+    let twelve = c.with_command-program-12.ensures _ _ eleven c.batch_command.ensures.shape in
+    let thirteen = c.with_command-program-13.ensures _ _ twelve c.sample_command.ensures.shape in
+    let fourteen = c.with_command-program-14.ensures _ _ thirteen c.explore_command.ensures.shape in
+    IfOk-weaker c.with_command.result _ _ (λ r h. (to.0, to.1, h)) (c.with_command.ensures _ _ fourteen c.merge_command.ensures.shape)

@@ -17,7 +17,7 @@ use Rattle.ls_explore_commands.proofs.command.explored.Goals as goal
 pub returns-in_err-found : goal.returns-in_err-found
 returns-in_err-found c =
     let p = err_from_is_err_and c.from_residual.result c.from_residual.ensures.1 in
-    rw (p.1, p.2) (explore_fails c.args.image.now c.args.exploring c.in_err-found.field-0.0 c.in_err-found.ensures.states c.in_err-found.ensures.cells c.in_err-found.ensures.endless)
+    rw (p.1, p.2) (explore_fails c.args.image.now c.args.exploring c.in_err-found.field-0.0 c.in_err-found.ensures.states c.in_err-found.ensures.cells c.in_err-found.ensures.endless c.in_err-found.ensures.setup)
 
 pub judge_rows-requires : goal.judge_rows-requires
 judge_rows-requires c =
@@ -27,8 +27,17 @@ judge_rows-requires c =
 
 pub returns-in_err-text : goal.returns-in_err-text
 returns-in_err-text c =
+    let i = c.args.image.now in
+    let found = c.in_ok-found.found in
+    let judged = c.in_ok-judged.judged.items in
+    let of_rows = c.in_ok-judged.ensures.rows ∙ c.as_slice.ensures.value in
+    let verdicts = subst (λ (q : Program). All (IsJudged (plain_program q)) judged) c.program-program.ensures c.in_ok-judged.ensures.verdicts in
+    let so =
+    judged_so i c.args.exploring.cells found.setup found.rows.items judged found.complete found.roomy of_rows c.in_ok-found.ensures.told c.in_ok-found.ensures.tells c.in_ok-found.ensures.whole c.in_ok-found.ensures.apart c.in_ok-found.ensures.order verdicts
+    in
     let p = err_from_is_err_and c.from_residual-in_err-text.result c.from_residual-in_err-text.ensures.1 in
-    rw (p.1, p.2) (long_fails c.args.image.now c.args.exploring c.in_err-text.field-0.0 c.in_err-text.ensures.only)
+    rw (p.1, p.2)
+    (long_fails i c.args.exploring c.in_err-text.field-0.0 found.setup judged c.as_slice-2.result.now found.complete found.roomy c.in_err-text.ensures.only c.in_ok-found.ensures.good so c.as_slice-2.ensures.value c.in_err-text.ensures.long)
 
 pub returns : goal.returns
 returns c =

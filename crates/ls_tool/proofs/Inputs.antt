@@ -1,0 +1,33 @@
+-- From what is answered on parts to what is answered on an input.
+use Rattle.std.proofs.Common.{◌≡◌, ℕ, Option, Result, refl}
+use Rattle.std.specs.Prelude.{String}
+use Rattle.std.specs.Global.{Global}
+use Rattle.ls_report.specs.Events.{Text}
+use Rattle.ls_parts.specs.Parts.{parts_of}
+use Rattle.ls_command_line.specs.declared.words.Request.{Request}
+use Rattle.ls_command_line.specs.declared.words.Request.TheVariants as requests
+use Rattle.ls_faults.specs.declared.fault.ToolFault.{ToolFault}
+use Rattle.ls_faults.specs.Given.{Gives}
+use Rattle.ls_tool.specs.Output.{Answers, AnswersInput}
+
+-- an input that isn't one of tallies is answered on its parts
+pub on_parts : (r : Request) (input : Text) (answer : Result (String Global) ToolFault)
+    → ((count : Option ℕ) → ¬ (r ≡ requests.Merge count))
+    → Gives (Answers r (parts_of input)) answer
+    → Gives (AnswersInput r input) answer
+on_parts requests.Check input answer other h = h
+on_parts requests.Order input answer other h = h
+on_parts requests.Compile input answer other h = h
+on_parts (requests.Replay cells live) input answer other h = h
+on_parts requests.Source input answer other h = h
+on_parts (requests.Trace from to fold) input answer other h = h
+on_parts (requests.Page from to) input answer other h = h
+on_parts (requests.State dot to) input answer other h = h
+on_parts (requests.States dot from to) input answer other h = h
+on_parts requests.Aim input answer other h = h
+on_parts (requests.Translate to cells) input answer other h = h
+on_parts (requests.Live cells limit) input answer other h = h
+on_parts (requests.Batch seed count steps switch cells judge) input answer other h = h
+on_parts (requests.Sample seed steps switch cells) input answer other h = h
+on_parts (requests.Explore cells states illegal first) input answer other h = h
+on_parts (requests.Merge count) input answer other h = absurd (other count refl)
