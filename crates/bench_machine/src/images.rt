@@ -1,5 +1,5 @@
-// The images that are timed. Each thread has one call of one method, which loops for a long time, or many calls of a short
-// one.
+// The images that are timed. Each thread has one call of one method, which loops for a long time, or many calls of a
+// short method.
 
 use ls_code::code::{CallResult, Method, Parts, Start};
 use ls_code::instruction::Instruction;
@@ -27,7 +27,7 @@ pub enum Part {
 /// How many calls the part of short methods has.
 const SHORT_CALLS: u32 = 256;
 
-/// How many steps the part of short methods goes on for: four around each call and eight in its method.
+/// How many steps the part of short methods takes: four around each call and eight in its method.
 pub const SHORT_STEPS: u64 = 256 * 12;
 
 /// The image of a part.

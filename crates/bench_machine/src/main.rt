@@ -11,7 +11,7 @@ use ls_machine::{LoadFault, Machine};
 use std::alloc::Global;
 use std::{env, io};
 
-/// How many of so many steps acted. They are steps of thread 1, or of threads 1 and 2 by turns.
+/// How many of `steps` steps acted. They are steps of thread 1, or of threads 1 and 2 by turns.
 fn run(machine: &mut Machine, steps: u64, by_turns: bool) -> u64 {
     let mut acted = 0_u64;
     let mut first = true;
@@ -26,7 +26,7 @@ fn run(machine: &mut Machine, steps: u64, by_turns: bool) -> u64 {
     acted
 }
 
-/// How many of so many steps acted. Those of short methods are taken on one machine after another.
+/// How many of `steps` steps acted. Those of short methods are taken on one machine after another.
 fn timed(alloc: Global, code: &Code, part: Part, steps: u64) -> Result<u64, LoadFault> {
     let (machines, cells, each) = match part {
         Part::Methods => (steps / SHORT_STEPS, 1024, SHORT_STEPS),

@@ -8,7 +8,7 @@ use ls_stored_classes::LOCK_FREE;
 use std::alloc::{AllocError, Global};
 use std::{env, io};
 
-/// A text of so many bytes: the classes again and again, and spaces behind the last.
+/// A text of `bytes` bytes: the classes again and again, and spaces after the last class.
 fn text_of(alloc: Global, bytes: usize) -> Result<String, AllocError> {
     let mut text = String::new(alloc);
     for _ in 0..bytes {
@@ -24,7 +24,7 @@ fn text_of(alloc: Global, bytes: usize) -> Result<String, AllocError> {
     Ok(text)
 }
 
-/// How many tokens a text has, found so many times.
+/// How many tokens a text has, found `turns` times.
 fn tokens(alloc: Global, text: &str, turns: u64) -> Result<usize, TextFault> {
     let mut found = 0;
     for _ in 0..turns {
@@ -33,7 +33,7 @@ fn tokens(alloc: Global, text: &str, turns: u64) -> Result<usize, TextFault> {
     Ok(found)
 }
 
-/// How many classes a text has, found so many times.
+/// How many classes a text has, found `turns` times.
 fn classes(alloc: Global, text: &str, turns: u64) -> Result<usize, TextFault> {
     let mut found = 0;
     for _ in 0..turns {

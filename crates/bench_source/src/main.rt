@@ -1,4 +1,5 @@
-//! Steps of a source run, to be timed: `bench_source PART STEPS`, where the part is arithmetic, fields, calls, locks or turns.
+//! Steps of a source run, to be timed: `bench_source PART STEPS`.
+//! The part is arithmetic, fields, calls, locks or turns.
 #![tactic(auto)]
 
 mod part;
@@ -12,7 +13,7 @@ use ls_types_reading::program::read_program;
 use std::alloc::Global;
 use std::{env, io};
 
-/// So many steps of a part, from its texts; nothing, where a text is refused or memory runs out.
+/// `steps` steps of a part, from its texts. None if a text is refused or memory runs out.
 fn stepped(alloc: Global, part: Part, steps: u64) -> Option<Taken> {
     let text = program_text(alloc, part).ok()?;
     let checked = check(alloc, parse_text(alloc, CLASSES).ok()?).ok()?;

@@ -45,7 +45,7 @@ pub const CLASSES: &str = "class Bench {
 }
 ";
 
-/// The method that a part is about.
+/// The method that a part times.
 fn method_of(part: Part) -> &'static str {
     match part {
         Part::Arithmetic | Part::Turns => "arithmetic",

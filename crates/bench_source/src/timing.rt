@@ -12,7 +12,7 @@ use std::alloc::{AllocError, Global};
 /// How many steps the setup is given, more than it needs.
 const SETUP_STEPS: u64 = 20;
 
-/// What the steps did: how many acted, and the sum of the ints that they were answered, modulo 2^32.
+/// What the steps did: how many acted, and the sum modulo 2^32 of the ints that they were answered.
 #[derive(Drop)]
 pub struct Taken {
     pub acted: u64,
@@ -27,7 +27,7 @@ fn int_of(answer: Answer<Value>) -> i32 {
     }
 }
 
-/// So many steps of thread 1, or of threads 1 and 2 by turns, behind the setup.
+/// `steps` steps of thread 1, or of threads 1 and 2 by turns, after the setup.
 pub fn take_steps(
     alloc: Global,
     file: &File,

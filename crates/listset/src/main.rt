@@ -1,4 +1,4 @@
-//! Hands the real streams to the program.
+//! Gives the real streams to the program.
 #![tactic(auto)]
 
 use ls_tool::Exit;

@@ -6,6 +6,7 @@ use Rattle.ls_checked.specs.declared.tree.Statement.{Statement, Row_of-Statement
 use Rattle.ls_checked.specs.declared.tree.Statement.TheBlock.{hidden-the_row-Statement-0}
 use Rattle.ls_checked.specs.Plain.{plain_statement, row_statements, statements_of}
 
+-- the statements of a row are those of its list
 pub row_is_list : (n : _) (row : Row_of-Statement n) → row_statements row ≡ statements_of (items-the_row-Statement n row)
 row_is_list n end_of-Statement = refl
 row_is_list n (more_of-Statement s rest) = ap (Then (plain_statement s)) (row_is_list _ rest)

@@ -1,5 +1,5 @@
--- The checked tree as plain data. Slot 0 of a method is `this`, then come its parameters, then a slot for each local
--- that it declares, in text order. Classes, fields and methods are numbered in text order.
+-- The checked tree as plain data. Slot 0 of a method is `this`. After it come its parameters, then a slot for each
+-- local that it declares, in text order. Classes, fields and methods are numbered in text order.
 use Rattle.std.specs.Prelude.{ℕ, List, Option}
 use Rattle.ls_events.specs.declared.value.Value.{Value}
 use Rattle.ls_events.specs.declared.value.ValueType.{ValueType}
@@ -52,8 +52,8 @@ mutual
     Done : Statements
     Then : (first : Statement) → (others : Statements) → Statements
 
--- a method or constructor: its class, how many parameters it has, the types of its slots, the type that it answers, and
--- its body
+-- a method or constructor: its class, the number of its parameters, the types of its slots, the type that it answers,
+-- and its body
 pub record Method : Type 0 where
   pub class : ℕ
   pub parameters : ℕ

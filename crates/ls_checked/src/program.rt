@@ -2,7 +2,7 @@
 
 use ls_events::value::{Value, ValueType};
 
-/// What the setup names: its name, and the class of its object.
+/// A setup name, and the class of its object.
 #[derive(Drop)]
 pub struct SetupName {
     pub name: String,
@@ -22,12 +22,13 @@ pub enum ProgramCall {
         name: usize,
         method: usize,
         method_name: String,
-        /// What the method answers: an int, a boolean, or nothing.
+        /// The type that the method answers: int, boolean, or none.
         result: Option<ValueType>,
         values: Vec<Value>,
     },
 }
 
+/// A thread of a program: its name, and its calls in order.
 #[derive(Drop)]
 pub struct ThreadProgram {
     pub name: String,

@@ -1,8 +1,8 @@
 // Trees whose names are resolved.
 //
-// Slot 0 of a method is `this`; then come its parameters, then one slot for each local that it declares, in text order.
-// Classes, the fields of a class, and methods are numbered in text order. A class's default constructor comes after its
-// own methods.
+// Slot 0 of a method is `this`. After it come its parameters, then one slot for each local that it declares, in text
+// order. Classes, the fields of a class, and methods are numbered in text order. A class's default constructor comes
+// after its own methods.
 
 use ls_events::value::{Value, ValueType};
 use std::alloc::AllocError;
@@ -29,9 +29,9 @@ impl Clone for Operator {
     }
 }
 
-/// What a call runs: a method of the file, or an operation of a lock, of the monitor of an object, or of a markable
-/// reference. An operation of a monitor has the number of the object's class, and one that answers what a markable holds
-/// that of the class that it holds references to.
+/// What a call runs: a method of the file, or an operation of a lock, of an object's monitor, or of a markable
+/// reference. An operation of a monitor has the number of the object's class. An operation that answers what a
+/// markable holds has the number of the class of that object.
 #[derive(Copy)]
 pub enum Called {
     Method(usize),
@@ -55,6 +55,7 @@ impl Clone for Called {
     }
 }
 
+/// An expression of the checked tree.
 #[derive(Drop)]
 #[cycle(expressions)]
 pub enum Expression {
@@ -88,7 +89,7 @@ pub enum Expressions {
     More(Box<Expression>, Box<Expressions>),
 }
 
-/// `Break` and `Continue` say how many loops they leave behind: 0 is the innermost.
+/// `Break` and `Continue` say to which loop they belong, counted outward: 0 is the innermost.
 #[derive(Drop)]
 #[cycle(statements)]
 pub enum Statement {
@@ -99,7 +100,7 @@ pub enum Statement {
         field: usize,
         value: Expression,
     },
-    /// What is added to an int field of an object, whose target is evaluated once.
+    /// What is added to an int field of an object. The target is evaluated once.
     AddField {
         target: Expression,
         field: usize,
@@ -124,7 +125,7 @@ pub enum Statement {
 #[derive(Drop)]
 pub struct Method {
     pub class: usize,
-    /// How many parameters it has, `this` aside.
+    /// How many parameters it has, without `this`.
     pub parameters: usize,
     /// The types of its slots: `this`, the parameters, the locals.
     pub slots: Vec<ValueType>,
@@ -140,6 +141,7 @@ pub struct Class {
     pub constructor: usize,
 }
 
+/// A checked file: its classes and its methods, each by number.
 #[derive(Drop)]
 pub struct File {
     pub classes: Vec<Class>,

@@ -126,6 +126,7 @@ the_operand n x h k = omega arith
 the_opcode : (n x : ℕ) → n < 2 ^ 8 → x < 2 ^ 32 → (n + 2 ^ 8 * x) % 2 ^ 8 ≡ n
 the_opcode n x h k = omega arith
 
+-- an instruction that is encoded is decoded again
 pub decoded-encoded : (i : Instruction) → operand_of i < 2 ^ 32 → decoded (encoded i) ≡ Some i
 decoded-encoded i small =
     let a = no_rest (opcode_of i) (operand_of i) (opcode_small i) small in

@@ -48,6 +48,7 @@ run_history m (n ∷ ns) =
     let d = ap (λ es. m.history ++ es) (sym (traced_events m.code n (machine_step m n).did later)) in
     e ∙ (a ∙ (b ∙ d))
 
+-- the law: a history is the events of its trace
 pub histories : HistoriesAreOfTraces
 histories p cells ns = run_history (loaded p cells) ns
 
@@ -58,6 +59,7 @@ traced_more n did.Waits xs ys = refl
 traced_more n did.Idle xs ys = refl
 traced_more n did.Stopped xs ys = refl
 
+-- the law: a run goes on from the machine that another run has reached
 pub go_on : RunsGoOn
 go_on m [] ms = (refl, refl)
 go_on m (n ∷ ns) ms =

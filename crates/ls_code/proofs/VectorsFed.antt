@@ -59,7 +59,7 @@ is_stuck : fed (record code { handlers = [] }) 1 5 5 start (Done ∷ Fails NullP
 unfolding code start
 is_stuck = refl
 
--- lock() and unlock() of the lock under the one name, by load and exchange
+-- lock() and unlock() of the lock under the only setup name, by load and exchange
 locking : Code
 locking = record code { instructions = op.GetName 0 ∷ op.See 1 ∷ op.Take 1 ∷ op.JumpIfFalse 1 ∷ op.See 3 ∷ op.DropLock 0 ∷ op.Push 9 ∷ op.PutName 0 ∷ op.Halt ∷ [] }
 
@@ -71,7 +71,7 @@ asks_lock : (fed locking 1 5 5 locker (Gives 3 ∷ []) ≡ Asked (act.Lock 3)) �
 unfolding locking code locker
 asks_lock = (refl, refl)
 
--- where another thread owns the lock, or the exchange is lost, the thread looks again
+-- if another thread owns the lock, or if the exchange is lost, the thread looks again
 asks_again : (fed locking 1 5 5 locker (Gives 3 ∷ Gives 12884901889 ∷ []) ≡ Asked (act.Lock 3)) × (fed locking 1 5 5 locker (Gives 3 ∷ Gives 0 ∷ Gives 0 ∷ []) ≡ Asked (act.Lock 3))
 unfolding locking code locker
 asks_again = (refl, refl)
@@ -90,7 +90,7 @@ throws_unlock : fed locking 1 5 5 locker (Gives 3 ∷ Gives 0 ∷ Gives 1 ∷ Gi
 unfolding locking code locker
 throws_unlock = refl
 
--- the same of the monitor of the object under the one name
+-- the same of the monitor of the object under the only setup name
 monitoring : Code
 monitoring = record code { instructions = op.GetName 0 ∷ op.See 4 ∷ op.Take 4 ∷ op.JumpIfFalse 1 ∷ op.See 5 ∷ op.DropLock 1 ∷ op.Push 9 ∷ op.PutName 0 ∷ op.Halt ∷ [] }
 
@@ -102,7 +102,7 @@ leaves_monitor : (fed monitoring 1 5 5 locker (Gives 3 ∷ Gives 0 ∷ Gives 1 �
 unfolding monitoring code locker
 leaves_monitor = (refl, refl, refl)
 
--- DROP of a monitor where SEE began an unlock isn't that of this table
+-- if SEE began an unlock, DROP of a monitor isn't in this table
 mismatched : Code
 mismatched = record code { instructions = op.GetName 0 ∷ op.DropLock 2 ∷ op.Halt ∷ [] }
 

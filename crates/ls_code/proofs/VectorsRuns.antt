@@ -14,8 +14,8 @@ use Rattle.ls_events.specs.declared.action.Action.TheVariants as act
 use Rattle.ls_events.specs.declared.action.Answer.{Answer}
 use Rattle.ls_events.specs.declared.action.Answer.TheVariants.{Done, Gives}
 
--- the setup makes an object and keeps it under its one name; thread 1 calls a method that answers -1; thread 2 makes an object and enters a method
--- on null
+-- The setup makes an object and keeps it under its only name. Thread 1 calls a method that answers -1. Thread 2 makes
+-- an object and enters a method on null.
 code : Code
 code = record {
   instructions =

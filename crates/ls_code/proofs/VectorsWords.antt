@@ -92,7 +92,8 @@ jumps : (frame_move (op.JumpIfFalse 9) (frame (0 ∷ [])) ≡ Next (record { cou
 unfolding frame
 jumps = (refl, refl)
 
--- throws: the first row that holds the place, the operands cut to its depth; a frame without such a row is dropped
+-- throws: the first row that holds the place, with the operands cut to its depth; a frame without a row for the place
+-- is dropped
 row : ℕ → ℕ → ℕ → ℕ → HandlerRow
 row from to handler depth = record { from = from; to = to; handler = handler; depth = depth }
 
@@ -129,7 +130,7 @@ held : (effect (cells (0 ∷ [])) 1 (act.Lock 1) ≡ Answers (cells (8589934593 
 unfolding cells
 held = (refl, refl, refl, refl, refl, refl)
 
--- an object's first cell is its monitor's word; its field 0 stands in the next
+-- an object's first cell is its monitor's word; its field 0 is in the next cell
 monitored : (effect (cells (0 ∷ 7 ∷ [])) 1 (act.LockMonitor 1) ≡ Answers (cells (8589934593 ∷ 7 ∷ [])) Done) × (effect (cells (8589934593 ∷ 7 ∷ [])) 2 (act.LockMonitor 1) ≡ Waits) × (effect (cells (8589934593 ∷ 7 ∷ [])) 1 (act.UnlockMonitor 1) ≡ Answers (cells (0 ∷ 7 ∷ [])) Done) × (effect (cells (8589934593 ∷ 7 ∷ [])) 2 (act.UnlockMonitor 1) ≡ Answers (cells (8589934593 ∷ 7 ∷ [])) (Fails IllegalMonitorState)) × (effect (cells (8589934593 ∷ 7 ∷ [])) 2 (act.ReadField 1 1) ≡ Answers (cells (8589934593 ∷ 7 ∷ [])) (Gives 7))
 unfolding cells
 monitored = (refl, refl, refl, refl, refl)

@@ -1,4 +1,4 @@
--- What the instructions do that are about more than one frame.
+-- What the instructions do that concern more than one frame.
 use Rattle.std.specs.Prelude.{ℕ, ◌+◌, ◌-◌, List, [], ◌∷◌, ◌++◌, take, drop, length, reverse, replicate, Option, Some, None, true, false, nat_lt, ◌==◌, if◌then◌else◌, slice_get}
 use Rattle.ls_code.specs.Frame.{Frame, onward}
 use Rattle.ls_code.specs.Thread.{Thread, with_frames}
@@ -24,7 +24,7 @@ locals_of m operands = reverse (take m.arguments operands) ++ replicate m.more 0
 abbrev pub entered : Method → Frame → Frame
 entered m f = record { counter = m.start; locals = locals_of m f.operands; operands = []; need = m.need }
 
--- the caller waits at its call, without the arguments
+-- the caller waits at its call, and has no longer the arguments
 abbrev pub calling : Method → Frame → Frame
 calling m f = record f { operands = drop m.arguments f.operands }
 
@@ -34,7 +34,7 @@ with_callee m t = with_frames t (entered m t.top) (calling m t.top ∷ t.below)
 abbrev pub halted : Thread → Thread
 halted t = record t { mode = Ended }
 
--- a call begins; it ends with the frame as it then is; it ends by a trap
+-- a call begins; a call ends with the frame as it then is; a call ends by a trap
 abbrev pub call_begun : Thread → Thread
 call_begun t = record t { top = onward t.top t.top.operands; pending = true }
 

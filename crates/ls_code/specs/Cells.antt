@@ -10,8 +10,8 @@ use Rattle.ls_events.specs.declared.action.Answer.TheVariants.{Done, Gives, Fail
 use Rattle.ls_code.specs.declared.lock_word.Taken.TheVariants as taken
 use Rattle.ls_code.specs.declared.lock_word.Left.TheVariants as left
 
--- the words of the cells taken so far, at addresses 1, 2, 3, .., how many cells there are in all, how many of the first are the setup names',
--- and the cells of an object of each class
+-- The words of the cells that are taken so far, at addresses 1, 2, 3 and so on. How many cells there are in all. How
+-- many of the first are those of the setup names. How many cells an object of each class has.
 pub record Cells : Type 0 where
   pub words : List ℕ
   pub limit : ℕ
@@ -25,7 +25,7 @@ pub data Effect : Type 0 where
   Stops : Effect
   Unfit : Effect
 
--- the place in the list of a cell of the object at an address; there is none at address 0
+-- the place in the list of a cell of the object at an address; none for address 0
 abbrev pub place_at : ℕ → ℕ → Option ℕ
 place_at zero offset = None
 place_at (suc before) offset = Some (before + offset)
@@ -60,14 +60,14 @@ written c address offset word answer = written_at c (place_at address offset) wo
 abbrev pub on_name : Cells → ℕ → Effect → Effect
 on_name c n effect = if nat_lt n c.names then effect else Unfit
 
--- the next cells are taken, and hold these words; where there are too few, the machine stops
+-- the next cells are taken, and hold these words; if there are too few, the machine stops
 abbrev pub making : Cells → List ℕ → Effect
 making c words = if nat_le (length c.words + length words) c.limit then Answers (with_words c (c.words ++ words)) (Gives (length c.words + 1)) else Stops
 
 abbrev pub new_effect : Cells → ℕ → Effect
 new_effect c class = on_cell (slice_get c.sizes class) (λ size. making c (replicate size 0))
 
--- an item of an array: its length stands in its first cell
+-- whether an item is in an array; the length of the array is in its first cell
 abbrev pub in_range : ℤ → ℕ → Bool
 in_range (pos index) count = nat_lt index count
 in_range (negsuc n) count = false

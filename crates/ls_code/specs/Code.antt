@@ -6,14 +6,14 @@ use Rattle.ls_code.specs.declared.code.HandlerRow.{HandlerRow}
 use Rattle.ls_code.specs.declared.code.Method.{Method}
 use Rattle.ls_code.specs.declared.code.CallResult.{CallResult}
 
--- where a thread starts, its stack need, and for each of its calls what it answers
+-- where a thread starts, how many operands it may have, and what each of its calls answers
 pub record Start : Type 0 where
   pub place : ℕ
   pub need : ℕ
   pub calls : List CallResult
 
--- the instructions of all units, the handler rows (of two that hold one place the first is the innermost), the methods,
--- the cells of an object of each class, the threads, the setup's first, and the number of setup names
+-- The instructions of all units. The handler rows; if two rows hold one place, the first row is the innermost. The
+-- methods, the cells of an object of each class, the threads (the setup first), and the number of setup names.
 pub record Code : Type 0 where
   pub instructions : List Instruction
   pub handlers : List HandlerRow
@@ -22,7 +22,7 @@ pub record Code : Type 0 where
   pub starts : List Start
   pub names : ℕ
 
--- its numbers are small enough that a machine can be made of it
+-- its numbers are small enough for a machine
 pub record IsSmall (c : Code) : Type 0 where
   pub threads : length c.starts ≤ 65
   pub calls : All (λ s. length s.calls ≤ 2 ^ 20) c.starts

@@ -1,4 +1,5 @@
--- Locks and monitors by load and exchange: SEE, TAKE and DROP. The word of a lock, and of an object's monitor, stands in its first cell.
+-- Locks and monitors by load and exchange: SEE, TAKE and DROP. The word of a lock, or of an object's monitor, is in
+-- its first cell.
 use Rattle.std.specs.Prelude.{ℕ, List, ◌∷◌, length, Option, Some, None, ◌||◌, ◌==◌, nat_lt, if◌then◌else◌}
 use Rattle.ls_code.specs.Frame.{Frame}
 use Rattle.ls_code.specs.Moves.{pushed, settled, discarded}
@@ -17,14 +18,15 @@ use Rattle.ls_code.specs.declared.lock_word.Taken.TheVariants as taken
 use Rattle.ls_code.specs.declared.lock_word.Left.{Left}
 use Rattle.ls_code.specs.declared.lock_word.Left.TheVariants as left
 
--- what a thread does once it knows a lock's word: it goes on in silence, or its operation is over with this answer; it is stuck where there is
--- no thread
+-- What a thread does once it knows a lock's word. It goes on in silence, or its operation is over with this answer. If
+-- there is no thread, it is stuck.
 pub data Seen : Type 0 where
   Quietly : (thread : Option Thread) → Seen
   Reports : (action : Action ℕ) → (answer : Answer ℕ) → (thread : Option Thread) → Seen
 
--- What a thread does with a lock's word, in the course of an operation on the lock. `Says`: nothing with the cell. `Touches`: the cell is
--- read or exchanged as that of a pair, and the thread goes on with the word read, or with 1 where the exchange was won. `Stores`: the cell is written.
+-- What a thread does with a lock's word, as a part of an operation on the lock. `Says`: nothing with the cell.
+-- `Touches`: the cell is read or exchanged like that of a pair; the thread goes on with the word that it read, or with
+-- 1 if it won the exchange. `Stores`: the cell is written.
 pub data Plan : Type 0 where
   Says : (seen : Seen) → Plan
   Touches : (operation : Action ℕ) → (touch : Action ℕ) → (go : ℕ → Seen) → Plan
@@ -41,8 +43,8 @@ thrown_to t (Some r) = Some (with_frames t r.0 r.1)
 abbrev pub throwing : Code → Thread → Kind → Option Thread
 throwing p t kind = thrown_to t (thrown p.handlers kind (t.top ∷ t.below))
 
--- the operation that the operand of SEE names: 1 lock, 2 tryLock, 3 unlock, 4 and 5 lock and unlock of a monitor; that of TAKE:
--- 1 lock, 2 tryLock, 4 lock of a monitor; that of DROP: 0 unlock, 1 unlock of a monitor
+-- The operation that an operand names. Of SEE: 1 lock, 2 tryLock, 3 unlock, 4 and 5 lock and unlock of a monitor. Of
+-- TAKE: 1 lock, 2 tryLock, 4 lock of a monitor. Of DROP: 0 unlock, 1 unlock of a monitor.
 abbrev pub seeing_action : ℕ → ℕ → Option (Action ℕ)
 seeing_action x lock =
     if x == 1 then Some (act.Lock lock) else (if x == 2 then Some (act.TryLock lock) else (if x == 3 then Some (act.Unlock lock) else (if x == 4 then Some (act.LockMonitor lock) else (if x == 5 then Some (act.UnlockMonitor lock) else None))))
@@ -59,7 +61,8 @@ taking_answer x = if x == 2 then Gives 1 else Done
 abbrev pub with_word : Thread → ℕ → Option Thread
 with_word t word = Some (with_top t (pushed t.top word))
 
--- SEE: the word is pushed; a tryLock where another thread owns the lock, and an unlock where this thread doesn't own it, are over here
+-- SEE pushes the word. Two operations are over here: a tryLock if another thread owns the lock, and an unlock if this
+-- thread doesn't own it.
 abbrev pub saw : Code → Thread → ℕ → ℕ → Action ℕ → ℕ → Seen
 saw p t n x operation word =
     if x == 2 then (elim (taken_of word n) as (λ _. Seen) [ taken.Other ↦ Reports operation (Gives 0) (with_word t word) | taken.Taken next ↦ Quietly (with_word t word) | taken.TooMany ↦ Quietly (with_word t word) ]) else (if x == 3 || x == 5 then (if is_own word n then Quietly (with_word t word) else Reports operation (Fails IllegalMonitorState) (throwing p t IllegalMonitorState)) else Quietly (with_word t word))

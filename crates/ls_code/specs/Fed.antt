@@ -1,4 +1,4 @@
--- A thread fed with answers: the thread part alone, with no cells.
+-- A thread that is fed with answers: the thread alone, without cells.
 use Rattle.std.specs.Prelude.{ℕ, zero, suc, List, [], ◌∷◌, Option, Some, None}
 use Rattle.ls_code.specs.Code.{Code}
 use Rattle.ls_code.specs.Thread.{Thread}
@@ -10,8 +10,8 @@ use Rattle.ls_events.specs.declared.action.Action.{Action}
 use Rattle.ls_events.specs.declared.action.Answer.{Answer}
 use Rattle.ls_events.specs.declared.action.Answer.TheVariants.{Done, Gives, Fails}
 
--- Where a thread stands when it is no longer silent: it waits for the next of the answers, for an operation; it has acted on a lock's word that it
--- had seen, and takes no answer for that; it is over; it is stuck, or has been silent for too long.
+-- Why a thread is no longer silent. It waits for the next answer, for an operation. Or it has acted on a lock's word
+-- that it had seen, and takes no answer for that. Or it is over. Or it is stuck, or has been silent for too long.
 pub data Pause : Type 0 where
   Paused : (action : Action ℕ) → (go : Answer ℕ → Option Thread) → Pause
   Passes : (thread : Option Thread) → Pause
@@ -19,12 +19,12 @@ pub data Pause : Type 0 where
   IsStuck : Pause
   TooLong : Pause
 
--- the thread after it has seen a lock's word, or whether an exchange was won
+-- the thread after it has seen a lock's word, or after it knows whether it won an exchange
 abbrev pub seen_thread : Seen → Option Thread
 seen_thread (Quietly t) = t
 seen_thread (Reports action answer t) = t
 
--- the next of the answers is the lock's word that SEE sees, and 1 where TAKE wins its exchange
+-- the next answer is the lock's word that SEE sees, or 1 if TAKE wins its exchange
 abbrev pub told_word : (ℕ → Seen) → Answer ℕ → Option Thread
 told_word go (Gives word) = seen_thread (go word)
 told_word go Done = None
@@ -60,8 +60,8 @@ abbrev pub quiet : Code → ℕ → ℕ → Thread → Pause
 quiet p number zero t = advance p number t.mode t (λ s. TooLong)
 quiet p number (suc n) t = advance p number t.mode t (quiet p number n)
 
--- what a fed thread comes to: the action that it asks for when the answers are used up, or its end; a stuck thread gives neither, nor does one that is
--- silent for too long
+-- How a fed thread goes on: the action that it asks for when the answers are used up, or its end. If it is stuck, or
+-- silent for too long, it is lost.
 pub data Fed : Type 0 where
   Asked : (action : Action ℕ) → Fed
   Ended : Fed
@@ -73,12 +73,12 @@ ending mode.Running = Lost
 ending mode.Ended = Ended
 ending mode.Trapped = Trapped
 
--- goes on to the next pause, with at most so many silent instructions
+-- goes on to the next pause, with at most `bound` silent instructions
 abbrev pub quiet_from : Code → ℕ → ℕ → Option Thread → Pause
 quiet_from p number bound None = IsStuck
 quiet_from p number bound (Some t) = quiet p number bound t
 
--- over an action on a lock's word that was seen
+-- goes on after an action on a lock's word that the thread had seen
 abbrev pub passed : Code → ℕ → ℕ → Pause → Pause
 passed p number bound (Passes t) = quiet_from p number bound t
 passed p number bound (Paused action go) = Paused action go
@@ -86,8 +86,8 @@ passed p number bound (IsOver m) = IsOver m
 passed p number bound IsStuck = IsStuck
 passed p number bound TooLong = TooLong
 
--- The answers one after another. The bound on silent instructions begins anew after each action; after one answer there is at most one action on
--- a lock's word.
+-- The answers one after another. The bound on silent instructions begins anew after each action. After one answer
+-- there is at most one action on a lock's word.
 abbrev pub resume : Code → ℕ → ℕ → List (Answer ℕ) → Pause → Fed
 resume p number bound [] (Paused action go) = Asked action
 resume p number bound (x ∷ rest) (Paused action go) = resume p number bound rest (passed p number bound (quiet_from p number bound (go x)))
@@ -96,6 +96,7 @@ resume p number bound answers (IsOver m) = ending m
 resume p number bound answers IsStuck = Lost
 resume p number bound answers TooLong = Lost
 
--- a thread of the image with this number, with at most n silent instructions before its next action, and at most so many after each action
+-- The thread of this number, fed with answers. It may have n silent instructions before its next action, and `bound`
+-- after each action.
 abbrev pub fed : Code → ℕ → ℕ → ℕ → Thread → List (Answer ℕ) → Fed
 fed p number bound n t answers = resume p number bound answers (passed p number bound (quiet p number n t))

@@ -1,14 +1,14 @@
 -- One frame of a thread.
 use Rattle.std.specs.Prelude.{ℕ, ◌+◌, List, [], ◌∷◌, Option, Some, None}
 
--- where it stands, its locals, its operands with the top first, and how many operands it may have
+-- its place in the code, its locals, its operands with the top first, and how many operands it may have
 pub record Frame : Type 0 where
   pub counter : ℕ
   pub locals : List ℕ
   pub operands : List ℕ
   pub need : ℕ
 
--- one instruction on, with these operands
+-- at the next instruction, with these operands
 abbrev pub onward : Frame → List ℕ → Frame
 onward f operands = record f { counter = f.counter + 1; operands = operands }
 
@@ -16,7 +16,7 @@ onward f operands = record f { counter = f.counter + 1; operands = operands }
 abbrev pub led_to : Frame → ℕ → List ℕ → Frame
 led_to f place operands = record f { counter = place; operands = operands }
 
--- the top operand; the two topmost, the top last; the three topmost
+-- the top operand; the two topmost operands, with the top last; the three topmost operands
 abbrev pub top_one : List ℕ → Option ℕ
 top_one [] = None
 top_one (a ∷ rest) = Some a

@@ -20,7 +20,7 @@ table x =
 abbrev pub decoded : ℕ → Option Instruction
 decoded word = if word / 2 ^ 40 == 0 then slice_get (table (word / 2 ^ 8 % 2 ^ 32)) (word % 2 ^ 8) else None
 
--- the opcode and the operand of an instruction; where it has none, the operand is 0
+-- the opcode and the operand of an instruction; the operand is 0 if it has none
 abbrev pub opcode_of : Instruction → ℕ
 opcode_of op.Halt = 0
 opcode_of (op.Push x) = 1

@@ -5,22 +5,24 @@ use Rattle.ls_code.specs.declared.lock_word.Taken.TheVariants as taken
 use Rattle.ls_code.specs.declared.lock_word.Left.{Left}
 use Rattle.ls_code.specs.declared.lock_word.Left.TheVariants as left
 
--- a lock is free, or a thread holds it some number of times
+-- a lock is free, or a thread holds it a number of times
 pub data LockState : Type 0 where
   Free : LockState
   Held : (owner holds : ℕ) → LockState
 
--- the word of a lock: 0, or the owner's number and one, and the holds in the last 32 bits
+-- The word of a lock. It is 0, or it has the owner's number and one in its upper bits, and the holds in its last 32
+-- bits.
 abbrev pub lock_word_of : LockState → ℕ
 lock_word_of Free = 0
 lock_word_of (Held owner holds) = (owner + 1) * 2 ^ 32 + holds
 
--- a lock that can come about
+-- a lock as it may be
 abbrev pub IsLock : LockState → Type 0
 IsLock Free = Unit {0}
 IsLock (Held owner holds) = (1 ≤ holds) × (holds ≤ 2147483647)
 
--- what `lock()` by a thread does: it takes a free lock or one hold more, it has to wait, or the holds would be too many
+-- What `lock()` by a thread does. It takes a free lock or one more hold, or it has to wait, or the holds would be too
+-- many.
 pub data LockResult : Type 0 where
   Holds : (state : LockState) → LockResult
   AnotherOwns : LockResult
@@ -30,7 +32,7 @@ abbrev pub lock_by : ℕ → LockState → LockResult
 lock_by thread Free = Holds (Held thread 1)
 lock_by thread (Held owner holds) = if owner == thread then (if holds == 2147483647 then OverHeld else Holds (Held owner (holds + 1))) else AnotherOwns
 
--- what `unlock()` by a thread does: one hold less, or nothing where it isn't the owner
+-- what `unlock()` by a thread does: one hold less, or nothing if it isn't the owner
 pub data UnlockResult : Type 0 where
   Leaves : (state : LockState) → UnlockResult
   NotOwned : UnlockResult
@@ -39,7 +41,7 @@ abbrev pub unlock_by : ℕ → LockState → UnlockResult
 unlock_by thread Free = NotOwned
 unlock_by thread (Held owner holds) = if owner == thread then Leaves (if holds == 1 then Free else Held owner (holds - 1)) else NotOwned
 
--- both, in words
+-- what `lock()` and `unlock()` do, as words
 abbrev pub taken_in_words : LockResult → Taken
 taken_in_words (Holds state) = taken.Taken (lock_word_of state)
 taken_in_words AnotherOwns = taken.Other

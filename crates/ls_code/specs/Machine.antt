@@ -34,7 +34,7 @@ started s = record { top = empty_frame s.place s.need; below = []; mode = mode.R
 abbrev pub first_cells : ℕ → ℕ → List ℕ → Cells
 first_cells names limit sizes = record { words = replicate names 0; limit = limit; names = names; sizes = sizes }
 
--- the machine of an image, with so many cells, at its start
+-- the machine of an image, with this many cells, at its start
 abbrev pub loaded : Code → ℕ → Machine
 loaded p cells = record { code = p; threads = map started p.starts; cells = first_cells p.names cells p.sizes; stopped = false; history = [] }
 
@@ -53,7 +53,7 @@ abbrev pub setup_ended : Option Thread → Bool
 setup_ended None = false
 setup_ended (Some setup) = has_ended setup.mode
 
--- a thread is due where it goes on and, but for the setup, where the setup has ended
+-- a thread is due if it goes on; for each thread but the setup, the setup must have ended too
 abbrev pub is_due : List Thread → ℕ → Thread → Bool
 is_due threads n t = is_running t.mode && (n == 0 || setup_ended (slice_get threads 0))
 
@@ -75,7 +75,7 @@ pub record Stepped : Type 0 where
 abbrev pub stepped_by : Machine → Did → Stepped
 stepped_by m d = record { machine = m; did = d }
 
--- where it is due; where the machine hasn't stopped; where there is such a thread
+-- the step of a thread, if it is due; if the machine hasn't stopped; if the thread exists
 abbrev pub due_step : Machine → ℕ → Thread → Bool → Stepped
 due_step m n t false = stepped_by m did.Idle
 due_step m n t true = let o = performed m.cells n t (thread_move m.code t) in stepped_by (after m n o) o.did
@@ -118,7 +118,7 @@ abbrev pub machine_trace : Machine → List ℕ → List Entry
 machine_trace m [] = []
 machine_trace m (n ∷ ns) = traced n (machine_step m n).did (machine_trace (machine_step m n).machine ns)
 
--- where a thread stands; one that isn't there has ended
+-- the state of a thread; a thread that doesn't exist has ended
 abbrev pub mode_state : Mode → ThreadState
 mode_state mode.Running = state.Running
 mode_state mode.Ended = state.Ended

@@ -14,8 +14,8 @@ use Rattle.ls_code.specs.declared.instruction.Instruction.TheVariants as op
 use Rattle.ls_events.specs.declared.action.Action.{Action}
 use Rattle.ls_events.specs.declared.action.Action.TheVariants as act
 
--- the frame goes on in silence, throws, is stuck, or asks for an action and goes on so with its answer; or the instruction is about more than
--- this frame
+-- A frame goes on in silence, throws, is stuck, or asks for an action and goes on with its answer. Or the instruction
+-- concerns more than this frame.
 pub data FrameMove : Type 0 where
   Next : (frame : Frame) → FrameMove
   Throws : (kind : Kind) → FrameMove
@@ -23,11 +23,11 @@ pub data FrameMove : Type 0 where
   Asks : (action : Action ℕ) → (resume : Resume) → FrameMove
   Beyond : (instruction : ThreadInstruction) → FrameMove
 
--- where one more operand may be pushed
+-- if one more operand may be pushed; else stuck
 abbrev pub with_room : Frame → FrameMove → FrameMove
 with_room f move = if nat_lt (length f.operands) f.need then move else Stuck
 
--- the top, the two topmost and the three topmost operands, or stuck
+-- with the top operand, the two topmost or the three topmost; stuck if there are too few
 abbrev pub on_one : Option ℕ → (ℕ → FrameMove) → FrameMove
 on_one None go = Stuck
 on_one (Some a) go = go a
@@ -40,7 +40,7 @@ abbrev pub on_three : Option (ℕ × ℕ × ℕ) → (ℕ → ℕ → ℕ → Fr
 on_three None go = Stuck
 on_three (Some p) go = go p.0 p.1 p.2
 
--- on, with n operands replaced by a word; with n operands dropped
+-- at the next instruction, with n operands replaced by a word; or with n operands dropped
 abbrev pub settled : Frame → ℕ → ℕ → Frame
 settled f n word = onward f (word ∷ drop n f.operands)
 
@@ -68,7 +68,7 @@ binary g f = on_two (top_two f.operands) (λ a b. Next (settled f 2 (g a b)))
 abbrev pub dividing : (ℕ → ℕ → ℕ) → Frame → FrameMove
 dividing g f = on_two (top_two f.operands) (λ a b. if b % 2 ^ 32 == 0 then Throws Arithmetic else Next (settled f 2 (g a b)))
 
--- not at address 0
+-- at address 0 it throws
 abbrev pub at_object : ℕ → FrameMove → FrameMove
 at_object address move = if address == 0 then Throws NullPointer else move
 
@@ -84,7 +84,7 @@ stored f x word = record (discarded_one f) { locals = slice_set f.locals x word 
 abbrev pub store_move : ℕ → Frame → FrameMove
 store_move x f = on_one (top_one f.operands) (λ word. if nat_lt x (length f.locals) then Next (stored f x word) else Stuck)
 
--- a jump where the popped word is this one
+-- a jump if the popped word is this word
 abbrev pub jump_move : ℕ → ℕ → Frame → FrameMove
 jump_move word x f = on_one (top_one f.operands) (λ a. if a == word then Next (led_to f x (drop 1 f.operands)) else Next (discarded f 1))
 

@@ -24,7 +24,8 @@ use Rattle.ls_events.specs.declared.action.Action.TheVariants as act
 use Rattle.ls_events.specs.declared.action.Answer.{Answer}
 use Rattle.ls_events.specs.declared.action.Answer.TheVariants.{Done, Gives, Fails}
 
--- a thread goes on in silence, is stuck, asks for an action and goes on with its answer, or has a plan for a lock's word by its own number
+-- A thread goes on in silence, is stuck, or asks for an action and goes on with its answer. Or it has a plan for a
+-- lock's word, which depends on its own number.
 pub data Move : Type 0 where
   Silent : (thread : Thread) → Move
   Still : Move
@@ -62,7 +63,8 @@ abbrev pub on_kind : Option Kind → (Kind → Move) → Move
 on_kind None go = Still
 on_kind (Some kind) go = go kind
 
--- The call that is due begins; the pending call gives its value, where it has one; it traps. A thread's calls are numbered from 1.
+-- The call that is due begins. Or the pending call gives its value, if it has one. Or it traps. A thread's calls are
+-- numbered from 1.
 abbrev pub begin_move : Thread → ℕ → Move
 begin_move t x = if not t.pending && (x == t.ended + 1) && nat_le x (length t.calls) then Asks (act.Call x) (λ answer. Some (call_begun t)) else Still
 
@@ -118,7 +120,7 @@ abbrev pub fetched_move : Code → Thread → Option Instruction → Move
 fetched_move p t None = Still
 fetched_move p t (Some i) = of_frame p t (frame_move i t.top)
 
--- the thread part of a step
+-- the thread's part of a step
 abbrev pub thread_move : Code → Thread → Move
 thread_move p t = fetched_move p t (slice_get p.instructions t.top.counter)
 

@@ -4,8 +4,9 @@ use Rattle.ls_code.specs.Frame.{Frame}
 use Rattle.ls_code.specs.declared.step.Mode.{Mode}
 use Rattle.ls_code.specs.declared.code.CallResult.{CallResult}
 
--- The innermost frame, the frames below it, whether it goes on, what each of its calls answers, how many calls have
--- ended, and whether one is pending. The last of all frames runs the calls; the frames above it are depths 1 to 64.
+-- The innermost frame, the frames below it, and whether the thread goes on. What each of its calls answers, how many
+-- calls have ended, and whether a call is pending. The last of all frames runs the calls. The frames above it are
+-- depths 1 to 64.
 pub record Thread : Type 0 where
   pub top : Frame
   pub below : List Frame

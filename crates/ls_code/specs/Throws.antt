@@ -19,7 +19,7 @@ abbrev pub find_row : List HandlerRow → ℕ → Option HandlerRow
 find_row [] place = None
 find_row (row ∷ rows) place = if nat_le row.from place && nat_lt place row.to then Some row else find_row rows place
 
--- the operands cut to the row's depth, the kind on top, at the handler; none where the kind has no room
+-- the operands cut to the row's depth, with the kind on top, at the handler; none if there is no room for the kind
 abbrev pub cut_to : ℕ → List ℕ → List ℕ
 cut_to depth operands = drop (length operands - depth) operands
 

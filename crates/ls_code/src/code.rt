@@ -8,7 +8,7 @@ use crate::instruction::Instruction;
 use std::alloc::{AllocError, Global};
 use std::marker::Model;
 
-/// A handler row: a throw from `from` to below `to` cuts the operands to `depth` and goes on at `handler`.
+/// A handler row. A throw at a place from `from` to below `to` cuts the operands to `depth` and goes on at `handler`.
 #[derive(Copy)]
 pub struct HandlerRow {
     pub from: usize,
@@ -23,7 +23,8 @@ impl Clone for HandlerRow {
     }
 }
 
-/// Where a method starts, how many arguments it takes (`this` among them), its further locals, and its stack need.
+/// Where a method starts, how many arguments it takes (`this` too), its further locals, and how many operands it may
+/// have.
 #[derive(Copy)]
 pub struct Method {
     pub start: usize,
@@ -38,7 +39,7 @@ impl Clone for Method {
     }
 }
 
-/// What a call of a thread answers.
+/// The type of what a call of a thread answers.
 #[derive(Copy)]
 pub enum CallResult {
     Nothing,
@@ -52,7 +53,7 @@ impl Clone for CallResult {
     }
 }
 
-/// Where a thread starts, its stack need, and for each of its calls what it answers.
+/// Where a thread starts, how many operands it may have, and what each of its calls answers.
 #[derive(Drop)]
 pub struct Start {
     place: usize,
@@ -69,38 +70,42 @@ impl Model for Start {
 }
 
 impl Start {
+    /// The start of a thread.
     pub fn new(place: usize, need: usize, calls: Vec<CallResult>) -> Start
         ensures { result ≡ record { place = place; need = need; calls = calls.items } }
     {
         Start { place, need, calls }
     }
 
+    /// The place of its first instruction.
     pub fn place(&self) -> usize
         ensures { result ≡ self.now.place }
     {
         self.place
     }
 
+    /// How many operands it may have at one time.
     pub fn need(&self) -> usize
         ensures { result ≡ self.now.need }
     {
         self.need
     }
 
+    /// What each of its calls answers, in order.
     pub fn calls(&self) -> &[CallResult]
         ensures { result.now ≡ self.now.calls }
     {
         self.calls.as_slice()
     }
 
-    /// A copy of what the calls answer.
+    /// A copy of what the calls answer. The only refusal is that memory ran out.
     pub fn copied_calls(&self, alloc: Global) -> Result<Vec<CallResult>, AllocError>
         ensures { IfOk result (λ calls. calls.items ≡ self.now.calls) }
     {
         self.calls.iter().copied().collect(alloc)
     }
 
-    /// A copy.
+    /// A copy. The only refusal is that memory ran out.
     pub fn copied(&self, alloc: Global) -> Result<Start, AllocError>
         ensures { IfOk result (λ copy. copy ≡ self.now) }
     {
@@ -112,7 +117,7 @@ impl Start {
     }
 }
 
-/// The most threads of an image, the setup among them.
+/// The most threads of an image; the setup counts.
 pub const MOST_THREADS: usize = 65;
 
 /// The most calls of a thread.
@@ -121,7 +126,7 @@ pub const MOST_CALLS: usize = 1_048_576;
 /// The most arguments of a method, and the most of its further locals.
 pub const MOST_LOCALS: usize = 1_048_576;
 
-/// The parts of an image, of which nothing is known yet.
+/// The parts of an image. Nothing is known of them yet.
 #[derive(Drop)]
 pub struct Parts {
     pub instructions: Vec<Instruction>,
@@ -141,7 +146,7 @@ impl Model for Parts {
 }
 
 /// What the machine runs: the code of all units, and what is known of methods, classes, threads and setup names. Its
-/// numbers are small enough that a machine can be made of it.
+/// numbers are small enough for a machine.
 #[derive(Drop)]
 pub struct Code {
     parts: Parts,
@@ -160,7 +165,7 @@ impl Model for Code {
 impl Code {
     ghost use Rattle.std.specs.Prelude.{IsSome, IfSome};
 
-    /// The image of these parts; none where a number is too large for a machine.
+    /// The image of these parts, or none if a number is too large for a machine.
     pub fn new(parts: Parts) -> Option<Code>
         ensures small { IsSome result ↔ IsSmall parts }
         ensures same { IfSome result (λ c. c ≡ parts) }
@@ -172,7 +177,7 @@ impl Code {
         }
     }
 
-    /// A copy.
+    /// A copy. The only refusal is that memory ran out.
     pub fn copied(&self, alloc: Global) -> Result<Code, AllocError>
         ensures { IfOk result (λ copy. copy ≡ self.now) }
     {
@@ -194,7 +199,7 @@ impl Code {
         self.parts.instructions.as_slice()
     }
 
-    /// The handler rows; of two that hold one place the first is the innermost.
+    /// The handler rows. If two rows hold one place, the first row is the innermost.
     pub fn handlers(&self) -> &[HandlerRow]
         ensures { result.now ≡ self.now.handlers }
     {
@@ -209,7 +214,7 @@ impl Code {
         self.parts.methods.as_slice()
     }
 
-    /// The cells of an object of each class.
+    /// How many cells an object of each class has.
     pub fn sizes(&self) -> &[usize]
         ensures { result.now ≡ self.now.sizes }
     {

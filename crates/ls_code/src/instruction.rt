@@ -203,7 +203,7 @@ impl Instruction {
     }
 }
 
-/// The instructions that are about more than one frame, or about a lock's word.
+/// The instructions that concern more than one frame, or a lock's word.
 #[derive(Copy)]
 pub enum ThreadInstruction {
     Halt,
@@ -225,8 +225,8 @@ impl Clone for ThreadInstruction {
     }
 }
 
-/// How a frame goes on with an answer: it pushes it, puts it in place of some operands, drops some operands, or goes
-/// to another place.
+/// How a frame goes on with an answer. It pushes the answer, puts it in place of some operands, drops some operands,
+/// or goes to another place.
 #[derive(Copy)]
 pub enum Resume {
     Push,
@@ -304,8 +304,9 @@ fn table(x: u32) -> [Instruction; 54]
     ]
 }
 
-/// The instruction of a code word: its opcode stands in bits 0 to 7, its operand in bits 8 to 39, and the rest is 0.
-/// None where the rest is not 0 or no instruction has this opcode; an operand that an instruction doesn't take isn't looked at.
+/// The instruction of a code word. Its opcode is in bits 0 to 7, its operand in bits 8 to 39, and the rest is 0. None
+/// if the rest is not 0, or if no instruction has this opcode. If an instruction takes no operand, those bits may be
+/// anything.
 pub fn decode(word: u64) -> Option<Instruction>
     ensures { result ≡ decoded word }
 {

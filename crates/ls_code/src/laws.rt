@@ -1,4 +1,4 @@
-// Laws of runs, each on a function that does nothing.
+// Laws of runs: the functions compute nothing, and their contracts say the laws.
 
 ghost use Rattle.ls_code.specs.Laws.{HistoriesAreOfTraces, RunsGoOn};
 
@@ -7,7 +7,7 @@ pub fn histories_are_of_traces()
     ensures { HistoriesAreOfTraces }
 {}
 
-/// A run goes on from where another has come.
+/// A run goes on from the machine that another run has reached.
 pub fn runs_go_on()
     ensures { RunsGoOn }
 {}

@@ -1,11 +1,11 @@
-// What becomes of a lock's word.
+// What a lock's word becomes.
 
 ghost use Rattle.std.specs.Prelude.{◌≡◌, ◌≤◌};
 ghost use Rattle.ls_code.specs.Locks.{LockState, IsLock, lock_word_of, lock_by, unlock_by, taken_in_words, left_in_words, taken_of, left_of, is_own};
 
 use std::alloc::AllocError;
 
-/// What `lock()` gives: the next word, or that another thread owns the lock, or that it is held too often.
+/// What `lock()` gives: the next word, or that another thread owns the lock, or that the lock is held too often.
 #[derive(Copy)]
 pub enum Taken {
     Taken(u64),
@@ -32,7 +32,7 @@ impl Clone for Left {
     }
 }
 
-/// What the owner and one is multiplied by in a lock's word.
+/// In a lock's word, one more than the owner's number is multiplied by this.
 const OWNER: u64 = 0x1_0000_0000;
 
 /// The most holds of one lock.
@@ -71,7 +71,7 @@ pub fn unlock_word(word: u64, thread: usize) -> Left
     Left::Left(word - 1)
 }
 
-/// Whether a lock's word is that of a lock which this thread owns.
+/// Whether this thread owns the lock that has the word.
 pub fn is_own_word(word: u64, thread: usize) -> bool
     requires { thread ≤ 64 }
     ensures { result ≡ is_own word thread }

@@ -1,4 +1,4 @@
-// What a step does, and where a thread stands.
+// What a step does, and what state a thread is in.
 
 ghost use Rattle.std.specs.Prelude.{◌≡◌};
 ghost use Rattle.ls_code.specs.Machine.{stops};
@@ -20,7 +20,7 @@ impl Clone for Mode {
     }
 }
 
-/// Where a thread stands.
+/// The state of a thread.
 #[derive(Copy)]
 pub enum ThreadState {
     NotStarted,
@@ -41,11 +41,11 @@ impl Clone for ThreadState {
 pub enum Did {
     /// Nothing that another thread could notice.
     Silent,
-    /// One action, with its answer, in words.
+    /// One action, with its answer, as words.
     Acted(Action<u64>, Answer<u64>),
-    /// Nothing: the lock is another thread's.
+    /// Nothing: another thread owns the lock.
     Waits,
-    /// Nothing: the thread isn't there, hasn't started or is over.
+    /// Nothing: the thread doesn't exist, hasn't started or is over.
     Idle,
     /// Nothing: the cells have run out.
     Stopped,
@@ -57,7 +57,8 @@ impl Clone for Did {
     }
 }
 
-/// Whether a step stops the machine, for good and for each of its threads: the cells have run out.
+/// Whether a step stops the machine because the cells have run out. Then it stops for good, and for all of its
+/// threads.
 #[inline]
 pub fn is_stop(did: Did) -> bool
     ensures { result ≡ stops did }

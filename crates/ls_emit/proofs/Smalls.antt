@@ -38,6 +38,7 @@ module _ (ms : File) (k : ℕ) (few : k ≤ 65536) where
     all_small (More e es) h = (small e h.0, all_small es h.1)
 
   mutual
+    -- a statement that may be emitted is small
     pub small_statement : (s : Statement) (exits : ℕ) → IsEmittableStatement ms k exits s → IsSmallStatement s
     small_statement (Block ss) exits h = all_small_statements ss exits h
     small_statement (SetLocal n e) exits h = (below k n few h.0, small e h.1)

@@ -1,7 +1,7 @@
 -- The statements without others in them.
 use Rattle.ls_lowered.specs.LoweredTree.{Statement, Block, SetLocal, SetField, AddField, SetItem, Evaluate, If, While, Return, Try, Guarded, Throw, Leavable, Leave}
 
--- a `try` has no code, and so nothing in it counts
+-- a `try` has no code, so what is in it doesn't count
 abbrev pub IsAlone : Statement → Type 0
 IsAlone (Block ss) = ⊥
 IsAlone (SetLocal n e) = Unit {0}

@@ -4,8 +4,8 @@ use ls_code::code::HandlerRow;
 use ls_code::instruction::Instruction;
 use std::marker::Model;
 
-/// A method's code as if it stood at place 0, its handler rows, its arguments (`this` among them), its further locals,
-/// and how many operands it needs.
+/// A method's code as if it began at place 0, and its handler rows. `arguments` counts `this` too, `more` the further
+/// locals, and `need` the operands.
 #[derive(Drop)]
 pub struct CodeUnit {
     pub instructions: Vec<Instruction>,

@@ -14,7 +14,7 @@ pub struct Emission {
     pub rows: Vec<HandlerRow>,
 }
 
-/// Where a statement's code stands: its first instruction, and what comes behind its last.
+/// Where a statement's code is: the place of its first instruction, and the place after its last.
 #[derive(Copy)]
 pub struct Stretch {
     pub place: usize,
@@ -28,7 +28,7 @@ impl Clone for Stretch {
 }
 
 impl Stretch {
-    /// From a place to below an end.
+    /// From a place up to an end, which is not part of it.
     pub fn new(place: usize, end: usize) -> Stretch
         ensures place { result.place ≡ place }
         ensures end { result.end ≡ end }

@@ -55,7 +55,8 @@ fn emit_units(alloc: Global, methods: &[Method]) -> Result<Vec<CodeUnit>, AllocE
     Ok(units)
 }
 
-/// The units of a file's methods, by their numbers.
+/// The units of a file's methods, by their numbers. Refused with `CodeTooLong` exactly if a method's code has over
+/// 65,536 instructions. Else the only refusal is that memory ran out.
 pub fn emit(alloc: Global, tree: &File) -> Result<Vec<CodeUnit>, EmitFault>
     requires { IsEmittableFile (plain_file tree.now) }
     ensures units { IfOk result (λ us. us.items ≡ units_of (plain_file tree.now)) }

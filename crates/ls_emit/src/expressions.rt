@@ -42,7 +42,7 @@ fn binary_instruction(op: BinaryOperator) -> Instruction
     }
 }
 
-/// Puts an instruction behind those that are there.
+/// Puts an instruction after those that are there. The only refusal is that memory ran out.
 pub fn put(out: &mut Vec<Instruction>, instruction: Instruction) -> Result<(), AllocError>
     ensures { OnOk result (out.new.items ≡ out.old.items ++ instruction ∷ []) }
 {
@@ -62,7 +62,8 @@ fn put_two(
     put(out, second)
 }
 
-/// The code of an expression that stands at a place, behind the code that is there; the place behind it.
+/// Puts the code of an expression, which begins at a place, after the code that is there. Answers the place after it.
+/// The only refusal is that memory ran out.
 #[cycle(expressions)]
 pub fn emit_expression(
     out: &mut Vec<Instruction>,
@@ -164,7 +165,7 @@ fn emit_one(
     Ok(place + 1)
 }
 
-/// An instruction on the word of an expression.
+/// An instruction on the word of an expression. The only refusal is that memory ran out.
 #[cycle(expressions)]
 pub fn emit_on(
     out: &mut Vec<Instruction>,
@@ -182,7 +183,7 @@ pub fn emit_on(
     Ok(next + 1)
 }
 
-/// An instruction on the words of two expressions.
+/// An instruction on the words of two expressions. The only refusal is that memory ran out.
 #[cycle(expressions)]
 pub fn emit_on_two(
     out: &mut Vec<Instruction>,
@@ -202,7 +203,7 @@ pub fn emit_on_two(
     Ok(next + 1)
 }
 
-/// An instruction on the words of three expressions.
+/// An instruction on the words of three expressions. The only refusal is that memory ran out.
 #[cycle(expressions)]
 pub fn emit_on_three(
     out: &mut Vec<Instruction>,

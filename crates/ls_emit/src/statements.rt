@@ -20,7 +20,8 @@ use ls_emit_sizes::sizes::size_of_statement;
 use ls_lowered::tree::{Expression, Statement};
 use std::alloc::AllocError;
 
-/// The code of a statement that stands there, and its handler rows, behind those that are there.
+/// Puts the code of a statement, which is at `at`, after the code that is there, and its handler rows after those that
+/// are there. The only refusal is that memory ran out.
 #[cycle(statements)]
 #[tactic(auto, using(ls_emit_sizes::proofs::Blocks::block_read))]
 pub fn emit_statement(
@@ -57,7 +58,7 @@ pub fn emit_statement(
     }
 }
 
-// What is added to a field: its object stands twice while the field is read.
+// What is added to a field. While the field is read, its object is on the operands twice.
 fn emit_addition(
     out: &mut Vec<Instruction>,
     place: usize,
@@ -77,7 +78,7 @@ fn emit_addition(
     put(out, Instruction::PutField(field))
 }
 
-// A statement without others in it. It stands apart so that the frames of the recursion stay small.
+// A statement without others in it. It is a function of its own, so that the frames of the recursion stay small.
 #[tactic(auto, using(ls_emit_sizes::proofs::Blocks::block_read))]
 fn emit_alone(
     out: &mut Vec<Instruction>,
@@ -216,7 +217,7 @@ fn emit_while(
     put(&mut out.instructions, Instruction::Turn(at.place as u32))
 }
 
-// A throw from the body goes on behind the jump over the handler.
+// A throw from the body goes on after the jump over the handler.
 #[cycle(statements)]
 fn emit_guarded(
     out: &mut Emission,
@@ -245,7 +246,7 @@ fn emit_guarded(
     emit_statement(out, &*around, Stretch::new(after, at.end), handler)
 }
 
-// The exits stand behind the body.
+// The exits come after the body.
 #[cycle(statements)]
 fn emit_leavable(
     out: &mut Emission,
@@ -272,7 +273,7 @@ fn emit_leavable(
     )
 }
 
-// Each exit stands behind a jump over it and what follows.
+// Each exit comes after a jump. That jump leads past all exits.
 #[cycle(statements)]
 fn emit_exits(
     out: &mut Emission,

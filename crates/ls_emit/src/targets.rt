@@ -8,11 +8,11 @@ ghost use Rattle.ls_emit.specs.Targets.{targets_of};
 #[derive(Clone, Copy)]
 pub enum Around<'a> {
     Nothing,
-    /// Where the exits of a leavable statement begin, and where it ends.
+    /// Where the exits of a leavable statement begin, where the statement ends, and what is around it.
     Leavable(&'a [u32], u32, &'a Around<'a>),
 }
 
-/// Where the leave of this number leads.
+/// The place to which the leave of this number leads.
 #[tactic(auto, using(crate::proofs::Leaves::target_front, crate::proofs::Leaves::target_end, crate::proofs::Leaves::target_behind))]
 pub fn find_target(around: &Around, number: usize) -> u32
     ensures { result ≡ target_of (targets_of around.now) number }

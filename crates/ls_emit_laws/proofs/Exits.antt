@@ -19,7 +19,7 @@ use Rattle.ls_emit_laws.proofs.Runs.{Catches}
 use Rattle.ls_emit_laws.proofs.StatementPlaces.{NoRow, row_in, row_behind}
 
 module _ (s : Setting) where
-  -- what follows code from p to p' with rows of its own, but where it ends normally; q has the answers so far
+  -- what follows code from p to p', which has rows of its own, unless it ends normally; q has the answers so far
   pub record Others (p p' : ℕ) (own : List HandlerRow) (t : Targets) (q : Answers) (g : Go) : Type 0 where
     pub left : (n : ℕ) (ls : List ℕ) (rest : Answers) → n < length t → length ls ≡ s.wide → length rest ≤ length q → Reaches s p' (Some (here s (target_of t n) ls [])) rest (g (Left n) ls rest)
     pub returned : (w c : ℕ) (ls ops : List ℕ) (rest : Answers) → p ≤ c → c < p' → length ls ≡ s.wide → length rest ≤ length q → Reaches s (c + 1) (left_with (here s c ls ops) s.base.below w) rest (g (Returned w) ls rest)
@@ -28,11 +28,12 @@ module _ (s : Setting) where
   abbrev pub Ending : ℕ → Answers → Go → Type 0
   Ending p' q g = (ls : List ℕ) (rest : Answers) → length ls ≡ s.wide → length rest ≤ length q → Reaches s p' (Some (here s p' ls [])) rest (g Normal ls rest)
 
+  -- what follows code from p to p': its normal end, and its other ends
   pub record Exits (p p' : ℕ) (own : List HandlerRow) (t : Targets) (q : Answers) (g : Go) : Type 0 where
     pub normal : Ending p' q g
     pub others : Others p p' own t q g
 
-  -- the place behind under another name, and fewer answers
+  -- the place after the code under another name, and fewer answers
   pub ending_at : (p' p1' : ℕ) (q q1 : Answers) (g : Go) → p' ≡ p1' → length q1 ≤ length q → Ending p' q g → Ending p1' q1 g
   ending_at p' p1' q q1 g e lq r = subst (λ n. Ending n q1 g) e (λ ls rest el l. r ls rest el (omega arith))
 
@@ -64,11 +65,13 @@ module _ (s : Setting) where
   abbrev pub Owns : ℕ → ℕ → List HandlerRow → Type 0
   Owns p p' own = (c : ℕ) → p ≤ c → c < p' → (more : List HandlerRow) × (find_row s.code.handlers c ≡ find_row (own ++ more) c)
 
+  -- the rows of a first part come first for its places
   pub owns_front : (p p' p1 p1' : ℕ) (a b : List HandlerRow) → p ≤ p1 → p1' ≤ p' → Owns p p' (a ++ b) → Owns p1 p1' a
   owns_front p p' p1 p1' a b lp lq o c l1 l2 =
       let r = o c (omega arith) (omega arith) in
       (b ++ r.0, r.1 ∙ ap (λ l. find_row l c) (append_assoc a b r.0))
 
+  -- the rows of a last part come first for its places, if no earlier row holds them
   pub owns_back : (p p' p1 p1' : ℕ) (a b : List HandlerRow) → p ≤ p1 → p1' ≤ p' → ((c : ℕ) → p1 ≤ c → c < p1' → NoRow c a) → Owns p p' (a ++ b) → Owns p1 p1' b
   owns_back p p' p1 p1' a b lp lq free o c l1 l2 =
       let r = o c (omega arith) (omega arith) in
@@ -79,6 +82,7 @@ module _ (s : Setting) where
   by_row kind c ls ops None = thrown_thread (here s c ls ops) (thrown s.code.handlers kind s.base.below)
   by_row kind c ls ops (Some row) = thrown_thread (here s c ls ops) (onto (caught row kind (frame s c ls ops)) s.base.below)
 
+  -- a throw goes on by the row that holds its place
   pub raised_by : (kind : Kind) (c : ℕ) (ls ops : List ℕ) → raised s kind c ls ops ≡ by_row kind c ls ops (find_row s.code.handlers c)
   raised_by kind c ls ops = at (find_row s.code.handlers c) where
     at : (o : Option HandlerRow) → thrown_thread (here s c ls ops) (elim o as (λ _. Option (Frame × List Frame)) [ Some row ↦ onto (caught row kind (frame s c ls ops)) s.base.below | None ↦ thrown s.code.handlers kind s.base.below ]) ≡ by_row kind c ls ops o

@@ -27,13 +27,14 @@ null_then true ls q x f go h = refl
 null_then false ls q x f go h = out_then x f go h
 
 module _ (s : Setting) (enter : EnterRuns s) where
-  -- arguments behind an object, and the call
+  -- arguments after an object, and the call
   enters : (c m x : ℕ) (ws ls stack : List ℕ) (q : Answers) (go : After ℕ) (h : After Kind) → TakesAll (slice_get s.file m) (x ∷ ws) → c < s.budget → slice_get s.code.instructions c ≡ Some (op.Enter m) → length stack < s.base.top.need → length ls ≡ s.wide → Takes s (c + 1) stack q go → Catches s c (c + 1) q h → Reaches s c (Some (here s c ls (reverse ws ++ (x ∷ stack)))) q (out (unless_null x ls q (returned ls (s.calls m (x ∷ ws) q))) go h)
   enters c m x ws ls stack q go h takes_it lt has room el takes catches =
       subst (λ l. Reaches s c (Some (here s c ls l)) q (out (unless_null x ls q (returned ls (s.calls m (x ∷ ws) q))) go h)) (sym (reversed x ws stack))
       (enter c m x ws ls stack q go h takes_it lt has room el takes catches)
 
   mutual
+    -- the code of each expression does what its course says
     pub runs : (e : Expression) (p : ℕ) → Runs s e p
     runs (Word w) p ls stack q go h has fits room le el takes catches =
         push_run s p w ls stack q (go w ls q) has.0 (omega arith) (omega arith) (takes w ls q el (omega arith))

@@ -41,11 +41,13 @@ use Rattle.ls_code.specs.Reading.{is_take, is_back_to, is_drop, exchanged, full_
 use Rattle.ls_emit_laws.proofs.Steps.{Setting, frame, here, Reaches, renamed, silently, begins, answers_from, next}
 use Rattle.ls_emit_laws.proofs.Runs.{Catches, Takes, narrow, fewer, throw_or, acts_on, performs, pop_run, push_run}
 
+-- a method takes `this` and the arguments that the tree gives it
 pub takes_all : (o : Option Method) (this : ℕ) (values : List ℕ) (n : ℕ) → TakesIn o (suc n) → length values ≡ n → TakesAll o (this ∷ values)
 takes_all None this values n t e = t
 takes_all (Some g) this values n t e = ap suc e ∙ t
 
 mutual
+  -- each expression needs an operand
   pub one_need : (e : Expression) → 1 ≤ need e
   one_need (Word w) = omega arith
   one_need (Local n) = omega arith
@@ -82,6 +84,7 @@ module _ (s : Setting) where
   abbrev pub Runs : Expression → ℕ → Type 0
   Runs e p = (ls stack : List ℕ) (q : Answers) (go : After ℕ) (h : After Kind) → HasAt s.code.instructions p (code p e) → IsEmittable s.file s.wide e → length stack + need e ≤ s.base.top.need → p + size e ≤ s.budget → length ls ≡ s.wide → Takes s (p + size e) stack q go → Catches s p (p + size e) q h → Reaches s p (Some (here s p ls stack)) q (out (find s.calls e ls q) go h)
 
+  -- what the code of arguments at p does
   abbrev pub AllRun : Expressions → ℕ → Type 0
   AllRun es p = (ls stack : List ℕ) (q : Answers) (go : After (List ℕ)) (h : After Kind) → HasAt s.code.instructions p (all_code p es) → AreEmittable s.file s.wide es → length stack + all_need es ≤ s.base.top.need → p + all_size es ≤ s.budget → length ls ≡ s.wide → ((ws ls1 : List ℕ) (rest : Answers) → length ws ≡ count es → length ls1 ≡ s.wide → length rest ≤ length q → Reaches s (p + all_size es) (Some (here s (p + all_size es) ls1 (reverse ws ++ stack))) rest (go ws ls1 rest)) → Catches s p (p + all_size es) q h → Reaches s p (Some (here s p ls stack)) q (out (find_all s.calls es ls q) go h)
 
@@ -98,10 +101,11 @@ module _ (s : Setting) where
       (λ x ls1 q1 e1 l1. first_run b (p + size a) is (f x) ls1 (x ∷ stack) q1 go h rb (has_after s.code.instructions p (size a) (code p a) _ (size_is a p) has) fb (omega arith) (omega arith) e1 (narrow s p (p + size a + size b) (p + size a) (p + size a + size b) q q1 h (omega arith) (omega arith) l1 catches)
       (λ y ls2 q2 e2 l2. r x y ls2 q2 e2 (omega arith)))
 
-  -- the code behind one expression, two and three
+  -- the code after one expression, after two and after three
   pub behind : (a : Expression) (p : ℕ) (is : List Instruction) → HasAt s.code.instructions p (code p a ++ is) → HasAt s.code.instructions (p + size a) is
   behind a p is has = has_after s.code.instructions p (size a) (code p a) is (size_is a p) has
 
+  -- the code after two expressions
   pub behind_two : (a b : Expression) (p : ℕ) (is : List Instruction) → HasAt s.code.instructions p (code p a ++ (code (p + size a) b ++ is)) → HasAt s.code.instructions (p + size a + size b) is
   behind_two a b p is has = behind b (p + size a) is (behind a p (code (p + size a) b ++ is) has)
 
@@ -265,6 +269,7 @@ module _ (s : Setting) where
     leaving_is : HasAt s.code.instructions c (lock_code c UnlockMonitor) → operation s.code s.number t (act.UnlockMonitor x) ≡ ThreadAsks (act.UnlockMonitor x) (after_unlock s.code t)
     leaving_is has = ap (λ z. if is_drop 1 z then ThreadAsks (act.UnlockMonitor x) (after_unlock s.code t) else Still) has.1.0
 
+  -- the code of an operation on a lock
   pub lock_run : (o : LockOperation) (c x : ℕ) (ls stack : List ℕ) (q : Answers) (go : After ℕ) (h : After Kind) → HasAt s.code.instructions c (lock_code c o) → c + lock_size o ≤ s.budget → suc (length stack) < s.base.top.need → length ls ≡ s.wide → Takes s (c + lock_size o) stack q go → Catches s c (c + lock_size o) q h → Reaches s c (Some (here s c ls (x ∷ stack))) q (out (unless_null x ls q (operate_lock o x ls q)) go h)
   lock_run Lock c x ls stack q go h has le room el takes catches =
       operation_run c x ls stack room el (nat_eq x 0) (saw s.code (here s c ls (x ∷ stack)) s.number 1 (act.Lock x)) (act.Lock x) (after_lock s.code s.number (here s c ls (x ∷ stack))) (perform (act.Lock x) ls q) q go h
@@ -289,6 +294,7 @@ module _ (s : Setting) where
   lock_run IsHeld c x ls stack q go h has le room el takes catches =
       object_run (act.IsHeld x) (then.Settle 1) c op.IsHeld x ls (x ∷ stack) stack q go h has.0 refl (λ w. refl) (omega arith) el takes catches
 
+  -- the making of an array
   pub array_run : (c n : ℕ) (ls stack : List ℕ) (q : Answers) (go : After ℕ) (h : After Kind) → slice_get s.code.instructions c ≡ Some op.NewArray → c < s.budget → length ls ≡ s.wide → Takes s (c + 1) stack q go → Catches s c (c + 1) q h → Reaches s c (Some (here s c ls (n ∷ stack))) q (out (make_array n ls q) go h)
   array_run c n ls stack q go h has lt el takes catches =
       throw_or s (int_lt (int_of n) (pos 0)) NegativeArraySize (FrameAsks (act.NewArray (int_of n)) (then.Settle 1)) (ask (act.NewArray (int_of n)) ls q) c op.NewArray ls (n ∷ stack) q go h has refl lt el catches

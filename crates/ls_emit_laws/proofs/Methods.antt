@@ -1,4 +1,4 @@
--- Methods that call each other ask what their courses ask: by induction on the number of frames that there may still be.
+-- Methods that call each other ask what their courses ask: by induction on how many more frames there may be.
 use Rattle.std.proofs.Common.{◌≡◌, ℕ, zero, suc, ◌+◌, ◌-◌, ◌*◌, ◌<◌, ◌≤◌, List, [], ◌∷◌, ◌++◌, length, reverse, replicate, drop, Option, Some, None, Bool, true, false, refl, sym, ap, ◌∙◌, arith, slice_get, nat_lt, nat_eq, if◌then◌else◌, length-append, append-nil, suc-mul}
 use Rattle.std.proofs.lemmas.Bool.{lt-ltb, le-ltb, ne_eqb}
 use Rattle.std.proofs.lemmas.List.{length-replicate}
@@ -68,7 +68,7 @@ callee_is row t p values stack ls e =
     ∙ ap (λ ys. made values ys) (without_arguments values stack row.arguments e)
 
 module _ (file : File) (emittable : IsEmittableFile file) (c : Code) (words : ℕ) (lies : LieIn c words (units_of file)) where
-  -- the frame of a method in which methods may still be entered, so many one in the other
+  -- the frame of a method in which d methods more may be entered, one in the other
   abbrev setting : (number bound budget wide : ℕ) (t : Thread) (d : ℕ) → budget ≤ bound → Setting
   setting number bound budget wide t d inside = record { file = file; code = c; number = number; bound = bound; base = t; calls = invoke file d; wide = wide; budget = budget; inside = inside }
 
@@ -165,6 +165,7 @@ module _ (file : File) (emittable : IsEmittableFile file) (c : Code) (words : �
       (λ n word rest1 l1 l2. returns n word rest1 (omega arith) l2)
       (λ n ops kind rest1 l1 l2. raises n ops kind rest1 (omega arith) l2)
 
+  -- a thread that enters a method, with d methods more to enter, does what the method's course says
   pub enters : (d : ℕ) → Entered d
   unfolding invoke
   enters zero number bound spare m this p values stack ls t q go h e has room deep takes_it fits returns raises zero le = absurd (let f : ⊥ = omega arith in f)
@@ -189,6 +190,7 @@ module _ (file : File) (emittable : IsEmittableFile file) (c : Code) (words : �
       ∙ ap (λ b. call_move c u m (if b then Enters (with_callee row u) else CallThrows StackOverflow)) (lt-ltb (length t.below) 64 (omega arith)))
       ∙ after_enter d (enters d) number bound spare m this p values stack ls t q go h at room deep fits returns raises
 
+-- the law: the units of a file ask what its methods ask
 pub ask : (file : File) → IsEmittableFile file → UnitsAsk file (units_of file)
 ask file emittable c words lies number bound depth spare m this values stack t q go h entering takes_it fits returns raises n le =
     let p = t.top.counter in

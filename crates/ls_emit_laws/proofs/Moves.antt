@@ -15,9 +15,11 @@ use Rattle.ls_emit_laws.specs.Expressions.{unary_code, binary_code, size, code, 
 use Rattle.ls_emit_laws.specs.Units.{moved}
 
 module _ (start : ℕ) where
+  -- code that is moved part by part
   pub join : (a a' b b' : List Instruction) → map (moved start) a ≡ a' → map (moved start) b ≡ b' → map (moved start) (a ++ b) ≡ a' ++ b'
   join a a' b b' x y = map-append (moved start) a b ∙ ap (λ l. l ++ map (moved start) b) x ∙ ap (λ l. a' ++ l) y
 
+  -- code that is moved instruction by instruction
   pub cons : (i i' : Instruction) (a a' : List Instruction) → moved start i ≡ i' → map (moved start) a ≡ a' → map (moved start) (i ∷ a) ≡ i' ∷ a'
   cons i i' a a' x y = ap (λ j. j ∷ map (moved start) a) x ∙ ap (λ l. i' ∷ l) y
 
@@ -25,9 +27,11 @@ module _ (start : ℕ) where
   pub last : (a a' : List Instruction) (i : Instruction) → map (moved start) a ≡ a' → moved start i ≡ i → map (moved start) (a ++ i ∷ []) ≡ a' ++ i ∷ []
   last a a' i x y = join a a' (i ∷ []) (i ∷ []) x (cons i i [] [] y refl)
 
+  -- a jump that is moved
   pub jump : (x y : ℕ) → y ≡ start + x → moved start (op.Jump x) ≡ op.Jump y
   jump x y e = ap op.Jump (sym e)
 
+  -- a conditional jump that is moved
   pub jump_if_false : (x y : ℕ) → y ≡ start + x → moved start (op.JumpIfFalse x) ≡ op.JumpIfFalse y
   jump_if_false x y e = ap op.JumpIfFalse (sym e)
 
@@ -60,6 +64,7 @@ module _ (start : ℕ) where
   lock_stays UnlockMonitor p q e = refl
 
   mutual
+    -- the code of an expression moves with its place
     pub moves : (e : Expression) (p q : ℕ) → q ≡ start + p → map (moved start) (code p e) ≡ code q e
     moves (Word w) p q x = refl
     moves (Local n) p q x = refl

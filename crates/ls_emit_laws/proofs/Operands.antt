@@ -3,6 +3,7 @@ use Rattle.std.proofs.Common.{◌≡◌, ℕ, ◌-◌, List, [], ◌∷◌, ◌+
 use Rattle.std.proofs.lemmas.List.{reverse-reverse, length-reverse}
 use mathlib.Core.List.{reverse-cons}
 
+-- one more argument on the operands
 pub reversed : (w : ℕ) (ws stack : List ℕ) → reverse ws ++ (w ∷ stack) ≡ reverse (w ∷ ws) ++ stack
 reversed w ws stack = sym (ap (λ l. l ++ stack) (reverse-cons w ws) ∙ append_assoc (reverse ws) (w ∷ []) stack)
 
@@ -10,7 +11,7 @@ at_seam : (xs : List ℕ) (y : ℕ) (ys : List ℕ) → slice_get (xs ++ (y ∷ 
 at_seam [] y ys = refl
 at_seam (x ∷ xs) y ys = at_seam xs y ys
 
--- the deepest of so many arguments is `this`
+-- the deepest of n arguments is `this`
 pub this_at : (this : ℕ) (values stack : List ℕ) (n : ℕ) → length (this ∷ values) ≡ n → slice_get (reverse (this ∷ values) ++ stack) (n - 1) ≡ Some this
 this_at this values stack n e =
     let k : length (reverse values) ≡ n - 1 = omega (arith, length-reverse values, e) in
@@ -25,11 +26,13 @@ drop_front : (xs ys : List ℕ) → drop (length xs) (xs ++ ys) ≡ ys
 drop_front [] ys = refl
 drop_front (x ∷ xs) ys = drop_front xs ys
 
+-- the arguments of a call, from its operands
 pub arguments_are : (values stack : List ℕ) (n : ℕ) → length values ≡ n → reverse (take n (reverse values ++ stack)) ≡ values
 arguments_are values stack n e =
     let k : length (reverse values) ≡ n = omega (arith, length-reverse values, e) in
     ap reverse (subst (λ m. take m (reverse values ++ stack) ≡ reverse values) k (take_front (reverse values) stack)) ∙ reverse-reverse values
 
+-- the operands below the arguments of a call
 pub without_arguments : (values stack : List ℕ) (n : ℕ) → length values ≡ n → drop n (reverse values ++ stack) ≡ stack
 without_arguments values stack n e =
     let k : length (reverse values) ≡ n = omega (arith, length-reverse values, e) in

@@ -19,6 +19,8 @@ use Rattle.ls_emit_laws.proofs.StatementMoves.{method_moves, method_rows_move, s
 abbrev pub row_at : ℕ → Method → MethodRow
 row_at start g = record { start = start; arguments = g.arguments; more = g.locals; need = method_need g }
 
+-- Method m in the whole code: its place, its code, and its rows, which are the ones that count there. It fits, and it
+-- takes these values.
 pub record Placed (file : File) (c : Code) (words m : ℕ) (values : List ℕ) : Type 0 where
   pub method : Method
   pub start : ℕ
@@ -35,6 +37,7 @@ emittable_at file [] m g fits e = absurd (none-some g e)
 emittable_at file (f ∷ ms) zero g fits e = subst (IsEmittableMethod file) (same_Some f g e) fits.0
 emittable_at file (f ∷ ms) (suc m) g fits e = emittable_at file ms m g fits.1 e
 
+-- if no row holds a place, none is found
 pub no_row : (c : ℕ) (rows : List HandlerRow) → NoRow c rows → find_row rows c ≡ None
 no_row c rows free = ap (λ l. find_row l c) (sym (append-nil rows)) ∙ row_behind c rows [] free
 
@@ -65,5 +68,6 @@ module _ (file : File) (emittable : IsEmittableFile file) (c : Code) (words : �
         takes = takes;
       }
 
+  -- each method of a file is so in the whole code
   pub placed : (m : ℕ) (values : List ℕ) → TakesAll (slice_get file m) values → Placed file c words m values
   placed m values takes = placed_by (slice_get file m) m values refl takes

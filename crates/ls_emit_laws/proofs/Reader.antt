@@ -23,5 +23,6 @@ at : (m : ℕ) (u : CodeUnit) → slice_get (units_of (reader ∷ [])) m ≡ Som
 at zero u e = subst (At 0) (same_Some (unit_of reader) u e) (3, refl, omega arith, lies)
 at (suc m) u e = absurd (none-some u e)
 
+-- the code of the case has the method's unit
 pub is_there : Lies
 is_there = (record { at = at }, (record { this = omega arith; locals = omega arith; body = (omega arith, omega arith) }, tt))

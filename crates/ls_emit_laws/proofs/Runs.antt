@@ -1,4 +1,4 @@
--- What each instruction of a tree's code does, told by what follows.
+-- What each instruction of a tree's code does, by what follows it.
 use Rattle.std.proofs.Common.{◌≡◌, ℕ, suc, ◌+◌, ◌<◌, ◌≤◌, ◌^◌, ◌%◌, List, ◌∷◌, length, Some, Bool, true, false, refl, sym, ap, ◌∙◌, subst, arith, slice_get, slice_index, slice_set, nat_eq, if◌then◌else◌}
 use Rattle.std.proofs.lemmas.Bool.{lt-ltb}
 use Rattle.std.proofs.lemmas.List.{length-set}
@@ -32,20 +32,25 @@ module _ (s : Setting) where
   abbrev pub Takes : ℕ → List ℕ → Answers → After ℕ → Type 0
   Takes p stack q go = (w : ℕ) (ls : List ℕ) (rest : Answers) → length ls ≡ s.wide → length rest ≤ length q → Reaches s p (Some (here s p ls (w ∷ stack))) rest (go w ls rest)
 
+  -- throws are caught within a part of the code too, and after fewer answers
   pub narrow : (p p' p1 p1' : ℕ) (q q1 : Answers) (h : After Kind) → p ≤ p1 → p1' ≤ p' → length q1 ≤ length q → Catches p p' q h → Catches p1 p1' q1 h
   narrow p p' p1 p1' q q1 h lp lq lr catches kind ls ops rest c l1 l2 el l3 = catches kind ls ops rest c (omega arith) (omega arith) el (omega arith)
 
+  -- a word is taken at the same place, and after fewer answers
   pub fewer : (p p' : ℕ) (stack : List ℕ) (q q1 : Answers) (go : After ℕ) → p ≡ p' → length q1 ≤ length q → Takes p stack q go → Takes p' stack q1 go
   fewer p p' stack q q1 go e lr r = subst (λ n. Takes n stack q1 go) e (λ w ls rest el l. r w ls rest el (omega arith))
 
+  -- PUSH
   pub push_run : (c w : ℕ) (ls stack : List ℕ) (q : Answers) (o : Fed) → slice_get s.code.instructions c ≡ Some (op.Push w) → length stack < s.base.top.need → c < s.budget → Reaches s (c + 1) (Some (here s (c + 1) ls (w ∷ stack))) q o → Reaches s c (Some (here s c ls stack)) q o
   push_run c w ls stack q o has room lt r =
       next s c (c + 1) (op.Push w) ls stack ls (w ∷ stack) q o has (ap (λ b. if b then Next (frame s (c + 1) ls (w ∷ stack)) else FrameStuck) (lt-ltb (length stack) s.base.top.need room)) lt r
 
+  -- DUP
   pub dup_run : (c x : ℕ) (ls stack : List ℕ) (q : Answers) (o : Fed) → slice_get s.code.instructions c ≡ Some op.Dup → suc (length stack) < s.base.top.need → c < s.budget → Reaches s (c + 1) (Some (here s (c + 1) ls (x ∷ x ∷ stack))) q o → Reaches s c (Some (here s c ls (x ∷ stack))) q o
   dup_run c x ls stack q o has room lt r =
       next s c (c + 1) op.Dup ls (x ∷ stack) ls (x ∷ x ∷ stack) q o has (ap (λ b. if b then Next (frame s (c + 1) ls (x ∷ x ∷ stack)) else FrameStuck) (lt-ltb (suc (length stack)) s.base.top.need room)) lt r
 
+  -- LOAD
   pub load_run : (c n : ℕ) (ls stack : List ℕ) (q : Answers) (o : Fed) → slice_get s.code.instructions c ≡ Some (op.Load n) → n < s.wide → length ls ≡ s.wide → length stack < s.base.top.need → c < s.budget → Reaches s (c + 1) (Some (here s (c + 1) ls (slice_index ls n ∷ stack))) q o → Reaches s c (Some (here s c ls stack)) q o
   load_run c n ls stack q o has ln el room lt r =
       let found : slice_get ls n ≡ Some (slice_index ls n) = slice_get-get_or ls n 0 (omega arith) in
@@ -53,13 +58,16 @@ module _ (s : Setting) where
       (ap (λ b. if b then (on_one (slice_get ls n) (λ w. Next (frame s (c + 1) ls (w ∷ stack)))) else FrameStuck) (lt-ltb (length stack) s.base.top.need room)
       ∙ ap (λ o. on_one o (λ w. Next (frame s (c + 1) ls (w ∷ stack)))) found) lt r
 
+  -- POP
   pub pop_run : (c x : ℕ) (ls stack : List ℕ) (q : Answers) (o : Fed) → slice_get s.code.instructions c ≡ Some op.Pop → c < s.budget → Reaches s (c + 1) (Some (here s (c + 1) ls stack)) q o → Reaches s c (Some (here s c ls (x ∷ stack))) q o
   pop_run c x ls stack q o has lt r = next s c (c + 1) op.Pop ls (x ∷ stack) ls stack q o has refl lt r
 
+  -- STORE
   pub store_run : (c n w : ℕ) (ls stack : List ℕ) (q : Answers) (o : Fed) → slice_get s.code.instructions c ≡ Some (op.Store n) → n < s.wide → length ls ≡ s.wide → c < s.budget → (length (slice_set ls n w) ≡ s.wide → Reaches s (c + 1) (Some (here s (c + 1) (slice_set ls n w) stack)) q o) → Reaches s c (Some (here s c ls (w ∷ stack))) q o
   store_run c n w ls stack q o has ln el lt r =
       next s c (c + 1) (op.Store n) ls (w ∷ stack) (slice_set ls n w) stack q o has (ap (λ b. if b then Next (frame s (c + 1) (slice_set ls n w) stack) else FrameStuck) (lt-ltb n (length ls) (omega arith))) lt (r (length-set ls n w ∙ el))
 
+  -- a jump
   pub jump_run : (c t : ℕ) (ls stack : List ℕ) (q : Answers) (o : Fed) → slice_get s.code.instructions c ≡ Some (op.Jump t) → c < s.budget → Reaches s (c + 1) (Some (here s t ls stack)) q o → Reaches s c (Some (here s c ls stack)) q o
   jump_run c t ls stack q o has lt r = next s c t (op.Jump t) ls stack ls stack q o has refl lt r
 
@@ -68,6 +76,7 @@ module _ (s : Setting) where
   branch_by f x y true c t w ls stack q has e lt rx ry = next s c t (op.JumpIfFalse t) ls (w ∷ stack) ls stack q (f x) has e lt rx
   branch_by f x y false c t w ls stack q has e lt rx ry = next s c (c + 1) (op.JumpIfFalse t) ls (w ∷ stack) ls stack q (f y) has e lt ry
 
+  -- a conditional jump
   pub branch_run : {C : Type 0} (f : C → Fed) (x y : C) (c t w : ℕ) (ls stack : List ℕ) (q : Answers) → slice_get s.code.instructions c ≡ Some (op.JumpIfFalse t) → c < s.budget → Reaches s (c + 1) (Some (here s t ls stack)) q (f x) → Reaches s (c + 1) (Some (here s (c + 1) ls stack)) q (f y) → Reaches s c (Some (here s c ls (w ∷ stack))) q (f (if nat_eq w 0 then x else y))
   branch_run f x y c t w ls stack q has lt rx ry = branch_by f x y (nat_eq w 0) c t w ls stack q has refl lt rx ry
 
@@ -95,6 +104,7 @@ module _ (s : Setting) where
   pub settle_run : (w c : ℕ) (i : Instruction) (ls ops stack : List ℕ) (q : Answers) (go : After ℕ) → slice_get s.code.instructions c ≡ Some i → frame_move i (frame s c ls ops) ≡ Next (frame s (c + 1) ls (w ∷ stack)) → c < s.budget → length ls ≡ s.wide → Takes (c + 1) stack q go → Reaches s c (Some (here s c ls ops)) q (go w ls q)
   settle_run w c i ls ops stack q go has e lt el takes = next s c (c + 1) i ls ops ls (w ∷ stack) q (go w ls q) has e lt (takes w ls q el (omega arith))
 
+  -- an operator on one word
   pub unary_run : (o : UnaryOperator) (c x : ℕ) (ls stack : List ℕ) (q : Answers) (go : After ℕ) → slice_get s.code.instructions c ≡ Some (unary_code o) → c < s.budget → length ls ≡ s.wide → Takes (c + 1) stack q go → Reaches s c (Some (here s c ls (x ∷ stack))) q (go (unary_word o x) ls q)
   unary_run Negate c x ls stack q go has lt el takes = settle_run _ c op.Neg ls (x ∷ stack) stack q go has refl lt el takes
   unary_run Not c x ls stack q go has lt el takes = settle_run _ c op.Not ls (x ∷ stack) stack q go has refl lt el takes
@@ -106,6 +116,7 @@ module _ (s : Setting) where
       throw_or (nat_eq (y % 2 ^ 32) 0) Arithmetic (Next (frame s (c + 1) ls (binary_word o x y ∷ stack))) (Ends (Results (binary_word o x y)) ls q) c i ls (y ∷ x ∷ stack) q go h has e lt el catches
       (λ e1. settle_run (binary_word o x y) c i ls (y ∷ x ∷ stack) stack q go has e1 lt el takes)
 
+  -- an operator on two words
   pub binary_run : (o : BinaryOperator) (c x y : ℕ) (ls stack : List ℕ) (q : Answers) (go : After ℕ) (h : After Kind) → slice_get s.code.instructions c ≡ Some (binary_code o) → c < s.budget → length ls ≡ s.wide → Takes (c + 1) stack q go → Catches c (c + 1) q h → Reaches s c (Some (here s c ls (y ∷ x ∷ stack))) q (out (operate o x y ls q) go h)
   binary_run binary.Add c x y ls stack q go h has lt el takes catches = settle_run _ c op.Add ls (y ∷ x ∷ stack) stack q go has refl lt el takes
   binary_run binary.Subtract c x y ls stack q go h has lt el takes catches = settle_run _ c op.Sub ls (y ∷ x ∷ stack) stack q go has refl lt el takes

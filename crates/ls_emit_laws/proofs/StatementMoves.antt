@@ -1,4 +1,4 @@
--- The code and the rows of a statement move with their place, where its exits move alike.
+-- The code and the rows of a statement move with its place, if its exits move alike.
 use Rattle.std.proofs.Common.{◌≡◌, ℕ, zero, suc, ◌+◌, ◌<◌, List, [], ◌∷◌, ◌++◌, length, map, Some, refl, sym, ap, ◌∙◌, subst, arith, slice_get}
 use Rattle.std.proofs.lemmas.List.{map-append}
 use Rattle.ls_code.specs.declared.code.HandlerRow.{HandlerRow}
@@ -14,7 +14,7 @@ use Rattle.ls_emit_laws.proofs.StatementPlaces.{targets_within}
 use Rattle.ls_emit_laws.proofs.Moves.{join, cons, last, jump, jump_if_false, moves}
 
 module _ (start : ℕ) where
-  -- the targets stand so much further on
+  -- the targets are as much further on as the code
   abbrev pub Follow : Targets → Targets → Type 0
   Follow t t' = (n : ℕ) → n < length t → target_of t' n ≡ start + target_of t n
 
@@ -104,6 +104,7 @@ module _ (start : ℕ) where
           (cons start (op.Jump stop) (op.Jump stop') (statement_code t (p + 1) a) (statement_code t' (q + 1) a) (jump start stop stop' d) (statement_moves a t t' (p + 1) (q + 1) (omega arith) x fits.0))
           (exits_move xs t t' stop stop' p2 q2 d (omega arith) x fits.1)
 
+    -- the code of a method moves with its place
     pub method_moves : (m : Method) → IsEmittableStatement file wide 0 m.body → map (moved start) (method_code 0 m) ≡ method_code start m
     method_moves m fits =
         join start (statement_code [] 0 m.body) (statement_code [] start m.body) (op.Push 0 ∷ op.LeaveWith ∷ []) (op.Push 0 ∷ op.LeaveWith ∷ [])
@@ -151,10 +152,11 @@ module _ (start : ℕ) where
     exit_rows_move Done p q e = refl
     exit_rows_move (Then a xs) p q e = row_join (statement_rows (p + 1) a) (statement_rows (q + 1) a) (exits_rows (p + 1 + statement_size a) xs) (exits_rows (q + 1 + statement_size a) xs) (rows_move a (p + 1) (q + 1) (omega arith)) (exit_rows_move xs (p + 1 + statement_size a) (q + 1 + statement_size a) (omega arith))
 
+  -- the rows of a method move with its place
   pub method_rows_move : (m : Method) → map (moved_row start) (method_rows 0 m) ≡ method_rows start m
   method_rows_move m = rows_move m.body 0 start (omega arith)
 
-  -- instructions that stand in the whole code stand there in a row
+  -- instructions that are in the whole code are there in a row
   pub stand_at : (whole xs : List Instruction) (k : ℕ) → ((n : ℕ) (i : Instruction) → slice_get xs n ≡ Some i → slice_get whole (k + n) ≡ Some (moved start i)) → HasAt whole k (map (moved start) xs)
   stand_at whole [] k f = tt
   stand_at whole (i ∷ xs) k f =

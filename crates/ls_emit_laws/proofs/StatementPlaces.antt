@@ -10,6 +10,7 @@ use Rattle.ls_emit_laws.specs.Emittable.{statement_count}
 use Rattle.ls_emit_laws.proofs.Places.{size_is}
 
 mutual
+  -- how long the code of a statement is
   pub statement_size_is : (s : Statement) (t : Targets) (p : ℕ) → length (statement_code t p s) ≡ statement_size s
   statement_size_is (Block ss) t p = statements_size_is ss t p
   statement_size_is (SetLocal n e) t p = simp (length-append, size_is e p) (omega arith)
@@ -39,6 +40,7 @@ places_length : (xs : Statements) (p : ℕ) → length (places p xs) ≡ suc (st
 places_length Done p = refl
 places_length (Then x xs) p = ap suc (places_length xs (p + 1 + statement_size x))
 
+-- how many targets there are in the body of a leavable statement
 pub targets_within : (xs : Statements) (t : Targets) (p : ℕ) → length (places p xs ++ t) ≡ suc (statement_count xs) + length t
 targets_within xs t p = omega (arith, length-append (places p xs) t, places_length xs p)
 
@@ -47,10 +49,12 @@ abbrev pub NoRow : ℕ → List HandlerRow → Type 0
 NoRow c [] = Unit {0}
 NoRow c (r ∷ rs) = ((c < r.from) ⊎ (r.to ≤ c)) × NoRow c rs
 
+-- no row of two lists holds a place, if no row of either does
 pub no_row-append : (c : ℕ) (a b : List HandlerRow) → NoRow c a → NoRow c b → NoRow c (a ++ b)
 no_row-append c [] b x y = y
 no_row-append c (r ∷ a) b x y = (x.0, no_row-append c a b x.1 y)
 
+-- a row that holds a place is found first
 pub row_in : (r : HandlerRow) (rs : List HandlerRow) (c : ℕ) → r.from ≤ c → c < r.to → find_row (r ∷ rs) c ≡ Some r
 row_in r rs c l1 l2 =
     ap (λ b. if b && nat_lt c r.to then Some r else find_row rs c) (le-leb r.from c l1)
@@ -68,11 +72,13 @@ row_out : (r : HandlerRow) (rs : List HandlerRow) (c : ℕ) → (c < r.from) ⊎
 row_out r rs c (inl l) = row_before r rs c l
 row_out r rs c (inr l) = ⊎_elim (λ lt. row_before r rs c lt) (λ le. row_past r rs c le l) (cases_lt c r.from)
 
+-- if no row of the first list holds a place, the second list decides
 pub row_behind : (c : ℕ) (a b : List HandlerRow) → NoRow c a → find_row (a ++ b) c ≡ find_row b c
 row_behind c [] b x = refl
 row_behind c (r ∷ a) b x = row_out r (a ++ b) c x.0 ∙ row_behind c a b x.1
 
 mutual
+  -- no row of a statement holds a place before it
   pub rows_before : (s : Statement) (p c : ℕ) → c < p → NoRow c (statement_rows p s)
   rows_before (Block ss) p c l = all_before ss p c l
   rows_before (SetLocal n e) p c l = tt
@@ -89,15 +95,18 @@ mutual
   rows_before (Leavable b xs) p c l = no_row-append c (statement_rows p b) (exits_rows (p + statement_size b) xs) (rows_before b p c l) (exits_before xs (p + statement_size b) c (omega arith))
   rows_before (Leave n) p c l = tt
 
+  -- no row of statements holds a place before them
   pub all_before : (ss : Statements) (p c : ℕ) → c < p → NoRow c (statements_rows p ss)
   all_before Done p c l = tt
   all_before (Then s ss) p c l = no_row-append c (statement_rows p s) (statements_rows (p + statement_size s) ss) (rows_before s p c l) (all_before ss (p + statement_size s) c (omega arith))
 
+  -- no row of exits holds a place before them
   pub exits_before : (xs : Statements) (p c : ℕ) → c < p → NoRow c (exits_rows p xs)
   exits_before Done p c l = tt
   exits_before (Then x xs) p c l = no_row-append c (statement_rows (p + 1) x) (exits_rows (p + 1 + statement_size x) xs) (rows_before x (p + 1) c (omega arith)) (exits_before xs (p + 1 + statement_size x) c (omega arith))
 
 mutual
+  -- no row of a statement holds a place after it
   pub rows_past : (s : Statement) (p c : ℕ) → p + statement_size s ≤ c → NoRow c (statement_rows p s)
   rows_past (Block ss) p c l = all_past ss p c l
   rows_past (SetLocal n e) p c l = tt

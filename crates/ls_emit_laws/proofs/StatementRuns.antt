@@ -34,11 +34,11 @@ module _ (s : Setting) where
   abbrev pub AllExecute : Statements → Targets → ℕ → Type 0
   AllExecute bs t p = (ls : List ℕ) (q : Answers) (g : Go) → HasAt s.code.instructions p (statements_code t p bs) → AreEmittableStatements s.file s.wide (length t) bs → statements_need bs ≤ s.base.top.need → p + statements_size bs ≤ s.budget → Owns s p (p + statements_size bs) (statements_rows p bs) → length ls ≡ s.wide → Exits s p (p + statements_size bs) (statements_rows p bs) t q g → Reaches s p (Some (here s p ls [])) q (end (execute_all s.calls bs ls q) g)
 
-  -- a leave to one of these exits, which stand at p, and further out
+  -- a leave to one of these exits, which begin at p, and further out
   abbrev pub LeavesTo : Statements → Targets → (stop p : ℕ) → Type 0
   LeavesTo xs t stop p = (n : ℕ) (ls : List ℕ) (q : Answers) (g : Go) → n < length (places p xs ++ t) → HasAt s.code.instructions p (exits_code t stop p xs) → AreEmittableStatements s.file s.wide (length t) xs → statements_need xs ≤ s.base.top.need → p + exits_size xs ≤ s.budget → stop ≡ p + exits_size xs → Owns s p (p + exits_size xs) (exits_rows p xs) → length ls ≡ s.wide → Exits s p (p + exits_size xs) (exits_rows p xs) t q g → Reaches s p (Some (here s (target_of (places p xs ++ t) n) ls [])) q (end (leave_to s.calls xs n ls q) g)
 
-  -- what ends in front of exits goes on behind them
+  -- what ends before exits goes on after them
   past_exits : (xs : Statements) (t : Targets) (stop p : ℕ) (ls : List ℕ) (q : Answers) (o : Fed) → HasAt s.code.instructions p (exits_code t stop p xs) → p + exits_size xs ≤ s.budget → stop ≡ p + exits_size xs → Reaches s stop (Some (here s stop ls [])) q o → Reaches s p (Some (here s p ls [])) q o
   past_exits Done t stop p ls q o has le is r = at_place s stop p ls [] q o (omega arith) r
   past_exits (Then a xs) t stop p ls q o has le is r =
@@ -115,6 +115,7 @@ module _ (s : Setting) where
         }))
 
     mutual
+      -- the code of each statement does what its course says
       pub executes : (a : Statement) (t : Targets) (p : ℕ) → Executes a t p
       executes (Block bs) t p ls q g has fits room le owns el x = all_execute bs t p ls q g has fits room le owns el x
       executes (SetLocal n e) t p ls q g has fits room le owns el x =

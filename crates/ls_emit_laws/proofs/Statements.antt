@@ -1,4 +1,4 @@
--- What the instructions of a statement do behind its expressions.
+-- What the instructions of a statement do after its expressions.
 use Rattle.std.proofs.Common.{◌≡◌, ℕ, zero, suc, ◌+◌, ◌<◌, ◌≤◌, List, [], ◌∷◌, ◌++◌, length, Option, Some, None, refl, sym, ap, ◌∙◌, arith, slice_get, nat_eq, if◌then◌else◌, true, false}
 use Rattle.ls_events.specs.declared.kind.Kind.{Kind}
 use Rattle.ls_events.specs.declared.kind.Kind.TheVariants.{NullPointer}
@@ -72,6 +72,7 @@ module _ (s : Setting) where
   kind_run None c w ls q g e lt r = λ n le. stuck c ls (w ∷ []) q e n
   kind_run (Some kind) c w ls q g e lt r = silent s c ls (w ∷ []) (raised s kind c ls (w ∷ [])) q (g (Threw kind) ls q) e lt (r kind)
 
+  -- THROW
   pub throw_run : (c w : ℕ) (ls : List ℕ) (q : Answers) (g : Go) → slice_get s.code.instructions c ≡ Some op.Throw → c < s.budget → ((kind : Kind) → Reaches s (c + 1) (raised s kind c ls (w ∷ [])) q (g (Threw kind) ls q)) → Reaches s c (Some (here s c ls (w ∷ []))) q (end (throw (kind_of w) ls q) g)
   throw_run c w ls q g has lt r = kind_run (kind_of w) c w ls q g (move_at s.code s.number s.bound s.base c ls (w ∷ []) op.Throw (Beyond wide.Throw) has refl) lt r
 
@@ -79,6 +80,7 @@ module _ (s : Setting) where
   abbrev pub Again : ℕ → Answers → (List ℕ → Answers → Course Completion) → Go → Type 0
   Again p q again g = (ls : List ℕ) (rest : Answers) → length ls ≡ s.wide → length rest < length q → Reaches s p (Some (here s p ls [])) rest (end (again ls rest) g)
 
+  -- TURN, back to the condition of a loop
   pub turn_run : (c p : ℕ) (again : List ℕ → Answers → Course Completion) (ls : List ℕ) (q : Answers) (g : Go) → slice_get s.code.instructions c ≡ Some (op.Turn p) → length ls ≡ s.wide → ((kind : Kind) (rest : Answers) → length rest ≤ length q → Reaches s (c + 1) (raised s kind c ls []) rest (g (Threw kind) ls rest)) → Again p q again g → Reaches s c (Some (here s c ls [])) q (end (turn_back again ls q) g)
   turn_run c p again ls q g has el catches more n le =
       let inside = s.inside in

@@ -20,8 +20,8 @@ use Rattle.ls_lowered.specs.Course.{Answers, Calls, ask}
 use Rattle.ls_emit_laws.specs.Entering.{fed_from}
 use Rattle.ls_emit_laws.proofs.Told.{After, out}
 
--- Where code runs: the whole code, the thread but for its innermost frame's place, locals and operands, what entering a
--- method does, how many locals the frame has, and what is left of the bound at place 0.
+-- Where code runs. The whole code. The thread, but not the place, the locals and the operands of its innermost frame.
+-- What entering a method does, how many locals the frame has, and what is left of the bound at place 0.
 pub record Setting : Type 0 where
   pub file : File
   pub code : Code
@@ -56,6 +56,7 @@ module _ (c : Code) (number bound : ℕ) (t : Thread) (p : ℕ) (ls ops : List �
       ap (λ m. resume c number bound q (carry true (begins_early (thread_move c (standing t p ls ops))) m (quiet c number n))) e
       ∙ ap (λ x. resume c number bound q x) (carried true (begins_early (thread_move c (standing t p ls ops))) u (quiet c number n))
 
+  -- a silent instruction takes one step of the bound
   pub silent_step : (u : Option Thread) (q : Answers) (n : ℕ) → thread_move c (standing t p ls ops) ≡ silent_or_still u → fed_from c number bound (suc n) (Some (standing t p ls ops)) q ≡ fed_from c number bound n u q
   silent_step u q n e = silently u q n (ap (read_move c number (standing t p ls ops)) e ∙ read_silent c number (standing t p ls ops) u)
 
@@ -71,19 +72,22 @@ module _ (c : Code) (number bound : ℕ) (t : Thread) (p : ℕ) (ls ops : List �
   early_is true action go next = refl
   early_is false action go next = refl
 
-  -- an operation of several instructions, where one more silent one is allowed
+  -- an operation of several instructions, if one more silent instruction is allowed
   pub begins : (action : Action ℕ) (go : Answer ℕ → Option Thread) (q : Answers) (n : ℕ) → whole_move c number (standing t p ls ops) ≡ ThreadAsks action go → fed_from c number bound (suc n) (Some (standing t p ls ops)) q ≡ resume c number bound q (Paused action go)
   begins action go q n e =
       ap (λ m. resume c number bound q (carry true (begins_early (thread_move c (standing t p ls ops))) m (quiet c number n))) e
       ∙ ap (λ x. resume c number bound q x) (early_is (begins_early (thread_move c (standing t p ls ops))) action go (quiet c number n))
 
+  -- the move of the instruction at a place
   pub move_at : (i : Instruction) (m : FrameMove) → slice_get c.instructions p ≡ Some i → frame_move i (standing t p ls ops).top ≡ m → thread_move c (standing t p ls ops) ≡ of_frame c (standing t p ls ops) m
   move_at i m has e = ap (fetched_move c (standing t p ls ops)) has ∙ ap (of_frame c (standing t p ls ops)) e
 
 module _ (s : Setting) where
+  -- the innermost frame at a place, with these locals and operands
   abbrev pub frame : ℕ → List ℕ → List ℕ → Frame
   frame p ls ops = record { counter = p; locals = ls; operands = ops; need = s.base.top.need }
 
+  -- the thread at a place, with these locals and operands
   abbrev pub here : ℕ → List ℕ → List ℕ → Thread
   here p ls ops = standing s.base p ls ops
 
@@ -99,15 +103,19 @@ module _ (s : Setting) where
   pub same : (p : ℕ) (t : Option Thread) (q : Answers) (o o' : Fed) → o ≡ o' → Reaches p t q o → Reaches p t q o'
   same p t q o o' e r n le = r n le ∙ e
 
+  -- another name of the outcome
   pub renamed : (p : ℕ) (ls ops : List ℕ) (q : Answers) (o o' : Fed) → o ≡ o' → Reaches p (Some (here p ls ops)) q o → Reaches p (Some (here p ls ops)) q o'
   renamed p ls ops q o o' e r n le = r n le ∙ e
 
+  -- at an earlier place more of the bound is left
   pub later : (p p' : ℕ) (t : Option Thread) (q : Answers) (o : Fed) → p' ≤ p → Reaches p t q o → Reaches p' t q o
   later p p' t q o le r n l = r n (omega arith)
 
+  -- another name of the place
   pub at_place : (p p' : ℕ) (ls ops : List ℕ) (q : Answers) (o : Fed) → p ≡ p' → Reaches p (Some (here p ls ops)) q o → Reaches p' (Some (here p' ls ops)) q o
   at_place p p' ls ops q o e r = subst (λ n. Reaches n (Some (here n ls ops)) q o) e r
 
+  -- a silent instruction
   pub silent : (p : ℕ) (ls ops : List ℕ) (u : Option Thread) (q : Answers) (o : Fed) → thread_move s.code (here p ls ops) ≡ silent_or_still u → p < s.budget → Reaches (p + 1) u q o → Reaches p (Some (here p ls ops)) q o
   silent p ls ops u q o e lt r zero le = absurd (let f : ⊥ = omega arith in f)
   silent p ls ops u q o e lt r (suc n) le = silent_step s.code s.number s.bound s.base p ls ops u q n e ∙ r n (omega arith)
@@ -116,9 +124,11 @@ module _ (s : Setting) where
   pub next : (p t : ℕ) (i : Instruction) (ls ops ls' ops' : List ℕ) (q : Answers) (o : Fed) → slice_get s.code.instructions p ≡ Some i → frame_move i (frame p ls ops) ≡ Next (frame t ls' ops') → p < s.budget → Reaches (p + 1) (Some (here t ls' ops')) q o → Reaches p (Some (here p ls ops)) q o
   next p t i ls ops ls' ops' q o has e lt r = silent p ls ops (Some (here t ls' ops')) q o (move_at s.code s.number s.bound s.base p ls ops i (Next (frame t ls' ops')) has e) lt r
 
+  -- an instruction that throws
   pub throws : (p : ℕ) (kind : Kind) (i : Instruction) (ls ops : List ℕ) (q : Answers) (o : Fed) → slice_get s.code.instructions p ≡ Some i → frame_move i (frame p ls ops) ≡ Throws kind → p < s.budget → Reaches (p + 1) (raised kind p ls ops) q o → Reaches p (Some (here p ls ops)) q o
   throws p kind i ls ops q o has e lt r = silent p ls ops (raised kind p ls ops) q o (move_at s.code s.number s.bound s.base p ls ops i (Throws kind) has e) lt r
 
+  -- after an answer the bound begins anew
   pub answers_from : (u : Option Thread) (q : Answers) → resume s.code s.number s.bound q (quiet_from s.code s.number s.bound u) ≡ fed_from s.code s.number s.bound s.bound u q
   answers_from u q = ap (λ x. resume s.code s.number s.bound q x) (from_quiet s.code s.number s.bound u)
 
@@ -128,6 +138,7 @@ module _ (s : Setting) where
   answers_run p ls ops action r (Gives w ∷ rest) go h a b = a w rest (omega arith)
   answers_run p ls ops action r (Fails kind ∷ rest) go h a b = answers_from (raised kind p ls ops) rest ∙ b kind rest (omega arith)
 
+  -- an instruction that asks for an action
   pub asks : (p : ℕ) (i : Instruction) (ls ops : List ℕ) (action : Action ℕ) (r : Resume) (q : Answers) (go : After ℕ) (h : After Kind) → slice_get s.code.instructions p ≡ Some i → frame_move i (frame p ls ops) ≡ FrameAsks action r → ((w : ℕ) (rest : Answers) → length rest < length q → fed_from s.code s.number s.bound s.bound (Some (with_top (here p ls ops) (resumed r (frame p ls ops) w))) rest ≡ go w ls rest) → ((kind : Kind) (rest : Answers) → length rest < length q → fed_from s.code s.number s.bound s.bound (raised kind p ls ops) rest ≡ h kind ls rest) → (n : ℕ) → fed_from s.code s.number s.bound n (Some (here p ls ops)) q ≡ out (ask action ls q) go h
   asks p i ls ops action r q go h has e a b n =
       acts s.code s.number s.bound s.base p ls ops action (answered s.code (here p ls ops) r) q n (move_at s.code s.number s.bound s.base p ls ops i (FrameAsks action r) has e)

@@ -1,4 +1,4 @@
--- The trees that have code: each number of a tree is there, and no `try` is left.
+-- The trees that have code: each number in a tree names something, and no `try` is left.
 use Rattle.std.specs.Prelude.{◌≡◌, ◌<◌, ◌≤◌, ℕ, suc, ◌+◌, ◌^◌, List, [], ◌∷◌, Option, Some, None, slice_get}
 use Rattle.ls_lowered.specs.LoweredTree.{Expression, Word, Local, Unary, Binary, And, Or, Hold, Keep, After, Field, Item, SetFirst, ReadPair, SetPair, SwapPair, AttemptMark, OnLock, Call, MakeObject, MakeLock, MakeMarkable, MakeArray, Expressions, End, More, Statement, Block, SetLocal, SetField, AddField, SetItem, Evaluate, If, While, Return, Try, Guarded, Throw, Leavable, Leave, Statements, Done, Then, Method, File}
 
@@ -10,7 +10,7 @@ abbrev pub statement_count : Statements → ℕ
 statement_count Done = 0
 statement_count (Then s ss) = suc (statement_count ss)
 
--- method number m is there and takes so many arguments, `this` among them
+-- method number m exists and takes n arguments, `this` among them
 abbrev pub TakesIn : Option Method → ℕ → Type 0
 TakesIn None n = ⊥
 TakesIn (Some g) n = n ≡ g.arguments
@@ -49,7 +49,7 @@ abbrev mutual
   AreEmittable ms k (More e es) = IsEmittable ms k e × AreEmittable ms k es
 
 abbrev mutual
-  -- a statement round which so many numbers can be left
+  -- a statement from which leaves with numbers below `exits` may lead out
   pub IsEmittableStatement : File → ℕ → ℕ → Statement → Type 0
   IsEmittableStatement ms k exits (Block ss) = AreEmittableStatements ms k exits ss
   IsEmittableStatement ms k exits (SetLocal n e) = (n < k) × IsEmittable ms k e

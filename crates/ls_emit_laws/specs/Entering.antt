@@ -1,6 +1,6 @@
--- What the code of a file owes its threads: whoever enters a method by an instruction, at any depth, asks what the
--- method's course asks, and goes on as the caller goes on after its value or its throw. It is never stuck, nor silent
--- for longer than the words of the frames that there may be.
+-- What the code of a file owes its threads. If a thread enters a method by an instruction, at any depth, it asks what
+-- the method's course asks. After the method's value or throw it goes on as its caller does. It is never stuck. Nor is
+-- it silent for longer than the words of the frames that there may be.
 use Rattle.std.specs.Prelude.{◌≡◌, ◌≢◌, ◌≤◌, ◌<◌, ℕ, ◌+◌, ◌*◌, List, ◌∷◌, ◌++◌, length, reverse, Option, Some, None, slice_get}
 use Rattle.ls_events.specs.declared.kind.Kind.{Kind}
 use Rattle.ls_code.specs.Code.{Code}
@@ -18,7 +18,7 @@ use Rattle.ls_lowered.specs.Course.{Answers, Told, Asked, Gave, Raised, Lost}
 use Rattle.ls_lowered.specs.Methods.{invoke}
 use Rattle.ls_emit_laws.specs.Units.{CodeUnit, LieIn}
 
--- what a course comes to as a fed thread tells it, where the caller goes on after a value and after a throw
+-- what a course tells of a fed thread; after a value the caller goes on with `go`, after a throw with `h`
 abbrev pub told_by : Told → (ℕ → Answers → Fed) → (Kind → Answers → Fed) → Fed
 told_by (Asked action) go h = fed.Asked action
 told_by (Gave word rest) go h = go word rest
@@ -29,16 +29,16 @@ told_by Lost go h = fed.Lost
 abbrev pub fed_from : Code → ℕ → ℕ → ℕ → Option Thread → Answers → Fed
 fed_from c number bound n t answers = resume c number bound answers (carry_on t (quiet c number n))
 
--- the thread behind its entering instruction, with the word that the method gave on these operands
+-- the thread after its entering instruction, with the word that the method gave on these operands
 abbrev pub given_back : Thread → List ℕ → ℕ → Thread
 given_back t stack word = with_top t (pushed (record t.top { operands = stack }) word)
 
--- the thread after a throw by its innermost frame, with these operands
+-- the thread after its innermost frame has thrown, with these operands
 abbrev pub thrown_in : Code → Thread → List ℕ → Kind → Option Thread
 thrown_in c t operands kind = thrown_thread t (thrown c.handlers kind (record t.top { operands = operands } ∷ t.below))
 
--- a thread at an instruction that enters method m: `this` and the arguments lie on these operands, and so many further
--- methods may be entered, one in the other
+-- A thread at an instruction that enters method m. `this` and the arguments are on top of these operands. `depth` more
+-- methods may be entered, one in the other.
 pub record IsEntering (file : File) (c : Code) (m : ℕ) (this : ℕ) (values stack : List ℕ) (depth : ℕ) (t : Thread) : Type 0 where
   pub running : t.mode ≡ mode.Running
   pub enters : slice_get c.instructions t.top.counter ≡ Some (op.Enter m)

@@ -1,5 +1,5 @@
--- The code of an expression, which leaves its word on top of the operands. Jumps name places in the whole code, so the
--- code depends on the place where it stands.
+-- The code of an expression, which leaves its word on top of the operands. Jumps name places in the whole code. So the
+-- code depends on the place where it begins.
 use Rattle.std.specs.Prelude.{ℕ, ◌+◌, List, [], ◌∷◌, ◌++◌}
 use Rattle.ls_code.specs.declared.instruction.Instruction.{Instruction}
 use Rattle.ls_code.specs.declared.instruction.Instruction.TheVariants as op
@@ -30,7 +30,7 @@ binary_code binary.Equal = op.Eq
 binary_code binary.NotEqual = op.Ne
 binary_code binary.Pack = op.Pack
 
--- how many instructions
+-- how many instructions an expression has
 abbrev mutual
   pub size : Expression → ℕ
   size (Word w) = 1
@@ -61,7 +61,7 @@ abbrev mutual
   all_size (More e es) = size e + all_size es
 
 abbrev mutual
-  -- the code that stands at a place
+  -- the code that begins at a place
   pub code : ℕ → Expression → List Instruction
   code p (Word w) = op.Push w ∷ []
   code p (Local n) = op.Load n ∷ []

@@ -44,7 +44,7 @@ Loops =
     ≡ unit (op.Load 0 ∷ op.JumpIfFalse 8 ∷ op.Jump 7 ∷ op.Jump 7 ∷ op.Store 1 ∷ op.Load 1 ∷ op.Throw ∷ op.Turn 0 ∷ op.Push 0 ∷ op.LeaveWith ∷ [])
     (record { from = 2; to = 3; handler = 4; depth = 0 } ∷ []) 1 1 1
 
--- a leavable statement with an exit, and a loop that is left from the body of another and from its exit
+-- a leavable statement with an exit, and a loop that is left from the body of another loop and from its exit
 abbrev pub Leaves : Type 0
 Leaves =
     unit_of (method 1 0 (Block (Then (Leavable (Leave 0) (Then (Evaluate (Word 5)) Done)) (Then (Leavable (While (Word 1) (Leavable (Leave 2) (Then (Leave 0) Done))) Done) Done))))
@@ -76,7 +76,8 @@ caller = record { top = record { counter = 0; locals = []; operands = []; need =
 abbrev runs : ℕ → Answers → Fed
 runs this answers = fed (whole this) 0 8 8 caller answers
 
--- what the thread asks for and how it ends, and what the method's course comes to; at null it is stuck, since nothing catches the throw
+-- What the thread asks for and how it ends, and what the method's course says. If `this` is null, the thread is stuck,
+-- since nothing catches the throw.
 abbrev pub Runs : Type 0
 Runs =
     (runs 9 [] ≡ fed.Asked (act.Enter 0)) × (runs 9 (Answered ∷ []) ≡ fed.Asked (act.ReadField 9 3)) × (runs 9 (Answered ∷ Gives 5 ∷ []) ≡ fed.Ended)

@@ -17,7 +17,7 @@ place_by (Some place) = place
 abbrev pub target_of : Targets → ℕ → ℕ
 target_of t n = place_by (slice_get t n)
 
--- how many instructions
+-- how many instructions a statement has
 abbrev mutual
   pub statement_size : Statement → ℕ
   statement_size (Block ss) = statements_size ss
@@ -39,18 +39,18 @@ abbrev mutual
   statements_size Done = 0
   statements_size (Then s ss) = statement_size s + statements_size ss
 
-  -- each exit stands behind a jump over it and what follows
+  -- each exit comes after a jump, which leads past all exits
   pub exits_size : Statements → ℕ
   exits_size Done = 0
   exits_size (Then x xs) = 1 + statement_size x + exits_size xs
 
--- where exits that stand at a place begin, and behind them the end
+-- where exits begin if their first jump is at a place, and after them the end
 abbrev pub places : ℕ → Statements → Targets
 places p Done = p ∷ []
 places p (Then x xs) = (p + 1) ∷ places (p + 1 + statement_size x) xs
 
 abbrev mutual
-  -- the code that stands at a place
+  -- the code that begins at a place
   pub statement_code : Targets → ℕ → Statement → List Instruction
   statement_code t p (Block ss) = statements_code t p ss
   statement_code t p (SetLocal n e) = code p e ++ op.Store n ∷ []
@@ -78,12 +78,12 @@ abbrev mutual
   statements_code t p Done = []
   statements_code t p (Then s ss) = statement_code t p s ++ statements_code t (p + statement_size s) ss
 
-  -- exits that stand at a place, of a statement that ends there
+  -- the code of exits that begins at a place; the statement ends at `end`
   pub exits_code : Targets → (end p : ℕ) → Statements → List Instruction
   exits_code t end p Done = []
   exits_code t end p (Then x xs) = op.Jump end ∷ statement_code t (p + 1) x ++ exits_code t end (p + 1 + statement_size x) xs
 
--- a throw from the body goes on behind the jump over the handler
+-- a throw from the body goes on after the jump over the handler
 abbrev pub row_of : ℕ → ℕ → HandlerRow
 row_of p size = record { from = p; to = p + size; handler = p + size + 1; depth = 0 }
 

@@ -9,8 +9,8 @@ use Rattle.ls_lowered.specs.LoweredTree.{Method, File}
 use Rattle.ls_emit_laws.specs.Needs.{statement_need}
 use Rattle.ls_emit_laws.specs.Statements.{statement_size, statement_code, statement_rows}
 
--- a method's code as if it stood at place 0, its handler rows, its arguments (`this` among them), its further locals,
--- and how many operands it needs
+-- a method's code as if it began at place 0, and its handler rows; `arguments` counts `this` too, `more` the further
+-- locals, `need` the operands
 pub record CodeUnit : Type 0 where
   pub instructions : List Instruction
   pub handlers : List HandlerRow
@@ -52,13 +52,13 @@ moved start i = i
 abbrev pub moved_row : ℕ → HandlerRow → HandlerRow
 moved_row start row = record { from = start + row.from; to = start + row.to; handler = start + row.handler; depth = row.depth }
 
--- a unit that begins at a place of the whole code: its instructions stand there, and in its places its rows are the ones
--- that count
+-- A unit that begins at a place of the whole code. Its instructions are there. At its places, the rows of the unit are
+-- the ones that count.
 pub record LiesAt (c : Code) (start : ℕ) (u : CodeUnit) : Type 0 where
   pub stands : (place : ℕ) (i : Instruction) → slice_get u.instructions place ≡ Some i → slice_get c.instructions (start + place) ≡ Some (moved start i)
   pub guards : (place : ℕ) → place < length u.instructions → find_row c.handlers (start + place) ≡ find_row (map (moved_row start) u.handlers) (start + place)
 
--- each unit lies in the whole code, within its first so many words, and is the method of its number
+-- each unit lies in the first `words` instructions of the whole code, and is the method of its number
 pub record LieIn (c : Code) (words : ℕ) (units : List CodeUnit) : Type 0 where
   pub at : (m : ℕ) (u : CodeUnit) → slice_get units m ≡ Some u →
       (start : ℕ) × (slice_get c.methods m ≡ Some (record { start = start; arguments = u.arguments; more = u.more; need = u.need }))

@@ -1,4 +1,4 @@
-// Laws of the emission, each as the contract of a function that computes nothing.
+// Laws of the emission: the functions compute nothing, and their contracts say the laws.
 
 ghost use Rattle.ls_lowered.specs.LoweredTree.{File};
 ghost use Rattle.ls_emit_laws.specs.Units.{units_of};

@@ -1,4 +1,4 @@
-//! The code of the lowered tree, as a definition, and why it asks for what the tree asks for.
+//! The code of the lowered tree, as a definition, and why it asks what the tree asks.
 #![tactic(auto)]
 
 pub mod laws;

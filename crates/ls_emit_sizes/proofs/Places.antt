@@ -5,10 +5,12 @@ use Rattle.ls_lowered.specs.Plain.{plain_statement, statements_of}
 use Rattle.ls_emit_laws.specs.Statements.{statement_size, exits_size, places}
 use Rattle.ls_emit_sizes.specs.Places.{room, places_by}
 
+-- the room for exits
 pub room_is : (xs : List Statement) → room (map (λ s. statement_size (plain_statement s)) xs) ≡ exits_size (statements_of xs)
 room_is [] = refl
 room_is (x ∷ xs) = ap (λ n. 1 + statement_size (plain_statement x) + n) (room_is xs)
 
+-- where the exits are
 pub places_are : (p : ℕ) (xs : List Statement) → places_by p (map (λ s. statement_size (plain_statement s)) xs) ≡ places p (statements_of xs)
 places_are p [] = refl
 places_are p (x ∷ xs) = ap (λ l. (p + 1) ∷ l) (places_are (p + 1 + statement_size (plain_statement x)) xs)

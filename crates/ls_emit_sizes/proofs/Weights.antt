@@ -4,6 +4,7 @@ use Rattle.ls_lowered.specs.LoweredTree.{Statement, Block, SetLocal, SetField, A
 use Rattle.ls_emit_laws.specs.Statements.{statements_size, exits_size}
 
 abbrev mutual
+  -- how much there is to do at a statement
   pub weight : Statement → ℕ
   weight (Block ss) = weights ss + 1
   weight (SetLocal n e) = 0
@@ -20,6 +21,7 @@ abbrev mutual
   weight (Leavable b xs) = weight b + weights xs + 2
   weight (Leave n) = 0
 
+  -- how much there is to do at statements
   pub weights : Statements → ℕ
   weights Done = 0
   weights (Then s ss) = weight s + weights ss

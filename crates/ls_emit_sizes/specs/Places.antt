@@ -2,7 +2,7 @@
 use Rattle.std.specs.Prelude.{ℕ, ◌+◌, List, [], ◌∷◌}
 use Rattle.ls_emit_laws.specs.Statements.{Targets}
 
--- how many instructions exits of these sizes have, each behind a jump; where they begin, and behind them the end
+-- how many instructions exits of these sizes have, each after a jump; where they begin, and after them the end
 abbrev pub room : List ℕ → ℕ
 room [] = 0
 room (n ∷ ns) = 1 + n + room ns

@@ -1,4 +1,4 @@
-// How long the code of an expression is, as far as it isn't too long.
+// How long the code of an expression is; 65,537 if it has over 65,536 instructions.
 
 ghost use Rattle.std.specs.Prelude.{◌≡◌, ◌+◌, ◌≤◌, min};
 ghost use Rattle.ls_lowered.specs.Plain.{plain, all_plain};
@@ -10,10 +10,10 @@ use ls_lowered::tree::{Expression, Expressions};
 /// The most instructions of a method, and of a whole code.
 pub const MOST_INSTRUCTIONS: usize = 65_536;
 
-/// As far as instructions are counted.
+/// Instructions are counted up to this number.
 pub const TOO_MANY: usize = 65_537;
 
-/// So many instructions more, or too many.
+/// The count of `so_far` instructions and `count` more; at most 65,537.
 pub fn more(so_far: usize, count: usize) -> usize
     requires so_far { so_far ≤ 65537 }
     requires few { count ≤ 5 }
@@ -26,7 +26,7 @@ pub fn more(so_far: usize, count: usize) -> usize
     }
 }
 
-/// So many instructions, and those of an expression, or too many.
+/// The count of `so_far` instructions and those of an expression; at most 65,537.
 #[cycle(expressions)]
 pub fn count_expression(so_far: usize, e: &Expression) -> usize
     requires { so_far ≤ 65537 }

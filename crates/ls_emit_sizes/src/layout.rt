@@ -1,4 +1,4 @@
-// Where the exits of a leavable statement stand.
+// Where the exits of a leavable statement are.
 
 ghost use Rattle.std.specs.Prelude.{◌≡◌, ◌+◌, ◌≤◌, ◌++◌, [], ◌∷◌, IfOk, map};
 ghost use Rattle.ls_lowered.specs.Plain.{plain_statement, statements_of};
@@ -9,7 +9,7 @@ use crate::sizes::size_of_statement;
 use ls_lowered::tree::Statement;
 use std::alloc::{AllocError, Global};
 
-/// The exits' place, how many instructions each of them has, and where it begins, behind its jump.
+/// The place of the exits, how many instructions each exit has, and where each exit begins, which is after its jump.
 #[derive(Drop)]
 pub struct Layout {
     pub place: usize,
@@ -17,7 +17,7 @@ pub struct Layout {
     pub begins: Vec<u32>,
 }
 
-// How many instructions each of these has.
+// How many instructions each of these statements has.
 fn sizes_of(alloc: Global, statements: &[Statement]) -> Result<Vec<usize>, AllocError>
     requires { statements_size (statements_of statements.now) ≤ 65536 }
     ensures { IfOk result (λ sizes. sizes.items ≡ map (λ s. statement_size (plain_statement s)) statements.now) }
@@ -29,7 +29,7 @@ fn sizes_of(alloc: Global, statements: &[Statement]) -> Result<Vec<usize>, Alloc
     Ok(sizes)
 }
 
-// How many instructions exits of these sizes have, each behind a jump.
+// How many instructions exits of these sizes have, each after a jump.
 fn room_of(sizes: &[usize]) -> usize
     requires { room sizes.now ≤ 65536 }
     ensures { result ≡ room sizes.now }
@@ -41,7 +41,7 @@ fn room_of(sizes: &[usize]) -> usize
     count
 }
 
-// Where exits of these sizes begin that stand at a place, each behind a jump.
+// Where exits of these sizes begin, each after a jump, if the first jump is at `place`.
 fn find_begins(alloc: Global, place: usize, sizes: &[usize]) -> Result<Vec<u32>, AllocError>
     requires { place + room sizes.now ≤ 65536 }
     ensures { IfOk result (λ begins. begins.items ++ (place + room sizes.now) ∷ [] ≡ places_by place sizes.now) }
@@ -55,7 +55,7 @@ fn find_begins(alloc: Global, place: usize, sizes: &[usize]) -> Result<Vec<u32>,
     Ok(begins)
 }
 
-/// Where the exits stand that end at a place.
+/// Where exits are that end at `end`. The only refusal is that memory ran out.
 #[tactic(auto, using(crate::proofs::Places::room_is, crate::proofs::Places::places_are, crate::proofs::Weights::exits_hold))]
 pub fn lay_out(alloc: Global, end: usize, exits: &[Statement]) -> Result<Layout, AllocError>
     requires room { exits_size (statements_of exits.now) ≤ end }

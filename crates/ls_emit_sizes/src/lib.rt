@@ -1,5 +1,5 @@
-//! How many instructions a tree comes to, how many operands its code has at most, and where its parts begin, which is asked before any
-//! code is made.
+//! How many instructions a tree has, how many operands its code needs at most, and where its parts begin. This is
+//! asked before any code is made.
 #![tactic(auto)]
 
 pub mod expressions;

@@ -8,7 +8,7 @@ ghost use Rattle.ls_emit_laws.specs.Needs.{need as need_of, all_need as all_need
 
 use ls_lowered::tree::{Expression, Expressions, Statement};
 
-/// The larger of two.
+/// The larger of two numbers.
 pub fn larger(a: usize, b: usize) -> usize
     ensures { result ≡ max a b }
 {

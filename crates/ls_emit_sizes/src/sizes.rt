@@ -1,4 +1,4 @@
-// How long the code of statements is, as far as it isn't too long.
+// How long the code of statements is; 65,537 if it has over 65,536 instructions.
 
 ghost use Rattle.std.specs.Prelude.{◌≡◌, ◌+◌, ◌≤◌, ◌↔◌, All, IsTrue, min};
 ghost use Rattle.ls_lowered.specs.Plain.{plain_statement, statements_of, plain_method};
@@ -8,7 +8,7 @@ ghost use Rattle.ls_emit_laws.specs.Units.{method_size};
 use crate::expressions::{MOST_INSTRUCTIONS, TOO_MANY, count_expression, more};
 use ls_lowered::tree::{Method, Statement};
 
-// So many instructions, and those of a statement, or too many.
+// The count of `so_far` instructions and those of a statement; at most 65,537.
 #[cycle(statements)]
 #[tactic(auto, using(crate::proofs::Blocks::block_read))]
 fn count_statement(so_far: usize, s: &Statement) -> usize
@@ -65,7 +65,7 @@ fn count_statements(so_far: usize, statements: &[Statement]) -> usize
     count
 }
 
-// So many instructions, and those of exits, each behind a jump, or too many.
+// The count of `so_far` instructions and those of exits, each after a jump; at most 65,537.
 #[cycle(statements)]
 fn count_exits(so_far: usize, exits: &[Statement]) -> usize
     requires { so_far ≤ 65537 }

@@ -114,6 +114,7 @@ module _ (file : File) (program : Program) (code : Code) (asks : Asks file progr
     acts_by is_open IsStuck stood w st y does = absurd w
     acts_by is_open TooLong stood w st y does = absurd w
 
+    -- if the source's action is done, the thread acts in time; if there is no room, the machine may stop
     pub acts : IsOpen m t → (st : Store) (y : Answer Value) → effect file.classes s.store t a ≡ Does st y → Acting (roomy st) (first_did (suc bound) m t)
     acts is_open st y does =
         acts_by is_open (stands t each.3) refl
@@ -147,6 +148,7 @@ module _ (file : File) (program : Program) (code : Code) (asks : Asks file progr
           subst (λ l. So m t (step_of file s t (next file program t l))) (sym (index_there s.answers t found.0 [] found.1))
           (acts_had s m h t is_open found.0 found.1 (slice_get m.threads t) refl (subst (λ o. Each s m h t o (slice_get m.threads t)) found.1 (h.each t)))
 
+-- the law: threads act in time
 pub acts_right : (file : File) (program : Program) (code : Code) → Asks file program code → Means file program → ActsInTime file program code
 acts_right file program code asks sound cells within schedule t is is_open =
     let m = machine_run (loaded code cells) schedule in

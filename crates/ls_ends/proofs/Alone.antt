@@ -16,6 +16,7 @@ use Rattle.ls_headline.proofs.Lists.{set_same}
 use Rattle.ls_ends.specs.Acting.{acts_or_stops, or_later, first_did}
 use Rattle.ls_ends.proofs.Quieted.{Ready, step_is, silent_step, still_ready}
 
+-- a step that acts; or, if there is no room, a step that stops the machine
 abbrev pub Acting : Bool → Did → Type 0
 Acting r d = acts_or_stops r d ≡ true
 
@@ -26,7 +27,7 @@ acting_now r did.Silent later e = cc
 acting_now r did.Waits later e = cc
 acting_now r did.Idle later e = cc
 
--- what an action comes to: it is answered and the thread goes on, or the cells have no room
+-- the effect of an action: it is answered and the thread goes on, or there is no room in the cells
 pub data Replies (r : Bool) (c : Cells) (t : ℕ) (b : Action ℕ) (go : Answer ℕ → Option Thread) : Type 0 where
   Goes : (d : Cells) (w : Answer ℕ) (x : Thread) → effect c t b ≡ Answers d w → go w ≡ Some x → Replies r c t b go
   Ends : r ≡ false → effect c t b ≡ Stops → Replies r c t b go
@@ -35,21 +36,23 @@ same_answer : (d e : Cells) (v w : Answer ℕ) → Answers d v ≡ Answers e w �
 same_answer d e v w h = cc
 
 module _ (r : Bool) (c : Cells) (t : ℕ) (b : Action ℕ) (go : Answer ℕ → Option Thread) where
-  -- where the answer is known, the thread goes on with it
+  -- if the answer is known, the thread goes on with it
   pub goes_on : (d : Cells) (w : Answer ℕ) → effect c t b ≡ Answers d w → Replies r c t b go → (x : Thread) × (go w ≡ Some x)
   goes_on d w e (Goes d' w' x ee eg) = let h : Answers d w ≡ Answers d' w' = (let q : effect c t b ≡ Answers d' w' = ee in cc) in (x, ap go (same_answer d d' w w' h) ∙ eg)
   goes_on d w e (Ends er ee) = cc
 
+  -- an action that is answered, or that stops the machine, doesn't wait
   pub waits_not : effect c t b ≡ Waits → Replies r c t b go → ⊥
   waits_not e (Goes d w x ee eg) = cc
   waits_not e (Ends er ee) = cc
 
 module _ (r : Bool) (code : Code) (t : ℕ) where
-  -- within so many steps, all but the last of them silent, the thread acts or stops the machine
+  -- within n steps, all silent but the last, the thread acts or stops the machine
   abbrev pub Comes : Cells → ℕ → Thread → Type 0
   Comes c zero x = ⊥
   Comes c (suc n) x = (x.mode ≡ mode.Running) × (Acting r (one code t c x).did ⊎ ((x' : Thread) × (one code t c x ≡ outcome_of x' c did.Silent) × Comes c n x'))
 
+  -- with more steps it is reached too
   pub longer : (c : Cells) (n k : ℕ) (x : Thread) → n ≤ k → Comes c n x → Comes c k x
   longer c zero k x le h = absurd h
   longer c (suc n) zero x le h = absurd (omega arith)

@@ -64,6 +64,7 @@ alike place cells a b h = record {
   histories = h.1 ∙ sym (ap history_of (source_none b));
 }
 
+-- the image whose thread loops for ever is the same as its source
 pub round_same : Same no_file no_calls goes_round
 round_same = record {
   threads = refl;
@@ -72,6 +73,7 @@ round_same = record {
   forth = λ cells c s f. alike 1 cells (to_machine no_file no_calls goes_round cells s) s (round_all cells (to_machine no_file no_calls goes_round cells s));
 }
 
+-- the image whose thread is stuck is the same as its source
 pub stuck_same : Same no_file no_calls stuck
 stuck_same = record {
   threads = refl;

@@ -1,4 +1,4 @@
--- An operation of a lock, from where a thread stands in it: it comes to act, where the action doesn't wait.
+-- An operation of a lock, from each place within it: if the action doesn't wait, the thread acts.
 use Rattle.std.proofs.Common.{◌≡◌, ◌≢◌, ◌⊎◌, inl, inr, ℕ, ◌==◌, Bool, true, false, Option, Some, refl, sym, ap, ◌∙◌, subst}
 use Rattle.std.proofs.lemmas.Bool.Decides.{eqb_tells}
 use Rattle.ls_events.specs.declared.kind.Kind.{Kind}
@@ -27,7 +27,7 @@ use Rattle.ls_headline.proofs.Middle.{OwnFor, Locking, Unlocking, of_lock, of_mo
 use Rattle.ls_ends.specs.Acting.{acts_or_stops}
 use Rattle.ls_ends.proofs.Alone.{Acting, Replies, goes_on, waits_not, Comes}
 
--- a lock's word; the one with too many holds is the fullest
+-- a lock's word; the word with too many holds is the fullest
 abbrev pub Word : Cells → ℕ → ℕ → Type 0
 Word c t lock = (now : ℕ) × (cell_at c lock 0 ≡ Some now) × (taken_of now t ≡ taken.TooMany → now ≡ full_word t)
 
@@ -104,7 +104,7 @@ module _ (room : Bool) (code : Code) (t : ℕ) (c : Cells) where
           (runs, inl (acts_thrown y on.0 y b IllegalMonitorState (parts.see_other c now ec (not_left now t own)) on.1))
 
   module _ (y : Thread) (runs : y.mode ≡ mode.Running) where
-    -- where it begins
+    -- at the beginning of the operation
     pub begins : (b : Action ℕ) (go : Answer ℕ → Option Thread) → Parts code t y b go → Replies room c t b go → ((lock : ℕ) → lock_on b ≡ Some lock → Word c t lock) → Comes room code t c 2 y
     begins (act.Lock a) go parts replies word =
         let r = word a refl in lock_acts y runs a r.0 r.1 r.2 (act.Lock a) (of_lock a) parts.0 (subst (Replies room c t (act.Lock a)) parts.1 replies)

@@ -35,6 +35,7 @@ use Rattle.ls_ends.specs.InTime.{StandsAs, IsOpen, EndsInTime}
 use Rattle.ls_ends.proofs.Reached.{follows_all}
 
 module _ (code : Code) (t : ℕ) where
+  -- the thread is the setup, or the setup has ended
   abbrev pub Ready : Machine → Type 0
   Ready m = (nat_eq t 0 || setup_ended (slice_get m.threads 0)) ≡ true
 
@@ -49,6 +50,7 @@ module _ (code : Code) (t : ℕ) where
   pub silent_step : (m : Machine) (x x' : Thread) → m.code ≡ code → m.stopped ≡ false → x.mode ≡ mode.Running → Ready m → slice_get m.threads t ≡ Some x → performed m.cells t x (thread_move code x) ≡ outcome_of x' m.cells did.Silent → machine_step m t ≡ machine.stepped_by (machine.after m t (outcome_of x' m.cells did.Silent)) did.Silent
   silent_step m x x' image goes runs ready there em = step_is m x image goes runs ready there ∙ ap (λ (o : machine_steps.Outcome). machine.stepped_by (machine.after m t o) o.did) em
 
+  -- a step of the thread leaves that so
   pub still_ready : (m : Machine) (x : Thread) (b : Bool) → nat_eq t 0 ≡ b → (b || setup_ended (slice_get m.threads 0)) ≡ true → (b || setup_ended (slice_get (slice_set m.threads t x) 0)) ≡ true
   still_ready m x true e h = refl
   still_ready m x false e h =
@@ -65,7 +67,7 @@ module _ (code : Code) (t : ℕ) where
   stays zero m x goes there e = refl
   stays (suc n) m x goes there e = ap (λ (r : machine.Stepped). machine_run r.machine (replicate n t)) (idle_step m x goes there e) ∙ stays n m x goes there e
 
-  -- where it stands
+  -- the state of the thread
   stands_there : (m : Machine) (x : Thread) (z : Mode) → m.stopped ≡ false → Ready m → slice_get m.threads t ≡ Some x → x.mode ≡ z → machine_state m t ≡ mode_state z
   stands_there m x z goes ready there e =
       ap (state_in m t) there ∙ ap (λ b. if b then state.Stopped else running_state m t x) goes
@@ -132,7 +134,7 @@ module _ (code : Code) (t : ℕ) where
   asking_over z (suc n) y b go r em e =
       asks_over z true (begins_early (thread_move code y)) b go (quiet code t n) (sym (ap (λ d. carry true (begins_early (thread_move code y)) d (quiet code t n)) em) ∙ sym (more code t n y r) ∙ e)
 
-  -- one silent step, where the reading's thread and the machine's come to the same
+  -- one silent step, if the reading's thread and the machine's thread become the same
   told_over : (z : Mode) (n : ℕ) (m : Machine) → m.code ≡ code → m.stopped ≡ false → Ready m → (x y x' : Thread) → slice_get m.threads t ≡ Some x → x.mode ≡ mode.Running → y.mode ≡ mode.Running → performed m.cells t x (thread_move code x) ≡ outcome_of x' m.cells did.Silent → whole_move code t y ≡ Silent x' → quiet code t n y ≡ IsOver z →
       machine_state (machine_run m (replicate n t)) t ≡ mode_state z
   told_over z zero m image goes ready x y x' there rx ry does em e = absurd (zero_move z (begins_early (thread_move code y)) (whole_move code t y) (sym (at_end code t y ry) ∙ e))
@@ -196,6 +198,7 @@ module _ (file : File) (program : Program) (code : Code) (asks : Asks file progr
       subst (λ l. Stood (next file program t l) m t) (sym here)
       (in_time_at s m h t is_open found.0 found.1 (slice_get m.threads t) refl (subst (λ o. Each s m h t o (slice_get m.threads t)) found.1 (h.each t)))
 
+-- the law: threads end in time
 pub ends_right : (file : File) (program : Program) (code : Code) → Asks file program code → Means file program → EndsInTime file program code
 ends_right file program code asks sound cells within schedule t is is_open =
     let m = machine_run (loaded code cells) schedule in

@@ -30,6 +30,7 @@ module _ (file : File) (program : Program) (code : Code) (asks : Asks file progr
   abbrev write : State → source.Entry Value → Entry
   write = Following.write file program code asks sound room within.most
 
+  -- after each schedule the machine follows the source
   pub follows_all : (ts : List ℕ) → Follows (source_run file program (to_source code room ts)) (machine_run (loaded code room) ts)
   follows_all ts =
       let r =

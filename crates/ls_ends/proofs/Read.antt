@@ -1,4 +1,4 @@
--- A thread that is read to come to an action, which doesn't wait: by its own instructions it acts in time.
+-- If a thread is read to reach an action that doesn't wait, it acts in time by its own instructions.
 use Rattle.std.proofs.Common.{◌≡◌, ◌<◌, ◌≤◌, ◌⊎◌, inl, inr, ℕ, zero, suc, Bool, true, false, length, Option, Some, None, refl, sym, ap, ◌∙◌, subst, arith, slice_get}
 use Rattle.ls_events.specs.declared.action.Action.{Action}
 use Rattle.ls_events.specs.declared.action.Answer.{Answer}
@@ -37,7 +37,7 @@ early (MoveAsks b go) h = absurd h
 early (Plans go) h = refl
 
 module _ (room : Bool) (code : Code) (t : ℕ) (c : Cells) (b : Action ℕ) (go : Answer ℕ → Option Thread) (replies : Replies room c t b go) (word : (lock : ℕ) → lock_on b ≡ Some lock → Word c t lock) where
-  -- where a thread asks, it asks for this
+  -- if a thread asks, it asks for this
   asked_same : (m e : Bool) (b' : Action ℕ) (go' : Answer ℕ → Option Thread) (f : Thread → Pause) → carry m e (MoveAsks b' go') f ≡ Paused b go → Paused b' go' ≡ Paused b go
   asked_same true true b' go' f h = h
   asked_same false true b' go' f h = absurd (cc)
@@ -56,6 +56,7 @@ module _ (room : Bool) (code : Code) (t : ℕ) (c : Cells) (b : Action ℕ) (go 
   not_early true b' go' h e = cc
   not_early false b' go' h e = cc
 
+  -- if a thread is read to ask for the action after at most n silent instructions, it acts in n + 1 steps
   abbrev pub Reads : ℕ → Type 0
   Reads n = (x : Thread) → quiet code t n x ≡ Paused b go → Comes room code t c (suc n) x
 
@@ -95,6 +96,7 @@ module _ (room : Bool) (code : Code) (t : ℕ) (c : Cells) (b : Action ℕ) (go 
   reads_more n ih x e mode.Ended em = absurd (over_not mode.Ended (sym (ended code t (suc n) x em) ∙ e))
   reads_more n ih x e mode.Trapped em = absurd (over_not mode.Trapped (sym (trapped code t (suc n) x em) ∙ e))
 
+  -- each number of instructions does so
   pub reads : (n : ℕ) → Reads n
   reads zero x e = reads_zero x e x.mode refl
   reads (suc n) x e = reads_more n (reads n) x e x.mode refl
@@ -110,7 +112,7 @@ module _ (room : Bool) (code : Code) (t : ℕ) (c : Cells) (b : Action ℕ) (go 
   too_long : TooLong ≡ Paused b go → ⊥
   too_long e = cc
 
-  -- one silent step, where the reading's thread and the machine's come to the same
+  -- one silent step, if the reading's thread and the machine's thread become the same
   told : (n : ℕ) (x y x' : Thread) → x.mode ≡ mode.Running → y.mode ≡ mode.Running → one code t c x ≡ outcome_of x' c did.Silent → whole_move code t y ≡ Silent x' → quiet code t n y ≡ Paused b go → Comes room code t c (suc n) x
   told zero x y x' rx ry step em e = absurd (too_long (sym (ap (λ d. carry false (begins_early (thread_move code y)) d (λ s. TooLong)) em) ∙ sym (at_end code t y ry) ∙ e))
   told (suc n) x y x' rx ry step em e = (rx, inr (x', step, reads n x' (sym (ap (λ d. carry true (begins_early (thread_move code y)) d (quiet code t n)) em) ∙ sym (more code t n y ry) ∙ e)))
@@ -121,7 +123,7 @@ module _ (room : Bool) (code : Code) (t : ℕ) (c : Cells) (b : Action ℕ) (go 
   begun_same : (y : Thread) → y.mode ≡ mode.Running → (b' : Action ℕ) (go' : Answer ℕ → Option Thread) → whole_move code t y ≡ MoveAsks b' go' → quiet code t bound y ≡ Paused b go → Paused b' go' ≡ Paused b go
   begun_same y runs b' go' em e = sym (beginning code t bound y b' go' runs em (subst IsLoud (sym e) tt)) ∙ e
 
-  -- a thread of the machine in the midst of what a thread does that comes to the action
+  -- a thread of the machine, in the midst of what leads a thread to the action
   pub in_middle : (y x : Thread) → Middle code c t y x → quiet code t bound y ≡ Paused b go → Comes room code t c (suc bound) x
   in_middle y x (Here ex) e = subst (Comes room code t c (suc bound)) (sym ex) (reads bound y e)
   in_middle y x (Saw r b' go' lock w em planned on is sees own) e =

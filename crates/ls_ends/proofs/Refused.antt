@@ -12,6 +12,7 @@ use Rattle.ls_ends.specs.WrongImages.{no_file, no_calls, goes_round, stuck, stil
 abbrev actions : List ℕ
 actions = replicate 5 0 ++ replicate 6 1
 
+-- an image that stands still isn't the same
 pub still_not : Same file program still → ⊥
 unfolding invoke depth_limit
 still_not h = let e = (h.forth 9 (record { some = omega arith; most = omega arith; names = omega arith }) (0 ∷ []) (omega arith)).traces in cc
@@ -23,16 +24,19 @@ fat_not h =
     let e : ◌≡◌ {A = ℕ} 8 9 = ap length (h.forth 3 (record { some = omega arith; most = omega arith; names = omega arith }) (replicate 5 0 ++ replicate 4 1) (omega arith)).traces in
     absurd (omega arith)
 
+-- an image that leaves out a return isn't the same
 pub mute_not : Same file program mute → ⊥
 unfolding invoke depth_limit
 mute_not h =
     let e : ◌≡◌ {A = ℕ} 10 11 = ap length (h.forth 9 (record { some = omega arith; most = omega arith; names = omega arith }) actions (omega arith)).traces in
     absurd (omega arith)
 
+-- an image with two threads in each other's place isn't the same
 pub swapped_not : Same file two swapped → ⊥
 unfolding invoke depth_limit
 swapped_not h = let e = (h.forth 9 (record { some = omega arith; most = omega arith; names = omega arith }) (replicate 5 0 ++ 1 ∷ []) (omega arith)).traces in cc
 
+-- an image with a thread too few isn't the same
 pub fewer_not : Same file two fewer → ⊥
 fewer_not h = let e = h.threads in absurd (omega arith)
 
@@ -40,12 +44,15 @@ fewer_not h = let e = h.threads in absurd (omega arith)
 pub round_asks_not : Asks no_file no_calls goes_round → ⊥
 round_asks_not h = let e = h.asks 1 (record { place = 1; need = 0; calls = [] }) [] refl tt in cc
 
+-- a stuck thread doesn't ask what its source asks
 pub stuck_asks_not : Asks no_file no_calls stuck → ⊥
 stuck_asks_not h = let e = h.asks 1 (record { place = 7; need = 0; calls = [] }) [] refl tt in cc
 
+-- a thread that loops for ever doesn't end in time
 pub round_ends_not : EndsInTime no_file no_calls goes_round → ⊥
 round_ends_not h = let e = h 1 (record { some = omega arith; most = omega arith; names = omega arith }) (0 ∷ []) 1 (omega arith) (refl, refl) in cc
 
+-- a stuck thread doesn't end in time
 pub stuck_ends_not : EndsInTime no_file no_calls stuck → ⊥
 stuck_ends_not h = let e = h 1 (record { some = omega arith; most = omega arith; names = omega arith }) (0 ∷ []) 1 (omega arith) (refl, refl) in cc
 

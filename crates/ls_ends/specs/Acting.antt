@@ -1,4 +1,4 @@
--- A thread of the machine acts in time, where its source acts next.
+-- If the source of a thread acts next, the machine's thread acts in time.
 use Rattle.std.specs.Prelude.{◌≡◌, ℕ, zero, suc, ◌+◌, ◌<◌, Bool, true, false, not, nat_le, List, length}
 use Rattle.ls_checked.specs.CheckedTree.{File}
 use Rattle.ls_checked.specs.CheckedProgram.{Program}
@@ -13,11 +13,11 @@ use Rattle.ls_headline.specs.Same.{IsCells, total}
 use Rattle.ls_headline.specs.Translations.{most_silent, to_source}
 use Rattle.ls_ends.specs.InTime.{IsOpen}
 
--- the names, and all that the source has made, have room in so many cells
+-- there is room in this many cells for the names and for all that the source has made
 abbrev pub has_room : Program → ℕ → State → Bool
 has_room program cells s = nat_le (length program.names + total s.store.things) cells
 
--- a step that acts, or that stops the machine where there is no room
+-- a step that acts; or, if there is no room, a step that stops the machine
 abbrev pub acts_or_stops : Bool → Did → Bool
 acts_or_stops room (did.Acted action answer) = true
 acts_or_stops room did.Stopped = not room
@@ -25,7 +25,7 @@ acts_or_stops room did.Silent = false
 acts_or_stops room did.Waits = false
 acts_or_stops room did.Idle = false
 
--- what a step did, or what comes after it where it was silent
+-- what a step did; if it was silent, what comes after it
 abbrev pub or_later : Did → Did → Did
 or_later did.Silent later = later
 or_later (did.Acted action answer) later = did.Acted action answer
@@ -33,12 +33,13 @@ or_later did.Stopped later = did.Stopped
 or_later did.Waits later = did.Waits
 or_later did.Idle later = did.Idle
 
--- what a thread does first that isn't silent, in so many steps of its own
+-- the first step of a thread that isn't silent, among n steps of its own
 abbrev pub first_did : ℕ → Machine → ℕ → Did
 first_did zero m t = did.Silent
 first_did (suc n) m t = or_later (machine_step m t).did (first_did n (machine_step m t).machine t)
 
--- what is asked of that, by what the source's next step of the thread does, and by whether there is room after it
+-- What that first step must be. It depends on what the source's next step of the thread does, and on whether there is
+-- room after it.
 abbrev pub ActsAs : Bool → SourceDid → Did → Type 0
 ActsAs room (source_did.Acted action answer) first = acts_or_stops room first ≡ true
 ActsAs room source_did.Waits first = Unit {0}
@@ -47,9 +48,10 @@ ActsAs room source_did.Idle first = Unit {0}
 abbrev pub StepsAs : Program → ℕ → Step → Did → Type 0
 StepsAs program cells next first = ActsAs (has_room program cells next.after) next.did first
 
--- After any schedule, in a machine with any number of cells: where the source's next step of a thread acts, the machine's thread makes at most so many
--- silent steps as may be silent in a row, and then acts; it stops the machine only where what the source's step makes has no room. Nothing is asked where
--- the source waits for a lock: how long it waits hangs on the other threads.
+-- Take any schedule, in a machine with any number of cells. If the source's next step of a thread acts, the machine's
+-- thread makes at most `most_silent` silent steps, and then acts. It stops the machine only if there is no room for
+-- what the source's step makes. Not claimed: anything while the source waits for a lock. How long it waits depends on
+-- the other threads.
 abbrev pub ActsInTime : File → Program → Code → Type 0
 ActsInTime file program code =
     (cells : ℕ) → IsCells code cells → (schedule : List ℕ) (t : ℕ) → t < length program.threads → IsOpen (machine_run (loaded code cells) schedule) t →

@@ -1,4 +1,4 @@
--- Wrong images of small programs, which show what is refused.
+-- Wrong images of small programs. They show what is refused.
 use Rattle.std.specs.Prelude.{ℕ, List, [], ◌∷◌, ◌++◌, None, replicate}
 use Rattle.ls_events.specs.declared.value.ValueType.TheVariants as type
 use Rattle.ls_checked.specs.declared.tree.Called.TheVariants.{LockIt, UnlockIt}
@@ -27,14 +27,15 @@ starting_at place = record {
   names = 0;
 }
 
--- T goes round in one place for ever; T is stuck behind the code
+-- T loops in one place for ever; T is stuck after the end of the code
 abbrev pub goes_round : Code
 goes_round = starting_at 1
 
 abbrev pub stuck : Code
 stuck = starting_at 7
 
--- of the example of ls_headline: nothing moves; an object takes two cells in place of one; T's return is left out
+-- images of the example of ls_headline: nothing moves; an object takes two cells instead of one; T's return is left
+-- out
 abbrev pub still : Code
 still = record code { instructions = op.Jump 0 ∷ [] }
 
@@ -50,7 +51,8 @@ mute = record code {
       ∷ op.Leave ∷ [];
 }
 
--- its program with a thread U without calls; T and U change places in one image, and the other has no U
+-- its program with a thread U without calls; T and U have each other's place in one image, and the other image has no
+-- U
 abbrev pub two : Program
 two = record {
   names = program.names;
@@ -124,7 +126,7 @@ after_lost place = record {
   names = 1;
 }
 
--- it loads the lock's word again; it goes round in one place for ever
+-- T loads the lock's word again; T loops in one place for ever
 abbrev pub looks_again : Code
 looks_again = after_lost 15
 

@@ -1,4 +1,4 @@
--- Statements in front of others, one more behind them.
+-- Statements before others, with one more after them.
 use Rattle.std.proofs.Common.{◌≡◌, ℕ, suc, ◌+◌, ◌<◌, add-one, length, drop, refl, ap, ap₂, sym, ◌∙◌, List, [], ◌∷◌, ◌++◌}
 use Rattle.std.specs.Global.{Vec, Box}
 use Rattle.std.specs.Prelude.{slice_index_or}
@@ -12,6 +12,7 @@ use Rattle.ls_lowered.specs.LoweredTree.{Statements, Block, Leavable, Then}
 use Rattle.ls_lowered.specs.Plain.{plain_statement, row_statements, in_front, statements_of}
 use Rattle.ls_lowered.proofs.Rows.{row_is_list}
 
+-- one statement more in front of the others
 pub push_front : (ss : List Statement) (s : Statement) (rest : Statements) → in_front (ss ++ s ∷ []) rest ≡ in_front ss (Then (plain_statement s) rest)
 push_front [] s rest = refl
 push_front (x ∷ ss) s rest = ap (Then (plain_statement x)) (push_front ss s rest)

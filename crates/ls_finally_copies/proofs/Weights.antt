@@ -5,6 +5,7 @@ use Rattle.ls_lowered.specs.Plain.{plain_statement, statements_of}
 use Rattle.ls_lowered.specs.LoweredTree.{Expression, Word, Local, Unary, Binary, And, Or, Hold, Keep, After, Field, Item, SetFirst, ReadPair, SetPair, SwapPair, AttemptMark, OnLock, Call, MakeObject, MakeLock, MakeMarkable, MakeArray, Expressions, End, More, Statement, Block, If, While, Try, Guarded, Leavable, Statements, Done, Then}
 
 abbrev mutual
+  -- how much there is to do at an expression
   pub weight : Expression → ℕ
   weight (Word w) = 1
   weight (Local n) = 1
@@ -29,11 +30,13 @@ abbrev mutual
   weight (MakeMarkable e) = 1 + weight e
   weight (MakeArray e) = 1 + weight e
 
+  -- how much there is to do at expressions
   pub weights : Expressions → ℕ
   weights End = 1
   weights (More e es) = 1 + weight e + weights es
 
 abbrev mutual
+  -- how much there is to do at a statement
   pub size : Statement → ℕ
   size (Block ss) = 1 + sizes ss
   size (If e a b) = 1 + size a + size b
@@ -43,6 +46,7 @@ abbrev mutual
   size (Leavable b xs) = 1 + size b + sizes xs
   size _ = 1
 
+  -- how much there is to do at statements
   pub sizes : Statements → ℕ
   sizes Done = 0
   sizes (Then s ss) = size s + sizes ss

@@ -9,7 +9,7 @@ use ls_lowered::together::also;
 use ls_lowered::tree::{Expression, Expressions, Statement};
 use std::alloc::{AllocError, Global};
 
-/// The same expression once more.
+/// The same expression once more. The only refusal is that memory ran out.
 #[cycle(expressions)]
 pub fn copy_expression(alloc: Global, e: &Expression) -> Result<Expression, AllocError>
     ensures { IfOk result (λ t. plain t ≡ plain e.now) }
@@ -185,7 +185,7 @@ pub fn leavable_of(body: Box<Statement>, own: Vec<Statement>) -> Statement
     Statement::Leavable(body, own)
 }
 
-/// The same statement once more.
+/// The same statement once more. The only refusal is that memory ran out.
 #[cycle(statements)]
 #[tactic(auto, using(ls_lowered::proofs::Rows::block_made, crate::proofs::Fronts::block_read))]
 pub fn copy_statement(alloc: Global, s: &Statement) -> Result<Statement, AllocError>

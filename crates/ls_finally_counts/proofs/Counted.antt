@@ -1,4 +1,4 @@
--- What is counted of a statement is what it comes to without `try`.
+-- What is counted of a statement is what it has without `try`.
 use Rattle.std.proofs.Common.{◌≡◌, ℕ, zero, suc, ◌+◌, ◌*◌, Bool, true, false, cond, List, [], ◌∷◌, ◌++◌, length, Option, Some, None, refl, ap, sym, ◌∙◌, arith, length-append, is_some}
 use Rattle.ls_lowered.specs.LoweredTree.{Statement, Block, SetLocal, SetField, AddField, SetItem, Evaluate, If, While, Return, Try, Guarded, Throw, Leavable, Leave, Statements, Done, Then}
 use Rattle.ls_finally_exits.specs.Exits.{outward, count, leave_exit, exits, all_exits}
@@ -13,12 +13,12 @@ use Rattle.ls_finally_counts.proofs.Returns.{returned_right}
 use Rattle.ls_finally_counts.proofs.Sizes.{finally_size}
 use Rattle.ls_finally_counts.proofs.Products.{distribute, nothing, products}
 
--- whether a leave or a return leads beyond so many numbers
+-- whether a leave or a return leads beyond this many numbers
 abbrev leads : ℕ → Option ℕ → Bool
 leads l None = true
 leads l (Some n) = is_some (outward l n)
 
--- how many ways lead beyond so many numbers
+-- how many ways lead beyond this many numbers
 abbrev pub reach : ℕ → List Way → ℕ
 reach l [] = 0
 reach l (w ∷ ws) = cond (leads l w.number) w.times 0 + reach l ws
@@ -130,6 +130,7 @@ exits_right : (s : Statement) (k : ℕ) → total (ways_of s) ≡ length (exits 
 exits_right s k = sym (reach_all (ways_of s)) ∙ ways_right s k 0
 
 mutual
+  -- the copies that are counted are those of the lowering
   pub copied_right : (s : Statement) (k : ℕ) → copies k s ≡ copied s
   copied_right (Block ss) k = all_copied_right ss k
   copied_right (SetLocal n e) k = refl
@@ -153,6 +154,7 @@ mutual
   all_copied_right (Then s ss) k = omega (arith, copied_right s k, all_copied_right ss (k + 2 * tries s))
 
 mutual
+  -- the instructions that are counted are those of the lowered tree
   pub size_right : (s : Statement) (k : ℕ) → flat_size s ≡ statement_size (flat k s)
   size_right (Block ss) k = all_size_right ss k
   size_right (SetLocal n e) k = refl
@@ -182,7 +184,7 @@ mutual
   all_size_right Done k = refl
   all_size_right (Then s ss) k = omega (arith, size_right s k, all_size_right ss (k + 2 * tries s))
 
-  -- each stands behind a jump
+  -- each exit comes after a jump
   exits_size_right : (xs : Statements) (k : ℕ) → count xs + all_flat_size xs ≡ exits_size (all_flat k xs)
   exits_size_right Done k = refl
   exits_size_right (Then x xs) k = omega (arith, size_right x k, exits_size_right xs (k + 2 * tries x))

@@ -120,6 +120,7 @@ ways_exits [] r l f = omega arith
 ways_exits (x ∷ xs) r l f =
     omega (arith, length-append (exits l (both f (exit_of r x))) (all_exits l (ways r f xs)), copy_exits l f (exit_of r x), exit_outs r l x xs, ways_exits xs r l f)
 
+-- how many exits a `try` by copies has
 pub finally_exits : (k l : ℕ) (b f : Statement) → HasNoTry b → length (exits l (finally_of k b f)) ≡ length (exits l b) + (2 + length (exits 0 b)) * length (exits l f)
 finally_exits k l b f t =
     let xs : List Exit = exits 0 b in

@@ -5,6 +5,7 @@ use Rattle.ls_finally_exits.specs.Exits.{outward, count, Exit, LeaveOut, ReturnO
 use Rattle.ls_finally.specs.Flat.{tries, flat, all_flat}
 
 abbrev mutual
+  -- a statement without `try`
   pub HasNoTry : Statement → Type 0
   HasNoTry (Block ss) = HaveNoTry ss
   HasNoTry (If e a b) = HasNoTry a × HasNoTry b
@@ -14,6 +15,7 @@ abbrev mutual
   HasNoTry (Leavable b xs) = HasNoTry b × HaveNoTry xs
   HasNoTry _ = Unit {0}
 
+  -- statements without `try`
   pub HaveNoTry : Statements → Type 0
   HaveNoTry Done = Unit {0}
   HaveNoTry (Then s ss) = HasNoTry s × HaveNoTry ss
@@ -56,6 +58,7 @@ finally_none : (k : ℕ) (b f : Statement) → HasNoTry b → HasNoTry f → Has
 finally_none k b f t u = (((replaced_none b (k + 1) 0 2 t, tt), (tt, tt)), (u, ((u, (tt, tt)), ways_none (k + 1) f (exits 0 b) u)))
 
 mutual
+  -- the lowered form of a statement has no `try`
   pub flat_none : (s : Statement) (k : ℕ) → HasNoTry (flat k s)
   flat_none (Block ss) k = all_flat_none ss k
   flat_none (SetLocal n e) k = tt

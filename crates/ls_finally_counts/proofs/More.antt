@@ -22,7 +22,7 @@ le_or_gt (suc a) (suc b) = more (le_or_gt a b)
     more (inl le) = inl (omega (arith, le))
     more (inr gt) = inr (omega (arith, gt))
 
--- copies of a finally block that is counted as far as it isn't too long
+-- copies of a finally block whose length is counted up to a bound
 pub capped : (a n f r : ℕ) → min (min a 65537 + (2 + n) * (min f 65537 + 2) + 2 * r + 4) 65537 ≡ min (a + (2 + n) * (f + 2) + 2 * r + 4) 65537
 capped a n f r = by_length (le_or_gt f 65537)
   where

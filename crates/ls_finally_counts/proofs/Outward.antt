@@ -2,7 +2,7 @@
 use Rattle.std.proofs.Common.{◌≡◌, ℕ, zero, suc, ◌+◌, ◌<◌, List, [], ◌∷◌, length, Some, None, ap, ◌∙◌, arith}
 use Rattle.ls_finally_exits.specs.Exits.{outward, Exit, LeaveOut, ReturnOut, leave_exit}
 
--- a number that isn't beyond so many is below them
+-- a number that doesn't lead beyond l is below l
 pub inward : (l n : ℕ) → outward l n ≡ None → n < l
 inward zero n e = absurd (some e)
   where
@@ -11,7 +11,7 @@ inward zero n e = absurd (some e)
 inward (suc l) zero e = omega arith
 inward (suc l) (suc n) e = omega (arith, inward l n e)
 
--- how many exits lead beyond so many numbers
+-- how many exits lead beyond this many numbers
 abbrev pub outs : ℕ → List Exit → ℕ
 outs l [] = 0
 outs l (LeaveOut n ∷ xs) = length (leave_exit (outward l n)) + outs l xs

@@ -1,13 +1,16 @@
 -- Products of numbers.
 use Rattle.std.proofs.Common.{◌≡◌, ℕ, zero, suc, ◌+◌, ◌*◌, refl, ap, ◌∙◌, arith}
 
+-- a number times 2 more than n
 pub two_more : (n f : ℕ) → (2 + n) * f ≡ f + f + n * f
 two_more n f = omega arith
 
+-- a product of a sum
 pub distribute : (n a b : ℕ) → n * (a + b) ≡ n * a + n * b
 distribute zero a b = omega arith
 distribute (suc n) a b = omega (arith, distribute n a b)
 
+-- a product with 0
 pub nothing : (n : ℕ) → n * 0 ≡ 0
 nothing zero = refl
 nothing (suc n) = omega (arith, nothing n)

@@ -9,6 +9,7 @@ use Rattle.ls_finally_counts.proofs.Flats.{HasNoTry, HaveNoTry, flat_none}
 use Rattle.ls_finally_counts.proofs.Products.{two_more, distribute, nothing, products}
 
 abbrev mutual
+  -- how many returns a statement has
   pub returns : Statement → ℕ
   returns (Block ss) = all_returns ss
   returns (If e a b) = returns a + returns b
@@ -19,6 +20,7 @@ abbrev mutual
   returns (Leavable b xs) = returns b + all_returns xs
   returns _ = 0
 
+  -- how many returns statements have
   pub all_returns : Statements → ℕ
   all_returns Done = 0
   all_returns (Then s ss) = returns s + all_returns ss
@@ -28,6 +30,7 @@ abbrev pub is_return : Exit → ℕ
 is_return (LeaveOut n) = 0
 is_return ReturnOut = 1
 
+-- how many of some exits are returns
 abbrev pub return_exits : List Exit → ℕ
 return_exits [] = 0
 return_exits (x ∷ xs) = is_return x + return_exits xs
@@ -41,7 +44,7 @@ leave_exits None = refl
 leave_exits (Some n) = refl
 
 mutual
-  -- each return is an exit, whatever numbers stand around it
+  -- each return is an exit, whatever numbers are around it
   pub exits_return : (s : Statement) (l : ℕ) → return_exits (exits l s) ≡ returns s
   exits_return (Block ss) l = all_exits_return ss l
   exits_return (SetLocal n e) l = refl
@@ -69,7 +72,7 @@ leave_returns None n j = refl
 leave_returns (Some m) n j = refl
 
 mutual
-  -- none is left where each exit is a leave
+  -- if each exit is a leave, no return is left
   replaced_returns : (s : Statement) (r l j : ℕ) → HasNoTry s → returns (replaced r l j s) ≡ 0
   replaced_returns (Block ss) r l j t = all_replaced_returns ss r l j t
   replaced_returns (SetLocal n e) r l j t = refl
@@ -134,6 +137,7 @@ returned_beyond l [] = refl
 returned_beyond l (w ∷ ws) = omega (arith, returned_append (one_beyond l w) (beyond l ws), one_return w.number l w.times, returned_beyond l ws)
 
 mutual
+  -- the returns that are counted are those of the lowered tree
   pub returned_right : (s : Statement) (k : ℕ) (exits_right : (s : Statement) (k : ℕ) → total (ways_of s) ≡ length (exits 0 (flat k s))) → returned (ways_of s) ≡ returns (flat k s)
   returned_right (Block ss) k x = all_returned_right ss k x
   returned_right (SetLocal n e) k x = refl

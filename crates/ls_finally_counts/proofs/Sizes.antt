@@ -46,6 +46,7 @@ ways_size : (xs : List Exit) (r : ℕ) (f : Statement) → exits_size (ways r f 
 ways_size [] r f = omega arith
 ways_size (x ∷ xs) r f = omega (arith, exit_size r x, ways_size xs r f)
 
+-- how long the code of a `try` by copies is
 pub finally_size : (k : ℕ) (b f : Statement) → HasNoTry b →
     statement_size (finally_of k b f) ≡ statement_size b + (2 + length (exits 0 b)) * (statement_size f + 2) + 2 * returns b + 4
 finally_size k b f t =

@@ -48,6 +48,7 @@ refused_so methods items same TooManyCopies h = λ few. h (copies_few methods it
 refused_so methods items same TooLong h = absurd h
 refused_so methods items same TooLongTogether h = absurd h
 
+-- a refusal of one method is one of the file
 pub passes_on : {A : Type 0} (methods items : List Method) (r : Result A CountFault) → methods ≡ items → IfErr r (TooManyOf methods) → IfErr r (Refused (map plain_method items))
 passes_on methods items (Ok x) same h = tt
 passes_on methods items (Err e) same h = refused_so methods items same e h
@@ -68,6 +69,7 @@ are_short methods items lengths same counted h =
     subst (λ ns. All (λ n. n ≤ 65536) ns) (sym (counted ∙ ap (map (λ m. counted_size (plain_statement m.body))) same))
     (All-map (λ n. n ≤ 65536) (λ m. counted_size (plain_statement m.body)) items short)
 
+-- if no counted length is over 65536, no method's code is too long
 pub short_so : (methods items : List Method) (lengths : List ℕ) → methods ≡ items → lengths ≡ map (λ m. counted_size (plain_statement m.body)) methods → All (λ n. n ≤ 65536) lengths → AreShort (map plain_method items)
 short_so methods items lengths same counted h =
     let all : All (λ n. n ≤ 65536) (map (λ m. counted_size (plain_statement m.body)) items) =
@@ -77,7 +79,7 @@ short_so methods items lengths same counted h =
     all_weaker (λ m. counted_size (plain_statement m.body) ≤ 65536) (λ m. method_size (flat_method (plain_method m)) ≤ 65536) items size_here short in
     All-map (λ m. method_size m ≤ 65536) flat_method (map plain_method items) (All-map (λ m. method_size (flat_method m) ≤ 65536) plain_method items code)
 
--- the sum is right as far as it isn't too great
+-- the sum is right up to its bound
 sum_right : (items : List Method) → min (sum (map (λ m. counted_size (plain_statement m.body)) items)) 65537 ≡ min (file_size (flat_file (map plain_method items))) 65537
 sum_right [] = refl
 sum_right (m ∷ ms) = omega (arith, size_right (plain_statement m.body) (m.arguments + m.locals), sum_right ms)
@@ -87,8 +89,10 @@ sum_here : (methods items : List Method) (lengths : List ℕ) → methods ≡ it
 sum_here methods items lengths same counted =
     ap (λ ns. min (sum ns) 65537) (counted ∙ ap (map (λ m. counted_size (plain_statement m.body))) same) ∙ sum_right items
 
+-- if the methods are short together, so are the counted lengths
 pub together : (methods items : List Method) (lengths : List ℕ) → methods ≡ items → lengths ≡ map (λ m. counted_size (plain_statement m.body)) methods → AreShortTogether (map plain_method items) → sum lengths ≤ 65536
 together methods items lengths same counted h = omega (arith, h, sum_here methods items lengths same counted)
 
+-- if the counted lengths are short together, so are the methods
 pub together_so : (methods items : List Method) (lengths : List ℕ) → methods ≡ items → lengths ≡ map (λ m. counted_size (plain_statement m.body)) methods → sum lengths ≤ 65536 → AreShortTogether (map plain_method items)
 together_so methods items lengths same counted h = omega (arith, h, sum_here methods items lengths same counted)

@@ -1,21 +1,21 @@
--- What a statement comes to without `try`, by the statement with it.
+-- How large a statement is without `try`, by the statement that has `try`.
 use Rattle.std.specs.Prelude.{ℕ, suc, ◌+◌, ◌*◌, List, [], ◌∷◌, ◌++◌, Option, Some, None, min}
 use Rattle.ls_lowered.specs.LoweredTree.{Statement, Block, SetLocal, SetField, AddField, SetItem, Evaluate, If, While, Return, Try, Guarded, Throw, Leavable, Leave, Statements, Done, Then}
 use Rattle.ls_finally_exits.specs.Exits.{outward, count}
 use Rattle.ls_emit_laws.specs.Expressions.{size}
 use Rattle.ls_finally_counts.specs.declared.ways.Way.{Way}
 
--- how often there is any
+-- how many ways there are, each with its times
 abbrev pub total : List Way → ℕ
 total [] = 0
 total (w ∷ ws) = w.times + total ws
 
--- the ways of so many copies
+-- the ways of n copies
 abbrev pub scaled : ℕ → List Way → List Way
 scaled n [] = []
 scaled n (w ∷ ws) = record { number = w.number; times = n * w.times } ∷ scaled n ws
 
--- a way that leads so far, that often
+-- a way to this number, if there is one, that many times
 abbrev pub at_number : ℕ → Option ℕ → List Way
 at_number times None = []
 at_number times (Some n) = record { number = Some n; times = times } ∷ []
@@ -24,7 +24,7 @@ abbrev pub numbered_beyond : ℕ → ℕ → Option ℕ → List Way
 numbered_beyond l times None = record { number = None; times = times } ∷ []
 numbered_beyond l times (Some n) = at_number times (outward l n)
 
--- the way beyond so many numbers, if it leads there
+-- the way as counted from outside of l numbers, if it leads beyond them
 abbrev pub one_beyond : ℕ → Way → List Way
 one_beyond l w = numbered_beyond l w.times w.number
 
@@ -67,7 +67,7 @@ abbrev mutual
   all_copied Done = 0
   all_copied (Then s ss) = copied s + all_copied ss
 
--- how often there is a return
+-- how many returns there are
 abbrev pub returned_one : Option ℕ → ℕ → ℕ
 returned_one None times = times
 returned_one (Some n) times = 0
@@ -76,9 +76,9 @@ abbrev pub returned : List Way → ℕ
 returned [] = 0
 returned (w ∷ ws) = returned_one w.number w.times + returned ws
 
--- How many instructions its code has. Each copy of a finally block has two besides its own, a jump over it and one behind it; each
--- return out of the body has two more, one that keeps its value and one that loads it; and two for the region that is guarded, one that
--- leaves it and one that leaves its handler.
+-- How many instructions its code has. Each copy of a finally block has two more than the block: a jump over it and a
+-- jump after it. Each return out of the body has two more: one keeps its value, one loads it. The guarded region has
+-- two more. One more leaves the region, and one leaves its handler.
 abbrev mutual
   pub flat_size : Statement → ℕ
   flat_size (Block ss) = all_flat_size ss
@@ -100,7 +100,7 @@ abbrev mutual
   all_flat_size Done = 0
   all_flat_size (Then s ss) = flat_size s + all_flat_size ss
 
--- the instructions of a statement besides those of the statements in it
+-- the instructions of a statement, without those of the statements in it
 abbrev pub own_size : Statement → ℕ
 own_size (SetLocal n e) = size e + 1
 own_size (SetField e f a) = size e + size a + 1
@@ -115,7 +115,7 @@ own_size (Throw n) = 2
 own_size (Leave n) = 1
 own_size _ = 0
 
--- how long the code of a method is, as far as it isn't too long
+-- how long the code of a method is; 65537 if it is longer
 abbrev pub counted_size : Statement → ℕ
 counted_size s = min (flat_size s + 2) 65537
 

@@ -1,4 +1,4 @@
--- Why no tree without `try` is to be made of a file.
+-- Why a file has no tree without `try`.
 use Rattle.std.specs.Prelude.{ℕ, ◌<◌, ◌≤◌, Result, Ok, Err, All, List}
 use Rattle.ls_lowered.specs.LoweredTree.{File}
 use Rattle.ls_lowered.specs.Plain.{plain_statement}
@@ -14,30 +14,30 @@ use Rattle.ls_finally_counts.specs.declared.fault.CountFault.TheVariants.{Memory
 abbrev pub AreShort : File → Type 0
 AreShort methods = All (λ m. method_size m ≤ 65536) (flat_file methods)
 
--- no more have all together
+-- all methods have at most 65,536 instructions together
 abbrev pub AreShortTogether : File → Type 0
 AreShortTogether methods = file_size (flat_file methods) ≤ 65536
 
--- Copies go before lengths, and the length of each method before that of all. Want of memory says nothing.
+-- Copies come before lengths, and the length of each method comes before that of all. "Out of memory" says nothing.
 abbrev pub Refused : File → CountFault → Type 0
 Refused methods Memory = Unit {0}
 Refused methods TooManyCopies = ¬ FewCopies methods
 Refused methods TooLong = FewCopies methods × ¬ AreShort methods
 Refused methods TooLongTogether = FewCopies methods × AreShort methods × ¬ AreShortTogether methods
 
--- a statement with so many copies, and those before it, is refused for their number or for want of memory
+-- a statement that makes n copies with those before it is refused: it has too many, or memory ran out
 abbrev pub TooMany : CountFault → ℕ → Type 0
 TooMany Memory n = Unit {0}
 TooMany TooManyCopies n = 4096 < n
 TooMany TooLong n = ⊥
 TooMany TooLongTogether n = ⊥
 
--- the copies are few enough, or refused
+-- n copies are few enough, or refused
 abbrev pub Fits : {X : Type 0} → Result X CountFault → ℕ → Type 0
 Fits (Ok x) n = n ≤ 4096
 Fits (Err e) n = TooMany e n
 
--- a method of these has too many, or there is want of memory
+-- one of these methods has too many copies, or memory ran out
 abbrev pub TooManyOf : List Method → CountFault → Type 0
 TooManyOf methods Memory = Unit {0}
 TooManyOf methods TooManyCopies = ¬ All (λ m. copied (plain_statement m.body) ≤ 4096) methods

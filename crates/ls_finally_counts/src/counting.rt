@@ -1,4 +1,4 @@
-// Copies and instructions of a statement without `try`, counted.
+// The copies of finally blocks and the instructions of a statement without `try`, counted before it is made.
 
 ghost use Rattle.std.specs.Prelude.{◌≡◌, ◌+◌, ◌*◌, ◌++◌, ◌≤◌, min, IfOk, OnOk};
 ghost use Rattle.std.specs.Option.{SomeIff};
@@ -17,15 +17,16 @@ use std::alloc::Global;
 /// The most copies of finally blocks of a method.
 const MOST_COPIES: usize = 4096;
 
-/// How many copies there are so far, and how many instructions, as far as they aren't too many.
+/// How many copies there are so far, and how many instructions. If there are over 65,536 instructions, `length` is
+/// 65,537.
 #[derive(Drop)]
 pub struct Counting {
     pub copies: usize,
     pub length: usize,
 }
 
-// So many copies of a finally block and those before it, where there are so many copies in the block. None where they are too
-// many.
+// The copies after `blocks` copies of a finally block, if there are `before` copies before and `finally` in the block.
+// None if they are too many.
 fn with_copies(before: usize, blocks: usize, finally: usize) -> Option<usize>
     requires { finally ≤ 4096 }
     ensures { SomeIff result (before + blocks * (1 + finally) ≤ 4096) (before + blocks * (1 + finally)) }
@@ -39,7 +40,8 @@ fn with_copies(before: usize, blocks: usize, finally: usize) -> Option<usize>
     }
 }
 
-// So many instructions before, in each copy of a finally block two more than in the block, and two for each return. Or too many.
+// The instructions after `blocks` copies of a finally block of `finally` instructions; 65,537 if they are too many.
+// `before` are those before. Each copy and each return has 2 more, and the region 4.
 fn with_length(before: usize, blocks: usize, finally: usize, returns: usize) -> usize
     requires before { before ≤ 65537 }
     requires finally { finally ≤ 65537 }
@@ -58,7 +60,7 @@ fn with_length(before: usize, blocks: usize, finally: usize, returns: usize) -> 
 }
 
 impl Counting {
-    // So many instructions more.
+    // `count` instructions more.
     fn add(&mut self, count: usize)
         requires short { self.old.length ≤ 65537 }
         requires few { count ≤ 4096 }
@@ -73,7 +75,7 @@ impl Counting {
         };
     }
 
-    // The instructions of an expression more.
+    // The instructions of an expression, added to those so far.
     fn add_expression(&mut self, e: &Expression)
         requires { self.old.length ≤ 65537 }
         ensures length { self.new.length ≡ min (self.old.length + size (plain e.now)) 65537 }
@@ -82,7 +84,7 @@ impl Counting {
         self.length = count_expression(self.length, e);
     }
 
-    // The instructions of a statement more, besides those of the statements in it.
+    // The instructions of a statement, without those of the statements in it, added to those so far.
     fn add_own(&mut self, s: &Statement)
         requires { self.old.length ≤ 65537 }
         ensures length { self.new.length ≡ min (self.old.length + own_size (plain_statement s.now)) 65537 }
@@ -119,7 +121,8 @@ impl Counting {
         }
     }
 
-    /// A statement with what is counted so far. Its ways come behind those that are there.
+    /// Adds a statement to what is counted so far, and puts its ways after those that are there. It is refused if
+    /// there are too many copies, or if memory runs out.
     #[cycle(count)]
     #[tactic(auto, using(ls_finally_copies::proofs::Fronts::block_read))]
     pub fn count(
@@ -215,7 +218,7 @@ impl Counting {
         self.count(alloc, second, out)
     }
 
-    // A leavable statement, beyond whose numbers its body leads.
+    // A leavable statement. Only the ways that lead beyond its own numbers lead out of it.
     #[cycle(count)]
     #[inline(never)]
     #[tactic(auto, using(crate::proofs::More::too_many_more, ls_finally_exits::proofs::Counted::counted))]
@@ -244,7 +247,7 @@ impl Counting {
         self.count_all(alloc, own, out)
     }
 
-    // A `try`, whose finally block is there once for each exit of its body, and twice more.
+    // A `try`. Its finally block is copied once for each exit of its body, and twice more.
     #[cycle(count)]
     #[inline(never)]
     #[tactic(auto, using(crate::proofs::More::too_many_more))]
@@ -276,7 +279,8 @@ impl Counting {
         Ok(())
     }
 
-    // The copies of a finally block for a body with these ways out, where so much is inside of one copy. Answers how many there are.
+    // The copies of a finally block for a body with these ways out, where one copy has what `inside` counts. Answers
+    // how many copies there are.
     fn add_blocks(&mut self, ways: &[Way], inside: &Counting) -> Result<usize, CountFault>
         requires few { inside.now.copies ≤ 4096 }
         requires short { self.old.length ≤ 65537 }

@@ -1,4 +1,4 @@
-// Why no tree without `try` is to be made of a file.
+// Why a file has no tree without `try`.
 
 ghost use Rattle.std.specs.Prelude.{◌≡◌};
 ghost use Rattle.ls_finally_counts.specs.declared.fault.CountFault.TheVariants.{Memory};
@@ -6,7 +6,7 @@ ghost use Rattle.ls_finally_counts.specs.declared.fault.CountFault.TheVariants.{
 use std::alloc::{AllocError, AllocFailed};
 use thiserror::Error;
 
-/// Why no tree without `try` is to be made of a file.
+/// Why a file has no tree without `try`.
 #[derive(Clone, Copy, Debug, Error, PartialEq, Eq)]
 pub enum CountFault {
     #[error("out of memory")]

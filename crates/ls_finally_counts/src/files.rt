@@ -12,7 +12,7 @@ use ls_emit_sizes::expressions::MOST_INSTRUCTIONS;
 use ls_lowered::tree::{File, Method};
 use std::alloc::Global;
 
-// How many instructions a method's code has, as far as they aren't too many, where it has few copies.
+// How many instructions a method's code has; 65,537 if it has over 65,536. It is refused if there are too many copies.
 fn count_method(alloc: Global, method: &Method) -> Result<usize, CountFault>
     ensures length { IfOk result (λ n. n ≡ counted_size (plain_statement method.now.body)) }
     ensures few { Fits result (copied (plain_statement method.now.body)) }
@@ -27,7 +27,8 @@ fn count_method(alloc: Global, method: &Method) -> Result<usize, CountFault>
     Ok(counting.length)
 }
 
-// How many instructions each method's code has, as far as they aren't too many, where each has few copies.
+// How many instructions each method's code has; 65,537 if it has over 65,536. It is refused if a method has too many
+// copies.
 fn count_methods(alloc: Global, methods: &[Method]) -> Result<Vec<usize>, CountFault>
     ensures lengths { IfOk result (λ v. v.items ≡ map (λ m. counted_size (plain_statement m.body)) methods.now) }
     ensures few { OnOk result (All (λ m. copied (plain_statement m.body) ≤ 4096) methods.now) }
@@ -40,7 +41,7 @@ fn count_methods(alloc: Global, methods: &[Method]) -> Result<Vec<usize>, CountF
     Ok(out)
 }
 
-// Whether each is at most the most instructions of a method.
+// Whether no method has over 65,536 instructions.
 fn are_short(lengths: &[usize]) -> bool
     ensures { IsTrue result ↔ All (λ n. n ≤ 65536) lengths.now }
 {
@@ -52,7 +53,7 @@ fn are_short(lengths: &[usize]) -> bool
     true
 }
 
-// Whether they are together at most the most instructions of a code.
+// Whether the methods have at most 65,536 instructions together.
 fn are_short_together(lengths: &[usize]) -> bool
     ensures { IsTrue result ↔ (sum lengths.now ≤ 65536) }
 {
@@ -66,9 +67,14 @@ fn are_short_together(lengths: &[usize]) -> bool
     true
 }
 
-/// Tells why no tree without `try` is to be made of a file, before any copy of a finally block is: where a method would have
-/// over 4,096 copies; where none has, but the code of one would have over 65,536 instructions; and where none has, but all of
-/// them have so many together.
+/// Whether a file has a tree without `try`. This is found before any copy of a finally block is made. It is refused by
+/// the first of these:
+///
+///   - a method would have over 4,096 copies;
+///   - the code of a method would have over 65,536 instructions;
+///   - the code of all methods together would have over 65,536 instructions.
+///
+/// It is also refused if memory runs out.
 pub fn measure(alloc: Global, tree: &File) -> Result<(), CountFault>
     ensures few { OnOk result (FewCopies (plain_file tree.now)) }
     ensures short { OnOk result (AreShort (plain_file tree.now)) }

@@ -1,5 +1,5 @@
-//! What a tree without `try` comes to, before one is made: how many copies of finally blocks it has, and how many instructions
-//! its code has.
+//! How large a tree without `try` will be, before it is made: its copies of finally blocks, and the instructions of
+//! its code.
 #![tactic(auto)]
 
 mod counting;

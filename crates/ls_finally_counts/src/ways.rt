@@ -1,4 +1,4 @@
-// The exits that a statement has without `try`, each with how often it is there.
+// The exits that a statement has without `try`, each with its number of times.
 
 ghost use Rattle.std.specs.Prelude.{◌≡◌, ℕ, ◌+◌, ◌*◌, ◌≤◌, ◌++◌, ◌∷◌, [], Some, None, All, IfOk, OnOk, min};
 ghost use Rattle.ls_finally_exits.specs.Exits.{outward};
@@ -6,7 +6,8 @@ ghost use Rattle.ls_finally_counts.specs.Counts.{total, returned, once, scaled, 
 
 use std::alloc::AllocError;
 
-/// A leave, so many numbers beyond the statement, or a return, where there is none; and how often it is there.
+/// A way out of a statement, and how many times it is there. A leave has a number, counted outward from the statement;
+/// a return has none.
 #[derive(Copy)]
 pub struct Way {
     pub number: Option<usize>,
@@ -19,10 +20,10 @@ impl Clone for Way {
     }
 }
 
-// Once more than a method may have copies. What is there so often or more often is counted so.
+// One more than the most copies of a method. A larger number of times is counted as this.
 const TOO_OFTEN: usize = 4097;
 
-// How often there is any, as far as it isn't too often.
+// How many ways there are, each with its times; at most `TOO_OFTEN`.
 fn total_of(ways: &[Way]) -> usize
     ensures { result ≡ min (total ways.now) 4097 }
 {
@@ -33,7 +34,7 @@ fn total_of(ways: &[Way]) -> usize
     all
 }
 
-/// How often there is a return, as far as it isn't too often.
+/// How many returns there are; at most `TOO_OFTEN`.
 pub fn returns_of(ways: &[Way]) -> usize
     ensures { result ≡ min (returned ways.now) 4097 }
 {
@@ -46,14 +47,15 @@ pub fn returns_of(ways: &[Way]) -> usize
     all
 }
 
-/// How many copies of its finally block the exits of a body make, as far as they aren't too many.
+/// How many copies of its finally block a body with these exits has: one for each exit, and two more; at most
+/// `TOO_OFTEN + 2`.
 pub fn blocks_of(ways: &[Way]) -> usize
     ensures { result ≡ min (2 + total ways.now) 4099 }
 {
     2 + total_of(ways)
 }
 
-/// Puts a leave or a return that is there once behind those that are there.
+/// Puts a leave or a return that is there once after those in `out`. The only refusal is that memory ran out.
 pub fn put_once(out: &mut Vec<Way>, number: Option<usize>) -> Result<(), AllocError>
     ensures { OnOk result (out.new.items ≡ out.old.items ++ once number) }
 {
@@ -61,7 +63,7 @@ pub fn put_once(out: &mut Vec<Way>, number: Option<usize>) -> Result<(), AllocEr
     Ok(())
 }
 
-/// Puts ways behind those that are there.
+/// Puts ways after those in `out`. The only refusal is that memory ran out.
 pub fn put_all(out: &mut Vec<Way>, ways: &[Way]) -> Result<(), AllocError>
     ensures { IfOk result (λ _. out.new.items ≡ out.old.items ++ ways.now) }
 {
@@ -71,7 +73,7 @@ pub fn put_all(out: &mut Vec<Way>, ways: &[Way]) -> Result<(), AllocError>
     Ok(())
 }
 
-/// Puts the ways of so many copies behind those that are there.
+/// Puts the ways of `times` copies after those in `out`. The only refusal is that memory ran out.
 pub fn put_scaled(out: &mut Vec<Way>, times: usize, ways: &[Way]) -> Result<(), AllocError>
     requires { All (λ w. times * w.times ≤ 4096) ways.now }
     ensures { IfOk result (λ _. out.new.items ≡ out.old.items ++ scaled times ways.now) }
@@ -86,7 +88,7 @@ pub fn put_scaled(out: &mut Vec<Way>, times: usize, ways: &[Way]) -> Result<(), 
     Ok(())
 }
 
-// How far a leave goes beyond so many numbers; none where its target is one of them.
+// The number of a leave as counted from outside of `inside` numbers; none if its target is one of these.
 #[tactic(auto, using(ls_finally_exits::proofs::Numbers::is_inside, ls_finally_exits::proofs::Numbers::is_beyond))]
 fn outward_of(inside: usize, number: usize) -> Option<usize>
     ensures { result ≡ outward inside number }
@@ -98,7 +100,7 @@ fn outward_of(inside: usize, number: usize) -> Option<usize>
     }
 }
 
-// Puts a way of a body behind those that are there, where it leads beyond so many numbers.
+// Puts a way of a body after those in `out`, if it leads beyond `inside` numbers.
 fn put_beyond_one(out: &mut Vec<Way>, inside: usize, way: Way) -> Result<(), AllocError>
     ensures { IfOk result (λ _. out.new.items ≡ out.old.items ++ one_beyond inside way) }
 {
@@ -114,7 +116,8 @@ fn put_beyond_one(out: &mut Vec<Way>, inside: usize, way: Way) -> Result<(), All
     Ok(())
 }
 
-/// Puts the ways of a body that lead beyond so many numbers behind those that are there.
+/// Puts the ways of a body that lead beyond `inside` numbers after those in `out`. The only refusal is that memory ran
+/// out.
 pub fn put_beyond(out: &mut Vec<Way>, inside: usize, ways: &[Way]) -> Result<(), AllocError>
     ensures { IfOk result (λ _. out.new.items ≡ out.old.items ++ beyond inside ways.now) }
 {

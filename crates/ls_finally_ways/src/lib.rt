@@ -1,4 +1,5 @@
-//! What `try` by copies of its `finally` block is put together from: the guarded body, and the ways out through a copy of the block.
+//! The pieces of a `try` by copies of its `finally` block: the guarded body, and the ways out through a copy of the
+//! block.
 #![tactic(auto)]
 
 pub mod ways;

@@ -11,14 +11,14 @@ use ls_lowered::together::{also, pair, two};
 use ls_lowered::tree::Statement;
 use std::alloc::{AllocError, Global};
 
-/// The first, and then the second.
+/// The first statement, and then the second. The only refusal is that memory ran out.
 pub fn in_turn(alloc: Global, first: Statement, second: Statement) -> Result<Statement, AllocError>
     ensures { IfOk result (λ t. plain_statement t ≡ both (plain_statement first) (plain_statement second)) }
 {
     Ok(block_of(pair(alloc, first, second)?))
 }
 
-/// A copy of the finally block, and then the last.
+/// A copy of the finally block, and then the last statement. The only refusal is that memory ran out.
 pub fn copied_before(
     alloc: Global,
     finally: &Statement,
@@ -30,7 +30,8 @@ pub fn copied_before(
     in_turn(alloc, copy, last)
 }
 
-/// The body, which leaves for exit 0 where it ends and for exit 1 where it throws.
+/// The body, which leaves for exit 0 if it completes normally, and for exit 1 if it throws. The only refusal is that
+/// memory ran out.
 pub fn guarded(alloc: Global, body: Statement, free: usize) -> Result<Box<Statement>, AllocError>
     ensures { IfOk result (λ t. plain_statement t.value ≡ guarded free (plain_statement body)) }
 {
@@ -39,7 +40,8 @@ pub fn guarded(alloc: Global, body: Statement, free: usize) -> Result<Box<Statem
     in_box(alloc, in_turn(alloc, guarded, Statement::Leave(0))?)
 }
 
-/// The first two exits: the finally block where the body completes normally, and where it throws.
+/// The first two exits: the finally block if the body completes normally, and if it throws. The only refusal is that
+/// memory ran out.
 pub fn first_ways(
     alloc: Global,
     finally: &Statement,

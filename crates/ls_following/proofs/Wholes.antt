@@ -13,6 +13,7 @@ all_made t (c ∷ cs) r some over closes =
     let end = over 0 c (omega arith) in
     let seen = closes.seen 0 c (omega arith) in omega arith
 
+-- if a record closes a whole turnstile, it is the record of its code, cells and tape
 pub whole_record : (t : TurnstileState) (seats : List SeatState) (r : Record) (code : Code) (cells : ℕ) (tape : List ℕ) → t.code ≡ code → t.cells ≡ cells → t.tape ≡ tape
     → 0 < t.seats → AreOver t seats → Closes t seats r → IsRecordOf code cells tape r
 whole_record t seats r code cells tape same_code same_cells same_tape some over closes =

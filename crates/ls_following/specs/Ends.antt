@@ -6,7 +6,7 @@ use Rattle.ls_following.specs.declared.follow.End.TheVariants.{Over, Spent, Stop
 use Rattle.ls_following.specs.declared.fault.FollowFault.{FollowFault}
 use Rattle.ls_following.specs.declared.fault.FollowFault.TheVariants.{Memory, NoThread, TurnsSpent}
 
--- what the end says: the tape is over, or the place is one of the tape
+-- what an end says: the tape is over, or the place is one of the tape
 abbrev pub Ends : TurnstileState → SeatState → End → Type 0
 Ends t c Over = c.seen ≡ length t.tape
 Ends t c (Spent place) = place < length t.tape
@@ -27,7 +27,7 @@ IsFaultOf t (TurnsSpent place) = place < length t.tape
 IsFaultOf t Memory = Unit {0}
 IsFaultOf t NoThread = Unit {0}
 
--- why the tape is not at its end: a seat that got no thread counts before all else
+-- why the tape is not at its end; a seat that got no thread counts first
 abbrev pub fault_with : Option FollowFault → List SeatState → Option FollowFault
 fault_with fault [] = fault
 fault_with fault (c ∷ cs) = Some NoThread

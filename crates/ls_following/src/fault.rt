@@ -6,7 +6,7 @@ ghost use Rattle.std.specs.Prelude.{◌≡◌};
 use ls_machine::LoadFault;
 use thiserror::Error;
 
-/// Why seats don't come to the end of their tape.
+/// Why seats don't reach the end of their tape.
 #[derive(Clone, Copy, Debug, Error, PartialEq, Eq)]
 pub enum FollowFault {
     #[error("out of memory")]
@@ -14,7 +14,7 @@ pub enum FollowFault {
     /// A seat got no thread of its own.
     #[error("a thread couldn't be started")]
     NoThread,
-    /// A seat was answered 10,000,000 times in a row that the entry at this place is another's.
+    /// 10,000,000 times in a row a seat was answered that the entry at this place is another's.
     #[error("the entry at {place} was never done")]
     TurnsSpent { place: usize },
 }

@@ -35,7 +35,7 @@ pub trait Gate {
     fn pass(&self, thread: usize);
 }
 
-/// A gate that keeps nobody.
+/// A gate that every thread passes at once.
 #[derive(Drop)]
 pub struct OpenGate;
 
@@ -43,7 +43,8 @@ impl Gate for OpenGate {
     fn pass(&self, _thread: usize) {}
 }
 
-/// How a thread left its seat: at the tape's end, after too many answers `NotYet` at one place, or as it was told to.
+/// Why a thread left its seat: the tape is over, there were too many answers `NotYet` at one place, or it was told to
+/// stop.
 #[derive(Copy)]
 pub enum End {
     Over,
@@ -57,21 +58,21 @@ impl Clone for End {
     }
 }
 
-// A seat that a thread has left.
+/// A seat that a thread has left.
 #[derive(Drop)]
 pub struct Left {
     seat: TurnSeat,
     end: End,
 }
 
-// What the threads share: the turnstile, and whether they are to stop.
+/// What the threads share: the turnstile, and whether they are to stop.
 #[derive(Drop)]
 pub struct Followed {
     turnstile: Turnstile,
     stop: AtomicBool,
 }
 
-// That what a thread leaves is the seat of this number, at such an end.
+// The fact that what a thread leaves is the seat of this number, with an end that the seat may have.
 #[derive(Drop)]
 struct LeftOf<'a> {
     followed: &'a Followed,
@@ -85,14 +86,14 @@ impl<'a> Promise<Left> for LeftOf<'a> {
 // The most answers `NotYet` in a row at one place.
 const MOST_TRIES: u32 = 10_000_000;
 
-// After so many of them a thread lets others run now and then: where there are more threads than processors, one of those has
-// the turn.
+// After this many answers in a row, a thread lets others run now and then. If there are more threads than processors,
+// one of the others has the turn.
 const QUICK_TRIES: u32 = 1000;
 
 // How many tries a thread then makes before it lets others run again.
 const TRIES_OF_A_SLICE: u32 = 16;
 
-// Steps the seat until the tape is over, or too many answers at one place were that the entry is another's.
+// Steps the seat until the tape is over, or until too many answers at one place were that the entry is another's.
 fn work<G: Gate>(followed: &Followed, mut seat: TurnSeat, gate: &G) -> Left
     requires { IsSeatOf followed.now.turnstile seat }
     ensures { Leaves followed.now.turnstile seat.thread result.seat result.end }
@@ -133,14 +134,14 @@ fn work<G: Gate>(followed: &Followed, mut seat: TurnSeat, gate: &G) -> Left
     Left { seat, end }
 }
 
-// All seats, and why the tape is not at its end, if it is not.
+/// All seats, and why the tape is not at its end, if it is not.
 #[derive(Drop)]
 pub struct Back {
     seats: Vec<TurnSeat>,
     fault: Option<FollowFault>,
 }
 
-// Memory for the seats that threads leave, and for those that get no thread.
+// Room for the seats that threads leave, and for the seats that get no thread.
 #[derive(Drop)]
 struct Room {
     alloc: Global,
@@ -159,7 +160,8 @@ impl Room {
     }
 }
 
-// Starts a thread for each seat, and joins them. The first seat that gets no thread stops all others, and those behind it get none.
+// Starts a thread for each seat, and joins the threads. If a seat gets no thread, all others are stopped, and the
+// seats after it get none.
 fn follow_all<'s, 'a: 's, E, G: Gate + Sync, R: Threads + Sync>(
     scope: &'s Scope<'s, E>,
     rt: &'a R,
@@ -262,7 +264,7 @@ fn fault_of(end: End) -> Option<FollowFault>
     }
 }
 
-// Those that threads left and then those that got no thread.
+// The seats that threads left, and then the seats that got no thread.
 fn with_rest(joined: Back, rest: Vec<TurnSeat>) -> Back
     requires { length joined.seats.items + length rest.items ≤ vec_capacity joined.seats }
     ensures seats { result.seats.items ≡ joined.seats.items ++ rest.items }
@@ -282,10 +284,12 @@ fn with_rest(joined: Back, rest: Vec<TurnSeat>) -> Back
     Back { seats, fault }
 }
 
-/// Works each seat in a thread of its own, which passes the gate before each step, until the tape is over, and joins the threads. All
-/// seats come back, in their order. Refused with 1 where memory runs out, with 52 where a seat gets no thread, and else with 53
-/// where a seat has been answered `NotYet` 10,000,000 times in a row at one place: the seat of that place is missing, has been kept
-/// by the gate, or isn't there at all.
+/// Works each seat in a thread of its own until the tape is over, and joins the threads. Each thread passes the gate
+/// before each step. All seats are given back, in their order.
+///
+/// Refused with 1 if memory runs out, and with 52 if a seat gets no thread. Else refused with 53 if a seat has been
+/// answered `NotYet` 10,000,000 times in a row at one place. Then the seat of that place is missing, has been kept by
+/// the gate, or doesn't exist.
 pub fn follow_tape<'x, G: Gate + Sync, R: Threads + Wait + Sync>(
     rt: &'x R,
     alloc: Global,

@@ -1,4 +1,4 @@
-//! The seats of a turnstile in threads of their own: a tape is followed to its end, or it is said why not.
+//! The seats of a turnstile, each in a thread of its own: a tape is followed to its end, or a fault says why not.
 #![tactic(auto)]
 
 mod fault;

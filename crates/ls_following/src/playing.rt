@@ -16,9 +16,11 @@ use std::alloc::Global;
 use std::sync::Wait;
 use std::thread::Threads;
 
-/// Plays a schedule as the tape of a turnstile, each thread of the image live and in a thread of its own. The record is that of
-/// `replay`. The image runs as its texts, whoever compiled it.
-/// Refused as `Turnstile::open` and `follow_tape` are; so where an entry's thread isn't there, it is refused with 53 at its place.
+/// Plays a schedule as the tape of a turnstile. Each thread of the image is live, in a thread of its own. The record
+/// is that of `replay`. The image runs as its texts, whoever compiled it.
+///
+/// Refused as `Turnstile::open` and `follow_tape` are. So if the thread of an entry doesn't exist, it is refused with
+/// 53 at the place of that entry.
 pub fn play_turns<'x, G: Gate + Sync, R: Threads + Wait + Sync>(
     rt: &'x R,
     alloc: Global,

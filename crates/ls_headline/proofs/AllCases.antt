@@ -190,9 +190,11 @@ name_in (y ∷ ns) zero t (Some x) e h = let e' : y ≡ x = cc in ap (λ z. Some
 name_in (y ∷ ns) (suc n) t (Some x) e h = name_in ns n t (Some x) e h
 name_in ns n t None e h = absurd h
 
+-- the types of the setup names' objects
 abbrev pub names_of : Program → List ValueType
 names_of program = map (λ x. type.Class x.class) program.names
 
+-- a setup name that has a type is in that list with the type
 pub name_typed : (program : Program) (n : ℕ) (t : ValueType) → NameHas program n t → slice_get (names_of program) n ≡ Some t
 name_typed program n t h = name_in program.names n t (slice_get program.names n) refl h
 

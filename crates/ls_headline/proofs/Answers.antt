@@ -29,6 +29,7 @@ option_words : (ρ : ℕ → ℕ) (v : Option Value) → map_option word_of (ren
 option_words ρ None = refl
 option_words ρ (Some v) = refl
 
+-- an action with renamed references, as words, is the action written with the renaming
 pub action_words : (ρ : ℕ → ℕ) (a : Action Value) → map_action (λ n. n) word_of (renamed_action ρ a) ≡ map_action ρ (written ρ) a
 action_words ρ (ReadField n f) = refl
 action_words ρ (WriteField n f v) = refl
@@ -61,6 +62,7 @@ answer_words ρ Done = refl
 answer_words ρ (Gives v) = refl
 answer_words ρ (Fails k) = refl
 
+-- the same of a list of answers
 pub answers_words : (ρ : ℕ → ℕ) (had : Answers) → map (map_answer word_of) (map (map_answer (renamed ρ)) had) ≡ map (map_answer (written ρ)) had
 answers_words ρ [] = refl
 answers_words ρ (x ∷ had) = let e = answer_words ρ x in let e' = answers_words ρ had in ap (λ y. y ∷ map (map_answer word_of) (map (map_answer (renamed ρ)) had)) e ∙ ap (λ l. map_answer (written ρ) x ∷ l) e'
@@ -78,6 +80,7 @@ suits_more P Q f (Goes a s) (Fails k) h = h
 suits_more P Q f Ended x h = absurd h
 suits_more P Q f Trapped x h = absurd h
 
+-- answers that suit keep suiting if less is asked of a reference
 pub suited_more : (P Q : ℕ → ValueType → Type 0) → ((n : ℕ) (s : ValueType) → P n s → Q n s) → (asks : Answers → Next) (had : Answers) → Suited P asks had → Suited Q asks had
 suited_more P Q f asks [] h = tt
 suited_more P Q f asks (x ∷ rest) h = (suits_more P Q f (asks []) x h.0, suited_more P Q f (λ more. asks (x ∷ more)) rest h.1)
@@ -115,6 +118,7 @@ suits_renamed P Q ρ z one f (Goes a s) (Fails k) h = fails_renamed ρ a k h
 suits_renamed P Q ρ z one f Ended x h = absurd h
 suits_renamed P Q ρ z one f Trapped x h = absurd h
 
+-- if references are renamed one to one, answers that suit still suit
 pub suited_renamed : (P Q : ℕ → ValueType → Type 0) (ρ : ℕ → ℕ) → ρ 0 ≡ 0 → IsOneToOne ρ → ((n : ℕ) (s : ValueType) → P n s → Q (ρ n) s) → (asks asks' : Answers → Next) → ((had : Answers) → asks' (map (map_answer (renamed ρ)) had) ≡ renamed_next ρ (asks had)) → (had : Answers) → Suited P asks had → Suited Q asks' (map (map_answer (renamed ρ)) had)
 suited_renamed P Q ρ z one f asks asks' law [] h = tt
 suited_renamed P Q ρ z one f asks asks' law (x ∷ rest) h = (
@@ -130,6 +134,7 @@ answer_agree σ ρ ρ' a (Goes b s) (Fails k) h = refl
 answer_agree σ ρ ρ' a Ended x h = absurd h
 answer_agree σ ρ ρ' a Trapped x h = absurd h
 
+-- renamings that agree on the things that there are write answers alike
 pub answers_agree : (σ : List ValueType) (ρ ρ' : ℕ → ℕ) → AgreeTo (length σ) ρ ρ' → (asks : Answers → Next) (had : Answers) → Suited (Refers σ) asks had → map (map_answer (written ρ)) had ≡ map (map_answer (written ρ')) had
 answers_agree σ ρ ρ' a asks [] h = refl
 answers_agree σ ρ ρ' a asks (x ∷ rest) h =
@@ -148,6 +153,7 @@ returns_agree ρ ρ' a (Some (Calling n m t (Some type.Int) vs)) (Some v) h = ap
 returns_agree ρ ρ' a (Some (Calling n m t (Some type.Boolean) vs)) (Some v) h = ap Some (written_agree [] ρ ρ' v type.Boolean a h)
 returns_agree ρ ρ' a (Some (Calling n m t (Some _) vs)) (Some v) h = absurd h
 
+-- renamings that agree on the things that there are write an action alike
 pub action_agree : (file : File) (program : Program) (σ : List ValueType) (ρ ρ' : ℕ → ℕ) → AgreeTo (length σ) ρ ρ' → (t : ℕ) (a : Action Value) (s : Sort) → ActionHas file program σ t a s → map_action ρ (written ρ) a ≡ map_action ρ' (written ρ') a
 action_agree file program σ ρ ρ' g t (ReadField n f) s h = ap (λ m. ReadField m (f + 1)) (names_agree σ ρ ρ' g n (type.Class h.0) h.2)
 action_agree file program σ ρ ρ' g t (WriteField n f v) s h =
@@ -185,6 +191,7 @@ abbrev pub Says : Program → ℕ → Action Value → Type 0
 Says program t (Return n v) = Returns (call_at program t n) v
 Says program t _ = Unit {0}
 
+-- an action of the right types says what its event has to say
 pub says : (file : File) (program : Program) (σ : List ValueType) (t : ℕ) (a : Action Value) (s : Sort) → ActionHas file program σ t a s → Says program t a
 says file program σ t (Return n v) s h = h.0
 says file program σ t (ReadField n f) s h = tt

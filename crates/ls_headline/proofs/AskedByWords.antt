@@ -33,6 +33,7 @@ enough : (code : Code) (is : List Instruction) → code.instructions ≡ is → 
 enough code [] e h = absurd (h e)
 enough code (i ∷ is) e h = let l : length code.instructions ≡ length (i ∷ is) = ap length e in omega (arith, l)
 
+-- if a thread asks what the source asks, and takes locks by exchange alone, it asks the same by its own instructions
 pub asks_by_words : (file : File) (program : Program) (code : Code) → Asks file program code → All IsExchanged code.instructions → AsksByWords file program code
 asks_by_words file program code asks exchanged t s had words starts kind comes =
     let answers = map (map_answer word_of) had in

@@ -62,6 +62,7 @@ numbered_zero : (l : List ℕ) → numbered l 0 ≡ 0
 numbered_zero [] = refl
 numbered_zero (a ∷ l) = refl
 
+-- the address of each thing is that of its making
 pub numbered_agrees : (names : ℕ) (os : List Thing) → AgreeTo (length os) (address names (sizes_of os)) (numbered (addresses names (sizes_of os)))
 numbered_agrees names os zero h = sym (numbered_zero (addresses names (sizes_of os)))
 numbered_agrees names os (suc n) h = sym (numbered_addresses names (sizes_of os) n (omega (arith, length-sizes os)))
@@ -120,9 +121,11 @@ module _ (file : File) (program : Program) (names : ℕ) where
   things_step : (s : State) (t : ℕ) → Things s (sd s t)
   things_step s t = things_next s t (has_started file program s t) (next file program t (answers_of s t))
 
+  -- a store grows from itself: nothing has moved
   pub grows_refl : (st : Store) → Grows names st st
   grows_refl st = record { places = λ n h. refl; things = omega arith; cells = omega arith }
 
+  -- what grows in two stretches grows in all
   pub grows_trans : (a b c : Store) → Grows names a b → Grows names b c → Grows names a c
   grows_trans a b c g h = record { places = λ n le. g.places n le ∙ h.places n (omega (arith, g.things)); things = omega (arith, g.things, h.things); cells = omega (arith, g.cells, h.cells) }
 
@@ -152,9 +155,11 @@ module _ (file : File) (program : Program) (names : ℕ) where
   grows_did s (Moved s') h = absurd h
   grows_did s (Acted s' e) h = grows_kept s.store e.action s'.store e.answer h
 
+  -- a step of the source makes the store grow
   pub grows_step : (s : State) (t : ℕ) → Grows names s.store (after s (sd s t)).store
   grows_step s t = grows_did s (sd s t) (things_step s t)
 
+  -- a schedule of the source makes the store grow
   pub grows_run : (ts : List ℕ) (s : State) → Grows names s.store (run sd s ts).store
   grows_run [] s = grows_refl s.store
   grows_run (t ∷ ts) s = grows_trans s.store _ _ (grows_step s t) (grows_run ts (after s (sd s t)))

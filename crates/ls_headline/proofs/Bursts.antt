@@ -1,4 +1,4 @@
--- The instructions of a thread up to and with the one that acts, for one action of the source.
+-- The instructions of a thread up to and with the instruction that acts, for one action of the source.
 use Rattle.std.proofs.Common.{◌≡◌, ◌≢◌, ◌⊎◌, inl, inr, ℕ, zero, suc, ◌+◌, ◌≤◌, Bool, true, false, ◌&&◌, ◌||◌, List, [], ◌∷◌, ◌++◌, length, Option, Some, None, refl, sym, ap, ◌∙◌, subst, arith, slice_get, slice_set, nat_eq}
 use Rattle.std.proofs.lemmas.Bool.Decides.{nat_tests}
 use Rattle.ls_code.specs.Limits.{most_cells}
@@ -87,6 +87,8 @@ module _ (file : File) (program : Program) (code : Code) (asks : Asks file progr
   Each σ ρ t (Some had) (Some x) = (s : Start) × (slice_get code.starts t ≡ Some s) × Known file program σ t had × (stands t x ≡ fed_to t s (words ρ had))
   Each σ ρ t _ _ = ⊥
 
+  -- A machine follows a state of the source, and no thread is in the midst of an operation. It has the code, its cells
+  -- hold the store, and each thread is where its answers have led it.
   pub record Follows (s : State) (m : Machine) : Type 0 where
     pub sorts : List ValueType
     pub image : m.code ≡ code
@@ -127,15 +129,18 @@ module _ (file : File) (program : Program) (code : Code) (asks : Asks file progr
   abbrev each_back : (c : cells.Cells) (σ : List ValueType) (ρ : ℕ → ℕ) (t : ℕ) (had : Answers) (x : Thread) → Each σ ρ t (Some had) (Some x) → Following.Each file program code asks sound room small c σ ρ t (Some had) (Some x)
   each_back c σ ρ t had x e = (e.0, e.1, e.2, x, e.3, Here refl)
 
+  -- each thread of the machine is at what the source does next
   pub stands_so : (σ : List ValueType) (st : Store) (c : cells.Cells) → StoreHolds σ st c → (t : ℕ) (had : Answers) (x : Thread) → Each σ (renaming names st) t (Some had) (Some x) → InWords (renaming names st) (next file program t had) (stands t x)
   stands_so σ st c holds t had x e = Following.stands_so file program code asks sound room small σ st c holds t had x (each_back c σ (renaming names st) t had x e)
 
   loud_so : (σ : List ValueType) (st : Store) (c : cells.Cells) → StoreHolds σ st c → (t : ℕ) (had : Answers) (x : Thread) → Each σ (renaming names st) t (Some had) (Some x) → IsLoud (stands t x)
   loud_so σ st c holds t had x e = Following.in_words_loud file program code asks sound room small (renaming names st) (next file program t had) _ (stands_so σ st c holds t had x e)
 
+  -- a silent instruction keeps that
   pub keeps : (σ : List ValueType) (st : Store) (c : cells.Cells) → StoreHolds σ st c → (t : ℕ) (had : Answers) (x x' : Thread) → Each σ (renaming names st) t (Some had) (Some x) → x.mode ≡ mode.Running → whole_move code t x ≡ Silent x' → Each σ (renaming names st) t (Some had) (Some x')
   keeps σ st c holds t had x x' e runs em = (e.0, e.1, e.2, silent_keeps code t bound x x' runs em (loud_so σ st c holds t had x e) ∙ e.3)
 
+  -- a thread goes on, and the machine still follows
   pub went_on : (s : State) (m : Machine) (h : Follows s m) (t : ℕ) (had : Answers) (x x' : Thread) (stopped : Bool) (events : List Event) → slice_get s.answers t ≡ Some had → slice_get m.threads t ≡ Some x → Each h.sorts (renaming names s.store) t (Some had) (Some x') → Follows s (went m t x' m.cells stopped events)
   went_on s m h t had x x' stopped events at there each' = record {
     sorts = h.sorts;
@@ -160,6 +165,7 @@ module _ (file : File) (program : Program) (code : Code) (asks : Asks file progr
   due_is : (m : Machine) (t : ℕ) (x : Thread) → x.mode ≡ mode.Running → Ready m t → is_due m.threads t x ≡ true
   due_is m t x runs ready = ap (λ z. is_running z && (nat_eq t 0 || setup_ended (slice_get m.threads 0))) runs ∙ ready
 
+  -- if the machine is open and the thread is due, its step is what the thread's instruction does
   pub machine_goes : (m : Machine) (t : ℕ) (x : Thread) (e : Move) → m.code ≡ code → m.stopped ≡ false → x.mode ≡ mode.Running → Ready m t → slice_get m.threads t ≡ Some x → thread_move code x ≡ e → machine_step m t ≡ moved m t (machine_steps.performed m.cells t x e)
   machine_goes m t x e image goes runs ready there em =
       ap (machine.step_of m t) there ∙ ap (open_step m t x) goes ∙ ap (due_step m t x) (due_is m t x runs ready)
@@ -172,7 +178,7 @@ module _ (file : File) (program : Program) (code : Code) (asks : Asks file progr
       let other : 0 ≢ t = grind (arith, nat_tests) in
       ap setup_ended (set_other m.threads t 0 x other) ∙ h
 
-  -- what a stretch of steps comes to
+  -- what a stretch of steps performs
   abbrev Performs : State → Entry → List Entry → Machine → Type 0
   Performs s' f fs m' = (fs ≡ f ∷ []) × Follows s' m' × (m'.stopped ≡ false)
 
@@ -364,7 +370,7 @@ module _ (file : File) (program : Program) (code : Code) (asks : Asks file progr
           at_take b eb stood w (parts.see c w r.2) st.0 AnswerDone (locks.does c t ∙ lock_is c lock t w (taken.Taken v) AnswerDone cells.Waits r.2 ek ∙ st.1 AnswerDone)
           (went_so b AnswerDone st.0 (seen x w) (exchanged x 1) (ap (λ f. f AnswerDone) eg) (parts.won c st.0 w v ek (won_is c st.0 lock t w v r.2 st.1)))
 
-      -- a told tryLock goes on in silence, whichever word it saw
+      -- a tryLock that is known to fail goes on in silence, whichever word it saw
       same_told : (w v : ℕ) (i : ℕ) → whole_move code t (seen x w) ≡ Silent (exchanged x 0) → whole_move code t (seen x v) ≡ Silent (exchanged x 0) → quiet code t i (seen x w) ≡ quiet code t i (seen x v)
       same_told w v zero ew ev =
           at_end code t (seen x w) runs ∙ ap (λ d. carry false (begins_early (thread_move code (seen x w))) d (λ z. TooLong)) ew

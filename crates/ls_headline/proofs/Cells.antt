@@ -16,6 +16,7 @@ use Rattle.ls_headline.specs.Sorts.{Refers, HasSortBy, HasType}
 use Rattle.ls_headline.specs.Same.{size_of, total}
 use Rattle.ls_headline.proofs.Lists.{get_left, get_right, set_left, set_right, get_within}
 
+-- no two references become one
 abbrev pub IsOneToOne : (ℕ → ℕ) → Type 0
 IsOneToOne ρ = (m n : ℕ) → ρ m ≡ ρ n → m ≡ n
 
@@ -25,11 +26,12 @@ offset [] n = n
 offset (s ∷ ss) zero = 0
 offset (s ∷ ss) (suc n) = s + offset ss n
 
+-- how many cells each thing has
 abbrev pub sizes_of : List Thing → List ℕ
 sizes_of [] = []
 sizes_of (o ∷ os) = size_of o ∷ sizes_of os
 
--- the address of thing n, behind so many names
+-- the address of thing n, after the cells of this many names
 abbrev pub address : ℕ → List ℕ → ℕ → ℕ
 address names ss zero = 0
 address names ss (suc n) = suc (names + offset ss n)
@@ -39,6 +41,7 @@ abbrev pub listed : {A : Type 0} → ℕ → (ℕ → A) → List A
 listed zero f = []
 listed (suc n) f = f 0 ∷ listed n (λ i. f (suc i))
 
+-- the word of a lock that a thread owns
 abbrev pub held_word : ℕ → ℕ → ℕ
 held_word owner holds = (owner + 1) * 2 ^ 32 + holds
 
@@ -47,12 +50,14 @@ abbrev pub hold_word : Hold → ℕ
 hold_word Free = 0
 hold_word (HeldBy owner holds) = held_word owner holds
 
+-- the words in the cells of a thing
 abbrev pub cells_of : (ℕ → ℕ) → Thing → List ℕ
 cells_of ρ (Object monitor vs) = hold_word monitor ∷ map (written ρ) vs
 cells_of ρ (LockOf hold) = hold_word hold ∷ []
 cells_of ρ (Markable v) = written ρ v ∷ []
 cells_of ρ (Array size items) = size ∷ listed size (λ i. written ρ (items i))
 
+-- the words in the cells of all things, one after another
 abbrev pub laid : (ℕ → ℕ) → List Thing → List ℕ
 laid ρ [] = []
 laid ρ (o ∷ os) = cells_of ρ o ++ laid ρ os
@@ -66,6 +71,7 @@ pub length_listed : {A : Type 0} → (n : ℕ) (f : ℕ → A) → length (liste
 length_listed zero f = refl
 length_listed (suc n) f = ap suc (length_listed n (λ i. f (suc i)))
 
+-- the i-th of listed items
 pub get_listed : {A : Type 0} → (n : ℕ) (f : ℕ → A) (i : ℕ) → i < n → slice_get (listed n f) i ≡ Some (f i)
 get_listed zero f i h = absurd (omega arith)
 get_listed (suc n) f zero h = refl
@@ -75,15 +81,18 @@ pub listed_alike : {A : Type 0} → (n : ℕ) (f g : ℕ → A) → ((i : ℕ) �
 listed_alike zero f g h = refl
 listed_alike (suc n) f g h = ap (λ x. x ∷ listed n (λ i. f (suc i))) (h 0 (omega arith)) ∙ ap (λ l. g 0 ∷ l) (listed_alike n (λ i. f (suc i)) (λ i. g (suc i)) (λ i l. h (suc i) (omega arith)))
 
+-- listed items with another item at an index
 pub set_listed : {A : Type 0} → (n : ℕ) (f g : ℕ → A) (i : ℕ) (x : A) → g i ≡ x → ((j : ℕ) → j ≢ i → g j ≡ f j) → i < n → listed n g ≡ slice_set (listed n f) i x
 set_listed zero f g i x e others h = absurd (omega arith)
 set_listed (suc n) f g zero x e others h = ap (λ y. y ∷ listed n (λ j. g (suc j))) e ∙ ap (λ l. x ∷ l) (listed_alike n (λ j. g (suc j)) (λ j. f (suc j)) (λ j l. others (suc j) (λ z. absurd (omega arith))))
 set_listed (suc n) f g (suc i) x e others h =
     ap (λ y. y ∷ listed n (λ j. g (suc j))) (others 0 (λ z. absurd (omega arith))) ∙ ap (λ l. f 0 ∷ l) (set_listed n (λ j. f (suc j)) (λ j. g (suc j)) i x e (λ j d. others (suc j) (λ z. d (omega arith))) (omega arith))
 
+-- the item that was put at an index
 pub item_same : (items : ℕ → Value) (i : ℕ) (v : Value) → with_item items i v i ≡ v
 item_same items i v = let e : nat_eq i i ≡ true = grind (arith, nat_tests) in ap (λ b. if b then v else items i) e
 
+-- the items at the other indices
 pub item_other : (items : ℕ → Value) (i : ℕ) (v : Value) (j : ℕ) → j ≢ i → with_item items i v j ≡ items j
 item_other items i v j d = let e : nat_eq j i ≡ false = grind (arith, nat_tests) in ap (λ b. if b then v else items j) e
 
@@ -101,6 +110,7 @@ offset_one (o ∷ os) zero (suc n) e = absurd (omega (arith, size_pos o))
 offset_one (o ∷ os) (suc m) zero e = absurd (omega (arith, size_pos o))
 offset_one (o ∷ os) (suc m) (suc n) e = ap suc (offset_one os m n (omega arith))
 
+-- no two things have one address
 pub address_one : (names : ℕ) (os : List Thing) → IsOneToOne (address names (sizes_of os))
 address_one names os zero zero e = refl
 address_one names os zero (suc n) e = absurd (omega arith)
@@ -114,6 +124,7 @@ offset-append [] (o ∷ more) (suc n) h = absurd (omega arith)
 offset-append (o ∷ os) more zero h = refl
 offset-append (o ∷ os) more (suc n) h = ap (λ k. size_of o + k) (offset-append os more n (omega arith))
 
+-- if a thing keeps its size, all sizes stay
 pub sizes-set : (os : List Thing) (k : ℕ) (o o' : Thing) → slice_get os k ≡ Some o → size_of o' ≡ size_of o → sizes_of (slice_set os k o') ≡ sizes_of os
 sizes-set [] k o o' h e = refl
 sizes-set (x ∷ os) zero o o' h e = let e1 : x ≡ o = cc in ap (λ s. s ∷ sizes_of os) (e ∙ ap size_of (sym e1))
@@ -151,6 +162,7 @@ laid_set ρ (x ∷ os) zero i n o o' w h l c e =
 laid_set ρ (x ∷ os) (suc k) i n o o' w h l c e =
     ap (λ z. cells_of ρ x ++ z) (laid_set ρ os k i _ o o' w h l c refl) ∙ sym (set_right (cells_of ρ x) (laid ρ os) n (offset (sizes_of os) k + i) w (omega (arith, length_cells ρ x)))
 
+-- the cells of one more thing come last
 pub laid-append : (ρ : ℕ → ℕ) (os : List Thing) (o : Thing) → laid ρ (os ++ o ∷ []) ≡ laid ρ os ++ cells_of ρ o
 laid-append ρ [] o = simp append-nil
 laid-append ρ (x ∷ os) o = ap (λ z. cells_of ρ x ++ z) (laid-append ρ os o) ∙ sym (append_assoc (cells_of ρ x) (laid ρ os) (cells_of ρ o))
@@ -158,13 +170,16 @@ laid-append ρ (x ∷ os) o = ap (λ z. cells_of ρ x ++ z) (laid-append ρ os o
 pub length_names : (ρ : ℕ → ℕ) (vs : List Value) → length (map (written ρ) vs) ≡ length vs
 length_names ρ vs = length-map vs (written ρ)
 
+-- the names and the things take this many cells
 pub length_all : (ρ : ℕ → ℕ) (vs : List Value) (os : List Thing) → length (all_cells ρ vs os) ≡ length vs + total os
 length_all ρ vs os = omega (arith, length-append (map (written ρ) vs) (laid ρ os), length_names ρ vs, length_laid ρ os)
 
+-- where in all cells a cell of a thing is
 pub cells_get : (ρ : ℕ → ℕ) (vs : List Value) (os : List Thing) (k i : ℕ) (o : Thing) → slice_get os k ≡ Some o → i < size_of o → slice_get (all_cells ρ vs os) (length vs + offset (sizes_of os) k + i) ≡ slice_get (cells_of ρ o) i
 cells_get ρ vs os k i o h l =
     get_right (map (written ρ) vs) (laid ρ os) _ (offset (sizes_of os) k + i) (omega (arith, length_names ρ vs)) ∙ laid_get ρ os k i _ o h l refl
 
+-- if a cell of a thing changes, one of all cells changes
 pub cells_set : (ρ : ℕ → ℕ) (vs : List Value) (os : List Thing) (k i : ℕ) (o o' : Thing) (w : ℕ) → slice_get os k ≡ Some o → i < size_of o → cells_of ρ o' ≡ slice_set (cells_of ρ o) i w → all_cells ρ vs (slice_set os k o') ≡ slice_set (all_cells ρ vs os) (length vs + offset (sizes_of os) k + i) w
 cells_set ρ vs os k i o o' w h l c =
     ap (λ z. map (written ρ) vs ++ z) (laid_set ρ os k i _ o o' w h l c refl) ∙ sym (set_right (map (written ρ) vs) (laid ρ os) _ (offset (sizes_of os) k + i) w (omega (arith, length_names ρ vs)))
@@ -179,11 +194,12 @@ cells_within ρ vs os k i o h l =
     within (x ∷ os) zero i o h l = let e1 : o ≡ x = cc in let e2 : size_of o ≡ size_of x = ap size_of e1 in omega arith
     within (x ∷ os) (suc k) i o h l = let r = within os k i o h l in omega arith
 
+-- a new thing moves no thing
 pub address-append : (names : ℕ) (os more : List Thing) (n : ℕ) → n ≤ suc (length os) → address names (sizes_of os) n ≡ address names (sizes_of (os ++ more)) n
 address-append names os more zero h = refl
 address-append names os more (suc n) h = ap (λ k. suc (names + k)) (sym (offset-append os more n (omega arith)))
 
--- the next thing stands behind all cells
+-- the next thing comes after all cells
 pub address_new : (ρ : ℕ → ℕ) (vs : List Value) (os : List Thing) → address (length vs) (sizes_of os) (suc (length os)) ≡ suc (length (all_cells ρ vs os))
 address_new ρ vs os = ap suc (omega (arith, offset_end os, length_all ρ vs os))
 
@@ -192,6 +208,7 @@ pub things_fit : (os : List Thing) → length os ≤ total os
 things_fit [] = omega arith
 things_fit (o ∷ os) = omega (arith, things_fit os, size_pos o)
 
+-- each thing begins within the cells of all things
 pub offset_below : (os : List Thing) (k : ℕ) → k < length os → offset (sizes_of os) k < total os
 offset_below [] k h = absurd (omega arith)
 offset_below (o ∷ os) zero h = omega (arith, size_pos o)
@@ -201,10 +218,12 @@ offset_below (o ∷ os) (suc k) h = let r = offset_below os k (omega arith) in o
 abbrev pub AgreeTo : ℕ → (ℕ → ℕ) → (ℕ → ℕ) → Type 0
 AgreeTo k ρ ρ' = (n : ℕ) → n ≤ k → ρ n ≡ ρ' n
 
+-- a reference of a type is null, or names a thing that there is
 pub refers_within : (σ : List ValueType) (n : ℕ) (s : ValueType) → Refers σ n s → n ≤ length σ
 refers_within σ zero s h = omega arith
 refers_within σ (suc n) s h = get_within σ n s h
 
+-- renamings that agree on the things that there are write a value alike
 pub written_agree : (σ : List ValueType) (ρ ρ' : ℕ → ℕ) (v : Value) (s : ValueType) → AgreeTo (length σ) ρ ρ' → HasType σ v s → written ρ v ≡ written ρ' v
 written_agree σ ρ ρ' (Int z) s a h = refl
 written_agree σ ρ ρ' (Boolean b) s a h = refl
@@ -214,10 +233,12 @@ written_agree σ ρ ρ' (Reference n) type.BooleanArray a h = a n (refers_within
 written_agree σ ρ ρ' (Reference n) (type.Markable c) a h = a n (refers_within σ n (type.Markable c) h)
 written_agree σ ρ ρ' _ _ a h = absurd h
 
+-- the same of a pair
 pub pair_agree : (σ : List ValueType) (ρ ρ' : ℕ → ℕ) (v : Value) (c : ℕ) → AgreeTo (length σ) ρ ρ' → HasSortBy (Refers σ) v (PairOf c) → written ρ v ≡ written ρ' v
 pair_agree σ ρ ρ' (Pair n m) c a h = ap (λ k. pair_word k (bool_word m)) (a n (refers_within σ n (type.Class c) h))
 pair_agree σ ρ ρ' _ c a h = absurd h
 
+-- the same of a value of a sort
 pub sort_agree : (σ : List ValueType) (ρ ρ' : ℕ → ℕ) (v : Value) (s : Sort) → AgreeTo (length σ) ρ ρ' → HasSortBy (Refers σ) v s → written ρ v ≡ written ρ' v
 sort_agree σ ρ ρ' v (ValueOf t) a h = written_agree σ ρ ρ' v t a h
 sort_agree σ ρ ρ' v (PairOf c) a h = pair_agree σ ρ ρ' v c a h

@@ -178,6 +178,7 @@ pub data Word (i : Instruction) : Type 0 where
   IsDrop : (x : ℕ) → i ≡ op.DropLock x → Word i
   IsAnother : IsWhole i → Word i
 
+-- each instruction is on a lock's word, or another
 pub word_of : (i : Instruction) → Word i
 word_of op.Halt = IsAnother tt
 word_of (op.Push x) = IsAnother tt
@@ -234,9 +235,11 @@ word_of (op.Call x) = IsAnother tt
 word_of (op.Result x) = IsAnother tt
 word_of op.Trap = IsAnother tt
 
+-- an instruction that isn't on a lock's word has no plan for one
 pub another : (p : Code) (t : Thread) (i : Instruction) → IsWhole i → NoPlan (of_frame p t (frame_move i t.top))
 another p t i h = of_none p t (frame_move i t.top) (frame_plain i t.top h)
 
+-- the instruction is the TAKE that is looked for
 pub take_there : (x : ℕ) (o : Option Instruction) → is_take x o ≡ true → o ≡ Some (op.Take x)
 take_there x None e = cc
 take_there x (Some op.Halt) e = cc
@@ -294,6 +297,7 @@ take_there x (Some (op.Call y)) e = cc
 take_there x (Some (op.Result y)) e = cc
 take_there x (Some op.Trap) e = cc
 
+-- the instruction is the jump back that is looked for
 pub back_there : (x : ℕ) (o : Option Instruction) → is_back_to x o ≡ true → o ≡ Some (op.JumpIfFalse x)
 back_there x None e = cc
 back_there x (Some op.Halt) e = cc
@@ -351,6 +355,7 @@ back_there x (Some (op.Call y)) e = cc
 back_there x (Some (op.Result y)) e = cc
 back_there x (Some op.Trap) e = cc
 
+-- the instruction is the DROP that is looked for
 pub drop_there : (x : ℕ) (o : Option Instruction) → is_drop x o ≡ true → o ≡ Some (op.DropLock x)
 drop_there x None e = cc
 drop_there x (Some op.Halt) e = cc

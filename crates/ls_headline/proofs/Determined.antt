@@ -76,6 +76,7 @@ module _ (σ : List ValueType) (ρ : ℕ → ℕ) (one : ArePlaces (length σ) �
   type_one (type.Markable c) (Boolean b) w h g e = absurd h
   type_one (type.Markable c) (Pair n m) w h g e = absurd h
 
+  -- values of one sort that have the same word are the same
   pub written_one : (s : Sort) (v w : Value) → HasSortBy (Refers σ) v s → HasSortBy (Refers σ) w s → written ρ v ≡ written ρ w → v ≡ w
   written_one (ValueOf t) v w h g e = type_one t v w h g e
   written_one (NewOf t) (Reference m) (Reference n) h g e = ap Reference (same_object m n t t h.1 g.1 e)

@@ -120,6 +120,7 @@ abbrev entered : ℕ → Bool → Answers → Next
 entered n b rest =
     after_call 1 (if b then Throws NullPointer rest else with_value (invoke file depth_limit 0 (Reference n ∷ []) rest) (λ v rest. Results (result_of file 0 v) rest)) (all_calls file program 2 [])
 
+-- what thread 1 does next after it has read a name that isn't null
 pub next_on : (x : Answer Value) (n : ℕ) (rest : Answers) → n ≢ 0 → next file program 1 (x ∷ (Gives (Reference n) ∷ rest)) ≡ entered n false rest
 next_on x n rest h = ap (λ b. entered n b rest) (not_null n h)
 
@@ -127,11 +128,12 @@ abbrev locked : ℕ → ℕ → Bool → Answers → Next
 locked n k b rest =
     after_call 1 (with_value (leave None (then_do (on_value (if b then Throws NullPointer rest else ask (act.Lock k) NoValue rest) (Reference n ∷ (Reference k ∷ [])) (λ v rest. Completes Normal (Reference n ∷ (Reference k ∷ [])) rest)) (λ locals rest. Completes Normal locals rest))) (λ v rest. Results (result_of file 0 v) rest)) (all_calls file program 2 [])
 
+-- what thread 1 does after it has made the lock
 pub next_further : (x y : Answer Value) (n k : ℕ) (rest : Answers) → n ≢ 0 → k ≢ 0 → next file program 1 (x ∷ (Gives (Reference n) ∷ (y ∷ (Gives (Reference k) ∷ rest)))) ≡ locked n k false rest
 unfolding invoke depth_limit
 next_further x y n k rest h g = next_on x n (y ∷ (Gives (Reference k) ∷ rest)) h ∙ ap (λ b. locked n k b rest) (not_null k g)
 
--- an answer in kind, where the source does this next
+-- an answer in kind, if the source does this next
 suits_at : (d e : Next) (x : Answer Value) → d ≡ e → Suits P d x → Suits P e x
 suits_at d e x p h = subst (λ z. Suits P z x) p h
 
@@ -206,6 +208,7 @@ sizes_all : (c : ℕ) (class : Class) → slice_get file.classes c ≡ Some clas
 sizes_all zero class e = let e' : record { fields = []; constructor = 1 } ≡ class = cc in ap (λ z. Some (object_cells (length z.fields))) e'
 sizes_all (suc c) class e = cc
 
+-- the image of the example asks what its source asks
 pub example_asks : Asks file program code
 example_asks = record {
   asks = asks_all;
@@ -214,5 +217,6 @@ example_asks = record {
   sizes = sizes_all;
 }
 
+-- the image of the example takes locks by exchange alone
 pub example_exchanged : All IsExchanged code.instructions
 example_exchanged = all_of IsExchanged code.instructions (tt, (tt, (tt, (tt, (tt, (tt, (tt, (tt, (tt, (tt, (tt, (tt, (tt, (tt, (tt, (tt, (tt, (tt, (tt, (tt, (tt, (tt, tt))))))))))))))))))))))

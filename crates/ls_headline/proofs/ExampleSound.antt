@@ -90,6 +90,7 @@ sound_all σ zero had a s h e = subst (HoldsAt σ 0) e (setup_holds σ had h)
 sound_all σ (suc zero) had a s h e = subst (HoldsAt σ 1) e (work_holds σ had h)
 sound_all σ (suc (suc t)) had a s h e = cc
 
+-- the example asks on things of the right types
 pub example_sound : IsSound file program
 example_sound = record { sound = sound_all }
 
@@ -105,5 +106,6 @@ in_program zero t e = let e1 : Making 0 0 [] [] ∷ [] ≡ t.calls = cc in subst
 in_program (suc zero) t e = let e1 : Calling 0 0 [] None [] ∷ [] ≡ t.calls = cc in subst CallsHaveConstants e1 (tt, tt)
 in_program (suc (suc n)) t e = cc
 
+-- no constant of the example names an object
 pub example_constants : FileHasConstants file × ProgramHasConstants program
 example_constants = (in_file, in_program)

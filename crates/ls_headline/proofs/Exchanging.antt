@@ -169,6 +169,7 @@ fetched_none : (p : Code) (t : Thread) (o : Option Instruction) → ((i : Instru
 fetched_none p t None h = tt
 fetched_none p t (Some i) h = of_none p t (frame_move i t.top) (frame_plain i t.top (h i refl))
 
+-- an action that such code asks for plainly is on no lock
 pub asks_plainly : (p : Code) (t : Thread) (a : Action ℕ) (go : Answer ℕ → Option Thread) → All IsExchanged p.instructions → thread_move p t ≡ Asks a go → is_on_lock a ≡ false
 asks_plainly p t a go h e =
     subst AsksPlainly e (fetched_none p t (slice_get p.instructions t.top.counter) (λ i is. all_get IsExchanged p.instructions t.top.counter i h is))

@@ -1,4 +1,4 @@
--- Fed with words, a thread comes to what it is read to come to after the answers that they come to.
+-- Fed with words, a thread does what it is read to do after the answers that these words give.
 use Rattle.std.proofs.Common.{◌≡◌, ◌≢◌, ℕ, zero, suc, ◌+◌, ◌≤◌, ◌==◌, Bool, true, false, List, [], ◌∷◌, Option, Some, None, refl, sym, ap, ◌∙◌, subst, arith, slice_get, if◌then◌else◌, All}
 use Rattle.std.proofs.lemmas.Bool.Decides.{nat_tests}
 use Rattle.ls_events.specs.declared.kind.Kind.TheVariants.{IllegalMonitorState, Error}
@@ -105,7 +105,7 @@ module _ (p : Code) (n b : ℕ) (whole : All IsExchanged p.instructions) where
     monitor_takes : MonitorTakes xs
     leave_sees : LeaveSees xs
 
-  -- where the words are used up
+  -- if the words are used up
   none_left : (stage : Stage) (a : Action ℕ) (go f : Answer ℕ → Option Thread) → Same [] stage (Paused a go) (Paused a f)
   none_left stage a go f answers e ne = subst (λ z. own.Asked a ≡ resume p n bound z (Paused a go)) (no_more answers e) refl
 
@@ -232,7 +232,7 @@ module _ (p : Code) (n b : ℕ) (whole : All IsExchanged p.instructions) where
             ∙ ap (planned_move p n (seen y (word_of_another n))) (take_plan p n y a g.rest g.top 2 (word_of_another n) (act.TryLock a) taken.Other refl (another_is n)) in
             more p n (suc b) (seen y (word_of_another n)) run ∙ ap (λ w. carry true (begins_early (thread_move p (seen y (word_of_another n)))) w (quiet p n (suc b))) silent
 
-        -- after a false, with the TAKE behind it
+        -- after a false, with the TAKE after it
         after_false : (k : ℕ) → suc b ≤ k → Same xs (Waits (quiet p n bound (seen y (word_of_another n)))) (quiet p n bound (seen y (word_of_another n))) (own.passed p n bound (own.quiet p n k (exchanged y 0)))
         after_false k le =
             subst (λ r. Same xs (Waits r) r (own.passed p n bound (own.quiet p n k (exchanged y 0)))) (sym told) (passing _ _ (meets p n bound whole (suc b) k (exchanged y 0) le))
@@ -382,6 +382,7 @@ module _ (p : Code) (n b : ℕ) (whole : All IsExchanged p.instructions) where
   fed_so : (k : ℕ) (t : Thread) (words : List (Answer ℕ)) → Same words (Waits (quiet p n k t)) (quiet p n k t) (own.passed p n bound (own.quiet p n k t))
   fed_so k t words = passing words (known words) _ _ (meets p n bound whole k k t (omega arith))
 
+-- the law: fed with words, a thread does what it is read to do after the answers
 pub fed_by_words : FedByWords
 fed_by_words p n zero k t words answers whole two e ne = absurd (let f : ⊥ = omega arith in f)
 fed_by_words p n (suc zero) k t words answers whole two e ne = absurd (let f : ⊥ = omega arith in f)

@@ -15,6 +15,7 @@ use Rattle.ls_code.specs.declared.step.Mode.TheVariants as mode
 use Rattle.ls_code.specs.Reading.{is_locking, is_trying, is_unlocking, operation, planned_move, read_move, whole_move, begins_early, carry, advance, quiet, quiet_from, resume}
 use Rattle.ls_headline.specs.Parts.{IsPlanned}
 
+-- a pause that isn't for too long a silence
 abbrev pub IsLoud : Pause → Type 0
 IsLoud (Paused a go) = Unit {0}
 IsLoud (Passes t) = Unit {0}
@@ -23,7 +24,7 @@ IsLoud IsStuck = Unit {0}
 IsLoud TooLong = ⊥
 
 module _ (p : Code) (number : ℕ) where
-  -- where the two ways on agree
+  -- if both ways on agree
   abbrev Later : (Thread → Pause) → (Thread → Pause) → Type 0
   Later f g = (y : Thread) → IsLoud (f y) → g y ≡ f y
 
@@ -48,6 +49,7 @@ module _ (p : Code) (number : ℕ) where
   pub at_end : (x : Thread) → x.mode ≡ mode.Running → quiet p number zero x ≡ carry false (begins_early (thread_move p x)) (whole_move p number x) (λ s. TooLong)
   at_end x r = ap (λ m. advance p number false m x (λ s. TooLong)) r
 
+  -- one instruction of a running thread
   pub more : (n : ℕ) (x : Thread) → x.mode ≡ mode.Running → quiet p number (suc n) x ≡ carry true (begins_early (thread_move p x)) (whole_move p number x) (quiet p number n)
   more n x r = ap (λ m. advance p number true m x (quiet p number n)) r
 
@@ -61,14 +63,17 @@ module _ (p : Code) (number : ℕ) where
   asking zero x a go r e = at_end x r ∙ ap (λ d. carry false (begins_early d) (read_move p number x d) (λ s. TooLong)) e
   asking (suc n) x a go r e = more n x r ∙ ap (λ d. carry true (begins_early d) (read_move p number x d) (quiet p number n)) e
 
+  -- a thread that has ended pauses as over
   pub ended : (n : ℕ) (x : Thread) → x.mode ≡ mode.Ended → quiet p number n x ≡ IsOver mode.Ended
   ended zero x r = ap (λ m. advance p number false m x (λ s. TooLong)) r
   ended (suc n) x r = ap (λ m. advance p number true m x (quiet p number n)) r
 
+  -- a thread that was trapped pauses as over
   pub trapped : (n : ℕ) (x : Thread) → x.mode ≡ mode.Trapped → quiet p number n x ≡ IsOver mode.Trapped
   trapped zero x r = ap (λ m. advance p number false m x (λ s. TooLong)) r
   trapped (suc n) x r = ap (λ m. advance p number true m x (quiet p number n)) r
 
+  -- a thread without a move is stuck
   pub still : (n : ℕ) (x : Thread) → x.mode ≡ mode.Running → whole_move p number x ≡ Still → quiet p number n x ≡ IsStuck
   still zero x r e = at_end x r ∙ ap (λ d. carry false (begins_early (thread_move p x)) d (λ s. TooLong)) e
   still (suc n) x r e = more n x r ∙ ap (λ d. carry true (begins_early (thread_move p x)) d (quiet p number n)) e
@@ -79,6 +84,7 @@ module _ (p : Code) (number : ℕ) where
   asked_loud false true a go f l = absurd l
   asked_loud b false a go f l = refl
 
+  -- a thread at an operation pauses there
   pub beginning : (n : ℕ) (x : Thread) (a : Action ℕ) (go : Answer ℕ → Option Thread) → x.mode ≡ mode.Running → whole_move p number x ≡ Asks a go → IsLoud (quiet p number n x) → quiet p number n x ≡ Paused a go
   beginning zero x a go r e l =
       let is : quiet p number zero x ≡ carry false (begins_early (thread_move p x)) (Asks a go) (λ s. TooLong) = at_end x r ∙ ap (λ d. carry false (begins_early (thread_move p x)) d (λ s. TooLong)) e in
@@ -165,6 +171,7 @@ module _ (p : Code) (number : ℕ) where
   move_tells x (Asks a go) = tt
   move_tells x (Plans go) = plan_tells x (Plans go) (go number) (λ c. refl)
 
+  -- what the reading calls silent, is silent on the machine
   pub silent_is : (x x' : Thread) (c : Cells) → whole_move p number x ≡ Silent x' → performed c number x (thread_move p x) ≡ outcome_of x' c did.Silent
   silent_is x x' c e = (subst (Tells x (thread_move p x)) e (move_tells x (thread_move p x))) c
 
@@ -245,6 +252,7 @@ module _ (p : Code) (number : ℕ) where
   none_plan x (Touches a (act.TryLock o) go) = tt
   none_plan x (Touches a (act.Unlock o) go) = tt
 
+  -- a move of the reading has no plan
   pub none : (x : Thread) (d : Move) → NoPlan (read_move p number x d)
   none x (Silent x') = tt
   none x Still = tt
@@ -282,7 +290,7 @@ module _ (p : Code) (number : ℕ) where
     passes_stays [] t = refl
     passes_stays (w ∷ ws) t = passes_stays ws t
 
-    -- what a fed thread comes to
+    -- how a fed thread goes on
     pub resumed : (ws : List (Answer ℕ)) (q : Pause) → resume p number bound ws q ≡ resume p number bound [] (stand ws q)
     resumed [] q = refl
     resumed (w ∷ ws) (Paused a go) = resumed ws (quiet_from p number bound (go w))
@@ -291,10 +299,11 @@ module _ (p : Code) (number : ℕ) where
     resumed (w ∷ ws) IsStuck = sym (ap (resume p number bound []) (stuck_stays ws))
     resumed (w ∷ ws) TooLong = sym (ap (resume p number bound []) (long_stays ws))
 
+    -- one more answer is told at the end
     pub stand-append : (ws : List (Answer ℕ)) (w : Answer ℕ) (q : Pause) → stand (ws ++ w ∷ []) q ≡ told_one (stand ws q) w
     stand-append [] w q = refl
     stand-append (v ∷ ws) w q = stand-append ws w (told_one q v)
 
-    -- where a thread stands on its way to its next action
+    -- where a thread is on its way to its next action
     abbrev pub Stands : Thread → Pause
     Stands x = quiet p number bound x

@@ -31,26 +31,31 @@ total-set [] n o o' h e = refl
 total-set (x ∷ os) zero o o' h e = let e1 : x ≡ o = cc in ap (λ k. k + total os) (e ∙ ap size_of (sym e1))
 total-set (x ∷ os) (suc n) o o' h e = ap (λ k. size_of x + k) (total-set os n o o' h e)
 
+-- an index is in range on both sides, or on none
 pub range_same : (i : ℤ) (n : ℕ) → machine.in_range i n ≡ in_range i n
 range_same (pos k) n = refl
 range_same (negsuc k) n = refl
 
--- thing n + 1 stands at place n
+-- thing n + 1 is at index n
 pub thing_is : (st : Store) (n : ℕ) → thing_at st (suc n) ≡ slice_get st.things n
 thing_is st n =
     let e : nat_eq (suc n) 0 ≡ false = grind (arith, nat_tests) in
     let e' : suc n - 1 ≡ n = omega arith in
     ap (λ b. if b then None else slice_get st.things (suc n - 1)) e ∙ ap (slice_get st.things) e'
 
+-- a store with another thing at an index
 abbrev pub put : Store → ℕ → Thing → Store
 put st n o = record { things = slice_set st.things n o; names = st.names }
 
+-- thing n + 1 is replaced at index n
 pub put_is : (st : Store) (n : ℕ) (o : Thing) → with_thing st (suc n) o ≡ put st n o
 put_is st n o = let e : suc n - 1 ≡ n = omega arith in ap (λ k. put st k o) e
 
+-- an action on a thing that exists
 pub on_is : (st : Store) (n t : ℕ) (a : Action Value) (o : Thing) → slice_get st.things n ≡ Some o → on_thing st (suc n) t a ≡ put_back st (suc n) (change t a o)
 on_is st n t a o at = ap (λ z. at_thing st (suc n) z (change t a)) (thing_is st n ∙ at)
 
+-- a changed thing goes back into the store
 pub back_is : (st : Store) (n : ℕ) (o : Thing) (x : Answer Value) → put_back st (suc n) (Leaves o x) ≡ Does (put st n o) x
 back_is st n o x = ap (λ z. Does z x) (put_is st n o)
 
@@ -58,6 +63,7 @@ module _ (classes : List Class) (named : List ValueType) (sizes : List ℕ) (roo
   abbrev ρ : ℕ → ℕ
   ρ = renaming (length named) st
 
+  -- what an action does on both sides agrees, in this setting
   abbrev pub Agree : Action Value → Sort → Effect → machine.Effect → Type 0
   Agree a s e d = Agrees classes named sizes room σ st a s e d
 
@@ -71,6 +77,7 @@ module _ (classes : List Class) (named : List ValueType) (sizes : List ℕ) (roo
   pub reads : (a : Action Value) (s : Sort) (x : Answer Value) (w : Answer ℕ) → Suits (Refers σ) (Goes a s) x → w ≡ map_answer (written ρ) x → effects.Done classes named sizes room σ st a s st x c w
   reads a s x w u e = record { sorts = σ; extends = λ n r h. h; holds = holds; suits = u; word = e; grows = grows_same }
 
+  -- the same after equal effects
   pub agree_at : (a : Action Value) (s : Sort) (e e' : Effect) (d d' : machine.Effect) → e ≡ e' → d ≡ d' → Agree a s e' d' → Agree a s e d
   agree_at a s e e' d d' p q h = subst (λ y. Agree a s y d) (sym p) (subst (λ y. Agree a s e' y) (sym q) h)
 
@@ -83,6 +90,7 @@ module _ (classes : List Class) (named : List ValueType) (sizes : List ℕ) (roo
   abbrev pub place : ℕ → ℕ → ℕ
   place n i = length named + offset (sizes_of st.things) n + i
 
+  -- the cells with another word in one cell of a thing
   abbrev pub with_cell : ℕ → ℕ → ℕ → Cells
   with_cell n i w = with_words c (slice_set c.words (place n i) w)
 
@@ -108,7 +116,7 @@ module _ (classes : List Class) (named : List ValueType) (sizes : List ℕ) (roo
         grows = record { places = λ m h. ap (λ f. f m) same; things = omega (arith, length-set st.things n o'); cells = omega (arith, total-set st.things n o o' at size) };
       }
 
-  -- what stands in one cell of one thing
+  -- what is in one cell of one thing
   pub cell_is : (n i w : ℕ) (o : Thing) → slice_get st.things n ≡ Some o → i < size_of o → slice_get (cells_of ρ o) i ≡ Some w → cell_at c (ρ (suc n)) i ≡ Some w
   cell_is n i w o at within is =
       let spot : place n i ≡ length st.names + offset (sizes_of st.things) n + i = ap (λ k. k + offset (sizes_of st.things) n + i) (sym names_length) in
@@ -137,6 +145,7 @@ module _ (classes : List Class) (named : List ValueType) (sizes : List ℕ) (roo
   read_case t n f s k sort field (Markable v) at has = absurd has
   read_case t n f s k sort field (Array m items) at has = absurd has
 
+  -- a write of a field
   pub write_case : (t n f : ℕ) (v : Value) (q : ValueType) (k : ℕ) → slice_get σ n ≡ Some (type.Class k) → slice_get (fields_of classes k) f ≡ Some q → HasType σ v q → (o : Thing) → slice_get st.things n ≡ Some o → ThingHas classes σ o (type.Class k) → Agree (WriteField (suc n) f v) NoValue (on_thing st (suc n) t (WriteField (suc n) f v)) (machine.effect c t (WriteField (ρ (suc n)) (f + 1) (written ρ v)))
   write_case t n f v q k sort field hasv (Object m vs) at has =
       let there = value_there σ vs (fields_of classes k) f q has.1 field in
@@ -168,6 +177,7 @@ module _ (classes : List Class) (named : List ValueType) (sizes : List ℕ) (roo
       let test : nat_lt n c.names ≡ true = grind (arith, nat_tests) in
       ap (λ b. if b then d else machine.Unfit) test
 
+  -- a read of a setup name
   pub name_case : (t n : ℕ) (s : ValueType) → slice_get named n ≡ Some s → Agree (ReadName n) (ValueOf s) (effect classes st t (ReadName n)) (machine.effect c t (ReadName n))
   name_case t n s sort =
       let there = value_there σ st.names named n s holds.names sort in
@@ -176,6 +186,7 @@ module _ (classes : List Class) (named : List ValueType) (sizes : List ℕ) (roo
       (on_name_is n _ (get_within named n s sort) ∙ ap (λ z. on_cell z (λ word. machine.Answers c (Gives word))) (name_cell n ∙ name_word n there.0 there.1))
       (reads (ReadName n) (ValueOf s) (Gives there.0) (Gives (written ρ there.0)) there.2 refl)
 
+  -- a write of a setup name
   pub set_name_case : (t n : ℕ) (v : Value) (s : ValueType) → slice_get named n ≡ Some s → HasType σ v s → Agree (WriteName n v) NoValue (effect classes st t (WriteName n v)) (machine.effect c t (WriteName n (written ρ v)))
   set_name_case t n v s sort has =
       let within : n < length (map (written ρ) st.names) = omega (arith, get_within named n s sort, names_length, length-map st.names (written ρ)) in

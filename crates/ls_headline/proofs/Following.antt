@@ -45,35 +45,43 @@ use Rattle.ls_headline.proofs.AllCases.{names_of, effects_agree}
 use Rattle.ls_headline.proofs.Answers.{action_words, answers_words, suited_end, suited_more, suited_renamed, answer_agree, answers_agree, action_agree, Says, says}
 
 module _ (file : File) (program : Program) (code : Code) (asks : Asks file program code) (sound : Means file program) (room : ℕ) (small : room ≤ most_cells) where
+  -- the types of the setup names' objects
   abbrev pub named : List ValueType
   named = names_of program
 
+  -- how many setup names there are
   abbrev pub names : ℕ
   names = length named
 
+  -- the bound on silent instructions
   abbrev pub bound : ℕ
   bound = most_silent code
 
+  -- the cells hold the store
   abbrev pub StoreHolds : List ValueType → Store → Cells → Type 0
   StoreHolds σ st c = Holds file.classes named code.sizes room σ st c
 
+  -- where a thread is on its way to its next action
   abbrev pub stands : ℕ → Thread → Pause
   stands t x = Stands code t bound x
 
+  -- answers of the source as words
   abbrev pub words : (ℕ → ℕ) → Answers → List (Answer ℕ)
   words ρ had = map (map_answer (written ρ)) had
 
-  -- where a thread stands that is fed with these answers
+  -- where a thread is after these answers
   abbrev pub fed_to : ℕ → Start → List (Answer ℕ) → Pause
   fed_to t s ws = stand code t bound ws (stands t (started s))
 
-  -- a thread of the machine is in the midst of what a thread does that stands on its way from what it was told to what it asks next
+  -- a thread of the machine is in the midst of what a thread does on its way from its last answer to its next question
   abbrev pub Each : Cells → List ValueType → (ℕ → ℕ) → ℕ → Option Answers → Option Thread → Type 0
   Each c σ ρ t None None = Unit {0}
   Each c σ ρ t (Some had) (Some x) =
       (s : Start) × (slice_get code.starts t ≡ Some s) × Known file program σ t had × (y : Thread) × (stands t y ≡ fed_to t s (words ρ had)) × Middle code c t y x
   Each c σ ρ t _ _ = ⊥
 
+  -- A machine follows a state of the source: the relation between the two runs. The machine has the code. Its cells
+  -- hold the store, whose things have the types `sorts`. Each thread is between its last answer and its next question.
   pub record Follows (s : State) (m : Machine) : Type 0 where
     pub sorts : List ValueType
     pub image : m.code ≡ code
@@ -81,6 +89,7 @@ module _ (file : File) (program : Program) (code : Code) (asks : Asks file progr
     pub count : length s.answers ≡ length program.threads
     pub each : (t : ℕ) → Each m.cells sorts (renaming names s.store) t (slice_get s.answers t) (slice_get m.threads t)
 
+  -- what the source does next and a pause of the machine's thread are the same, in words
   abbrev pub InWords : (ℕ → ℕ) → Next → Pause → Type 0
   InWords ρ (Goes a s) (Paused b go) = b ≡ map_action ρ (written ρ) a
   InWords ρ Ended (IsOver mode.Ended) = Unit {0}
@@ -135,6 +144,7 @@ module _ (file : File) (program : Program) (code : Code) (asks : Asks file progr
       (sym (resumed code t bound (words ρ had) (stands t (started s)))
       ∙ ap (λ l. resume code t bound l (stands t (started s))) (sym (answers_words ρ had)) ∙ same ∙ ap told (law had))
 
+  -- such a pause isn't for too long a silence
   pub in_words_loud : (ρ : ℕ → ℕ) (d : Next) (q : Pause) → InWords ρ d q → IsLoud q
   in_words_loud ρ (Goes a s) (Paused b go) h = tt
   in_words_loud ρ (Goes a s) (Passes x) h = tt
@@ -152,11 +162,12 @@ module _ (file : File) (program : Program) (code : Code) (asks : Asks file progr
   in_words_loud ρ Trapped (IsOver m) h = tt
   in_words_loud ρ Trapped IsStuck h = tt
 
-  -- the thread that begins the operation stands where the source says
+  -- the thread that begins the operation is where the source says
   pub stands_so : (σ : List ValueType) (st : Store) (c : Cells) → StoreHolds σ st c → (t : ℕ) (had : Answers) (x : Thread) (each : Each c σ (renaming names st) t (Some had) (Some x)) → InWords (renaming names st) (next file program t had) (stands t each.3)
   stands_so σ st c holds t had x each =
       subst (λ q. InWords (renaming names st) (next file program t had) q) (sym each.4) (asks_words σ st c holds t each.0 had each.1 each.2)
 
+  -- each thread of the machine pauses in time
   pub loud_so : (σ : List ValueType) (st : Store) (c : Cells) → StoreHolds σ st c → (t : ℕ) (had : Answers) (x : Thread) (each : Each c σ (renaming names st) t (Some had) (Some x)) → IsLoud (stands t each.3)
   loud_so σ st c holds t had x each = in_words_loud (renaming names st) (next file program t had) _ (stands_so σ st c holds t had x each)
 
@@ -169,7 +180,7 @@ module _ (file : File) (program : Program) (code : Code) (asks : Asks file progr
   not_stuck ρ Ended h = h
   not_stuck ρ Trapped h = h
 
-  -- the setup has ended in the source where it has in the machine
+  -- if the setup has ended in the machine, it has ended in the source
   over_same : (ρ : ℕ → ℕ) (d : Next) → InWords ρ d (IsOver mode.Ended) → has_ended d ≡ true
   over_same ρ (Goes a s) h = absurd h
   over_same ρ Ended h = refl
@@ -202,6 +213,7 @@ module _ (file : File) (program : Program) (code : Code) (asks : Asks file progr
   or_started false true c e f = f refl
   or_started false false c e f = cc
 
+  -- if a thread of the machine is due, the thread of the source has started
   pub started_back : (s : State) (m : Machine) → Follows s m → (t : ℕ) (x : Thread) → is_due m.threads t x ≡ true → (x.mode ≡ mode.Running) × (has_started file program s t ≡ true)
   started_back s m h t x e =
       let b = and_both (is_running x.mode) _ e in
@@ -231,6 +243,7 @@ module _ (file : File) (program : Program) (code : Code) (asks : Asks file progr
   pub began : (σ : List ValueType) (st : Store) (c : Cells) → StoreHolds σ st c → (t : ℕ) (had : Answers) (x : Thread) (each : Each c σ (renaming names st) t (Some had) (Some x)) → each.3.mode ≡ mode.Running → (b : Action ℕ) (go : Answer ℕ → Option Thread) → whole_move code t each.3 ≡ MoveAsks b go → stands t each.3 ≡ Paused b go
   began σ st c holds t had x each runs b go em = beginning code t bound each.3 b go runs em (loud_so σ st c holds t had x each)
 
+  -- if a thread asks for an operation on a lock, the lock is a thing of the store
   pub lock_of : (σ : List ValueType) (st : Store) (c : Cells) → StoreHolds σ st c → (t : ℕ) (had : Answers) (x : Thread) (each : Each c σ (renaming names st) t (Some had) (Some x)) → each.3.mode ≡ mode.Running → (b : Action ℕ) (go : Answer ℕ → Option Thread) → whole_move code t each.3 ≡ MoveAsks b go → (lock : ℕ) → lock_on b ≡ Some lock → LockThere σ st c lock
   lock_of σ st c holds t had x each runs b go em lock on =
       lock_there σ st c t had each.2 b go lock on (next file program t had) refl
@@ -265,31 +278,38 @@ module _ (file : File) (program : Program) (code : Code) (asks : Asks file progr
   abbrev pub Live : State → source.Entry Value → Type 0
   Live s e = ((ρ' : ℕ → ℕ) → AgreeTo (length s.store.things) (renaming names s.store) ρ' → in_words (renaming names s.store) e ≡ in_words ρ' e) × Says program e.thread e.action
 
+  -- a later state: the store has grown, and each thing has kept its address
   abbrev pub Later : State → State → Type 0
   Later s s' = Grows names s.store s'.store
 
+  -- an entry of the source's trace in words
   abbrev pub write : State → source.Entry Value → Entry
   write s e = in_words (renaming names s.store) e
 
   entry_same : (t : ℕ) (b b' : Action ℕ) (w w' : Answer ℕ) → b ≡ b' → w ≡ w' → ◌≡◌ {A = Entry} (record { thread = t; action = b; answer = w }) (record { thread = t; action = b'; answer = w' })
   entry_same t b b' w w' p q = cc
 
+  -- an entry of the source's trace
   abbrev pub line : ℕ → Action Value → Answer Value → source.Entry Value
   line t a y = record { thread = t; action = a; answer = y }
 
+  -- an entry of the machine's trace
   abbrev pub line_in : ℕ → Action ℕ → Answer ℕ → Entry
   line_in t b w = record { thread = t; action = b; answer = w }
 
+  -- the state after an answer to a thread
   abbrev pub told_to : State → ℕ → Answers → Store → Answer Value → State
   told_to s t had st y = record { store = st; answers = slice_set s.answers t (had ++ y ∷ []) }
 
+  -- the machine after a step of a thread
   abbrev pub went : Machine → ℕ → Thread → Cells → Bool → List Event → Machine
   went m t x c stopped events = record { code = m.code; threads = slice_set m.threads t x; cells = c; stopped = stopped; history = events }
 
+  -- an action of the source in words
   abbrev pub acts_as : State → Action Value → Action ℕ
   acts_as s a = map_action (renaming names s.store) (written (renaming names s.store)) a
 
-  -- a thread goes on, and the source is where it was
+  -- a thread goes on, and the source stays in its place
   pub went_on : (s : State) (m : Machine) (h : Follows s m) (t : ℕ) (had : Answers) (x x' : Thread) (stopped : Bool) (events : List Event) → slice_get s.answers t ≡ Some had → slice_get m.threads t ≡ Some x → Each m.cells h.sorts (renaming names s.store) t (Some had) (Some x') → Follows s (went m t x' m.cells stopped events)
   went_on s m h t had x x' stopped events at there each' = record {
     sorts = h.sorts;
@@ -300,7 +320,7 @@ module _ (file : File) (program : Program) (code : Code) (asks : Asks file progr
         (each_set (Each m.cells h.sorts (renaming names s.store)) s.answers m.threads t had had x x' at there (λ v d. h.each v) each' u);
   }
 
-  -- where an answer leads
+  -- the place to which an answer leads
   some_thread : (ρ : ℕ → ℕ) (t : ℕ) (d : Next) (o : Option Thread) → InWords ρ d (quiet_from code t bound o) → (x : Thread) × (o ≡ Some x)
   some_thread ρ t d None h = absurd (not_stuck ρ d h)
   some_thread ρ t d (Some x) h = (x, refl)
@@ -350,5 +370,6 @@ module _ (file : File) (program : Program) (code : Code) (asks : Asks file progr
       ∙ ap (step_of file s t) (ap (next file program t) here ∙ goes) ∙ ap (performed s t a) does)
       ∙ ap (λ l. Acted (told_to s t l st' y) (line t a y)) here
 
+  -- what an action does agrees with what the machine does for it
   pub agree_here : (s : State) (m : Machine) (h : Follows s m) (t : ℕ) (a : Action Value) (q : Sort) → ActionHas file program h.sorts t a q → Agrees file.classes named code.sizes room h.sorts s.store a q (effect file.classes s.store t a) (cells.effect m.cells t (acts_as s a))
   agree_here s m h t a q has = effects_agree file program code.sizes room small asks.sizes h.sorts s.store m.cells h.holds t a q has

@@ -62,6 +62,7 @@ events_traced code t did.Waits rest = refl
 events_traced code t did.Idle rest = refl
 events_traced code t did.Stopped rest = refl
 
+-- the history of the machine is the events of its trace
 pub history_is : (code : Code) (ts : List ℕ) (m : Machine) → m.code ≡ code → (machine_run m ts).history ≡ m.history ++ events_in code (machine_trace m ts)
 unfolding Adds
 history_is code [] m e = sym (append-nil m.history)
@@ -158,6 +159,7 @@ module _ (program : Program) (code : Code) (calls : (t : ℕ) → calls_of (slic
   AllSay [] = Unit {0}
   AllSay (e ∷ es) = Says program e.thread e.action × AllSay es
 
+  -- the events of a trace in words are those of the source's trace
   pub events_back : (es : List (source.Entry Value)) → AllSay es → events_in code (map (in_words ρ) es) ≡ history_of es
   events_back [] h = refl
   events_back (e ∷ es) h =

@@ -23,7 +23,7 @@ module _ (S M E F : Type 0) (sd : S → ℕ → Stepped S E) (md : M → ℕ →
     pub step : (s : S) (m : M) (t : ℕ) → R s m → Back s m t (md m t)
 
   module _ (laws : Laws) where
-    -- what a whole schedule of the machine comes to
+    -- what a whole schedule of the machine does
     abbrev Whole : S → List ℕ → List F → M → Type 0
     Whole s r fs m' = (R (run sd s r) m') × (fs ≡ map (write (run sd s r)) (trace sd s r)) × Grows s (run sd s r) × Alive (run sd s r) (trace sd s r)
 

@@ -26,6 +26,7 @@ module _ (file : File) (program : Program) (bound : ℕ) (write : State → sour
   Alive s [] = Unit {0}
   Alive s (e ∷ es) = Live s e × Alive s es
 
+  -- what one step owes, so that every schedule that fits has a schedule of the machine
   pub record Laws : Type 0 where
     pub grows_refl : (s : State) → Grows s s
     pub grows_trans : (s s' s'' : State) → Grows s s' → Grows s' s'' → Grows s s''
@@ -62,6 +63,7 @@ module _ (file : File) (program : Program) (bound : ℕ) (write : State → sour
     from_right [] s m h fits = (refl, laws.grows_refl s, tt)
     from_right (t ∷ ts) s m h fits = one_more s m t ts (sd s t) h (laws.step s m t h) (fits_before ts (after s (sd s t)) fits) (λ m1 h1. from_right ts (after s (sd s t)) m1 h1 fits)
 
+    -- the lift: for each schedule of the source that fits, the machine's schedule has the same trace
     pub to_machine_right : (ts : List ℕ) (s : State) (m : Machine) → machine_trace m (setup_end bound m (has_setup_ended file program s)) ≡ [] → RJ s (machine_run m (setup_end bound m (has_setup_ended file program s))) → Fits (run sd s ts) → (machine_trace m (steps_all file program bound s m ts) ≡ map (write (run sd s ts)) (trace sd s ts)) × Alive (run sd s ts) (trace sd s ts)
     to_machine_right ts s m quiet h fits =
         let us = setup_end bound m (has_setup_ended file program s) in

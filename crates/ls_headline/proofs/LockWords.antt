@@ -1,20 +1,24 @@
--- A lock's word that a thread saw, and what it says of the word that stands there now.
+-- A lock's word that a thread saw, and what it says of the word that is there now.
 use Rattle.std.proofs.Common.{◌≡◌, ◌≢◌, ℕ, ◌+◌, ◌-◌, ◌*◌, ◌/◌, ◌%◌, ◌<◌, ◌≤◌, ◌^◌, ◌==◌, Bool, true, false, refl, sym, ap, ◌∙◌, arith, nat_le, if◌then◌else◌}
 use Rattle.std.proofs.lemmas.Bool.Decides.{nat_tests}
 use Rattle.ls_code.specs.Locks.{taken_of, left_of, is_own}
 use Rattle.ls_code.specs.declared.lock_word.Taken.TheVariants as taken
 use Rattle.ls_code.specs.declared.lock_word.Left.TheVariants as left
 
--- what stays true of the word now, whatever the others do: it is the one that was seen where that was the thread's own; else it isn't the thread's
+-- What stays true of the word now, whatever the other threads do. If the word that was seen was the thread's own, it
+-- is still that word. Else it isn't the thread's own.
 abbrev pub Fresh : ℕ → ℕ → ℕ → Type 0
 Fresh t seen now = (is_own seen t ≡ true → now ≡ seen) × (is_own seen t ≡ false → is_own now t ≡ false)
 
+-- a word that was just seen is fresh
 pub fresh_now : (t w : ℕ) → Fresh t w w
 fresh_now t w = (λ h. refl, λ h. h)
 
+-- the word of a free lock is no thread's own
 pub zero_not_own : (t : ℕ) → is_own 0 t ≡ false
 zero_not_own t = grind (arith, nat_tests)
 
+-- a word that is a thread's own has the thread's number and one in its upper bits
 pub own_is : (w t : ℕ) → is_own w t ≡ true → w / 2 ^ 32 ≡ t + 1
 own_is w t h = grind (arith, nat_tests)
 
@@ -37,6 +41,7 @@ taken_test w t a b d ea eb ed =
     ∙ ap (λ z. if a then taken.Taken ((t + 1) * 2 ^ 32 + 1) else (if z then (if nat_le 2147483647 (w % 2 ^ 32) then taken.TooMany else taken.Taken (w + 1)) else taken.Other)) eb
     ∙ ap (λ z. if a then taken.Taken ((t + 1) * 2 ^ 32 + 1) else (if b then (if z then taken.TooMany else taken.Taken (w + 1)) else taken.Other)) ed
 
+-- what `lock()` makes of a word, case by case
 pub taken_by : (w t : ℕ) → TakenBy w t
 taken_by w t = by_cases (w == 0) (is_own w t) (nat_le 2147483647 (w % 2 ^ 32)) refl refl refl
   where
@@ -122,5 +127,6 @@ fresh_apart t seen now next fresh h = (λ o. (let e : now ≡ seen = fresh.0 o i
 pub own_left : (w t : ℕ) → is_own w t ≡ true → left_of w t ≡ left.Left (if nat_le (w % 2 ^ 32) 1 then 0 else w - 1)
 own_left w t h = ap (λ z. if z then left.Left (if nat_le (w % 2 ^ 32) 1 then 0 else w - 1) else left.NotOwner) h
 
+-- a word that isn't a thread's own can't be unlocked by it
 pub not_left : (w t : ℕ) → is_own w t ≡ false → left_of w t ≡ left.NotOwner
 not_left w t h = ap (λ z. if z then left.Left (if nat_le (w % 2 ^ 32) 1 then 0 else w - 1) else left.NotOwner) h

@@ -11,6 +11,7 @@ use Rattle.ls_meaning.specs.Renamings.{IsRenaming, renamed_answers, renamed_next
 use Rattle.ls_meaning.specs.Threads.{Goes, next}
 use Rattle.ls_headline.specs.Sorts.{ActionHas, Known}
 
+-- What the meaning owes: it commutes with renamings, and asks on things of the right types.
 pub record Means (file : File) (program : Program) : Type 0 where
   pub renames : (ρ : ℕ → ℕ) → IsRenaming ρ → (t : ℕ) (had : Answers) → next file program t (renamed_answers ρ had) ≡ renamed_next ρ (next file program t had)
   pub sound : (things : List ValueType) (t : ℕ) (had : Answers) (a : Action Value) (s : Sort) →

@@ -1,4 +1,4 @@
--- Where a thread is read to pause, and where its own instructions pause.
+-- The pauses to which a thread is read, and the pauses of its own instructions.
 use Rattle.std.proofs.Common.{◌≡◌, ℕ, zero, suc, ◌≤◌, Bool, true, false, List, [], ◌∷◌, Option, Some, None, refl, sym, ap, ◌∙◌, subst, arith, ◌⊎◌, inl, inr, if◌then◌else◌, All}
 use Rattle.ls_events.specs.declared.action.Action.{Action}
 use Rattle.ls_events.specs.declared.action.Action.TheVariants as act
@@ -19,6 +19,8 @@ use Rattle.ls_headline.proofs.PartsThere.{Begins, Beginning, there}
 use Rattle.ls_headline.proofs.Exchanging.{asks_plainly}
 use Rattle.ls_headline.proofs.OwnParts.{rest, at}
 
+-- How a pause of the reading and a pause of the thread's own instructions belong together. Both are over, or both ask
+-- for the same. Or the reading begins an operation, and the instructions begin it too. Or the reading is lost.
 pub data Meets (p : Code) (n bound : ℕ) (r o : Pause) : Type 0 where
   BothOver : (m : Mode) → r ≡ IsOver m → o ≡ IsOver m → Meets p n bound r o
   BothAct : (a : Action ℕ) (go : Answer ℕ → Option Thread) → is_on_lock a ≡ false → r ≡ Paused a go → o ≡ Paused a go → Meets p n bound r o
@@ -112,6 +114,7 @@ module _ (p : Code) (number : ℕ) where
   silent_own x u e = subst (Tells x (thread_move p x)) e (move_tells x (thread_move p x))
 
 module _ (p : Code) (n bound : ℕ) where
+  -- a stuck thread is lost, whatever it is fed
   pub stuck_lost : (xs : List (Answer ℕ)) → resume p n bound xs IsStuck ≡ Lost
   stuck_lost [] = refl
   stuck_lost (x ∷ xs) = refl
@@ -178,6 +181,7 @@ module _ (p : Code) (n bound : ℕ) where
     by_mode mode.Ended e = BothOver mode.Ended (ended p n k t e) (own_over j t mode.Ended e (λ f. refl))
     by_mode mode.Trapped e = BothOver mode.Trapped (trapped p n k t e) (own_over j t mode.Trapped e (λ f. refl))
 
+  -- a thread's pauses by the reading and by its own instructions belong together
   pub meets : All IsExchanged p.instructions → (k j : ℕ) (t : Thread) → k ≤ j → MeetsSo (quiet p n k t) (own.quiet p n j t)
   meets exchanged zero j t le =
       by_mode exchanged zero j t (λ u run e. Loses (λ xs.

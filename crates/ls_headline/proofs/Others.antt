@@ -25,7 +25,7 @@ use Rattle.ls_headline.proofs.FieldCases.{thing_is, put_is, cell_is}
 use Rattle.ls_headline.proofs.ThingCases.{held_own}
 use Rattle.ls_headline.proofs.LockWords.{Fresh, fresh_apart, zero_not_own}
 
--- the hold of a thing; what has none is as if it were free
+-- the hold of a thing; a thing without one is as if it were free
 abbrev pub hold_in : Thing → Hold
 hold_in (Object monitor vs) = monitor
 hold_in (LockOf hold) = hold
@@ -225,6 +225,7 @@ can_be_held classes σ (Markable v) (type.Markable c) i h = absurd i
 can_be_held classes σ (Array size items) type.BooleanArray i h = absurd i
 can_be_held classes σ _ _ i h = absurd h
 
+-- the hold of a thing of a type is one that may be
 pub hold_has : (classes : List Class) (σ : List ValueType) (o : Thing) (s : ValueType) → ThingHas classes σ o s → IsHold (hold_in o)
 hold_has classes σ (LockOf g) type.Lock h = h
 hold_has classes σ (Object g vs) (type.Class c) h = h.2
@@ -236,11 +237,12 @@ not_own : (t : ℕ) (g : Hold) → IsHold g → NotHeldBy t g → is_own (hold_w
 not_own t Free h n = zero_not_own t
 not_own t (HeldBy owner holds) h n = (let e : nat_eq owner t ≡ false = grind (arith, nat_tests) in held_own owner holds t h.1 ∙ e)
 
--- a thread has seen a lock's word, and this is so of the word that stands there now
+-- a thread has seen a lock's word, and this holds of the word that is there now
 abbrev pub Sees : Cells → ℕ → ℕ → ℕ → Type 0
 Sees c t lock seen = (now : ℕ) × (cell_at c lock 0 ≡ Some now) × Fresh t seen now
 
 module _ (classes : List Class) (named : List ValueType) (sizes : List ℕ) (room : ℕ) where
+  -- the word of a lock is in the first cell of its thing
   pub word_there : (σ : List ValueType) (st : Store) (c : Cells) → Holds classes named sizes room σ st c → (k : ℕ) (o : Thing) (s : ValueType) → slice_get st.things k ≡ Some o → IsHeldType s → ThingHas classes σ o s → cell_at c (renaming (length named) st (suc k)) 0 ≡ Some (lock_word o)
   word_there σ st c holds k (LockOf g) s at i h = cell_is classes named sizes room σ st c holds k 0 (hold_word g) (LockOf g) at (omega arith) refl
   word_there σ st c holds k (Object g vs) s at i h = cell_is classes named sizes room σ st c holds k 0 (hold_word g) (Object g vs) at (omega arith) refl
@@ -274,14 +276,17 @@ lock_on (act.LockMonitor o) = Some o
 lock_on (act.UnlockMonitor o) = Some o
 lock_on _ = None
 
+-- if an action is on a lock, that lock is a thing that can be held
 abbrev pub LockNamed : List ValueType → Option ℕ → Type 0
 LockNamed σ None = Unit {0}
 LockNamed σ (Some o) = (s : ValueType) × IsHeldType s × Names σ o s
 
+-- the lock of an action after a renaming
 abbrev pub renamed_lock : (ℕ → ℕ) → Option ℕ → Option ℕ
 renamed_lock ρ None = None
 renamed_lock ρ (Some o) = Some (ρ o)
 
+-- a renamed action is on the renamed lock
 pub lock_renamed : (ρ : ℕ → ℕ) (f : Value → ℕ) (a : Action Value) → lock_on (map_action ρ f a) ≡ renamed_lock ρ (lock_on a)
 lock_renamed ρ f (act.ReadField o i) = refl
 lock_renamed ρ f (act.WriteField o i v) = refl
@@ -309,6 +314,7 @@ lock_renamed ρ f (act.Call o) = refl
 lock_renamed ρ f (act.Return o v) = refl
 lock_renamed ρ f (act.Trap o v) = refl
 
+-- an action of the right types is on a thing that can be held
 pub lock_named : (file : File) (program : Program) (σ : List ValueType) (t : ℕ) (a : Action Value) (q : Sort) → ActionHas file program σ t a q → LockNamed σ (lock_on a)
 lock_named file program σ t (act.ReadField o i) q h = tt
 lock_named file program σ t (act.WriteField o i v) q h = tt

@@ -26,6 +26,7 @@ use Rattle.ls_headline.specs.Parts.{one, LockParts, TryParts, UnlockParts, IsPla
 use Rattle.ls_headline.proofs.LockWords.{own_left, not_left}
 use Rattle.ls_headline.proofs.Codes.{Word, IsSee, IsTake, IsDrop, IsAnother, word_of, another, NoPlan, take_there, back_there, drop_there}
 
+-- both parts of an `and` hold
 pub and_both : (a b : Bool) → (a && b) ≡ true → (a ≡ true) × (b ≡ true)
 and_both true true e = (refl, refl)
 and_both true false e = cc
@@ -40,6 +41,7 @@ module _ (p : Code) (n : ℕ) (y : Thread) (a : ℕ) (rest : List ℕ) (top : y.
   pub take_move : (x : ℕ) (w : ℕ) → slice_get p.instructions (y.top.counter + 1) ≡ Some (op.Take x) → thread_move p (seen y w) ≡ Plans (λ n. take_at p (seen y w) n x (top_two (w ∷ y.top.operands)))
   take_move x w e = ap (fetched_move p (seen y w)) e
 
+  -- the plan of TAKE, by what the word allows
   pub take_plan : (x w : ℕ) (o : Action ℕ) (k : Taken) → taking_action x a ≡ Some o → taken_of w n ≡ k → take_at p (seen y w) n x (top_two (w ∷ y.top.operands)) ≡ take_from p (seen y w) x o a w k
   take_plan x w o k eo ek =
       ap (λ l. take_at p (seen y w) n x (top_two (w ∷ l))) top ∙ ap (take_named p (seen y w) n x a w) eo ∙ ap (take_from p (seen y w) x o a w) ek
@@ -56,7 +58,7 @@ module _ (p : Code) (n : ℕ) (y : Thread) (a : ℕ) (rest : List ℕ) (top : y.
   back_is : (c : Cells) → slice_get p.instructions (y.top.counter + 1 + 1) ≡ Some (op.JumpIfFalse y.top.counter) → one p n c (exchanged y 0) ≡ outcome_of y c did.Silent
   back_is c e = ap (performed c n (exchanged y 0)) (ap (fetched_move p (exchanged y 0)) e)
 
-  -- SEE of an operation: where the lock isn't null and the word has room
+  -- SEE of an operation, if the lock isn't null and there is room for the word
   module _ (x : ℕ) (o : Action ℕ) (see : slice_get p.instructions y.top.counter ≡ Some (op.See x)) (plan : see_at p y n x (top_one y.top.operands) ≡ Touches o (act.ReadPair a) (saw p y n x o)) where
     see_is : (c : Cells) (w : ℕ) → cell_at c a 0 ≡ Some w → one p n c y ≡ seen_outcome c y (saw p y n x o w)
     see_is c w ec =
@@ -129,7 +131,8 @@ both_not Still h g = g
 both_not (Asks a go) h g = g
 both_not (Plans go) h g = h
 
--- where an operation begins: the lock's address on top, SEE with this operand, what it does, and the instructions behind it
+-- the beginning of an operation: the lock's address on top, SEE with this operand, what it does, and the instructions
+-- after it
 pub record Begins (p : Code) (n : ℕ) (y : Thread) (x a : ℕ) (o : Action ℕ) (shape : Bool) : Type 0 where
   pub rest : List ℕ
   pub top : y.top.operands ≡ a ∷ rest
@@ -137,6 +140,7 @@ pub record Begins (p : Code) (n : ℕ) (y : Thread) (x a : ℕ) (o : Action ℕ)
   pub plan : see_at p y n x (top_one y.top.operands) ≡ Touches o (act.ReadPair a) (saw p y n x o)
   pub shaped : shape ≡ true
 
+-- where an operation begins, with how it goes on
 abbrev pub Beginning : Code → ℕ → Thread → Action ℕ → (Answer ℕ → Option Thread) → Type 0
 Beginning p n y (act.Lock a) go = Begins p n y 1 a (act.Lock a) (is_locking p 1 y.top.counter) × (go ≡ after_lock p n y)
 Beginning p n y (act.TryLock a) go = Begins p n y 2 a (act.TryLock a) (is_trying p y.top.counter) × (go ≡ after_try p n y)
@@ -157,7 +161,7 @@ module _ (p : Code) (n : ℕ) (y : Thread) (b : Action ℕ) (go : Answer ℕ →
   PartsOf Still = Unit {0}
   PartsOf (Plans g) = Unit {0}
 
-  -- an operation that is read where the instructions behind SEE have its shape
+  -- an operation is read if the instructions after SEE have its shape
   from_shape : (o : Action ℕ) (g : Answer ℕ → Option Thread) (t : Bool) → (t ≡ true → Beginning p n y o g) → PartsOf (if t then Asks o g else Still)
   from_shape o g true f = f refl
   from_shape o g false f = tt
@@ -257,6 +261,7 @@ module _ (p : Code) (n : ℕ) (y : Thread) (b : Action ℕ) (go : Answer ℕ →
   fetched None e h = absurd h
   fetched (Some i) e h = by_word i e h (word_of i)
 
+  -- if the reading asks for an operation, it begins there
   pub there : IsPlanned (thread_move p y) → whole_move p n y ≡ Asks b go → Beginning p n y b go
   there h e = subst PartsOf e (fetched (slice_get p.instructions y.top.counter) refl h)
 
@@ -287,5 +292,6 @@ parts_of p n y (act.Call o) go s = absurd s
 parts_of p n y (act.Return o v) go s = absurd s
 parts_of p n y (act.Trap o v) go s = absurd s
 
+-- the law: the instructions of an operation do what its parts say
 pub parts_are_there : PartsAreThere
 parts_are_there p n y b go h e = parts_of p n y b go (there p n y b go h e)

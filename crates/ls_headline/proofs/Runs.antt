@@ -6,6 +6,7 @@ use Rattle.ls_code.specs.Machine as machine
 use Rattle.ls_code.specs.declared.step.Did.{Did}
 use Rattle.ls_code.specs.declared.step.Did.TheVariants as did
 
+-- what a step of the machine did, as a step of any run
 abbrev pub stepped_so : ℕ → Machine → Did → Stepped Machine Entry
 stepped_so t m did.Silent = Moved m
 stepped_so t m (did.Acted action answer) = Acted m (record { thread = t; action = action; answer = answer })
@@ -13,6 +14,7 @@ stepped_so t m did.Waits = Moved m
 stepped_so t m did.Idle = Moved m
 stepped_so t m did.Stopped = Moved m
 
+-- the machine as something that steps thread by thread
 abbrev pub md : Machine → ℕ → Stepped Machine Entry
 md m t = stepped_so t (machine_step m t).machine (machine_step m t).did
 
@@ -30,10 +32,12 @@ traced_so t m' did.Waits rest = refl
 traced_so t m' did.Idle rest = refl
 traced_so t m' did.Stopped rest = refl
 
+-- its runs are the machine's runs
 pub run_is : (ts : List ℕ) (m : Machine) → run md m ts ≡ machine_run m ts
 run_is [] m = refl
 run_is (t ∷ ts) m = ap (λ z. run md z ts) (after_so t m (machine_step m t).machine (machine_step m t).did) ∙ run_is ts (machine_step m t).machine
 
+-- its traces are the machine's traces
 pub trace_is : (ts : List ℕ) (m : Machine) → trace md m ts ≡ machine_trace m ts
 trace_is [] m = refl
 trace_is (t ∷ ts) m =
@@ -41,6 +45,7 @@ trace_is (t ∷ ts) m =
     ∙ ap (λ z. machine.traced t (machine_step m t).did (trace md z ts)) (after_so t m (machine_step m t).machine (machine_step m t).did)
     ∙ ap (machine.traced t (machine_step m t).did) (trace_is ts (machine_step m t).machine)
 
+-- a run of two schedules, one after the other
 pub run-append : (m : Machine) (ts us : List ℕ) → machine_run m (ts ++ us) ≡ machine_run (machine_run m ts) us
 run-append m [] us = refl
 run-append m (t ∷ ts) us = run-append (machine_step m t).machine ts us
@@ -52,6 +57,7 @@ traced-append t did.Waits xs ys = refl
 traced-append t did.Idle xs ys = refl
 traced-append t did.Stopped xs ys = refl
 
+-- a trace of two schedules, one after the other
 pub trace-append : (m : Machine) (ts us : List ℕ) → machine_trace m (ts ++ us) ≡ machine_trace m ts ++ machine_trace (machine_run m ts) us
 trace-append m [] us = refl
 trace-append m (t ∷ ts) us =

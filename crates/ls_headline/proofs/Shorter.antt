@@ -12,6 +12,7 @@ run-append : (does : State → ℕ → Stepped State (Entry Value)) (s : State) 
 run-append does s [] us = refl
 run-append does s (t ∷ ts) us = run-append does (after s (does s t)) ts us
 
+-- if a schedule fits, its beginnings fit
 pub shorter : (file : File) (program : Program) (cells : ℕ) (ts us : List ℕ) → Fits file program cells (ts ++ us) → Fits file program cells ts
 shorter file program cells ts us h =
     let all : length program.names + total (run (source_step file program) (source_run file program ts) us).store.things ≤ cells =

@@ -162,7 +162,7 @@ module _ (file : File) (program : Program) (code : Code) (asks : Asks file progr
     abbrev Step : machine_steps.Outcome → Type 0
     Step o = BackStep s m t (so t (moved m t o))
 
-    -- a silent instruction: y begins the operation, and x' is where the thread comes to
+    -- a silent instruction: y begins the operation, and x' is where the thread is after it
     abbrev EachOf : Thread → Type 0
     EachOf x = Each m.cells h.sorts (renaming names s.store) t (Some had) (Some x)
 
@@ -181,7 +181,7 @@ module _ (file : File) (program : Program) (code : Code) (asks : Asks file progr
           acting s m h t had x start at there each b go acts c' w ee x_of mids (next file program t had) refl
           (subst (λ q. InWords (renaming names s.store) (next file program t had) q) acts (Following.stands_so file program code asks sound room small h.sorts s.store m.cells h.holds t had x each))
 
-      -- where the thread goes on as its origin does
+      -- if the thread goes on as its origin does
       acts_so : (c' : Cells) (w : Answer ℕ) → cells.effect m.cells t b ≡ cells.Answers c' w → (x' : Thread) → go w ≡ Some x' → Step (machine_steps.outcome_of x' c' (did.Acted b w))
       acts_so c' w ee x' eg =
           let r = acts_here c' w ee (λ z. z) (λ y' e l. (y', refl, Here refl)) in
@@ -450,5 +450,6 @@ module _ (file : File) (program : Program) (code : Code) (asks : Asks file progr
   back_there s m h t None eo = h
   back_there s m h t (Some x) eo = back_open s m h t x eo m.stopped
 
+  -- one step of the machine has its step of the source, or none
   pub step_back : (s : State) (m : Machine) (t : ℕ) → Follows s m → BackStep s m t (md m t)
   step_back s m t h = back_there s m h t (slice_get m.threads t) refl

@@ -76,10 +76,11 @@ module _ (file : File) (program : Program) (code : Code) (asks : Asks file progr
   abbrev moved : Machine → ℕ → machine_steps.Outcome → machine.Stepped
   moved m t o = machine.stepped_by (machine.after m t o) o.did
 
+  -- there is room for what the state has
   abbrev pub Fits : State → Type 0
   Fits s = names + total s.store.things ≤ room
 
-  -- the setup, where there is one, has ended in the machine
+  -- if there is a setup, it has ended in the machine
   abbrev Over : Machine → Type 0
   Over m = (x : Thread) → slice_get m.threads 0 ≡ Some x → machine.has_ended x.mode ≡ true
 
@@ -144,7 +145,7 @@ module _ (file : File) (program : Program) (code : Code) (asks : Asks file progr
   quiet_run zero s m h unstopped x there e = quiet_zero s m h unstopped x there e x.mode refl
   quiet_run (suc n) s m h unstopped x there e = quiet_more n s (quiet_run n s) m h unstopped x there e x.mode refl
 
-  -- where there is no setup
+  -- if there is no setup
   idle_run : (n : ℕ) (s : State) (m : Machine) → Follows s m → m.stopped ≡ false → slice_get m.threads 0 ≡ None → Quiet s (machine_trace m (until_over n m)) (machine_run m (until_over n m))
   idle_run zero s m h unstopped none = (refl, h, unstopped, λ x e. absurd (cc))
   idle_run (suc n) s m h unstopped none =
@@ -174,6 +175,7 @@ module _ (file : File) (program : Program) (code : Code) (asks : Asks file progr
     pub goes : m.stopped ≡ false
     pub over : has_setup_ended file program s ≡ true → Over m
 
+  -- if the setup's source has ended, the setup of the machine comes to its end in silence
   pub setup_made : (s : State) (m : Machine) (h : Follows s m) → m.stopped ≡ false → (b : Bool) → has_setup_ended file program s ≡ b → (machine_trace m (setup_end bound m b) ≡ []) × InStep s (machine_run m (setup_end bound m b))
   setup_made s m h unstopped false e = (refl, record { follows = h; goes = unstopped; over = λ o. absurd (cc) })
   setup_made s m h unstopped true e =
@@ -241,5 +243,6 @@ module _ (file : File) (program : Program) (code : Code) (asks : Asks file progr
   forth_next s m h t true eb Trapped ed = tt
   forth_next s m h t true eb (Goes a q) ed = forth_effect s m h t eb a q ed (effect file.classes s.store t a) refl
 
+  -- one step of the source that fits has its steps of the machine
   pub step_forth : (s : State) (m : Machine) (t : ℕ) → InStep s m → ForthStep s m t (source_step file program s t)
   step_forth s m t h = forth_next s m h t (has_started file program s t) refl (next file program t (answers_of s t)) refl

@@ -65,15 +65,19 @@ module _ (file : File) (program : Program) (code : Code) (asks : Asks file progr
   abbrev bound : ℕ
   bound = most_silent code
 
+  -- the relation between the two runs
   abbrev pub Follows : State → Machine → Type 0
   Follows = Following.Follows file program code asks sound room within.most
 
+  -- what is kept of an entry, whatever is made later
   abbrev pub Live : State → source.Entry Value → Type 0
   Live = Following.Live file program code asks sound room within.most
 
+  -- a later state
   abbrev pub Later : State → State → Type 0
   Later = Following.Later file program code asks sound room within.most
 
+  -- an entry of the source's trace in words
   abbrev pub write : State → source.Entry Value → Entry
   write = Following.write file program code asks sound room within.most
 
@@ -117,6 +121,7 @@ module _ (file : File) (program : Program) (code : Code) (asks : Asks file progr
   back_each σ t (Some had) None h = absurd h
   back_each σ t (Some had) (Some x) h = (h.0, h.1, h.2, x, h.3, Here refl)
 
+  -- the machine at its start follows the source at its start
   pub follows_start : Follows s0 m0
   follows_start = record {
     sorts = steady_start.sorts;
@@ -132,6 +137,7 @@ module _ (file : File) (program : Program) (code : Code) (asks : Asks file progr
   lives : (s s' : State) (e : source.Entry Value) → Live s e → Later s s' → Live s' e
   lives s s' e l g = ((λ ρ a. sym (stable s s' e l g) ∙ l.0 ρ (λ n h. g.places n h ∙ a n (omega (arith, g.things)))), l.1)
 
+  -- what one step of the machine owes holds
   pub back_laws : LiftBack.Laws State Machine (source.Entry Value) Entry sd md (λ f. f.thread) write Follows Later Live
   back_laws = record {
     grows_refl = λ s. grows_refl file program names s.store;
@@ -179,7 +185,7 @@ module _ (file : File) (program : Program) (code : Code) (asks : Asks file progr
       let agree : AgreeTo (length last.store.things) (renaming names last.store) (numbered (births fs)) = subst (λ l. AgreeTo (length last.store.things) (renaming names last.store) (numbered l)) all (numbered_agrees names last.store.things) in
       e ∙ rewritten last (numbered (births fs)) (trace sd s0 ts) agree alive
 
-  -- both come to the same
+  -- both have the same outcome
   alike : (rs ts : List ℕ) (fs : List Entry) → names + total (run sd s0 ts).store.things ≤ room → machine_trace m0 rs ≡ fs → fs ≡ map (write (run sd s0 ts)) (trace sd s0 ts) → Alive (run sd s0 ts) (trace sd s0 ts) → Alike file program code room rs ts
   alike rs ts fs fits is e alive =
       record {
@@ -207,6 +213,7 @@ module _ (file : File) (program : Program) (code : Code) (asks : Asks file progr
       let r = LiftForth.to_machine_right file program bound write InStep Later Live FitsNow forth_laws ts s0 m0 made.0 made.1 fits' in
       alike (to_machine file program code room ts) ts _ fits' refl r.0 (same_alive (run sd s0 ts) (trace sd s0 ts) r.1)
 
+-- the theorem: an image that asks what its source asks is the same as its source
 pub same_right : (file : File) (program : Program) (code : Code) → Asks file program code → Means file program → Same file program code
 same_right file program code asks sound = record {
   threads = same_length code.starts program.threads asks.threads;

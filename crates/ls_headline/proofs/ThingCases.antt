@@ -78,6 +78,7 @@ held_left owner holds t b d eb ed h =
 free_left : (t : ℕ) → left_of 0 t ≡ left.NotOwner
 free_left t = let e : (0 == t + 1) ≡ false = grind (arith, nat_tests) in ap (λ b. if b then left.Left (if nat_le (0 % 2 ^ 32) 1 then 0 else 0 - 1) else left.NotOwner) e
 
+-- a word is a thread's own if the thread is its owner
 pub held_own : (owner holds t : ℕ) → holds ≤ 2147483647 → is_own (held_word owner holds) t ≡ nat_eq owner t
 held_own owner holds t h =
     let e2 : held_word owner holds / 2 ^ 32 ≡ owner + 1 = omega arith in
@@ -174,6 +175,7 @@ module _ (classes : List Class) (named : List ValueType) (sizes : List ℕ) (roo
   size_cell : (n size : ℕ) (items : ℕ → Value) → slice_get st.things n ≡ Some (Array size items) → cell_at c (ρ (suc n)) 0 ≡ Some size
   size_cell n size items at = cell_is n 0 size (Array size items) at (omega arith) refl
 
+  -- a read of an item
   pub item_case : (t n : ℕ) (i : ℤ) (o : Thing) → slice_get st.things n ≡ Some o → ThingHas classes σ o type.BooleanArray → Agree (ReadItem (suc n) i) (ValueOf type.Boolean) (on_thing st (suc n) t (ReadItem (suc n) i)) (machine.effect c t (ReadItem (ρ (suc n)) i))
   item_case t n (pos k) (Array size items) at has =
       agree_at (ReadItem (suc n) (pos k)) (ValueOf type.Boolean) _ _ _ _
@@ -211,6 +213,7 @@ module _ (classes : List Class) (named : List ValueType) (sizes : List ℕ) (roo
       (back_is st n (Array size items) (Fails ArrayIndexOutOfBounds)) refl
       (unchanged (WriteItem (suc n) (pos k) v) NoValue n (Array size items) (Fails ArrayIndexOutOfBounds) (Fails ArrayIndexOutOfBounds) at refl refl)
 
+  -- a write of an item
   pub set_item_case : (t n : ℕ) (i : ℤ) (v : Value) → slice_get σ n ≡ Some type.BooleanArray → HasType σ v type.Boolean → (o : Thing) → slice_get st.things n ≡ Some o → ThingHas classes σ o type.BooleanArray → Agree (WriteItem (suc n) i v) NoValue (on_thing st (suc n) t (WriteItem (suc n) i v)) (machine.effect c t (WriteItem (ρ (suc n)) i (written ρ v)))
   set_item_case t n (pos k) v sort hv (Array size items) at has =
       agree_at (WriteItem (suc n) (pos k) v) NoValue _ _ _ _
@@ -236,7 +239,7 @@ module _ (classes : List Class) (named : List ValueType) (sizes : List ℕ) (roo
   unlocked_by a (left.Left next) = machine.written c a 0 next Done
   unlocked_by a left.NotOwner = machine.Answers c (Fails IllegalMonitorState)
 
-  -- a hold that is taken where it can be, and else does this
+  -- a hold is taken if it can be; else this happens
   abbrev locking_as : ℕ → Answer Value → (ℕ → ℕ → Holding) → Hold → Holding
   locking_as t x away Free = Becomes (HeldBy t 1) x
   locking_as t x away (HeldBy owner holds) = if nat_eq owner t then (if nat_lt holds 2147483647 then Becomes (HeldBy t (holds + 1)) x else Becomes (HeldBy t holds) (Fails Error)) else away owner holds
@@ -320,6 +323,7 @@ module _ (classes : List Class) (named : List ValueType) (sizes : List ℕ) (roo
         (ap (λ z. on_cell z (λ word. unlocked_by (ρ (suc n)) (left_of word t))) (hold_is (HeldBy owner holds) at) ∙ ap (unlocked_by (ρ (suc n))) (held_left owner holds t (nat_eq owner t) (nat_lt 1 holds) refl refl has.1))
         (unlock_mine a t owner holds fail at has (nat_eq owner t) (nat_lt 1 holds) refl refl)
 
+  -- `lock()`
   pub lock_case : (t n : ℕ) → slice_get σ n ≡ Some type.Lock → (o : Thing) → slice_get st.things n ≡ Some o → ThingHas classes σ o type.Lock → Agree (Lock (suc n)) NoValue (on_thing st (suc n) t (Lock (suc n))) (machine.effect c t (Lock (ρ (suc n))))
   lock_case t n sort (LockOf h) at has =
       agree_at (Lock (suc n)) NoValue _ _ _ (machine.effect c t (Lock (ρ (suc n)))) (on_is st n t (Lock (suc n)) (LockOf h) at) refl
@@ -328,6 +332,7 @@ module _ (classes : List Class) (named : List ValueType) (sizes : List ℕ) (roo
   lock_case t n sort (Markable v) at has = absurd has
   lock_case t n sort (Array m items) at has = absurd has
 
+  -- `tryLock()`
   pub try_case : (t n : ℕ) → slice_get σ n ≡ Some type.Lock → (o : Thing) → slice_get st.things n ≡ Some o → ThingHas classes σ o type.Lock → Agree (TryLock (suc n)) (ValueOf type.Boolean) (on_thing st (suc n) t (TryLock (suc n))) (machine.effect c t (TryLock (ρ (suc n))))
   try_case t n sort (LockOf h) at has =
       agree_at (TryLock (suc n)) (ValueOf type.Boolean) _ _ _ (machine.effect c t (TryLock (ρ (suc n)))) (on_is st n t (TryLock (suc n)) (LockOf h) at) refl
@@ -336,6 +341,7 @@ module _ (classes : List Class) (named : List ValueType) (sizes : List ℕ) (roo
   try_case t n sort (Markable v) at has = absurd has
   try_case t n sort (Array m items) at has = absurd has
 
+  -- `unlock()`
   pub unlock_case : (t n : ℕ) → slice_get σ n ≡ Some type.Lock → (o : Thing) → slice_get st.things n ≡ Some o → ThingHas classes σ o type.Lock → Agree (Unlock (suc n)) NoValue (on_thing st (suc n) t (Unlock (suc n))) (machine.effect c t (Unlock (ρ (suc n))))
   unlock_case t n sort (LockOf h) at has =
       agree_at (Unlock (suc n)) NoValue _ _ _ (machine.effect c t (Unlock (ρ (suc n)))) (on_is st n t (Unlock (suc n)) (LockOf h) at) refl
@@ -344,6 +350,7 @@ module _ (classes : List Class) (named : List ValueType) (sizes : List ℕ) (roo
   unlock_case t n sort (Markable v) at has = absurd has
   unlock_case t n sort (Array m items) at has = absurd has
 
+  -- the lock of a monitor
   pub monitor_case : (t n k : ℕ) → slice_get σ n ≡ Some (type.Class k) → (o : Thing) → slice_get st.things n ≡ Some o → ThingHas classes σ o (type.Class k) → Agree (LockMonitor (suc n)) NoValue (on_thing st (suc n) t (LockMonitor (suc n))) (machine.effect c t (LockMonitor (ρ (suc n))))
   monitor_case t n k sort (Object h vs) at has =
       agree_at (LockMonitor (suc n)) NoValue _ _ _ (machine.effect c t (LockMonitor (ρ (suc n)))) (on_is st n t (LockMonitor (suc n)) (Object h vs) at) refl
@@ -352,6 +359,7 @@ module _ (classes : List Class) (named : List ValueType) (sizes : List ℕ) (roo
   monitor_case t n k sort (Markable v) at has = absurd has
   monitor_case t n k sort (Array m items) at has = absurd has
 
+  -- the unlock of a monitor
   pub leave_case : (t n k : ℕ) → slice_get σ n ≡ Some (type.Class k) → (o : Thing) → slice_get st.things n ≡ Some o → ThingHas classes σ o (type.Class k) → Agree (UnlockMonitor (suc n)) NoValue (on_thing st (suc n) t (UnlockMonitor (suc n))) (machine.effect c t (UnlockMonitor (ρ (suc n))))
   leave_case t n k sort (Object h vs) at has =
       agree_at (UnlockMonitor (suc n)) NoValue _ _ _ (machine.effect c t (UnlockMonitor (ρ (suc n)))) (on_is st n t (UnlockMonitor (suc n)) (Object h vs) at) refl
@@ -360,6 +368,7 @@ module _ (classes : List Class) (named : List ValueType) (sizes : List ℕ) (roo
   leave_case t n k sort (Markable v) at has = absurd has
   leave_case t n k sort (Array m items) at has = absurd has
 
+  -- isHeldByCurrentThread()
   pub held_case : (t n : ℕ) → (o : Thing) → slice_get st.things n ≡ Some o → ThingHas classes σ o type.Lock → Agree (IsHeld (suc n)) (ValueOf type.Boolean) (on_thing st (suc n) t (IsHeld (suc n))) (machine.effect c t (IsHeld (ρ (suc n))))
   held_case t n (LockOf Free) at has =
       let e : is_own 0 t ≡ false = grind (arith, nat_tests) in
@@ -389,6 +398,7 @@ module _ (classes : List Class) (named : List ValueType) (sizes : List ℕ) (roo
       agree_at a s _ _ _ _ (back_is st n (Markable v) x) (write_is n 0 (written ρ v) (Markable u) w at (omega arith))
       (one_cell n 0 (written ρ v) (Markable u) (Markable v) (type.Markable k) at sort hv refl (omega arith) refl a s x w suit word)
 
+  -- a pair is set
   pub set_case : (t n k : ℕ) (v : Value) → slice_get σ n ≡ Some (type.Markable k) → HasSortBy (Refers σ) v (PairOf k) → (o : Thing) → slice_get st.things n ≡ Some o → ThingHas classes σ o (type.Markable k) → Agree (SetPair (suc n) v) NoValue (on_thing st (suc n) t (SetPair (suc n) v)) (machine.effect c t (SetPair (ρ (suc n)) (written ρ v)))
   set_case t n k v sort hv (Markable u) at has =
       agree_at (SetPair (suc n) v) NoValue _ _ _ (machine.effect c t (SetPair (ρ (suc n)) (written ρ v))) (on_is st n t (SetPair (suc n) v) (Markable u) at) refl
@@ -407,13 +417,14 @@ module _ (classes : List Class) (named : List ValueType) (sizes : List ℕ) (roo
   swap_eq r er k m em h g =
       ap (λ w. w == written ρ (Pair er em)) (plain (ρ r) m (address_small r k h)) ∙ ap (λ w. 2 * ρ r + bool_word m == w) (plain (ρ er) em (address_small er k g)) ∙ pair_eq r er m em
 
-  -- a pair is set where a test holds, and else left as it is
+  -- a pair is set if a test holds, and else left as it is
   set_where : (a : Action Value) (n k : ℕ) (v u : Value) → slice_get σ n ≡ Some (type.Markable k) → HasSortBy (Refers σ) v (PairOf k) → slice_get st.things n ≡ Some (Markable u) → (b : Bool) → Agree a (ValueOf type.Boolean) (put_back st (suc n) (if b then Leaves (Markable v) (Gives (Boolean true)) else Leaves (Markable u) (Gives (Boolean false)))) (if b then machine.written c (ρ (suc n)) 0 (written ρ v) (Gives 1) else machine.Answers c (Gives 0))
   set_where a n k v u sort hv at true = set_cell a (ValueOf type.Boolean) n k v u (Gives (Boolean true)) (Gives 1) sort hv at tt refl
   set_where a n k v u sort hv at false =
       agree_at a (ValueOf type.Boolean) _ _ _ (machine.Answers c (Gives 0)) (back_is st n (Markable u) (Gives (Boolean false))) refl
       (unchanged a (ValueOf type.Boolean) n (Markable u) (Gives (Boolean false)) (Gives 0) at tt refl)
 
+  -- compareAndSet
   pub swap_case : (t n k : ℕ) (e v : Value) → slice_get σ n ≡ Some (type.Markable k) → HasSortBy (Refers σ) e (PairOf k) → HasSortBy (Refers σ) v (PairOf k) → (o : Thing) → slice_get st.things n ≡ Some o → ThingHas classes σ o (type.Markable k) → Agree (SwapPair (suc n) e v) (ValueOf type.Boolean) (on_thing st (suc n) t (SwapPair (suc n) e v)) (machine.effect c t (SwapPair (ρ (suc n)) (written ρ e) (written ρ v)))
   swap_case t n k (Pair er em) v sort he hv (Markable (Pair r m)) at has =
       agree_at (SwapPair (suc n) (Pair er em) v) (ValueOf type.Boolean) _ _ _ _ (on_is st n t (SwapPair (suc n) (Pair er em) v) (Markable (Pair r m)) at)
@@ -435,6 +446,7 @@ module _ (classes : List Class) (named : List ValueType) (sizes : List ℕ) (roo
       by_test (inl a) = eq-eqb (ρ r) (ρ q) (ap ρ a.1) ∙ sym a.0
       by_test (inr a) = differ (ρ r) (ρ q) (λ e. a.1 (address_one (length named) st.things r q e)) ∙ sym a.0
 
+  -- attemptMark
   pub mark_case : (t n k q : ℕ) (m : Bool) → slice_get σ n ≡ Some (type.Markable k) → Refers σ q (type.Class k) → (o : Thing) → slice_get st.things n ≡ Some o → ThingHas classes σ o (type.Markable k) → Agree (AttemptMark (suc n) q m) (ValueOf type.Boolean) (on_thing st (suc n) t (AttemptMark (suc n) q m)) (machine.effect c t (AttemptMark (ρ (suc n)) (ρ q) m))
   mark_case t n k q m sort hq (Markable (Pair r u)) at has =
       agree_at (AttemptMark (suc n) q m) (ValueOf type.Boolean) _ _ _ _ (on_is st n t (AttemptMark (suc n) q m) (Markable (Pair r u)) at)

@@ -110,6 +110,7 @@ abbrev pub Makes : Store → Effect → Type 0
 Makes st Waits = Unit {0}
 Makes st (Does st' y) = (k : ℕ) × (sizes_of st'.things ≡ sizes_of st.things ++ k ∷ []) × (length st'.things ≡ suc (length st.things)) × (y ≡ Gives (Reference (suc (length st.things))))
 
+-- what an action keeps of the sizes of things: a making has one more thing, any other keeps all sizes
 abbrev pub Kept : Store → Action Value → Effect → Type 0
 Kept st (New k) d = Makes st d
 Kept st NewLock d = Makes st d
@@ -141,6 +142,7 @@ module _ (st : Store) where
       subst (λ p. Keeps st (at_thing st zero p (change t a))) (sym e) refl
   on_keeps (suc n) t a = subst (λ p. Keeps st (at_thing st (suc n) p (change t a))) (sym (thing_is st n)) (thing_keeps n t a (slice_get st.things n) refl)
 
+  -- each action keeps that
   pub keeps : (classes : List Class) (t : ℕ) (a : Action Value) → Kept st a (effect classes st t a)
   keeps classes t (ReadField n f) = on_keeps n t (ReadField n f)
   keeps classes t (WriteField n f v) = on_keeps n t (WriteField n f v)

@@ -1,5 +1,5 @@
--- The words of locks and the outcomes of exchanges that a thread of the image is fed with by its own instructions, and the
--- answers of its operations that they come to.
+-- A thread of the image is fed, by its own instructions, with the words of locks and the outcomes of exchanges. The
+-- answers of its operations follow from these.
 use Rattle.std.specs.Prelude.{◌≡◌, ◌≢◌, ℕ, ◌≤◌, List, [], ◌∷◌, map, Option, Some, None, Bool, true, false, ◌==◌, if◌then◌else◌, slice_get}
 use Rattle.std.specs.List.{All}
 use Rattle.ls_events.specs.declared.kind.Kind.TheVariants.{IllegalMonitorState, Error}
@@ -43,13 +43,13 @@ is_on_lock (act.LockMonitor object) = true
 is_on_lock (act.UnlockMonitor object) = true
 is_on_lock a = false
 
--- what the next of the words is for: for the action of a pause, or for the exchange of an operation that has seen a word
--- that it can take
+-- what the next word is for: the action of a pause, or an exchange after the operation has seen a word that it can
+-- take
 pub data Stage : Type 0 where
   Waits : (pause : Pause) → Stage
   Exchanges : (operation : Action ℕ) → (go : Answer ℕ → Option Thread) → Stage
 
--- the answers, where the words are such words
+-- the answers, if the words are such words
 abbrev pub Read : Type 0
 Read = Option (List (Answer ℕ))
 
@@ -61,11 +61,11 @@ in_front x (Some xs) = Some (x ∷ xs)
 abbrev pub ends_with : Code → ℕ → ℕ → (Answer ℕ → Option Thread) → Answer ℕ → (Stage → Read) → Read
 ends_with p n bound go x next = in_front x (next (Waits (quiet_from p n bound (go x))))
 
--- a lock that is held the most times has one word
+-- if a lock is held the most times, it has one word
 abbrev pub too_many : Code → ℕ → ℕ → (Answer ℕ → Option Thread) → ℕ → (Stage → Read) → Read
 too_many p n bound go word next = if word == full_word n then ends_with p n bound go (Fails Error) next else None
 
--- `lock()`, and the lock of a monitor, looks again where another thread is the owner; `tryLock()` is over then
+-- if another thread is the owner, `lock()`, and the lock of a monitor, looks again; `tryLock()` is over then
 abbrev pub seen_by_lock : Code → ℕ → ℕ → Action ℕ → (Answer ℕ → Option Thread) → ℕ → Taken → (Stage → Read) → Read
 seen_by_lock p n bound a go word (taken.Taken changed) next = next (Exchanges a go)
 seen_by_lock p n bound a go word taken.Other next = next (Waits (Paused a go))
@@ -87,7 +87,7 @@ sees p n bound (act.UnlockMonitor object) go word next =
     if is_own word n then ends_with p n bound go Done next else ends_with p n bound go (Fails IllegalMonitorState) next
 sees p n bound a go word next = None
 
--- the outcome of TAKE: 1 where it is won; `lock()` looks again where it is lost
+-- the outcome of TAKE: 1 if it is won; if it is lost, `lock()` looks again
 abbrev pub exchanges : Code → ℕ → ℕ → Action ℕ → (Answer ℕ → Option Thread) → ℕ → (Stage → Read) → Read
 exchanges p n bound (act.Lock lock) go won next =
     if won == 1 then ends_with p n bound go Done next else next (Waits (Paused (act.Lock lock) go))
@@ -111,20 +111,22 @@ comes p n bound x (Waits IsStuck) next = in_front x (next (Waits IsStuck))
 comes p n bound x (Waits TooLong) next = in_front x (next (Waits TooLong))
 comes p n bound x (Exchanges a go) next = on_word x (λ won. exchanges p n bound a go won next)
 
--- the answers that words and outcomes come to
+-- the answers that follow from words and outcomes
 abbrev pub come_to : Code → ℕ → ℕ → List (Answer ℕ) → Stage → Read
 come_to p n bound [] stage = Some []
 come_to p n bound (x ∷ xs) stage = comes p n bound x stage (come_to p n bound xs)
 
--- A thread of code that takes locks by exchange alone, fed with words and outcomes by its own instructions, comes to what
--- it is read to come to after the answers: but where that is lost, since SEE counts as a silent instruction there.
+-- Take a thread of code that takes locks by exchange alone. Fed by its own instructions with words and outcomes, it
+-- does what it is read to do after the answers. This is said only if it isn't read to be lost, since the reading
+-- counts SEE as a silent instruction.
 abbrev pub FedByWords : Type 0
 FedByWords =
     (p : Code) (n bound k : ℕ) (t : Thread) (words answers : List (Answer ℕ)) → All IsExchanged p.instructions → 2 ≤ bound →
     come_to p n bound words (Waits (quiet p n k t)) ≡ Some answers → fed p n bound k t answers ≢ Lost →
     own.fed p n bound k t words ≡ fed p n bound k t answers
 
--- fed with words and outcomes that come to answers in kind, a thread asks by its own instructions what the source asks next
+-- if words and outcomes give answers in kind, a thread that is fed with them asks by its own instructions what the
+-- source asks next
 abbrev pub AsksByWords : File → Program → Code → Type 0
 AsksByWords file program code =
     (t : ℕ) (s : Start) (had : Answers) (words : List (Answer ℕ)) → slice_get code.starts t ≡ Some s → InKind file program t had →

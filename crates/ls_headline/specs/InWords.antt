@@ -11,15 +11,15 @@ use Rattle.ls_meaning.specs.Steps as source
 use Rattle.ls_code.specs.Machine as machine
 use Rattle.ls_code.specs.Words.{word_of as int_word, bool_word, pair_word}
 
--- the word of a value: an int modulo 2 ^ 32, a boolean 0 or 1, a reference its address and null 0, a pair twice the
--- address and the mark
+-- The word of a value. An int gives its value modulo 2 ^ 32, a boolean 0 or 1, and null 0. A reference gives its
+-- address. A pair gives twice the address plus the mark.
 abbrev pub word_of : Value → ℕ
 word_of (Int z) = int_word z
 word_of (Boolean b) = bool_word b
 word_of (Reference n) = n
 word_of (Pair n m) = pair_word n (bool_word m)
 
--- the word of a value, where object n stands at address ρ n
+-- the word of a value, if object n is at address ρ n
 abbrev pub written : (ℕ → ℕ) → Value → ℕ
 written ρ v = word_of (renamed ρ v)
 
@@ -27,7 +27,8 @@ abbrev pub map_option : {V W : Type 0} → (V → W) → Option V → Option W
 map_option f None = None
 map_option f (Some v) = Some (f v)
 
--- an action with its objects and its values replaced, and a field by its cell: an object's first cell is its monitor's
+-- An action with its objects and its values replaced, and a field by its cell. The first cell of an object is that of
+-- its monitor.
 abbrev pub map_action : {V W : Type 0} → (ℕ → ℕ) → (V → W) → Action V → Action W
 map_action ρ f (ReadField o i) = ReadField (ρ o) (i + 1)
 map_action ρ f (WriteField o i v) = WriteField (ρ o) (i + 1) (f v)
@@ -60,11 +61,11 @@ map_answer f Done = Done
 map_answer f (Gives v) = Gives (f v)
 map_answer f (Fails k) = Fails k
 
--- a line of the source's trace in words, where object n stands at address ρ n
+-- a line of the source's trace in words, if object n is at address ρ n
 abbrev pub in_words : (ℕ → ℕ) → source.Entry Value → machine.Entry
 in_words ρ e = record { thread = e.thread; action = map_action ρ (written ρ) e.action; answer = map_answer (written ρ) e.answer }
 
--- a making's answer, in front of the others
+-- the answer of a making, put before the others
 abbrev pub born : Action ℕ → Answer ℕ → List ℕ → List ℕ
 born (New c) (Gives a) rest = a ∷ rest
 born NewLock (Gives a) rest = a ∷ rest
@@ -84,7 +85,7 @@ numbered [] (suc n) = 0
 numbered (a ∷ places) (suc zero) = a
 numbered (a ∷ places) (suc (suc n)) = numbered places (suc n)
 
--- the objects up to the k-th, and null, have addresses that differ, and that have room in a word beside a mark
+-- the objects up to the k-th, and null, have different addresses, for which there is room in a word beside a mark
 pub record ArePlaces (k : ℕ) (ρ : ℕ → ℕ) : Type 0 where
   pub distinct : (m n : ℕ) → m ≤ k → n ≤ k → ρ m ≡ ρ n → m ≡ n
   pub small : (n : ℕ) → n ≤ k → ρ n < 2 ^ 32

@@ -20,7 +20,7 @@ use Rattle.ls_code.specs.Reading.{seen, exchanged, after_lock, after_try, after_
 abbrev pub one : Code → ℕ → Cells → Thread → Outcome
 one p n c x = performed c n x (thread_move p x)
 
--- of an operation that locks, and of one that unlocks
+-- the instructions of an operation that locks, of `tryLock()`, and of an operation that unlocks
 pub record LockParts (p : Code) (n : ℕ) (y : Thread) (a : ℕ) (b : Action ℕ) : Type 0 where
   pub see : (c : Cells) (w : ℕ) → cell_at c a 0 ≡ Some w → one p n c y ≡ outcome_of (seen y w) c did.Silent
   pub other : (c : Cells) (w : ℕ) → taken_of w n ≡ taken.Other → one p n c (seen y w) ≡ outcome_of (exchanged y 0) c did.Silent
@@ -36,7 +36,7 @@ pub record TryParts (p : Code) (n : ℕ) (y : Thread) (a : ℕ) : Type 0 where
   pub full : (c : Cells) (w : ℕ) → taken_of w n ≡ taken.TooMany → one p n c (seen y w) ≡ ended_so c (seen y w) (throwing p (seen y w) Error) (did.Acted (act.TryLock a) (Fails Error))
   pub won : (c d : Cells) (w next : ℕ) → taken_of w n ≡ taken.Taken next → effect c n (act.SwapPair a w next) ≡ Answers d (Gives 1) → one p n c (seen y w) ≡ outcome_of (exchanged y 1) d (did.Acted (act.TryLock a) (Gives 1))
   pub lost : (c d : Cells) (w next : ℕ) → taken_of w n ≡ taken.Taken next → effect c n (act.SwapPair a w next) ≡ Answers d (Gives 0) → one p n c (seen y w) ≡ outcome_of (exchanged y 0) d (did.Acted (act.TryLock a) (Gives 0))
-  -- after a false at SEE, in the machine and in the reading
+  -- what comes after TAKE if another thread owns the lock, in the machine and in the reading
   pub told : (c : Cells) (w : ℕ) → taken_of w n ≡ taken.Other → one p n c (seen y w) ≡ outcome_of (exchanged y 0) c did.Silent
   pub told_whole : (w : ℕ) → taken_of w n ≡ taken.Other → whole_move p n (seen y w) ≡ Silent (exchanged y 0)
 
@@ -57,6 +57,6 @@ Parts p n y (act.LockMonitor a) go = LockParts p n y a (act.LockMonitor a) × (g
 Parts p n y (act.UnlockMonitor a) go = UnlockParts p n y a (act.UnlockMonitor a) × (go ≡ after_unlock p y)
 Parts p n y _ go = ⊥
 
--- where the reading asks for an operation at SEE, its instructions do this
+-- if the reading asks for an operation at SEE, the instructions of that operation do this
 abbrev pub PartsAreThere : Type 0
 PartsAreThere = (p : Code) (n : ℕ) (y : Thread) (b : Action ℕ) (go : Answer ℕ → Option Thread) → IsPlanned (thread_move p y) → whole_move p n y ≡ Asks b go → Parts p n y b go

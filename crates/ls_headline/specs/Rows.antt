@@ -22,11 +22,11 @@ WordsOfValues = (word_of (Int (negsuc 0)) ≡ 4294967295) × (word_of (Boolean t
 abbrev pub CellsOfThings : Type 0
 CellsOfThings = total (Object Free [] ∷ LockOf Free ∷ Array 3 (λ i. Boolean false) ∷ []) ≡ 6
 
--- each acting instruction is one source step; a step that isn't due yet, a silent one and one after the end are none
+-- each acting instruction is one source step; a step that isn't due, a silent step and a step after the end are none
 abbrev pub ScheduleToSource : Type 0
 ScheduleToSource = to_source code 9 (1 ∷ replicate 8 0 ++ replicate 15 1) ≡ replicate 5 0 ++ replicate 6 1
 
--- the instructions up to each acting one, and the setup's last, silent one with its return
+-- the instructions up to each acting one, and at the end of the setup its silent last step too
 abbrev pub ScheduleToMachine : Type 0
 ScheduleToMachine = to_machine file program code 9 (1 ∷ replicate 5 0 ++ replicate 7 1) ≡ replicate 8 0 ++ replicate 12 1
 
@@ -34,11 +34,11 @@ ScheduleToMachine = to_machine file program code 9 (1 ∷ replicate 5 0 ++ repli
 abbrev pub BirthsOfRun : Type 0
 BirthsOfRun = births (machine_trace (loaded code 9) (replicate 8 0 ++ replicate 12 1)) ≡ 2 ∷ 3 ∷ []
 
--- object 1 stands at 2 and object 2 at 3
+-- object 1 is at address 2 and object 2 at address 3
 abbrev pub NumbersOfBirths : Type 0
 NumbersOfBirths = (numbered (2 ∷ 3 ∷ []) 0 ≡ 0) × (numbered (2 ∷ 3 ∷ []) 1 ≡ 2) × (numbered (2 ∷ 3 ∷ []) 2 ≡ 3)
 
--- a making isn't answered null, nor done, nor by an exception; what is read of a name may be null
+-- a making isn't answered by null, by "done" or by an exception; what is read of a name may be null
 abbrev pub AnswersInKind : Type 0
 AnswersInKind =
     (InKind file program 0 (Done ∷ Gives (Reference 0) ∷ []) → ⊥)
@@ -51,7 +51,8 @@ AnswersInKind =
 abbrev pub RoomOfRun : Type 0
 RoomOfRun = Fits file program 3 (replicate 5 0 ++ replicate 6 1) × (Fits file program 2 (replicate 5 0 ++ replicate 6 1) → ⊥)
 
--- thread 1 sees the lock held by thread 2, then free, and loses its exchange; it sees it free again, and wins
+-- Thread 1 sees that thread 2 holds the lock, then that the lock is free, and loses its exchange. It sees again that
+-- the lock is free, and wins.
 abbrev pub WordsOfLock : Type 0
 WordsOfLock =
     come_to code 1 9 (Done ∷ Gives 2 ∷ Done ∷ Gives 3 ∷ Gives 12884901889 ∷ Gives 0 ∷ Gives 0 ∷ Gives 0 ∷ Gives 1 ∷ [])

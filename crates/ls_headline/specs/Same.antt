@@ -11,7 +11,7 @@ use Rattle.ls_headline.specs.InWords.{births, numbered, ArePlaces, Agree}
 use Rattle.ls_headline.specs.Threads.{object_cells}
 use Rattle.ls_headline.specs.Translations.{to_source, to_machine}
 
--- the cells of a thing: an object 1 and its fields, a lock 1, a markable 1, an array 1 and its items
+-- the cells of a thing: an object has 1 and its fields, a lock 1, a markable 1, an array 1 and its items
 abbrev pub size_of : Thing → ℕ
 size_of (Object monitor fields) = object_cells (length fields)
 size_of (LockOf hold) = 1
@@ -22,7 +22,7 @@ abbrev pub total : List Thing → ℕ
 total [] = 0
 total (o ∷ os) = size_of o + total os
 
--- the setup names, and all that a schedule makes, have room in so many cells
+-- there is room in this many cells for the setup names and for all that a schedule makes
 abbrev pub Fits : File → Program → ℕ → List ℕ → Type 0
 Fits file program cells schedule = length program.names + total (source_run file program schedule).store.things ≤ cells
 
@@ -32,16 +32,17 @@ pub record IsCells (code : Code) (cells : ℕ) : Type 0 where
   pub most : cells ≤ most_cells
   pub names : code.names ≤ cells
 
--- A schedule of the machine with so many cells, and one of the source, come to the same: the actions in their order with
--- their answers, the machine's in words; and the events, with the values that calls return. The makings have answered
--- different addresses, none of them 0, so that a word names one object.
+-- A schedule of the machine with this many cells, and a schedule of the source, have the same outcome. The actions are
+-- the same, in order and with their answers; those of the machine are in words. The events are the same, with the
+-- values that calls return. The makings have answered different addresses, and none of these is 0. So a word names one
+-- object.
 pub record Alike (file : File) (program : Program) (code : Code) (cells : ℕ) (of_machine of_source : List ℕ) : Type 0 where
   pub traces : Agree (machine_trace (loaded code cells) of_machine) (source_trace file program of_source)
   pub places : ArePlaces (length (births (machine_trace (loaded code cells) of_machine))) (numbered (births (machine_trace (loaded code cells) of_machine)))
   pub histories : machine_history code cells of_machine ≡ source_history file program of_source
 
--- for each number of cells: each schedule of instructions has its schedule of source steps, and each schedule of source
--- steps that fits has its schedule of instructions
+-- For each number of cells: each schedule of instructions has its schedule of source steps. Each schedule of source
+-- steps that fits has its schedule of instructions.
 pub record Same (file : File) (program : Program) (code : Code) : Type 0 where
   pub threads : length code.starts ≡ length program.threads
   pub names : code.names ≡ length program.names

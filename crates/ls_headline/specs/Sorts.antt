@@ -18,7 +18,7 @@ use Rattle.ls_meaning.specs.declared.sort.Sort.TheVariants.{NoValue, ValueOf, Ne
 use Rattle.ls_meaning.specs.Course.{Answers}
 use Rattle.ls_meaning.specs.Threads.{Next, Goes, Ended, Trapped, next, calls_in}
 
--- a value of a type, by what is asked of a reference to a thing of a type
+-- a value of a type; the predicate says when a reference is one to a thing of a type
 abbrev pub HasTypeBy : (ℕ → ValueType → Type 0) → Value → ValueType → Type 0
 HasTypeBy P (Int z) type.Int = FitsSigned w32 z
 HasTypeBy P (Boolean b) type.Boolean = Unit {0}
@@ -35,7 +35,7 @@ HasSortBy P (Reference n) (NewOf t) = (n ≢ 0) × P n t
 HasSortBy P (Pair n m) (PairOf c) = P n (type.Class c)
 HasSortBy P _ _ = ⊥
 
--- reference n is null or names a thing of a type, where the n-th thing has the n-th of these types
+-- reference n is null, or it names a thing of a type; the n-th thing has the n-th of these types
 abbrev pub Refers : List ValueType → ℕ → ValueType → Type 0
 Refers things zero t = Unit {0}
 Refers things (suc n) t = slice_get things n ≡ Some t
@@ -118,7 +118,7 @@ CanFail (LockMonitor n) k = k ≡ Error
 CanFail (UnlockMonitor n) k = k ≡ IllegalMonitorState
 CanFail _ k = ⊥
 
--- an answer that what a thread asks for can have
+-- an answer that is possible for what a thread asks for
 abbrev pub Suits : (ℕ → ValueType → Type 0) → Next → Answer Value → Type 0
 Suits P (Goes a s) Done = s ≡ NoValue
 Suits P (Goes a s) (Gives v) = HasSortBy P v s

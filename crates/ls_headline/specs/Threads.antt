@@ -1,4 +1,4 @@
--- What is asked of an image and of the meaning, so that the image's runs are the source's.
+-- What is asked of an image and of the meaning. If it is met, the image's runs are the source's.
 use Rattle.std.specs.Prelude.{◌≡◌, ℕ, ◌+◌, List, length, map, Option, Some, None, slice_get}
 use Rattle.ls_events.specs.declared.value.Value.{Value}
 use Rattle.ls_events.specs.declared.value.ValueType.{ValueType}
@@ -20,7 +20,7 @@ use Rattle.ls_headline.specs.InWords.{word_of, map_action, map_answer}
 use Rattle.ls_headline.specs.Sorts.{ActionHas, InKind, Known}
 use Rattle.ls_headline.specs.Translations.{most_silent}
 
--- what a thread of the machine is told of, where the source does this next
+-- what a thread of the machine is to tell if the source does this next
 abbrev pub told : Next → Fed
 told (Goes action sort) = fed.Asked (map_action (λ n. n) word_of action)
 told Ended = fed.Ended
@@ -48,8 +48,8 @@ calls_of _ _ = ⊥
 
 -- what the image promises
 pub record Asks (file : File) (program : Program) (code : Code) : Type 0 where
-  -- each thread, fed with answers in kind, asks what the source asks next, and ends as it does; it is never stuck, nor
-  -- silent for too long, where its waiting for a lock doesn't count
+  -- If a thread gets answers in kind, it asks what the source asks next, and ends as the source ends. It is never
+  -- stuck, nor silent for too long. Its waiting for a lock doesn't count.
   pub asks : (t : ℕ) (s : Start) (had : Answers) → slice_get code.starts t ≡ Some s → InKind file program t had →
       fed code t (most_silent code) (most_silent code) (started s) (map (map_answer word_of) had) ≡ told (next file program t had)
   -- the threads of the program, with their calls, and its names

@@ -15,7 +15,8 @@ use Rattle.ls_code.specs.declared.step.Did.TheVariants as did
 abbrev pub to_source : Code → ℕ → List ℕ → List ℕ
 to_source code cells schedule = map (λ e. e.thread) (machine_trace (loaded code cells) schedule)
 
--- the most silent steps of a thread in a row; the steps by which it waits for a lock have no end, and don't count
+-- The most silent steps of a thread in a row. The steps by which it waits for a lock don't count, since they may have
+-- no end.
 abbrev pub most_silent : Code → ℕ
 most_silent code = 64 * length code.instructions
 
@@ -27,7 +28,7 @@ if_silent did.Waits rest = []
 if_silent did.Idle rest = []
 if_silent did.Stopped rest = []
 
--- a thread's steps up to and with the one that isn't silent, with at most so many silent ones
+-- a thread's steps up to and with its first step that isn't silent, after at most n silent steps
 abbrev pub until_acts : ℕ → Machine → ℕ → List ℕ
 until_acts zero m thread = thread ∷ []
 until_acts (suc n) m thread = thread ∷ if_silent (machine_step m thread).did (until_acts n (machine_step m thread).machine thread)
@@ -36,12 +37,12 @@ abbrev pub unless : Bool → List ℕ → List ℕ
 unless true rest = []
 unless false rest = rest
 
--- the setup's steps to its end, at most so many
+-- the setup's steps to its end, at most n steps
 abbrev pub until_over : ℕ → Machine → List ℕ
 until_over zero m = []
 until_over (suc n) m = unless (setup_ended (slice_get m.threads 0)) (0 ∷ until_over n (machine_step m 0).machine)
 
--- the same as soon as the setup's source has ended
+-- the same, if the setup's source has ended
 abbrev pub setup_end : ℕ → Machine → Bool → List ℕ
 setup_end n m false = []
 setup_end n m true = until_over n m
@@ -63,7 +64,7 @@ steps_from file program n s m (t ∷ ts) =
     steps_for file program n m t (source_step file program s t)
     ++ steps_from file program n (after s (source_step file program s t)) (machine_run m (steps_for file program n m t (source_step file program s t))) ts
 
--- the same from a machine on in which the setup still has to come to its end, where its source has ended
+-- the same; if the setup's source has ended already, the setup of the machine first comes to its end
 abbrev pub steps_all : File → Program → ℕ → State → Machine → List ℕ → List ℕ
 steps_all file program n s m schedule =
     setup_end n m (has_setup_ended file program s)

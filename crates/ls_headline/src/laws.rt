@@ -1,4 +1,4 @@
-// The laws, each as the contract of a function that computes nothing.
+// The laws: the functions compute nothing, and their contracts say the laws.
 
 ghost use Rattle.std.specs.Prelude.{◌≡◌, ℕ, ◌++◌, List, length, All};
 ghost use Rattle.ls_events.specs.declared.value.Value.{Value};
@@ -18,41 +18,44 @@ ghost use Rattle.ls_headline.specs.Rows;
 
 use ls_meaning::laws::next_renames;
 
-/// An image whose threads ask what the source asks is the same as its source, where the source's constants name no object
-/// and its threads ask on things of the right types: for each number of cells, each schedule of instructions has a
-/// schedule of source steps with the same trace and history, and each schedule of source steps that fits has a schedule
-/// of instructions with the same trace and history.
+/// Assume that the threads of an image ask what the source asks. Assume too that the source's constants name no
+/// object, and that its threads ask on things of the right types. Then the image is the same as its source, for each
+/// number of cells. Each schedule of instructions has a schedule of source steps with the same trace and history. Each
+/// schedule of source steps that fits has a schedule of instructions with the same trace and history.
 pub fn same_traces()
     ensures { (file : File) (program : Program) (code : Code) → Asks file program code → FileHasConstants file → ProgramHasConstants program → IsSound file program → Same file program code }
 {
     next_renames();
 }
 
-/// A thread that takes locks by load and exchange, fed by its own instructions with the words that it sees and the
-/// outcomes of its exchanges, asks and ends as it is read to after the answers that these come to.
+/// Take a thread that takes locks by load and exchange. Feed it, by its own instructions, with the words that it sees
+/// and the outcomes of its exchanges. Then it asks and ends as it is read to do after the answers that these words and
+/// outcomes give.
 #[tactic(auto, using(crate::proofs::FedByWords::fed_by_words))]
 pub fn fed_by_words()
     ensures { FedByWords }
 {}
 
-/// So an image whose threads ask what the source asks, asks for it by its own instructions.
+/// So if the threads of an image ask what the source asks, they ask for it by their own instructions.
 #[tactic(auto, using(crate::proofs::AskedByWords::asks_by_words))]
 pub fn asks_by_words()
     ensures { (file : File) (program : Program) (code : Code) → Asks file program code → All IsExchanged code.instructions → AsksByWords file program code }
 {}
 
-/// The word of a value of a known sort determines it, so a trace in words says what the source's trace says.
+/// If the sort of a value is known, its word determines the value. So a trace in words says what the source's trace
+/// says.
 pub fn words_determine()
     ensures { (things : List ValueType) (ρ : ℕ → ℕ) → ArePlaces (length things) ρ → (s : Sort) (v w : Value) → HasSortBy (Refers things) v s → HasSortBy (Refers things) w s → written ρ v ≡ written ρ w → v ≡ w }
 {}
 
-/// A schedule of source steps that fits, fits at each earlier step: so there is a first step that doesn't.
+/// If a schedule of source steps fits, each beginning of it fits. So if a schedule doesn't fit, there is a first step
+/// that doesn't.
 pub fn fits_shorter()
     ensures { (file : File) (program : Program) (cells : ℕ) (first rest : List ℕ) → Fits file program cells (first ++ rest) → Fits file program cells first }
 {}
 
-/// What is asked of an image and of the meaning can be met: by a program whose setup makes an object, and whose other
-/// thread takes a lock, and an image of it.
+/// What is asked of an image and of the meaning can be met. A program meets it whose setup makes an object and whose
+/// other thread takes a lock, with an image of that program.
 pub fn example()
     ensures asks { Asks Example.file Example.program Example.code }
     ensures constants { FileHasConstants Example.file × ProgramHasConstants Example.program }

@@ -1,5 +1,4 @@
-//! The main theorem: an image whose threads ask what the source asks has the source's runs, and the source has the
-//! image's.
+//! The main theorem: if the threads of an image ask what the source asks, the image and the source have the same runs.
 #![tactic(auto)]
 
 pub mod laws;

@@ -1,30 +1,31 @@
-//! Takes memory away from a test, so that it sees what becomes of a call that is refused some.
+//! Takes all memory away from a test, so that the test sees what happens to a call that gets none.
 #![tactic(auto)]
 
 use std::alloc::{AllocError, Global};
 
-/// The most blocks that are held at a time.
+/// The most blocks that are held at one time.
 const MOST_BLOCKS: usize = 100_000;
 
-/// The greatest power of two that a block is tried with, in bytes: that of half the addresses of a process.
+/// The largest block that is tried, as a power of two in bytes: half the addresses of a process.
 const HIGHEST: u32 = 46;
 
-/// Memory that is taken away. What is held is given back where this is dropped. Address space alone is taken: nothing is written to
-/// a block.
+/// Memory that is taken away. It is given back when this is dropped. Only address space is taken: nothing is written
+/// to a block.
 #[derive(Drop)]
 pub struct Hoard {
     blocks: Vec<Vec<u8>>,
 }
 
 impl Hoard {
-    /// Holds nothing yet, and has room for all that it may hold.
+    /// Holds nothing yet, and has room for all that it may hold. The only refusal is that memory ran out.
     pub fn new(alloc: Global) -> Result<Hoard, AllocError> {
         Ok(Hoard {
             blocks: Vec::with_capacity(alloc, MOST_BLOCKS)?,
         })
     }
 
-    /// Takes all that is left, in ever smaller blocks down to 16 bytes: whatever is asked for from then on is refused.
+    /// Takes all memory that is left, in ever smaller blocks down to 16 bytes. After that, whatever is asked for is
+    /// refused.
     pub fn take_all(&mut self, alloc: Global) {
         let mut size = 1usize << HIGHEST;
         for _ in 4..=HIGHEST {
@@ -33,7 +34,7 @@ impl Hoard {
         }
     }
 
-    /// Gives back the blocks that were taken last, until they have so many bytes together.
+    /// Gives back the blocks that were taken last, until these have at least `bytes` bytes together.
     pub fn give(&mut self, bytes: usize) {
         let mut given = 0usize;
         for _ in 0..MOST_BLOCKS {
@@ -47,7 +48,7 @@ impl Hoard {
         }
     }
 
-    /// Takes blocks of so many bytes until one is refused.
+    /// Takes blocks of `size` bytes until one is refused.
     fn take(&mut self, alloc: Global, size: usize) {
         for _ in self.blocks.len()..MOST_BLOCKS {
             match Vec::with_capacity(alloc, size) {

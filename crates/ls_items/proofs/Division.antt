@@ -62,5 +62,6 @@ divided at (b ∷ bs) =
           subst (Divides at (b ∷ bs)) is (begins_item at b bs n (divided (at + 1) bs))
     ]
 
+-- the law: a text has the items into which gaps divide it
 pub items_are_divided : ItemsAreDivided
 items_are_divided at text is = (λ e. subst (Divides at text) e (divided at text), gives)

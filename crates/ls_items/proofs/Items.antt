@@ -6,7 +6,7 @@ use Rattle.std.proofs.lemmas.List.Sums.{prefix_len-le-length}
 use Rattle.std.proofs.lemmas.Grind.{common_steps}
 use Rattle.ls_items.specs.Items.{Item, is_gap, items, joined, with_byte}
 
--- how many bytes stand before the first gap
+-- how many bytes come before the first gap
 abbrev pub until_gap : List ℕ → ℕ
 until_gap bs = unwrap_or (position is_gap bs) (length bs)
 
@@ -55,6 +55,7 @@ items_item at (b ∷ bs) lt = go (is_gap b) refl
         first_item at b bs g ∙ ap (λ m. (at, b ∷ take (rest_len bs) bs) ∷ items m (drop (rest_len bs) bs)) place
         ∙ ap (λ m. (at, take m (b ∷ bs)) ∷ items (at + m) (drop m (b ∷ bs))) (sym n)
 
+-- the first item and the others
 pub items_split : (at len : ℕ) (bs front back : List ℕ) → len ≡ until_gap bs → (len ≡ 0 → ⊥) → front ≡ take len bs → back ≡ drop len bs → items at bs ≡ (at, front) ∷ items (at + len) back
 items_split at len bs front back e some f b = rw (f, b, e) (items_item at bs (omega arith))
 

@@ -1,4 +1,4 @@
--- The items of a text: what stands between gaps.
+-- The items of a text: what is between gaps.
 use Rattle.std.specs.Prelude.{◌≡◌, ◌↔◌, ◌==◌, ◌||◌, ◌+◌, ℕ, Bool, true, false, List, [], ◌∷◌, ◌++◌, length, if◌then◌else◌}
 
 -- space, tab, CR and LF
@@ -9,12 +9,12 @@ is_gap b = b == 32 || (b == 9 || (b == 13 || b == 10))
 abbrev pub Item : Type 0
 Item = ℕ × List ℕ
 
--- b at this place before the first of the items
+-- byte b at this place, before the first of the items
 abbrev pub joined : ℕ → ℕ → List Item → List Item
 joined at b [] = (at, b ∷ []) ∷ []
 joined at b (i ∷ is) = (at, b ∷ i.1) ∷ is
 
--- b is no gap: bs follow it, and have these items
+-- byte b is no gap; the bytes bs follow b, and have these items
 abbrev pub with_byte : ℕ → ℕ → List ℕ → List Item → List Item
 with_byte at b [] is = (at, b ∷ []) ∷ is
 with_byte at b (c ∷ cs) is = if is_gap c then (at, b ∷ []) ∷ is else joined at b is

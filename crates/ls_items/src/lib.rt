@@ -1,5 +1,5 @@
-//! The items of a text: what stands between gaps, which are spaces, tabs, carriage returns and line feeds. Schedules and
-//! orders are read so.
+//! The items of a text: what is between gaps. Gaps are spaces, tabs, carriage returns and line feeds. Schedules and
+//! orders are read by items.
 #![tactic(auto)]
 
 ghost use Rattle.std.specs.List.{position};
@@ -18,7 +18,7 @@ fn gap_at(text: &[u8]) -> Option<usize>
     text.iter().position(|b| is_gap(*b))
 }
 
-/// How many bytes of a text stand before its first gap.
+/// How many bytes of a text come before its first gap.
 pub fn item_len(text: &[u8]) -> usize
     ensures { result ≡ unwrap_or (position is_gap text.now) (length text.now) }
 {

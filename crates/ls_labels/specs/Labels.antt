@@ -1,4 +1,4 @@
--- What the objects of a run are called by.
+-- What the objects of a run are called.
 use Rattle.std.specs.Prelude.{ℕ, ◌-◌, nat_eq, List, Option, Some, None, slice_get, if◌then◌else◌}
 use Rattle.std.specs.List.{filter_map}
 use Rattle.ls_events.specs.declared.value.Value.{Value}
@@ -8,7 +8,7 @@ use Rattle.ls_meaning.specs.Steps.{Entry}
 use Rattle.ls_labels.specs.declared.label.Label.{Label}
 use Rattle.ls_labels.specs.declared.label.Label.TheVariants as labels
 
--- what an action makes; one that makes is always answered with a new object
+-- the label of what an action makes; an action that makes is always answered with a new object
 abbrev pub label_of : Action Value → Option Label
 label_of (New class) = Some (labels.Class class)
 label_of NewLock = Some labels.Lock

@@ -39,7 +39,7 @@ field_name names class field = option_map_or (field_in field) (slice_get names.s
 abbrev pub method_found : List MethodSign → ℕ → Option Text
 method_found methods number = option_map (λ m. m.name) (find (λ m. nat_eq m.number number) methods)
 
--- as `SetList.add`; what isn't among the methods of its class is its constructor: `new SetList`
+-- as `SetList.add`; what isn't among the methods of its class is its constructor, as `new SetList`
 abbrev pub member_name : Text → Option Text → Text
 member_name class (Some name) = class ++ (46 ∷ name)
 member_name class None = codes "new " ++ class

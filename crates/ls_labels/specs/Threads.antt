@@ -17,7 +17,7 @@ use Rattle.ls_labels.specs.Objects.{object_text}
 abbrev pub thread_name : Program → ℕ → Text
 thread_name program thread = option_map_or (λ t. t.name) (slice_get program.threads thread) []
 
--- whether a thread's next is the end by a trap
+-- whether a thread has ended by a trap
 abbrev pub trapped_in : Names → State → ℕ → Bool
 trapped_in names s thread = has_trapped (next names.file names.program thread (answers_of s thread))
 
@@ -25,7 +25,7 @@ trapped_in names s thread = has_trapped (next names.file names.program thread (a
 abbrev pub end_text : Bool → Text
 end_text has_trapped = if has_trapped then codes " has ended with a trap" else codes " has ended"
 
--- before the setup has ended no other thread starts, and behind its trap none
+-- before the setup has ended no other thread starts; after a trap of the setup none starts at all
 abbrev pub start_text : Bool → Text
 start_text setup_has_trapped =
     if setup_has_trapped
@@ -43,7 +43,7 @@ abbrev pub awaited_text : Names → List Label → Text → ℕ → ℕ → Text
 awaited_text names ls what lock owner =
     what ++ (object_text names ls lock ++ (codes ", which " ++ (thread_name names.program owner ++ codes " owns")))
 
--- what a thread waits for that asks for an action: a lock or a monitor that a thread owns
+-- what a thread waits for, by the action that it asks for: a lock or a monitor that a thread owns
 abbrev pub wait_text : Names → List Label → Store → Action Value → Text
 wait_text names ls s (Lock o) = option_map_or (awaited_text names ls (codes "waits for ") o) (owner_of (thing_at s o)) []
 wait_text names ls s (LockMonitor o) = option_map_or (awaited_text names ls (codes "waits for the monitor of ") o) (owner_of (thing_at s o)) []

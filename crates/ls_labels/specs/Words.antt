@@ -1,4 +1,4 @@
--- What an action is in words, and its answer.
+-- An action and its answer, in words.
 use Rattle.std.specs.Prelude.{ℕ, ℤ, List, [], ◌∷◌, ◌++◌, Option, Some, None, codes}
 use Rattle.std.specs.Fmt.{signed_decimal}
 use Rattle.std.specs.Option.{option_map_or}
@@ -57,7 +57,7 @@ move_text names ls (actions.Enter m) = codes "enters " ++ method_name names m
 move_text names ls actions.Turn = codes "goes round a loop"
 move_text names ls action = operation_text names ls action
 
--- reads and writes, and all else that is no event of a history
+-- reads and writes, and all other actions that are no event of a history
 abbrev pub phrase_text : Names → List Label → Action Value → Text
 phrase_text names ls (actions.ReadField o field) = codes "reads " ++ field_text names ls o field
 phrase_text names ls (actions.WriteField o field v) =
@@ -75,16 +75,16 @@ abbrev pub words_of : Names → List Label → Action Value → Option Event →
 words_of names ls action None = phrase_text names ls action
 words_of names ls action (Some event) = run_words names.program event
 
--- what a thread's action is, where these are the labels of the objects that have been made
+-- what a thread's action is; these are the labels of the objects that have been made
 abbrev pub action_text : Names → List Label → ℕ → Action Value → Text
 action_text names ls thread action = words_of names ls action (event_of thread action)
 
--- nothing more is said of an action that is done
+-- an action that is just done has no words for its answer
 abbrev pub answer_text : Names → List Label → Answer Value → Text
 answer_text names ls Done = []
 answer_text names ls (Gives v) = codes ": " ++ value_text names ls v
 answer_text names ls (Fails kind) = codes ": " ++ kind_text kind
 
--- an action with its answer, as `reads Node#3.next: Node#4`; the labels are those after it
+-- an action with its answer, as `reads Node#3.next: Node#4`; the labels are those after the action
 abbrev pub performed_text : Names → List Label → ℕ → Action Value → Answer Value → Text
 performed_text names ls thread action answer = action_text names ls thread action ++ answer_text names ls answer

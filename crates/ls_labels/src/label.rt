@@ -1,4 +1,4 @@
-// What objects are called by.
+// What an object is called.
 
 ghost use Rattle.std.specs.Prelude.{◌≡◌};
 ghost use Rattle.ls_labels.specs.Labels.{label_of};
@@ -7,7 +7,7 @@ use ls_events::action::Action;
 use ls_events::value::Value;
 use std::alloc::AllocError;
 
-/// What an object is called by, beside its number: its class by number, or a type of the library or of the language.
+/// What an object is called, without its number: its class by number, or a type of the library or of the language.
 #[derive(Copy)]
 pub enum Label {
     Class(usize),
@@ -22,7 +22,7 @@ impl Clone for Label {
     }
 }
 
-/// What an action makes, if it makes an object.
+/// The label of what an action makes, or none if it makes no object.
 pub fn label_of(action: Action<Value>) -> Option<Label>
     ensures { result ≡ label_of action }
 {

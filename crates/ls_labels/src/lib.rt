@@ -1,4 +1,4 @@
-//! What the objects of a run are called by, and its actions and threads in words.
+//! What the objects of a run are called, and its actions and threads in words.
 #![tactic(auto)]
 
 pub mod label;

@@ -11,8 +11,8 @@ use ls_types_elaboration::known::{ClassSign, FieldSign, MethodSign};
 use std::alloc::AllocError;
 use std::fmt::Write;
 
-/// What the names of a run come from: the names of the classes and what they declare, a class's number being its index, the checked
-/// file, and the program that is run.
+/// Where the names of a run come from: the classes, what they declare, the checked file, and the program that is run.
+/// A class's number is the index of its name.
 #[derive(Clone, Copy)]
 pub struct Names<'n> {
     pub classes: &'n [String],
@@ -51,7 +51,7 @@ pub fn field_name<'n>(names: Names<'n>, class: usize, field: usize) -> &'n str
     }
 }
 
-// The name of the method of a number in the file, among those of its class.
+// The name of the method that has this number in the file, among those of its class; or none.
 fn method_found(methods: &[MethodSign], number: usize) -> Option<&str>
     ensures { option_map (λ n. n.now) result ≡ method_found (map method_sign_of methods.now) number }
 {
@@ -67,7 +67,8 @@ fn method_found(methods: &[MethodSign], number: usize) -> Option<&str>
     }
 }
 
-/// Adds a method of the file, as `SetList.add`, or a constructor, as `new SetList`, by its number.
+/// Adds a method of the file, as `SetList.add`, or a constructor, as `new SetList`, by its number. The only refusal is
+/// that memory ran out.
 pub fn push_method(out: &mut String, names: Names, number: usize) -> Result<(), AllocError>
     ensures { OnOk result (string_bytes out.new ≡ string_bytes out.old ++ method_name (names_of names.entry) number) }
 {

@@ -11,7 +11,7 @@ use ls_events::value::Value;
 use std::alloc::AllocError;
 use std::fmt::Write;
 
-/// The class or type of objects of a label.
+/// The class or type of the objects with a label.
 pub fn label_name<'n>(names: Names<'n>, label: Label) -> &'n str
     ensures { result.now ≡ label_text (names_of names.entry) label }
 {
@@ -23,7 +23,7 @@ pub fn label_name<'n>(names: Names<'n>, label: Label) -> &'n str
     }
 }
 
-/// The label of an object, by its number. Null, 0, has none.
+/// The label of an object, by its number; or none. Null, 0, has none.
 pub fn label_at(labels: &[Label], object: u64) -> Option<Label>
     ensures { result ≡ label_at labels.now object }
 {
@@ -33,7 +33,7 @@ pub fn label_at(labels: &[Label], object: u64) -> Option<Label>
     labels.get((object - 1) as usize).copied()
 }
 
-/// Adds an object's class or type and its number, as `Node#3`, or `null`.
+/// Adds an object's class or type and its number, as `Node#3`, or `null`. The only refusal is that memory ran out.
 pub fn push_object(
     out: &mut String,
     names: Names,
@@ -51,7 +51,7 @@ pub fn push_object(
     write!(out, "#{object}")
 }
 
-/// Adds a value, as `5`, `true`, `Node#3` or `(Node#4, false)`.
+/// Adds a value, as `5`, `true`, `Node#3` or `(Node#4, false)`. The only refusal is that memory ran out.
 pub fn push_value(
     out: &mut String,
     names: Names,

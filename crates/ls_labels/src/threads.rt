@@ -51,7 +51,7 @@ pub fn start_words(setup_has_trapped: bool) -> &'static str
     }
 }
 
-/// The thread that owns a lock, or the monitor of an object.
+/// The thread that owns a lock, or the monitor of an object; or none.
 pub fn owner_of(thing: Option<&Thing>) -> Option<usize>
     ensures { result ≡ owner_of (option_map thing_of (option_copied thing.entry)) }
 {
@@ -67,7 +67,7 @@ pub fn owner_of(thing: Option<&Thing>) -> Option<usize>
     }
 }
 
-// Adds that a lock or a monitor is waited for which a thread owns.
+// Adds what a thread waits for: a lock or a monitor that another thread owns.
 fn push_awaited(
     out: &mut String,
     names: Names,
@@ -84,8 +84,8 @@ fn push_awaited(
     write!(out, ", which {name} owns")
 }
 
-/// Adds what a thread waits for that asks for an action, as `waits for ReentrantLock#2, which A owns`; nothing where that is no
-/// lock and no monitor that a thread owns.
+/// Adds what a thread waits for, by the action that it asks for, as `waits for ReentrantLock#2, which A owns`. If the
+/// action is on no lock or monitor that a thread owns, nothing is added. The only refusal is that memory ran out.
 pub fn push_wait(
     out: &mut String,
     names: Names,

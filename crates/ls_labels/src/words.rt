@@ -1,4 +1,4 @@
-// What an action is in words, and its answer.
+// An action and its answer, in words.
 
 ghost use Rattle.std.specs.Prelude.{◌≡◌, ◌++◌, OnOk, string_bytes};
 ghost use Rattle.ls_labels.specs.Names.{names_of};
@@ -213,7 +213,7 @@ fn push_event(
     push_words(out, names.program, event)
 }
 
-/// Adds what a thread's action is, as `reads Node#3.next`.
+/// Adds what a thread's action is, as `reads Node#3.next`. The only refusal is that memory ran out.
 pub fn push_action(
     out: &mut String,
     names: Names,
@@ -235,7 +235,8 @@ pub fn push_action(
     }
 }
 
-/// Adds an action's answer with a colon in front, as `: Node#4`, or nothing where the action is done.
+/// Adds an action's answer after a colon, as `: Node#4`. If the action is just done, nothing is added. The only
+/// refusal is that memory ran out.
 pub fn push_answer(
     out: &mut String,
     names: Names,
@@ -255,6 +256,7 @@ pub fn push_answer(
 }
 
 /// Adds an action of a thread with its answer, as `reads Node#3.next: Node#4`. The labels are those after the action.
+/// The only refusal is that memory ran out.
 pub fn push_performed(
     out: &mut String,
     names: Names,

@@ -1,4 +1,4 @@
-// What steps did, mixed into one number: two lists of them that differ have the same number as good as never.
+// What steps did, mixed into one number. Two lists of steps that differ almost never have the same number.
 
 use ls_code::step::Did;
 use ls_events::action::{Action, Answer};

@@ -1,12 +1,12 @@
-// Images that are lent to tests. Each crate that owns an image proves how it is dropped, with all trees in it: here that is done once,
-// for all crates of tests.
+// Images that tests borrow. Each crate that owns an image has to prove how it is dropped, with all trees in it. Here
+// that is proved once, for all crates of tests.
 
 use ls_compiler::compile::compile;
 use ls_image::image::Image;
 use std::alloc::Global;
 use std::test::Fail;
 
-/// What a test finds in the image of a class text and a program text, which is lent to it.
+/// What a test finds in the image of a class text and a program text, which it borrows.
 pub fn with_image<T, F: FnOnce(&Image) -> Result<T, Fail> + Drop>(
     alloc: Global,
     classes: &str,

@@ -1,4 +1,4 @@
-//! What is lent to tests: images, digests of what steps did, and a gate in which threads meet.
+//! What tests borrow: images, digests of what steps did, and a gate in which threads meet.
 #![tactic(auto)]
 
 mod digests;

@@ -6,8 +6,8 @@ use std::sync::atomic::{AtomicBool, AtomicU64};
 // How often a flag is looked at before its thread goes on without it.
 const TURNS: u64 = 100_000_000;
 
-/// A gate in which the first pass of thread 1 and that of thread 2 each set a flag and wait for the other's. Were both worked on one
-/// thread, one of the two would leave it by its turns.
+/// A gate at which thread 1 and thread 2 meet. At its first pass each of them sets a flag and waits for the flag of
+/// the other. If one thread worked both, one of them would leave the gate after `TURNS` looks.
 #[derive(Drop)]
 pub struct Meeting {
     first: AtomicBool,
@@ -16,6 +16,7 @@ pub struct Meeting {
 }
 
 impl Meeting {
+    /// A gate that no thread has passed.
     pub fn new() -> Meeting {
         Meeting {
             first: AtomicBool::new(false),
@@ -24,7 +25,7 @@ impl Meeting {
         }
     }
 
-    /// How many of the two waited in vain.
+    /// How many of thread 1 and thread 2 waited in vain.
     pub fn left_by_turns(&self) -> u64 {
         self.left_by_turns.load(SeqCst)
     }

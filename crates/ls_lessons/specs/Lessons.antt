@@ -1,4 +1,4 @@
--- What is said of a fault of a class text, by what stands at its place: a sentence or two, or nothing.
+-- What is said of a fault of a class text, by the text at its place: a sentence or two, or nothing.
 use Rattle.std.specs.Prelude.{ℕ, ◌+◌, ◌==◌, ◌&&◌, ◌||◌, nat_le, Bool, List, [], ◌∷◌, take, drop, not, codes, if◌then◌else◌}
 use Rattle.std.specs.List.{list_any}
 use Rattle.std.specs.Str.{bytes_eq}
@@ -8,7 +8,7 @@ use Rattle.ls_lessons.specs.Types.{atomic_lesson}
 use Rattle.ls_lessons.specs.Names.{method_lesson}
 use Rattle.ls_lessons.specs.Signs.{operator_lesson}
 
--- the first of two that isn't empty
+-- the first text, or the other if the first is empty
 abbrev pub or_else : Bytes → Bytes → Bytes
 or_else [] other = other
 or_else (b ∷ bs) other = b ∷ bs
@@ -23,14 +23,14 @@ word_lesson name last =
     then codes "no cast is taken. Leave it out\n"
     else member_lesson name)
 
--- `<` after the name of a class of the library tells of that class
+-- if `<` comes after the name of a class of the library, it tells of that class
 abbrev pub sign_lesson : Bytes → Bytes → Bytes
 sign_lesson before from_on =
     if byte_at from_on 0 == 60
     then or_else (atomic_lesson (last_name before)) (operator_lesson 60 (byte_at from_on 1) (last_byte before))
     else operator_lesson (byte_at from_on 0) (byte_at from_on 1) (last_byte before)
 
--- a token that begins its line, or a }, after what ends no statement
+-- a token that begins its line, or a }, after something that ends no statement
 abbrev pub lacks_semicolon : Bytes → Bytes → Bytes → Bool
 lacks_semicolon before between from_on =
     (list_any (λ b. b == 10) between || byte_at from_on 0 == 125)
@@ -40,7 +40,7 @@ abbrev pub semicolon_lesson : Bytes → Bytes → Bytes → Bytes
 semicolon_lesson before between from_on =
     if lacks_semicolon before between from_on then codes "perhaps a ; is missing before this\n" else []
 
--- of a token that can't stand where it does
+-- of a token that can't come where it is
 abbrev pub token_lesson : Bytes → Bytes → Bytes → Bytes
 token_lesson before between from_on =
     or_else
@@ -49,7 +49,7 @@ token_lesson before between from_on =
     else word_lesson (front_name from_on) (last_byte before))
     (semicolon_lesson before between from_on)
 
--- by what stands before a place, and from it on
+-- of a place, by the text before it and the text from it on
 abbrev pub lesson_between : Bytes → Bytes → Bytes
 lesson_between gone from_on = token_lesson (trimmed gone) (gap gone) from_on
 
@@ -65,13 +65,13 @@ byte_lesson byte at =
     else (if nat_le 128 byte then codes "outside of comments all is ASCII. Write names of the letters A to Z\n"
     else [])))
 
--- of a type that isn't there
+-- of a type that doesn't exist
 abbrev pub type_lesson : Bytes → ℕ → Bytes
 type_lesson text at =
     or_else (atomic_lesson (front_name (drop at text)))
     (codes "neither the text nor the library (Lock, ReentrantLock, AtomicMarkableReference) has this class\n")
 
--- of a name that nothing there has
+-- of a name that names nothing there
 abbrev pub name_lesson : Bytes → ℕ → Bytes
 name_lesson text at =
     or_else (method_lesson (front_name (drop at text)))

@@ -1,4 +1,4 @@
--- What is said of a name that nothing has.
+-- What is said of a name that names nothing.
 use Rattle.std.specs.Prelude.{ℕ, ◌||◌, List, [], codes, if◌then◌else◌}
 use Rattle.std.specs.Str.{bytes_eq}
 use Rattle.ls_lessons.specs.Tokens.{Bytes}

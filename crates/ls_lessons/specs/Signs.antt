@@ -1,4 +1,5 @@
--- What is said of a sign that can't stand where it does, by the byte after it and the last one before that isn't white space.
+-- What is said of a sign that can't come where it is. It depends on the byte after it, and on the last byte before it
+-- that isn't white space.
 use Rattle.std.specs.Prelude.{ℕ, ◌==◌, ◌&&◌, ◌||◌, [], codes, if◌then◌else◌}
 use Rattle.ls_lessons.specs.Tokens.{Bytes}
 

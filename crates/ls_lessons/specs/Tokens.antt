@@ -1,4 +1,4 @@
--- What stands round a place of a text.
+-- The text around a place.
 use Rattle.std.specs.Prelude.{ℕ, ◌-◌, ◌==◌, ◌&&◌, ◌||◌, nat_le, Bool, List, length, take, drop, not, slice_get}
 use Rattle.std.specs.List.{before_first, suffix_len}
 use Rattle.std.specs.Option.{option_map_or}
@@ -13,7 +13,7 @@ is_part b = (nat_le 48 b && nat_le b 57) || (nat_le 65 b && nat_le b 90) || (nat
 abbrev pub is_white : ℕ → Bool
 is_white b = b == 32 || b == 9 || b == 12 || b == 13 || b == 10
 
--- the name, word or number at the front, which is empty where none begins there
+-- the name, word or number at the front; empty if none begins there
 abbrev pub front_name : Bytes → Bytes
 front_name text = before_first (λ b. not (is_part b)) text
 
@@ -29,7 +29,7 @@ gap text = drop (length text - suffix_len is_white text) text
 abbrev pub last_name : Bytes → Bytes
 last_name text = drop (length text - suffix_len is_part text) text
 
--- a byte of a text, 0 where there is none
+-- a byte of a text, or 0 if there is none
 abbrev pub byte_at : Bytes → ℕ → ℕ
 byte_at text at = option_map_or (λ b. b) (slice_get text at) 0
 

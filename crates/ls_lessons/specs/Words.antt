@@ -1,4 +1,4 @@
--- What is said of a reserved word that can't stand where it does.
+-- What is said of a reserved word that can't come where it is.
 use Rattle.std.specs.Prelude.{ℕ, ◌||◌, List, [], codes, if◌then◌else◌}
 use Rattle.std.specs.Str.{bytes_eq}
 use Rattle.ls_lessons.specs.Tokens.{Bytes}

@@ -1,4 +1,4 @@
-// What is said of a fault of a class text, by what stands at its place.
+// What is said of a fault of a class text, by the text at its place.
 
 ghost use Rattle.std.specs.Prelude.{◌≡◌};
 ghost use Rattle.ls_lessons.specs.Lessons.{byte_lesson, lacks_semicolon, lesson_between, name_lesson, or_else, semicolon_lesson, sign_lesson, syntax_lesson, token_lesson, type_lesson, word_lesson};
@@ -9,7 +9,7 @@ use crate::tokens::{Cut, byte_at, cut_at, end_of, front_name, last_byte, last_na
 use crate::types::atomic_lesson;
 use crate::words::member_lesson;
 
-/// The first of two that isn't empty.
+/// The first text, or the other if the first is empty.
 fn or_else(first: &'static str, other: &'static str) -> &'static str
     ensures { result.now ≡ or_else first.now other.now }
 {
@@ -48,7 +48,7 @@ fn sign_lesson(before: &[u8], from_on: &[u8]) -> &'static str
     }
 }
 
-/// Whether a token begins its line, or is a }, after what ends no statement.
+/// Whether a token begins its line, or is a }, after something that ends no statement.
 fn lacks_semicolon(before: &[u8], between: &[u8], from_on: &[u8]) -> bool
     ensures { result ≡ lacks_semicolon before.now between.now from_on.now }
 {
@@ -79,7 +79,7 @@ fn token_lesson(before: &[u8], between: &[u8], from_on: &[u8]) -> &'static str
     or_else(own, semicolon_lesson(before, between, from_on))
 }
 
-/// By what stands before a place, and from it on.
+/// What is said of a place, by the text before it and the text from it on.
 fn lesson_between(gone: &[u8], from_on: &[u8]) -> &'static str
     ensures { result.now ≡ lesson_between gone.now from_on.now }
 {
@@ -87,7 +87,7 @@ fn lesson_between(gone: &[u8], from_on: &[u8]) -> &'static str
     token_lesson(before, between, from_on)
 }
 
-/// What is said where a token can't stand in a class text (6).
+/// What is said if a token can't come here in a class text (6). `at` is its byte.
 pub fn syntax_lesson(text: &[u8], at: usize) -> &'static str
     ensures { result.now ≡ syntax_lesson text.now at }
 {
@@ -112,7 +112,7 @@ pub fn byte_lesson(byte: u8, at: usize) -> &'static str
     }
 }
 
-/// What is said of a type that isn't there (12).
+/// What is said of a type that doesn't exist (12).
 pub fn type_lesson(text: &[u8], at: usize) -> &'static str
     ensures { result.now ≡ type_lesson text.now at }
 {
@@ -123,7 +123,7 @@ pub fn type_lesson(text: &[u8], at: usize) -> &'static str
     )
 }
 
-/// What is said of a name that nothing there has (10).
+/// What is said of a name that names nothing there (10).
 pub fn name_lesson(text: &[u8], at: usize) -> &'static str
     ensures { result.now ≡ name_lesson text.now at }
 {

@@ -1,9 +1,9 @@
-// What is said of a name that nothing has.
+// What is said of a name that names nothing.
 
 ghost use Rattle.std.specs.Prelude.{◌≡◌};
 ghost use Rattle.ls_lessons.specs.Names.{library_lesson, method_lesson};
 
-/// What the library has in Java.
+/// Names of the library of Java.
 fn library_lesson(name: &[u8]) -> &'static str
     ensures { result.now ≡ library_lesson name.now }
 {

@@ -1,4 +1,5 @@
-// What is said of a sign that can't stand where it does, by the byte after it and the last one before that isn't white space.
+// What is said of a sign that can't come where it is. It depends on the byte after it, and on the last byte before it
+// that isn't white space.
 
 ghost use Rattle.std.specs.Prelude.{◌≡◌};
 ghost use Rattle.ls_lessons.specs.Signs.{bracket_lesson, operator_lesson, other_sign_lesson};

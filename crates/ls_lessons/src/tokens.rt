@@ -1,4 +1,4 @@
-// What stands round a place of a text.
+// The text around a place.
 
 ghost use Rattle.std.specs.Prelude.{◌≡◌, ◌≤◌, ◌-◌, drop, length, take};
 ghost use Rattle.std.specs.List.{suffix_len};
@@ -32,7 +32,7 @@ pub(crate) fn front_name(text: &[u8]) -> &[u8]
     &text[..end]
 }
 
-/// Where the white space at the end of a text begins.
+/// Where the white space at the end of a text begins, in bytes.
 pub(crate) fn end_of(text: &[u8]) -> usize
     ensures within { result ≤ length text.now }
     ensures value { result ≡ length text.now - suffix_len is_white text.now }
@@ -55,7 +55,7 @@ pub(crate) fn last_name(text: &[u8]) -> &[u8]
     &text[start..]
 }
 
-/// A byte of a text, 0 where there is none.
+/// A byte of a text, or 0 if there is none.
 pub fn byte_at(text: &[u8], at: usize) -> u8
     ensures { result ≡ byte_at text.now at }
 {
@@ -71,14 +71,14 @@ pub(crate) fn last_byte(text: &[u8]) -> u8
     byte_at(text, text.len().saturating_sub(1))
 }
 
-/// What stands before a place of a text, and from it on.
+/// The text before a place, and the text from it on.
 #[derive(Clone, Copy)]
 pub(crate) struct Cut<'t> {
     pub gone: &'t [u8],
     pub left: &'t [u8],
 }
 
-/// A place behind the end is the end.
+/// Cuts a text at a place. A place after the end counts as the end.
 pub(crate) fn cut_at(text: &[u8], at: usize) -> Cut<'_>
     ensures gone { result.gone.now ≡ take at text.now }
     ensures left { result.left.now ≡ drop at text.now }

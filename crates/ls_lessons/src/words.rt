@@ -1,9 +1,9 @@
-// What is said of a reserved word that can't stand where it does.
+// What is said of a reserved word that can't come where it is.
 
 ghost use Rattle.std.specs.Prelude.{◌≡◌};
 ghost use Rattle.ls_lessons.specs.Words.{member_lesson, operand_lesson, statement_lesson};
 
-/// Words that stand in expressions and types.
+/// Words of expressions and types.
 fn operand_lesson(name: &[u8]) -> &'static str
     ensures { result.now ≡ operand_lesson name.now }
 {
@@ -43,7 +43,7 @@ fn statement_lesson(name: &[u8]) -> &'static str
     }
 }
 
-/// Words that stand among members and classes.
+/// Words among members and classes.
 pub(crate) fn member_lesson(name: &[u8]) -> &'static str
     ensures { result.now ≡ member_lesson name.now }
 {

@@ -43,14 +43,15 @@ white_small b h =
 line_end_small : (b : ℕ) → is_line_end b ≡ true → b < 128
 line_end_small b h = elim (or_cases (b == 13) (b == 10) h) [ inl e ↦ omega (arith, eqb-true b 13 e) | inr e ↦ omega (arith, eqb-true b 10 e) ]
 
--- behind a small byte
+-- after a small byte
 pub cut_after : (xs : List ℕ) (n : ℕ) → IsUtf8 xs → n < length xs → get_or xs n 0 < 128 → IsCharBoundary xs (n + 1)
 cut_after xs n utf8 lt small = IsCharBoundary-after_ascii xs n utf8 lt small
 
+-- after white space
 pub cut_white : (b : ℕ) (bs : List ℕ) → IsUtf8 (b ∷ bs) → is_white b ≡ true → IsCharBoundary (b ∷ bs) 1
 cut_white b bs utf8 h = IsCharBoundary-after_ascii (b ∷ bs) 0 utf8 (omega arith) (white_small b h)
 
--- behind a run that passes a test
+-- after a run that passes a test
 run_within : (test : ℕ → Bool) (xs : List ℕ) → run test xs ≤ length xs
 run_within test [] = omega arith
 run_within test (b ∷ bs) = elim (cases_Bool (test b)) [ inl h ↦ rw h (omega (arith, run_within test bs)) | inr h ↦ rw h (omega arith) ]
@@ -70,7 +71,7 @@ run_passes test (b ∷ bs) (suc n) lt =
       | inr h ↦ absurd (omega (arith, run_no test b bs h))
     ]
 
--- the byte behind a run doesn't pass the test
+-- the byte after a run doesn't pass the test
 run_stops : (test : ℕ → Bool) (xs : List ℕ) (n : ℕ) → n ≡ run test xs → n < length xs → test (get_or xs n 0) ≡ false
 run_stops test [] n e lt = absurd (omega arith)
 run_stops test (b ∷ bs) zero e lt = elim (cases_Bool (test b)) [ inl h ↦ absurd (omega (arith, run_yes test b bs h)) | inr h ↦ h ]
@@ -80,13 +81,14 @@ run_stops test (b ∷ bs) (suc n) e lt =
       | inr h ↦ absurd (omega (arith, run_no test b bs h))
     ]
 
+-- after letters and digits
 pub cut_run : (xs : List ℕ) → IsUtf8 xs → 0 < run is_part xs → IsCharBoundary xs (run is_part xs)
 cut_run xs utf8 pos =
     let n : ℕ = run is_part xs - 1 in
     let is : n + 1 ≡ run is_part xs = omega arith in
     subst (IsCharBoundary xs) is (IsCharBoundary-after_ascii xs n utf8 (omega (arith, run_within is_part xs)) (part_small _ (run_passes is_part xs n (omega arith))))
 
--- behind a comment up to the end of its line
+-- after a comment up to the end of its line
 pub cut_line : (b : ℕ) (bs : List ℕ) → IsUtf8 (b ∷ bs) → IsCharBoundary (b ∷ bs) (run (λ x. not (is_line_end x)) bs + 1)
 cut_line b bs utf8 =
     let n : ℕ = run (λ x. not (is_line_end x)) bs in
@@ -151,12 +153,15 @@ cut_comment_at b (c ∷ bs) n utf8 e =
     let g = gap_some (comment bs) n e in
     (omega (arith, g.2), subst (IsCharBoundary (b ∷ c ∷ bs)) g.2 (cut_comment b c bs g.0 utf8 g.1))
 
+-- after a comment that has an end
 pub comment_cut : (xs : List ℕ) (b : ℕ) (bs : List ℕ) (n : ℕ) → xs ≡ b ∷ bs → IsUtf8 xs → comment_at bs ≡ Some (None, n) → (0 < n) × IsCharBoundary xs n
 comment_cut xs b bs n is utf8 e = subst (λ (ys : List ℕ). (0 < n) × IsCharBoundary ys n) (sym is) (cut_comment_at b bs n (subst IsUtf8 is utf8) e)
 
+-- after a comment up to the end of its line
 pub line_cut : (xs : List ℕ) (b : ℕ) (bs : List ℕ) (n : ℕ) → xs ≡ b ∷ bs → IsUtf8 xs → n ≡ run (λ x. not (is_line_end x)) bs → (0 < n + 1) × IsCharBoundary xs (n + 1)
 line_cut xs b bs n is utf8 e = (omega arith, rw (is, e) (cut_line b bs (subst IsUtf8 is utf8)))
 
+-- after a sign
 pub sign_cut : (xs : List ℕ) (b : ℕ) (bs : List ℕ) (n : ℕ) → xs ≡ b ∷ bs → IsUtf8 xs → 0 < n → n ≤ length bs + 1 → get_or (b ∷ bs) (n - 1) 0 < 128 → (0 < n) × IsCharBoundary xs n
 sign_cut xs b bs n is utf8 pos le small =
     let k : n - 1 + 1 ≡ n = omega arith in

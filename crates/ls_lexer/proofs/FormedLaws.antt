@@ -95,5 +95,6 @@ each_formed (gap n p s) i k e = each_formed s i k e
 each_formed {text} (token j n p s) zero k e = subst IsFormed (some_is j k e) (subst Formed p (formed text))
 each_formed (token j n p s) (suc i) k e = each_formed s i k e
 
+-- the law: each token has the form of its kind
 pub tokens_are_formed : TokensAreFormed
 tokens_are_formed text ks e i k at = each_formed ((tokens_are_split text ks).0 e) i k at

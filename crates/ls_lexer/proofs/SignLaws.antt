@@ -146,7 +146,7 @@ four_found b (c ∷ []) = three_found b (c ∷ [])
 four_found b (c ∷ d ∷ []) = three_found b (c ∷ d ∷ [])
 four_found b (c ∷ d ∷ e ∷ bs) = or_found (b ∷ c ∷ d ∷ e ∷ bs) _ _ (sized_found 4 (four_of b c d e) (b ∷ c ∷ d ∷ e ∷ []) (b ∷ c ∷ d ∷ e ∷ bs) (four_of_reads b c d e) refl refl) (three_found b (c ∷ d ∷ e ∷ bs))
 
--- a sign of so many bytes at least is found
+-- a sign of at least this many bytes is found
 abbrev Least : ℕ → Option (Sign × ℕ) → Type 0
 Least n o = (found : Sign × ℕ) × (o ≡ Some found) × (n ≤ found.1)
 
@@ -243,5 +243,6 @@ as_long signs.ShiftLeftAssign rest = at_three 60 60 61 rest signs.ShiftLeftAssig
 as_long signs.ShiftRightAssign rest = at_three 62 62 61 rest signs.ShiftRightAssign refl
 as_long signs.UnsignedShiftRightAssign rest = at_four 62 62 62 61 rest signs.UnsignedShiftRightAssign refl
 
+-- the law: the longest sign is read
 pub reads_longest_signs : ReadsLongestSigns
 reads_longest_signs = (four_found, λ b bs rest sign is. subst (λ (l : List ℕ). IsAsLong sign (sign_in l)) (sym is) (as_long sign rest))

@@ -140,5 +140,6 @@ lexed_of {text} turns here e lt = lexed_end turns text e lt
 lexed_of {text} {rest} {ks} turns (gap n p s) e lt = one_more text turns None n ks lt p (λ less small. lexed_of less s e small)
 lexed_of {text} {rest} turns (token {ks = js} k n p s) e lt = one_more text turns (Some k) n js lt p (λ less small. lexed_of less s e small)
 
+-- the law: a text has tokens exactly if it splits into them
 pub tokens_are_split : TokensAreSplit
 tokens_are_split text ks = (split_of (length text + 1) text ks, λ s. lexed_of (length text + 1) s refl (omega arith))

@@ -73,10 +73,12 @@ at_each : (rest : List ℕ) (at : ℕ) (P : TextFault → Type 0) → P (faults.
 at_each [] at P x y z = z
 at_each (b ∷ bs) at P x y z = at_cond (b == 47 && begins 42 bs) (is_digit b) at P x y z
 
+-- a text that isn't empty has a byte
 pub not_empty : (xs : List ℕ) → false ≡ (length xs == 0) → 0 < length xs
 not_empty [] h = absurd (true≢false (sym h))
 not_empty (x ∷ xs) h = omega arith
 
+-- an empty text has no byte
 pub empty : (xs : List ℕ) → true ≡ (length xs == 0) → length xs ≡ 0
 empty xs h = eqb-true (length xs) 0 (sym h)
 
@@ -88,7 +90,7 @@ placed_lexemes : (kind : Option TokenKind) (span : Span) → lexemes (placed kin
 placed_lexemes None span = refl
 placed_lexemes (Some kind) span = refl
 
--- The tokens of the text are those so far, and those of the rest, which stands at a place.
+-- The tokens of the text are those so far, and those of the rest, which begins at a place.
 pub record InText (text : List ℕ) (so_far : List Token) (rest : List ℕ) (at : ℕ) : Type 0 where
   pub turns : ℕ
   pub bound : length rest < turns
@@ -99,9 +101,11 @@ pub record InText (text : List ℕ) (so_far : List Token) (rest : List ℕ) (at 
   pub order : InOrder text 0 so_far at
   pub utf8 : IsUtf8 rest
 
+-- at the beginning of a text no token is read
 pub text_begins : (text : List ℕ) → IsUtf8 text → InText text [] text 0
 text_begins text utf8 = record { turns = length text + 1; bound = omega arith; same = with_nothing (tokens_of text); place = refl; within = omega arith; split = here; order = omega arith; utf8 = utf8 }
 
+-- at the end of a text its tokens are those so far
 pub text_ends : {text : List ℕ} {so_far : List Token} {rest : List ℕ} {at : ℕ} → InText text so_far rest at → length rest ≡ 0 → tokens_of text ≡ Some (lexemes so_far)
 text_ends {text} {so_far} {rest} {at} t h = ended (lexemes so_far) rest (tokens_of text) t.turns t.bound t.same h
 
@@ -109,9 +113,11 @@ nothing : (rest : List ℕ) → length rest ≡ 0 → rest ≡ []
 nothing [] h = refl
 nothing (b ∷ bs) h = absurd (omega arith)
 
+-- at the end of a text it splits into gaps and those tokens
 pub text_split : {text : List ℕ} {so_far : List Token} {rest : List ℕ} {at : ℕ} → InText text so_far rest at → length rest ≡ 0 → Splits text (lexemes so_far) []
 text_split {text} {so_far} {rest} {at} t h = subst (Splits text (lexemes so_far)) (nothing rest h) t.split
 
+-- at the end of a text the tokens are at their spans
 pub text_order : {text : List ℕ} {so_far : List Token} {rest : List ℕ} {at : ℕ} → InText text so_far rest at → length rest ≡ 0 → InOrder text 0 so_far (length text)
 text_order {text} {so_far} {rest} {at} t h =
     let is : at ≡ length text = omega (arith, t.within, h) in
@@ -125,7 +131,7 @@ one_more : (text : List ℕ) (from : ℕ) (ts : List Token) (upto : ℕ) (t : To
 one_more text from [] upto t o le lt s = (omega (arith, o), lt, s, omega arith)
 one_more text from (u ∷ us) upto t o le lt s = (o.0, o.1, o.2, one_more text u.span.end us upto t o.3 le lt s)
 
--- the next gap or token stands behind those so far
+-- the next gap or token comes after those so far
 order_on : (text : List ℕ) (ts : List Token) (at n : ℕ) (kind : Option TokenKind) → InOrder text 0 ts at → 0 < n → at + n ≤ length text → piece_at (drop at text) ≡ Some (maybe_lexeme kind, n) → IsPieceSlice (take n (drop at text)) kind
     → InOrder text 0 (ts ++ placed kind (record { start = at; end = at + n })) (at + n)
 order_on text ts at n None o pos le e s = subst (λ (us : List Token). InOrder text 0 us (at + n)) (sym (append-nil ts)) (later text 0 ts at (at + n) (omega arith) o)
@@ -133,6 +139,7 @@ order_on text ts at n (Some kind) o pos le e s =
     let t : Token = record { kind = kind; span = record { start = at; end = at + n } } in
     one_more text 0 ts at t o (omega arith) (omega arith) (record { size = n; reaches = refl; within = le; read = e; slice = s })
 
+-- one gap or token more is read
 pub text_goes_on : {text : List ℕ} {so_far : List Token} {rest : List ℕ} {at : ℕ} (kind : Option TokenKind) (n : ℕ) (next : List Token) (after : List ℕ) → InText text so_far rest at → 0 < n → IsCharBoundary rest n
     → piece_at rest ≡ Some (maybe_lexeme kind, n) → IsPieceSlice (take n rest) kind → next ≡ so_far ++ placed kind (record { start = at; end = at + n }) → after ≡ drop n rest → InText text next after (at + n)
 text_goes_on {text} {so_far} {rest} {at} kind n next after t pos boundary e slice next-is after-is =
@@ -166,6 +173,7 @@ refused_at text at f s none e =
     let Q : TextFault → Type 0 = λ g. StandsAt text at g → Refused text g in
     subst Q (sym e) (at_each (drop at text) at Q (λ x. (x, none)) (λ x. (x, none)) (λ x. (x, none))) s
 
+-- if no gap and no token begins, the text is refused
 pub text_fails : {text : List ℕ} {so_far : List Token} {rest : List ℕ} {at : ℕ} (f : TextFault) → InText text so_far rest at → 0 < length rest → piece_at rest ≡ None → f ≡ fault_at at rest → Refused text f
 text_fails {text} {so_far} {rest} {at} f t pos none e =
     let s : StandsAt text at f = (lexemes so_far, subst (Splits text (lexemes so_far)) t.place t.split, ap piece_at (sym t.place) ∙ none, e ∙ ap (fault_at at) t.place) in

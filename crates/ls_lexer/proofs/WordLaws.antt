@@ -177,5 +177,6 @@ spelled words.True = refl
 spelled words.False = refl
 spelled words.Null = refl
 
+-- the law: reserved words are read as they are spelled
 pub reads_words : ReadsWords
 reads_words text word = (reads text word, λ is. ap reserved_word is ∙ spelled word)

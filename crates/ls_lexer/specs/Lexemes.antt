@@ -6,8 +6,8 @@ use Rattle.ls_lexer.specs.declared.token.TokenKind.{TokenKind}
 use Rattle.ls_lexer.specs.declared.token.TokenKind.TheVariants as kinds
 use Rattle.ls_lexer.specs.declared.token.Token.{Token}
 
--- A token (JLS 3.5) as the grammar sees it: a name or a number with its text (bytes), a reserved word, or a separator
--- or operator.
+-- A token (JLS 3.5) as the grammar sees it. A name or a number has its text, in bytes. Or it is a reserved word, or a
+-- separator or operator.
 pub data Lexeme : Type 0 where
   Named : (text : List ℕ) → Lexeme
   Numeral : (text : List ℕ) → Lexeme

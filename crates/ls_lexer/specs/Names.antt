@@ -8,7 +8,7 @@ abbrev pub is_identifier : List ℕ → Bool
 is_identifier [] = false
 is_identifier (b ∷ bs) = is_letter b && (run is_part bs == length bs)
 
--- an identifier that is no reserved word
+-- an identifier that is not a reserved word
 unfoldable pub is_name : List ℕ → Bool
 is_name text = is_identifier text && is_none (reserved_word text)
 

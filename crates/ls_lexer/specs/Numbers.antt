@@ -2,12 +2,12 @@
 use Rattle.std.specs.Prelude.{ℕ, ◌+◌, ◌-◌, ◌*◌, ◌==◌, ◌&&◌, nat_le, Bool, false, List, [], ◌∷◌, length, if◌then◌else◌}
 use Rattle.ls_lexer.specs.Characters.{is_digit, run}
 
--- the value of digits behind a number
+-- the value of digits that come after a number
 abbrev pub value_of : ℕ → List ℕ → ℕ
 value_of so_far [] = so_far
 value_of so_far (b ∷ bs) = value_of (10 * so_far + (b - 48)) bs
 
--- `0`, or a digit other than `0` and digits behind it, of at most 2147483648
+-- `0`, or a digit other than `0` and digits after it, with a value of at most 2147483648
 abbrev pub is_number : List ℕ → Bool
 is_number [] = false
 is_number (b ∷ bs) =

@@ -1,4 +1,4 @@
--- Gaps and tokens as the lexer's functions hand them on.
+-- Gaps and tokens as the functions of the lexer pass them on.
 use Rattle.std.specs.Prelude.{ℕ, List, [], ◌∷◌, Option, Some, None}
 use Rattle.ls_lexer.specs.declared.token.Span.{Span}
 use Rattle.ls_lexer.specs.declared.token.Token.{Token}

@@ -1,4 +1,4 @@
--- Where faults and tokens stand in a text.
+-- Where faults and tokens are in a text.
 use Rattle.std.specs.Prelude.{◌≡◌, ◌↔◌, ℕ, ◌+◌, ◌<◌, ◌≤◌, ◌==◌, ◌&&◌, List, [], ◌∷◌, length, take, drop, Some, None, if◌then◌else◌}
 use Rattle.ls_lexer.specs.declared.fault.TextFault.{TextFault}
 use Rattle.ls_lexer.specs.declared.fault.TextFault.TheVariants as faults
@@ -19,25 +19,25 @@ pub data Splits : List ℕ → List Lexeme → List ℕ → Type 0 where
   gap : {text rest : List ℕ} {ks : List Lexeme} (n : ℕ) → piece_at text ≡ Some (None, n) → Splits (drop n text) ks rest → Splits text ks rest
   token : {text rest : List ℕ} {ks : List Lexeme} (k : Lexeme) (n : ℕ) → piece_at text ≡ Some (Some k, n) → Splits (drop n text) ks rest → Splits text (k ∷ ks) rest
 
--- The tokens of a text are what gaps and tokens it splits into, to its end: there is one way at most.
+-- A text has tokens exactly if it splits into gaps and those tokens, up to its end. So it splits in at most one way.
 abbrev pub TokensAreSplit : Type 0
 TokensAreSplit = (text : List ℕ) (ks : List Lexeme) → (tokens_of text ≡ Some ks) ↔ Splits text ks []
 
--- the fault of a place where no gap or token begins
+-- the fault at a place where no gap and no token begins
 abbrev pub fault_at : ℕ → List ℕ → TextFault
 fault_at at [] = faults.BadByte at
 fault_at at (b ∷ bs) =
     if b == 47 && begins 42 bs then faults.OpenComment at
     else (if is_digit b then faults.BadNumber at else faults.BadByte at)
 
--- behind gaps and tokens, this fault stands at the place
+-- the text up to the place is gaps and tokens, and this fault is at the place
 abbrev pub StandsAt : List ℕ → ℕ → TextFault → Type 0
 StandsAt text at fault =
     (ks : List Lexeme) × Splits text ks (drop at text) × (piece_at (drop at text) ≡ None)
     × (fault ≡ fault_at at (drop at text))
 
--- When each fault may come: want of memory at any time; a text that is too long, and only such a text; a fault of a
--- place where it stands, and then the text has no tokens. Faults of the grammar never come.
+-- When each fault may come. "Out of memory" may come at any time. "Too long" comes only of a text that is too long. A
+-- fault with a place is at that place, and then the text has no tokens. Faults of the grammar never come.
 abbrev pub Refused : List ℕ → TextFault → Type 0
 Refused text faults.Memory = Unit {0}
 Refused text faults.TooLong = text_limit < length text
@@ -54,7 +54,7 @@ IsSlice slice (kinds.Number text) = text.now ≡ slice
 IsSlice slice (kinds.Word word) = Unit {0}
 IsSlice slice (kinds.Sign sign) = Unit {0}
 
--- the token stands at its span
+-- the token is at its span
 pub record StandsThere (text : List ℕ) (t : Token) : Type 0 where
   pub size : ℕ
   pub reaches : t.span.start + size ≡ t.span.end
@@ -62,7 +62,7 @@ pub record StandsThere (text : List ℕ) (t : Token) : Type 0 where
   pub read : piece_at (drop t.span.start text) ≡ Some (Some (lexeme_of t.kind), size)
   pub slice : IsSlice (take size (drop t.span.start text)) t.kind
 
--- the tokens stand at their spans in the text, in order, from one place up to another
+-- the tokens are at their spans in the text, in order, from one place up to another
 abbrev pub InOrder : List ℕ → ℕ → List Token → ℕ → Type 0
 InOrder text from [] upto = from ≤ upto
 InOrder text from (t ∷ ts) upto =

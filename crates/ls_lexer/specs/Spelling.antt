@@ -63,7 +63,7 @@ spelled_word words.True = codes "true"
 spelled_word words.False = codes "false"
 spelled_word words.Null = codes "null"
 
--- A text is read as a reserved word exactly where it is that word's spelling.
+-- A text is read as a reserved word exactly if it is the spelling of that word.
 abbrev pub ReadsWords : Type 0
 ReadsWords = (text : List ℕ) (word : Word) → (reserved_word text ≡ Some word) ↔ (text ≡ spelled_word word)
 
@@ -124,7 +124,7 @@ spelled_sign signs.UnsignedShiftRightAssign = codes ">>>="
 abbrev pub IsSpelledThere : List ℕ → Sign × ℕ → Type 0
 IsSpelledThere text found = (found.1 ≡ length (spelled_sign found.0)) × (take found.1 text ≡ spelled_sign found.0)
 
--- Where a sign is spelled at the front of a text, one is found that is at least as long.
+-- If a sign is spelled at the front of a text, a sign is found that is at least as long.
 abbrev pub IsAsLong : Sign → Option (Sign × ℕ) → Type 0
 IsAsLong sign read = (found : Sign × ℕ) × (read ≡ Some found) × (length (spelled_sign sign) ≤ found.1)
 

@@ -9,7 +9,7 @@ use Rattle.ls_lexer.specs.Words.{reserved_word}
 use Rattle.ls_lexer.specs.Signs.{sign_at}
 use Rattle.ls_lexer.specs.Lexemes.{Lexeme, Named, Numeral, Reserved, Marked}
 
--- The token or, as None, the gap at the front of a text, and how many bytes it has.
+-- the token at the front of a text, or None for a gap, and its number of bytes
 abbrev pub Piece : Type 0
 Piece = Option Lexeme × ℕ
 
@@ -17,7 +17,7 @@ abbrev pub longer : Option ℕ → Option ℕ
 longer None = None
 longer (Some n) = Some (n + 1)
 
--- how many bytes go up to the first `*/`, and with it
+-- how many bytes there are up to the first `*/`, with it
 abbrev pub comment : List ℕ → Option ℕ
 comment [] = None
 comment (b ∷ []) = None
@@ -31,11 +31,11 @@ abbrev pub begins : ℕ → List ℕ → Bool
 begins c [] = false
 begins c (x ∷ xs) = x == c
 
--- a comment up to the end of its line (JLS 3.7), behind its first byte
+-- a comment up to the end of its line (JLS 3.7); these are the bytes after its first byte
 abbrev pub line_at : List ℕ → Option Piece
 line_at bs = Some (None, run (λ x. not (is_line_end x)) bs + 1)
 
--- a comment that has an end (JLS 3.7), behind its first byte
+-- a comment that has an end (JLS 3.7); these are the bytes after its first byte
 abbrev pub comment_at : List ℕ → Option Piece
 comment_at bs = gap_of 2 (comment (drop 1 bs))
 
@@ -58,8 +58,8 @@ abbrev pub marked : Option (Sign × ℕ) → Option Piece
 marked None = None
 marked (Some p) = Some (Some (Marked p.0), p.1)
 
--- The gap or token at the front. There is none where an opened comment doesn't end, where a run of letters and digits
--- that begins with a digit is no number, and where no gap and no token begins with the first byte.
+-- The gap or token at the front. There is none in three cases: an opened comment doesn't end; letters and digits that
+-- begin with a digit are no number; no gap and no token begins with the first byte.
 abbrev pub piece_at : List ℕ → Option Piece
 piece_at [] = None
 piece_at (b ∷ bs) =
@@ -80,12 +80,12 @@ abbrev pub ◌>>=◌ : {A B : Type 0} → Option A → (A → Option B) → Opti
 None >>= f = None
 (Some x) >>= f = f x
 
--- the tokens of a text, where there are turns enough
+-- the tokens of a text, if there are turns enough
 unfoldable pub lexed : ℕ → List ℕ → Option (List Lexeme)
 lexed zero text = None
 lexed (suc turns) [] = Some []
 lexed (suc turns) (b ∷ bs) = piece_at (b ∷ bs) >>= λ p. with_piece p.0 (lexed turns (drop p.1 (b ∷ bs)))
 
--- The tokens of a text that is gaps and tokens from its beginning to its end; none of any other text.
+-- The tokens of a text, if it is gaps and tokens from its beginning to its end; else none.
 abbrev pub tokens_of : List ℕ → Option (List Lexeme)
 tokens_of text = lexed (length text + 1) text

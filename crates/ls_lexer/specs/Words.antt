@@ -1,4 +1,4 @@
--- The reserved words, in groups of eight: the 50 keywords (JLS 3.9), `true`, `false` (JLS 3.10.3) and `null` (JLS 3.10.7).
+-- The reserved words, in groups of eight: 50 keywords (JLS 3.9), `true`, `false` (JLS 3.10.3), `null` (JLS 3.10.7).
 use Rattle.std.specs.Prelude.{ℕ, List, Option, Some, None, if◌then◌else◌, codes}
 use Rattle.std.specs.Str.{bytes_eq}
 use Rattle.ls_lexer.specs.declared.word.Word.{Word}

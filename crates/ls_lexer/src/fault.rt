@@ -6,24 +6,25 @@ use thiserror::Error;
 /// Why a class text or a program text is refused. Places are bytes from the start of the text, from 0.
 #[derive(Clone, Copy, Debug, Error, PartialEq, Eq)]
 pub enum TextFault {
-    /// A growth was refused.
+    /// Memory ran out.
     #[error("out of memory")]
     Memory,
     /// The text has more than 262,144 bytes, which is a limit of this profile.
     #[error("the text is too long")]
     TooLong,
-    /// No gap and no token begins with this byte (JLS 3.5). Characters beyond ASCII stand in comments alone.
+    /// No gap and no token begins with this byte (JLS 3.5). Characters beyond ASCII may be in comments only.
     #[error("a byte that no token has at {at}")]
     BadByte { at: usize },
-    /// A comment that begins by `/*` here doesn't end (JLS 3.7).
+    /// A comment that begins with `/*` here doesn't end (JLS 3.7).
     #[error("a comment that doesn't end at {at}")]
     OpenComment { at: usize },
-    /// Letters and digits that begin with a digit here and are no decimal number of at most 2147483648 (JLS 3.10.1; other
-    /// bases, underscores, suffixes and floating point aren't in this profile), or, from the parser, 2147483648 that doesn't
-    /// stand directly behind a unary minus.
+    /// Letters and digits that begin with a digit here and are no decimal number of at most 2147483648 (JLS 3.10.1).
+    /// Other bases, underscores, suffixes and floating point aren't in this profile. From the parser: 2147483648 that
+    /// isn't directly after a unary minus.
     #[error("no number of the language at {at}")]
     BadNumber { at: usize },
-    /// No text of the grammar (JLS 19, as far as this profile goes) goes on so. Only the parser answers this.
+    /// With the token here, these tokens begin no text of the grammar (JLS 19, as far as this profile goes). Only the
+    /// parser answers this.
     #[error("no text of the grammar at {at}")]
     Syntax { at: usize },
     /// The tree is over the greatest height, 128 nodes, which is a limit of this profile. Only the parser answers this.

@@ -54,10 +54,12 @@ fn lex_any<'a>(alloc: Global, text: &'a str) -> Result<Vec<Token<'a>>, TextFault
     Ok(out)
 }
 
-/// The tokens of a text (JLS 3.5), each as long as it can be (JLS 3.2), with the text of each name and number as a slice of
-/// it. Gaps, which are white space (JLS 3.6) and comments (JLS 3.7), are left out. Refused with `TooLong` exactly where the
-/// text has more than 262,144 bytes, else with `BadByte`, `OpenComment` or `BadNumber` at the first place where no gap and no
-/// token begins. Of the grammar's faults it answers none.
+/// The tokens of a text (JLS 3.5), each as long as it can be (JLS 3.2). The text of each name and number is a slice of
+/// `text`. Gaps, which are white space (JLS 3.6) and comments (JLS 3.7), are left out.
+///
+/// Refused with `TooLong` exactly if the text has more than 262,144 bytes. Else refused with `BadByte`, `OpenComment`
+/// or `BadNumber` at the first place where no gap and no token begins, or if memory runs out. It never answers a fault
+/// of the grammar.
 pub fn lex<'a>(alloc: Global, text: &'a str) -> Result<Vec<Token<'a>>, TextFault>
     ensures read { IfOk result (λ tokens. tokens_of text.now ≡ Some (lexemes tokens.items)) }
     ensures split { IfOk result (λ tokens. Splits text.now (lexemes tokens.items) []) }

@@ -129,7 +129,8 @@ fn up_to_three(first: u8, rest: &[u8]) -> Option<(Sign, usize)>
     up_to_two(first, rest)
 }
 
-/// The longest sign at the front of a text of one byte and the rest, with its number of bytes.
+/// The longest sign at the front of a text, with its number of bytes, or none. `first` is the first byte, and `rest`
+/// the others.
 pub fn sign_at(first: u8, rest: &[u8]) -> Option<(Sign, usize)>
     ensures value { result ≡ sign_at first rest.now }
     ensures size { IfSome result (λ p. (0 < p.1) × (p.1 ≤ length rest.now + 1)) }

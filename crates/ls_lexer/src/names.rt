@@ -16,7 +16,7 @@ fn is_identifier(text: &[u8]) -> bool
     }
 }
 
-/// Whether bytes are an identifier (JLS 3.8) and no reserved word.
+/// Whether bytes are an identifier (JLS 3.8) and not a reserved word.
 #[tactic(auto, unfolding(crate::specs::Names::is_name))]
 pub fn is_name_bytes(text: &[u8]) -> bool
     ensures { result ≡ is_name text.now }
@@ -24,7 +24,7 @@ pub fn is_name_bytes(text: &[u8]) -> bool
     is_identifier(text) && reserved_word(text).is_none()
 }
 
-/// Whether a text is an identifier (JLS 3.8) and no reserved word.
+/// Whether a text is an identifier (JLS 3.8) and not a reserved word.
 pub fn is_name(text: &str) -> bool
     ensures { result ≡ is_name text.now }
 {

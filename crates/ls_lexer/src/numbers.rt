@@ -22,6 +22,7 @@ fn is_small(text: &[u8]) -> bool
     true
 }
 
+/// Whether a text is a decimal number of at most 2147483648 (JLS 3.10.1).
 pub fn is_number(text: &[u8]) -> bool
     ensures { result ≡ is_number text.now }
 {

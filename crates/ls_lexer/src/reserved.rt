@@ -1,4 +1,4 @@
-// Which texts are reserved words, by what stands behind the first byte.
+// Which texts are reserved words, by the bytes after the first.
 
 ghost use Rattle.ls_lexer.specs.Words.{reserved_word};
 ghost use Rattle.std.specs.Prelude.{◌≡◌, ◌∷◌};
@@ -240,7 +240,7 @@ fn behind_w(rest: &[u8]) -> Option<Word>
     }
 }
 
-/// The reserved word that is this text.
+/// The reserved word that is this text, or none.
 pub fn reserved_word(text: &[u8]) -> Option<Word>
     ensures { result ≡ reserved_word text.now }
 {

@@ -6,7 +6,7 @@ ghost use Rattle.std.specs.Prelude.{◌≡◌, ◌≤◌, IfSome, length, not};
 
 use crate::characters::{is_digit, is_line_end, is_part};
 
-// How many digits stand at the front.
+/// How many digits are at the front.
 #[tactic(auto, using(crate::proofs::Spans::ran_none, crate::proofs::Spans::ran_more, crate::proofs::Spans::ran_stops, crate::proofs::Spans::ran_out))]
 pub fn digit_run(bytes: &[u8]) -> usize
     ensures { result ≡ run is_digit bytes.now }
@@ -18,7 +18,7 @@ pub fn digit_run(bytes: &[u8]) -> usize
     n
 }
 
-// How many bytes at the front are parts of a word or number.
+/// How many bytes at the front are parts of a word or number.
 #[tactic(auto, using(crate::proofs::Spans::ran_none, crate::proofs::Spans::ran_more, crate::proofs::Spans::ran_stops, crate::proofs::Spans::ran_out))]
 pub fn part_run(bytes: &[u8]) -> usize
     ensures { result ≡ run is_part bytes.now }
@@ -30,7 +30,7 @@ pub fn part_run(bytes: &[u8]) -> usize
     n
 }
 
-// How many bytes stand before the end of the line.
+/// How many bytes come before the end of the line.
 #[tactic(auto, using(crate::proofs::Spans::ran_none, crate::proofs::Spans::ran_more, crate::proofs::Spans::ran_stops, crate::proofs::Spans::ran_out))]
 pub fn line_run(bytes: &[u8]) -> usize
     ensures within { result ≤ length bytes.now }
@@ -43,7 +43,7 @@ pub fn line_run(bytes: &[u8]) -> usize
     n
 }
 
-// How many bytes go up to the end of a comment, and with it.
+/// How many bytes there are up to the end of a comment, with that end.
 #[tactic(auto, using(crate::proofs::Spans::open_first, crate::proofs::Spans::open_ends, crate::proofs::Spans::open_goes_on, crate::proofs::Spans::open_never))]
 pub fn comment_run(bytes: &[u8]) -> Option<usize>
     ensures within { IfSome result (λ n. n ≤ length bytes.now) }

@@ -46,7 +46,7 @@ fn begins(bytes: &[u8], wanted: u8) -> bool
     }
 }
 
-// A comment, whose first byte stands before the rest.
+// A comment. `rest` are the bytes after its first byte.
 fn comment_piece(rest: &[u8], at: usize) -> Result<usize, TextFault>
     requires { length rest.now + 1 < 2 ^ 64 }
     ensures fault { IfErr result (λ e. (e ≡ OpenComment at) × (comment_at rest.now ≡ None)) }
@@ -61,8 +61,8 @@ fn comment_piece(rest: &[u8], at: usize) -> Result<usize, TextFault>
     }
 }
 
-/// The kind of the token at the front of a text, or `None` for a gap, and how many bytes it has. The text stands at
-/// `at`, where a fault then is.
+/// The kind of the token at the front of a text, or `None` for a gap, and its number of bytes. The text begins at byte
+/// `at`, and a fault has that place.
 #[tactic(auto, using(crate::proofs::Cuts::cut_white, crate::proofs::Cuts::cut_run))]
 pub fn scan<'a>(text: &'a str, at: usize) -> Result<(Option<TokenKind<'a>>, usize), TextFault>
     ensures read { IfOk result (λ p. piece_at text.now ≡ Some (maybe_lexeme p.0, p.1)) }

@@ -10,8 +10,8 @@ pub struct Span {
     pub end: usize,
 }
 
-/// What a token is (JLS 3.5): an identifier (JLS 3.8) or a number (JLS 3.10.1), which come with their text, a reserved word,
-/// or a separator or operator.
+/// What a token is (JLS 3.5). It may be an identifier (JLS 3.8) or a number (JLS 3.10.1), which have their text. Or it
+/// is a reserved word, or a separator or operator.
 #[derive(Clone, Copy, PartialEq, Eq)]
 pub enum TokenKind<'a> {
     Name(&'a str),
@@ -20,7 +20,7 @@ pub enum TokenKind<'a> {
     Sign(Sign),
 }
 
-/// A token and where it stands. The text of a name or number is the slice of the source that stands there.
+/// A token and its place. The text of a name or number is the slice of the source at that place.
 #[derive(Clone, Copy)]
 pub struct Token<'a> {
     pub kind: TokenKind<'a>,

@@ -53,10 +53,11 @@ plain_word (Some types.Boolean) v s h = ap Some (value_is v)
 plain_word (Some t) v s h = absurd h
 
 module _ (s : Setting) (f : Files s) (e p : ℕ) (cs : List ProgramCall) where
-  -- what the calls behind do
+  -- what the calls after it do
   abbrev rest_next : Answers → Next
   rest_next = all_calls f.file f.program (e + 1 + 1) cs
 
+  -- the calls after a call ask what the source asks
   abbrev pub Onward : ℕ → Type 0
   Onward after = (q : Answers) → Suited IsSmall rest_next q → feeds s s.bound (here s after [] (e + 1) false) (answer_words q) ≡ told (rest_next q)
 
@@ -81,6 +82,7 @@ module _ (s : Setting) (f : Files s) (e p : ℕ) (cs : List ProgramCall) where
         ap (λ b. after_call (e + 1) (if b then Throws kinds.NullPointer q else with_value (invoke f.file 64 m (values.Reference o ∷ vs) q) (λ v rest. Results (result_of f.file m v) rest)) rest_next) (not_null o h)
         ∙ after_is (invoke f.file 64 m (values.Reference o ∷ vs) q)
 
+    -- the code of a method's call asks what the call asks
     pub calling_run : IsTypedCalling f.file f.program name m answers vs → HasAt s.code.instructions p (call_code f.file.classes (e + 1) (Calling name m text answers vs)) → s.from ≤ p → p + length vs + 3 ≤ s.trap → 1 + length vs ≤ s.need → length vs + 3 ≤ s.bound →
         e + 1 ≤ length s.calls → slice_get s.calls e ≡ Some (result_type answers) → Onward (p + 1 + 1 + length vs + 1 + length (result_code (result_type answers) (e + 1))) →
         (n : ℕ) (q : Answers) → Suited IsSmall (all_calls f.file f.program (e + 1) (Calling name m text answers vs ∷ cs)) q → feeds s n (here s p [] e false) (answer_words q) ≡ told (all_calls f.file f.program (e + 1) (Calling name m text answers vs ∷ cs) q)
@@ -154,6 +156,7 @@ module _ (s : Setting) (f : Files s) (e p : ℕ) (cs : List ProgramCall) where
     unfolding depth_limit
     make_is o q = wrote_is o (invoke f.file 64 constructor (o ∷ vs) q)
 
+    -- the code of a making asks what the making asks
     pub making_run : IsTypedMaking f.file f.program name c vs → HasAt s.code.instructions p (call_code f.file.classes (e + 1) (Making name c text vs)) → s.from ≤ p → p + length vs + 4 ≤ s.trap → 2 + length vs ≤ s.need → length vs + 4 ≤ s.bound →
         e + 1 ≤ length s.calls → slice_get s.calls e ≡ Some result.Nothing → Onward (p + 1 + 1 + 1 + length vs + 1 + 1 + 1 + 1) →
         (n : ℕ) (q : Answers) → Suited IsSmall (all_calls f.file f.program (e + 1) (Making name c text vs ∷ cs)) q → feeds s n (here s p [] e false) (answer_words q) ≡ told (all_calls f.file f.program (e + 1) (Making name c text vs ∷ cs) q)

@@ -52,6 +52,7 @@ pub record Files (s : Setting) : Type 0 where
   pub room : 2 + 64 * (words + 1) ≤ s.bound
   pub guarded : Guarded s
 
+-- what a thread does next after a throw: the trap event
 abbrev pub trapped : ℕ → Kind → Answers → Next
 trapped n kind rest = event (act.Trap n kind) rest (λ rest. Trapped)
 
@@ -59,7 +60,7 @@ pub traps_as : (s : Setting) (e : ℕ) (kind : Kind) (q : Answers) → traps s e
 traps_as s e kind [] = refl
 traps_as s e kind (x ∷ q) = refl
 
--- what a call comes to, and what follows
+-- what a call tells, and what follows
 told_as : (s : Setting) (e : ℕ) (x : Evaluated Value) (go : Value → Answers → Next) (g : ℕ → course.Answers → Fed) → ((v : Value) (rest : Answers) → x ≡ Results v rest → g (value_word v) (answer_words rest) ≡ told (go v rest)) →
     told_by (in_words x) g (traps s e) ≡ told (then_next x go (trapped (e + 1)))
 told_as s e (Asks action sort) go g f = ap fed.Asked (action_is action)
@@ -74,6 +75,7 @@ module _ (s : Setting) (f : Files s) where
   laid_as : (o : ℕ) (vs : List Value) (stack : List ℕ) → laid (map word_of vs) (o ∷ stack) ≡ reverse (o ∷ map value_word vs) ++ stack
   laid_as o vs stack = ap (λ ws. laid (o ∷ ws) stack) (sym (values_are vs)) ∙ laid_is (o ∷ map value_word vs) stack
 
+  -- a call from the entering on, with what follows its value or its throw
   pub enters_on : (p e n o number : ℕ) (m : Method) (vs : List Value) (stack : List ℕ) (q : Answers) (go : Value → Answers → Next) (g : ℕ → course.Answers → Fed) →
       slice_get s.code.instructions p ≡ Some (op.Enter number) → slice_get f.file.methods number ≡ Some m → AreArguments (parameters_of m) vs → o ≢ 0 → IsSmall o (types.Class m.class) → length stack < s.need → s.from ≤ p → p < s.trap → 3 ≤ n →
       Suited IsSmall (λ more. then_next (invoke f.file 64 number (values.Reference o ∷ vs) more) go (trapped (e + 1))) q →

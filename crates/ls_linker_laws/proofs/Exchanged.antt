@@ -26,10 +26,12 @@ use Rattle.ls_headline.specs.Threads.{result_type}
 use Rattle.ls_linker_laws.specs.Threads.{pushes, result_code, call_code, calls_code, thread_code}
 use Rattle.ls_linker_laws.specs.Linked.{units_code, threads_code, linked}
 
+-- each instruction takes locks by exchange alone
 abbrev pub Exchanges : List Instruction → Type 0
 Exchanges [] = Unit {0}
 Exchanges (i ∷ is) = IsExchanged i × Exchanges is
 
+-- the same of code in two parts
 pub both : (a b : List Instruction) → Exchanges a → Exchanges b → Exchanges (a ++ b)
 both [] b x y = y
 both (i ∷ a) b x y = (x.0, both a b x.1 y)

@@ -59,7 +59,7 @@ some_result result.Nothing n = omega arith
 some_result result.Int n = omega arith
 some_result result.Boolean n = omega arith
 
--- TRAP stands at the last place
+-- TRAP is at the last place
 pub last_traps : (whole : List Instruction) (classes : List Class) (n : ℕ) (cs : List ProgramCall) (p : ℕ) → HasAt whole p (calls_code classes n cs) → slice_get whole (p + (length (calls_code classes n cs) - 1)) ≡ Some op.Trap
 last_traps whole classes n [] p has = has.1.0
 last_traps whole classes n (c ∷ cs) p has =
@@ -67,7 +67,7 @@ last_traps whole classes n (c ∷ cs) p has =
     let same : p + (length (calls_code classes n (c ∷ cs)) - 1) ≡ q + (length (calls_code classes (n + 1) cs) - 1) = omega (arith, length-append (call_code classes n c) (calls_code classes (n + 1) cs), some_code classes (n + 1) cs) in
     ap (slice_get whole) same ∙ last_traps whole classes (n + 1) cs q (has_after whole p (length (call_code classes n c)) (call_code classes n c) (calls_code classes (n + 1) cs) refl has)
 
--- the calls from one on, as they stand in the code
+-- the calls from one on, as they are in the code
 pub record Follows (s : Setting) (f : Files s) (cs : List ProgramCall) (e p : ℕ) : Type 0 where
   pub has : HasAt s.code.instructions p (calls_code f.file.classes (e + 1) cs)
   pub low : s.from ≤ p
@@ -179,6 +179,7 @@ module _ (file : File) (program : Program) (lowered : low.File) (us : List CodeU
       ∙ calls_run setting files calls 0 th.place (most_silent code) follows (omega (arith, fits)) had (subst (λ x. Suited IsSmall x had) source kind)
       ∙ sym (ap (λ x. told (x had)) source)
 
+  -- the threads of the whole code ask what the source asks
   pub linked_asks : Asks file program code
   linked_asks = record {
     asks = thread_asks;

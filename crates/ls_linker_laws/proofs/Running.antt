@@ -34,8 +34,8 @@ use Rattle.ls_linker_laws.specs.Threads.{pushes, result_code}
 use Rattle.ls_linker_laws.proofs.Lists.{laid}
 use Rattle.ls_emit_laws.proofs.Places.{HasAt}
 
--- Where a thread runs: the code, its number, the bound on silent steps, the table of its calls, its need of operands, and
--- its first and last place.
+-- Where a thread runs: the code, its number, the bound on silent steps, and the table of its calls. Its need of
+-- operands, and its first and last place.
 pub record Setting : Type 0 where
   pub code : Code
   pub number : ℕ
@@ -45,7 +45,7 @@ pub record Setting : Type 0 where
   pub from : ℕ
   pub trap : ℕ
 
--- a throw at any place but the last leads to the last, where TRAP stands
+-- a throw at any place but the last leads to the last, where TRAP is
 pub record Guarded (s : Setting) : Type 0 where
   pub some : 1 ≤ s.need
   pub at_trap : slice_get s.code.instructions s.trap ≡ Some op.Trap
@@ -55,15 +55,19 @@ same_number : (n : ℕ) → (n == n) ≡ true
 same_number n = grind (arith, nat_tests)
 
 module _ (s : Setting) where
+  -- the thread's only frame, at a place, with these operands
   abbrev pub frame : ℕ → List ℕ → Frame
   frame p operands = record { counter = p; locals = []; operands = operands; need = s.need }
 
+  -- the thread at a place, with these operands, e ended calls, and a pending call or none
   abbrev pub here : ℕ → List ℕ → ℕ → Bool → Thread
   here p operands ended pending = record { top = frame p operands; below = []; mode = mode.Running; calls = s.calls; ended = ended; pending = pending }
 
+  -- what the thread tells, fed with answers
   abbrev pub feeds : ℕ → Thread → List (Answer ℕ) → Fed
   feeds n t q = fed s.code s.number s.bound n t q
 
+  -- what it tells at an action, fed with answers
   abbrev pub goes_on : List (Answer ℕ) → Action ℕ → (Answer ℕ → Option Thread) → Fed
   goes_on q action go = resume s.code s.number s.bound q (Paused action go)
 
@@ -106,10 +110,12 @@ module _ (s : Setting) where
       ∙ ap (λ x. if x && nat_le (e + 1) (length s.calls) then Asks (act.Call (e + 1)) (λ answer. Some (here (p + 1) [] e true)) else Still) (same_number (e + 1))
       ∙ ap (λ x. if x then Asks (act.Call (e + 1)) (λ answer. Some (here (p + 1) [] e true)) else Still) (le-leb (e + 1) (length s.calls) le))
 
+  -- HALT ends the thread
   pub halts : (p e n : ℕ) (q : List (Answer ℕ)) → slice_get s.code.instructions p ≡ Some op.Halt → 1 ≤ n → feeds n (here p [] e false) q ≡ fed.Ended
   halts p e n q has le =
       silent n (n - 1) p [] e false (halted (here p [] e false)) q (omega arith) (fetched p op.Halt [] e false has) ∙ ended_over (n - 1) (here p [] e false) q
 
+  -- the arguments of a call are pushed
   pub pushes_run : (vs : List Value) (p m n : ℕ) (operands : List ℕ) (e : ℕ) (q : List (Answer ℕ)) → HasAt s.code.instructions p (pushes vs) → length operands + length vs ≤ s.need → m ≡ n + length vs →
       feeds m (here p operands e true) q ≡ feeds n (here (p + length vs) (laid (map word_of vs) operands) e true) q
   pushes_run [] p m n operands e q has le is =
@@ -125,19 +131,23 @@ module _ (s : Setting) where
   reads p e n name q has le =
       acts n p [] e true (act.ReadName name) (answered s.code (here p [] e true) then.Push) q (fetched p (op.GetName name) [] e true has ∙ room [] p e true (FrameAsks (act.ReadName name) then.Push) (omega arith))
 
+  -- NEW OBJECT asks for the making
   pub makes : (p e n class : ℕ) (q : List (Answer ℕ)) → slice_get s.code.instructions p ≡ Some (op.NewObject class) → 1 ≤ s.need → feeds n (here p [] e true) q ≡ goes_on q (act.New class) (answered s.code (here p [] e true) then.Push)
   makes p e n class q has le =
       acts n p [] e true (act.New class) (answered s.code (here p [] e true) then.Push) q (fetched p (op.NewObject class) [] e true has ∙ room [] p e true (FrameAsks (act.New class) then.Push) (omega arith))
 
+  -- DUP
   pub doubles : (p e m n o : ℕ) (q : List (Answer ℕ)) → slice_get s.code.instructions p ≡ Some op.Dup → 2 ≤ s.need → m ≡ suc n → feeds m (here p (o ∷ []) e true) q ≡ feeds n (here (p + 1) (o ∷ (o ∷ [])) e true) q
   doubles p e m n o q has le is =
       silent m n p (o ∷ []) e true (here (p + 1) (o ∷ (o ∷ [])) e true) q is
       (fetched p op.Dup (o ∷ []) e true has ∙ room (o ∷ []) p e true (Next (frame (p + 1) (o ∷ (o ∷ [])))) (omega arith))
 
+  -- POP
   pub drops : (p e n word : ℕ) (operands : List ℕ) (q : List (Answer ℕ)) → slice_get s.code.instructions p ≡ Some op.Pop → 1 ≤ n → feeds n (here p (word ∷ operands) e true) q ≡ feeds (n - 1) (here (p + 1) operands e true) q
   drops p e n word operands q has le =
       silent n (n - 1) p (word ∷ operands) e true (here (p + 1) operands e true) q (omega arith) (fetched p op.Pop (word ∷ operands) e true has)
 
+  -- PUT NAME asks for the write of the setup name
   pub names : (p e n name o : ℕ) (q : List (Answer ℕ)) → slice_get s.code.instructions p ≡ Some (op.PutName name) → feeds n (here p (o ∷ []) e true) q ≡ goes_on q (act.WriteName name o) (answered s.code (here p (o ∷ []) e true) (then.Discard 1))
   names p e n name o q has = acts n p (o ∷ []) e true (act.WriteName name o) (answered s.code (here p (o ∷ []) e true) (then.Discard 1)) q (fetched p (op.PutName name) (o ∷ []) e true has)
 
@@ -148,14 +158,17 @@ module _ (s : Setting) where
       ∙ ap (λ b. if b then value_move (here p operands e true) (e + 1) (slice_get s.calls e) else Still) (same_number (e + 1))
       ∙ ap (value_move (here p operands e true) (e + 1)) is
 
+  -- RESULT of a call without a value
   pub ends_plain : (p e n : ℕ) (q : List (Answer ℕ)) → slice_get s.code.instructions p ≡ Some (op.Result (e + 1)) → slice_get s.calls e ≡ Some result.Nothing → feeds n (here p [] e true) q ≡ goes_on q (act.Return (e + 1) None) (λ answer. Some (here (p + 1) [] (e + 1) false))
   ends_plain p e n q has is = acts n p [] e true (act.Return (e + 1) None) (λ answer. Some (here (p + 1) [] (e + 1) false)) q (ends_by p e [] result.Nothing has is)
 
+  -- the word that a call returns, if it returns one
   abbrev pub returned : CallResult → ℕ → Option ℕ
   returned result.Nothing word = None
   returned result.Int word = Some word
   returned result.Boolean word = Some word
 
+  -- RESULT asks for the return event
   pub ends : (r : CallResult) (p e n word : ℕ) (q : List (Answer ℕ)) → HasAt s.code.instructions p (result_code r (e + 1)) → slice_get s.calls e ≡ Some r → 1 ≤ n →
       feeds n (here p (word ∷ []) e true) q ≡ goes_on q (act.Return (e + 1) (returned r word)) (λ answer. Some (here (p + length (result_code r (e + 1))) [] (e + 1) false))
   ends result.Nothing p e n word q has is le =
@@ -164,7 +177,7 @@ module _ (s : Setting) where
   ends result.Int p e n word q has is le = acts n p (word ∷ []) e true (act.Return (e + 1) (Some word)) (λ answer. Some (here (p + 1) [] (e + 1) false)) q (ends_by p e (word ∷ []) result.Int has.0 is)
   ends result.Boolean p e n word q has is le = acts n p (word ∷ []) e true (act.Return (e + 1) (Some word)) (λ answer. Some (here (p + 1) [] (e + 1) false)) q (ends_by p e (word ∷ []) result.Boolean has.0 is)
 
-  -- what a throw comes to: a trap event, and the end
+  -- what a throw leads to: a trap event, and the end
   abbrev pub traps : ℕ → Kind → List (Answer ℕ) → Fed
   traps e kind [] = fed.Asked (act.Trap (e + 1) kind)
   traps e kind (x ∷ q) = fed.Trapped
@@ -208,6 +221,7 @@ module _ (s : Setting) where
       ∙ ap (λ l. thrown_thread (here p stack e true) (onto (if nat_lt (length l) s.need then Some (led_to (frame p operands) s.trap (kind_word kind ∷ l)) else None) [])) (cut operands)
       ∙ ap (λ b. thrown_thread (here p stack e true) (onto (if b then Some (led_to (frame p operands) s.trap (kind_word kind ∷ [])) else None) [])) (lt-ltb 0 s.need (omega (arith, g.some)))
 
+  -- a throw leads to the trap event
   pub throws : Guarded s → (p e n : ℕ) (stack operands : List ℕ) (kind : Kind) (q : List (Answer ℕ)) → s.from ≤ p → p < s.trap → fed_from s.code s.number s.bound n (thrown_in s.code (here p stack e true) operands kind) q ≡ traps e kind q
   throws g p e n stack operands kind q low high =
       ap (λ u. fed_from s.code s.number s.bound n u q) (caught_here g p e stack operands kind low high) ∙ trap_run g e n kind q

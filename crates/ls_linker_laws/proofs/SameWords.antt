@@ -11,12 +11,14 @@ use Rattle.ls_refs_calls.specs.ValueWords.{value_word}
 use Rattle.ls_refs.specs.Laws.{action_word, answer_word, answer_words}
 use Rattle.ls_headline.specs.InWords.{word_of, map_action, map_answer}
 
+-- both definitions of a value's word agree
 pub value_is : (v : Value) → value_word v ≡ word_of v
 value_is (Int z) = refl
 value_is (Boolean b) = refl
 value_is (Reference n) = refl
 value_is (Pair n m) = refl
 
+-- the same of values
 pub values_are : (vs : List Value) → map value_word vs ≡ map word_of vs
 values_are [] = refl
 values_are (v ∷ vs) = ap (λ w. w ∷ map value_word vs) (value_is v) ∙ ap (λ ws. word_of v ∷ ws) (values_are vs)
@@ -26,10 +28,12 @@ answer_is Done = refl
 answer_is (Gives v) = let e = value_is v in cc
 answer_is (Fails kind) = refl
 
+-- the same of answers
 pub answers_are : (q : Answers) → map (map_answer word_of) q ≡ answer_words q
 answers_are [] = refl
 answers_are (x ∷ q) = ap (λ y. y ∷ map (map_answer word_of) q) (answer_is x) ∙ ap (λ ys. answer_word x ∷ ys) (answers_are q)
 
+-- the same of an action
 pub action_is : (a : Action Value) → action_word a ≡ map_action (λ n. n) word_of a
 action_is (act.ReadField o i) = refl
 action_is (act.WriteField o i v) = ap (act.WriteField o (i + 1)) (value_is v)

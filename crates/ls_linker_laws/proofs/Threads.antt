@@ -1,4 +1,4 @@
--- The threads lie in the linked code, behind the units.
+-- The threads lie in the linked code, after the units.
 use Rattle.std.proofs.Common.{◌≡◌, ℕ, zero, suc, ◌+◌, ◌-◌, ◌<◌, ◌≤◌, List, [], ◌∷◌, ◌++◌, length, Some, slice_get, refl, sym, ap, ◌∙◌, arith, append_assoc, length-append}
 use Rattle.ls_checked.specs.CheckedTree.{Class}
 use Rattle.ls_checked.specs.CheckedProgram.{ThreadProgram}
@@ -27,6 +27,7 @@ has_here whole pre (i ∷ code) post p n e = (
   has_here whole (pre ++ i ∷ []) code post (p + 1) (omega (arith, length-append pre (i ∷ []))) (e ∙ sym (append_assoc pre (i ∷ []) (code ++ post))),
 )
 
+-- the rows of threads begin at their code or after it
 pub threads_from : (classes : List Class) (ts : List ThreadProgram) (p : ℕ) → RowsFrom p (threads_rows classes p ts)
 threads_from classes [] p = tt
 threads_from classes (t ∷ ts) p = (omega arith, from_less p (p + thread_size classes t) _ (omega arith) (threads_from classes ts (p + thread_size classes t)))
@@ -42,6 +43,7 @@ first_thread c classes t ts from p pre before le n ends ec er = record {
   fits = omega (arith, ap length ec, length-append pre (threads_code classes (t ∷ ts)), length-append (thread_code classes t) (threads_code classes ts));
 }
 
+-- thread t in the whole code: its code, its row and its start
 pub record Thread (c : Code) (classes : List Class) (ts : List ThreadProgram) (from t : ℕ) (s : Start) : Type 0 where
   pub program : ThreadProgram
   pub found : slice_get ts t ≡ Some program
@@ -49,6 +51,7 @@ pub record Thread (c : Code) (classes : List Class) (ts : List ThreadProgram) (f
   pub starts : s ≡ start_of place program
   pub lies : ThreadLies c classes program from place
 
+-- each thread of a program is so in the whole code
 pub threads_lie : (c : Code) (classes : List Class) (ts : List ThreadProgram) (from p : ℕ) (pre : List Instruction) (before : List HandlerRow) → from ≤ p → p ≡ length pre → RowsEnd p before →
     c.instructions ≡ pre ++ threads_code classes ts → c.handlers ≡ before ++ threads_rows classes p ts → (t : ℕ) (s : Start) → slice_get (starts classes p ts) t ≡ Some s → Thread c classes ts from t s
 threads_lie c classes [] from p pre before le n ends ec er t s e = cc

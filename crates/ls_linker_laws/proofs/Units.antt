@@ -18,7 +18,7 @@ use Rattle.ls_linker_laws.specs.Units.{TakeAsMany}
 use Rattle.ls_linker_laws.proofs.Lists.{behind, in_front, get_map, RowsEnd, RowsFrom, end_append, end_more, from_append, from_less, rows_behind, rows_front}
 use Rattle.ls_emit_laws.proofs.StatementPlaces.{statement_size_is}
 
--- the rows of a statement end where it ends
+-- the rows of a statement end by the end of the statement
 mutual
   rows_end : (s : Statement) (p : ℕ) → RowsEnd (p + statement_size s) (statement_rows p s)
   rows_end (Block ss) p = all_rows_end ss p
@@ -67,6 +67,7 @@ AllWithin (u ∷ us) = RowsEnd (length u.instructions) u.handlers × AllWithin u
 method_size_is : (m : Method) → length (method_code 0 m) ≡ statement_size m.body + 2
 method_size_is m = omega (arith, length-append (statement_code [] 0 m.body) (op.Push 0 ∷ op.LeaveWith ∷ []), statement_size_is m.body [] 0)
 
+-- no row of an emitted unit reaches beyond its unit
 pub all_within : (ms : File) → AllWithin (units_of ms)
 all_within [] = tt
 all_within (m ∷ ms) = (end_more (0 + statement_size m.body) (length (method_code 0 m)) (statement_rows 0 m.body) (omega (arith, method_size_is m)) (rows_end m.body 0), all_within ms)
@@ -83,6 +84,7 @@ units_from : (us : List CodeUnit) (p : ℕ) → RowsFrom p (units_rows p us)
 units_from [] p = tt
 units_from (u ∷ us) p = from_append p (map (moved_row p) u.handlers) (units_rows (p + length u.instructions) us) (moved_from p u.handlers) (from_less p (p + length u.instructions) _ (omega arith) (units_from us (p + length u.instructions)))
 
+-- the rows of units end by the end of the units
 pub units_end : (us : List CodeUnit) (p : ℕ) → AllWithin us → RowsEnd (p + words_of us) (units_rows p us)
 units_end [] p h = tt
 units_end (u ∷ us) p h =
@@ -91,13 +93,14 @@ units_end (u ∷ us) p h =
     (end_more q (p + words_of (u ∷ us)) _ (omega arith) (moved_end p (length u.instructions) u.handlers h.0))
     (end_more (q + words_of us) (p + words_of (u ∷ us)) _ (omega arith) (units_end us q h.1))
 
+-- how long the code of units is
 pub units_long : (us : List CodeUnit) (p : ℕ) → length (units_code p us) ≡ words_of us
 units_long [] p = refl
 units_long (u ∷ us) p =
     let q = p + length u.instructions in
     omega (arith, length-append (map (moved p) u.instructions) (units_code q us), length-map u.instructions (moved p), units_long us q)
 
--- where a unit lies
+-- the place of a unit
 abbrev pub Lies : Code → ℕ → List MethodRow → ℕ → CodeUnit → Type 0
 Lies c words rows m u =
     (start : ℕ) × (slice_get rows m ≡ Some (record { start = start; arguments = u.arguments; more = u.more; need = u.need }))
@@ -141,7 +144,7 @@ units_lie c (v ∷ us) p pre post before after n ends from within ec er (suc m) 
     m u e in
     (r.0, r.1, omega (arith, r.2), r.3)
 
--- behind them stand other instructions, with rows of their own
+-- after them come other instructions, with rows of their own
 pub units_lie_in : (c : Code) (us : List CodeUnit) (post : List Instruction) (after : List HandlerRow) → AllWithin us → RowsFrom (words_of us) after → c.instructions ≡ units_code 0 us ++ post → c.handlers ≡ units_rows 0 us ++ after →
     c.methods ≡ method_rows 0 us → LieIn c (words_of us) us
 units_lie_in c us post after within from ec er em = record {
@@ -150,6 +153,7 @@ units_lie_in c us post after within from ec er em = record {
       (r.0, ap (λ l. slice_get l m) em ∙ r.1, omega (arith, r.2), r.3);
 }
 
+-- the units lie in the whole code
 pub lie_in : (c : Code) (ms : File) (post : List Instruction) (after : List HandlerRow) → RowsFrom (words_of (units_of ms)) after → c.instructions ≡ units_code 0 (units_of ms) ++ post → c.handlers ≡ units_rows 0 (units_of ms) ++ after →
     c.methods ≡ method_rows 0 (units_of ms) → LieIn c (words_of (units_of ms)) (units_of ms)
 lie_in c ms post after from ec er em = units_lie_in c (units_of ms) post after (all_within ms) from ec er em

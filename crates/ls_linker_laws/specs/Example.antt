@@ -1,4 +1,4 @@
--- A small program, methods for it, and the code that they are linked to.
+-- A small program, methods for it, and the code to which they are linked:
 --
 --     class A { A() { } void work(int n) { n; } }
 --     setup { a = new A(); } thread T { a.work(-1); }

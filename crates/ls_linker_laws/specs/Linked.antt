@@ -1,4 +1,4 @@
--- The whole code: the units one after another, and behind them the threads.
+-- The whole code: the units one after another, and after them the threads.
 use Rattle.std.specs.Prelude.{ℕ, ◌+◌, List, [], ◌∷◌, ◌++◌, length, map}
 use Rattle.ls_checked.specs.CheckedTree.{Class, File}
 use Rattle.ls_checked.specs.CheckedProgram.{ThreadProgram, Program}
@@ -44,7 +44,7 @@ abbrev pub starts : List Class → ℕ → List ThreadProgram → List Start
 starts classes p [] = []
 starts classes p (t ∷ ts) = start_of p t ∷ starts classes (p + thread_size classes t) ts
 
--- an object has a cell for each field, and at least one
+-- the cells of an object of a class: one for its monitor, and one for each field
 abbrev pub class_size : Class → ℕ
 class_size c = object_cells (length c.fields)
 

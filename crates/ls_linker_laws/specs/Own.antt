@@ -17,8 +17,8 @@ abbrev pub most_values : List ProgramCall → ℕ
 most_values [] = 0
 most_values (c ∷ cs) = max (length (values_of c)) (most_values cs)
 
--- In its own code a thread makes at most three silent steps in a row more than its calls pass values at most: a second reference to a new object, the
--- values, and a throw at the entering. Before its first call, between two calls and behind its last one it makes at most one.
+-- In its own code a thread makes at most `most_values + 3` silent steps in a row. These are one for each value that a
+-- call passes, a second reference to a new object, and a throw at the entering.
 abbrev pub ThreadsAreQuick : File → Program → Code → Type 0
 ThreadsAreQuick file program c =
     (t : ℕ) (p : ThreadProgram) (s : Start) → slice_get program.threads t ≡ Some p → slice_get c.starts t ≡ Some s →

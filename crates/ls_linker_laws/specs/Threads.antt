@@ -1,4 +1,4 @@
--- The code of a thread: its calls one after another, and TRAP behind them, to which each throw leads.
+-- The code of a thread: its calls one after another, and after them TRAP, to which each throw leads.
 use Rattle.std.specs.Prelude.{ℕ, ◌+◌, ◌-◌, List, [], ◌∷◌, ◌++◌, length, map, max}
 use Rattle.ls_events.specs.declared.value.Value.{Value}
 use Rattle.ls_checked.specs.CheckedTree.{Class}
@@ -33,7 +33,7 @@ abbrev pub calls_code : List Class → ℕ → List ProgramCall → List Instruc
 calls_code classes n [] = op.Halt ∷ op.Trap ∷ []
 calls_code classes n (c ∷ cs) = call_code classes n c ++ calls_code classes (n + 1) cs
 
--- how many operands it has at most at one time
+-- the most operands that a call has at one time
 abbrev pub call_need : ProgramCall → ℕ
 call_need (Making name c text values) = 2 + length values
 call_need (Calling name m text answers values) = 1 + length values
@@ -48,7 +48,7 @@ thread_code classes t = calls_code classes 1 t.calls
 abbrev pub thread_size : List Class → ThreadProgram → ℕ
 thread_size classes t = length (thread_code classes t)
 
--- a throw at any place of a thread before its last leads to the last
+-- a throw at any place of a thread but its last place leads to the last place
 abbrev pub thread_row : ℕ → ℕ → HandlerRow
 thread_row place size = record { from = place; to = place + (size - 1); handler = place + (size - 1); depth = 0 }
 

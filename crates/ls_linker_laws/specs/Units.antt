@@ -24,17 +24,18 @@ pub record StandFor (methods : low.File) (units : List CodeUnit) : Type 0 where
   pub takes : TakeAsMany methods units
   -- no handler row reaches beyond its unit
   pub rows : All (λ u. All (λ r. r.to ≤ length u.instructions) u.handlers) units
-  -- Each unit, entered in whatever code the units lie, asks what its method asks, and answers or throws what it does. In each frame it is silent for
-  -- at most as many steps as the units have instructions, and one.
+  -- Each unit, entered in whatever code the units lie, asks what its method asks, and answers or throws what its
+  -- method does. In each frame it is silent for at most one step more than the units have instructions.
   pub ask : UnitsAsk methods units
 
--- Linked units ask what the source asks, where the methods that they stand for ask what the file asks.
+-- If the methods ask what the file asks, units that stand for these methods are linked to code that asks what the
+-- source asks.
 abbrev pub AnyUnitsAsk : Type 0
 AnyUnitsAsk =
     (file : File) (program : Program) (lowered : low.File) (units : List CodeUnit) → LoweredAsks file lowered → StandFor lowered units → IsTypedProgram file program →
     Asks file program (linked file program units)
 
--- So the image is the same as the source.
+-- So that code is the same as the source.
 abbrev pub AnyUnitsAreSame : Type 0
 AnyUnitsAreSame =
     (file : File) (program : Program) (lowered : low.File) (units : List CodeUnit) → LoweredAsks file lowered → StandFor lowered units → IsTypedFile file → HasItsClasses file →

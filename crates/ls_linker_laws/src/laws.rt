@@ -1,4 +1,4 @@
-// The law of linking, as the contract of a function that computes nothing.
+// The laws of linking: the functions compute nothing, and their contracts say the laws.
 
 ghost use Rattle.std.specs.Prelude.{All};
 ghost use Rattle.ls_checked.specs.CheckedTree.{File};
@@ -18,20 +18,21 @@ ghost use Rattle.ls_linker_laws.specs.Units.{AnyUnitsAsk, AnyUnitsAreSame};
 use ls_headline::laws::same_traces;
 use ls_soundness::laws::is_sound;
 
-/// The threads of the whole code ask what the threads of the source ask, where the lowered file asks as its file and its
-/// units ask as its methods, in whatever code they lie.
+/// Assume that a lowered file asks as its file, and that its units ask as its methods, in whatever code the units lie.
+/// Then the threads of the whole code ask what the threads of the source ask.
 pub fn linked_asks()
     ensures { (file : File) (program : Program) (lowered : low.File) → LoweredAsks file lowered → IsEmittableFile lowered → UnitsAsk lowered (units_of lowered) → IsTypedProgram file program → Asks file program (linked file program (units_of lowered)) }
 {}
 
-/// So do the threads of any units that stand for the methods of the lowered file: whoever emitted them, each takes as many arguments as its
-/// method, and asks what it asks within the bound of one frame.
+/// The same holds of any units that stand for the methods of the lowered file, whoever emitted them. Each unit takes
+/// as many arguments as its method, and asks what the method asks, within the bound of one frame.
 pub fn any_units_ask()
     ensures { AnyUnitsAsk }
 {}
 
-/// The code that any such units are linked to is the same as the source: each schedule of instructions has a schedule of source
-/// steps with the same trace and history, and each schedule of source steps that fits has a schedule of instructions.
+/// The code to which such units are linked is the same as the source. Each schedule of instructions has a schedule of
+/// source steps with the same trace and history. Each schedule of source steps that fits has a schedule of
+/// instructions.
 pub fn any_units_are_same()
     ensures { AnyUnitsAreSame }
 {
@@ -40,14 +41,14 @@ pub fn any_units_are_same()
     same_traces();
 }
 
-/// The whole code takes locks by load and exchange alone.
+/// The whole code takes locks only by a load and an exchange.
 #[tactic(auto, using(crate::proofs::Exchanged::linked_exchanges))]
 pub fn linked_exchanges()
     ensures { (file : File) (program : Program) (lowered : low.File) → All IsExchanged (linked file program (units_of lowered)).instructions }
 {}
 
-/// A small program's units and threads are linked so: jumps and rows are moved, and each thread has its code behind the
-/// units, its row and its start.
+/// The code to which a small program's units and threads are linked. Jumps and rows are moved. The code of each thread
+/// comes after the units, with its row and its start.
 pub fn example()
     ensures { LinksSo }
 {}

@@ -1,4 +1,5 @@
--- Each silent instruction of a unit leads ahead, but for the jump back to the SEE of a lock() that waits; none of its rows leads back.
+-- Each silent instruction of a unit leads to a later place, except the jump back to the SEE of a lock() that waits.
+-- None of its rows leads back.
 use Rattle.std.proofs.Common.{◌≡◌, ℕ, zero, suc, ◌+◌, ◌<◌, ◌≤◌, List, [], ◌∷◌, ◌++◌, length, Option, Some, None, refl, sym, subst, arith, slice_get, length-append, ◌⊎◌, inl, inr}
 use Rattle.std.proofs.lemmas.Option.{none-some}
 use Rattle.ls_code.specs.declared.code.HandlerRow.{HandlerRow}
@@ -25,7 +26,8 @@ abbrev pub IsASee : Option Instruction → Type 0
 IsASee a = (y : ℕ) × (a ≡ Some (op.See y))
 
 module _ (n : ℕ) where
-  -- An instruction at a place leads ahead, where it is silent, or is a jump back to a place that is known; the ones that no unit has are none of these.
+  -- An instruction that is silent leads to a later place, or is a jump back to a known place. An instruction that no
+  -- unit has does neither.
   abbrev pub Ahead : (ℕ → Type 0) → ℕ → Instruction → Type 0
   Ahead B p (op.Jump x) = (p < x) × (x < n)
   Ahead B p (op.JumpIfFalse x) = (p + 1 < n) × (((p < x) × (x < n)) ⊎ B x)
@@ -40,15 +42,16 @@ module _ (n : ℕ) where
   Ahead B p (op.Result x) = ⊥
   Ahead B p i = p + 1 < n
 
-  -- the place two before, where SEE is known to stand
+  -- the place two before, where SEE is known to be
   abbrev pub Back : Option Instruction → ℕ → ℕ → Type 0
   Back a p x = (x + 2 ≡ p) × IsASee a
 
-  -- behind two instructions that are known, or aren't
+  -- after two instructions that are known, or aren't
   abbrev pub AllBehind : Option Instruction → Option Instruction → ℕ → List Instruction → Type 0
   AllBehind a b p [] = Unit {0}
   AllBehind a b p (i ∷ is) = Ahead (Back a p) p i × AllBehind b (Some i) (p + 1) is
 
+  -- each instruction leads ahead, or back to a SEE two places before
   abbrev pub AllAt : ℕ → List Instruction → Type 0
   AllAt p xs = AllBehind None None p xs
 
@@ -56,6 +59,7 @@ module _ (n : ℕ) where
   turned_by B C f p x (inl h) = inl h
   turned_by B C f p x (inr h) = inr (f x h)
 
+  -- the same with other places to lead back to
   pub turned : (B C : ℕ → Type 0) → ((x : ℕ) → B x → C x) → (p : ℕ) (i : Instruction) → Ahead B p i → Ahead C p i
   turned B C f p op.Halt h = h
   turned B C f p (op.Push x) h = h
@@ -224,7 +228,7 @@ module _ (n : ℕ) where
     all_ahead End p l = tt
     all_ahead (More e es) p l = two_at p (size e) (code p e) (all_code (p + size e) es) (size_is e p) (ahead e p (omega arith)) (all_ahead es (p + size e) (omega arith))
 
-  -- the places to which a statement may jump lie behind it
+  -- the places to which a statement may jump come after it
   abbrev Beyond : ℕ → Targets → Type 0
   Beyond q [] = Unit {0}
   Beyond q (x ∷ t) = ((q ≤ x) × (x < n)) × Beyond q t
@@ -242,7 +246,7 @@ module _ (n : ℕ) where
   target_there q zero (x ∷ t) l h = h.0
   target_there q (suc k) (x ∷ t) l h = target_there q k t (omega (arith, l)) h.1
 
-  -- exits stand behind the body that is left, and so does their end
+  -- exits come after the body that is left, and so does their end
   places_beyond : (xs : Statements) (p q : ℕ) → q ≤ p → p + exits_size xs < n → Beyond q (places p xs)
   places_beyond Done p q le l = ((le, omega (arith, l)), tt)
   places_beyond (Then x xs) p q le l = ((omega (arith, le), omega (arith, l)), places_beyond xs (p + 1 + statement_size x) q (omega (arith, le)) (omega (arith, l)))
@@ -323,7 +327,7 @@ module _ (n : ℕ) where
           (at (p + 1 + statement_size x) (p + (statement_size x + 1)) (exits_code t end (p + 1 + statement_size x) xs) (omega arith)
           (exits_ahead xs t end (p + 1 + statement_size x) fit.1 (sooner (p + exits_size (Then x xs)) (p + 1 + statement_size x + exits_size xs) t (omega arith) h) (omega arith) l))
 
-  -- a row leads behind what it guards
+  -- a row leads to a place after what it guards
   abbrev pub RowsLead : List HandlerRow → Type 0
   RowsLead [] = Unit {0}
   RowsLead (r ∷ rs) = ((r.to ≤ r.handler) × (r.handler < n)) × RowsLead rs
@@ -333,6 +337,7 @@ module _ (n : ℕ) where
   rows_append (x ∷ xs) ys h g = (h.0, rows_append xs ys h.1 g)
 
   mutual
+    -- the rows of a statement lead to later places
     pub rows_lead : (s : Statement) (p : ℕ) → p + statement_size s < n → RowsLead (statement_rows p s)
     rows_lead (Block ss) p l = all_rows_lead ss p l
     rows_lead (SetLocal k e) p l = tt

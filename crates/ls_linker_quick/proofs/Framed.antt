@@ -24,7 +24,7 @@ use Rattle.ls_code.specs.Steps.{Move, Silent, Plans, thread_move, fetched_move}
 use Rattle.ls_linker_quick.proofs.Ahead.{IsASee, Ahead, Back, AllBehind, AllAt, RowsLead, turned, rows_lead, method_ahead}
 use Rattle.ls_linker_quick.proofs.Onward.{Onto, silent_on, find_leads}
 
--- SEE stands at a place
+-- SEE is at a place
 abbrev IsSee : List Instruction → ℕ → Type 0
 IsSee whole x = IsASee (slice_get whole x)
 
@@ -125,7 +125,7 @@ found_from lo [] place row h e = absurd (none-some row e)
 found_from lo (r ∷ rs) place row h e = found_if lo place r rs (nat_le r.from place && nat_lt place r.to) row h.0 e (λ is. found_from lo rs place row h.1 is)
 
 module _ (file : File) (emittable : IsEmittableFile file) (c : Code) (words : ℕ) (lies : LieIn c words (units_of file)) (m : ℕ) (u : CodeUnit) (row : MethodRow) (eu : slice_get (units_of file) m ≡ Some u) (er : slice_get c.methods m ≡ Some row) where
-  -- where the unit lies
+  -- the place of the unit
   pub record Lying : Type 0 where
     pub values : List ℕ
     pub at : Placed file c words m values
@@ -165,6 +165,7 @@ module _ (file : File) (emittable : IsEmittableFile file) (c : Code) (words : �
       let from = found_from start (method_rows start g) p r (rows_from start g.body start (omega arith)) here in
       (omega (arith, from, w.first), ahead.0, omega (arith, ahead.1, w.first, w.long))
 
+-- the law: the frames of emitted units are quick
 pub frames_quick : (file : File) → IsEmittableFile file → FramesAreQuick file
 frames_quick file emittable c words lies = record {
   there = λ m u e. (let at = lies.at m u e in (_, at.1));

@@ -35,6 +35,7 @@ find_by n r rs place true e h row is rest =
     subst (λ (w : HandlerRow). (place < w.handler) × (w.handler < n)) same (omega (arith, lt, h.0.0), h.0.1)
 find_by n r rs place false e h row is rest = rest row is
 
+-- the row that is found leads to a later place of the unit
 pub find_leads : (n : ℕ) (rs : List HandlerRow) (place : ℕ) (row : HandlerRow) → RowsLead n rs → find_row rs place ≡ Some row → (place < row.handler) × (row.handler < n)
 find_leads n [] place row h e = absurd (none-some row e)
 find_leads n (r ∷ rs) place row h e = find_by n r rs place (nat_le r.from place && nat_lt place r.to) refl h row e (λ w is. find_leads n rs place w h.1 is)
@@ -240,6 +241,7 @@ module _ (n : ℕ) (B : ℕ → Type 0) where
     of_on (Beyond (wide.Take x)) h = tt
     of_on (Beyond (wide.DropLock x)) h = tt
 
+    -- a silent step of an instruction that leads ahead leads to a later place of the unit, or back
     pub silent_on : (i : Instruction) → slice_get c.instructions t.top.counter ≡ Some i → Ahead n B t.top.counter i → (s : Thread) → thread_move c t ≡ Silent s → Leads s
     silent_on i is h s e =
         let move : thread_move c t ≡ of_frame c t (frame_move i t.top) = ap (fetched_move c t) is in

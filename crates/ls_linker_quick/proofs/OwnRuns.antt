@@ -96,7 +96,7 @@ look k whole start (i ∷ is) has fine p (suc j) e l =
 same_instruction : (whole : List Instruction) (p q : ℕ) (a b : Instruction) → p ≡ q → slice_get whole p ≡ Some a → slice_get whole q ≡ Some b → a ≡ b
 same_instruction whole p q a b e f g = same_Some a b (sym f ∙ ap (slice_get whole) e ∙ g)
 
--- what a silent step comes to: one step less is left, or no silent step follows
+-- after a silent step: one step less is left, or no silent step follows
 abbrev Left : ℕ → ℕ → List Instruction → Instruction → Thread → Type 0
 Left p trap is i s = ((run (i ∷ is) ≡ suc (run is)) × (s.top.counter ≡ p + 1)) ⊎ ((run (i ∷ is) ≡ 1) × ((s.top.counter ≡ trap) ⊎ (s.mode ≡ mode.Ended)))
 
@@ -167,7 +167,7 @@ before (suc p) (suc q) l = further (before p q (omega (arith, l)))
     further (inr h) = inr (ap suc h)
 
 module _ (c : Code) (from trap k : ℕ) (row : HandlerRow) (leads : row.handler ≡ trap) (at_trap : slice_get c.instructions trap ≡ Some op.Trap) (guards : (p : ℕ) → from ≤ p → p < trap → find_row c.handlers p ≡ Some row) where
-  -- nothing silent follows where TRAP stands, nor behind the thread's end
+  -- nothing silent follows at the place of TRAP, nor after the thread's end
   trap_stops : (n : ℕ) (x x' : Thread) → x.top.counter ≡ trap → InFrame c n x x' → n ≡ 0
   trap_stops zero x x' e h = refl
   trap_stops (suc n) x x' e h = absurd (trap_acts c x trap (ap (slice_get c.instructions) e ∙ at_trap) h.1 h.2 h.3)
@@ -229,6 +229,7 @@ module _ (file : File) (program : Program) (lowered : low.File) where
       let most = fine_run k r.0 r.2 in
       omega (arith, quick, most)
 
+  -- the law: threads are quick in their own code
   pub threads_quick : ThreadsAreQuick file program code
   threads_quick t p s found starts n x x' lo hi h =
       let th = thread_at t s starts in

@@ -34,7 +34,7 @@ IsOwn (op.Result n) = Unit {0}
 IsOwn op.Trap = Unit {0}
 IsOwn _ = ⊥
 
--- where a silent step of one leads that stays in the frame
+-- where a silent step of an instruction leads, if it stays in the frame
 abbrev pub LeadsTo : ℕ → ℕ → Instruction → Thread → Type 0
 LeadsTo p trap (op.Push v) s = s.top.counter ≡ p + 1
 LeadsTo p trap op.Dup s = s.top.counter ≡ p + 1
@@ -50,7 +50,7 @@ module _ (c : Code) (t : Thread) (trap : ℕ) where
   By i (Asks action go) = Unit {0}
   By i (Plans go) = Unit {0}
 
-  -- the move of a frame, where what it goes on to is so, and it throws nothing
+  -- the move of a frame, if what it goes on to is so, and if it throws nothing
   abbrev Frames : Instruction → FrameMove → Type 0
   Frames i (Next f) = (s : Thread) → s.top.counter ≡ f.counter → LeadsTo t.top.counter trap i s
   Frames i (Throws kind) = ⊥
@@ -193,6 +193,7 @@ module _ (c : Code) (t : Thread) (trap : ℕ) where
     by_own op.LeaveWith own = absurd own
     by_own op.Throw own = absurd own
 
+    -- where a silent step of a thread's own code leads
     pub own_step : (i : Instruction) → IsOwn i → slice_get c.instructions t.top.counter ≡ Some i → (s : Thread) → thread_move c t ≡ Silent s → length s.below ≡ length t.below → LeadsTo t.top.counter trap i s
     own_step i own is s e same =
         let move : thread_move c t ≡ of_frame c t (frame_move i t.top) = ap (fetched_move c t) is in

@@ -6,12 +6,12 @@ use Rattle.ls_code.specs.declared.instruction.Instruction.{Instruction}
 use Rattle.ls_code.specs.declared.instruction.Instruction.TheVariants as op
 use Rattle.ls_headline.specs.Example as right
 
--- so many jumps from this place on, each to the next place
+-- `n` jumps from this place on, each to the next place
 abbrev pub jumps : ℕ → ℕ → List Instruction
 jumps zero place = []
 jumps (suc n) place = op.Jump (place + 1) ∷ jumps n (place + 1)
 
--- the last of them leads to the setup's first call
+-- the last jump leads to the setup's first call
 abbrev pub start : Start
 start = record { place = 22; need = 2; calls = Nothing ∷ [] }
 

@@ -22,6 +22,7 @@ pair file slots k free (More x (More y (More z es))) t u h b = absurd h.1.1
 
 module _ (file : File) (slots : List ValueType) (k : ℕ) where
   mutual
+    -- a lowered expression names only locals of its method
     pub below : (free : ℕ) (s : Sort) (e : Expression) → length slots ≤ free → free + temporaries e ≤ k → IsTyped file slots s e → IsBelow k (lowered file.classes free e)
     below free s (Literal v) fits room h = tt
     below free s (Slot n) fits room h = let there = in_range slots n h.0 h.2 in omega (arith, there, fits, room)
@@ -75,6 +76,7 @@ module _ (file : File) (slots : List ValueType) (k : ℕ) where
     below free s (MakeMarkable c es) fits room h = pair file slots k free es (types.Class c) types.Boolean h.1 (all_below free (types.Class c ∷ types.Boolean ∷ []) es fits room h.1)
     below free s (MakeArray e) fits room h = below free _ e fits room h.1
 
+    -- lowered arguments name only locals of their method
     pub all_below : (free : ℕ) (ts : List ValueType) (es : Expressions) → length slots ≤ free → free + all_temporaries es ≤ k → AreTyped file slots ts es →
         AreBelow k (all_lowered file.classes free es)
     all_below free [] End fits room h = tt

@@ -43,6 +43,7 @@ module _ (file : File) (typed : IsTypedFile file) (slots : List ValueType) where
       (sym (at_mapped (lowered_method file.classes) file.methods m g e)) many
 
   mutual
+    -- each call of a lowered expression has as many arguments as its method
     pub calls : (free : ℕ) (s : Sort) (e : Expression) → IsTyped file slots s e → CallsWell (lowered_file file) (lowered file.classes free e)
     calls free s (Literal v) h = tt
     calls free s (Slot n) h = tt
@@ -79,6 +80,7 @@ module _ (file : File) (typed : IsTypedFile file) (slots : List ValueType) where
     calls free s (MakeMarkable c es) h = pair file (lowered_file file) slots free es (types.Class c) types.Boolean h.1 (all_calls free (types.Class c ∷ types.Boolean ∷ []) es h.1)
     calls free s (MakeArray e) h = calls free _ e h.1
 
+    -- each call of lowered arguments has as many arguments as its method
     pub all_calls : (free : ℕ) (ts : List ValueType) (es : Expressions) → AreTyped file slots ts es → AllCallWell (lowered_file file) (all_lowered file.classes free es)
     all_calls free [] End h = tt
     all_calls free [] (More e es) h = absurd h

@@ -1,4 +1,4 @@
--- The lowered form of a typed expression has code, where its locals are there and its calls have their arguments.
+-- The lowered form of a typed expression has code, if its locals exist and its calls have their arguments.
 use Rattle.std.proofs.Common.{◌≡◌, ℕ, ◌+◌, ◌<◌, ◌^◌, List, [], ◌∷◌, length, Option, Some, None, option_map, refl, sym, subst, arith}
 use Rattle.std.specs.Prelude.{slice_get}
 use Rattle.std.proofs.lemmas.Option.{slice_get-map}
@@ -34,6 +34,7 @@ field_there : (fields : List ValueType) (f : ℕ) (t : ValueType) (o : Option Va
 field_there fields f t None is e = absurd (no_value t e)
 field_there fields f t (Some u) is e = in_range fields f u is
 
+-- the cell of a field is an operand
 pub field_small : (file : File) → IsRanged file → (c f : ℕ) (t : ValueType) (o : Option Class) → slice_get file.classes c ≡ o → field_in o f ≡ ValueOf t → f + 1 < 2 ^ 32
 field_small file ranged c f t None is e = absurd (no_value t e)
 field_small file ranged c f t (Some class) is e =
@@ -55,6 +56,7 @@ module _ (file : File) (typed : IsTypedFile file) (its : HasItsClasses file) (ra
       omega (arith, there, few, is)
 
   mutual
+    -- a lowered expression of a typed file has code
     pub emitted : (free : ℕ) (s : Sort) (e : Expression) → IsTyped file slots s e → IsBelow k (lowered file.classes free e) → CallsWell (lowered_file file) (lowered file.classes free e) →
         IsEmittable (flat_file (lowered_file file)) k (lowered file.classes free e)
     emitted free s (Literal v) h b w = small_word s v h

@@ -6,7 +6,7 @@ use Rattle.ls_lowered.specs.LoweredTree.{Statement, Block, SetLocal, SetField, A
 use Rattle.ls_finally_exits.specs.Exits.{outward, count, Exit, LeaveOut, ReturnOut, leave_exit, exits, all_exits, or_leave, replaced, all_replaced, exit_of, ways, finally_of}
 use Rattle.ls_emit_laws.specs.Emittable.{statement_count, IsEmittableStatement, AreEmittableStatements}
 
--- an exit with one of so many numbers around
+-- an exit with a number below this, around the statement
 abbrev Leads : ℕ → Exit → Type 0
 Leads around (LeaveOut n) = n < around
 Leads around ReturnOut = Unit {0}
@@ -72,7 +72,7 @@ module _ (ms : File) (k : ℕ) where
   leave_in None inner j n after e room = let there = inside inner n e in omega (arith, there, room)
   leave_in (Some m) inner j n after e room = omega (arith, room)
 
-  -- a statement with its exits as leaves of their own, where so many numbers can be left before and so many afterwards
+  -- a statement with its exits as leaves of its own; the numbers that can be left before and afterwards are given
   mutual
     replaced_in : (r inner j before after : ℕ) (s : Statement) → r < k → inner + j + length (exits inner s) ≤ after → IsEmittableStatement ms k before s → IsEmittableStatement ms k after (replaced r inner j s)
     replaced_in r inner j before after (Block ss) rk room h = all_replaced_in r inner j before after ss rk room h
@@ -123,6 +123,7 @@ module _ (ms : File) (k : ℕ) where
   ways_in r around f [] rk h lead = tt
   ways_in r around f (x ∷ xs) rk h lead = ((h, (exit_in r around x rk lead.0, tt)), ways_in r around f xs rk h lead.1)
 
+  -- a `try` by copies of its finally block has code
   pub finally_in : (q around : ℕ) (b f : Statement) → q + 1 < k → IsEmittableStatement ms k around b → IsEmittableStatement ms k around f → IsEmittableStatement ms k around (finally_of q b f)
   finally_in q around b f qk bs fs =
       let low : q < k = omega (arith, qk) in

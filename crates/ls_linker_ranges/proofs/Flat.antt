@@ -12,6 +12,7 @@ flat_count (Then s ss) j = ap suc (flat_count ss (j + 2 * tries s))
 
 module _ (ms : File) (k : ℕ) where
   mutual
+    -- the form of a statement without `try` has code
     pub flat_in : (j around : ℕ) (s : Statement) → j + 2 * tries s ≤ k → Flattens ms k around s → IsEmittableStatement ms k around (flat j s)
     flat_in j around (Block ss) room h = all_flat_in j around ss room h
     flat_in j around (SetLocal n e) room h = h

@@ -3,8 +3,10 @@ use Rattle.std.specs.Prelude.{ℕ, suc, ◌+◌, ◌<◌, ◌^◌}
 use Rattle.ls_lowered.specs.LoweredTree.{Statement, Block, SetLocal, SetField, AddField, SetItem, Evaluate, If, While, Return, Try, Guarded, Throw, Leavable, Leave, Statements, Done, Then, File}
 use Rattle.ls_emit_laws.specs.Emittable.{statement_count, IsEmittable}
 
--- a statement of a method with k locals, round which so many numbers can be left; the calls are to methods of the first
+-- a statement of a method with k locals, from which leaves with these numbers may lead out; the calls are to methods
+-- of the first file
 abbrev mutual
+  -- a statement of which the form without `try` has code
   pub Flattens : File → ℕ → ℕ → Statement → Type 0
   Flattens ms k around (Block ss) = AllFlatten ms k around ss
   Flattens ms k around (SetLocal n e) = (n < k) × IsEmittable ms k e
@@ -21,6 +23,7 @@ abbrev mutual
   Flattens ms k around (Leavable b xs) = Flattens ms k (suc (statement_count xs) + around) b × AllFlatten ms k around xs
   Flattens ms k around (Leave n) = n < around
 
+  -- the same of statements
   pub AllFlatten : File → ℕ → ℕ → Statements → Type 0
   AllFlatten ms k around Done = Unit {0}
   AllFlatten ms k around (Then s ss) = Flattens ms k around s × AllFlatten ms k around ss

@@ -1,4 +1,4 @@
--- The jumps and rows of a unit name places of the unit, or just behind it.
+-- The jumps and rows of a unit name places of the unit, or the place just after it.
 use Rattle.std.proofs.Common.{ℕ, zero, suc, ◌+◌, ◌≤◌, ◌<◌, List, [], ◌∷◌, ◌++◌, length, arith}
 use Rattle.std.specs.Prelude.{All, slice_index_or}
 use Rattle.std.proofs.lemmas.List.{length-append}
@@ -21,6 +21,7 @@ use Rattle.ls_emit_laws.proofs.StatementPlaces.{statement_size_is}
 use Rattle.ls_emit.specs.Short.{AllShort}
 use Rattle.ls_linker_ranges.specs.Landing.{Lands, RowLands, UnitLands}
 
+-- each item has a property
 abbrev pub Each : {A : Type 0} → (A → Type 0) → List A → Type 0
 Each P [] = Unit {0}
 Each P (x ∷ xs) = P x × Each P xs

@@ -78,6 +78,7 @@ module _ (file : File) (program : Program) (ranged : IsRanged file) (typed : IsT
   threads_link : All (ThreadLinks file.classes) program.threads
   threads_link = λ k t below. thread_links k (slice_index_or program.threads k t) (slice_get-get_or program.threads k t below)
 
+  -- the units and the threads of a typed file and its program can be linked
   pub all_link : IsTypedFile file → HasItsClasses file → HasItsLoops file → AllFit file.methods → AllShort (flat_file (lowered_file file)) → Links file program (units_of (flat_file (lowered_file file)))
   all_link well its loops fit short =
       let methods = ranged.methods in

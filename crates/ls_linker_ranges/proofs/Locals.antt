@@ -38,12 +38,13 @@ mutual
       ahead_tries (lowered_statement classes free s) (lowered_block classes (free + refs.statement_temporaries s) ss)
       ∙ ap₂ (λ x y. x + y) (tries_same classes _ s) (all_tries_same classes _ ss)
 
+-- a method with few locals has a lowered method with few locals
 pub few_here : (classes : List Class) (m : Method) → m.parameters < length m.slots → refs.locals_of m ≤ 128 → locals_of (lowered_method classes m) ≤ 128
 few_here classes m slots few =
     let e = tries_same classes (length m.slots) m.body in
     omega (arith, e, slots, few)
 
--- where the methods of a file have few locals, so have its lowered methods
+-- if the methods of a file have few locals, so have its lowered methods
 pub few_locals : (file : File) → AllSlotted file.methods → AllFit file.methods → FewLocals (lowered_file file)
 few_locals file slots fit =
     All-map (λ m. locals_of m ≤ 128) (lowered_method file.classes) file.methods

@@ -1,4 +1,4 @@
--- What lowering, emitting and linking ask for has one proof at most, so it follows where a file merely is well typed.
+-- What lowering, emitting and linking ask for has at most one proof. So it follows if a file merely is well typed.
 use Rattle.std.proofs.Common.{ℕ, suc, ◌+◌, List, [], ◌∷◌, Option, Some, None}
 use Rattle.std.proofs.Props.{props}
 use Rattle.ls_events.specs.declared.value.Value.{Value}
@@ -100,6 +100,7 @@ mutual
   statements_placed ms k Done = hlevel
   statements_placed ms k (Then s ss) = hlevel (statement_placed ms k s, statements_placed ms k ss)
 
+-- what lowering asks for has at most one proof
 pub placed_once : (ms : File) (rest : List Method) → IsProp (AllPlaced ms rest)
 placed_once ms [] = hlevel
 placed_once ms (m ∷ rest) = hlevel (statement_placed ms (m.arguments + m.locals) m.body, placed_once ms rest)
@@ -161,6 +162,7 @@ mutual
 method_emittable : (ms : File) (m : Method) → IsProp (IsEmittableMethod ms m)
 method_emittable ms m = hlevel (props, statement_emittable ms (m.arguments + m.locals) 0 m.body)
 
+-- what emitting asks for has at most one proof
 pub emittable_once : (ms : File) (rest : List Method) → IsProp (AllEmittable ms rest)
 emittable_once ms [] = hlevel
 emittable_once ms (m ∷ rest) = hlevel (method_emittable ms m, emittable_once ms rest)
@@ -185,5 +187,6 @@ call_links : (classes : List checked.Class) (c : ProgramCall) → IsProp (CallLi
 call_links classes (Making name class text values) = hlevel (props, written)
 call_links classes (Calling name method text result values) = hlevel (props, written)
 
+-- what linking asks for has at most one proof
 pub links_once : (file : checked.File) (program : Program) (units : List CodeUnit) → IsProp (Links file program units)
 links_once file program units = hlevel (props, unit_lands, call_links)

@@ -67,5 +67,6 @@ all_placed : (file : File) (typed : IsTypedFile file) (rest : List Method) → (
 all_placed file typed [] h = tt
 all_placed file typed (m ∷ rest) h = (placed_method file typed m (h 0 m refl), all_placed file typed rest (λ n x e. h (suc n) x e))
 
+-- in the lowered form of a typed file each local exists, and each call has its arguments
 pub file_placed : (file : File) → IsTypedFile file → AllPlaced (lowered_file file) (lowered_file file)
 file_placed file typed = all_placed file typed file.methods typed

@@ -99,5 +99,6 @@ module _ (file : File) (typed : IsTypedFile file) (its : HasItsClasses file) (ra
   all_emittable (m ∷ rest) h j f =
       (method_emittable m (h 0 m refl) (j 0 m refl) (f 0 m refl), all_emittable rest (λ n x e. h (suc n) x e) (λ n x e. j (suc n) x e) (λ n x e. f (suc n) x e))
 
+  -- the tree without `try` of a file with few locals has code
   pub file_emittable : HasItsLoops file → AllFit file.methods → IsEmittableFile (flat_file (lowered_file file))
   file_emittable loops fit = all_emittable file.methods typed loops (λ n m e. all_at (λ m. refs.locals_of m ≤ 128) file.methods fit n m e)

@@ -50,6 +50,7 @@ of_pair c (Boolean b) h = absurd h
 of_pair c (Reference n) h = absurd h
 of_pair c (Pair n m) h = pair_small n m h
 
+-- the word of a constant is an operand
 pub small_word : (s : Sort) (v : Value) → HasSort IsNull s v → value_word v < 2 ^ 32
 small_word NoValue v h = of_nothing v h
 small_word (ValueOf t) v h = of_type v t h

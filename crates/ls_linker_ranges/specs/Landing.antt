@@ -6,7 +6,7 @@ use Rattle.ls_code.specs.declared.instruction.Instruction.TheVariants as op
 use Rattle.ls_code.specs.declared.code.HandlerRow.{HandlerRow}
 use Rattle.ls_emit_laws.specs.Units.{CodeUnit}
 
--- a jump, if it is one, to a place up to n
+-- if the instruction is a jump, it leads to a place up to n
 abbrev pub Lands : ℕ → Instruction → Type 0
 Lands n (op.Jump place) = place ≤ n
 Lands n (op.JumpIfFalse place) = place ≤ n

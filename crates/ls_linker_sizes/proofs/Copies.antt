@@ -118,6 +118,7 @@ module _ (most : ℕ) where
     all_flat_few (Then s ss) k le =
         omega (arith, flat_few s k (omega (arith, le)), all_flat_few ss (k + 2 * tries s) (omega (arith, le)), distribute (copies k s) (all_copies (k + 2 * tries s) ss) each)
 
+-- the law: how many nodes the lowering makes
 pub lowers_few : LowersFew
 lowers_few classes m =
     let words = lowered_method classes m in
@@ -133,5 +134,6 @@ written_few classes (m ∷ ms) few =
     let names : locals_of words ≤ 128 = few 0 words (omega arith) in
     omega (arith, names, lowers_few classes m, written_few classes ms (λ k d below. few (suc k) d (omega (arith, below))))
 
+-- the law: the count of the lowered tree, by what is written
 pub counts_written : CountsWritten
 counts_written file few = written_few file.classes file.methods few

@@ -10,7 +10,7 @@ use Rattle.ls_refs_expressions.specs.Lowered.{lowered, all_lowered, lowered_stat
 use Rattle.ls_refs.proofs.Ahead.{by_inner}
 use Rattle.ls_linker_laws.specs.Counts.{nodes, all_nodes, statement_nodes, statements_nodes, checked_nodes, all_checked_nodes, written_nodes, block_nodes}
 
--- in place of a block stand its statements
+-- a block is replaced by its statements
 joined_nodes : (ss rest : Statements) → statements_nodes (joined ss rest) ≡ statements_nodes ss + statements_nodes rest
 joined_nodes Done rest = omega arith
 joined_nodes (Then s ss) rest = omega (arith, joined_nodes ss rest)
@@ -63,6 +63,7 @@ module _ (classes : List checked.Class) where
     all_few (checked.More e es) free = omega (arith, few e free, all_few es (free + temporaries e))
 
   mutual
+    -- a statement is lowered to at most 16 nodes for each of its nodes
     pub statement_few : (s : checked.Statement) (free : ℕ) → statement_nodes (lowered_statement classes free s) ≤ 16 * written_nodes s
     statement_few (checked.Block ss) free = omega (arith, block_few ss free)
     statement_few (checked.SetSlot n e) free = omega (arith, few e free)

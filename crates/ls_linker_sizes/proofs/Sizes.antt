@@ -72,5 +72,6 @@ mutual
   exits_sized Done = omega arith
   exits_sized (Then x xs) = omega (arith, statement_sized x, exits_sized xs)
 
+-- a method has at most 16 instructions for each node and declared name
 pub method_sized : (m : Method) → method_size m ≤ 16 * method_count m
 method_sized m = omega (arith, statement_sized m.body)

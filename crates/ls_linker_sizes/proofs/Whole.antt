@@ -38,6 +38,7 @@ units_hold p (m ∷ ms) =
     let b = length-map (method_code 0 m) (moved p) in
     omega (arith, a, b, code_size m, units_hold (p + length (method_code 0 m)) ms)
 
+-- the law: the whole code has the instructions of each method
 pub code_holds : CodeHoldsMethods
 code_holds file program flat = omega (arith, length-append (units_code 0 (units_of flat)) (threads_code file.classes program.threads), units_hold 0 flat)
 
@@ -69,6 +70,7 @@ threads_short classes (t ∷ ts) =
     let a = length-append (calls_code classes 1 t.calls) (threads_code classes ts) in
     omega (arith, a, calls_short classes 1 t.calls, threads_short classes ts)
 
+-- the whole code has at most 16 instructions for each thing that is counted
 pub code_short : (file : checked.File) (program : Program) (flat : File) → length (linked file program (units_of flat)).instructions ≤ 16 * (file_count flat + program_count program)
 code_short file program flat =
     let a = length-append (units_code 0 (units_of flat)) (threads_code file.classes program.threads) in
@@ -79,5 +81,6 @@ each_short [] le k d l = absurd (let no : ⊥ = omega (arith, l) in no)
 each_short (m ∷ ms) le zero d l = omega (arith, le, method_sized m)
 each_short (m ∷ ms) le (suc k) d l = each_short ms (omega (arith, le)) k d (omega (arith, l))
 
+-- the law: if at most 4,096 things are counted, no code is too long
 pub keeps_floor : KeepsFloor
 keeps_floor file program flat le = (each_short flat (omega (arith, le)), omega (arith, le, code_short file program flat))

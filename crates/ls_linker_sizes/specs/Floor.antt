@@ -20,19 +20,20 @@ abbrev pub CodeHoldsMethods : Type 0
 CodeHoldsMethods =
     (file : checked.File) (program : Program) (flat : File) → file_size flat ≤ length (linked file program (units_of flat)).instructions
 
--- and at most 16 for each of these, and for each thread, call and argument
+-- the whole code has at most 16 instructions for each node and declared name, and for each thread, call and argument
 abbrev pub CodeIsShort : Type 0
 CodeIsShort =
     (file : checked.File) (program : Program) (flat : File) →
     length (linked file program (units_of flat)).instructions ≤ 16 * (file_count flat + program_count program)
 
--- Where all these are together at most 4,096, neither a method nor the whole code has over 65,536.
+-- If all these are together at most 4,096, neither a method nor the whole code has over 65,536 instructions.
 abbrev pub KeepsFloor : Type 0
 KeepsFloor =
     (file : checked.File) (program : Program) (flat : File) → file_count flat + program_count program ≤ 4096 →
     All (λ m. method_size m ≤ 65536) flat × length (linked file program (units_of flat)).instructions ≤ 65536
 
--- The lowering makes at most 16 nodes of one, and then each copy of a finally block adds at most 6 and the nodes of the body in which the block stands.
+-- The lowering makes at most 16 nodes of one node. Then each copy of a finally block adds at most 6 nodes, and the
+-- nodes of the body that the block belongs to.
 abbrev pub LowersFew : Type 0
 LowersFew =
     (classes : List checked.Class) (m : checked.Method) →
@@ -40,7 +41,8 @@ LowersFew =
     let most = 16 * written_nodes m.body in
     statement_nodes (flat_method words).body ≤ most + copies_of words * (most + 6)
 
--- what a checked method comes to at most: 16 for each node of its body, as many and 6 for each copy of a finally block, and 128 for its names
+-- The most that a checked method counts: 16 for each node of its body and 128 for its names. Each copy of a finally
+-- block counts 6, and 16 for each node of the body.
 abbrev pub written_method : List checked.Class → checked.Method → ℕ
 written_method classes m =
     let most = 16 * written_nodes m.body in
@@ -50,7 +52,7 @@ abbrev pub written_count : List checked.Class → List checked.Method → ℕ
 written_count classes [] = 0
 written_count classes (m ∷ ms) = written_method classes m + written_count classes ms
 
--- The count of the lowered tree, by what was written; no method has more than 128 locals.
+-- The count of the lowered tree, by what is written. No method has more than 128 locals.
 abbrev pub CountsWritten : Type 0
 CountsWritten =
     (file : checked.File) → FewLocals (lowered_file file) →

@@ -1,9 +1,10 @@
-// The laws, each as the contract of a function that computes nothing.
+// The laws: the functions compute nothing, and their contracts say the laws.
 
 ghost use Rattle.ls_linker_sizes.specs.Floor.{UnitsAreFew, CodeHoldsMethods, CodeIsShort, KeepsFloor, LowersFew, CountsWritten};
 
-/// A method has at most 16 instructions for each node and each declared name, and the whole code has those of each method, and at most as
-/// many for each of these and for each thread, call and argument. Where all these are together at most 4,096, neither is too long.
+/// A method has at most 16 instructions for each node and each declared name. The whole code has the instructions of
+/// each method. It has at most 16 for each node, declared name, thread, call and argument. If these are together at
+/// most 4,096, no code is too long.
 pub fn sizes()
     ensures units { UnitsAreFew }
     ensures methods { CodeHoldsMethods }
@@ -11,7 +12,8 @@ pub fn sizes()
     ensures floor { KeepsFloor }
 {}
 
-/// The lowering makes at most 16 nodes of one, and each copy of a finally block adds at most 6 and the nodes of its body.
+/// The lowering makes at most 16 nodes of one node. Each copy of a finally block adds at most 6 nodes and the nodes of
+/// its body.
 pub fn lowering()
     ensures method { LowersFew }
     ensures file { CountsWritten }

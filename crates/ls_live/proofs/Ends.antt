@@ -1,4 +1,5 @@
--- After a record with which all seats agree, each of them told Over or Full, each thread is over or the record is full.
+-- If all seats agree with a record, and each was told Over or Full, then each thread is over after the record, or the
+-- record is full.
 use Rattle.std.proofs.Common.{◌≡◌, ℕ, ◌<◌, ◌⊎◌, inl, inr, ⊎_elim, zero, suc, List, [], ◌∷◌, length, Bool, true, false, refl, sym, ◌∙◌, arith, rules, get_or, subst}
 use Rattle.std.specs.Prelude.{slice_get, Some, ◌&&◌}
 use Rattle.std.specs.List.{list_all}
@@ -53,7 +54,7 @@ opened_in_order n seats len h i s e =
     let same : Some (seat_of i 0 told.Nothing) ≡ Some s = sym (h i (omega arith)) ∙ e in
     cc
 
--- told seats of each thread of a code, which agree with a record of its run
+-- seats of each thread of a code that were told so, and that agree with a record of its run
 pub all_done : (start : Machine) (most : ℕ) (code : Code) (cells limit : ℕ) (r : Record) (seats : List Seat) → start ≡ loaded code cells → most ≡ limit
     → length seats ≡ length code.starts → AreInOrder seats
     → list_all (agrees start most (scheduled r)) seats ≡ true → list_all (λ s. is_told s.told) seats ≡ true → IsDone code cells limit r

@@ -13,7 +13,7 @@ done_by more.Full = 0
 done_by more.Later = 0
 done_by (more.Did did) = 1
 
--- the seat after a step that was so answered
+-- the seat after a step with this answer
 abbrev pub seat_after : Seat → More → Seat
 seat_after s more.Over = seat_of s.thread s.steps told.Over
 seat_after s more.Full = seat_of s.thread s.steps told.Full

@@ -1,4 +1,4 @@
-// Why there is no live run, or no record of one.
+// Why there is no live run, or no record of it.
 
 ghost use Rattle.ls_live.specs.declared.fault.LiveFault.TheVariants.{Memory};
 ghost use Rattle.std.specs.Prelude.{◌≡◌};
@@ -12,10 +12,10 @@ pub enum LiveFault {
     /// Memory ran out.
     #[error("out of memory")]
     Memory,
-    /// 35: no cells, more than 4,194,304, or fewer than setup names.
+    /// 35: no cells, over 4,194,304 cells, or fewer cells than setup names.
     #[error("bad number of cells")]
     BadCells,
-    /// 51: more than 1,000,000 steps.
+    /// 51: a limit over 1,000,000 steps.
     #[error("a limit over 1,000,000 steps")]
     BadLimit,
 }

@@ -1,5 +1,5 @@
-//! Live threads over one machine behind a lock: a seat for each thread of an image, each step done and recorded under the
-//! lock, and the record of it all.
+//! Live threads over one machine, which a lock guards, with a seat for each thread of an image. Each step is done and
+//! recorded under the lock. At the end there is the record.
 #![tactic(auto)]
 
 mod fault;

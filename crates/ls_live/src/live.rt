@@ -21,7 +21,7 @@ use std::marker::Model;
 use std::sync::ledger::{Blank, Share};
 use std::sync::{Mutex, Wait, ledger};
 
-// What lies under the lock: the book, the ledger of the seats' steps, and a share of no part and no step.
+// What the lock guards: the book, the ledger of the seats' steps, and a share of no part and no step.
 #[derive(Drop)]
 struct Desk<L: Session> {
     book: Book<L>,
@@ -32,7 +32,7 @@ struct Desk<L: Session> {
     ghost spare_amount: { spare.amount ≡ 0 },
 }
 
-/// What steps a thread. Contracts see its thread, how many steps it made, and what it was told last.
+/// What steps a thread. Contracts see the thread, how many steps the seat made, and what it was told last.
 #[derive(Drop)]
 pub struct Seat<L: Session> {
     thread: usize,
@@ -49,7 +49,7 @@ impl<L: Session> Model for Seat<L> {
     ghost invariant = { λ s. (s.share.parts ≡ 1) × (s.share.amount ≡ s.steps) };
 }
 
-/// A machine and its record, under a lock.
+/// A machine and its record, which a lock guards.
 #[derive(Drop)]
 pub struct Live<L: Session> {
     desk: Mutex<Desk<L>>,
@@ -112,7 +112,7 @@ impl<L: Session> Seat<L> {
     }
 }
 
-// Whether no machine of the code has so many cells.
+// Whether no machine of the code has this many cells.
 fn are_bad_cells(code: &Code, cells: usize) -> bool
     ensures { IsTrue result ↔ AreBadCells code.now.names cells }
 {
@@ -159,7 +159,7 @@ fn seated<L: Session>(
     (seats, rest)
 }
 
-// The seats have no more parts than there are, and where they have them all, their steps are the total.
+// There are at most as many seats as parts. If there are as many, their steps are the total.
 fn audit_all<L: Session>(steps: &mut ledger::Book<L>, seats: &mut [Seat<L>], seen: &mut Share<L>)
     requires apart { seen.old.parts ≤ L.parts }
     requires backed { seen.old.parts ≡ 0 → seen.old.amount ≡ 0 }
@@ -180,7 +180,7 @@ fn audit_all<L: Session>(steps: &mut ledger::Book<L>, seats: &mut [Seat<L>], see
     }
 }
 
-// The seats as they were: where there are as many as parts, their steps are the total.
+// The seats as they were. If there are as many as parts, their steps are the total.
 fn audited<L: Session>(
     steps: &mut ledger::Book<L>,
     mut seats: Vec<Seat<L>>,
@@ -205,9 +205,11 @@ fn agree_all<L: Session>(book: &Book<L>, seats: &[Seat<L>]) -> bool
 impl<L: Session> Live<L> {
     ghost use Rattle.ls_live.specs.Closing.{IsClosed, IsNotClosed};
 
-    /// A live run of an image on so many cells, at most so many steps long, with one seat for each thread, the setup's first.
-    /// All memory is taken here. Refused with 35 if there are no cells, more than 4,194,304, or fewer than setup names, and else
-    /// with 51 if the limit is over 1,000,000 steps.
+    /// A live run of an image on `cells` cells, with at most `limit` steps. It has one seat for each thread, that of
+    /// the setup first. All memory is taken here.
+    ///
+    /// Refused with 35 if there are no cells, over 4,194,304, or fewer than setup names. Else refused with 51 if the
+    /// limit is over 1,000,000 steps. Else the only refusal is that memory ran out.
     pub fn open(
         alloc: Global,
         blank: Blank,
@@ -249,8 +251,8 @@ impl<L: Session> Live<L> {
         Ok((live, seats))
     }
 
-    /// Takes the lock, and steps the seat's thread in the book. It takes no memory. That it hands on what the book answers is
-    /// shown by tests.
+    /// Takes the lock, and steps the thread of the seat in the book. It takes no memory. Tests show that it answers
+    /// what the book answers.
     pub fn step(&self, rt: &impl Wait, seat: &mut Seat<L>) -> More
         ensures { seat.new ≡ seat_after seat.old result }
     {
@@ -264,8 +266,8 @@ impl<L: Session> Live<L> {
         more
     }
 
-    /// The record, where all seats are there and agree with it. It takes no memory. Refused with 50 exactly where a seat is
-    /// missing, and else with 54 exactly where one disagrees.
+    /// The record, if all seats are given and agree with it. It takes no memory. Refused with 50 exactly if a seat is
+    /// missing. Else refused with 54 exactly if a seat disagrees.
     pub fn close(self, seats: Vec<Seat<L>>) -> Result<Record, CloseFault<L>>
         requires { L.seats ≡ L.parts }
         ensures closed { IfOk result (IsClosed L.start L.limit L.seats seats.items true) }

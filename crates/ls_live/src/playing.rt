@@ -21,7 +21,7 @@ use std::sync::Wait;
 use std::sync::ledger::Blank;
 use std::thread::Threads;
 
-/// How many cells the machine of a live run has, and how many steps are recorded at most.
+/// How many cells the machine of a live run has, and how many steps it may record.
 #[derive(Copy)]
 struct Bounds {
     cells: usize,
@@ -70,10 +70,13 @@ fn played<L: Session + Send + Sync, G: Gate + Sync, R: Threads + Wait + Sync>(
     }
 }
 
-/// The record of an image's machine with so many cells, stepped in threads, one for each of its own, until each is over or so
-/// many steps are recorded. Each recorded step is of a thread that is there and due then, so none is idle.
-/// Refused with 35 if there are no cells, more than 4,194,304, or fewer than setup names, else with 51 if the limit is over
-/// 1,000,000 steps; with 52 if a thread could not be started. That 54 never comes is shown by tests.
+/// The record of a live run of an image on `cells` cells, each thread in a thread of its own. It goes on until each
+/// thread is over or `limit` steps are recorded. Each recorded step is of a thread that exists and is due then, so no
+/// step is idle.
+///
+/// Refused with 35 if there are no cells, over 4,194,304, or fewer than setup names. Else refused with 51 if the limit
+/// is over 1,000,000 steps. Else refused with 52 if a thread could not be started, or if memory runs out. Tests show
+/// that 54 never comes.
 pub fn play_live<G: Gate + Sync, R: Threads + Wait + Sync>(
     rt: &R,
     alloc: Global,

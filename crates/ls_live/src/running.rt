@@ -15,14 +15,14 @@ pub trait Gate {
     fn pass(&self, thread: usize);
 }
 
-/// 52: a thread could not be started. The run and all seats come back.
+/// 52: a thread could not be started. The run and all seats are given back.
 #[derive(Drop)]
 pub struct NoThread<L: Session> {
     pub live: Live<L>,
     pub seats: Vec<Seat<L>>,
 }
 
-// Steps the seat until it is told that nothing more comes of its thread, or that the book is full.
+// Steps the seat until it is told that no step will come of its thread, or that the book is full.
 fn work<L: Session, G: Gate, R: Wait>(rt: &R, live: &Live<L>, seat: &mut Seat<L>, gate: &G)
     ensures { is_told seat.new.told ≡ true }
 {
@@ -55,8 +55,8 @@ fn are_in_order<L: Session>(seats: &[Seat<L>]) -> bool
     true
 }
 
-/// Works each seat in a thread of its own until it is told `Over` or `Full`, the setup's first. Refused where a thread could not
-/// be started: those that were go on to their ends.
+/// Works each seat in a thread of its own until it is told `Over` or `Full`; that of the setup is started first.
+/// Refused if a thread could not be started. The threads that were started go on to their ends.
 pub fn run_live<'x, L: Session + Send + Sync, G: Gate + Sync, R: Threads + Wait + Sync>(
     rt: &'x R,
     live: Live<L>,

@@ -12,6 +12,7 @@ use Rattle.ls_live_book.specs.Books.{IsKept}
 pub run_more : (m : Machine) (ns : List ℕ) (n : ℕ) → machine_run m (ns ++ n ∷ []) ≡ (machine_step (machine_run m ns) n).machine
 run_more m ns n = (go_on m ns (n ∷ [])).0
 
+-- one step more is kept
 pub kept_on : (start : Machine) (most : ℕ) (machine next : Machine) (steps : List ℕ) (limit t : ℕ)
     → IsKept start most machine steps limit → next ≡ (machine_step machine t).machine
     → is_over (machine_run start steps) t ≡ false → is_not_started (machine_state (machine_run start steps) t) ≡ false → length steps ≢ limit

@@ -95,6 +95,7 @@ there_acts : (m : Machine) (n : ℕ) (o : Option Thread) → state_in m n o ≡ 
 there_acts m n None h = absurd (cc)
 there_acts m n (Some t) h = open_acts m n t m.stopped h
 
+-- the law: a step that is due is not idle
 pub none_is_idle : DueIsNotIdle
 none_is_idle m [] d = tt
 none_is_idle m (n ∷ ns) d = (there_acts m n (slice_get m.threads n) d.0, none_is_idle (machine_step m n).machine ns d.1)

@@ -18,6 +18,7 @@ step_threads : (m : Machine) (n : ℕ) (o : Option Thread) → length (step_of m
 step_threads m n None = refl
 step_threads m n (Some t) = open_threads m n t m.stopped
 
+-- a run keeps the number of threads
 pub run_threads : (m : Machine) (ns : List ℕ) → length (machine_run m ns).threads ≡ length m.threads
 run_threads m [] = refl
 run_threads m (n ∷ ns) = run_threads (machine_step m n).machine ns ∙ step_threads m n (slice_get m.threads n)

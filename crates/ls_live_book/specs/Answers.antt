@@ -1,4 +1,4 @@
--- What the book behind the lock answers to a step, and which steps it has recorded then.
+-- What the book of a live run answers to a step, and which steps are recorded after it.
 use Rattle.std.specs.Prelude.{ℕ, ◌==◌, ◌||◌, List, [], ◌∷◌, ◌++◌, Bool, true, false, if◌then◌else◌}
 use Rattle.ls_code.specs.Machine.{Machine, machine_step, machine_state}
 use Rattle.ls_code.specs.declared.step.ThreadState.{ThreadState}
@@ -6,7 +6,7 @@ use Rattle.ls_code.specs.declared.step.ThreadState.TheVariants as state
 use Rattle.ls_live_book.specs.declared.book.More.{More}
 use Rattle.ls_live_book.specs.declared.book.More.TheVariants as more
 
--- nothing more comes of a thread that stands so
+-- no step will come of a thread in this state
 abbrev pub is_final : ThreadState → Bool
 is_final state.NotStarted = false
 is_final state.Running = false
@@ -32,7 +32,7 @@ is_not_started state.Stopped = false
 unfoldable pub is_over : Machine → ℕ → Bool
 is_over m t = is_final (machine_state m t) || is_trapped (machine_state m 0)
 
--- what a step of thread t is answered, where the machine is m and so many of at most so many steps are recorded
+-- The answer to a step of thread t. The machine is m, and `recorded` of at most `limit` steps are recorded.
 unfoldable pub answer : Machine → ℕ → ℕ → ℕ → More
 answer m recorded limit t =
     if is_over m t then more.Over
@@ -40,7 +40,7 @@ answer m recorded limit t =
     else if is_not_started (machine_state m t) then more.Later
     else more.Did (machine_step m t).did
 
--- the recorded steps after a step of thread t that was so answered
+-- the recorded steps after a step of thread t with this answer
 abbrev pub recorded_after : List ℕ → ℕ → More → List ℕ
 recorded_after steps t more.Over = steps
 recorded_after steps t more.Full = steps

@@ -1,9 +1,10 @@
--- What the book behind the lock keeps.
+-- What the book of a live run keeps.
 use Rattle.std.specs.Prelude.{◌≡◌, ℕ, ◌<◌, ◌≤◌, List, length, All}
 use Rattle.ls_code.specs.Machine.{Machine, machine_run}
 use Rattle.ls_live_book.specs.Due.{AreDue}
 
--- the machine is that of the run of the recorded steps, each of a thread that is there and due, and they are no more than may be
+-- The machine is that of the run of the recorded steps. Each step is of a thread that exists and is due. There are no
+-- more steps than may be.
 pub record IsKept (start : Machine) (most : ℕ) (machine : Machine) (steps : List ℕ) (limit : ℕ) : Type 0 where
   pub run : machine ≡ machine_run start steps
   pub there : All (λ t. t < length start.threads) steps

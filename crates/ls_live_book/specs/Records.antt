@@ -1,12 +1,12 @@
--- Records of the book behind the lock.
+-- Records of the book of a live run.
 use Rattle.std.specs.Prelude.{◌≡◌, ℕ, ◌<◌, ◌≤◌, length, All}
 use Rattle.ls_code.specs.Machine.{Machine, machine_run}
 use Rattle.ls_live_book.specs.Due.{AreDue}
 use Rattle.ls_schedule.specs.Records.{scheduled, happened}
 use Rattle.ls_schedule.specs.declared.replaying.Record.{Record}
 
--- a record of at most so many steps from a machine on: its history is that of the run of its schedule, and each step is of a
--- thread that is there and due
+-- A record of at most `limit` steps from a machine on. Its history is that of the run of its schedule. Each step is of
+-- a thread that exists and is due.
 pub record IsRecordFrom (start : Machine) (limit : ℕ) (r : Record) : Type 0 where
   pub history : happened r ≡ (machine_run start (scheduled r)).history
   pub there : All (λ t. t < length start.threads) (scheduled r)

@@ -5,7 +5,7 @@ use Rattle.ls_live_book.specs.Answers.{is_over}
 use Rattle.ls_live_book.specs.declared.book.Told.{Told}
 use Rattle.ls_live_book.specs.declared.book.Told.TheVariants as told
 
--- its thread, how many steps it made, and which it was told last, Over or Full
+-- the thread of a seat, how many steps the seat made, and which it was told last, Over or Full
 pub record Seat : Type 0 where
   pub thread : ℕ
   pub steps : ℕ
@@ -20,7 +20,7 @@ told_agrees start limit schedule t told.Nothing = true
 told_agrees start limit schedule t told.Over = is_over (machine_run start schedule) t
 told_agrees start limit schedule t told.Full = length schedule == limit
 
--- the seat's steps are the entries of its thread, and what it was told is so after the schedule
+-- the seat's steps are the entries of its thread, and what the seat was told is so after the schedule
 unfoldable pub agrees : Machine → ℕ → List ℕ → Seat → Bool
 agrees start limit schedule s =
     (count_by (λ t. t == s.thread) schedule == s.steps) && told_agrees start limit schedule s.thread s.told

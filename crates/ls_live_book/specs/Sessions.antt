@@ -1,4 +1,4 @@
--- The machine of a session that nobody has picked.
+-- The machine of a session for which no machine has been chosen.
 use Rattle.std.specs.Prelude.{[]}
 use Rattle.ls_code.specs.Code.{Code}
 use Rattle.ls_code.specs.Machine.{Machine, loaded}

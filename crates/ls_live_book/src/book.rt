@@ -1,4 +1,4 @@
-// The book behind the lock. What one step does and answers is exact here.
+// The book of a live run, which a lock guards. What one step does and answers is exact here.
 
 ghost use Rattle.ls_code.specs.Machine.{Machine as MachineValue, machine_run, machine_state};
 ghost use Rattle.ls_live_book.specs.Answers.{answer, is_not_started, is_over, recorded_after};
@@ -19,11 +19,11 @@ use std::sync::ledger::Ledger;
 /// What a step is answered.
 #[derive(Copy)]
 pub enum More {
-    /// Nothing more comes of the thread: it has ended or trapped, the setup trapped, or the machine has stopped.
+    /// No step will come of the thread: it has ended or trapped, the setup has trapped, or the machine has stopped.
     Over,
-    /// As many steps are recorded as may be.
+    /// The book has as many steps as it may have.
     Full,
-    /// The thread starts when the setup has ended.
+    /// The setup hasn't ended yet, so the thread hasn't started.
     Later,
     /// The step is done, and recorded.
     Did(Did),
@@ -35,7 +35,7 @@ impl Clone for More {
     }
 }
 
-/// Which of `Over` and `Full` a seat was told last.
+/// Which of `Over` and `Full` a seat was told last, if any.
 #[derive(Copy, PartialEq, Eq)]
 pub enum Told {
     Nothing,
@@ -49,7 +49,7 @@ impl Clone for Told {
     }
 }
 
-/// Names a live run: the machine that it begins with, how many steps it may record, and how many seats it has.
+/// The name of a live run: the machine with which it begins, how many steps it may record, and how many seats it has.
 pub trait Session: Ledger {
     ghost start: { MachineValue };
 
@@ -68,7 +68,7 @@ impl Session for Brand {
     ghost seats = { 0 };
 }
 
-/// A machine, and the schedule that it has run from the session's start on. Contracts see it as the schedule.
+/// A machine, and the schedule that it has run since the start of the session. Contracts see the book as the schedule.
 #[derive(Drop)]
 pub struct Book<L: Session> {
     machine: Machine,
@@ -86,7 +86,7 @@ impl<L: Session> Model for Book<L> {
 }
 
 impl<L: Session> Book<L> {
-    /// The book of a machine that has run nothing, with room for as many steps as may be recorded.
+    /// The book of a machine that has run nothing. It has room for as many steps as it may record.
     pub fn new(machine: Machine, schedule: Vec<usize>, limit: usize) -> Book<L>
         requires start { machine ≡ L.start }
         requires limit { limit ≡ L.limit }
@@ -110,7 +110,7 @@ impl<L: Session> Book<L> {
         self.schedule.len()
     }
 
-    // Whether nothing more comes of the thread.
+    // Whether no step will come of the thread.
     #[tactic(auto, unfolding(crate::specs::Answers::is_over))]
     fn is_over(&self, thread: usize) -> bool
         ensures { result ≡ is_over (machine_run L.start self.now) thread }
@@ -129,8 +129,8 @@ impl<L: Session> Book<L> {
         matches!(self.machine.state_of(thread), ThreadState::NotStarted)
     }
 
-    /// Tests whether nothing more comes of the thread, then whether the book is full, then whether the thread has started.
-    /// Where none of these answers, the thread makes a step, which is recorded. It takes no memory.
+    /// One step of a thread. Answers `Over` if no step will come of the thread, else `Full` if the book is full, else
+    /// `Later` if the thread hasn't started. Else the thread makes a step, which is recorded. It takes no memory.
     #[tactic(auto, using(crate::proofs::Books::kept_on), unfolding(crate::specs::Answers::answer))]
     pub fn step(&mut self, thread: usize) -> More
         ensures answer { result ≡ answer (machine_run L.start self.old) (length self.old) L.limit thread }
@@ -169,7 +169,8 @@ impl<L: Session> Book<L> {
     }
 
     #[tactic(auto, unfolding(crate::specs::Seats::agrees))]
-    /// Whether a seat agrees with what is recorded: its steps are the entries of its thread, and what it was told is so.
+    /// Whether a seat agrees with the record: its steps are the entries of its thread, and what it was told last is
+    /// so.
     pub fn agrees_with(&self, thread: usize, steps: u64, told: Told) -> bool
         ensures { result ≡ agrees L.start L.limit self.now (seat_of thread steps told) }
     {

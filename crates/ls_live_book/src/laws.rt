@@ -2,7 +2,7 @@
 
 ghost use Rattle.ls_live_book.specs.Due.{DueIsNotIdle};
 
-/// A step of a thread that is due does something: the machine doesn't answer it `Idle`.
+/// If a thread is due, its step does something: the machine doesn't answer it `Idle`.
 pub fn due_is_not_idle()
     ensures { DueIsNotIdle }
 {}

@@ -1,4 +1,5 @@
-//! The book behind the lock of a live run: a machine, and the schedule that it has run. It knows no threads and no lock.
+//! The book of a live run: a machine, and the schedule that it has run. A lock guards the book, but the book knows no
+//! threads and no lock.
 #![tactic(auto)]
 
 mod book;

@@ -1,5 +1,6 @@
-//! Tests of live threads behind a lock, driven by one thread: what seats are told and answered, and the same where all further memory is
-//! refused. They stand apart from the crates that they test, so that they are proved without proving those again.
+//! Tests of live threads, driven by one thread: what seats are told and answered, and the same if all further memory
+//! is refused. They are apart from the crates that they test. So the tests are proved without proving those crates
+//! again.
 #![tactic(auto)]
 
 #[cfg(test)]

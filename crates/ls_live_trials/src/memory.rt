@@ -1,4 +1,4 @@
-// Steps while all further memory is refused: they answer as they do with ample memory.
+// Steps while all further memory is refused. They answer as they do with enough memory.
 
 ghost use Rattle.ls_code.specs.Machine.{loaded};
 ghost use Rattle.ls_image.specs.Images.{code_of_image};
@@ -20,7 +20,7 @@ const CELLS: usize = 1000;
 
 const CALLS: usize = 100_000;
 
-// The digest of so many steps, of each thread in turn.
+// The digest of `CALLS` steps, of each thread in turn.
 fn step_machine(machine: &mut Machine) -> u64 {
     let mut digest = 0;
     for number in 0..CALLS {
@@ -29,7 +29,7 @@ fn step_machine(machine: &mut Machine) -> u64 {
     digest
 }
 
-// The digest of the steps of an image's machine, where further memory is refused by the hoard or there is ample.
+// The digest of the steps of an image's machine. With a hoard, further memory is refused.
 fn machine_digest(alloc: Global, image: &Image, hoard: Option<&mut Hoard>) -> Result<u64, Fail> {
     let mut machine = Machine::load(alloc, image.code(), CELLS)?;
     if let Some(hoard) = hoard {
@@ -38,7 +38,7 @@ fn machine_digest(alloc: Global, image: &Image, hoard: Option<&mut Hoard>) -> Re
     Ok(step_machine(&mut machine))
 }
 
-// Whether an image's machine isn't loaded where all memory is refused.
+// Whether an image's machine isn't loaded if all memory is refused.
 fn a_machine_is_refused(alloc: Global, image: &Image) -> Result<bool, AllocError> {
     let mut hoard = Hoard::new(alloc)?;
     hoard.take_all(alloc);
@@ -46,7 +46,7 @@ fn a_machine_is_refused(alloc: Global, image: &Image) -> Result<bool, AllocError
     Ok(matches!(loaded, Err(LoadFault::Memory)))
 }
 
-// Whether a machine isn't loaded without memory, and does without further memory what it does with it.
+// Whether a machine isn't loaded without memory, and whether a loaded machine does the same without further memory.
 fn machine_goes_on(alloc: Global, image: &Image) -> Result<[bool; 2], Fail> {
     let is_refused = a_machine_is_refused(alloc, image)?;
     let wanted = machine_digest(alloc, image, None)?;
@@ -97,7 +97,7 @@ fn with_more(answers: Answers, more: More) -> Answers {
     }
 }
 
-// What so many steps are answered, of each seat in turn.
+// What the steps of each seat in turn are answered.
 fn step_live<L: Session, R: Wait>(rt: &R, live: &Live<L>, seats: &mut [Seat<L>]) -> Answers {
     let mut answers = Answers {
         digest: 0,
@@ -111,7 +111,7 @@ fn step_live<L: Session, R: Wait>(rt: &R, live: &Live<L>, seats: &mut [Seat<L>])
     answers
 }
 
-// What the steps of a live run are answered, where further memory is refused or there is ample.
+// What the steps of a live run are answered. With a hoard, further memory is refused.
 fn answers_of<L: Session, R: Wait>(
     rt: &R,
     alloc: Global,
@@ -132,7 +132,7 @@ fn answers_of<L: Session, R: Wait>(
     Ok(step_live(rt, &live, seats.as_mut_slice()))
 }
 
-// What the steps of a live run of an image are answered, where further memory is refused or there is ample.
+// What the steps of a live run of an image are answered. With a hoard, further memory is refused.
 fn live_answers<R: Wait>(
     rt: &R,
     alloc: Global,
@@ -145,7 +145,7 @@ fn live_answers<R: Wait>(
     Ok(answers_of::<Brand, R>(rt, alloc, blank, image, taken)?)
 }
 
-// Whether most answers are steps, and they are the same without further memory.
+// Whether most answers are steps, and whether they are the same without further memory.
 fn live_goes_on<R: Wait>(rt: &R, alloc: Global, image: &Image) -> Result<bool, Fail> {
     let wanted = live_answers(rt, alloc, image, false)?;
     Ok(wanted.steps > CALLS / 2 && live_answers(rt, alloc, image, true)? == wanted)

@@ -18,7 +18,7 @@ const CELLS: usize = 1000;
 
 const LIMIT: usize = 100;
 
-// Steps the seat until it is told Over or Full, and answers how many steps were done.
+// Steps the seat until it is told Over or Full. Answers how many steps were done.
 fn step_to_its_end<L: Session, R: Wait>(rt: &R, live: &Live<L>, seat: &mut Seat<L>) -> u64 {
     let mut done = 0_u64;
     for _ in 0..LIMIT + 1 {
@@ -31,7 +31,8 @@ fn step_to_its_end<L: Session, R: Wait>(rt: &R, live: &Live<L>, seat: &mut Seat<
     done
 }
 
-// The setup's seat is told Over, A's is told to come later and then makes five steps. How many the setup's made, where it is so.
+// The setup's seat is told Over. A's seat is told to come later, and then makes five steps. If this is so, answers how
+// many steps the setup's seat made.
 fn begun<L: Session, R: Wait>(rt: &R, live: &Live<L>, seats: &mut [Seat<L>]) -> Option<u64> {
     let (setup, others) = seats.split_first_mut()?;
     let (a, _) = others.split_first_mut()?;
@@ -45,7 +46,7 @@ fn begun<L: Session, R: Wait>(rt: &R, live: &Live<L>, seats: &mut [Seat<L>]) -> 
     (is_early && is_set_up && goes_on).then_some(set_up)
 }
 
-// How many steps a run has, where it is closed.
+// How many steps a run has, if it is closed.
 fn len_closed<L: Session>(live: Live<L>, seats: Vec<Seat<L>>) -> Option<usize>
     requires { L.seats ≡ L.parts }
 {
@@ -55,7 +56,7 @@ fn len_closed<L: Session>(live: Live<L>, seats: Vec<Seat<L>>) -> Option<usize>
     }
 }
 
-// The run and its seats, where it isn't closed since a seat is missing.
+// The run and its seats, if it isn't closed since a seat is missing.
 fn not_closed<L: Session>(live: Live<L>, seats: Vec<Seat<L>>) -> Option<(Live<L>, Vec<Seat<L>>)>
     requires { L.seats ≡ L.parts }
 {
@@ -65,7 +66,8 @@ fn not_closed<L: Session>(live: Live<L>, seats: Vec<Seat<L>>) -> Option<(Live<L>
     }
 }
 
-// The run goes on with B's seat until the book is full, and is closed with it. How many steps B's made, where it is so.
+// The run goes on with B's seat until the book is full, and is closed with that seat. If this is so, answers how many
+// steps B's seat made.
 fn ended<L: Session, R: Wait>(
     rt: &R,
     live: Live<L>,
@@ -81,7 +83,7 @@ fn ended<L: Session, R: Wait>(
     (is_full && len == Some(LIMIT)).then_some(rest)
 }
 
-// Without B's seat the run isn't closed, and goes on. How many steps B's made then.
+// Without B's seat the run isn't closed, and goes on. Answers how many steps B's seat made then.
 fn goes_on<L: Session, R: Wait>(rt: &R, live: Live<L>, mut seats: Vec<Seat<L>>) -> Option<u64>
     requires { L.seats ≡ L.parts }
 {
@@ -90,7 +92,7 @@ fn goes_on<L: Session, R: Wait>(rt: &R, live: Live<L>, mut seats: Vec<Seat<L>>) 
     ended(rt, live, seats, b)
 }
 
-// Whether a run begins so, and goes on so, and each step but five of A's was made by the setup's seat or B's.
+// Whether a run begins and goes on in this way. Each step but five of A's must be one of the setup's seat or B's.
 fn goes_through<L: Session, R: Wait>(rt: &R, live: Live<L>, mut seats: Vec<Seat<L>>) -> bool
     requires { L.seats ≡ L.parts }
 {
@@ -99,7 +101,7 @@ fn goes_through<L: Session, R: Wait>(rt: &R, live: Live<L>, mut seats: Vec<Seat<
     is_whole(set_up, rest)
 }
 
-// Whether the seats of a run of an image are told so.
+// Whether the seats of a run of an image are told these things in turn.
 fn is_told_in_turn<L: Session, R: Wait>(rt: &R, alloc: Global, blank: Blank, image: &Image) -> bool
     requires name { blank.name ≡ L.name }
     requires parts { blank.parts ≡ L.parts }
@@ -113,7 +115,7 @@ fn is_told_in_turn<L: Session, R: Wait>(rt: &R, alloc: Global, blank: Blank, ima
     }
 }
 
-// Whether there are so many steps of the setup and of B as the book has beside five of A.
+// Whether the steps of the setup and of B are all that the book has beside five of A.
 fn is_whole(set_up: Option<u64>, rest: Option<u64>) -> bool {
     match (set_up, rest) {
         (Some(set_up), Some(rest)) => set_up.wrapping_add(rest) == LIMIT as u64 - 5,
@@ -126,7 +128,7 @@ fn first_step<L: Session, R: Wait>(rt: &R, live: &Live<L>, seats: &mut [Seat<L>]
     Some(live.step(rt, seats.get_mut(1)?))
 }
 
-// What the first step of A's seat is answered, where nothing is recorded then.
+// What the first step of A's seat is answered, if nothing is recorded then.
 fn first_recorded<L: Session, R: Wait>(
     rt: &R,
     live: Live<L>,
@@ -142,7 +144,8 @@ fn first_recorded<L: Session, R: Wait>(
     }
 }
 
-// What the first step of A's seat is answered in a run of an image, where the setup hasn't ended and nothing is recorded then.
+// What the first step of A's seat is answered in a run of an image, if the setup hasn't ended and nothing is recorded
+// then.
 fn first_answer<L: Session, R: Wait>(
     rt: &R,
     alloc: Global,
@@ -162,13 +165,13 @@ fn first_answer<L: Session, R: Wait>(
     }
 }
 
-// The first answer to A's seat, where so many steps may be recorded.
+// The first answer to A's seat, if `limit` steps may be recorded.
 fn first_of<R: Wait>(rt: &R, alloc: Global, image: &Image, limit: usize) -> Option<More> {
     let blank = Blank::new(image.code().starts().len() as u64);
     first_answer::<Brand, R>(rt, alloc, blank, image, limit)
 }
 
-// Whether A's seat is told that the book is full where it has no room, and else to come later.
+// Whether A's seat is told that the book is full if it has no room, and else to come later.
 fn is_told_first<R: Wait>(rt: &R, alloc: Global, image: &Image) -> [bool; 2] {
     [
         matches!(first_of(rt, alloc, image, 0), Some(More::Full)),

@@ -1,8 +1,9 @@
 // Class texts and programs.
 
-// Two threads that count for ever, one at a time.
+/// Two threads that count for ever, one at a time.
 pub const COUNTER: &str = "class Counter { int count; Lock lock = new ReentrantLock(); \
     void up() { while (true) { lock.lock(); count = count + 1; lock.unlock(); } } }";
 
+/// Two threads that call its method.
 pub const TWO_COUNT: &str =
     "setup { c = new Counter(); } thread A { c.up(); } thread B { c.up(); }";

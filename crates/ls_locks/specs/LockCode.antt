@@ -1,13 +1,15 @@
--- The code of one operation on the lock, or on the monitor of the object, whose address lies on top of the operands. SEE puts the lock's word over the
--- address, TAKE and DROP exchange it for another where it still is what was seen.
+-- The code of one operation on a lock, or on the monitor of an object. Its address is on top of the operands. SEE puts
+-- the word of the lock on top of the address. TAKE and DROP exchange that word for another, if it still is what was
+-- seen.
 use Rattle.std.specs.Prelude.{ℕ, List, [], ◌∷◌}
 use Rattle.ls_code.specs.declared.instruction.Instruction.{Instruction}
 use Rattle.ls_code.specs.declared.instruction.Instruction.TheVariants as op
 use Rattle.ls_lowered.specs.declared.tree.LockOperation.{LockOperation}
 use Rattle.ls_lowered.specs.declared.tree.LockOperation.TheVariants.{Lock, Unlock, TryLock, IsHeld, LockMonitor, UnlockMonitor}
 
--- At a place. `lock()` looks and takes until it is won; `tryLock()` looks once and leaves its flag, 1 where it was won,
--- over the address, and PACK and MARKOF leave the flag alone. An operation that gives no word leaves 0.
+-- At a place. `lock()` looks and takes until it has the lock. `tryLock()` looks once and leaves its flag on top of the
+-- address, which is 1 if it has the lock. PACK and MARKOF leave only the flag. An operation that gives no word leaves
+-- 0.
 abbrev pub waiting_code : ℕ → ℕ → List Instruction
 waiting_code place which = op.See which ∷ op.Take which ∷ op.JumpIfFalse place ∷ op.Pop ∷ op.Push 0 ∷ []
 

@@ -7,7 +7,7 @@ use ls_code::instruction::Instruction;
 use ls_lowered::tree::LockOperation;
 use std::alloc::AllocError;
 
-/// How many instructions an operation of a lock has.
+/// How many instructions the code of an operation of a lock has.
 pub fn lock_size(operation: LockOperation) -> usize
     ensures size { result ≡ size_of_lock operation }
     ensures few { result ≤ 5 }
@@ -22,7 +22,7 @@ pub fn lock_size(operation: LockOperation) -> usize
     }
 }
 
-// Puts the code of an operation that waits until it is won behind the code that is there.
+// Puts the code of an operation that waits until it has the lock after the code that is there.
 fn push_waiting(code: &mut Vec<Instruction>, place: usize, which: u32) -> Result<(), AllocError>
     requires { place < 2 ^ 32 }
     ensures { OnOk result (code.new.items ≡ code.old.items ++ waiting_code place which) }
@@ -35,7 +35,7 @@ fn push_waiting(code: &mut Vec<Instruction>, place: usize, which: u32) -> Result
     Ok(())
 }
 
-// Puts the code of an unlock behind the code that is there.
+// Puts the code of an unlock after the code that is there.
 fn push_leaving(code: &mut Vec<Instruction>, seen: u32, dropped: u32) -> Result<(), AllocError>
     ensures { OnOk result (code.new.items ≡ code.old.items ++ leaving_code seen dropped) }
 {
@@ -45,7 +45,8 @@ fn push_leaving(code: &mut Vec<Instruction>, seen: u32, dropped: u32) -> Result<
     Ok(())
 }
 
-/// Puts the code of an operation behind the code that is there. The place is where its first instruction stands.
+/// Puts the code of an operation after the code that is there. `place` is the place of its first instruction. The only
+/// refusal is that memory ran out.
 pub fn lower_lock(
     code: &mut Vec<Instruction>,
     place: usize,

@@ -97,7 +97,7 @@ not_equal = refl
 packed : at (Binary op.Pack (Word 5) (Word 1)) [] ≡ is 11
 packed = refl
 
--- the second operand isn't evaluated where the first decides
+-- the second operand isn't evaluated if the first decides
 and_left : at (And (Word 0) MakeLock) [] ≡ is 0
 and_left = refl
 
@@ -129,7 +129,7 @@ field_of_null = refl
 item : at (Item (Local 0) (Unary Negate (Word 1))) [] ≡ Asks (act.ReadItem 7 (negsuc 0))
 item = refl
 
--- the index stands before the test for null
+-- the index comes before the test for null
 item_of_null : at (Item (Local 1) MakeLock) [] ≡ Asks act.NewLock
 item_of_null = refl
 
@@ -176,7 +176,7 @@ called = refl
 call_traps : at (Call 4 (Local 0) (More (Word 1) End)) [] ≡ Ends (Throws Arithmetic) (7 ∷ 0 ∷ 4 ∷ []) []
 call_traps = refl
 
--- the arguments stand before the test for null
+-- the arguments come before the test for null
 call_on_null : at (Call 4 (Local 1) (More MakeLock End)) [] ≡ Asks act.NewLock
 call_on_null = refl
 

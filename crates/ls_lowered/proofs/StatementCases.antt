@@ -36,7 +36,7 @@ block_left = refl
 field_set : at (SetField (Local 0) 3 (Word 5)) [] ≡ Asks (act.WriteField 7 4 5)
 field_set = refl
 
--- the value stands before the test for null
+-- the value comes before the test for null
 field_of_null : at (SetField (Local 1) 3 MakeLock) [] ≡ Asks act.NewLock
 field_of_null = refl
 
@@ -46,7 +46,7 @@ field_added_to = refl
 field_and_sum : at (AddField (Local 0) 3 (Word 5)) (answer.Gives 4294967294 ∷ []) ≡ Asks (act.WriteField 7 4 3)
 field_and_sum = refl
 
--- the test for null stands before the value
+-- the test for null comes before the value
 none_added_to : at (AddField (Local 1) 3 MakeLock) [] ≡ ends (Threw NullPointer) 0 4
 none_added_to = refl
 

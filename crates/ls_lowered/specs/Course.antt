@@ -1,5 +1,5 @@
--- What a tree asks for next, or how it ends, after the answers that its actions have had so far. Everything is total over
--- words: an answer without a word reads as word 0.
+-- What a tree asks for next, or how it ends, after the answers that its actions have had so far. Everything is total
+-- over words: an answer without a word is read as word 0.
 use Rattle.std.specs.Prelude.{ℕ, List, [], ◌∷◌, nat_eq, if◌then◌else◌}
 use Rattle.ls_events.specs.declared.kind.Kind.{Kind}
 use Rattle.ls_events.specs.declared.kind.Kind.TheVariants.{NullPointer}
@@ -11,14 +11,14 @@ use Rattle.ls_events.specs.declared.action.Answer.TheVariants.{Done, Gives, Fail
 abbrev pub Answers : Type 0
 Answers = List (Answer ℕ)
 
--- it asks for an action, or it ends so, with the locals and the answers left, or it is stuck, as a throw of a word that
--- is no kind's is
+-- A tree asks for an action, or it ends with the locals and the answers that are left. Or it is stuck, as after the
+-- throw of a word that is the word of no kind.
 pub data Course (A : Type 0) : Type 0 where
   Asks : (action : Action ℕ) → Course A
   Ends : (end : A) (locals : List ℕ) (rest : Answers) → Course A
   Stuck : Course A
 
--- goes on once it ends
+-- goes on after the end
 abbrev pub finish : {A B : Type 0} → Course A → (A → List ℕ → Answers → Course B) → Course B
 finish (Asks action) go = Asks action
 finish (Ends end locals rest) go = go end locals rest
@@ -29,7 +29,7 @@ pub data Outcome (A : Type 0) : Type 0 where
   Results : (result : A) → Outcome A
   Throws : (kind : Kind) → Outcome A
 
--- goes on with the result; a throw ends what it is part of
+-- goes on with the result; a throw ends the expression too
 abbrev pub on_result : {A B : Type 0} → (A → List ℕ → Answers → Course (Outcome B)) → Outcome A → List ℕ → Answers → Course (Outcome B)
 on_result go (Results x) locals rest = go x locals rest
 on_result go (Throws kind) locals rest = Ends (Throws kind) locals rest
@@ -52,8 +52,7 @@ perform action locals answers = and_then (ask action locals answers) (λ word lo
 abbrev pub unless_null : {A : Type 0} → ℕ → List ℕ → Answers → Course (Outcome A) → Course (Outcome A)
 unless_null address locals rest go = if nat_eq address 0 then Ends (Throws NullPointer) locals rest else go
 
--- what is left of a thread once a method has ended: an action is asked for, a word is given, an exception is raised, or
--- the thread is lost
+-- What a call comes to. It asks for an action, gives a word, raises an exception, or is lost.
 pub data Told : Type 0 where
   Asked : (action : Action ℕ) → Told
   Gave : (word : ℕ) (rest : Answers) → Told
@@ -64,7 +63,7 @@ pub data Told : Type 0 where
 abbrev pub Calls : Type 0
 Calls = ℕ → List ℕ → Answers → Told
 
--- what the caller makes of it
+-- what the caller makes of what a call does
 abbrev pub returned : List ℕ → Told → Course (Outcome ℕ)
 returned locals (Asked action) = Asks action
 returned locals (Gave word rest) = Ends (Results word) locals rest

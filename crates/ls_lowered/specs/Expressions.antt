@@ -1,4 +1,4 @@
--- The courses of expressions. Operands go from left to right, and the test for null comes after them.
+-- The courses of expressions. Operands are evaluated from left to right. The test for null comes after them.
 use Rattle.std.specs.Prelude.{ℕ, zero, suc, ◌/◌, ◌%◌, ◌^◌, pos, List, [], ◌∷◌, nat_eq, int_lt, slice_index, slice_set, if◌then◌else◌, ◌+◌}
 use Rattle.ls_events.specs.declared.kind.Kind.TheVariants.{Arithmetic, NegativeArraySize}
 use Rattle.ls_events.specs.declared.action.Action.TheVariants as act
@@ -46,7 +46,8 @@ abbrev pub flag_word : ℕ → ℕ
 flag_word zero = 0
 flag_word (suc n) = 1
 
--- an operation of the lock at an address, or of the monitor of the object there; lock and unlock give no word, and tryLock 0 or 1
+-- An operation of the lock at an address, or of the monitor of the object there. `lock` and `unlock` give no word, and
+-- `tryLock` gives 0 or 1.
 abbrev pub operate_lock : LockOperation → ℕ → List ℕ → Answers → Course (Outcome ℕ)
 operate_lock Lock x locals rest = perform (act.Lock x) locals rest
 operate_lock Unlock x locals rest = perform (act.Unlock x) locals rest

@@ -1,4 +1,5 @@
--- The lowered tree as plain data. Local 0 of a method is `this`, then come its parameters, its locals and temporaries.
+-- The lowered tree as plain data. Local 0 of a method is `this`. After it come its parameters, its locals and its
+-- temporaries.
 use Rattle.std.specs.Prelude.{ℕ, List}
 use Rattle.ls_lowered.specs.declared.tree.UnaryOperator.{UnaryOperator}
 use Rattle.ls_lowered.specs.declared.tree.BinaryOperator.{BinaryOperator}
@@ -12,9 +13,9 @@ mutual
     Binary : (op : BinaryOperator) → (left right : Expression) → Expression
     And : (left right : Expression) → Expression
     Or : (left right : Expression) → Expression
-    -- the first, then the second into the local; the word of the first
+    -- the first, then the second, whose word goes into the local; the word is that of the first
     Hold : (value : Expression) → (number : ℕ) → (second : Expression) → Expression
-    -- the first into the local, then the second
+    -- the first, whose word goes into the local, then the second
     Keep : (number : ℕ) → (value second : Expression) → Expression
     -- the first, then the second
     After : (first second : Expression) → Expression
@@ -39,8 +40,9 @@ mutual
     End : Expressions
     More : (first : Expression) → (others : Expressions) → Expressions
 
--- `Leave n` in the body of a leavable statement goes on at the exit of that number, counted from 0. The number behind the last
--- exit is the end of the statement; further numbers, counted on, are those of the leavable statement round it
+-- `Leave n` in the body of a leavable statement goes on at the exit of that number, counted from 0. The number after
+-- that of the last exit is the end of the statement. Higher numbers, counted on from there, are those of the leavable
+-- statement around it.
 mutual
   pub data Statement : Type 0 where
     Block : (body : Statements) → Statement

@@ -14,7 +14,7 @@ given (Returned w) q = Gave w q
 given (Threw kind) q = Raised kind q
 given (Left n) q = Gave 0 q
 
--- what a course comes to
+-- what a course tells
 abbrev pub told : {A : Type 0} → Course A → (A → List ℕ → Answers → Told) → Told
 told (Asks action) go = Asked action
 told (Ends end ls q) go = go end ls q
@@ -25,12 +25,12 @@ abbrev pub run_body : Calls → Option Method → List ℕ → Answers → Told
 run_body calls None values q = Lost
 run_body calls (Some m) values q = told (execute calls m.body (values ++ replicate m.locals 0) q) (λ end ls q. given end q)
 
--- entering is a step of its own
+-- entering is an action of its own
 abbrev pub enter : Action ℕ → Answers → (Answers → Told) → Told
 enter action [] go = Asked action
 enter action (answer ∷ q) go = go q
 
--- a call, where `depth` more may be entered, one in the other; at depth 0 it throws instead
+-- a call, if `depth` calls more may be entered, one in the other; at depth 0 it throws instead
 unfoldable pub invoke : File → ℕ → Calls
 invoke file zero m values q = Raised StackOverflow q
 invoke file (suc depth) m values q = enter (Enter m) q (run_body (invoke file depth) (slice_get file m) values)

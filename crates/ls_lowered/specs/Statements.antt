@@ -9,14 +9,14 @@ use Rattle.ls_lowered.specs.Course.{Answers, Course, Asks, Ends, Stuck, Outcome,
 use Rattle.ls_lowered.specs.declared.tree.BinaryOperator.TheVariants as op
 use Rattle.ls_lowered.specs.Expressions.{operate, find}
 
--- how a statement completes; `Left n` goes on at exit n of the leavable statement round it, or further out
+-- how a statement completes; `Left n` goes on at exit n of the leavable statement around it, or further out
 pub data Completion : Type 0 where
   Normal : Completion
   Returned : (word : ℕ) → Completion
   Threw : (kind : Kind) → Completion
   Left : (exit : ℕ) → Completion
 
--- what follows a statement
+-- what follows the completion of a statement
 abbrev pub Go : Type 0
 Go = Completion → List ℕ → Answers → Course Completion
 
@@ -25,14 +25,15 @@ abbrev pub on_word : (ℕ → List ℕ → Answers → Course Completion) → Ou
 on_word go (Results w) ls q = go w ls q
 on_word go (Throws kind) ls q = Ends (Threw kind) ls q
 
--- what each construct makes of the completion of its part: a statement before others
+-- what each construct makes of the completion of its part; here of a statement before others
 abbrev pub on_normal : (List ℕ → Answers → Course Completion) → Go
 on_normal go Normal ls q = go ls q
 on_normal go (Returned w) ls q = Ends (Returned w) ls q
 on_normal go (Threw kind) ls q = Ends (Threw kind) ls q
 on_normal go (Left n) ls q = Ends (Left n) ls q
 
--- a try block: the finally block follows however it completes, and where that completes normally, so does the whole
+-- a try block: the finally block follows each completion of it; if the finally block completes normally, the whole
+-- completes as the try block did
 abbrev pub on_any : (List ℕ → Answers → Course Completion) → Go
 on_any go reason ls q = finish (go ls q) (on_normal (λ ls q. Ends reason ls q))
 
@@ -50,7 +51,7 @@ on_leave go (Returned w) ls q = Ends (Returned w) ls q
 on_leave go (Threw kind) ls q = Ends (Threw kind) ls q
 on_leave go (Left n) ls q = go n ls q
 
--- back to a loop's condition, in a step of its own; no run answers it by an exception, but a list of answers may
+-- back to a loop's condition, as an action of its own; no run answers it by an exception, but a list of answers may
 abbrev pub turn_back : (List ℕ → Answers → Course Completion) → List ℕ → Answers → Course Completion
 turn_back again ls [] = Asks act.Turn
 turn_back again ls (Answered ∷ q) = again ls q
@@ -73,7 +74,7 @@ abbrev pub turns : ℕ → (List ℕ → Answers → Course (Outcome ℕ)) → (
 turns zero condition body = one_turn condition body (λ ls q. Asks act.Turn)
 turns (suc n) condition body = one_turn condition body (turns n condition body)
 
--- throws a kind; a word that is no kind's is stuck
+-- throws a kind; if the word is that of no kind, it is stuck
 abbrev pub throw : Option Kind → List ℕ → Answers → Course Completion
 throw None ls q = Stuck
 throw (Some kind) ls q = Ends (Threw kind) ls q
@@ -112,7 +113,7 @@ abbrev mutual
   execute_all calls Done ls q = Ends Normal ls q
   execute_all calls (Then s ss) ls q = finish (execute calls s ls q) (on_normal (execute_all calls ss))
 
-  -- a leave of a statement with these exits: at one of them, at its end, or further out
+  -- a leave of a statement with these exits leads to one of them, to its end, or further out
   pub leave_to : Calls → Statements → ℕ → List ℕ → Answers → Course Completion
   leave_to calls Done zero ls q = Ends Normal ls q
   leave_to calls Done (suc n) ls q = Ends (Left n) ls q

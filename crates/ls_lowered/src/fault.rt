@@ -11,8 +11,8 @@ use thiserror::Error;
 pub enum LowerFault {
     #[error("out of memory")]
     Memory,
-    /// A method's `this`, parameters and locals, with four for each compareAndSet, two for each get and two for each
-    /// `try`, are over 128.
+    /// A method has over 128 locals. `this`, parameters and locals count, four for each compareAndSet, two for each
+    /// get and two for each `try`.
     #[error("a method with too many locals")]
     TooManyLocals,
     /// A method has over 4,096 copies of finally blocks.

@@ -1,5 +1,5 @@
-//! The lowered tree: trees over words, for all lowerings between the checked tree and the code. Their meaning, what a
-//! tree asks for after given answers, stands in specs/.
+//! The lowered tree: trees over words, for all lowerings between the checked tree and the code. Their meaning is in
+//! specs/: what a tree asks for after given answers.
 #![tactic(auto)]
 
 pub mod fault;

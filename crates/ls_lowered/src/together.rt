@@ -1,10 +1,11 @@
-// Steps on values of any type. What is owned while something else may fail is dropped here, at a parameter's type.
+// Steps on values of any type. If something else may fail while a value is owned, the value is dropped here, at a
+// parameter's type.
 
 ghost use Rattle.std.specs.Prelude.{◌≡◌, ◌∷◌, ◌++◌, [], IfOk, Ok};
 
 use std::alloc::{AllocError, Global};
 
-/// Both in boxes.
+/// Each value in a box. The only refusal is that memory ran out.
 pub fn two<T: Drop, U: Drop>(alloc: Global, a: T, b: U) -> Result<(Box<T>, Box<U>), AllocError>
     ensures first { IfOk result (λ p. p.0.value ≡ a) }
     ensures second { IfOk result (λ p. p.1.value ≡ b) }
@@ -14,7 +15,7 @@ pub fn two<T: Drop, U: Drop>(alloc: Global, a: T, b: U) -> Result<(Box<T>, Box<U
     Ok((a, b))
 }
 
-/// Both in a vector.
+/// The values in a vector. The only refusal is that memory ran out.
 pub fn pair<T: Drop>(alloc: Global, a: T, b: T) -> Result<Vec<T>, AllocError>
     ensures { IfOk result (λ v. v.items ≡ a ∷ b ∷ []) }
 {
@@ -24,7 +25,7 @@ pub fn pair<T: Drop>(alloc: Global, a: T, b: T) -> Result<Vec<T>, AllocError>
     Ok(both)
 }
 
-/// One more at the end.
+/// The same items, and one more at the end. The only refusal is that memory ran out.
 pub fn push<T: Drop>(mut items: Vec<T>, item: T) -> Result<Vec<T>, AllocError>
     ensures { IfOk result (λ v. v.items ≡ items.items ++ item ∷ []) }
 {
@@ -32,7 +33,7 @@ pub fn push<T: Drop>(mut items: Vec<T>, item: T) -> Result<Vec<T>, AllocError>
     Ok(items)
 }
 
-/// What is there, with what comes next.
+/// The first value, and what comes next. If what comes next is refused, so is this.
 pub fn also<T: Drop, U: Drop>(first: T, next: Result<U, AllocError>) -> Result<(T, U), AllocError>
     ensures next { IfOk result (λ p. next ≡ Ok p.1) }
     ensures first { IfOk result (λ p. p.0 ≡ first) }
@@ -41,7 +42,7 @@ pub fn also<T: Drop, U: Drop>(first: T, next: Result<U, AllocError>) -> Result<(
     Ok((first, next))
 }
 
-/// All three in boxes.
+/// Each of three values in a box. The only refusal is that memory ran out.
 pub fn three<T: Drop, U: Drop, V: Drop>(
     alloc: Global,
     a: T,

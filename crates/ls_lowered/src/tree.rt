@@ -1,7 +1,7 @@
 // Trees over machine words.
 //
-// An int is its value modulo 2^32, a boolean 0 or 1, a reference an address or 0, and what a markable holds
-// `2 * reference + mark`. Local 0 of a method is `this`; then come its parameters, its locals and its temporaries.
+// An int is its value modulo 2^32, a boolean is 0 or 1, and a reference is an address or 0. What a markable holds is
+// `2 * reference + mark`. Local 0 of a method is `this`. After it come its parameters, its locals and its temporaries.
 // Classes, fields and methods are numbered as in the checked tree.
 
 use std::alloc::AllocError;
@@ -64,6 +64,7 @@ impl Clone for LockOperation {
     }
 }
 
+/// An expression over words.
 #[derive(Drop)]
 #[cycle(expressions)]
 pub enum Expression {
@@ -73,11 +74,11 @@ pub enum Expression {
     Binary(BinaryOperator, Box<Expression>, Box<Expression>),
     And(Box<Expression>, Box<Expression>),
     Or(Box<Expression>, Box<Expression>),
-    /// The first, then the second into the local; the word of the first.
+    /// The first expression, then the second, whose word goes into the local. The word is that of the first.
     Hold(Box<Expression>, usize, Box<Expression>),
-    /// The first into the local, then the second.
+    /// The first expression, whose word goes into the local, then the second.
     Keep(usize, Box<Expression>, Box<Expression>),
-    /// The first, then the second.
+    /// The first expression, then the second.
     After(Box<Expression>, Box<Expression>),
     /// A field of the object at an address.
     Field(Box<Expression>, usize),
@@ -109,9 +110,9 @@ pub enum Expressions {
     More(Box<Expression>, Box<Expressions>),
 }
 
-/// A leavable statement is a body and its exits. A leave of the body goes on at the exit of its number, counted from 0; the
-/// number behind the last exit is the end of the statement, and further numbers, counted on, are those of the leavable
-/// statement round it.
+/// A leavable statement is a body and its exits. A leave in the body goes on at the exit of its number, counted from
+/// 0. The number after that of the last exit is the end of the statement. Higher numbers, counted on from there, are
+/// those of the leavable statement around it.
 #[derive(Drop)]
 #[cycle(statements)]
 pub enum Statement {
@@ -127,7 +128,7 @@ pub enum Statement {
     Return(Expression),
     /// A try block and its finally block.
     Try(Box<Statement>, Box<Statement>),
-    /// A throw of the first goes on at the second, with its kind in the local.
+    /// A throw of the first statement goes on at the second, with its kind in the local.
     Guarded(Box<Statement>, usize, Box<Statement>),
     /// Throws the kind in the local.
     Throw(usize),

@@ -23,18 +23,19 @@ use Rattle.ls_events.specs.declared.value.Value.TheVariants as values
 abbrev pub frame : ℕ → List ℕ → List ℕ → Frame
 frame counter locals operands = record { counter = counter; locals = locals; operands = operands; need = 3 }
 
--- a thread of one call, which it is in
+-- a thread that is in its one call
 abbrev pub within : Frame → List Frame → Thread
 within top below =
     record { top = top; below = below; mode = mode.Running; calls = results.Int ∷ []; ended = 0; pending = true }
 
--- a thread's only frame, with calls of these results; which of them have ended, whether one is pending, whether it goes on
+-- a thread's only frame, with calls of these results; how many calls have ended, whether one is pending, whether the
+-- thread goes on
 abbrev pub alone : ℕ → List ℕ → List CallResult → ℕ → Bool → Mode → Thread
 alone counter operands calls ended pending goes =
     record { top = frame counter [] operands; below = []; mode = goes; calls = calls; ended = ended; pending = pending }
 
--- The instruction at place 0; a throw at place 1 leads to place 20, with one operand kept. Method 0 has two arguments and one more local. The
--- setup has ended.
+-- The instruction at place 0; a throw at place 1 leads to place 20, with one operand kept. Method 0 has two arguments
+-- and one more local. The setup has ended.
 abbrev pub machine : Instruction → Thread → List Event → Machine
 machine i t history = record {
   code = record {
@@ -63,13 +64,14 @@ Sticks i t = Leads i t did.Silent t []
 abbrev pub event : ℕ → Happening → List Event
 event call happening = record { thread = 1; call = call; happening = happening } ∷ []
 
--- `this` and the argument are the first locals, in order, and the other is 0; the caller waits at its call
+-- `this` and the argument are the first locals, in order, and the other local is 0; the caller waits at its call
 abbrev pub Enters : Type 0
 Enters =
     Leads (op.Enter 0) (within (frame 0 [] (21 ∷ 11 ∷ 7 ∷ [])) []) (did.Acted (act.Enter 0) Done)
     (within (frame 5 (11 ∷ 21 ∷ 0 ∷ []) []) (frame 0 [] (7 ∷ []) ∷ [])) []
 
--- the last depth is 64: a call there throws StackOverflowError, and one on null NullPointerException; the caller has a row for both
+-- the last depth is 64: a call there throws StackOverflowError, and a call on null NullPointerException; a row of the
+-- caller catches both
 abbrev pub EntersNoDeeper : Type 0
 EntersNoDeeper =
     Leads (op.Enter 0) (within (frame 0 [] (21 ∷ 11 ∷ [])) (replicate 63 (frame 1 [] []))) (did.Acted (act.Enter 0) Done)
@@ -79,7 +81,8 @@ EntersNoDeeper =
     × Leads (op.Enter 0) (within (frame 0 [] (21 ∷ 0 ∷ [])) (frame 1 [] (9 ∷ []) ∷ [])) did.Silent
     (within (frame 20 [] (2 ∷ 9 ∷ [])) []) []
 
--- the frame is left, and the caller goes on behind its call; the lowest frame isn't left, nor is a value pushed where there is no room
+-- The frame is left, and the caller goes on after its call. The lowest frame isn't left. If there is no room for a
+-- value, it isn't pushed.
 abbrev pub Leaves : Type 0
 Leaves =
     Leads op.Leave (within (frame 0 [] (5 ∷ [])) (frame 3 [] (7 ∷ []) ∷ [])) did.Silent
@@ -90,7 +93,7 @@ Leaves =
     × Sticks op.LeaveWith (within (frame 0 [] (5 ∷ [])) [])
     × Sticks op.LeaveWith (within (frame 0 [] (5 ∷ [])) (frame 3 [] (7 ∷ 8 ∷ 9 ∷ []) ∷ []))
 
--- a throw drops the frames that have no row for it, and keeps as many operands, the lowest, as the row says
+-- a throw drops the frames that have no row for it; it keeps as many of the lowest operands as the row says
 abbrev pub Throws : Type 0
 Throws =
     Leads op.Throw (within (frame 0 [] (5 ∷ [])) (frame 2 [] [] ∷ frame 1 [] (7 ∷ 8 ∷ 9 ∷ []) ∷ frame 1 [] [] ∷ [])) did.Silent
@@ -98,7 +101,7 @@ Throws =
     × Sticks op.Throw (within (frame 0 [] (5 ∷ [])) (frame 2 [] [] ∷ []))
     × Sticks op.Throw (within (frame 0 [] (8 ∷ [])) (frame 1 [] [] ∷ []))
 
--- the call that is due begins, and no other
+-- the call that is due begins, and no other call
 abbrev pub Begins : Type 0
 Begins =
     Leads (op.Call 1) (alone 0 [] (results.Int ∷ results.Int ∷ []) 0 false mode.Running) (did.Acted (act.Call 1) Done)
@@ -109,7 +112,7 @@ Begins =
     × Sticks (op.Call 2) (alone 0 [] (results.Int ∷ results.Int ∷ []) 0 false mode.Running)
     × Sticks (op.Call 2) (alone 0 [] (results.Int ∷ []) 1 false mode.Running)
 
--- the pending call returns, with a value where it has one
+-- the pending call returns, with a value if it has one
 abbrev pub Returns : Type 0
 Returns =
     Leads (op.Result 1) (alone 0 (4294967295 ∷ []) (results.Int ∷ []) 0 true mode.Running) (did.Acted (act.Return 1 (Some 4294967295)) Done)
@@ -124,7 +127,8 @@ Returns =
     × Sticks (op.Result 2) (alone 0 (7 ∷ []) (results.Int ∷ results.Int ∷ []) 0 true mode.Running)
     × Sticks (op.Result 1) (alone 0 [] (results.Int ∷ []) 0 true mode.Running)
 
--- the pending call ends by a trap, and the thread with it; a thread that is done halts in silence; neither takes another step
+-- The pending call ends by a trap, and so does its thread. A thread that is done halts in silence. After that, neither
+-- thread takes a step.
 abbrev pub Stops : Type 0
 Stops =
     Leads op.Trap (alone 0 (3 ∷ []) (results.Int ∷ []) 0 true mode.Running) (did.Acted (act.Trap 1 kinds.ArrayIndexOutOfBounds) Done)

@@ -24,7 +24,7 @@ abbrev pub thread : Mode → ℕ → List ℕ → Thread
 thread goes counter operands =
     record { top = frame counter operands; below = []; mode = goes; calls = []; ended = 0; pending = false }
 
--- these instructions at places from 0 on; a throw at any of them leads to place 20
+-- these instructions at places from 0 on; a throw at any of these places leads to place 20
 abbrev pub code : List Instruction → Code
 code instructions = record {
   instructions = instructions;
@@ -35,7 +35,7 @@ code instructions = record {
   names = 0;
 }
 
--- the setup has ended, two threads go on, and the one cell, at address 1, is a lock's
+-- the setup has ended, two threads go on, and the only cell, at address 1, is that of a lock
 abbrev pub machine : Code → List Thread → ℕ → Machine
 machine p threads word = record {
   code = p;
@@ -45,11 +45,12 @@ machine p threads word = record {
   history = [];
 }
 
--- thread 1 stands at a place with these operands, the top first
+-- thread 1 is at a place with these operands, the top first
 abbrev pub at : Instruction → ℕ → List ℕ → ℕ → Machine
 at i counter operands word = machine (code (i ∷ [])) (thread mode.Running counter operands ∷ []) word
 
--- the instruction at place 0, on operands and the lock's word, did this, and left the thread at a place, with operands and a word
+-- the instruction at place 0, on operands and the lock's word, did this; it left the thread at a place, with operands
+-- and a word
 abbrev pub Goes : Instruction → List ℕ → ℕ → Did → ℕ → List ℕ → ℕ → Type 0
 Goes i operands word it counter left next =
     machine_step (at i 0 operands word) 1 ≡ record { machine = at i counter left next; did = it }
@@ -58,7 +59,8 @@ Goes i operands word it counter left next =
 abbrev pub Sticks : Instruction → List ℕ → ℕ → Type 0
 Sticks i operands word = Goes i operands word did.Silent 0 operands word
 
--- the words of the lock: held once, twice, one time less than the most, and the most, by thread 1; held once by thread 2
+-- The words of the lock. Thread 1 holds it once, twice, one time less than the most, and the most. Thread 2 holds it
+-- once.
 abbrev pub once : ℕ
 once = 8589934593
 
@@ -74,7 +76,7 @@ most = 10737418239
 abbrev pub other : ℕ
 other = 12884901889
 
--- SEE for lock(): the word is pushed, whosever the lock is
+-- SEE for lock(): the word is pushed, whoever owns the lock
 abbrev pub SeeForLock : Type 0
 SeeForLock =
     (Goes (op.See 1) (1 ∷ []) 0 did.Silent 1 (0 ∷ 1 ∷ []) 0)
@@ -82,7 +84,7 @@ SeeForLock =
     × (Goes (op.See 1) (1 ∷ []) most did.Silent 1 (most ∷ 1 ∷ []) most)
     × (Goes (op.See 1) (1 ∷ []) other did.Silent 1 (other ∷ 1 ∷ []) other)
 
--- SEE for tryLock(): where it is the lock of another, the operation is over, and gives false
+-- SEE for tryLock(): if another thread owns the lock, the operation is over, and gives false
 abbrev pub SeeForTry : Type 0
 SeeForTry =
     (Goes (op.See 2) (1 ∷ []) 0 did.Silent 1 (0 ∷ 1 ∷ []) 0)
@@ -90,7 +92,7 @@ SeeForTry =
     × (Goes (op.See 2) (1 ∷ []) most did.Silent 1 (most ∷ 1 ∷ []) most)
     × (Goes (op.See 2) (1 ∷ []) other (did.Acted (act.TryLock 1) (Gives 0)) 1 (other ∷ 1 ∷ []) other)
 
--- SEE for unlock(): where it isn't the thread's own, the operation is over, and throws IllegalMonitorStateException
+-- SEE for unlock(): if the thread doesn't own the lock, the operation is over, and throws IllegalMonitorStateException
 abbrev pub SeeForUnlock : Type 0
 SeeForUnlock =
     (Goes (op.See 3) (1 ∷ []) once did.Silent 1 (once ∷ 1 ∷ []) once)
@@ -115,7 +117,7 @@ SeeSticks =
     × (Sticks (op.See 0) (1 ∷ []) 0)
     × (Sticks (op.See 6) (1 ∷ []) 0)
 
--- TAKE wins its exchange: a free lock is taken, an own one has a hold more
+-- TAKE wins its exchange: a free lock is taken, and a lock of its own has a hold more
 abbrev pub TakeWins : Type 0
 TakeWins =
     (Goes (op.Take 1) (0 ∷ 1 ∷ []) 0 (did.Acted (act.Lock 1) Done) 1 (1 ∷ 1 ∷ []) once)
@@ -125,7 +127,7 @@ TakeWins =
     × (Goes (op.Take 2) (once ∷ 1 ∷ []) once (did.Acted (act.TryLock 1) (Gives 1)) 1 (1 ∷ 1 ∷ []) twice)
     × (Goes (op.Take 2) (almost ∷ 1 ∷ []) almost (did.Acted (act.TryLock 1) (Gives 1)) 1 (1 ∷ 1 ∷ []) most)
 
--- TAKE loses its exchange where the word has become another: lock() will look again, tryLock() gives false
+-- if the word has changed, TAKE loses its exchange: lock() will look again, tryLock() gives false
 abbrev pub TakeLoses : Type 0
 TakeLoses =
     (Goes (op.Take 1) (0 ∷ 1 ∷ []) other did.Silent 1 (0 ∷ 1 ∷ []) other)
@@ -133,7 +135,7 @@ TakeLoses =
     × (Goes (op.Take 1) (once ∷ 1 ∷ []) twice did.Silent 1 (0 ∷ 1 ∷ []) twice)
     × (Goes (op.Take 2) (once ∷ 1 ∷ []) 0 (did.Acted (act.TryLock 1) (Gives 0)) 1 (0 ∷ 1 ∷ []) 0)
 
--- TAKE of a word that is of another thread: nothing is exchanged, whatever the cell holds now
+-- TAKE with the word of a lock that another thread owns: nothing is exchanged, whatever the cell holds now
 abbrev pub TakeOfAnother : Type 0
 TakeOfAnother =
     (Goes (op.Take 1) (other ∷ 1 ∷ []) other did.Silent 1 (0 ∷ 1 ∷ []) other)
@@ -156,14 +158,14 @@ TakeSticks =
     × (Sticks (op.Take 3) (0 ∷ 1 ∷ []) 0)
     × (Sticks (op.Take 5) (0 ∷ 1 ∷ []) 0)
 
--- DROP: one hold less, and none left frees the lock
+-- DROP: one hold less; if none is left, the lock is free
 abbrev pub Drops : Type 0
 Drops =
     (Goes (op.DropLock 0) (once ∷ 1 ∷ []) once (did.Acted (act.Unlock 1) Done) 1 [] 0)
     × (Goes (op.DropLock 0) (twice ∷ 1 ∷ []) twice (did.Acted (act.Unlock 1) Done) 1 [] once)
     × (Goes (op.DropLock 0) (most ∷ 1 ∷ []) most (did.Acted (act.Unlock 1) Done) 1 [] almost)
 
--- DROP of a word that isn't the thread's own, without two operands, at no cell, and for no operation
+-- DROP with the word of a lock that the thread doesn't own, without two operands, at no cell, and for no operation
 abbrev pub DropSticks : Type 0
 DropSticks =
     (Sticks (op.DropLock 0) (0 ∷ 1 ∷ []) 0)
@@ -200,14 +202,14 @@ locks_twice =
     ∷ op.Push 1 ∷ op.See 3 ∷ op.DropLock 0
     ∷ op.Push 1 ∷ op.See 3 ∷ op.DropLock 0 ∷ op.Halt ∷ []
 
--- threads 1 and 2 both do so
+-- threads 1 and 2 both run these instructions
 abbrev pub both : Machine
 both = machine (code locks_twice) (thread mode.Running 0 [] ∷ thread mode.Running 0 [] ∷ []) 0
 
 abbrev pub entry : ℕ → Action ℕ → Answer ℕ → Entry
 entry n action answer = record { thread = n; action = action; answer = answer }
 
--- while thread 1 holds the lock, thread 2 goes round in silence; after the first unlock one hold is left
+-- while thread 1 holds the lock, thread 2 loops in silence; after the first unlock one hold is left
 abbrev pub TwoHoldsDropped : Type 0
 TwoHoldsDropped =
     (machine_trace both (replicate 10 1 ++ replicate 8 2 ++ replicate 3 1 ++ replicate 4 2 ++ replicate 4 1 ++ replicate 5 2) ≡ entry 1 (act.Lock 1) Done ∷ entry 1 (act.Lock 1) Done ∷ entry 1 (act.Unlock 1) Done ∷ entry 1 (act.Unlock 1) Done ∷ entry 2 (act.Lock 1) Done ∷ [])

@@ -1,4 +1,4 @@
--- The table of instructions, a step of one thread for each case: what the others never notice.
+-- The table of instructions, a step of one thread for each case: what the other threads never notice.
 use Rattle.std.specs.Prelude.{◌≡◌, [], ◌∷◌}
 use Rattle.ls_machine_rows.specs.Stages.{Goes, Throws, machine, machine_of, memory}
 use Rattle.ls_code.specs.Machine.{machine_step}
@@ -80,7 +80,7 @@ Jumps =
     × (Goes (op.JumpIfTrue 9) (1 ∷ 7 ∷ []) 9 (7 ∷ []))
     × (Goes (op.JumpIfTrue 9) (0 ∷ 7 ∷ []) 1 (7 ∷ []))
 
--- a markable's word is twice the address and the mark
+-- a markable's word is twice the address plus the mark
 abbrev pub Pairs : Type 0
 Pairs =
     (Goes op.ReferenceOf (11 ∷ []) 1 (5 ∷ []))

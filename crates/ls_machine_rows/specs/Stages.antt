@@ -10,8 +10,8 @@ use Rattle.ls_code.specs.declared.instruction.Instruction.{Instruction}
 use Rattle.ls_events.specs.declared.action.Action.{Action}
 use Rattle.ls_events.specs.declared.action.Answer.{Answer}
 
--- the cells: a setup name that holds 2, an object of two fields from address 2 on, an array of two items from 4 on, a markable at 7 that holds
--- reference 5 with its mark set, and a free lock at 8
+-- The cells. A setup name holds 2. An object of two fields is at addresses from 2 on, an array of two items from 4 on.
+-- The markable at 7 holds reference 5 with its mark set. The lock at 8 is free.
 abbrev pub memory : List ℕ
 memory = 2 ∷ 30 ∷ 31 ∷ 2 ∷ 0 ∷ 1 ∷ 11 ∷ 0 ∷ []
 
@@ -28,7 +28,7 @@ thread_of locals goes counter operands = record {
 abbrev pub thread : Mode → ℕ → List ℕ → Thread
 thread = thread_of (10 ∷ 20 ∷ [])
 
--- the setup has ended; thread 1 stands at a place with these operands, the top first; a throw at place 0 leads to place 20
+-- the setup has ended; thread 1 is at a place with these operands, the top first; a throw at place 0 leads to place 20
 abbrev pub machine_of : List ℕ → Instruction → ℕ → List ℕ → List ℕ → Machine
 machine_of locals i counter operands words = record {
   code = record {
@@ -57,7 +57,7 @@ Does i operands words it place left next =
 abbrev pub Goes : Instruction → List ℕ → ℕ → List ℕ → Type 0
 Goes i operands place left = Does i operands memory did.Silent place left memory
 
--- a throw in silence, whose kind is in front of the handler
+-- a throw in silence; its kind is on top at the handler
 abbrev pub Throws : Instruction → List ℕ → ℕ → Type 0
 Throws i operands kind = Does i operands memory did.Silent 20 (kind ∷ []) memory
 

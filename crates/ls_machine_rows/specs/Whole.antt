@@ -11,15 +11,16 @@ use Rattle.ls_events.specs.declared.action.Action.TheVariants as act
 use Rattle.ls_events.specs.declared.action.Answer.TheVariants.{Gives}
 use Rattle.ls_machine_rows.specs.Stages.{thread, machine, memory}
 
--- a step of a thread changes nothing, and is this
+-- a step of a thread changes nothing, and did this
 abbrev pub Stays : Machine → ℕ → Did → Type 0
 Stays m n it = machine_step m n ≡ record { machine = m; did = it }
 
--- the setup and thread 1 stand before a POP
+-- the setup and thread 1 are before a POP
 abbrev pub popping : Thread → Machine
 popping setup = record (machine op.Pop 0 [] memory) { threads = setup ∷ thread mode.Running 0 (7 ∷ []) ∷ [] }
 
--- the setup goes first, and thread 1 once it has ended without a trap; a thread that isn't there does nothing
+-- The setup goes first. Thread 1 goes when the setup has ended without a trap. A thread that doesn't exist does
+-- nothing.
 abbrev pub Due : Type 0
 Due =
     Stays (popping (thread mode.Running 0 (8 ∷ []))) 1 did.Idle
@@ -43,7 +44,8 @@ eleven = 2 ∷ 30 ∷ 31 ∷ 2 ∷ 0 ∷ 1 ∷ 11 ∷ 0 ∷ 0 ∷ 0 ∷ 0 ∷ []
 abbrev pub stopped : Machine → Machine
 stopped m = record m { stopped = true }
 
--- the last cells are taken; a making that has too few stops the machine, and then every thread's step is so
+-- The last cells are taken. A making for which there are too few cells stops the machine. Then each step of each
+-- thread is "stopped".
 abbrev pub StopsAll : Type 0
 StopsAll =
     ((machine_step (machine (op.NewObject 0) 0 [] ten) 1).did ≡ did.Acted (act.New 0) (Gives 11))
@@ -51,7 +53,7 @@ StopsAll =
     × Stays (stopped (popping (thread mode.Ended 0 []))) 1 did.Stopped
     × Stays (stopped (popping (thread mode.Ended 0 []))) 0 did.Stopped
 
--- where a thread stands
+-- the state of a thread
 abbrev pub States : Type 0
 States =
     (machine_state (popping (thread mode.Running 0 [])) 0 ≡ state.Running)

@@ -1,4 +1,5 @@
--- The code words of all instructions: the number of each opcode, and the word with the least and with the greatest operand.
+-- The code words of all instructions: the number of each opcode, and the word with the least and with the greatest
+-- operand.
 use Rattle.std.specs.Prelude.{◌≡◌, ℕ, Some, None}
 use Rattle.ls_code.specs.Instructions.{decoded, encoded}
 use Rattle.ls_code.specs.declared.instruction.Instruction.{Instruction}
@@ -70,7 +71,7 @@ LeastOperands =
     × HasWord (op.Call 0) 51
     × HasWord (op.Result 0) 52
 
--- operand 2^32 - 1 stands in bits 8 to 39
+-- operand 2^32 - 1 is in bits 8 to 39
 abbrev pub GreatestOperands : Type 0
 GreatestOperands =
     HasWord (op.Push 4294967295) 1099511627521
@@ -96,7 +97,7 @@ GreatestOperands =
 abbrev pub OtherOperands : Type 0
 OtherOperands = HasWord (op.Push 1) 257 × HasWord (op.Enter 258) 66095 × HasWord (op.Jump 65536) 16777235
 
--- the first opcode that there isn't, the last one, and words with a bit past the operand
+-- the first opcode of no instruction, the last opcode, and words with a bit past the operand
 abbrev pub NoInstruction : Type 0
 NoInstruction =
     (decoded 54 ≡ None)

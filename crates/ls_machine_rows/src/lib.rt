@@ -1,6 +1,6 @@
-//! Small cases of the machine whose outcomes, worked out by hand from its table, are what the definitions of ls_code compute:
-//! the word of each instruction, a step of each, and each case of the three that are about a lock's word. They stand above
-//! ls_code, so that a new one is no change of that crate.
+//! Small cases of the machine, with outcomes that were worked out by hand from its table. The definitions of ls_code
+//! compute exactly these. There is the word of each instruction, a step of each, and each case of the three for a
+//! lock's word. This crate is above ls_code, so a new case doesn't change ls_code.
 #![tactic(auto)]
 
 ghost use Rattle.ls_machine_rows.specs.Limits.{MostCells};

@@ -27,12 +27,15 @@ use Rattle.ls_meaning.specs.Renamings.{IsRenaming, renamed, renamed_action, rena
 use Rattle.ls_meaning.specs.Constants.{IsConstant, HasConstants, HaveConstants}
 
 module _ (names : ℕ → ℕ) (is : IsRenaming names) where
+  -- the answers with other names
   abbrev pub other : Answers → Answers
   other answers = renamed_answers names answers
 
+  -- values with other names
   abbrev pub all_renamed : List Value → List Value
   all_renamed vs = map (renamed names) vs
 
+  -- an evaluation with other names
   abbrev pub others : {A : Type 0} → (A → A) → Evaluated A → Evaluated A
   others f (Asks action sort) = Asks (renamed_action names action) sort
   others f (Results v rest) = Results (f v) (other rest)
@@ -42,18 +45,21 @@ module _ (names : ℕ → ℕ) (is : IsRenaming names) where
   abbrev pub Renames : {A : Type 0} → (A → A) → Evaluated A → Evaluated A → Type 0
   Renames f x x' = x' ≡ others f x
 
+  -- the reference of a renamed value is the renamed reference
   pub reference_other : (v : Value) → reference_of (renamed names v) ≡ names (reference_of v)
   reference_other (Int z) = sym is.null
   reference_other (Boolean b) = sym is.null
   reference_other (Reference n) = refl
   reference_other (Pair n m) = refl
 
+  -- the boolean of a value stays
   pub truth_other : (v : Value) → truth_of (renamed names v) ≡ truth_of v
   truth_other (Int z) = refl
   truth_other (Boolean b) = refl
   truth_other (Reference n) = refl
   truth_other (Pair n m) = refl
 
+  -- the int of a value stays
   pub int_other : (v : Value) → int_of (renamed names v) ≡ int_of v
   int_other (Int z) = refl
   int_other (Boolean b) = refl
@@ -69,6 +75,7 @@ module _ (names : ℕ → ℕ) (is : IsRenaming names) where
   pub pair_other : (r m : Value) → pair_of (renamed names r) (renamed names m) ≡ renamed names (pair_of r m)
   pair_other r m = ap (λ n. Pair n (truth_of (renamed names m))) (reference_other r) ∙ ap (Pair (names (reference_of r))) (truth_other m)
 
+  -- the value for none stays
   pub nothing_other : renamed names nothing ≡ nothing
   nothing_other = ap Reference is.null
 
@@ -83,6 +90,7 @@ module _ (names : ℕ → ℕ) (is : IsRenaming names) where
       (λ e. let k : names m ≡ names n = grind (arith, common_steps, e) in subst (λ z. nat_eq m z ≡ true) (is.apart m n k) (grind (arith, common_steps)))
       (λ e. let k : m ≡ n = grind (arith, common_steps, e) in subst (λ z. nat_eq (names m) (names z) ≡ true) k (grind (arith, common_steps)))
 
+  -- a constant stays
   pub constant_other : (v : Value) → IsConstant v → renamed names v ≡ v
   constant_other (Int z) h = refl
   constant_other (Boolean b) h = refl
@@ -118,12 +126,14 @@ module _ (names : ℕ → ℕ) (is : IsRenaming names) where
   pub results_other : {A : Type 0} (f : A → A) (v v' : A) (rest : Answers) → v' ≡ f v → Renames f (Results v rest) (Results v' (other rest))
   results_other f v v' rest e = ap (λ w. Results w (other rest)) e
 
+  -- one action with other names
   pub ask_other : (a a' : Action Value) (s : Sort) (answers : Answers) → a' ≡ renamed_action names a → Renames (renamed names) (ask a s answers) (ask a' s (other answers))
   ask_other a a' s [] e = ap (λ b. Asks b s) e
   ask_other a a' s (Done ∷ rest) e = ap (λ v. Results v (other rest)) (sym nothing_other)
   ask_other a a' s (Gives v ∷ rest) e = refl
   ask_other a a' s (Fails kind ∷ rest) e = refl
 
+  -- one action that is always done, with other names
   pub tell_other : (a a' : Action Value) (answers : Answers) → a' ≡ renamed_action names a → Renames (renamed names) (tell a answers) (tell a' (other answers))
   tell_other a a' [] e = ap (λ b. Asks b NoValue) e
   tell_other a a' (answer ∷ rest) e = ap (λ v. Results v (other rest)) (sym nothing_other)
@@ -133,6 +143,7 @@ module _ (names : ℕ → ℕ) (is : IsRenaming names) where
   bind_other f h (Results v rest) go go' e = e v rest
   bind_other f h (Throws kind rest) go go' e = refl
 
+  -- one expression and then another, with other names
   pub then_other : {A B : Type 0} (f : A → A) (h : B → B) (x x' : Evaluated A) (go go' : A → Answers → Evaluated B) → Renames f x x' → ((v : A) (rest : Answers) → Renames h (go v rest) (go' (f v) (other rest))) → Renames h (with_value x go) (with_value x' go')
   then_other f h x x' go go' e k = ap (λ y. with_value y go') e ∙ bind_other f h x go go' k
 
@@ -143,10 +154,12 @@ module _ (names : ℕ → ℕ) (is : IsRenaming names) where
   null_test : (n n' : ℕ) → n' ≡ names n → nat_eq n' 0 ≡ nat_eq n 0
   null_test n n' e = ap (λ k. nat_eq k 0) e ∙ subst (λ z. nat_eq (names n) z ≡ nat_eq n 0) is.null (nat_other n 0)
 
+  -- an expression unless a reference is null, with other names
   pub null_other : {A : Type 0} (f : A → A) (n n' : ℕ) (rest : Answers) (x x' : Evaluated A) → n' ≡ names n → Renames f x x' → Renames f (unless_null n rest x) (unless_null n' (other rest) x')
   null_other f n n' rest x x' e h =
       if_other f (nat_eq n 0) (nat_eq n' 0) (Throws NullPointer rest) (Throws NullPointer (other rest)) x x' (null_test n n' e) refl h
 
+  -- an action on an object, with other names
   pub on_object_other : (o : Value) (a a' : Action Value) (s : Sort) (rest : Answers) → a' ≡ renamed_action names a → Renames (renamed names) (on_object o a s rest) (on_object (renamed names o) a' s (other rest))
   on_object_other o a a' s rest e = null_other (renamed names) (reference_of o) (reference_of (renamed names o)) rest (ask a s rest) (ask a' s (other rest)) (reference_other o) (ask_other a a' s rest e)
 
@@ -179,6 +192,7 @@ module _ (names : ℕ → ℕ) (is : IsRenaming names) where
   operated_other operators.Equal x y = ap Boolean (same_other x y)
   operated_other operators.NotEqual x y = ap (λ b. Boolean (not b)) (same_other x y)
 
+  -- an operator, with other names
   pub operate_other : (op : Operator) (x y : Value) (rest : Answers) → Renames (renamed names) (operate op x y rest) (operate op (renamed names x) (renamed names y) (other rest))
   operate_other op x y rest =
       if_other (renamed names) (divides_by_zero op y) (divides_by_zero op (renamed names y)) (Throws Arithmetic rest) (Throws Arithmetic (other rest)) (Results (operated op x y) rest) (Results (operated op (renamed names x) (renamed names y)) (other rest)) (zero_other op y) refl
@@ -242,6 +256,7 @@ module _ (names : ℕ → ℕ) (is : IsRenaming names) where
   -- one line for each form
   module _ (classes : List Class) (calls : Calls) (k : CallsRename calls) where
     mutual
+      -- each expression whose constants name no object, with other names
       pub evaluate_other : (e : Expression) → HasConstants e → (ls : List Value) (qs : Answers) → Renames (renamed names) (evaluate classes calls e ls qs) (evaluate classes calls e (all_renamed ls) (other qs))
       evaluate_other (Literal v) h ls qs = results_other (renamed names) v v qs (sym (constant_other v h))
       evaluate_other (Slot n) h ls qs = results_other (renamed names) _ _ qs (slot_other ls n)

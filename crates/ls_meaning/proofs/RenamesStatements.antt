@@ -25,6 +25,7 @@ module _ (names : ℕ → ℕ) (is : IsRenaming names) where
   completion_other (Returned v) = Returned (renamed_result names v)
   completion_other (Threw kind) = Threw kind
 
+  -- an execution with other names
   abbrev pub done_other : Executed → Executed
   done_other (AsksFor action sort) = AsksFor (renamed_action names action) sort
   done_other (Completes completion ls rest) = Completes (completion_other completion) (all_renamed names is ls) (other names is rest)
@@ -97,6 +98,7 @@ module _ (names : ℕ → ℕ) (is : IsRenaming names) where
   -- one line for each form
   module _ (classes : List Class) (calls : Calls) (k : CallsRename names is calls) where
     mutual
+      -- each statement whose constants name no object, with other names
       pub execute_other : (s : Statement) → UsesConstants s → GoesRename (execute classes calls s) (execute classes calls s)
       execute_other (Block ss) h ls qs = all_other ss h ls qs
       execute_other (SetSlot n e) h ls qs =

@@ -116,5 +116,6 @@ module _ (names : ℕ → ℕ) (is : IsRenaming names) where
     thread_other program None n h e qs = refl
     thread_other program (Some t) n h e qs = calls_other program 1 t.calls (h n t (sym e)) qs
 
+    -- what a thread does next, with other names
     pub next_other : (program : Program) → ProgramHasConstants program → (thread : ℕ) (qs : Answers) → next file program thread (renamed_answers names qs) ≡ renamed_next names (next file program thread qs)
     next_other program h thread qs = thread_other program (slice_get program.threads thread) thread h refl qs

@@ -14,14 +14,14 @@ use Rattle.ls_meaning.specs.Values.{nothing, reference_of}
 abbrev pub Answers : Type 0
 Answers = List (Answer Value)
 
--- the evaluation of an expression asks for an action, whose answer must be of the sort, or it completes, normally with a
--- result or abruptly with an exception (JLS 15.6)
+-- The evaluation of an expression asks for an action, whose answer must be of the sort. Or it completes, normally with
+-- a result or abruptly with an exception (JLS 15.6).
 pub data Evaluated (A : Type 0) : Type 0 where
   Asks : (action : Action Value) (answer : Sort) → Evaluated A
   Results : (result : A) (rest : Answers) → Evaluated A
   Throws : (kind : Kind) (rest : Answers) → Evaluated A
 
--- one action: it is asked for where no answer is left, else it takes its answer
+-- one action; if no answer is left, it is asked for, else it takes its answer
 abbrev pub ask : Action Value → Sort → Answers → Evaluated Value
 ask action sort [] = Asks action sort
 ask action sort (Done ∷ rest) = Results nothing rest
@@ -33,7 +33,7 @@ abbrev pub tell : Action Value → Answers → Evaluated Value
 tell action [] = Asks action NoValue
 tell action (answer ∷ rest) = Results nothing rest
 
--- goes on with the result; an exception ends what it is part of (JLS 15.6)
+-- goes on with the result; an exception ends the expression too (JLS 15.6)
 abbrev pub with_value : {A B : Type 0} → Evaluated A → (A → Answers → Evaluated B) → Evaluated B
 with_value (Asks action sort) go = Asks action sort
 with_value (Results v rest) go = go v rest

@@ -16,12 +16,13 @@ pub data Effect : Type 0 where
   Waits : Effect
   Does : (store : Store) (answer : Answer Value) → Effect
 
--- the same of the one thing that an action is on
+-- an action stays and changes nothing, or it leaves another thing and has an answer
 pub data Change : Type 0 where
   Stays : Change
   Leaves : (thing : Thing) (answer : Answer Value) → Change
 
--- and of the hold of a lock or of a monitor
+-- an action on the hold of a lock or of a monitor stays and changes nothing, or it leaves another hold and has an
+-- answer
 pub data Holding : Type 0 where
   Awaits : Holding
   Becomes : (hold : Hold) (answer : Answer Value) → Holding
@@ -63,19 +64,20 @@ writing_item i v t = Leaves t Done
 abbrev pub most_holds : ℕ
 most_holds = 2147483647
 
--- one more hold by the owner, which past the most throws Error (ReentrantLock)
+-- one more hold by the owner; if that is over the most holds, it throws Error (ReentrantLock)
 abbrev pub held_more : ℕ → ℕ → Answer Value → Holding
 held_more thread holds answer =
     if nat_lt holds most_holds
     then Becomes (HeldBy thread (holds + 1)) answer
     else Becomes (HeldBy thread holds) (Fails Error)
 
--- lock(), and the lock of a monitor: takes what is free, adds a hold for its owner, and else waits (ReentrantLock, JLS 17.1)
+-- lock(), and the lock of a monitor. If it is free, the thread takes it. If the thread is its owner, it adds a hold.
+-- Else the thread waits (ReentrantLock, JLS 17.1).
 abbrev pub locking : ℕ → Hold → Holding
 locking thread Free = Becomes (HeldBy thread 1) Done
 locking thread (HeldBy owner holds) = if nat_eq owner thread then held_more thread holds Done else Awaits
 
--- tryLock(): the same, but false where lock() would wait
+-- tryLock(): the same, but false if lock() would wait
 abbrev pub trying : ℕ → Hold → Holding
 trying thread Free = Becomes (HeldBy thread 1) (Gives (Boolean true))
 trying thread (HeldBy owner holds) =
@@ -83,11 +85,11 @@ trying thread (HeldBy owner holds) =
     then held_more thread holds (Gives (Boolean true))
     else Becomes (HeldBy owner holds) (Gives (Boolean false))
 
--- one hold less, and with none left it is free
+-- one hold less; if none is left, it is free
 abbrev pub held_less : ℕ → ℕ → Hold
 held_less thread holds = if nat_lt 1 holds then HeldBy thread (holds - 1) else Free
 
--- unlock(), and the unlock of a monitor: by the owner alone, else IllegalMonitorStateException
+-- unlock(), and the unlock of a monitor, by the owner; by another thread, IllegalMonitorStateException
 abbrev pub unlocking : ℕ → Hold → Holding
 unlocking thread Free = Becomes Free (Fails IllegalMonitorState)
 unlocking thread (HeldBy owner holds) =
@@ -100,7 +102,7 @@ abbrev pub asking_held : ℕ → Hold → Holding
 asking_held thread Free = Becomes Free (Gives (Boolean false))
 asking_held thread (HeldBy owner holds) = Becomes (HeldBy owner holds) (Gives (Boolean (nat_eq owner thread)))
 
--- a thing whose hold becomes another
+-- a thing whose hold changes
 abbrev pub with_hold : (Hold → Thing) → Holding → Change
 with_hold thing Awaits = Stays
 with_hold thing (Becomes hold answer) = Leaves (thing hold) answer
@@ -128,11 +130,11 @@ same_mark true b = b
 same_mark false true = false
 same_mark false false = true
 
--- reference and mark are both the expected ones
+-- whether reference and mark are both the expected ones
 abbrev pub same_pair : Value → Value → Bool
 same_pair p q = nat_eq (reference_of p) (reference_of q) && same_mark (mark_of p) (mark_of q)
 
--- compareAndSet: sets both where reference and mark are the expected ones (AtomicMarkableReference)
+-- compareAndSet: if reference and mark are the expected ones, sets both (AtomicMarkableReference)
 abbrev pub swapping : Value → Value → Thing → Change
 swapping expected new (Markable p) =
     if same_pair p expected
@@ -140,7 +142,7 @@ swapping expected new (Markable p) =
     else Leaves (Markable p) (Gives (Boolean false))
 swapping expected new t = Leaves t Done
 
--- attemptMark: sets the mark where the reference is the expected one, and never fails spuriously here
+-- attemptMark: if the reference is the expected one, sets the mark; it never fails spuriously here
 -- (AtomicMarkableReference)
 abbrev pub attempting : ℕ → Bool → Thing → Change
 attempting reference mark (Markable p) =
@@ -149,7 +151,7 @@ attempting reference mark (Markable p) =
     else Leaves (Markable p) (Gives (Boolean false))
 attempting reference mark t = Leaves t Done
 
--- what an action does to the thing that it is on
+-- what an action does to its thing
 abbrev pub change : ℕ → Action Value → Thing → Change
 change thread (ReadField o f) t = reading_field f t
 change thread (WriteField o f v) t = writing_field f v t
@@ -181,7 +183,7 @@ abbrev pub fields_in : Option Class → List Value
 fields_in None = []
 fields_in (Some c) = map start_of c.fields
 
--- the size of a new array; none is made with a negative length (JLS 15.10.2)
+-- the size of a new array; an array of a negative length is never made (JLS 15.10.2)
 abbrev pub size_of : ℤ → ℕ
 size_of (pos n) = n
 size_of (negsuc n) = 0
@@ -194,8 +196,9 @@ making s t = Does (with_new s t) (Gives (Reference (new_number s)))
 abbrev pub on_thing : Store → ℕ → ℕ → Action Value → Effect
 on_thing s o thread action = at_thing s o (thing_at s o) (change thread action)
 
--- what an action of a thread does. It is one step, so the steps of all threads are in one order, as accesses of volatile
--- variables are (JLS 17.4.4); an action on a number that isn't there, or on a thing of another kind, is never asked for
+-- What an action of a thread does. It is one step, so the steps of all threads are in one order, as accesses of
+-- volatile variables are (JLS 17.4.4). An action is asked for only on a thing that exists, and that is of the right
+-- kind.
 abbrev pub effect : List Class → Store → ℕ → Action Value → Effect
 effect classes s thread (ReadField o f) = on_thing s o thread (ReadField o f)
 effect classes s thread (WriteField o f v) = on_thing s o thread (WriteField o f v)
@@ -204,7 +207,7 @@ effect classes s thread (WriteItem o i v) = on_thing s o thread (WriteItem o i v
 -- setup names
 effect classes s thread (ReadName n) = Does s (Gives (name_at s n))
 effect classes s thread (WriteName n v) = Does (with_name s n v) Done
--- makings: fields and elements at their start values (JLS 4.12.5, 12.5, 15.9.4, 15.10.2), a monitor or a lock that is free
+-- makings: fields and elements at their start values (JLS 4.12.5, 12.5, 15.9.4, 15.10.2); a monitor or a lock is free
 effect classes s thread (New c) = making s (Object Free (fields_in (slice_get classes c)))
 effect classes s thread NewLock = making s (LockOf Free)
 effect classes s thread (NewMarkable p) = making s (Markable p)

@@ -55,9 +55,9 @@ get_both class markable array rest =
 abbrev pub argument : List Value → ℕ → Value
 argument vs n = slice_index_or vs n nothing
 
--- what is called, on an object that isn't null: a method (JLS 15.12.4.5), an operation of a lock
--- (java.util.concurrent.locks.ReentrantLock), of a monitor or of a markable
--- (java.util.concurrent.atomic.AtomicMarkableReference)
+-- What is called, on an object that isn't null. It is a method (JLS 15.12.4.5), or an operation of a lock
+-- (java.util.concurrent.locks.ReentrantLock), of a monitor, or of a markable
+-- (java.util.concurrent.atomic.AtomicMarkableReference).
 abbrev pub call : Calls → Called → Value → List Value → Answers → Evaluated Value
 call calls (Method m) o vs rest = calls m (o ∷ vs) rest
 -- lock(), unlock(), tryLock(), isHeldByCurrentThread()
@@ -125,7 +125,7 @@ abbrev mutual
       with_value (arguments classes calls es locals rest) (λ vs rest.
       with_value (calls (constructor_of classes c) (o ∷ vs) rest) (λ _ rest. Results o rest)))
   evaluate classes calls MakeLock locals answers = ask NewLock (NewOf types.Lock) answers
-  -- both arguments, before the one making
+  -- both arguments, and then the making
   evaluate classes calls (MakeMarkable c es) locals answers =
       with_value (arguments classes calls es locals answers) (λ vs rest.
       ask (NewMarkable (pair_of (argument vs 0) (argument vs 1))) (NewOf (types.Markable c)) rest)

@@ -11,13 +11,13 @@ use Rattle.ls_meaning.specs.Course.{Answers, Evaluated, Asks, Results, Throws, t
 use Rattle.ls_meaning.specs.Expressions.{Calls}
 use Rattle.ls_meaning.specs.Statements.{Executed, AsksFor, Completes, execute}
 
--- the slots of a method as it is entered: `this` and the arguments, and each local at the start value of its type
--- (JLS 4.12.5, 15.12.4.5)
+-- The slots of a method when it is entered: `this` and the arguments, and each other local with its start value (JLS
+-- 4.12.5, 15.12.4.5).
 abbrev pub frame : List ValueType → List Value → List Value
 frame types values = values ++ map start_of (drop (length values) types)
 
--- what a call answers where its body completes without a value: nothing, or the start value of the type that the method
--- answers, whose body never completes so (JLS 8.4.7)
+-- What a call answers if its body completes without a value. Of a void method that is nothing. Of any other it is the
+-- start value of the answered type; its body never completes so (JLS 8.4.7).
 abbrev pub answer_without : Option ValueType → Value
 answer_without None = nothing
 answer_without (Some t) = start_of t
@@ -38,12 +38,12 @@ run_body file calls None values answers = Results nothing answers
 run_body file calls (Some m) values answers =
     leave m.result (execute file.classes calls m.body (frame m.slots values) answers)
 
--- entering is a step of its own
+-- entering is an action of its own
 abbrev pub enter : File → Calls → Calls
 enter file calls m values answers =
     with_value (tell (Enter m) answers) (λ _ rest. run_body file calls (slice_get file.methods m) values rest)
 
--- a call, where `depth` more may be entered, one in the other; at depth 0 it throws instead (JLS 15.12.4.5)
+-- a call, if `depth` calls more may be entered, one in the other; at depth 0 it throws instead (JLS 15.12.4.5)
 unfoldable pub invoke : File → ℕ → Calls
 invoke file zero m values answers = Throws StackOverflow answers
 invoke file (suc depth) m values answers = enter file (invoke file depth) m values answers

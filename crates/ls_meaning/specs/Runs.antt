@@ -27,14 +27,14 @@ pub record State : Type 0 where
 abbrev pub answers_of : State → ℕ → Answers
 answers_of s thread = slice_index_or s.answers thread []
 
--- at the start nothing is made, and the setup names are null
+-- at the start nothing is made, and each setup name is null
 abbrev pub start : Program → State
 start program = record {
   store = record { things = []; names = map (λ n. Reference 0) program.names };
   answers = map (λ t. []) program.threads;
 }
 
--- the setup starts at once, the others when it has ended without a trap
+-- the setup starts at once; the other threads start when the setup has ended without a trap
 abbrev pub has_ended : Next → Bool
 has_ended (Goes action sort) = false
 has_ended Ended = true
@@ -44,7 +44,7 @@ abbrev pub has_started : File → Program → State → ℕ → Bool
 has_started file program s thread =
     if nat_eq thread 0 then true else has_ended (next file program 0 (answers_of s 0))
 
--- what a thread asks for next, as it is told; the number of no thread has ended
+-- what a thread asks for next, as it is reported; a thread that doesn't exist has ended
 abbrev pub asked_of : Next → Asked
 asked_of (Goes action sort) = asks.Asks action
 asked_of Ended = asks.Ended
@@ -79,7 +79,7 @@ step_of file s thread (Goes action sort) = performed s thread action (effect fil
 step_of file s thread Ended = idle s
 step_of file s thread Trapped = idle s
 
--- a step of a thread, which does something only where it has started and not ended
+-- a step of a thread; it does nothing unless the thread has started and has not ended
 abbrev pub step : File → Program → State → ℕ → Step
 step file program s thread =
     if has_started file program s thread

@@ -14,7 +14,8 @@ use Rattle.ls_meaning.specs.Values.{int_of, truth_of, reference_of}
 use Rattle.ls_meaning.specs.Course.{Answers, Evaluated, Asks, Results, Throws, tell, with_value, on_object}
 use Rattle.ls_meaning.specs.Expressions.{Calls, operate, evaluate}
 
--- the execution of a statement asks for an action, or it completes, with the locals and the answers left (JLS 14.1)
+-- the execution of a statement asks for an action, or it completes, with the locals and the answers that are left (JLS
+-- 14.1)
 pub data Executed : Type 0 where
   AsksFor : (action : Action Value) (answer : Sort) → Executed
   Completes : (completion : Completion Value) (locals : List Value) (rest : Answers) → Executed
@@ -29,7 +30,7 @@ on_value (Throws kind rest) locals go = Completes (Threw kind) locals rest
 abbrev pub and_normal : Evaluated Value → List Value → Executed
 and_normal e locals = on_value e locals (λ _ rest. Completes Normal locals rest)
 
--- goes on where a statement completes normally
+-- goes on if a statement completes normally
 abbrev pub then_do : Executed → (List Value → Answers → Executed) → Executed
 then_do (AsksFor action sort) go = AsksFor action sort
 then_do (Completes Normal locals rest) go = go locals rest
@@ -38,8 +39,8 @@ then_do (Completes (Continued n) locals rest) go = Completes (Continued n) local
 then_do (Completes (Returned v) locals rest) go = Completes (Returned v) locals rest
 then_do (Completes (Threw kind) locals rest) go = Completes (Threw kind) locals rest
 
--- the finally block: where it completes normally the whole completes as the try block did, else as it did itself
--- (JLS 14.20.2)
+-- The finally block. If it completes normally, the whole completes as the try block did. Else the whole completes as
+-- the finally block did (JLS 14.20.2).
 abbrev pub finish_as : Completion Value → Executed → Executed
 finish_as reason f = then_do f (λ locals rest. Completes reason locals rest)
 
@@ -47,7 +48,7 @@ abbrev pub finally_do : Executed → (List Value → Answers → Executed) → E
 finally_do (AsksFor action sort) go = AsksFor action sort
 finally_do (Completes reason locals rest) go = finish_as reason (go locals rest)
 
--- back to the loop's condition, in a step of its own
+-- back to the loop's condition, as an action of its own
 abbrev pub turn_back : (List Value → Answers → Executed) → List Value → Answers → Executed
 turn_back again locals answers = on_value (tell Turn answers) locals (λ _ rest. again locals rest)
 
@@ -62,7 +63,7 @@ after_body (Completes (Broke (suc n)) locals rest) again = Completes (Broke n) l
 after_body (Completes (Returned v) locals rest) again = Completes (Returned v) locals rest
 after_body (Completes (Threw kind) locals rest) again = Completes (Threw kind) locals rest
 
--- the condition, and where it is true the body (JLS 14.12)
+-- the condition, and if it is true, the body (JLS 14.12)
 abbrev pub one_turn : (List Value → Answers → Evaluated Value) → (List Value → Answers → Executed) → (List Value → Answers → Executed) → List Value → Answers → Executed
 one_turn condition body again locals answers =
     on_value (condition locals answers) locals (λ v rest.
@@ -86,8 +87,8 @@ abbrev mutual
       with_value (evaluate classes calls e locals answers) (λ o rest.
       with_value (evaluate classes calls e' locals rest) (λ v rest.
       on_object o (WriteField (reference_of o) f v) NoValue rest))) locals
-  -- `+=`, `++` and `--` on a field: the object once, the test for null, the field, what is added to it, and then the write
-  -- (JLS 15.14.2, 15.14.3, 15.15.1, 15.15.2, 15.26.2)
+  -- `+=`, `++` and `--` on a field. The object comes once, then the test for null, the field, what is added to it, and
+  -- the write (JLS 15.14.2, 15.14.3, 15.15.1, 15.15.2, 15.26.2).
   execute classes calls (AddField e f e') locals answers =
       and_normal (
       with_value (evaluate classes calls e locals answers) (λ o rest.

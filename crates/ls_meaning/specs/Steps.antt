@@ -24,7 +24,7 @@ after s Same = s
 after s (Moved s') = s'
 after s (Acted s' line) = s'
 
--- what a step puts in front of the rest of a trace
+-- what a step puts before the rest of a trace
 abbrev pub traced : {State Line : Type 0} → Stepped State Line → List Line → List Line
 traced Same lines = lines
 traced (Moved s') lines = lines

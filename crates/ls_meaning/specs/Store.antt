@@ -3,20 +3,21 @@ use Rattle.std.specs.Prelude.{ℕ, ◌-◌, ◌+◌, List, [], ◌∷◌, ◌++�
 use Rattle.ls_events.specs.declared.value.Value.{Value}
 use Rattle.ls_meaning.specs.Values.{nothing}
 
--- a lock, or the monitor of an object, is free, or a thread holds it some number of times (JLS 17.1)
+-- a lock, or the monitor of an object, is free, or a thread holds it a number of times (JLS 17.1)
 pub data Hold : Type 0 where
   Free : Hold
   HeldBy : (owner holds : ℕ) → Hold
 
--- what is behind a reference: an object's monitor and its fields in text order, a lock, what a markable holds, an array
+-- the thing that a reference names: an object (its monitor, and its fields in text order), a lock, a markable's pair,
+-- or an array
 pub data Thing : Type 0 where
   Object : (monitor : Hold) → (fields : List Value) → Thing
   LockOf : (hold : Hold) → Thing
   Markable : (pair : Value) → Thing
-  -- items stand at indices below the size
+  -- items have indices below the size
   Array : (size : ℕ) → (items : ℕ → Value) → Thing
 
--- object n, counted from 1, stands at place n - 1
+-- object n, counted from 1, is at index n - 1
 pub record Store : Type 0 where
   pub things : List Thing
   pub names : List Value

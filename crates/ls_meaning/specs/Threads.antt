@@ -20,7 +20,7 @@ pub data Next : Type 0 where
   Ended : Next
   Trapped : Next
 
--- the value of the return event, where the method answers one
+-- the value of the return event, if the method answers one
 abbrev pub result_by : Option ValueType → Value → Option Value
 result_by None v = None
 result_by (Some t) v = Some v
@@ -40,7 +40,7 @@ class_in (Some n) = n.class
 abbrev pub named : Program → ℕ → Sort
 named program n = ValueOf (Class (class_in (slice_get program.names n)))
 
--- one call, up to its return or trap event. A making: call event, making, entering, the body, write of the setup name.
+-- One call, up to its return or trap event. A making: call event, making, entering, the body, write of the setup name.
 -- A method call: call event, read of the setup name, entering, the body.
 abbrev pub one_call : File → Program → ℕ → ProgramCall → Answers → Evaluated (Option Value)
 one_call file program n (Making name c text values) answers =
@@ -59,7 +59,7 @@ abbrev pub event : Action Value → Answers → (Answers → Next) → Next
 event action [] go = Goes action NoValue
 event action (answer ∷ rest) go = go rest
 
--- after a call its return event and then the next call, or a trap event, which ends the thread
+-- after a call comes its return event, and then the next call; or a trap event, which ends the thread
 abbrev pub after_call : ℕ → Evaluated (Option Value) → (Answers → Next) → Next
 after_call n (Asks action sort) go = Goes action sort
 after_call n (Results v rest) go = event (Return n v) rest go

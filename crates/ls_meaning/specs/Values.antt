@@ -10,7 +10,7 @@ use Rattle.ls_events.specs.declared.value.ValueType.TheVariants.{Int as IntType,
 use Rattle.ls_checked.specs.declared.tree.Operator.{Operator}
 use Rattle.ls_checked.specs.declared.tree.Operator.TheVariants.{Add, Subtract, Multiply, Divide, Remainder, Less, LessEqual, Greater, GreaterEqual, Equal, NotEqual}
 
--- the parts of a value; a checked tree reads no value as one of another type
+-- the parts of a value; a checked tree never reads a value as one of another type
 abbrev pub int_of : Value → ℤ
 int_of (Int z) = z
 int_of (Boolean b) = pos 0
@@ -39,7 +39,7 @@ mark_of (Pair n m) = m
 abbrev pub pair_of : Value → Value → Value
 pair_of r m = Pair (reference_of r) (truth_of m)
 
--- what a call that answers no value leaves
+-- the value of a call that answers no value
 abbrev pub nothing : Value
 nothing = Reference 0
 

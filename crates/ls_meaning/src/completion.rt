@@ -3,8 +3,8 @@
 use ls_events::kind::Kind;
 use std::alloc::AllocError;
 
-/// How a statement completes (JLS 14.1). `Broke` and `Continued` say how many loops are still to be left behind: 0 is the
-/// innermost.
+/// How a statement completes (JLS 14.1). `Broke` and `Continued` say to which loop the jump belongs, counted outward:
+/// 0 is the innermost.
 #[derive(Copy)]
 pub enum Completion<V> {
     Normal,

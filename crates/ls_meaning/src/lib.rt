@@ -1,5 +1,5 @@
-//! The meaning of a checked file and a thread program: values and operators, the store and what an action does to it, what
-//! a thread asks for after given answers, and runs. The definitions stand in specs/; the code here is a few shared types.
+//! The meaning of a checked file and a thread program: values and operators, the store and actions on it, what a
+//! thread asks for, and runs. The definitions are in specs/; the code here is a few shared types.
 #![tactic(auto)]
 
 pub mod completion;

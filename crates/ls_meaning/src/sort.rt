@@ -3,7 +3,7 @@
 use ls_events::value::ValueType;
 use std::alloc::AllocError;
 
-/// What an action is answered, where it throws nothing.
+/// What an action is answered if it throws nothing.
 #[derive(Copy)]
 pub enum Sort {
     /// Only that it is done.
@@ -12,7 +12,7 @@ pub enum Sort {
     ValueOf(ValueType),
     /// A reference to a new object of a type: never null.
     NewOf(ValueType),
-    /// What a markable holds: a reference to an object of a class, or null, and a mark.
+    /// What a markable holds: a mark, and null or a reference to an object of a class.
     PairOf(usize),
 }
 

@@ -8,7 +8,7 @@ use std::alloc::AllocError;
 #[derive(Copy)]
 pub enum Asked {
     Asks(Action<Value>),
-    /// Its last event has happened; so it is for the number of no thread.
+    /// Its last event has happened. A thread that doesn't exist has ended too.
     Ended,
     /// It waits for the setup, which hasn't ended or has ended with a trap.
     NotStarted,

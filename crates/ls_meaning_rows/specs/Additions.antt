@@ -1,5 +1,5 @@
--- `+=`, `++` and `--` on a field: the object once, the test for null, the read, what is added, the write (JLS 15.14.2, 15.26.2). Each text stands
--- above its checked file; then its thread program, schedule and trace.
+-- `+=`, `++` and `--` on a field: the object once, the test for null, the read, what is added, the write (JLS 15.14.2,
+-- 15.26.2). Each text is above its checked file. Then come its thread program, schedule and trace.
 use Rattle.std.specs.Prelude.{◌≡◌, [], ◌∷◌, ◌++◌, replicate, None, Some}
 use Rattle.ls_events.specs.declared.value.ValueType.TheVariants as types
 use Rattle.ls_events.specs.declared.kind.Kind.TheVariants as kinds
@@ -41,7 +41,7 @@ NullBeforeValue =
     ∷ line 1 (Trap 1 kinds.NullPointer) done
     ∷ [])
 
--- void f() { t().v += s(); }: t() is entered once; v is read before s() writes it, and the sum is of what was read
+-- void f() { t().v += s(); }: t() is entered once; v is read before s() writes v, and the sum is of what was read
 abbrev pub ReadBeforeValue : Type 0
 ReadBeforeValue =
     source_trace (with_body (AddField (Call (Slot 0) (called.Method 2) End) 0 (Call (Slot 0) (called.Method 1) End)))

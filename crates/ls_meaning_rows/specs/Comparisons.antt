@@ -1,4 +1,5 @@
--- What comparisons compute (JLS 15.15, 15.20, 15.21). Each text stands above its checked file; then its thread program, schedule and trace.
+-- What comparisons compute (JLS 15.15, 15.20, 15.21). Each text is above its checked file. Then come its thread
+-- program, schedule and trace.
 use Rattle.std.specs.Prelude.{◌≡◌, [], ◌∷◌, ◌++◌, replicate, None, Some}
 use Rattle.ls_events.specs.declared.value.ValueType.TheVariants as types
 use Rattle.ls_events.specs.declared.action.Action.TheVariants.{ReadName, WriteName, New, Enter, Return}

@@ -1,4 +1,5 @@
--- How statements complete (JLS 14). Each text stands above its checked file; then its thread program, schedule and trace.
+-- How statements complete (JLS 14). Each text is above its checked file. Then come its thread program, schedule and
+-- trace.
 use Rattle.std.specs.Prelude.{◌≡◌, [], ◌∷◌, ◌++◌, replicate, None, Some}
 use Rattle.ls_events.specs.declared.value.ValueType.TheVariants as types
 use Rattle.ls_events.specs.declared.kind.Kind.TheVariants as kinds

@@ -12,11 +12,11 @@ use Rattle.ls_meaning.specs.Threads.{Goes, Ended, Trapped, next}
 use Rattle.ls_meaning.specs.Runs.{start, asked}
 use Rattle.ls_meaning_rows.specs.Made.{yes, null, block, one_class, method, making, calling, program, done, gives, fails}
 
--- a store of one lock, which thread 1 holds so often
+-- a store of one lock, which thread 1 holds this many times
 abbrev pub held : ℕ → Store
 held holds = record { things = LockOf (HeldBy 1 holds) ∷ []; names = [] }
 
--- the last hold that there is, and one more
+-- the last hold that is possible, and one more
 abbrev pub LastHold : Type 0
 LastHold = effect [] (held 2147483646) 1 (actions.Lock 1) ≡ Does (held 2147483647) done
 
@@ -26,7 +26,7 @@ HoldPastTheLast = effect [] (held 2147483647) 1 (actions.Lock 1) ≡ Does (held 
 abbrev pub TryPastTheLast : Type 0
 TryPastTheLast = effect [] (held 2147483647) 1 (actions.TryLock 1) ≡ Does (held 2147483647) (fails kinds.Error)
 
--- the lock of another, held to the last
+-- a lock that another thread holds the most times
 abbrev pub LockOfAnother : Type 0
 LockOfAnother = effect [] (held 2147483647) 2 (actions.Lock 1) ≡ Waits
 
@@ -47,19 +47,19 @@ file = record {
   methods = method 0 0 (types.Class 0 ∷ []) None (block []) ∷ method 0 0 (types.Class 0 ∷ []) None (block []) ∷ [];
 }
 
--- a setup name that is read as null throws at the call, which no run meets
+-- a setup name that is read as null throws at the call; no run meets this
 abbrev pub NullName : Type 0
 NullName = next file (program (0 ∷ []) ((making 0 0 [] ∷ []) ∷ (calling 0 0 [] ∷ []) ∷ [])) 1 (done ∷ gives null ∷ []) ≡ Goes (actions.Trap 1 kinds.NullPointer) NoValue
 
--- a turn, an entry, a write of a name and an event are done, whatever they are answered
+-- a turn, an entry, a write of a name and an event are done, whatever the answer is
 abbrev pub EntryIsDone : Type 0
 EntryIsDone = next file (program (0 ∷ []) ((making 0 0 [] ∷ []) ∷ [])) 0 (fails kinds.Error ∷ gives yes ∷ fails kinds.Error ∷ fails kinds.Error ∷ []) ≡ Goes (actions.Return 1 None) NoValue
 
--- a trapped thread has ended for the asker, and isn't a setup that lets others start
+-- a trapped thread has ended for whoever asks; a trapped setup doesn't let the others start
 abbrev pub TrappedIsNoEnd : Type 0
 TrappedIsNoEnd = next file (program (0 ∷ []) ((calling 0 0 [] ∷ []) ∷ [])) 0 (done ∷ gives null ∷ done ∷ []) ≡ Trapped
 
--- the number of no thread has ended, a thread before the setup's end hasn't started
+-- a thread that doesn't exist has ended; a thread hasn't started before the setup's end
 abbrev pub NoThread : Type 0
 NoThread = asked file (program (0 ∷ []) ((making 0 0 [] ∷ []) ∷ (calling 0 0 [] ∷ []) ∷ [])) (start (program (0 ∷ []) ((making 0 0 [] ∷ []) ∷ (calling 0 0 [] ∷ []) ∷ []))) 2 ≡ asks.Ended
 

@@ -1,4 +1,4 @@
--- Runs of list classes. Each text stands above its checked file; then its thread program, schedule and trace.
+-- Runs of list classes. Each text is above its checked file. Then come its thread program, schedule and trace.
 use Rattle.std.specs.Prelude.{◌≡◌, [], ◌∷◌, ◌++◌, replicate, None, Some}
 use Rattle.ls_events.specs.declared.value.ValueType.TheVariants as types
 use Rattle.ls_events.specs.declared.action.Action.TheVariants.{ReadField, WriteField, ReadItem, WriteItem, ReadName, WriteName, New, NewLock, NewMarkable, NewArray, Lock, Unlock, TryLock, IsHeld, ReadPair, SetPair, SwapPair, AttemptMark, Turn, Enter, Return, Trap}
@@ -23,14 +23,17 @@ use Rattle.ls_meaning_rows.specs.Made.{int, minus, yes, no, null, at, block, one
 --         curr.lock();
 --         try {
 --           if (validate(pred, curr)) {
---             if (curr.key == item) return false; Node node = new Node(item); node.next = curr; pred.next = node; return true;
+--             if (curr.key == item) return false; Node node = new Node(item); node.next = curr; pred.next = node;
+--                 return true;
 --           }
 --         } finally { curr.unlock(); }
 --       } finally { pred.unlock(); }
 --     }
 --   }
---   boolean remove(int item) { .. if (curr.key != item) return false; curr.marked = true; pred.next = curr.next; return true; .. }
---   boolean contains(int item) { Node curr = head; while (curr.key < item) curr = curr.next; return curr.key == item && !curr.marked; }
+--   boolean remove(int item) { .. if (curr.key != item) return false; curr.marked = true; pred.next = curr.next;
+--       return true; .. }
+--   boolean contains(int item) { Node curr = head; while (curr.key < item) curr = curr.next; return curr.key == item
+--       && !curr.marked; }
 -- }
 abbrev pub LazyList : Type 0
 LazyList =

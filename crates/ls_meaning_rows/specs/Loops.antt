@@ -1,4 +1,5 @@
--- What leaves a loop's body (JLS 14.2, 14.12.1, 14.15, 14.16). Each text stands above its checked file; then its thread program, schedule and trace.
+-- What leaves a loop's body (JLS 14.2, 14.12.1, 14.15, 14.16). Each text is above its checked file. Then come its
+-- thread program, schedule and trace.
 use Rattle.std.specs.Prelude.{◌≡◌, [], ◌∷◌, ◌++◌, replicate, None}
 use Rattle.ls_events.specs.declared.value.ValueType.TheVariants as types
 use Rattle.ls_events.specs.declared.kind.Kind.TheVariants as kinds

@@ -1,4 +1,5 @@
--- Operations of markable references (java.util.concurrent.atomic.AtomicMarkableReference). Each text stands above its checked file; then its thread program, schedule and trace.
+-- Operations of markable references (java.util.concurrent.atomic.AtomicMarkableReference). Each text is above its
+-- checked file. Then come its thread program, schedule and trace.
 use Rattle.std.specs.Prelude.{◌≡◌, pos, true, false, [], ◌∷◌, ◌++◌, replicate, None, Some}
 use Rattle.ls_events.specs.declared.value.Value.TheVariants as values
 use Rattle.ls_events.specs.declared.value.ValueType.TheVariants as types
@@ -11,7 +12,9 @@ use Rattle.ls_checked.specs.CheckedTree.{Literal, Slot, Field, Item, Not, Binary
 use Rattle.ls_meaning.specs.Runs.{source_trace}
 use Rattle.ls_meaning_rows.specs.Made.{int, yes, no, null, at, block, one_class, method, making, calling, program, line, done, gives}
 
--- class C { int v; AtomicMarkableReference<C> r; .. C s() { v = v + 1; return this; } boolean b() { v = v + 1; return true; } }, void f() { r = new AtomicMarkableReference<C>(s(), b()); }
+-- class C { int v; AtomicMarkableReference<C> r; ..
+--   C s() { v = v + 1; return this; } boolean b() { v = v + 1; return true; } },
+-- void f() { r = new AtomicMarkableReference<C>(s(), b()); }
 abbrev pub ArgumentsOfTheMaking : Type 0
 ArgumentsOfTheMaking =
     source_trace

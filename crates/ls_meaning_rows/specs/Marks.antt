@@ -1,4 +1,5 @@
--- What a markable reference holds after an operation (java.util.concurrent.atomic.AtomicMarkableReference). Each text stands above its checked file; then its thread program, schedule and trace.
+-- What a markable reference holds after an operation (java.util.concurrent.atomic.AtomicMarkableReference). Each text
+-- is above its checked file. Then come its thread program, schedule and trace.
 use Rattle.std.specs.Prelude.{◌≡◌, true, false, [], ◌∷◌, ◌++◌, replicate, None, Some}
 use Rattle.ls_events.specs.declared.value.Value.TheVariants as values
 use Rattle.ls_events.specs.declared.value.ValueType.TheVariants as types

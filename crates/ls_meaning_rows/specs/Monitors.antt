@@ -44,7 +44,7 @@ counter = record {
       ∷ [];
 }
 
--- A is in inc() when B calls it: B waits, and no update is lost; with one step less the last call is pending
+-- A is in inc() when B calls inc(). B waits, and no update is lost. With one step less, the last call is pending.
 abbrev pub NoUpdateLost : Type 0
 NoUpdateLost =
     source_history counter (program (0 ∷ []) ((making 0 0 [] ∷ []) ∷ (calling 0 0 [] ∷ []) ∷ (calling 0 0 [] ∷ calling 0 1 [] ∷ []) ∷ []))
@@ -90,8 +90,10 @@ MonitorOfNull =
     ≡
     (event 0 1 Called ∷ event 0 1 (Returned None) ∷ event 1 1 Called ∷ event 1 1 (Trapped kinds.NullPointer) ∷ [])
 
--- class R { int n; synchronized void f() { f(); } synchronized int get() { return n; } }: each of A's 64 entries locks, and each of
--- their trapped ends unlocks; B, which waits before the last, gets the monitor then
+-- class R { int n; synchronized void f() { f(); } synchronized int get() { return n; } }
+--
+-- Each of A's 64 entries locks, and each of their trapped ends unlocks. B waits before the last end, and gets the
+-- monitor then.
 abbrev pub UnlockedByTraps : Type 0
 UnlockedByTraps =
     source_history
@@ -118,7 +120,8 @@ UnlockedByTraps =
 abbrev pub object : Hold → Store
 object hold = record { things = Object hold (int 7 ∷ []) ∷ []; names = [] }
 
--- an object's monitor by itself: taken, held once more, waited for, left, not left by another; its field stays
+-- an object's monitor by itself: taken, held once more, waited for, left, not left by another thread; the field stays
+-- the same
 abbrev pub MonitorOfAnObject : Type 0
 MonitorOfAnObject =
     (effect [] (object Free) 1 (actions.LockMonitor 1) ≡ Does (object (HeldBy 1 1)) done)

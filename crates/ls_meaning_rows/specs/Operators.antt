@@ -1,4 +1,5 @@
--- What the operators of arithmetic compute (JLS 15.15, 15.17, 15.18). Each text stands above its checked file; then its thread program, schedule and trace.
+-- What the operators of arithmetic compute (JLS 15.15, 15.17, 15.18). Each text is above its checked file. Then come
+-- its thread program, schedule and trace.
 use Rattle.std.specs.Prelude.{◌≡◌, [], ◌∷◌, ◌++◌, replicate, None, Some}
 use Rattle.ls_events.specs.declared.value.ValueType.TheVariants as types
 use Rattle.ls_events.specs.declared.kind.Kind.TheVariants as kinds

@@ -1,4 +1,5 @@
--- The order of evaluation (JLS 15.7, 15.10.4, 15.12.4, 15.26.1). Each text stands above its checked file; then its thread program, schedule and trace.
+-- The order of evaluation (JLS 15.7, 15.10.4, 15.12.4, 15.26.1). Each text is above its checked file. Then come its
+-- thread program, schedule and trace.
 use Rattle.std.specs.Prelude.{◌≡◌, pos, negsuc, [], ◌∷◌, ◌++◌, replicate, None, Some}
 use Rattle.ls_events.specs.declared.value.ValueType.TheVariants as types
 use Rattle.ls_events.specs.declared.kind.Kind.TheVariants as kinds
@@ -10,7 +11,8 @@ use Rattle.ls_checked.specs.CheckedTree.{Literal, Slot, Field, Item, Negate, Bin
 use Rattle.ls_meaning.specs.Runs.{source_trace}
 use Rattle.ls_meaning_rows.specs.Made.{int, minus, yes, no, null, at, block, one_class, method, making, calling, program, line, done, gives, fails}
 
--- class C { int v; C n; void f() { n.g(s(), 0); } int s() { v = v + 1; return v; } int g(int a, int b) { return a - b; } }
+-- class C { int v; C n; void f() { n.g(s(), 0); }
+--   int s() { v = v + 1; return v; } int g(int a, int b) { return a - b; } }
 abbrev pub TargetNullAfterArguments : Type 0
 TargetNullAfterArguments =
     source_trace

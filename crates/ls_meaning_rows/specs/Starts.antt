@@ -1,4 +1,5 @@
--- Zero as a factor, and what fields start with (JLS 15.17.1, 4.12.5). Each text stands above its checked file; then its thread program, schedule and trace.
+-- Zero as a factor, and the start values of fields (JLS 15.17.1, 4.12.5). Each text is above its checked file. Then
+-- come its thread program, schedule and trace.
 use Rattle.std.specs.Prelude.{◌≡◌, [], ◌∷◌, ◌++◌, replicate, None, Some}
 use Rattle.ls_events.specs.declared.value.ValueType.TheVariants as types
 use Rattle.ls_events.specs.declared.action.Action.TheVariants.{ReadField, ReadName, WriteName, New, Enter, Return}

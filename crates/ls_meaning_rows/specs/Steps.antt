@@ -1,4 +1,5 @@
--- Whole histories, and what a step and the question for the next one say of a thread that goes on, waits, has ended, has trapped or hasn't started.
+-- Whole histories, and what a step and the question for the next step say of a thread. It goes on, waits, has ended,
+-- has trapped or hasn't started.
 use Rattle.std.specs.Prelude.{◌≡◌, ℕ, [], ◌∷◌, ◌++◌, replicate, None, Some}
 use Rattle.ls_events.specs.declared.value.ValueType.TheVariants as types
 use Rattle.ls_events.specs.declared.kind.Kind.TheVariants as kinds
@@ -20,8 +21,9 @@ use Rattle.ls_meaning_rows.specs.Made.{int, no, at, block, one_class, method, ma
 abbrev pub event : ℕ → ℕ → Happening → Event
 event thread call happening = record { thread = thread; call = call; happening = happening }
 
--- class C { int v; boolean b; void set(int x) { v = x; } int get() { return v; } boolean is() { return b; } void bad() { v = 1 / 0; } }:
--- A sets, gets and asks is(), B gets, calls bad() and would get again, C is left within set
+-- class C { int v; boolean b; void set(int x) { v = x; } int get() { return v; }
+--   boolean is() { return b; } void bad() { v = 1 / 0; } }
+-- A sets, gets and asks is(). B gets, calls bad() and would get again. C is left within set.
 abbrev pub WholeHistory : Type 0
 WholeHistory =
     source_history
@@ -68,7 +70,7 @@ file = record {
 abbrev pub of_locks : Program
 of_locks = program (0 ∷ []) ((making 0 0 [] ∷ []) ∷ (calling 0 0 [] ∷ []) ∷ (calling 0 0 [] ∷ []) ∷ (calling 0 1 [] ∷ []) ∷ [])
 
--- the store once A holds the lock, with the answers that each thread has had
+-- the store when A holds the lock, with the answers that each thread has had
 abbrev pub with_answers : Answers → Answers → Answers → Answers → State
 with_answers setup a b c = record {
   store = record { things = Object Free (at 2 ∷ []) ∷ LockOf (HeldBy 1 1) ∷ []; names = at 1 ∷ [] };
@@ -82,14 +84,15 @@ made = done ∷ gives (at 1) ∷ done ∷ gives (at 2) ∷ done ∷ done ∷ don
 abbrev pub entered : Answers
 entered = done ∷ gives (at 1) ∷ done ∷ gives (at 2) ∷ []
 
--- A has returned with the lock held, B has come to its lock(), C has trapped
+-- A has returned and holds the lock, B has come to its lock(), C has trapped
 abbrev pub later : State
 later = with_answers made (entered ++ done ∷ done ∷ []) entered (entered ++ fails kinds.IllegalMonitorState ∷ done ∷ [])
 
 abbrev pub StateOfARun : Type 0
 StateOfARun = source_run file of_locks (replicate 7 0 ++ replicate 6 1 ++ replicate 4 2 ++ replicate 6 3) ≡ later
 
--- a step that waits, and one of a thread that has ended or trapped, or of the number of no thread, leave the state as it is
+-- A step of a thread that waits leaves the state as it is. So does a step of a thread that has ended, has trapped, or
+-- doesn't exist.
 abbrev pub WaitsOrIdle : Type 0
 WaitsOrIdle =
     (step file of_locks later 2 ≡ record { did = did.Waits; after = later })
@@ -98,13 +101,13 @@ WaitsOrIdle =
     × (step file of_locks later 3 ≡ record { did = did.Idle; after = later })
     × (step file of_locks later 4 ≡ record { did = did.Idle; after = later })
 
--- a step before the setup has ended, and the setup's own
+-- a step before the setup has ended, and a step of the setup
 abbrev pub IdleAtFirst : Type 0
 IdleAtFirst =
     (step file of_locks (start of_locks) 1 ≡ record { did = did.Idle; after = start of_locks })
     × ((step file of_locks (start of_locks) 0).did ≡ did.Acted (actions.Call 1) done)
 
--- a thread that waits, one that has ended, one that has trapped
+-- a thread that waits, a thread that has ended, a thread that has trapped
 abbrev pub AskedLater : Type 0
 AskedLater =
     (asked file of_locks later 2 ≡ asks.Asks (actions.Lock 2))

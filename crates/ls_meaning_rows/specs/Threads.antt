@@ -1,4 +1,5 @@
--- Threads of a program, exceptions and locks (java.util.concurrent.locks.ReentrantLock). Each text stands above its checked file; then its thread program, schedule and trace.
+-- Threads of a program, exceptions and locks (java.util.concurrent.locks.ReentrantLock). Each text is above its
+-- checked file. Then come its thread program, schedule and trace.
 use Rattle.std.specs.Prelude.{◌≡◌, [], ◌∷◌, ◌++◌, replicate, None, Some}
 use Rattle.ls_events.specs.declared.value.ValueType.TheVariants as types
 use Rattle.ls_events.specs.declared.kind.Kind.TheVariants as kinds
@@ -132,7 +133,8 @@ ExceptionOfAConstructor =
     ∷ line 1 (Trap 1 kinds.Arithmetic) done
     ∷ [])
 
--- class C { Lock l = new ReentrantLock(); void in() { l.lock(); } void out() { l.unlock(); } boolean t() { return l.tryLock(); } boolean h() { return l.isHeldByCurrentThread(); } }, A in out, B in
+-- class C { Lock l = new ReentrantLock(); void in() { l.lock(); } void out() { l.unlock(); }
+--   boolean t() { return l.tryLock(); } boolean h() { return l.isHeldByCurrentThread(); } }, A in out, B in
 abbrev pub AHeldLockIsWaitedFor : Type 0
 AHeldLockIsWaitedFor =
     source_trace

@@ -1,4 +1,4 @@
--- Whole runs. Each text stands above its checked file; then its thread program, schedule and trace.
+-- Whole runs. Each text is above its checked file. Then come its thread program, schedule and trace.
 use Rattle.std.specs.Prelude.{◌≡◌, pos, true, [], ◌∷◌, ◌++◌, replicate, None, Some}
 use Rattle.ls_events.specs.declared.value.Value.TheVariants as values
 use Rattle.ls_events.specs.declared.value.ValueType.TheVariants as types
@@ -173,7 +173,7 @@ GetWithAnEmptyArray =
     ∷ line 1 (Trap 1 kinds.ArrayIndexOutOfBounds) done
     ∷ [])
 
--- the same, one step less
+-- the same with one step less
 abbrev pub GetBeforeItsTrap : Type 0
 GetBeforeItsTrap =
     source_trace

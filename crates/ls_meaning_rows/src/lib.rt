@@ -1,5 +1,5 @@
-//! Programs whose whole traces, worked out by hand and by an independent stepper, are what the definitions of ls_meaning
-//! compute. Each clause is one program with its schedule.
+//! Programs whose whole traces were worked out by hand and by an independent stepper. The definitions of ls_meaning
+//! compute exactly these traces. Each clause is one program with its schedule.
 #![tactic(auto)]
 
 ghost use Rattle.ls_meaning_rows.specs.Worked.{UpdateLost, ValueBeforeFinally, ReturnOverThrow, FinallyBeforeTrap, GetWithAnEmptyArray, GetBeforeItsTrap, SixtyFourCalls, HeldTwice};
@@ -151,13 +151,13 @@ pub fn marks()
     ensures attempt_clears { AttemptClears }
 {}
 
-/// Zero as a factor, and what fields start with (JLS 15.17.1, 4.12.5).
+/// Zero as a factor, and the start values of fields (JLS 15.17.1, 4.12.5).
 pub fn starts()
     ensures products_of_zero { ProductsOfZero }
     ensures fields_start { FieldsStart }
 {}
 
-/// Whole histories, and what a step and the question for the next one say of a thread.
+/// Whole histories, and what a step and the question for the next step say of a thread.
 pub fn steps()
     ensures whole_history { WholeHistory }
     ensures state_of_a_run { StateOfARun }

@@ -1,4 +1,4 @@
-// What each seat was answered, beside a machine that is stepped by the record.
+// What each seat was answered, compared with a machine that is stepped by the record.
 
 ghost use Rattle.ls_code.specs.Machine.{loaded};
 ghost use Rattle.ls_image.specs.Images.{code_of_image};
@@ -56,7 +56,7 @@ fn work_all<'x, L: Session + Send + Sync, R: Threads + Wait + Sync>(
     });
 }
 
-// The digests of what a machine does by these steps, those of each thread by themselves.
+// The digests of what a machine does by these steps, one for each thread.
 fn stepped(machine: &mut Machine, steps: &[usize]) -> [u64; 3] {
     let mut digests = [0; 3];
     for thread in steps {
@@ -68,7 +68,8 @@ fn stepped(machine: &mut Machine, steps: &[usize]) -> [u64; 3] {
     digests
 }
 
-// Whether the record has what the seats were answered, each was answered, and its history is that of a machine at its start.
+// Whether the record has what the seats were answered, whether each seat was answered, and whether its history is that
+// of a fresh machine.
 fn agreements(machine: &mut Machine, record: &Record, digests: &[u64; 3]) -> [bool; 3] {
     let are_same = stepped(machine, record.schedule().steps()) == *digests;
     let are_answered = digests.iter().all(|digest| *digest != 0);

@@ -1,5 +1,5 @@
-//! Tests of live threads behind a lock that run at one time. They stand apart from the crates that they test, so that they are proved
-//! without proving those again.
+//! Tests of live threads over one machine, which a lock guards, that run at the same time. They are apart from the
+//! crates that they test. So the tests are proved without proving those crates again.
 #![tactic(auto)]
 
 #[cfg(test)]

@@ -1,4 +1,4 @@
-// Two threads that really run at one time.
+// Two threads that really run at the same time.
 
 ghost use Rattle.ls_code.specs.Machine.{loaded};
 ghost use Rattle.ls_image.specs.Images.{code_of_image};
@@ -62,7 +62,7 @@ fn have_returned(history: &[Event]) -> bool {
         && has_returned_true(history, 2, 2)
 }
 
-// Whether the seats' counts are the record's, it replays, and each call returned true.
+// Whether the seats' counts are the record's, whether the record replays, and whether each call returned true.
 fn agreements(
     alloc: Global,
     image: &Image,

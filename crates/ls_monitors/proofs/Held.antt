@@ -83,6 +83,7 @@ kept_synchronized body loops locals slots target block w (Ok m) e =
     }) block)
 kept_synchronized body loops locals slots target block w (Err b) e = tt
 
+-- the law of the statement: its block leaves the slot alone
 pub keeps_the_slot : KeepsTheSlot
 keeps_the_slot body loops locals slots target block out within is =
     gives_of (Keeps body locals slots target) (statement body loops locals slots (parsed.Synchronized target block))
@@ -90,6 +91,7 @@ keeps_the_slot body loops locals slots target block out within is =
     (kept_synchronized body loops locals slots target block
     (each_of (λ (l : Local). l.slot < length slots.types) locals within) (monitor body.known locals target) refl)
 
+-- the law of the statement: its course is the standard's
 pub holds_its_monitor : HoldsItsMonitor
 holds_its_monitor body loops locals slots target block out within is =
     let k = keeps_the_slot body loops locals slots target block out within is in (
@@ -174,6 +176,7 @@ all_items_guard body true scope h is =
     weaker (λ (out : Scope). KeepsAll body scope out × Guarding out) Guarding (all_items body true scope is)
     (synchronized_items body scope h is) (λ out k. k.1)
 
+-- the law of a synchronized method: its body leaves the slot alone
 pub method_keeps_the_slot : MethodKeepsTheSlot
 method_keeps_the_slot body scope out block begins within is =
     (gives_of (λ (out : Scope). KeepsAll body scope out × Guarding out) (all_items body true scope block) out is
@@ -333,6 +336,7 @@ guarded_holds count s h slot class target inner e classes calls values answers l
     ap (λ s. execute classes calls s values answers) e
     ∙ holds_the_monitor classes calls slot class target inner values answers (omega (arith, held.0, l)) held.1
 
+-- the law: each monitor statement of an elaborated file has the course of the standard
 pub file_holds_monitors : FileHoldsMonitors
 file_holds_monitors file out is =
     all_of (λ (m : checked.Method). Everywhere (HoldsMonitors (length m.slots)) m.body) out.file.methods

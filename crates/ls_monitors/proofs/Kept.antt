@@ -108,7 +108,7 @@ module _ (slot : ℕ) (v : Value) where
       all_keep Done l ls rest h = h
       all_keep (Then s ss) l ls rest h = then_keeps (execute classes calls s ls rest) (execute_all classes calls ss) (keeps s l.0 ls rest h) (all_keep ss l.1)
 
-  -- a block and what comes after it, where that is told by the slot
+  -- a block and what comes after it, if that depends on the slot
   finally_same : (x : Executed) (go go' : List Value → Answers → Executed) → Keeps x → ((ls : List Value) (rest : Answers) → In ls → go ls rest ≡ go' ls rest) → finally_do x go ≡ finally_do x go'
   finally_same (AsksFor a s) go go' h e = refl
   finally_same (Completes c ls rest) go go' h e = ap (λ y. then_do y (λ ls rest. Completes c ls rest)) (e ls rest h)
@@ -131,6 +131,7 @@ then_done (Completes (Continued n) ls rest) = refl
 then_done (Completes (Returned w) ls rest) = refl
 then_done (Completes (Threw kind) ls rest) = refl
 
+-- the law: if the block leaves the slot alone, the course is the standard's
 pub holds_the_monitor : HoldsTheMonitor
 holds_the_monitor classes calls slot class target body locals answers inside leaves =
     then_value (evaluate classes calls target locals answers) locals (λ o rest. Completes Normal (slice_set locals slot o) rest) _

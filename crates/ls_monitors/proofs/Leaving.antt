@@ -1,4 +1,5 @@
--- What elaborated statements leave: each slot in which no local in scope is. So each monitor's object stays in its slot.
+-- What elaborated statements leave alone: each slot that no local in scope has. So each monitor's object stays in its
+-- slot.
 use Rattle.std.proofs.Common.{◌≡◌, ◌≢◌, ℕ, ◌+◌, ◌<◌, ◌≤◌, arith, true, false, Ok, Err, List, [], ◌∷◌, ◌++◌, length, Option, Some, None}
 use Rattle.ls_lexer.specs.declared.token.Span.{Span}
 use Rattle.ls_events.specs.declared.value.ValueType.{ValueType}
@@ -23,21 +24,24 @@ use Rattle.ls_monitors.specs.Meaning.{Leaves, AllLeave}
 use Rattle.ls_monitors.specs.Kept.{Everywhere, EverywhereIn}
 use Rattle.ls_monitors.proofs.Named.{Others, PlaceIsNamed, CounterIsNamed, Named, typed_named, variable_named, counter_named}
 
--- a `try` that frees a monitor: its object's slot is one of so many, and the block leaves it
+-- a `try` that frees a monitor: its object's slot is below this number, and the block leaves it alone
 abbrev pub Guarded : ℕ → checked.Statement → Type 0
 Guarded count (checked.Try b (checked.Evaluate (checked.Call (checked.Slot n) (FreeMonitor c) checked.End))) =
     (n < count) × Leaves n b
 Guarded count _ = Unit {0}
 
+-- each `try` in a statement that frees a monitor has its slot, and its block leaves that slot alone
 abbrev pub Guards : ℕ → checked.Statement → Type 0
 Guards count s = Everywhere (Guarded count) s
 
 -- statements in order
 
+-- if each of some statements leaves a slot alone, they do so in order
 pub leave_in_order : (n : ℕ) (ss : List checked.Statement) → Each (Leaves n) ss → AllLeave n (sequence ss)
 leave_in_order n [] h = tt
 leave_in_order n (s ∷ ss) h = (h.0, leave_in_order n ss h.1)
 
+-- if each of some statements guards its slots, they do so in order
 pub guard_in_order : (count : ℕ) (ss : List checked.Statement) → Each (Guards count) ss →
     EverywhereIn (Guarded count) (sequence ss)
 guard_in_order count [] h = tt
@@ -137,6 +141,7 @@ looped_guards count front c s us h k l = (
 abbrev pub Within : ℕ → List Local → Type 0
 Within bound locals = Each (λ (l : Local). l.slot < bound) locals
 
+-- locals that are within some slots are within more
 pub within_more : (low high : ℕ) (locals : List Local) → low ≤ high → Within low locals → Within high locals
 within_more low high locals more h =
     each_weaker (λ (l : Local). l.slot < low) (λ (l : Local). l.slot < high) locals h (λ l k. omega (arith, k, more))
@@ -150,7 +155,7 @@ others_of_within n locals h =
 abbrev pub Hidden : ℕ → List Local → ℕ → Type 0
 Hidden bound locals n = (n < bound) × Others n locals
 
--- what a statement leaves, from so many slots and these locals in scope on
+-- what a statement leaves, from this many slots and these locals in scope on
 pub record Good (bound : ℕ) (locals : List Local) (out : WithSlots checked.Statement) : Type 0 where
   pub more : bound ≤ length out.slots.types
   pub leaves : (n : ℕ) → Hidden bound locals n → Leaves n out.tree
@@ -213,6 +218,7 @@ set_kept bound locals scope m v below h = record {
   guards = λ count g. each_push (Guards count) scope.statements (checked.SetSlot m v) (h.guards count g) tt;
 }
 
+-- a new variable is within the slots of its scope
 pub variable_within : (scope : Scope) (name : Text) (t : ValueType) → Within (length scope.slots.types) scope.locals →
     Within (length (with_variable scope name t).slots.types) (with_variable scope name t).locals
 variable_within scope name t h =
@@ -277,7 +283,7 @@ opening_kept body locals slots (Trees.Performs ss) h =
       guards = λ count g. all_guard count locals ss k;
     })
 
--- a block, and the two of a `try`
+-- a block, and both blocks of a `try`
 block_good : (locals : List Local) (slots : Slots) (x : Elaborated Scope) → Gives (Kept (length slots.types) locals) x →
     Gives (Good (length slots.types) locals) (with_ok x closed)
 block_good locals slots x h =
@@ -394,6 +400,7 @@ mutual
       bind (Still locals) (Good (length slots.types) locals) (simple body.known locals s) _
       (simple_still body.known locals s) (λ s h. still_good locals slots s h)
 
+  -- each item of a block leaves the slots alone that it should, and guards the slots of its monitors
   pub items_kept : (bound : ℕ) (outer : List Local) (body : Body) (loops : Loops) (scope : Scope) →
       Kept bound outer scope → (is : Items) →
       Gives (Kept bound outer) (items body loops scope is)

@@ -52,6 +52,7 @@ Names locals (checked.Slot m) = m ≢ 0 → IsNamed locals m
 Names locals _ = Unit {0}
 
 module _ (known : Known) (locals : List Local) where
+  -- if a typed expression is a slot other than `this`, it is the slot of a local in scope
   abbrev pub Named : Typed → Type 0
   Named x = Names locals x.expression
 
@@ -131,6 +132,7 @@ module _ (known : Known) (locals : List Local) where
   made_named ALock es = tt
   made_named (AMarkable c) es = tt
 
+  -- each typed expression is so
   pub typed_named : (e : parsed.Expression) → Gives Named (typed known locals e)
   typed_named (parsed.Number text span) = tt
   typed_named (parsed.True span) = tt
@@ -180,14 +182,17 @@ not_this : (n : ℕ) → nat_eq n 0 ≡ false → n ≢ 0
 not_this zero e = λ z. no_truth e
 not_this (suc n) e = λ z. absurd (omega (arith, z))
 
+-- if a variable that may be assigned to is a slot, it is the slot of a local in scope
 abbrev pub PlaceIsNamed : List Local → Place → Type 0
 PlaceIsNamed locals (AtSlot m) = IsNamed locals m
 PlaceIsNamed locals _ = Unit {0}
 
+-- if a variable that is added to is a slot, it is the slot of a local in scope
 abbrev pub CounterIsNamed : List Local → Counter → Type 0
 CounterIsNamed locals (OfSlot m) = IsNamed locals m
 CounterIsNamed locals _ = Unit {0}
 
+-- each variable that may be assigned to is so
 pub variable_named : (locals : List Local) (s : Span) (e : checked.Expression) (x : Static) → Names locals e →
     Gives (λ (to : Variable). PlaceIsNamed locals to.place) (variable s e x)
 variable_named locals s (checked.Slot n) (Of t) h =
@@ -197,6 +202,7 @@ variable_named locals s (checked.Field e c f) (Of t) h = tt
 variable_named locals s (checked.Item a i) (Of t) h = tt
 variable_named locals s _ _ h = tt
 
+-- each variable that is added to is so
 pub counter_named : (locals : List Local) (s : Span) (e : checked.Expression) (x : Static) → Names locals e →
     Gives (CounterIsNamed locals) (counter s e x)
 counter_named locals s (checked.Slot n) (Of types.Int) h =

@@ -1,5 +1,5 @@
--- What a text is elaborated to keeps the slot of each monitor's object: no statement of the block assigns to it.
--- So the course is the standard's (JLS 14.19), if there are at least as many values of locals as slots.
+-- The checked form of a text keeps the slot of each monitor's object: no statement of the block assigns to it. So if
+-- there are at least as many values of locals as slots, the course is the standard's (JLS 14.19).
 use Rattle.std.specs.Prelude.{◌≡◌, ℕ, ◌+◌, ◌<◌, ◌≤◌, true, List, [], ◌∷◌, length, Ok, All}
 use Rattle.ls_events.specs.declared.value.Value.{Value}
 use Rattle.ls_checked.specs.CheckedTree.{Class, Method, Expression, Slot, Statement, Block, If, While, Try, Statements, Done, Then}
@@ -19,7 +19,7 @@ use Rattle.ls_monitors.specs.Meaning.{Leaves, monitored}
 abbrev pub AreWithin : Slots → List Local → Type 0
 AreWithin slots locals = All (λ (l : Local). l.slot < length slots.types) locals
 
--- `synchronized (target) block`: the object is what the expression is typed as, and its slot is the next one
+-- `synchronized (target) block`: the object is the checked form of the expression, and its slot is the next one
 abbrev pub KeepsTheSlot : Type 0
 KeepsTheSlot =
     (body : Body) (loops : Loops) (locals : List Local) (slots : Slots) (target : parsed.Expression)
@@ -42,14 +42,14 @@ MethodKeepsTheSlot =
     × (out.statements ≡ synchronized (length scope.slots.types) body.known.own (Slot 0) inner ∷ [])
     × Leaves (length scope.slots.types) inner
 
--- over at least so many values of locals the course of a statement is the standard's for the monitor and the block
+-- over at least `count` values of locals, the course of a statement is the standard's for the monitor and the block
 abbrev pub IsMonitored : ℕ → Statement → ℕ → Expression → Statement → Type 0
 IsMonitored count s slot target inner =
     (classes : List Class) (calls : Calls) (values : List Value) (answers : Answers) →
     count ≤ length values →
     execute classes calls s values answers ≡ monitored classes calls slot target inner values answers
 
--- so is that of `synchronized (target) block`
+-- the same of `synchronized (target) block`
 abbrev pub HoldsItsMonitor : Type 0
 HoldsItsMonitor =
     (body : Body) (loops : Loops) (locals : List Local) (slots : Slots) (target : parsed.Expression)
@@ -74,7 +74,7 @@ abbrev mutual
   EverywhereIn P Done = Unit {0}
   EverywhereIn P (Then s ss) = Everywhere P s × EverywhereIn P ss
 
--- a statement of a method with so many slots, if it holds a monitor
+-- a statement of a method with `count` slots, if it holds a monitor
 abbrev pub HoldsMonitors : ℕ → Statement → Type 0
 HoldsMonitors count s =
     (slot class : ℕ) (target : Expression) (inner : Statement) →

@@ -19,7 +19,7 @@ BreaksAsItsBlock = (slot class n : ℕ) (target : Expression) (body : Statement)
 abbrev pub JumpsAsItsBlock : Type 0
 JumpsAsItsBlock = (slot class n : ℕ) (target : Expression) (body : Statement) → JumpsInLoops n body → JumpsInLoops n (synchronized slot class target body)
 
--- beside the locals that its expression and its block take: its slot, and two for its `try`
+-- the locals that it takes, beside those of its expression and its block: its slot, and two for its `try`
 abbrev pub TakesThreeMore : Type 0
 TakesThreeMore =
     (m : Method) (slot class : ℕ) (target : Expression) (slots : List ValueType) →

@@ -31,8 +31,8 @@ abbrev mutual
   AllLeave slot Done = Unit {0}
   AllLeave slot (Then s ss) = Leaves slot s × AllLeave slot ss
 
--- the object; NullPointerException on null; the lock of its monitor; the block; and the unlock of the same object's monitor however the block
--- completes (JLS 14.19)
+-- The object, NullPointerException on null, the lock of its monitor, and the block. However the block completes, the
+-- monitor of the same object is unlocked then (JLS 14.19).
 abbrev pub monitored : List Class → Calls → ℕ → Expression → Statement → List Value → Answers → Executed
 monitored classes calls slot target body locals answers =
     on_value (evaluate classes calls target locals answers) locals (λ o rest.

@@ -1,28 +1,28 @@
-// Laws of the statement, each on a function that does nothing.
+// Laws of the statement: the functions compute nothing, and their contracts say the laws.
 
 ghost use Rattle.ls_monitors.specs.Laws.{CompletesAsItsBlock, BreaksAsItsBlock, TakesThreeMore, IsTypedByItsParts, JumpsAsItsBlock};
 ghost use Rattle.ls_monitors.specs.Meaning.{HoldsTheMonitor};
 ghost use Rattle.ls_monitors.specs.Kept.{KeepsTheSlot, MethodKeepsTheSlot, HoldsItsMonitor, FileHoldsMonitors};
 
-/// It can complete normally where its block can, and its breaks are those of its block.
+/// It can complete normally if its block can, and its breaks are those of its block.
 pub fn completes_as_its_block()
     ensures completes { CompletesAsItsBlock }
     ensures breaks { BreaksAsItsBlock }
     ensures jumps { JumpsAsItsBlock }
 {}
 
-/// A method with it has three locals more than with its block.
+/// A method with the statement has three locals more than with its block alone.
 pub fn takes_three_more()
     ensures { TakesThreeMore }
 {}
 
-/// It is typed where its expression is an object of the class and its block is typed.
+/// It is typed if its expression is an object of the class and its block is typed.
 pub fn is_typed_by_its_parts()
     ensures { IsTypedByItsParts }
 {}
 
-/// Its course is that of the standard: the object, the lock of its monitor, the block, and the unlock of the same object's monitor however the
-/// block completes, where no statement of the block assigns to the slot.
+/// If no statement of the block assigns to the slot, its course is the standard's. That is the object, the lock of its
+/// monitor, the block, and the unlock. However the block completes, the monitor of the same object is unlocked.
 pub fn holds_the_monitor()
     ensures { HoldsTheMonitor }
 {}

@@ -1,4 +1,4 @@
-//! What `synchronized` is elaborated to, and what that keeps of its parts.
+//! The checked form of `synchronized`, and what that form keeps of its parts.
 #![tactic(auto)]
 
 pub mod laws;

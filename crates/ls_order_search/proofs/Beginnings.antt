@@ -251,6 +251,7 @@ early_ended n (x ∷ cs) c o a e t = go (is_early n x) refl a (λ b. early_ended
 
 -- ---- beginnings
 
+-- if a history has a legal order, so has each beginning
 pub beginning : (h : List Event) (k : ℕ) → HasOrder h → HasOrder (take k h)
 beginning h k q = (
   early_names k cs q.0,
@@ -280,7 +281,7 @@ take_less (suc m) zero h le = absurd (omega arith)
 take_less (suc m) (suc n) [] le = refl
 take_less (suc m) (suc n) (e ∷ h) le = ap (λ l. e ∷ l) (take_less m n h (omega arith))
 
--- the shorter beginning has an order where the longer one has, and the longer has none where the shorter has none
+-- if the longer beginning has an order, so has the shorter; if the shorter has none, neither has the longer
 pub shorter_legal : (h : List Event) (m n : ℕ) → m ≤ n → HasOrder (take n h) → HasOrder (take m h)
 shorter_legal h m n le q = subst HasOrder (take_less m n h le) (beginning (take n h) m q)
 
@@ -296,6 +297,7 @@ pub some_events : (h : List Event) → NoneIsLegal h → 0 < length h
 some_events [] none = absurd (none [] empty_legal)
 some_events (e ∷ h) none = omega arith
 
+-- the place with which no order is legal any more
 pub hopeless_at : (h : List Event) (n at more : ℕ) (order : List Text) → n ≡ length h → at < more → more ≤ n → more ≤ at + 1 → IsLegal (take at h) order → NoneIsLegal (take more h) → IsHopeless h at
 hopeless_at h n at more order e lt le next before after = record {
   within = omega arith;

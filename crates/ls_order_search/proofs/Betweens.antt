@@ -67,12 +67,14 @@ module _ (events : ℕ) (calls : Calls) (at next : ℕ) (s : Set) (pool placed :
       lasting l c (inr (inl i)) = subst (λ (d : SetCall). ended_before d.end at ≡ false) i (sooner at x.called x.end (l x x_known) comes)
       lasting l c (inr (inr a)) = absurd a
 
+-- the next call is open now
 pub opened_at : (events : ℕ) (calls : Calls) (at next : ℕ) (s : Set) (pool placed : Calls) (d : SetCall) (more : Calls) → Between events calls at next s pool placed → Due at calls next → more ≡ pool ++ get_or calls next d ∷ []
     → Between events calls at (next + 1) s more placed
 opened_at events calls at next s pool placed d more b due e =
     let x = get_or calls next d in
     opened events calls at next s pool placed x b due.0 (get_or_default calls next d x due.0) (due.1 d) more e
 
+-- before the first event nothing is placed or open
 pub starts : (events : ℕ) (calls : Calls) (s : Set) (pool placed : Calls) → pool ≡ [] → placed ≡ [] → ((z : ℤ) → s z ≡ false) → Rising calls → Between events calls 0 0 s pool placed
 starts events calls s pool placed p q h r =
     subst (λ l. Between events calls 0 0 s l placed) (sym p) (subst (λ l. Between events calls 0 0 s [] l) (sym q) (at_start events calls s (λ z. sym (h z)) r))
@@ -93,9 +95,11 @@ module _ (events : ℕ) (calls : Calls) (at next : ℕ) (s : Set) (pool placed :
   later : CalledAfter at rest
   later = rising_after at next calls n b.rising
 
+  -- if the search is stuck, there is no plan
   pub no_more : Stuck at s pool → NoPlanOn calls
   no_more h = (h.0, λ q. h.1 rest b.distinct later (λ c a. b.up_to c a) (b.plan (is_item h.0) q))
 
+  -- one event further, with the calls that were placed
   pub over : (t : Set) (less new : Calls) → Closed at s t pool less placed new → ((c : SetCall) → Among c less → ends_at at c.end ≡ false) → Between events calls (at + 1) next t less new
   over t less new k none = record {
     plan = λ f q. k.2.plan f rest b.distinct later (λ c a. b.up_to c a) (b.plan f q);
@@ -115,6 +119,7 @@ module _ (events : ℕ) (calls : Calls) (at next : ℕ) (s : Set) (pool placed :
 
 -- ---- events are passed over at which no call comes or ends
 
+-- events at which no call begins or ends are passed over
 pub skipped : (events : ℕ) (calls : Calls) (at next : ℕ) (s : Set) (pool placed : Calls) → Between events calls at next s pool placed
     → (to : ℕ) → at ≤ to → (LastUntil at pool → LastUntil to pool) → CalledFrom to (drop next calls) → Between events calls to next s pool placed
 skipped events calls at next s pool placed b to le last comes = record {
@@ -130,6 +135,7 @@ skipped events calls at next s pool placed b to le last comes = record {
 
 -- ---- at the end
 
+-- after the last event the placed calls are a plan
 pub at_end : (events : ℕ) (calls : Calls) (next : ℕ) (s : Set) (pool placed : Calls) → Between events calls events next s pool placed → Within events calls → Lasting calls → IsPlan empty calls placed
 at_end events calls next s pool placed b w l = subst (IsPlan empty calls) (append-nil placed) (b.back l [] (record {
   inside = λ c a. absurd a;

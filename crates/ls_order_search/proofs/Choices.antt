@@ -12,10 +12,12 @@ pub turns_at : (was : Bool) (pool : Calls) (i : ℕ) (d e : SetCall) (item other
 turns_at was pool i d e item other same lt t = subst (λ z. Turns z was (get_or pool i e)) same (subst (Turns item was) (get_or_default pool i d e lt) t)
 
 module _ (item : ℤ) (was : Bool) (pool : Calls) where
+  -- if no best call was found, no call changes the set
   pub best_none : (n : ℕ) (best : Option ℕ) → length pool ≤ n → BestSoFar item was pool n best → IfNone best ((c : SetCall) → Among c pool → Turns item was c → ⊥)
   best_none n None le h = none_among (Turns item was) pool (λ i d lt. h i d (omega arith))
   best_none n (Some b) le h = tt
 
+  -- the best call that was found
   pub best_some : (n : ℕ) (best : Option ℕ) → length pool ≤ n → BestSoFar item was pool n best → IfSome best (Place pool (Best item was pool))
   best_some n None le h = tt
   best_some n (Some b) le h = (
@@ -26,6 +28,7 @@ module _ (item : ℤ) (was : Bool) (pool : Calls) where
     },
   )
 
+  -- a call that doesn't change the set leaves the best as it is
   pub better_same : (i : ℕ) (best : Option ℕ) → ((d : SetCall) → Turns item was (get_or pool i d) → ⊥) → BestSoFar item was pool i best → BestSoFar item was pool (i + 1) best
   better_same i None not h = λ k d lt t. go k d lt t (cases_eq k i)
     where

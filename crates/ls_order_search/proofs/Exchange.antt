@@ -1,4 +1,4 @@
--- The choices of the search are safe: where there is a plan, there is one that begins with the call chosen.
+-- The choices of the search are safe: if there is a plan, there is one that begins with the chosen call.
 use Rattle.std.proofs.Common.{◌≡◌, ◌∙◌, ◌==◌, ◌⊎◌, ◌+◌, inl, inr, ℕ, Bool, true, false, [], ◌∷◌, ◌++◌, Some, refl, sym, ap, subst, append_assoc, arith, eqb-true}
 use Rattle.std.specs.Ordering.{int_eq}
 use Rattle.std.proofs.lemmas.Bool.{eqb-false, true≢false, lt-ltb}
@@ -45,6 +45,7 @@ plan_with s p1 p2 x p d opened w q = record {
 
 -- ---- a call that changes nothing
 
+-- a call that changes nothing may be placed first
 pub keep_step : (s : Set) (p1 p2 : Calls) (x : SetCall) → Distinct (p1 ++ x ∷ p2) → wanted x ≡ Some (s x.item) → turns x.operation (s x.item) ≡ false
     → HasPlan s (p1 ++ x ∷ p2) → HasPlan (after s x) (p1 ++ p2)
 keep_step s p1 p2 x d w t q =
@@ -57,7 +58,8 @@ keep_step s p1 p2 x d w t q =
 
 -- ---- a call that changes the set
 
--- In a run, the first call on the item of z changes it, where no call that changes nothing could stand there; it is z or stands before z.
+-- In a run, if no call that changes nothing could come there, the first call on the item of z changes the item. That
+-- call is z or comes before z.
 record Turned (s : Set) (z : SetCall) (o : Calls) : Type 0 where
   front : Calls
   call : SetCall
@@ -69,6 +71,7 @@ record Turned (s : Set) (z : SetCall) (o : Calls) : Type 0 where
   changes : turns call.operation (s z.item) ≡ true
   opened : ended_before z.end call.called ≡ false
 
+-- a call was called before another had ended
 abbrev pub Open : SetCall → SetCall → Type 0
 Open z c = ended_before z.end c.called ≡ false
 
@@ -139,6 +142,7 @@ plan_turned s rest z o a e oz nay p = first_turned z o s oz (p.complete z a e) p
 abbrev NoTurner : Set → SetCall → SetCall → Type 0
 NoTurner s z c = Open z c → c.item ≡ z.item → wanted c ≡ Some (s z.item) → turns c.operation (s z.item) ≡ true → ⊥
 
+-- if no open call may come next on an item, there is no plan
 pub stuck : (s : Set) (rest : Calls) (z : SetCall) (o : Calls) → Among z rest → has_end z.end ≡ true → Open z z → ((c : SetCall) → Among c rest → NoKeeper s z c) → ((c : SetCall) → Among c rest → NoTurner s z c)
     → IsPlan s rest o → ⊥
 stuck s rest z o a e oz nay none p =
@@ -182,7 +186,7 @@ module _ (s : Set) (p1 p2 : Calls) (x z : SetCall) (d : Distinct (p1 ++ x ∷ p2
     },
   )
 
-  -- x stands after k: they change places
+  -- x comes after k: they change places
   turn_swap : (f m b : Calls) (k : SetCall) → Avoids z.item f → k.item ≡ z.item → wanted k ≡ Some (s z.item) → turns k.operation (s z.item) ≡ true → EndsFirst x k
       → IsPlan s (p1 ++ x ∷ p2) (f ++ k ∷ (m ++ x ∷ b)) → HasPlan (after s x) (p1 ++ p2)
   turn_swap f m b k av ik wk tk late p =
@@ -200,7 +204,7 @@ module _ (s : Set) (p1 p2 : Calls) (x z : SetCall) (d : Distinct (p1 ++ x ∷ p2
         },
       )
 
-  -- where the call x is, if it is there
+  -- the place of the call x, if it is there
   data Found (o : Calls) : Type 0 where
     Nowhere : ((c : SetCall) → Among c o → c.called ≡ x.called → ⊥) → Found o
     Here : (y : SetCall) → Among y o → y.called ≡ x.called → Found o
@@ -255,5 +259,6 @@ module _ (s : Set) (p1 p2 : Calls) (x z : SetCall) (d : Distinct (p1 ++ x ∷ p2
         place (inl k) = turn_same w.front w.back w.others (subst (λ c. IsPlan s (p1 ++ x ∷ p2) (w.front ++ c ∷ w.back)) k p')
         place (inr b) = either (among_cases x w.front w.back b)
 
+    -- among the calls that change the set, the first to end may be placed first
     pub turn_step : HasPlan s (p1 ++ x ∷ p2) → HasPlan (after s x) (p1 ++ p2)
     turn_step q = turn_at q.0 q.1 (plan_turned s (p1 ++ x ∷ p2) z q.0 az e oz nay q.1) (look q.0)

@@ -12,6 +12,7 @@ use Rattle.ls_order_search.proofs.Sets.{after_other}
 
 -- ---- what is among them
 
+-- a call that passes is among those that pass
 pub among_filter : (p : SetCall → Bool) (xs : Calls) (c : SetCall) → Among c xs → p c ≡ true → Among c (filter p xs)
 among_filter p [] c a e = a
 among_filter p (x ∷ xs) c (inl i) e = subst (λ b. Among c (cond b (x ∷ filter p xs) (filter p xs))) (sym (ap p i ∙ e)) (inl i)
@@ -21,6 +22,7 @@ among_filter p (x ∷ xs) c (inr a) e = go (p x) (among_filter p xs c a e)
     go true there = inr there
     go false there = there
 
+-- a call among those that pass is among all, and passes
 pub filter_among : (p : SetCall → Bool) (xs : Calls) (c : SetCall) → Among c (filter p xs) → Among c xs × (p c ≡ true)
 filter_among p [] c a = absurd a
 filter_among p (x ∷ xs) c a = go (p x) refl a (λ b. filter_among p xs c b)
@@ -38,6 +40,7 @@ filter_among p (x ∷ xs) c a = go (p x) refl a (λ b. filter_among p xs c b)
 
 -- ---- what they keep
 
+-- calls that pass stay ordered
 pub ordered_filter : (q : SetCall → Bool) (cs : Calls) → Ordered cs → Ordered (filter q cs)
 ordered_filter q [] o = tt
 ordered_filter q (c ∷ cs) o = go (q c) (ordered_filter q cs o.1)
@@ -46,6 +49,7 @@ ordered_filter q (c ∷ cs) o = go (q c) (ordered_filter q cs o.1)
     go true r = (λ x a. o.0 x (filter_among q cs x a).0, r)
     go false r = r
 
+-- calls that pass stay in order of their call events
 pub rising_filter : (q : SetCall → Bool) (cs : Calls) → Rising cs → Rising (filter q cs)
 rising_filter q [] o = tt
 rising_filter q (c ∷ cs) o = go (q c) (rising_filter q cs o.1)
@@ -79,6 +83,7 @@ runs_filter p s t (c ∷ cs) h r = go (p c.item) refl (λ u g. runs_filter p (af
 
 -- ---- the calls on some items
 
+-- an item is itself
 pub is_item_self : (item : ℤ) → is_item item item ≡ true
 is_item_self item = (Decides-int_eq item item).1 refl
 
@@ -94,6 +99,7 @@ plan_on f s calls q = (
   },
 )
 
+-- if there is no plan on an item, there is none at all
 pub no_plan : (calls : Calls) → NoPlanOn calls → HasPlan empty calls → ⊥
 no_plan calls n q = n.1 (plan_on (is_item n.0) empty calls q)
 
@@ -105,8 +111,10 @@ runs_on f s t (c ∷ cs) h k r = (
   runs_on f (after s c) (after t c) cs (λ z e. ap (λ b. after_call z b c) (h z e)) (λ d a. k d (inr a)) r.1,
 )
 
--- One call of a list is placed: for the calls on some items it is a call of theirs, or it is none and they don't see it.
+-- One call of a list is placed. For the calls on some items, it is one of these calls, or it makes no difference to
+-- them.
 module _ (f : ℤ → Bool) (s : Set) (p r : Calls) (x : SetCall) where
+  -- a call on one of the items is among those on the items
   pub with_it : f x.item ≡ true → on_items f (p ++ x ∷ r) ≡ on_items f p ++ x ∷ on_items f r
   with_it e = filter-append (λ (c : SetCall). f c.item) p (x ∷ r) ∙ ap (λ b. on_items f p ++ cond b (x ∷ on_items f r) (on_items f r)) e
 
@@ -128,6 +136,7 @@ module _ (f : ℤ → Bool) (s : Set) (p r : Calls) (x : SetCall) where
     },
   )
 
+  -- a plan of the calls on the items, after one of them
   pub placed_on : (f x.item ≡ true → HasPlan s (on_items f p ++ x ∷ on_items f r) → HasPlan (after s x) (on_items f p ++ on_items f r))
       → HasPlan s (on_items f (p ++ x ∷ r)) → HasPlan (after s x) (on_items f (p ++ r))
   placed_on step q = go (f x.item) refl
@@ -140,8 +149,10 @@ module _ (f : ℤ → Bool) (s : Set) (p r : Calls) (x : SetCall) where
   pub seen_among : f x.item ≡ true → (c : SetCall) → Among c (on_items f p ++ x ∷ on_items f r) → Among c (p ++ x ∷ r)
   seen_among e c a = (filter_among (λ (d : SetCall). f d.item) (p ++ x ∷ r) c (subst (λ l. Among c l) (sym (with_it e)) a)).0
 
+  -- a call on the items is among those on the items
   pub among_seen : f x.item ≡ true → (c : SetCall) → f c.item ≡ true → Among c (p ++ x ∷ r) → Among c (on_items f p ++ x ∷ on_items f r)
   among_seen e c g a = subst (λ l. Among c l) (with_it e) (among_filter (λ (d : SetCall). f d.item) (p ++ x ∷ r) c a g)
 
+  -- the calls on the items are distinct
   pub seen_distinct : f x.item ≡ true → Distinct (p ++ x ∷ r) → Distinct (on_items f p ++ x ∷ on_items f r)
   seen_distinct e d = subst Distinct (with_it e) (distinct_filter (λ (c : SetCall). f c.item) (p ++ x ∷ r) d)

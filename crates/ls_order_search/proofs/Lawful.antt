@@ -24,6 +24,7 @@ use Rattle.ls_order_search.proofs.Names.{found_by_name}
 
 -- ---- the calls that were chosen
 
+-- an order of all calls that have to be in it, in time, as a run of the set
 pub record Lawful (all order : Calls) : Type 0 where
   pub inside : (c : SetCall) → Among c order → Among c all
   pub returned : (c : SetCall) → Among c all → is_returned c.end ≡ true → Among c order
@@ -40,6 +41,7 @@ not_both Pending h t = true≢false (sym h)
 not_both (Trapped n) h t = true≢false (sym h)
 not_both (Returned n r) h t = true≢false (sym t)
 
+-- a way is such an order
 pub way_is : (front back p : Calls) → Way front back p → Lawful (front ++ back) p
 way_is front [] p w = record {
   inside = λ c a. among_front c front [] (w.inside c a);
@@ -92,6 +94,7 @@ ordered_tail : (f : Calls) (y : SetCall) (b : Calls) → Ordered (f ++ y ∷ b) 
 ordered_tail [] y b o = o.0
 ordered_tail (z ∷ f) y b o = ordered_tail f y b o.1
 
+-- none passes if each doesn't
 pub any_none : (q : SetCall → Bool) (xs : Calls) → ((c : SetCall) → Among c xs → q c ≡ false) → list_any q xs ≡ false
 any_none q [] h = refl
 any_none q (x ∷ xs) h = or_from (q x) (list_any q xs) (h x (inl refl)) (any_none q xs (λ c a. h c (inr a)))
@@ -116,6 +119,7 @@ pub all_named : (h : List Event) (order : Calls) → ((c : SetCall) → Among c 
 all_named h [] named = refl
 all_named h (c ∷ cs) named = ap₂ (λ x xs. x ∷ xs) (named c (inl refl)) (all_named h cs (λ d a. named d (inr a)))
 
+-- the texts of such an order are a legal order of the history
 pub names_legal : (h : List Event) (order : Calls) → is_history h ≡ true → length h < 2 ^ 64 → first_foreign h ≡ None → Way [] (set_calls h) order → IsLegal h (map (named_by h) order)
 names_legal h order is small one w =
     let l = way_is [] (set_calls h) order w in
@@ -129,6 +133,7 @@ end_lasts (events.Called a b c) at n le = refl
 end_lasts (events.Returned v) at n le = le-ltb at n le
 end_lasts (events.Trapped k) at n le = le-ltb at n le
 
+-- an end in the events from `at` on isn't before `at`
 pub of_lasts : (thread : Text) (call at : ℕ) (es : List Event) (n : ℕ) → n ≤ at → ended_before (end_of thread call at es) n ≡ false
 of_lasts thread call at [] n le = refl
 of_lasts thread call at (e ∷ es) n le = go (bytes_eq e.thread thread && e.call == call) (of_lasts thread call (at + 1) es n (omega arith))
@@ -173,6 +178,7 @@ calls_within h c a = let f = calls_fine 0 h (length h) (omega arith) c a in (f.1
 pub calls_lasting : (h : List Event) → Lasting (set_calls h)
 calls_lasting h c a = (calls_fine 0 h (length h) (omega arith) c a).0
 
+-- the calls of a history are calls of its events
 pub calls_of_history : (h : List Event) (n : ℕ) (calls : Calls) → n ≡ length h → calls ≡ set_calls h → CallsOf n calls
 calls_of_history h n calls e is = subst (λ m. CallsOf m calls) (sym e) (subst (CallsOf (length h)) (sym is) (record {
   rising = calls_rising 0 h;

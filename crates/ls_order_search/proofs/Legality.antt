@@ -19,9 +19,9 @@ use Rattle.ls_order_search.proofs.Lists.{distinct_same}
 use Rattle.ls_order_search.proofs.Sets.{after_kept, runs_same}
 use Rattle.ls_order_search.proofs.Filters.{among_filter, filter_among, ordered_filter, runs_filter}
 
--- ---- calls that stand without need are left out
+-- ---- calls that come without need are left out
 
--- a call whose reply doesn't differ stands right, or could as well be left out
+-- a call whose reply doesn't differ has its right place, or could as well be left out
 stands : (e : End) (o : Operation) (s : Bool) → differs e (answer_of o s) ≡ false → (want e o ≡ Some s) ⊎ ((is_returned e ≡ false) × (turns o s ≡ false))
 stands Pending Add true h = inr (refl, refl)
 stands Pending Add false h = inl refl
@@ -93,6 +93,7 @@ not_any q [] h c a = absurd a
 not_any q (x ∷ xs) h c (inl e) = ap q (sym e) ∙ (or_parts (q x) (list_any q xs) h).0
 not_any q (x ∷ xs) h c (inr a) = not_any q xs (or_parts (q x) (list_any q xs) h).1 c a
 
+-- if any call passes, one among the calls does
 pub some_any : (q : SetCall → Bool) (xs : Calls) → list_any q xs ≡ true → (c : SetCall) × Among c xs × (q c ≡ true)
 some_any q [] h = absurd (true≢false (sym h))
 some_any q (x ∷ xs) h = go (or_cases (q x) (list_any q xs) h) (λ e. some_any q xs e)
@@ -104,6 +105,7 @@ some_any q (x ∷ xs) h = go (or_cases (q x) (list_any q xs) h) (λ e. some_any 
     go (inl e) later = (x, inl refl, e)
     go (inr e) later = more (later e)
 
+-- if a call among them passes, one passes
 pub any_some : (q : SetCall → Bool) (xs : Calls) (c : SetCall) → Among c xs → q c ≡ true → list_any q xs ≡ true
 any_some q [] c a e = absurd a
 any_some q (x ∷ xs) c (inl i) e = or_left (q x) (list_any q xs) (ap q i ∙ e)
@@ -129,6 +131,7 @@ module _ (calls : Calls)
             apart = λ i. eqb-false x.called y.called (not_any (is_same y) ys (once front ys y e) x a) (sym i);
           }
 
+-- the call that is found is among the calls
 pub found_among : (p : SetCall → Bool) (xs : Calls) (c : SetCall) → find p xs ≡ Some c → Among c xs
 found_among p [] c e = cc
 found_among p (x ∷ xs) c e = go (p x) e (λ i. found_among p xs c i)
@@ -162,6 +165,7 @@ no_plan_of p h front (c ∷ cs) nay q =
 
 -- ---- the calls of a history rise
 
+-- calls in order of their call events are distinct
 pub distinct_rising : (xs : Calls) → Rising xs → Distinct xs
 distinct_rising [] h = tt
 distinct_rising (x ∷ xs) h = (λ y a. ne_of_lt (h.0 y a), distinct_rising xs h.1)
@@ -176,14 +180,17 @@ module _ (at : ℕ) (end : End) (cs : Calls) (from : (c : SetCall) → Among c c
   with_rising None r = r
   with_rising (Some q) r = (λ c a. let le = from c a in omega arith, r)
 
+-- the calls from a place on are called there or later
 pub calls_later : (at : ℕ) (es : List Event) (c : SetCall) → Among c (calls_from at es) → at ≤ c.called
 calls_later at [] c a = absurd a
 calls_later at (e ∷ es) c a = with_from at (end_of e.thread e.call (at + 1) es) (calls_from (at + 1) es) (λ d b. calls_later (at + 1) es d b) (asked_of e.occurrence) c a
 
+-- the calls of a history are in order of their call events
 pub calls_rising : (at : ℕ) (es : List Event) → Rising (calls_from at es)
 calls_rising at [] = tt
 calls_rising at (e ∷ es) = with_rising at (end_of e.thread e.call (at + 1) es) (calls_from (at + 1) es) (λ d b. calls_later (at + 1) es d b) (asked_of e.occurrence) (calls_rising (at + 1) es)
 
+-- a call that has an end has returned or was trapped
 pub ends : (e : End) → has_end e ≡ true → (is_returned e ≡ true) ⊎ (is_trapped e ≡ true)
 ends Pending h = absurd (true≢false (sym h))
 ends (Returned at r) h = inl refl
@@ -208,6 +215,7 @@ left_trapped marks c e = flip (is_trapped c.end) (or_parts (not (is_trapped c.en
     flip true i = refl
     flip false i = absurd (true≢false i)
 
+-- an order of the calls that stay is a way
 pub joint_way : (marks : List Bool) (events : ℕ) (calls chosen o : Calls) → chosen ≡ filter (stays marks) calls → (Within events chosen → Lasting chosen → IsPlan empty chosen o) → Within events calls → Lasting calls → Way [] calls o
 joint_way marks events calls chosen o e h w l =
     way_by (stays marks) (left_trapped marks) [] calls o (subst (λ x. IsPlan empty x o) e (h (λ c a. w c (among c a)) (λ c a. l c (among c a))))
@@ -218,6 +226,7 @@ joint_way marks events calls chosen o e h w l =
 -- ---- the calls of a legal order
 
 module _ (h : List Event) (order : List Text) (l : IsLegal h order) where
+  -- the calls of a legal order are ordered
   pub legal_ordered : Ordered l.calls
   legal_ordered = ordered_from l.calls l.once l.in_time [] l.calls refl
 
@@ -230,11 +239,13 @@ module _ (h : List Event) (order : List Text) (l : IsLegal h order) where
       let r = some_any (is_same c) cs e in
       subst (λ d. Among d cs) (distinct_same (set_calls h) r.0 c (distinct_rising (set_calls h) (calls_rising 0 h)) (in' r.0 r.1) a (eqb-true r.0.called c.called r.2)) r.1
 
+  -- each returned call is in a legal order
   pub legal_returned : (c : SetCall) → Among c (set_calls h) → is_returned c.end ≡ true → Among c l.calls
   legal_returned c a r =
       let at = split_among c (set_calls h) a in
       there c l.calls legal_inside a (l.complete at.0 at.1 c at.2 r)
 
+-- if the calls on some items have no order, no order is legal
 pub never_legal : (h : List Event) (order : List Text) → NoOrder (set_calls h) → IsLegal h order → ⊥
 never_legal h order nay l = no_plan_of chosen not_chosen [] (on_items nay.0 all) nay.1 (on_items nay.0 t.calls, some nay.0)
   where

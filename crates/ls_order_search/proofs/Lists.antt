@@ -4,15 +4,18 @@ use Rattle.ls_orders.specs.declared.calls.SetCall.{SetCall}
 use Rattle.ls_orders.specs.Rules.{ended_before}
 use Rattle.ls_order_search.specs.Plans.{Among, Distinct, MayPrecede, Ordered}
 
+-- a call of the first list
 pub among_front : (c : SetCall) (f b : List SetCall) → Among c f → Among c (f ++ b)
 among_front c [] b h = absurd h
 among_front c (y ∷ f) b (inl e) = inl e
 among_front c (y ∷ f) b (inr h) = inr (among_front c f b h)
 
+-- a call of the second list
 pub among_back : (c : SetCall) (f b : List SetCall) → Among c b → Among c (f ++ b)
 among_back c [] b h = h
 among_back c (y ∷ f) b h = inr (among_back c f b h)
 
+-- a call of two lists is of one of them
 pub among_cases : (c : SetCall) (f b : List SetCall) → Among c (f ++ b) → Among c f ⊎ Among c b
 among_cases c [] b h = inr h
 among_cases c (y ∷ f) b (inl e) = inl (inl e)
@@ -22,9 +25,11 @@ among_cases c (y ∷ f) b (inr h) = go (among_cases c f b h)
     go (inl a) = inl (inr a)
     go (inr a) = inr a
 
+-- the call in the middle
 pub among_it : (x : SetCall) (f b : List SetCall) → Among x (f ++ x ∷ b)
 among_it x f b = among_back x f (x ∷ b) (inl refl)
 
+-- a call of a list with one more
 pub among_with : (c x : SetCall) (f b : List SetCall) → Among c (f ++ b) → Among c (f ++ x ∷ b)
 among_with c x f b h = go (among_cases c f b h)
   where
@@ -32,6 +37,7 @@ among_with c x f b h = go (among_cases c f b h)
     go (inl a) = among_front c f (x ∷ b) a
     go (inr a) = among_back c f (x ∷ b) (inr a)
 
+-- a call of a list with one more is that one, or of the list
 pub among_either : (c x : SetCall) (f b : List SetCall) → Among c (f ++ x ∷ b) → (x ≡ c) ⊎ Among c (f ++ b)
 among_either c x f b h = go (among_cases c f (x ∷ b) h)
   where
@@ -40,6 +46,7 @@ among_either c x f b h = go (among_cases c f (x ∷ b) h)
     go (inr (inl e)) = inl e
     go (inr (inr a)) = inr (among_back c f b a)
 
+-- a call of a list with one more, other than that one
 pub among_without : (c x : SetCall) (f b : List SetCall) → Among c (f ++ x ∷ b) → (x ≡ c → ⊥) → Among c (f ++ b)
 among_without c x f b h nay = go (among_either c x f b h)
   where
@@ -47,6 +54,7 @@ among_without c x f b h nay = go (among_either c x f b h)
     go (inl e) = absurd (nay e)
     go (inr a) = a
 
+-- a list is split at a call
 pub among_split : (x : SetCall) (o : List SetCall) → Among x o → (f : List SetCall) × (b : List SetCall) × (o ≡ f ++ x ∷ b)
 among_split x [] h = absurd h
 among_split x (y ∷ ys) (inl e) = ([], ys, ap (λ z. z ∷ ys) e)
@@ -56,10 +64,12 @@ among_split x (y ∷ ys) (inr h) =
 
 -- ---- ordered
 
+-- an order without one call
 pub ordered_without : (f : List SetCall) (x : SetCall) (b : List SetCall) → Ordered (f ++ x ∷ b) → Ordered (f ++ b)
 ordered_without [] x b h = h.1
 ordered_without (y ∷ f) x b h = (λ z a. h.0 z (among_with z x f b a), ordered_without f x b h.1)
 
+-- no other call of an order has its place
 pub ordered_apart : (c x : SetCall) (f b : List SetCall) → Ordered (f ++ x ∷ b) → Among c (f ++ b) → c.called ≡ x.called → ⊥
 ordered_apart c x [] b h a e = (h.0 c a).apart (sym e)
 ordered_apart c x (y ∷ f) b h (inl i) e = (h.0 x (among_it x f b)).apart (ap (λ (d : SetCall). d.called) i ∙ e)
@@ -67,15 +77,18 @@ ordered_apart c x (y ∷ f) b h (inr a) e = ordered_apart c x f b h.1 a e
 
 -- ---- distinct
 
+-- distinct calls without one
 pub distinct_without : (f : List SetCall) (x : SetCall) (b : List SetCall) → Distinct (f ++ x ∷ b) → Distinct (f ++ b)
 distinct_without [] x b h = h.1
 distinct_without (y ∷ f) x b h = (λ z a. h.0 z (among_with z x f b a), distinct_without f x b h.1)
 
+-- no other call has its place
 pub distinct_apart : (c x : SetCall) (f b : List SetCall) → Distinct (f ++ x ∷ b) → Among c (f ++ b) → c.called ≡ x.called → ⊥
 distinct_apart c x [] b h a e = h.0 c a (sym e)
 distinct_apart c x (y ∷ f) b h (inl i) e = h.0 x (among_it x f b) (ap (λ (d : SetCall). d.called) i ∙ e)
 distinct_apart c x (y ∷ f) b h (inr a) e = distinct_apart c x f b h.1 a e
 
+-- distinct calls with one place are the same
 pub distinct_same : (xs : List SetCall) (x y : SetCall) → Distinct xs → Among x xs → Among y xs → x.called ≡ y.called → x ≡ y
 distinct_same [] x y h a b e = absurd a
 distinct_same (c ∷ xs) x y h (inl i) (inl j) e = sym i ∙ j
@@ -85,7 +98,7 @@ distinct_same (c ∷ xs) x y h (inr a) (inr b) e = distinct_same xs x y h.1 a b 
 
 -- ---- one call for another
 
--- where x has not ended, k has not
+-- if x has not ended, k has not
 abbrev pub EndsFirst : SetCall → SetCall → Type 0
 EndsFirst x k = (n : ℕ) → ended_before x.end n ≡ false → ended_before k.end n ≡ false
 
@@ -122,6 +135,7 @@ among_swapped c k x f m b h nay = go (among_cases c f (k ∷ (m ++ x ∷ b)) h)
     go (inr (inl e)) = among_back c f (m ++ k ∷ b) (among_back c m (k ∷ b) (inl e))
     go (inr (inr a)) = among_back c f (m ++ k ∷ b) (among_with c k m b (among_without c x m b a nay))
 
+-- two calls change places in an order
 pub ordered_swap : (k x : SetCall) (f m b : List SetCall) → EndsFirst x k → Ordered (f ++ k ∷ (m ++ x ∷ b)) → Ordered (f ++ (m ++ k ∷ b))
 ordered_swap k x [] m b late h = swap_after k x m b h.0 late h.1
 ordered_swap k x (y ∷ f) m b late h = (λ z a. h.0 z (among_swap z k x f m b a), ordered_swap k x f m b late h.1)
@@ -139,6 +153,7 @@ swap_apart c k x (y ∷ f) m b h (inr a) e = swap_apart c k x f m b h.1 a e
 
 -- ---- by places
 
+-- the call at a number
 pub among_at : (xs : List SetCall) (i : ℕ) (d : SetCall) → i < length xs → Among (get_or xs i d) xs
 among_at [] i d lt = absurd (not-suc-le-zero lt)
 among_at (x ∷ xs) zero d lt = inl refl
@@ -150,11 +165,13 @@ none_among P [] h c a p = a
 none_among P (x ∷ xs) h c (inl e) p = h 0 x (suc-le-suc zero-le) (subst P (sym e) p)
 none_among P (x ∷ xs) h c (inr a) p = none_among P xs (λ i d lt. h (suc i) d (suc-le-suc lt)) c a p
 
+-- what holds at each number holds of each call
 pub all_among : (P : SetCall → Type 0) (xs : List SetCall) (d : SetCall) → ((i : ℕ) → i < length xs → P (get_or xs i d)) → (c : SetCall) → Among c xs → P c
 all_among P [] d h c a = absurd a
 all_among P (x ∷ xs) d h c (inl e) = subst P e (h 0 (suc-le-suc zero-le))
 all_among P (x ∷ xs) d h c (inr a) = all_among P xs d (λ i lt. h (suc i) (suc-le-suc lt)) c a
 
+-- a call is taken out of a list
 pub taken_out : (xs : List SetCall) (i : ℕ) (d : SetCall) → i < length xs → xs ≡ take i xs ++ get_or xs i d ∷ drop (suc i) xs
 taken_out [] i d lt = absurd (not-suc-le-zero lt)
 taken_out (x ∷ xs) zero d lt = refl

@@ -27,6 +27,7 @@ use Rattle.ls_order_search.proofs.Lists.{distinct_same}
 
 -- ---- events at their places
 
+-- an event of a beginning
 pub get_front : (xs : List Event) (j i : ℕ) (x : Event) → i < j → slice_get xs i ≡ Some x → slice_get (take j xs) i ≡ Some x
 get_front [] j i x lt e = absurd cc
 get_front (y ∷ ys) zero i x lt e = absurd (omega arith)
@@ -52,6 +53,7 @@ continues_front front (e ∷ es) (suc k) h =
     let p = and_parts (is_next front e) (continues (front ++ e ∷ []) es) h in
     and_from (is_next front e) (continues (front ++ e ∷ []) (take k es)) p.0 (continues_front (front ++ e ∷ []) es k p.1)
 
+-- a beginning of a history is a history
 pub history_front : (h : List Event) (k : ℕ) → is_history h ≡ true → is_history (take k h) ≡ true
 history_front h k is = continues_front [] h k is
 
@@ -66,6 +68,7 @@ next_at front (d ∷ es) (suc j) e h at =
     let p = and_parts (is_next front d) (continues (front ++ d ∷ []) es) h in
     subst (λ l. is_next l e ≡ true) (append_assoc front (d ∷ []) (take j es)) (next_at (front ++ d ∷ []) es j e p.1 at)
 
+-- each event of a history is well formed
 pub well_formed_at : (h : List Event) (j : ℕ) (e : Event) → is_history h ≡ true → slice_get h j ≡ Some e → is_well_formed e ≡ true
 well_formed_at h j e is at = (and_parts (is_well_formed e) (may_follow (last_of e.thread (take j h)) e) (next_at [] h j e is at)).0
 
@@ -74,6 +77,7 @@ length_front h zero = omega arith
 length_front [] (suc j) = omega arith
 length_front (e ∷ h) (suc j) = let le = length_front h j in omega arith
 
+-- the number of an event's call is at most the number of events
 pub number_at : (h : List Event) (j : ℕ) (e : Event) → is_history h ≡ true → slice_get h j ≡ Some e → e.call ≤ length h
 number_at h j e is at =
     let within = slice_get_within h j e at in
@@ -114,6 +118,7 @@ some_number None e c h =
     omega arith
 some_number (Some d) e c h = let lt = greater d e c h in omega arith
 
+-- the number of a call is over 0
 pub numbered_at : (h : List Event) (j : ℕ) (e : Event) → is_history h ≡ true → slice_get h j ≡ Some e → is_call e.occurrence ≡ true → 0 < e.call
 numbered_at h j e is at c =
     some_number (last_of e.thread (take j h)) e c (and_parts (is_well_formed e) (may_follow (last_of e.thread (take j h)) e) (next_at [] h j e is at)).1
@@ -170,9 +175,11 @@ rises h i j f e is lt at_i at_j call same =
 
 -- ---- their texts
 
+-- a well formed event's thread has a name
 pub name_is : (e : Event) → is_well_formed e ≡ true → is_name e.thread ≡ true
 name_is e w = (and_parts (is_name e.thread) (not (bytes_eq e.thread (codes "all")) && has_names e.occurrence) w).0
 
+-- the text of a call is cut at its point
 pub name_cut : (e : Event) → is_name e.thread ≡ true → cut 46 (name_of e) ≡ two e.thread (decimal e.call)
 name_cut e n = cut_at 46 e.thread (decimal e.call) (without 46 e.thread (lacks-name 46 e.thread refl n))
 
@@ -226,6 +233,7 @@ called_from at front (e ∷ es) c len a =
         (e, ap (slice_get (front ++ e ∷ es)) (sym place) ∙ get_seam front e es, asked_call e.occurrence q k)
     go later (Some q) k (inr b) = later b
 
+-- each set call has its call event in the history
 pub called_at : (h : List Event) (c : SetCall) → Among c (set_calls h) → CalledAt h c.called
 called_at h c a = called_from 0 [] h c refl a
 
@@ -240,9 +248,11 @@ find_only p (x ∷ xs) c a e only = go (p x) refl a (λ b. find_only p xs c b e 
     go false k (inl i) later = absurd (true≢false (sym e ∙ ap p (sym i) ∙ k))
     go false k (inr b) later = ap (λ t. cond t (Some x) (find p xs)) k ∙ later b
 
+-- the text of a set call is that of its call event
 pub name_of_call : (h : List Event) (c : SetCall) (e : Event) → slice_get h c.called ≡ Some e → named_by h c ≡ name_of e
 name_of_call h c e at = ap (λ o. option_map_or name_of o []) at
 
+-- each set call is found by its text
 pub found_by_name : (h : List Event) → is_history h ≡ true → length h < 2 ^ 64 → (c : SetCall) → Among c (set_calls h) → call_named h (set_calls h) (named_by h c) ≡ Some c
 found_by_name h is small c a =
     find_only (λ d. bytes_eq (named_by h c) (name_at h d.called)) (set_calls h) c a ((bytes_eq-Decides (named_by h c) (name_at h c.called)).1 refl) only

@@ -29,7 +29,7 @@ use Rattle.ls_order_search.proofs.Names.{called_at, name_cut, name_is, number_at
 
 -- ---- numbers
 
--- a digit, and where the number isn't 0, no 0 in front
+-- a digit; if the number isn't 0, no 0 comes first
 abbrev Numbers : ℕ → Text → Type 0
 Numbers n ds = (list_all is_digit ds ≡ true) × (0 < n → is_number ds ≡ true)
 
@@ -169,6 +169,7 @@ module _ (h : List Event) (is : is_history h ≡ true) (small : length h < 2 ^ 6
       let rest : map (call_named h (set_calls h)) ts ≡ map (λ d. Some d) cs = cc in
       (is_item t c head, are_items ts cs rest)
 
+-- the law: the line of a legal order is read as that order
 pub reads_back : OrderReadsBack
 reads_back h order is small l =
     let texts = are_items h is small order l.calls l.named in

@@ -1,4 +1,4 @@
--- What is told of small histories, by evaluation.
+-- The verdicts on small histories.
 use Rattle.std.proofs.Common.{◌≡◌, [], ◌∷◌, true, false, refl}
 use Rattle.std.specs.Prelude.{codes, pos, replicate}
 use Rattle.ls_orders.specs.declared.calls.End.TheVariants.{Pending, Trapped}

@@ -23,6 +23,7 @@ use Rattle.ls_order_search.proofs.Lists.{among_cases, distinct_same}
 abbrev pub at_place : ℕ → SetCall → Bool
 at_place k c = c.called == k
 
+-- one more call of an order is marked
 pub marked_more : (old mid new : List Bool) (order : Calls) (i : ℕ) (d : SetCall) → i < length order → ((k : ℕ) → is_marked mid k ≡ (list_any (at_place k) (take i order) || is_marked old k))
     → ((k : ℕ) → is_marked new k ≡ ((get_or order i d).called == k || is_marked mid k)) → (k : ℕ) → is_marked new k ≡ (list_any (at_place k) (take (i + 1) order) || is_marked old k)
 marked_more old mid new order i d lt h g k =
@@ -37,6 +38,7 @@ marked_more old mid new order i d lt h g k =
     swap false true c = refl
     swap false false c = refl
 
+-- all calls of an order are marked
 pub marked_all : (old new : List Bool) (order : Calls) (i : ℕ) → length order ≡ i → ((k : ℕ) → is_marked new k ≡ (list_any (at_place k) (take i order) || is_marked old k))
     → (k : ℕ) → is_marked new k ≡ (list_any (at_place k) order || is_marked old k)
 marked_all old new order i len h k = h k ∙ ap (λ l. list_any (at_place k) l || is_marked old k) (take_all i order (le_of_eq len))
@@ -70,6 +72,7 @@ same_item a b = (Decides-int_eq a b).0
 
 -- ---- one call after the other
 
+-- before the first call nothing is settled
 pub settling_start : (calls : Calls) (items : Set) (marks : List Bool) → ((z : ℤ) → items z ≡ false) → marks ≡ [] → Settling calls 0 items marks
 settling_start calls items marks h e = record {
   plan = λ item is. absurd (true≢false (sym is ∙ h item));
@@ -89,6 +92,7 @@ module _ (calls : Calls) (i : ℕ) (items : Set) (marks : List Bool) (d : SetCal
       go (inr (inl e)) = subst (λ (y : SetCall). items' y.item ≡ true) e (this (ap (λ (y : SetCall). is_trapped y.end) e ∙ t))
       go (inr (inr b)) = absurd b
 
+  -- a call whose item is settled, or that isn't trapped, settles nothing
   pub settling_same : (is_trapped x.end ≡ true → items x.item ≡ true) → Settling calls (i + 1) items marks
   settling_same this = record { plan = so.plan; seen = seen_more items (λ z e. e) this; only = so.only }
 
@@ -180,6 +184,7 @@ module _ (calls : Calls) (i : ℕ) (items : Set) (marks : List Bool) (d : SetCal
         go true i = subst (PlanOf marks' calls) (same_item x.item z i) plan_here
         go false i = as_before z (λ k. true≢false (sym ((Decides-int_eq x.item z).1 (sym k)) ∙ i)) (so.plan z (ap (λ b. b || items z) (sym i) ∙ sym (puts z) ∙ e))
 
+    -- the item of a trapped call is settled
     pub settling_more : Settling calls (i + 1) items' marks'
     settling_more = record {
       plan = plan_all;
@@ -193,6 +198,7 @@ module _ (calls : Calls) (i : ℕ) (items : Set) (marks : List Bool) (d : SetCal
 
 -- ---- all items
 
+-- after the last call each item is settled
 pub settled : (calls : Calls) (i : ℕ) (items : Set) (marks : List Bool) → length calls ≡ i → Settling calls i items marks → Settled calls marks
 settled calls i items marks len so item = go (items item) refl
   where
@@ -243,6 +249,7 @@ none_settled calls marks so n = go (so n.0)
 
 -- ---- the calls on an item are calls too
 
+-- the calls that pass are calls of the same events
 pub calls_filter : (q : SetCall → Bool) (events : ℕ) (calls : Calls) → CallsOf events calls → CallsOf events (filter q calls)
 calls_filter q events calls h = record {
   rising = rising_filter q calls h.rising;

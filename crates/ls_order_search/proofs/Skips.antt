@@ -45,12 +45,15 @@ module _ (calls : Calls) (next : ℕ) (d : SetCall) (events first : ℕ) (lt : n
   x_is : get_or calls next d ≡ get_or calls next (get_or calls next d)
   x_is = get_or_default calls next d (get_or calls next d) lt
 
+  -- the calls that are left are called at `first` or later
   pub first_comes : Rising (drop next calls) → CalledFrom first (drop next calls)
   first_comes r = first_called calls next (get_or calls next d) lt x_is r first (omega arith)
 
+  -- `first` is the last such event
   pub first_is_last : (n : ℕ) → n ≤ events → CalledFrom n (drop next calls) → n ≤ first
   first_is_last n le h = let low : n ≤ (get_or calls next d).called = no_later calls next (get_or calls next d) lt x_is n h in omega arith
 
+-- the first end, with one more call
 pub one_end_more : (pool : Calls) (i : ℕ) (d : SetCall) (from place next : ℕ) → i < length pool → next ≤ place
     → (LastUntil from pool → LastUntil place (take i pool)) → (ended_before (get_or pool i d).end from ≡ false → ended_before (get_or pool i d).end next ≡ false)
     → LastUntil from pool → LastUntil next (take (i + 1) pool)

@@ -31,11 +31,13 @@ is_before at n Pending h lt b = true≢false (sym h)
 is_before at n (Trapped m) h lt b = let same = eqb-true m at h in true≢false (sym (lt-ltb m n (omega arith)) ∙ b)
 is_before at n (Returned m r) h lt b = let same = eqb-true m at h in true≢false (sym (lt-ltb m n (omega arith)) ∙ b)
 
+-- a call that hasn't ended before a place hasn't ended before an earlier one
 pub sooner : (m n : ℕ) (e : End) → ended_before e n ≡ false → m ≤ n → ended_before e m ≡ false
 sooner m n Pending h le = refl
 sooner m n (Trapped k) h le = let b = ltb-false k n h in le-ltb k m (omega arith)
 sooner m n (Returned k r) h le = let b = ltb-false k n h in le-ltb k m (omega arith)
 
+-- a call that doesn't end at a place hasn't ended before the next
 pub goes_by : (at : ℕ) (e : End) → ended_before e at ≡ false → ends_at at e ≡ false → ended_before e (at + 1) ≡ false
 goes_by at Pending h n = refl
 goes_by at (Trapped k) h n = let b = ltb-false k at h in let d = eqb-false k at n in le-ltb k (at + 1) (omega arith)
@@ -47,6 +49,7 @@ goes_by at (Returned k r) h n = let b = ltb-false k at h in let d = eqb-false k 
 pub plan_same : (s t : Set) (rest p : Calls) → Same s t → IsPlan s rest p → IsPlan t rest p
 plan_same s t rest p h q = record { inside = q.inside; complete = q.complete; ordered = q.ordered; run = runs_same s t p h q.run }
 
+-- the same with a set of the same items
 pub goes_same : (at : ℕ) (s t u : Set) (p q v : Calls) → Same t u → Goes at s t p q v → Goes at s u p q v
 goes_same at s t u p q v h g = record {
   plan = λ f rest d b up x. let y = g.plan f rest d b up x in (y.0, plan_same t u (on_items f (q ++ rest)) y.0 h y.1);
@@ -55,9 +58,11 @@ goes_same at s t u p q v h g = record {
   back = λ rest d b up l k w x. g.back rest d b up l k w (plan_same u t (q ++ rest) w (λ z. sym (h z)) x);
 }
 
+-- nothing is placed
 pub goes_on : (at : ℕ) (s : Set) (pool : Calls) → Goes at s s pool pool []
 goes_on at s pool = record { plan = λ f rest d b u q. q; distinct = λ rest d. d; among = λ c a. a; back = λ rest d b u l k p q. q }
 
+-- calls are placed, and then others
 pub goes_then : (at : ℕ) (s t u : Set) (p q r v w : Calls) → Goes at s t p q v → Goes at t u q r w → Goes at s u p r (v ++ w)
 goes_then at s t u p q r v w g h = record {
   plan = λ f rest d b up x. h.plan f rest (g.distinct rest d) b (λ c a. up c (g.among c a)) (g.plan f rest d b up x);
@@ -67,6 +72,7 @@ goes_then at s t u p q r v w g h = record {
       (g.back rest d b up l k (w ++ x) (h.back rest (g.distinct rest d) b (λ c a. up c (g.among c a)) (λ c a. l c (g.among c a)) k x y));
 }
 
+-- if the search is stuck later, it is stuck now
 pub goes_stuck : (at : ℕ) (s t : Set) (p q v : Calls) → Goes at s t p q v → Stuck at t q → Stuck at s p
 goes_stuck at s t p q v g h = (h.0, λ rest d b up w. h.1 rest (g.distinct rest d) b (λ c a. up c (g.among c a)) (g.plan (is_item h.0) rest d b up w))
 
@@ -81,6 +87,7 @@ module _ (at : ℕ) (s : Set) (z : SetCall) (ends : ends_at at z.end ≡ true) w
       go (inl p) = p
       go (inr r) = absurd (is_before at c.called z.end ends (b c r) o)
 
+  -- if a call ends here and none fits its item, the search is stuck
   pub none_fits : (pool : Calls) → Among z pool → ((c : SetCall) → Among c pool → Fits z.item (s z.item) c → ⊥) → Stuck at s pool
   none_fits pool az none = (
     z.item,
@@ -152,6 +159,7 @@ module _ (at : ℕ) (s : Set) (z : SetCall) (ends : ends_at at z.end ≡ true) w
     one_goes az (inl k) = keeper_goes k
     one_goes az (inr q) = changer_goes az q.0 q.1
 
+  -- the chosen call is placed
   pub place_goes : (pool : Calls) (i : ℕ) (d : SetCall) → Among z pool → i < length pool → Choice z.item (s z.item) pool (get_or pool i d) → Goes at s (after s (get_or pool i d)) pool (remove pool i) (get_or pool i d ∷ [])
   place_goes pool i d az lt ch =
       let x = get_or pool i d in

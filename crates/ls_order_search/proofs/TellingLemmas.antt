@@ -55,25 +55,30 @@ event_at : (es : List Event) (i : ℕ) → i < length es → (e : Event) × (sli
 event_at [] i lt = absurd (omega arith)
 event_at (d ∷ es) i lt = (get_or (d ∷ es) i d, slice_get-get_or (d ∷ es) i d lt)
 
--- ---- what is told
+-- ---- the verdict as text
 
 abbrev pub Failed : SearchFault → Result (String Global) SearchFault
 Failed f = Err f
 
+-- a text that is no history
 pub no_history : (text : Text) (f : HistoryFault) → Explains text f → Gives (Tells text) (Failed (lifted_history f))
 no_history text history_faults.Memory h = tt
 no_history text (history_faults.BadHistory at) h = NoHistory at h
 
 module _ (text : Text) (h : List Event) (says : Says text h) where
+  -- a history with a call of another kind
   pub foreign_told : (call : String Global) (told : Text) → IsOutcome h (outcomes.NotOneSet call) → told ≡ foreign_text (string_bytes call) → Tells text (Ok told)
   foreign_told call told o e = subst (λ t. Tells text (Ok t)) (sym (e ∙ ap foreign_text o.2)) (Foreign h o.0 says o.1)
 
+  -- a history with too many trapped calls on an item
   pub many_told : IsOutcome h outcomes.TooManyTrapped → Tells text (Err faults.TooManyTrapped)
   many_told o = ManyTrapped h says o.0 o.1
 
+  -- a history with a legal order
   pub legal_told : (order : Vec (String Global)) (told : Text) → IsOutcome h (outcomes.Legal order) → told ≡ order_line (map string_bytes order.items) → Tells text (Ok told)
   legal_told order told o e = subst (λ t. Tells text (Ok t)) (sym e) (Legal h (map string_bytes order.items) says o.0 o.1)
 
+  -- a history without a legal order from an event on
   pub hopeless_told : (at : ℕ) (order : Vec (String Global)) (told line : Text) → IsOutcome h (outcomes.Hopeless at order)
       → ((events : List Event) (e : Event) → Says text events → slice_get events at ≡ Some e → line ≡ event_text e)
       → told ≡ hopeless_text at line (map string_bytes order.items) → Tells text (Ok told)

@@ -37,6 +37,7 @@ module _ (front back more all : Calls) (i : ℕ) (x : SetCall) (t : Trying front
   pub less_some : is_trapped x.end ≡ true → (p : Calls) → Way more left p → Way front back p
   less_some e p w = here.some p (inr (e, w))
 
+  -- if leaving a trapped call out gives a way, there is one
   pub less_tried : (events : ℕ) (less tail p : Calls) → less ≡ more → tail ≡ left → is_trapped x.end ≡ true → (Within events (less ++ tail) → Lasting (less ++ tail) → Way less tail p)
       → Within events (front ++ back) → Lasting (front ++ back) → Way front back p
   less_tried events less tail p e f trap h w l = less_some trap p (way (h (λ c a. w c (less_known c (among c a))) (λ c a. l c (less_known c (among c a)))))
@@ -47,9 +48,11 @@ module _ (front back more all : Calls) (i : ℕ) (x : SetCall) (t : Trying front
       way : Way less tail p → Way more left p
       way y = subst (λ m. Way m left p) e (subst (λ m. Way less m p) f y)
 
+  -- the calls stay in order of their call events
   pub less_rises : (less tail : Calls) → less ≡ more → tail ≡ left → Rising (less ++ tail)
   less_rises less tail e f = subst (λ m. Rising (m ++ tail)) (sym e) (subst (λ m. Rising (more ++ m)) (sym f) less_rising)
 
+  -- that there is no way, under equal names
   pub less_none : (less tail : Calls) → less ≡ more → tail ≡ left → NoWay less tail → NoWay more left
   less_none less tail e f n = subst (λ m. NoWay m left) e (subst (λ m. NoWay less m) f n)
 
@@ -62,14 +65,17 @@ module _ (front back more all : Calls) (i : ℕ) (x : SetCall) (t : Trying front
     known = λ c a. here.known c (subst (λ l. Among c l) (append_assoc more (x ∷ []) left) a);
   })
 
+-- a weaker property of an option's value
 pub if_some_more : {X : Type 0} (o : Option X) (P Q : X → Type 0) → ((x : X) → P x → Q x) → IfSome o P → IfSome o Q
 if_some_more None P Q h k = tt
 if_some_more (Some x) P Q h k = h x k
 
+-- a weaker fact if there is no value
 pub if_none_more : {X : Type 0} (o : Option X) (P Q : Type 0) → (P → Q) → IfNone o P → IfNone o Q
 if_none_more None P Q h k = h k
 if_none_more (Some x) P Q h k = tt
 
+-- the fact, if there is no value
 pub none_of : {X : Type 0} (o : Option X) (P : Type 0) → is_some o ≡ false → IfNone o P → P
 none_of None P e k = k
 none_of (Some x) P e k = absurd (true≢false e)
@@ -85,9 +91,11 @@ tail_is xs i = take_all (length xs - i) (drop i xs) (le_of_eq (length-drop i xs)
 pub at_last : (front back more : Calls) → Trying front back more [] → Rising more
 at_last front back more t = subst Rising (append-nil more) t.rising
 
+-- all calls are tried: if the chosen calls have no plan, there is no way
 pub none_last : (front back more : Calls) → Trying front back more [] → NoPlanOn more → NoWay front back
 none_last front back more t h = t.none (no_plan more h)
 
+-- all calls are tried: a plan of the chosen calls is a way
 pub some_last : (events : ℕ) (front back more p : Calls) → Trying front back more [] → (Within events more → Lasting more → IsPlan empty more p) → Within events (front ++ back) → Lasting (front ++ back) → Way front back p
 some_last events front back more p t h w l = t.some p (h (λ c a. w c (known c a)) (λ c a. l c (known c a)))
   where

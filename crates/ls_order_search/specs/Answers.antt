@@ -13,7 +13,7 @@ HasOrder history = (order : List Text) × IsLegal history order
 abbrev pub NoneIsLegal : List Event → Type 0
 NoneIsLegal history = (order : List Text) → IsLegal history order → ⊥
 
--- Each beginning of no more events has a legal order, and none of the longer ones has.
+-- Each beginning of at most `at` events has a legal order. No longer beginning has one.
 pub record IsHopeless (history : List Event) (at : ℕ) : Type 0 where
   pub within : at < length history
   pub before : (count : ℕ) → count ≤ at → HasOrder (take count history)
@@ -21,13 +21,13 @@ pub record IsHopeless (history : List Event) (at : ℕ) : Type 0 where
 
 -- ---- the outcome
 
--- all calls are set calls on one object, and no item has too many trapped ones
+-- all calls are set calls on one object, and no item has over 12 trapped calls
 pub record IsDecided (history : List Event) : Type 0 where
   pub one_set : first_foreign history ≡ None
   pub few : has_many_trapped (set_calls history) ≡ false
 
--- a history with a call of another kind, one with too many trapped calls on an item, one with a legal order, or one that has
--- none from an event on, with a legal order of the events before it
+-- The history has a call of another kind, or too many trapped calls on an item, or a legal order. Or it has no legal
+-- order from an event on, but a legal order of the events before that event.
 abbrev pub IsOutcome : List Event → Outcome → Type 0
 IsOutcome history (outcomes.NotOneSet call) = (e : Event) × (first_foreign history ≡ Some e) × (string_bytes call ≡ name_of e)
 IsOutcome history outcomes.TooManyTrapped = (first_foreign history ≡ None) × (has_many_trapped (set_calls history) ≡ true)

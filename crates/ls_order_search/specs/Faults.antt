@@ -1,4 +1,4 @@
--- Faults of the history, here.
+-- The faults of the history, as faults of this crate.
 use Rattle.ls_report.specs.declared.fault.HistoryFault.{HistoryFault}
 use Rattle.ls_report.specs.declared.fault.HistoryFault.TheVariants as history
 use Rattle.ls_order_search.specs.declared.fault.SearchFault.{SearchFault}

@@ -1,4 +1,4 @@
--- Plans: orders of the calls that are left, from a set on.
+-- Plans: orders of the calls that are left, beginning with a set.
 use Rattle.std.specs.Prelude.{◌≡◌, ◌⊎◌, Bool, true, false, not, List, [], ◌∷◌, Option, Some, None}
 use Rattle.ls_orders.specs.declared.calls.Operation.{Operation}
 use Rattle.ls_orders.specs.declared.calls.Operation.TheVariants.{Add, Remove, Contains}
@@ -16,13 +16,14 @@ turns Add was = not was
 turns Remove was = was
 turns Contains was = false
 
--- whether the item has to be present in front of a call with the reply
+-- whether the item has to be present before a call with this reply
 abbrev pub needed : Operation → Bool → Bool
 needed Add reply = not reply
 needed Remove reply = reply
 needed Contains reply = reply
 
--- A call that returned stands where the set gives its reply, and another only where it changes the set. None: nowhere.
+-- A returned call comes where the set gives its reply. Another call comes only where it changes the set. None if the
+-- call can't come.
 abbrev pub want : End → Operation → Option Bool
 want (Returned at (Some reply)) operation = Some (needed operation reply)
 want (Returned at None) operation = None
@@ -45,7 +46,7 @@ abbrev pub Among : SetCall → List SetCall → Type 0
 Among x [] = ⊥
 Among x (y ∷ ys) = (y ≡ x) ⊎ Among x ys
 
--- y may stand before x
+-- y may come before x
 pub record MayPrecede (y x : SetCall) : Type 0 where
   pub in_time : ended_before x.end y.called ≡ false
   pub apart : y.called ≡ x.called → ⊥
@@ -62,7 +63,7 @@ abbrev pub Runs : Set → List SetCall → Type 0
 Runs set [] = Unit {0}
 Runs set (c ∷ cs) = (wanted c ≡ Some (set c.item)) × Runs (after set c) cs
 
--- An order of some of the calls, all that have an end among them.
+-- An order of some of the calls. It has each call that has an end.
 pub record IsPlan (set : Set) (rest calls : List SetCall) : Type 0 where
   pub inside : (c : SetCall) → Among c calls → Among c rest
   pub complete : (c : SetCall) → Among c rest → has_end c.end ≡ true → Among c calls

@@ -23,11 +23,11 @@ HasPlan s rest = (p : Calls) × IsPlan s rest p
 
 -- ---- the choice of a call
 
--- where d has not come, e has not
+-- if d has not come yet, e has not come yet
 abbrev pub NoLater : End → End → Type 0
 NoLater d e = (n : ℕ) → ended_before d n ≡ false → ended_before e n ≡ false
 
--- the call may stand next, on the item that is present or absent
+-- the call may come next, if its item is present or absent as `was` says
 pub record Fits (item : ℤ) (was : Bool) (c : SetCall) : Type 0 where
   pub item_is : c.item ≡ item
   pub wants : wanted c ≡ Some was
@@ -40,7 +40,7 @@ pub record Turns (item : ℤ) (was : Bool) (c : SetCall) : Type 0 where
   pub fits : Fits item was c
   pub changes : turns c.operation was ≡ true
 
--- the first to end of those that change the set
+-- among the calls that change the set, the first to end
 pub record Best (item : ℤ) (was : Bool) (pool : Calls) (x : SetCall) : Type 0 where
   pub turn : Turns item was x
   pub least : (c : SetCall) → Among c pool → Turns item was c → NoLater x.end c.end
@@ -56,7 +56,7 @@ comes_first at Pending = true
 comes_first at (Trapped place) = nat_lt at place
 comes_first at (Returned place reply) = nat_lt at place
 
--- a call that changes nothing, or where there is none the first to end of those that change the set
+-- A call that changes nothing. If there is none, then among the calls that change the set, the first to end.
 abbrev pub Choice : ℤ → Bool → Calls → SetCall → Type 0
 Choice item was pool x = Keeps item was x ⊎ (((c : SetCall) → Among c pool → Keeps item was c → ⊥) × Best item was pool x)
 
@@ -79,11 +79,11 @@ ends_at at Pending = false
 ends_at at (Trapped m) = m == at
 ends_at at (Returned m reply) = m == at
 
--- none of the pool ended before
+-- no call of the pool ended before
 abbrev pub LastUntil : ℕ → Calls → Type 0
 LastUntil at pool = (c : SetCall) → Among c pool → ended_before c.end at ≡ false
 
--- each ends after it was called
+-- each call ends after it was called
 abbrev pub Lasting : Calls → Type 0
 Lasting rest = (c : SetCall) → Among c rest → ended_before c.end c.called ≡ false
 
@@ -95,8 +95,9 @@ on_items p calls = filter (λ c. p c.item) calls
 abbrev pub is_item : ℤ → ℤ → Bool
 is_item item = λ z. int_eq z item
 
--- From a set and the calls that are open, placing some of them. Whatever comes later, and whichever items are looked at: where
--- there was a plan of the calls on them, there still is one. And what is a plan then is one after those that are placed.
+-- From a set and the open calls, some calls are placed. Take any calls that come later, and any items. If there was a
+-- plan of the calls on these items, there still is one. And a plan of the calls that are left is a plan of all, after
+-- the calls that are placed.
 pub record Goes (at : ℕ) (s t : Set) (pool less placed : Calls) : Type 0 where
   pub plan : (p : ℤ → Bool) (rest : Calls) → Distinct (pool ++ rest) → CalledAfter at rest → CalledBy at pool → HasPlan s (on_items p (pool ++ rest)) → HasPlan t (on_items p (less ++ rest))
   pub distinct : (rest : Calls) → Distinct (pool ++ rest) → Distinct (less ++ rest)
@@ -106,7 +107,7 @@ pub record Goes (at : ℕ) (s t : Set) (pool less placed : Calls) : Type 0 where
 abbrev pub Closed : ℕ → Set → Set → Calls → Calls → Calls → Calls → Type 0
 Closed at s t pool less old new = (placed : Calls) × (new ≡ old ++ placed) × Goes at s t pool less placed
 
--- whatever comes later, there is no plan of the calls on one of the items
+-- whatever comes later, there is an item for which the calls have no plan
 abbrev pub Stuck : ℕ → Set → Calls → Type 0
 Stuck at s pool = (item : ℤ) × ((rest : Calls) → Distinct (pool ++ rest) → CalledAfter at rest → CalledBy at pool → HasPlan s (on_items (is_item item) (pool ++ rest)) → ⊥)
 
@@ -120,17 +121,18 @@ abbrev pub Rising : Calls → Type 0
 Rising [] = Unit {0}
 Rising (y ∷ ys) = ((x : SetCall) → Among x ys → y.called < x.called) × Rising ys
 
--- No plan of the calls in front and those after them, whichever trapped ones of the latter are left out.
+-- There is no plan of the calls in `front` and those after them, whichever trapped calls among the latter are left
+-- out.
 abbrev pub NoWay : Calls → Calls → Type 0
 NoWay front [] = HasPlan empty front → ⊥
 NoWay front (c ∷ cs) = NoWay (front ++ c ∷ []) cs × (is_trapped c.end ≡ true → NoWay front cs)
 
--- A plan of the calls in front and those after them, some trapped ones of the latter left out.
+-- A plan of the calls in `front` and those after them; some trapped calls among the latter may be left out.
 abbrev pub Way : Calls → Calls → Calls → Type 0
 Way front [] p = IsPlan empty front p
 Way front (c ∷ cs) p = Way (front ++ c ∷ []) cs p ⊎ ((is_trapped c.end ≡ true) × Way front cs p)
 
--- the calls and their ends are among so many events
+-- the calls and their ends are among the first `events` events
 abbrev pub Within : ℕ → Calls → Type 0
 Within events rest = (c : SetCall) → Among c rest → (c.called < events) × (has_end c.end ≡ true → ended_before c.end events ≡ true)
 
@@ -152,14 +154,14 @@ pub record Between (events : ℕ) (calls : Calls) (at next : ℕ) (set : Set) (p
   pub lasts : Lasting calls → LastUntil at pool
   pub back : Lasting calls → (p : Calls) → IsPlan set (pool ++ drop next calls) p → IsPlan empty calls (placed ++ p)
 
--- Some of the calls after the front are decided on, and stand in front.
+-- Some of the calls after the front are decided on, and are now in the front.
 pub record Trying (front back more left : Calls) : Type 0 where
   pub rising : Rising (more ++ left)
   pub none : NoWay more left → NoWay front back
   pub some : (p : Calls) → Way more left p → Way front back p
   pub known : (c : SetCall) → Among c (more ++ left) → Among c (front ++ back)
 
--- the calls of so many events
+-- the calls of `events` events
 pub record CallsOf (events : ℕ) (calls : Calls) : Type 0 where
   pub rising : Rising calls
   pub within : Within events calls
@@ -167,7 +169,7 @@ pub record CallsOf (events : ℕ) (calls : Calls) : Type 0 where
 
 -- ---- the trapped calls that stay
 
--- there is no plan of the calls on some items, whichever of the trapped ones are left out
+-- there is no plan of the calls on some items, whichever trapped calls are left out
 abbrev pub NoOrder : Calls → Type 0
 NoOrder calls = (p : ℤ → Bool) × NoWay [] (on_items p calls)
 
@@ -181,7 +183,7 @@ PlanOf marks calls item = HasPlan empty (on_items (is_item item) (filter (stays 
 abbrev pub NoneTrapped : Calls → ℤ → Type 0
 NoneTrapped calls item = (c : SetCall) → Among c calls → c.item ≡ item → is_trapped c.end ≡ false
 
--- The first calls have been looked at: each item of their trapped calls is settled, by marks on its own calls.
+-- The first calls have been looked at. Each item of a trapped call among them is settled, by marks on its own calls.
 pub record Settling (calls : Calls) (looked : ℕ) (items : Set) (marks : List Bool) : Type 0 where
   pub plan : (item : ℤ) → items item ≡ true → PlanOf marks calls item
   pub seen : (c : SetCall) → Among c (take looked calls) → is_trapped c.end ≡ true → items c.item ≡ true

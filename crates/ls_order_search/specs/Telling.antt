@@ -1,4 +1,4 @@
--- What is told of a history's text.
+-- The verdict on the text of a history.
 use Rattle.std.specs.Prelude.{◌≡◌, ◌+◌, ℕ, true, List, [], ◌∷◌, ◌++◌, Some, None, Result, Ok, Err, String, codes, slice_get, string_bytes, take}
 use Rattle.std.specs.Fmt.{decimal}
 use Rattle.std.specs.Global.{Global}
@@ -21,9 +21,9 @@ foreign_text call = codes "broken 76 " ++ (call ++ 10 ∷ [])
 abbrev pub hopeless_text : ℕ → Text → List Text → Text
 hopeless_text at line order = codes "hopeless " ++ (decimal (at + 1) ++ (32 ∷ (line ++ (10 ∷ order_line order))))
 
--- The text is a history, whose calls are no set calls on one object; or that has too many trapped calls on an item; or a legal
--- order, which is told; or no legal order from an event on, which is told with a legal order of the events before it. Or it is
--- no history, and breaks at a place.
+-- The text is a history, and there are four verdicts. A call isn't a set call on the same object as the others. An
+-- item has too many trapped calls. There is a legal order. Or there is the event with which no order is legal any
+-- more, with a legal order of the events before it. Or the text is no history, and breaks at a place.
 pub data Tells (text : Text) : Result Text SearchFault → Type 0 where
   Foreign : (events : List Event) (e : Event) → Says text events → first_foreign events ≡ Some e → Tells text (Ok (foreign_text (name_of e)))
   ManyTrapped : (events : List Event) → Says text events → first_foreign events ≡ None → has_many_trapped (set_calls events) ≡ true → Tells text (Err faults.TooManyTrapped)
@@ -32,7 +32,7 @@ pub data Tells (text : Text) : Result Text SearchFault → Type 0 where
       → IsLegal (take at events) order → Tells text (Ok (hopeless_text at (event_text e) order))
   NoHistory : (at : ℕ) → BreaksAt text at → Tells text (Err (faults.BadHistory at))
 
--- what is answered is told, or memory ran out
+-- the answer is a verdict, or memory ran out
 abbrev pub Gives : (Result Text SearchFault → Type 0) → Result (String Global) SearchFault → Type 0
 Gives May (Ok text) = May (Ok (string_bytes text))
 Gives May (Err faults.Memory) = Unit {0}

@@ -18,7 +18,7 @@ fn turns(operation: Operation, was: bool) -> bool
     }
 }
 
-/// Whether the item has to be present in front of a call with the reply.
+/// Whether the item has to be present before a call with this reply.
 fn needed(operation: Operation, reply: bool) -> bool
     ensures { result ≡ needed operation reply }
 {
@@ -29,7 +29,7 @@ fn needed(operation: Operation, reply: bool) -> bool
     }
 }
 
-/// Whether the item has to be present in front of the call. None: it stands nowhere.
+/// Whether the item has to be present before the call. None if the call can't be placed.
 fn want(end: End, operation: Operation) -> Option<bool>
     ensures { result ≡ want end operation }
 {
@@ -92,7 +92,7 @@ fn keeper(pool: &[SetCall], item: &i32, was: bool) -> Option<usize>
     None
 }
 
-/// Whether a call with the end has to be placed before one with the other end.
+/// Whether a call with this end has to be placed before a call with the other end.
 fn is_sooner(end: End, other: End) -> bool
     ensures { MatchBool result (NoLater end other) (NoLater other end) }
 {
@@ -128,7 +128,7 @@ fn sooner_of(pool: &[SetCall], b: usize, i: usize) -> usize
     }
 }
 
-/// The place of the first of those that change the set to end, after one more call.
+/// Among the calls so far that change the set, and one more call, the place of the first to end.
 fn better(pool: &[SetCall], item: &i32, was: bool, best: Option<usize>, i: usize) -> Option<usize>
     requires i_in { i < length pool.now }
     requires best { BestSoFar item.now was pool.now i best }
@@ -143,7 +143,7 @@ fn better(pool: &[SetCall], item: &i32, was: bool, best: Option<usize>, i: usize
     }
 }
 
-/// The place of the first call to end of those that change the set.
+/// Among the calls that change the set, the place of the first to end.
 fn changer(pool: &[SetCall], item: &i32, was: bool) -> Option<usize>
     ensures none { IfNone result ((c : SetCall) → Among c pool.now → Turns item.now was c → ⊥) }
     ensures some { IfSome result (Place pool.now (Best item.now was pool.now)) }

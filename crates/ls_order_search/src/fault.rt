@@ -1,4 +1,4 @@
-// Why nothing is told of a history.
+// Why a history gets no verdict.
 
 ghost use Rattle.std.specs.Prelude.{◌≡◌};
 ghost use Rattle.ls_order_search.specs.Faults.{lifted_history};
@@ -8,14 +8,15 @@ use ls_report::HistoryFault;
 use std::alloc::{AllocError, AllocFailed};
 use thiserror::Error;
 
+/// Why a history gets no verdict.
 #[derive(Clone, Copy, Debug, Error, PartialEq, Eq)]
 pub enum SearchFault {
     #[error("out of memory")]
     Memory,
-    /// The line that begins at this byte can't stand there.
+    /// The line that begins at this byte can't come there.
     #[error("no history at byte {at}")]
     BadHistory { at: usize },
-    /// An item has more trapped calls than are decided on.
+    /// An item has more than 12 trapped calls.
     #[error("an item has more than 12 trapped calls")]
     TooManyTrapped,
 }

@@ -45,7 +45,8 @@ fn legal_names(
     names_of(alloc, events, order)
 }
 
-/// A legal order of the history's set calls, by the texts of its calls. None where no order is legal.
+/// A legal order of the history's set calls, by the texts of its calls. None if no order is legal. The only refusal is
+/// that memory ran out.
 pub fn find_order(
     alloc: Global,
     events: &[NamedEvent<'_>],

@@ -71,7 +71,7 @@ fn is_new(items: &BTreeSet<i32>, call: SetCall) -> bool
     is_trapped(call.end) && !items.contains(&call.item)
 }
 
-/// An order of the item's calls, some of the trapped ones left out. None where there is none.
+/// An order of the item's calls; some trapped calls may be left out. None if there is none.
 fn try_item(
     alloc: Global,
     calls: &[SetCall],
@@ -86,7 +86,7 @@ fn try_item(
     tries(alloc, Vec::new(alloc), own.as_slice(), events)
 }
 
-/// Settles the item of the call at the place, if the call is trapped. False where the calls on its item have no order.
+/// If the call at the place is trapped, its item is settled. False if the calls on that item have no order.
 fn settle_call(
     alloc: Global,
     calls: &[SetCall],
@@ -112,7 +112,7 @@ fn settle_call(
     Ok(true)
 }
 
-/// Marks of the trapped calls that stay. None where the calls on an item have no order.
+/// Marks of the trapped calls that stay. None if the calls on an item have no order.
 fn settle(alloc: Global, calls: &[SetCall], events: usize) -> Result<Option<Vec<bool>>, AllocError>
     requires { CallsOf events calls.now }
     ensures none { IfOk result (λ marks. IfNone marks (NoOrder calls.now)) }
@@ -128,7 +128,7 @@ fn settle(alloc: Global, calls: &[SetCall], events: usize) -> Result<Option<Vec<
     Ok(Some(marks))
 }
 
-/// An order of the calls without the trapped ones that aren't marked. None where no order of the calls is legal.
+/// An order of the calls without the trapped calls that aren't marked. None if no order of the calls is legal.
 fn joint(
     alloc: Global,
     calls: &[SetCall],
@@ -144,7 +144,8 @@ fn joint(
     search(alloc, chosen.as_slice(), events)
 }
 
-/// An order of the calls, some of the trapped ones left out. None where there is none.
+/// An order of the calls; some trapped calls may be left out. None if there is no order. The only refusal is that
+/// memory ran out.
 pub(crate) fn find_calls(
     alloc: Global,
     calls: &[SetCall],

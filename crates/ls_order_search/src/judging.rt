@@ -1,4 +1,4 @@
-// What there is to say of a history.
+// The verdict on a history.
 
 ghost use Rattle.std.specs.Prelude.{◌≡◌, ◌≤◌, IfNone, IfOk, IfSome, length, map, string_bytes, take, true};
 ghost use Rattle.ls_report.specs.Discipline.{is_history};
@@ -14,20 +14,21 @@ use ls_orders::finding::{first_foreign, name_of, set_calls};
 use ls_report::history::NamedEvent;
 use std::alloc::{AllocError, Global};
 
-/// Whether a history has a legal order, and from which event on it has none.
+/// Whether a history has a legal order, and with which event it ceases to have one.
 #[derive(Drop)]
 pub enum Outcome {
-    /// The text of the first call that is no set call on the one object.
+    /// The text of the first call that isn't a set call on the same object as the first set call.
     NotOneSet(String),
-    /// An item has more trapped calls than are decided on.
+    /// An item has more than 12 trapped calls.
     TooManyTrapped,
     /// A legal order, by the texts of its calls.
     Legal(Vec<String>),
-    /// The place of the event with which no order is legal any more, from 0, and a legal order of the events before it.
+    /// The place, from 0, of the event with which no order is legal any more, and a legal order of the events before
+    /// it.
     Hopeless { at: usize, order: Vec<String> },
 }
 
-/// Whether an item of the history has more trapped calls than are decided on.
+/// Whether an item of the history has more than 12 trapped calls.
 fn has_many(alloc: Global, events: &[NamedEvent<'_>]) -> Result<bool, AllocError>
     ensures { IfOk result (λ many. many ≡ has_many_trapped (set_calls (map plain_event events.now))) }
 {
@@ -35,7 +36,7 @@ fn has_many(alloc: Global, events: &[NamedEvent<'_>]) -> Result<bool, AllocError
     Ok(has_many_trapped(calls.as_slice()))
 }
 
-/// A legal order of the first events, by the texts of its calls. None where no order is legal.
+/// A legal order of the first events, by the texts of its calls. None if no order is legal.
 fn find_front(
     alloc: Global,
     events: &[NamedEvent<'_>],
@@ -49,7 +50,8 @@ fn find_front(
     find_order(alloc, &events[..count])
 }
 
-/// The place of the first event with which no order is legal any more, by halves, and a legal order of the events before it.
+/// The place of the first event with which no order is legal any more, and a legal order of the events before it. The
+/// place is found by halves.
 fn find_hopeless(alloc: Global, events: &[NamedEvent<'_>]) -> Result<Outcome, AllocError>
     requires history { is_history (map plain_event events.now) ≡ true }
     requires decided { IsDecided (map plain_event events.now) }
@@ -72,7 +74,7 @@ fn find_hopeless(alloc: Global, events: &[NamedEvent<'_>]) -> Result<Outcome, Al
     Ok(Outcome::Hopeless { at, order })
 }
 
-/// Whether a history of few trapped calls has a legal order, and the event from which on it has none.
+/// Whether a history with few trapped calls has a legal order, or else the event with which it ceases to have one.
 fn decide(alloc: Global, events: &[NamedEvent<'_>]) -> Result<Outcome, AllocError>
     requires history { is_history (map plain_event events.now) ≡ true }
     requires decided { IsDecided (map plain_event events.now) }
@@ -84,7 +86,8 @@ fn decide(alloc: Global, events: &[NamedEvent<'_>]) -> Result<Outcome, AllocErro
     }
 }
 
-/// Whether the history has a legal order, and the event from which on it has none.
+/// Whether the history has a legal order, or else the event with which it ceases to have one. The only refusal is that
+/// memory ran out.
 pub fn judge(alloc: Global, events: &[NamedEvent<'_>]) -> Result<Outcome, AllocError>
     requires { is_history (map plain_event events.now) ≡ true }
     ensures { IfOk result (λ outcome. IsOutcome (map plain_event events.now) outcome) }

@@ -1,4 +1,4 @@
-//! A legal order of a history's set calls, or the event from which on there is none.
+//! A legal order of a history's set calls, or else the event with which there is none any more.
 #![tactic(auto)]
 
 mod choice;

@@ -8,7 +8,7 @@ ghost use Rattle.ls_order_search.specs.Search.{CalledFrom, LastUntil, Rising};
 
 use ls_orders::calls::{End, SetCall};
 
-/// The place of the next call, but at most so many events.
+/// The place of the next call, but at most `events`. If there is no call, `events`.
 pub(crate) fn next_call(calls: &[SetCall], next: usize, events: usize) -> usize
     requires { Rising (drop next calls.now) }
     ensures within { result ≤ events }
@@ -22,7 +22,7 @@ pub(crate) fn next_call(calls: &[SetCall], next: usize, events: usize) -> usize
     }
 }
 
-/// The place where the call ends, but from one place to another.
+/// The place where the call ends, but at least `from` and at most `most`.
 fn end_within(end: End, from: usize, most: usize) -> usize
     requires { from ≤ most }
     ensures from { from ≤ result }
@@ -36,7 +36,7 @@ fn end_within(end: End, from: usize, most: usize) -> usize
     }
 }
 
-/// The first place where one of the pool ends, but from one place to another.
+/// The first place where a call of the pool ends, but at least `from` and at most `most`.
 pub(crate) fn next_end(pool: &[SetCall], from: usize, most: usize) -> usize
     requires { from ≤ most }
     ensures from { from ≤ result }

@@ -17,7 +17,7 @@ fn push_spaced(text: &mut String, calls: &[String]) -> Result<(), AllocError>
     Ok(())
 }
 
-/// The calls on one line, divided by spaces.
+/// The calls on one line, with a space between two. The only refusal is that memory ran out.
 pub fn order_line(alloc: Global, order: &[String]) -> Result<String, AllocError>
     ensures { IfOk result (λ text. string_bytes text ≡ order_line (map string_bytes order.now)) }
 {

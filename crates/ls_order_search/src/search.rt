@@ -1,4 +1,4 @@
-// The search, from the first event to the last. Events at which no call comes or ends are passed over.
+// The search, from the first event to the last. Events at which no call begins or ends are passed over.
 
 ghost use Rattle.std.specs.Prelude.{IfOk, IfNone, IfSome, MatchBool};
 ghost use Rattle.ls_orders.specs.Legal.{empty};
@@ -11,14 +11,15 @@ use ls_orders::calls::SetCall;
 use std::alloc::{AllocError, Global};
 use std::collections::BTreeSet;
 
-/// Whether the next call was called by then.
+/// Whether the next call was called at this place or before.
 fn is_due(calls: &[SetCall], next: usize, at: usize) -> bool
     ensures { MatchBool result (Due at calls.now next) (NotDue at calls.now next) }
 {
     next < calls.len() && calls[next].called <= at
 }
 
-/// An order of the calls, in which each that has an end is placed, or None where there is none.
+/// An order of the calls, with each call that has an end. None if there is no order. The only refusal is that
+/// memory ran out.
 pub(crate) fn search(
     alloc: Global,
     calls: &[SetCall],

@@ -1,4 +1,4 @@
-// What is told of a history's text.
+// The verdict on the text of a history, as text.
 
 ghost use Rattle.std.specs.Prelude.{◌≡◌, ◌<◌, ◌++◌, ◌∷◌, [], IfOk, List, Some, drop, length, map, slice_get, string_bytes};
 ghost use Rattle.ls_report.specs.Cut.{cut};
@@ -17,14 +17,15 @@ use ls_report::history::NamedEvent;
 use ls_report::read_history;
 use std::alloc::{AllocError, Global};
 
-/// The verdict that the call is no set call on the one object, as of an order of such a history.
+/// The verdict that the call isn't a set call on the same object as the first set call. An order of such a history
+/// gets the same text.
 fn foreign_text(alloc: Global, call: &str) -> Result<String, AllocError>
     ensures { IfOk result (λ text. string_bytes text ≡ foreign_text call.now) }
 {
     format!(in alloc; "broken 76 {call}\n")
 }
 
-/// What stands after the first line, or all where there is one line alone.
+/// The text after the first line. If there is only one line, the whole text.
 fn after_line(text: &str) -> &str
     ensures { (line after : Text) → cut 10 text.now ≡ Some (line, after) → result.now ≡ after }
 {
@@ -71,7 +72,7 @@ fn hopeless_text(
     format!(in alloc; "hopeless {number} {line}\n{calls}")
 }
 
-/// What is told by the outcome.
+/// The text of the outcome.
 fn outcome_text(
     alloc: Global,
     text: &str,
@@ -100,8 +101,9 @@ fn outcome_text(
     }
 }
 
-/// Reads a history, and tells a legal order of its set calls; or the event with which there is none, and a legal order of the
-/// events before it.
+/// Reads a history. Its answer is a legal order of the set calls. If there is none, it is the event with which there
+/// is none any more, and a legal order of the events before that event. Refused if the text is no history, if an item
+/// has more than 12 trapped calls, or if memory runs out.
 pub fn tell(alloc: Global, text: &str) -> Result<String, SearchFault>
     ensures { Gives (Tells text.now) result }
 {

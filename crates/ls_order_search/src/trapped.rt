@@ -7,7 +7,7 @@ ghost use Rattle.ls_order_search.specs.Trapped.{has_many_on, has_many_trapped, i
 use crate::trying::is_trapped;
 use ls_orders::calls::SetCall;
 
-/// The most trapped calls of one item that are decided on: at worst each of the 4,096 ways to take or leave them is tried.
+/// The most trapped calls of one item. At worst, each of the 4,096 ways to take or leave them is tried.
 pub const MOST_TRAPPED: usize = 12;
 
 fn is_trapped_on(call: SetCall, item: &i32) -> bool
@@ -26,14 +26,14 @@ fn trapped_on(calls: &[SetCall], item: &i32) -> usize
         .count()
 }
 
-/// Whether the call is trapped, with more on its item than are decided on.
+/// Whether the call is trapped, and its item has more than 12 trapped calls.
 fn has_many_on(calls: &[SetCall], call: SetCall) -> bool
     ensures { result ≡ has_many_on calls.now call }
 {
     is_trapped(call.end) && trapped_on(calls, &call.item) > MOST_TRAPPED
 }
 
-/// Whether an item has more trapped calls than are decided on.
+/// Whether an item has more than 12 trapped calls.
 pub(crate) fn has_many_trapped(calls: &[SetCall]) -> bool
     ensures { result ≡ has_many_trapped calls.now }
 {

@@ -25,8 +25,8 @@ fn copied(alloc: Global, calls: &[SetCall]) -> Result<Vec<SetCall>, AllocError>
     Ok(copy)
 }
 
-/// An order of the calls in front and of those after them, with trapped ones of the latter placed or left out. None where there is
-/// none.
+/// An order of the calls in `front` and of the calls after them. Trapped calls after `front` may be left out. None if
+/// there is no order. The only refusal is that memory ran out.
 pub(crate) fn tries(
     alloc: Global,
     front: Vec<SetCall>,

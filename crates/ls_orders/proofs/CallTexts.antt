@@ -48,5 +48,6 @@ call_low bs (Some p) e h =
     let low_all = low-append p.0 (46 ∷ p.1) (low_if is_part part_low p.0 (name_parts p.0 q.0)) (and_from (nat_lt 46 128) (low p.1) refl (number_low p.1 q.1)) in
     subst (λ t. low t ≡ true) (sym (cut_parts 46 bs p.0 p.1 e)) low_all
 
+-- the text of a call is UTF-8
 pub call_is_text : (bs : Text) → is_call bs ≡ true → IsUtf8 bs
 call_is_text bs h = IsUtf8-from_ascii bs (ascii_low bs (call_low bs (cut 46 bs) refl h))

@@ -48,6 +48,7 @@ or_pending : (b : Bool) (w o : Option End) → unwrap_or (cond b w o) Pending �
 or_pending true w o = refl
 or_pending false w o = refl
 
+-- how calls end after one end is put into the map
 pub end_put : (old new : BTreeMap CallKey End) (k : CallKey) (w : Option End) → UpdatesBy key_cmp (key_cmp k) old new w → (thread : Text) (call : ℕ)
     → ended new thread call ≡ cond (bytes_eq k.1.now thread && k.0 == call) (unwrap_or w Pending) (ended old thread call)
 end_put old new k w u thread call =
@@ -72,6 +73,7 @@ event_before es i e some le is =
     let next : i - 1 + 1 ≡ i = omega arith in
     drop_event es (i - 1) e lt is ∙ ap (λ n. plain_event e ∷ drop n (map plain_event es)) next
 
+-- how calls end, seen from one event earlier
 pub ends_before : (es : List NamedEvent) (i : ℕ) (e : NamedEvent) (old new : Text → ℕ → End) → 0 < i → i ≤ length es → e ≡ get_or es (i - 1) e
     → ((thread : Text) (call : ℕ) → old thread call ≡ end_of thread call i (drop i (map plain_event es)))
     → ((thread : Text) (call : ℕ) → new thread call
@@ -94,6 +96,7 @@ calls_before es i e some le is =
     ap (calls_from (i - 1)) (event_before es i e some le is)
     ∙ ap (λ n. with_asked (asked_of (plain_event e).occurrence) (i - 1) (end_of (plain_event e).thread (plain_event e).call n more) (calls_from n more)) next
 
+-- the set calls from one event earlier on, if that event is a set call
 pub call_before : (es : List NamedEvent) (i : ℕ) (e : NamedEvent) (asked : Asked) (end : End) (calls new : List SetCall) → 0 < i → i ≤ length es → e ≡ get_or es (i - 1) e
     → Some asked ≡ asked_of (plain_event e).occurrence → end ≡ end_of (plain_event e).thread (plain_event e).call i (drop i (map plain_event es))
     → new ≡ calls ++ record { called = i - 1; operation = asked.0; item = asked.1; end = end } ∷ []
@@ -106,6 +109,7 @@ call_before es i e asked end calls new some le is o there pushed h =
     ∙ ap (λ x. with_asked x (i - 1) (end_of (plain_event e).thread (plain_event e).call i more) (calls_from i more)) o
     ∙ sym (calls_before es i e some le is)
 
+-- the set calls from one event earlier on, if that event is none
 pub no_call_before : (es : List NamedEvent) (i : ℕ) (e : NamedEvent) (calls : List SetCall) → 0 < i → i ≤ length es → e ≡ get_or es (i - 1) e
     → None ≡ asked_of (plain_event e).occurrence
     → reverse calls ≡ calls_from i (drop i (map plain_event es)) → reverse calls ≡ calls_from (i - 1) (drop (i - 1) (map plain_event es))

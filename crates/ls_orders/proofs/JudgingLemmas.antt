@@ -8,6 +8,7 @@ use Rattle.ls_orders.specs.Rules.{calls_of, judged, judgement_of, unless_foreign
 use Rattle.ls_orders.specs.declared.calls.SetCall.{SetCall}
 use Rattle.ls_orders.proofs.NamingLemmas.{each_same}
 
+-- the judgement of an order of a history of one set
 pub judged_so : (es h : List Event) (order : List Text) (look : Text → Option SetCall) (calls : List SetCall) (r : Result (List SetCall) Text) → es ≡ h → None ≡ first_foreign es
     → calls ≡ set_calls es → ((q : Text) → look q ≡ call_named es calls q) → r ≡ each (λ n. ok_or (look n) n) order → judged es r ≡ judgement_of h order
 judged_so es h order look calls r same free is names e =

@@ -157,6 +157,7 @@ not_missing calls c h = go (is_returned c.end) (list_any (is_same c) calls) h
 
 -- ---- both ways
 
+-- an order that is judged legal is legal
 pub legal_is : (h : List Event) (order : List Text) → judgement_of h order ≡ Legal → IsLegal h order
 legal_is h order e =
     let one = legal_foreign (first_foreign h) (judged h (calls_of h order)) e in
@@ -178,6 +179,7 @@ legal_is h order e =
       run = right_run [] calls d.0;
     }
 
+-- a legal order is judged legal
 pub is_legal : (h : List Event) (order : List Text) → IsLegal h order → judgement_of h order ≡ Legal
 is_legal h order l =
     let calls = l.calls in

@@ -27,6 +27,7 @@ copied : (b : Bool) (call : Bor SetCall) (o : Option (Bor SetCall)) → option_c
 copied true call o = refl
 copied false call o = refl
 
+-- a call is put at its text
 pub name_put : (f g : Lookup) (n : Text) (call : Bor SetCall) → ((q : Text) → g q ≡ update bytes_eq f n (Some call) q)
     → (q : Text) → option_copied (g q) ≡ cond (bytes_eq q n) (Some call.now) (option_copied (f q))
 name_put f g n call u q =
@@ -36,6 +37,7 @@ name_put f g n call u q =
 abbrev pub call_at : List SetCall → ℕ → SetCall
 call_at xs i = get_or xs i no_call
 
+-- a call is found one place earlier
 pub found_before : (p : SetCall → Bool) (xs : List SetCall) (i : ℕ) → 0 < i → i ≤ length xs
     → find p (drop (i - 1) xs) ≡ cond (p (call_at xs (i - 1))) (Some (call_at xs (i - 1))) (find p (drop i xs))
 found_before p xs i some le =

@@ -10,6 +10,7 @@ use Rattle.ls_orders.specs.declared.calls.SetCall.{SetCall}
 use Rattle.ls_orders.specs.Named.{plain_call}
 use Rattle.ls_orders.specs.Rules.{after_call, first_repeated, first_where, is_present, is_same, present_from}
 
+-- whether an item is present after one more call
 pub present_push : (z : ℤ) (was : Bool) (xs : List SetCall) (x : SetCall) → present_from z was (xs ++ x ∷ []) ≡ after_call z (present_from z was xs) x
 present_push z was [] x = refl
 present_push z was (y ∷ ys) x = present_push z (after_call z was y) ys x
@@ -33,6 +34,7 @@ at xs i = plain_call (get_or xs i none_lent)
 abbrev pub front : ℕ → Lent → List SetCall
 front i xs = map plain_call (take i xs)
 
+-- the calls from a place on
 abbrev pub back : ℕ → Lent → List SetCall
 back i xs = map plain_call (drop i xs)
 
@@ -42,6 +44,7 @@ front_more xs i lt = map_more plain_call xs i none_lent lt
 back_more : (xs : Lent) (i : ℕ) → i < length xs → back i xs ≡ at xs i ∷ back (i + 1) xs
 back_more xs i lt = ap (map plain_call) (drop_more xs i none_lent lt)
 
+-- whether an item is present, one call further
 pub present_more : (z : ℤ) (xs : Lent) (i : ℕ) → i < length xs → is_present z (front (i + 1) xs) ≡ after_call z (is_present z (front i xs)) (at xs i)
 present_more z xs i lt = ap (is_present z) (front_more xs i lt) ∙ present_push z false (front i xs) (at xs i)
 
@@ -63,6 +66,7 @@ any_push p (y ∷ ys) x = swap (p y) (p x) (list_any p ys) (list_any p (ys ++ x 
     swap true false c d e = refl
     swap false b c d e = e
 
+-- whether any of the first calls passes, one call further
 pub any_more : (p : SetCall → Bool) (xs : Lent) (i : ℕ) → i < length xs → list_any p (front (i + 1) xs) ≡ (p (at xs i) || list_any p (front i xs))
 any_more p xs i lt = ap (list_any p) (front_more xs i lt) ∙ any_push p (front i xs) (at xs i)
 
@@ -72,9 +76,11 @@ one_before xs i some le =
     let next : i - 1 + 1 ≡ i = omega arith in
     back_more xs (i - 1) lt ∙ ap (λ n. at xs (i - 1) ∷ back n xs) next
 
+-- whether any of the last calls passes, one call earlier
 pub any_before : (p : SetCall → Bool) (xs : Lent) (i : ℕ) → 0 < i → i ≤ length xs → list_any p (back (i - 1) xs) ≡ (p (at xs (i - 1)) || list_any p (back i xs))
 any_before p xs i some le = ap (list_any p) (one_before xs i some le)
 
+-- the first call that comes a second time, one call earlier
 pub repeated_before : (xs : Lent) (i : ℕ) → 0 < i → i ≤ length xs
     → first_repeated (back (i - 1) xs) ≡ cond (list_any (is_same (at xs (i - 1))) (back i xs)) (Some (at xs (i - 1))) (first_repeated (back i xs))
 repeated_before xs i some le = ap first_repeated (one_before xs i some le)

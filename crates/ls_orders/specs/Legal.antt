@@ -9,7 +9,7 @@ use Rattle.ls_orders.specs.declared.calls.SetCall.{SetCall}
 use Rattle.ls_orders.specs.declared.verdict.Verdict.{Verdict}
 use Rattle.ls_orders.specs.declared.verdict.Verdict.TheVariants as verdicts
 
--- a set: of each item whether it is in it
+-- a set: for each item, whether it is in the set
 abbrev pub Set : Type 0
 Set = ℤ → Bool
 
@@ -19,7 +19,7 @@ empty item = false
 abbrev pub after : Set → SetCall → Set
 after set c = λ item. after_call item (set item) c
 
--- The calls one after the other on a set, each returned call with the reply of the set.
+-- The calls one after the other on a set. Each returned call has the reply of the set.
 abbrev pub IsRun : Set → List SetCall → Type 0
 IsRun set [] = Unit {0}
 IsRun set (c ∷ cs) = (differs c.end (answer_of c.operation (set c.item)) ≡ false) × IsRun (after set c) cs
@@ -31,11 +31,11 @@ pub record IsLegal (history : List Event) (order : List Text) : Type 0 where
   pub calls : List SetCall
   pub named : map (call_named history (set_calls history)) order ≡ map (λ c. Some c) calls
   pub once : (front back : List SetCall) (x : SetCall) → calls ≡ front ++ x ∷ back → list_any (is_same x) back ≡ false
-  -- each call that returned is there
+  -- the order has each call that returned
   pub complete : (front back : List SetCall) (c : SetCall) → set_calls history ≡ front ++ c ∷ back → is_returned c.end ≡ true → list_any (is_same c) calls ≡ true
-  -- a call that had ended before another was called stands before it
+  -- if a call had ended before another was called, it comes first
   pub in_time : (front middle back : List SetCall) (x y : SetCall) → calls ≡ front ++ y ∷ (middle ++ x ∷ back) → ended_before x.end y.called ≡ false
-  -- it is a history of a set, empty at the start
+  -- the calls are a run of a set that is empty at the start
   pub run : IsRun empty calls
 
 abbrev pub plain_verdict : Verdict → Judgement

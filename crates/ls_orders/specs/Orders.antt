@@ -32,7 +32,7 @@ call_at item = if is_call item.1 then Ok item.1 else Err (faults.BadOrder item.0
 abbrev pub order_of : Text → Result (List Text) OrderFault
 order_of text = each call_at (items 0 text)
 
--- what a function answers, seen by view, is what is said, unless memory ran out
+-- seen by `view`, the answer is what the definition says, or memory ran out
 abbrev pub Fails : {Y : Type 0} → OrderFault → Result Y OrderFault → Type 0
 Fails faults.Memory said = Unit {0}
 Fails e said = said ≡ Err e

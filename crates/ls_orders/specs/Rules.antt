@@ -25,13 +25,13 @@ present_after Contains was = was
 abbrev pub after_call : ℤ → Bool → SetCall → Bool
 after_call item was c = if int_eq c.item item then present_after c.operation was else was
 
--- what the set answers: add whether the item was absent, remove and contains whether it was present
+-- what the set answers: add says whether the item was absent; remove and contains say whether it was present
 abbrev pub answer_of : Operation → Bool → Bool
 answer_of Add was = not was
 answer_of Remove was = was
 answer_of Contains was = was
 
--- whether the item is present after the calls, in the set that is empty at the start
+-- whether the item is present after the calls, if the set is empty at the start
 abbrev pub present_from : ℤ → Bool → List SetCall → Bool
 present_from item was [] = was
 present_from item was (c ∷ cs) = present_from item (after_call item was c) cs
@@ -54,7 +54,7 @@ ended_before Pending at = false
 ended_before (Trapped end) at = nat_lt end at
 ended_before (Returned end reply) at = nat_lt end at
 
--- a returned call with another reply; the reply of pending and trapped calls is free
+-- a returned call has another reply; pending and trapped calls may have any reply
 abbrev pub differs : End → Bool → Bool
 differs (Returned at (Some reply)) wanted = not (reply && wanted || (not reply && not wanted))
 differs (Returned at None) wanted = true
@@ -64,7 +64,7 @@ differs other wanted = false
 abbrev pub is_missing : List SetCall → SetCall → Bool
 is_missing order c = is_returned c.end && not (list_any (is_same c) order)
 
--- a call stands in front that was called only after this one had ended
+-- a call comes before this call, and was called only after this call had ended
 abbrev pub is_late : List SetCall → SetCall → Bool
 is_late front x = list_any (λ y. ended_before x.end y.called) front
 
@@ -73,12 +73,12 @@ has_wrong_reply front x = differs x.end (answer_of x.operation (is_present x.ite
 
 -- ---- the first call that passes
 
--- the first that passes with those in front of it
+-- the first call that passes, with the calls before it
 abbrev pub first_where : (List SetCall → SetCall → Bool) → List SetCall → List SetCall → Option SetCall
 first_where p front [] = None
 first_where p front (x ∷ xs) = if p front x then Some x else first_where p (front ++ x ∷ []) xs
 
--- the first that stands there again
+-- the first call that comes a second time
 abbrev pub first_repeated : List SetCall → Option SetCall
 first_repeated [] = None
 first_repeated (x ∷ xs) = if list_any (is_same x) xs then Some x else first_repeated xs
@@ -104,7 +104,7 @@ judgement_of_calls history order =
     (or_rule rules_of.AgainstTime (named_by history) (first_where is_late [] order)
     (or_rule rules_of.WrongReply (named_by history) (first_where has_wrong_reply [] order) Legal)))
 
--- the set calls that the names name, or the first name of none
+-- the set calls with these names, or the first name of no set call
 abbrev pub calls_of : List Event → List Text → Result (List SetCall) Text
 calls_of history = each (λ name. ok_or (call_named history (set_calls history) name) name)
 

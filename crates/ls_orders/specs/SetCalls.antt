@@ -42,8 +42,8 @@ name_of e = call_text e.thread e.call
 
 -- ---- the calls of another kind
 
--- A method call that is no set call, a set call on another object than the first set call's, or a making after the first
--- set call. `first` is that call's object, if there was one.
+-- A method call that is no set call, a set call on another object, or a making after the first set call. `first` is
+-- the object of the first set call, if there was one.
 abbrev pub is_foreign : Option Text → Occurrence → Bool
 is_foreign first (Made object class arguments) = is_some first
 is_foreign first (Called object method arguments) =
@@ -74,7 +74,7 @@ end_at at (Returned value) = ends.Returned at (reply_of value)
 end_at at (Trapped kind) = ends.Trapped at
 end_at at other = ends.Pending
 
--- the next event of the same call; `at` is the place of the first of the events
+-- the next event of the same call; `at` is the place of the first event of the list
 abbrev pub end_of : Text → ℕ → ℕ → List Event → End
 end_of thread call at [] = ends.Pending
 end_of thread call at (e ∷ es) = if bytes_eq e.thread thread && e.call == call

@@ -16,7 +16,7 @@ impl Clone for Operation {
     }
 }
 
-/// How a call has ended, with the place of that event. A reply that is no boolean is `None`.
+/// How a call has ended, with the place of that event. A reply that isn't a boolean is `None`.
 #[derive(Copy)]
 pub enum End {
     Pending,

@@ -56,8 +56,9 @@ fn put_end<'a>(
     Ok(behind.unwrap_or(End::Pending))
 }
 
-/// Puts an event in front of those that the map knows, and answers how its call ends behind it. The map has the calls that have
-/// ended and haven't begun yet, by their numbers and the names of their threads: of a history at most one of each thread.
+/// Puts an event before those that the map knows, and answers how its call ends after it. The map has the calls that
+/// have ended and haven't begun yet. They are found by their numbers and the names of their threads. Of a history the
+/// map has at most one call of each thread.
 pub(crate) fn put_event<'a>(
     ends: &mut BTreeMap<(usize, &'a str), End>,
     at: usize,

@@ -6,6 +6,7 @@ ghost use Rattle.ls_orders.specs.declared.fault.OrderFault.TheVariants.{Memory};
 use std::alloc::{AllocError, AllocFailed};
 use thiserror::Error;
 
+/// Why a text is no order.
 #[derive(Clone, Copy, Debug, Error, PartialEq, Eq)]
 pub enum OrderFault {
     #[error("out of memory")]

@@ -27,7 +27,7 @@ use std::alloc::{AllocError, Global};
 use std::collections::BTreeMap;
 use std::fmt::Write;
 
-/// Room for the most names of calls, so that they are printed without moving.
+/// Room for the longest names of calls, so that they are printed without moving.
 const NAME_ROOM: usize = 24;
 
 fn operation_of(method: &str) -> Option<Operation>
@@ -44,7 +44,7 @@ fn operation_of(method: &str) -> Option<Operation>
     }
 }
 
-/// The argument, where it is one int.
+/// The argument, if it is one int.
 fn only_int(arguments: &[Value]) -> Option<i32>
     ensures { result ≡ only_int arguments.now }
 {
@@ -62,7 +62,7 @@ fn asked_with(method: &str, arguments: &[Value]) -> Option<(Operation, i32)>
     Some((operation, item))
 }
 
-/// The operation and its item, where it is a set call.
+/// The operation and its item, if this is a set call.
 fn asked_of(occurrence: &Occurrence<'_>) -> Option<(Operation, i32)>
     ensures { result ≡ asked_of (plain_occurrence occurrence.now) }
 {
@@ -112,7 +112,7 @@ fn first_after<'a>(first: Option<&'a str>, occurrence: &Occurrence<'a>) -> Optio
     }
 }
 
-/// The first call that is no set call on the one object.
+/// The first call that isn't a set call on the same object as the first set call.
 pub fn first_foreign<'a, 'b>(events: &'a [NamedEvent<'b>]) -> Option<&'a NamedEvent<'b>>
     ensures { option_map plain_event (option_copied result) ≡ first_foreign (map plain_event events.now) }
 {
@@ -138,7 +138,7 @@ fn set_call(called: usize, asked: (Operation, i32), end: End) -> SetCall
     }
 }
 
-/// The set calls, in order of their call events.
+/// The set calls, in order of their call events. The only refusal is that memory ran out.
 pub fn set_calls(alloc: Global, events: &[NamedEvent<'_>]) -> Result<Vec<SetCall>, AllocError>
     ensures { IfOk result (λ calls. calls.items ≡ set_calls (map plain_event events.now)) }
 {
@@ -155,7 +155,7 @@ pub fn set_calls(alloc: Global, events: &[NamedEvent<'_>]) -> Result<Vec<SetCall
     Ok(calls)
 }
 
-/// The call's text.
+/// The text of the call, as `A.1`. The only refusal is that memory ran out.
 pub fn name_of(alloc: Global, event: &NamedEvent<'_>) -> Result<String, AllocError>
     ensures { IfOk result (λ text. string_bytes text ≡ name_of (plain_event event.now)) }
 {
@@ -166,6 +166,7 @@ pub fn name_of(alloc: Global, event: &NamedEvent<'_>) -> Result<String, AllocErr
     Ok(text)
 }
 
+/// The text of the call of the event at a place, as `A.1`. The only refusal is that memory ran out.
 pub fn name_at(alloc: Global, events: &[NamedEvent<'_>], at: usize) -> Result<String, AllocError>
     ensures { IfOk result (λ text. string_bytes text ≡ name_at (map plain_event events.now) at) }
 {

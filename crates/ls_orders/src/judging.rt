@@ -54,8 +54,8 @@ fn judge_calls(
     Ok(Verdict::Legal)
 }
 
-/// Whether the order is a legal order of the history's set calls. If it isn't, the first rule that is broken, at the first
-/// call that breaks it.
+/// Whether the order is a legal order of the history's set calls. If it isn't, the answer is the first rule that is
+/// broken, at the first call that breaks it. The only refusal is that memory ran out.
 pub fn check_order(
     alloc: Global,
     history: &History<'_>,

@@ -25,7 +25,7 @@ pub(crate) enum Named<'a> {
     Unknown(String),
 }
 
-/// Puts a call by its text, in the place of the one that is there.
+/// Puts a call at its text, in place of the call that is there.
 fn put_name<'a>(
     names: &mut HashMap<String, &'a SetCall>,
     name: String,
@@ -38,7 +38,7 @@ fn put_name<'a>(
     Ok(())
 }
 
-/// The calls by their texts.
+/// The calls by their texts. The only refusal is that memory ran out.
 pub fn names_of<'a>(
     alloc: Global,
     events: &[NamedEvent<'_>],
@@ -47,7 +47,7 @@ pub fn names_of<'a>(
     ensures { IfOk result (λ names. (q : Text) → option_copied (get_by_text names q) ≡ call_named (map plain_event events.now) calls.now q) }
 {
     let mut names = HashMap::new(alloc);
-    // From the last to the first, so that of calls with one text the first stays.
+    // This goes from the last to the first, so that of calls with one text the first stays.
     for i in (0..calls.len()).rev() {
         let call = &calls[i];
         let name = name_at(alloc, events, call.called)?;
@@ -56,7 +56,7 @@ pub fn names_of<'a>(
     Ok(names)
 }
 
-/// The calls that the texts name.
+/// The calls that the texts name. The only refusal is that memory ran out.
 pub(crate) fn calls_of<'a>(
     alloc: Global,
     names: &HashMap<String, &'a SetCall>,

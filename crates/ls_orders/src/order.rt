@@ -2,8 +2,8 @@
 
 use std::marker::Model;
 
-/// Calls in an order, each by its text, as `A.1`: the thread's name and the call's number among those of its thread,
-/// which may have any number of digits. The texts are places in the text that was read.
+/// Calls in an order. Each has its text, as `A.1`: the thread's name and the call's number among those of its thread.
+/// A number may have any number of digits. The texts are places in the text that was read.
 #[derive(Drop)]
 pub struct Order<'a> {
     calls: Vec<&'a str>,

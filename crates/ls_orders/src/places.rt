@@ -5,7 +5,7 @@ ghost use Rattle.ls_orders.specs.Places.{is_marked};
 
 use std::alloc::AllocError;
 
-/// Whether the place is marked. None beyond the list is.
+/// Whether the place is marked. A place beyond the list isn't.
 pub fn is_marked(marks: &[bool], place: usize) -> bool
     ensures { result ≡ is_marked marks.now place }
 {
@@ -21,7 +21,7 @@ fn fill(marks: &mut Vec<bool>, place: usize) -> Result<(), AllocError>
     Ok(())
 }
 
-/// Marks a place.
+/// Marks a place. The only refusal is that memory ran out.
 pub fn mark(marks: &mut Vec<bool>, place: usize) -> Result<(), AllocError>
     ensures { OnOk result ((k : ℕ) → is_marked marks.new.items k ≡ (place == k || is_marked marks.old.items k)) }
 {

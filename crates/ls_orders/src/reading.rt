@@ -45,7 +45,7 @@ fn is_call(text: &str) -> bool
     }
 }
 
-/// The call that the item names.
+/// The call that the item names. If the item is no call, the fault has its place, which is `at`.
 fn read_call(at: usize, item: &[u8]) -> Result<&str, OrderFault>
     ensures { Gives plain_text result (call_at (at, item.now)) }
 {
@@ -58,11 +58,12 @@ fn read_call(at: usize, item: &[u8]) -> Result<&str, OrderFault>
     Ok(text)
 }
 
-/// The order that the text says. Otherwise the fault says where the first item begins that is no call.
+/// The order that the text has. Otherwise the fault has the byte where the first item begins that is no call, or
+/// memory ran out.
 pub fn read_order<'a>(alloc: Global, text: &'a str) -> Result<Order<'a>, OrderFault>
     ensures { Gives (λ o. o) result (order_of text.now) }
 {
-    // A call takes three bytes at least, and one before the next.
+    // A call takes at least three bytes, and one byte before the next.
     let mut calls = Vec::with_capacity(alloc, text.len() / 4 + 1)?;
     let mut at = 0;
     let mut rest = text.as_bytes();

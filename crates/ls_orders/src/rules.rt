@@ -69,7 +69,7 @@ fn places_of(alloc: Global, order: &[&SetCall]) -> Result<Vec<bool>, AllocError>
     Ok(places)
 }
 
-/// The first call that stands there again.
+/// The first call that comes a second time. The only refusal is that memory ran out.
 pub(crate) fn first_repeated(
     alloc: Global,
     order: &[&SetCall],
@@ -94,7 +94,7 @@ fn is_missing(places: &[bool], call: SetCall) -> bool
     is_returned(call.end) && !is_marked(places, call.called)
 }
 
-/// Of the returned calls that the order lacks, the one called first.
+/// Among the returned calls that the order lacks, the first by its call event. The only refusal is that memory ran out.
 pub(crate) fn first_missing(
     alloc: Global,
     calls: &[SetCall],
@@ -111,7 +111,7 @@ pub(crate) fn first_missing(
     Ok(None)
 }
 
-/// The first call in front of which a call stands that was called only after this one had ended.
+/// The first call that comes too late: before it comes a call that was called only after this call had ended.
 pub(crate) fn first_late(order: &[&SetCall]) -> Option<SetCall>
     ensures { result ≡ first_where is_late [] (map plain_call order.now) }
 {
@@ -126,7 +126,7 @@ pub(crate) fn first_late(order: &[&SetCall]) -> Option<SetCall>
     None
 }
 
-/// The first returned call whose reply isn't the set's.
+/// The first returned call with another reply than the set gives. The only refusal is that memory ran out.
 pub(crate) fn first_wrong(alloc: Global, order: &[&SetCall]) -> Result<Option<SetCall>, AllocError>
     ensures { IfOk result (λ r. r ≡ first_where has_wrong_reply [] (map plain_call order.now)) }
 {

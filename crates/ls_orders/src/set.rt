@@ -9,7 +9,7 @@ use crate::calls::{Operation, SetCall};
 use std::alloc::AllocError;
 use std::collections::BTreeSet;
 
-/// The set after the call.
+/// The set after the call. The only refusal is that memory ran out.
 pub fn apply(set: &mut BTreeSet<i32>, call: SetCall) -> Result<(), AllocError>
     ensures { OnOk result ((z : ℤ) → contains int_cmp set.new z ≡ after_call z (contains int_cmp set.old z) call) }
 {

@@ -36,7 +36,7 @@ field key text = codes ",\"" ++ (key ++ (codes "\":" ++ quoted text))
 abbrev pub history_text : Names → List ℕ → Text
 history_text names steps = run_text names.program (source_history names.file names.program steps)
 
--- the format's number, and that of the first step that is told
+-- the format's number, and that of the first step that is shown
 abbrev pub head_text : ℕ → Text
 head_text from = codes "{\"listset\":1,\"from\":" ++ decimal from
 
@@ -46,17 +46,17 @@ texts_text texts =
     field (codes "classes") texts.classes
     ++ (field (codes "program") texts.program ++ field (codes "schedule") texts.schedule)
 
--- what was before the first step that is told: the history and the state of these steps
+-- what was before the first step that is shown: the history and the state of the steps before it
 abbrev pub before_text : Names → List ℕ → Text
 before_text names steps =
     field (codes "past") (history_text names steps) ++ field (codes "before") (state_text names steps)
 
--- each step that is told, and the state after the last
+-- each step that is shown, and the state after the last
 abbrev pub rest_text : Names → List ℕ → ℕ → ℕ → Text
 rest_text names steps from to =
     field (codes "trace") (trace_text names steps from to) ++ field (codes "after") (state_text names (take to steps))
 
--- the steps whose numbers, counted from 1, lie in a range, both ends among them, with what was before
+-- the steps with numbers in a range, with both ends of the range, and what was before; steps are numbered from 1
 abbrev pub told_text : Names → List ℕ → ℕ → ℕ → Text
 told_text names steps from to = before_text names (take (from - 1) steps) ++ rest_text names steps from to
 
@@ -71,7 +71,7 @@ judged_text judged = field (codes "order") judged.order ++ field (codes "verdict
 abbrev pub page_text : Names → Texts → List ℕ → ℕ → ℕ → Text
 page_text names texts steps from to = run_fields names texts steps from to ++ codes "}\n"
 
--- the same with an order of the calls that begin in the steps up to the last that is told
+-- the same with an order of the calls that begin in the steps up to the last that is shown
 abbrev pub ordered_page_text : Names → Texts → List ℕ → ℕ → ℕ → Judged → Text
 ordered_page_text names texts steps from to judged =
     run_fields names texts steps from to ++ (judged_text judged ++ codes "}\n")

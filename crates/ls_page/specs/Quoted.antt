@@ -1,4 +1,4 @@
--- Texts as JSON strings that may stand in a page. No `<` is in them, so they end no script and begin no comment.
+-- Texts as JSON strings that may be in a page. They contain no `<`, so they end no script and begin no comment.
 use Rattle.std.specs.Prelude.{ℕ, ◌+◌, ◌-◌, ◌==◌, nat_lt, List, [], ◌∷◌, ◌++◌, chars, codes, flat_map, encode_utf8, if◌then◌else◌}
 
 abbrev pub Text : Type 0

@@ -7,7 +7,8 @@ use Rattle.ls_page.specs.Quoted.{Text}
 abbrev pub is_plain : ℕ → Bool
 is_plain byte = not (nat_lt byte 32 || (byte == 34 || byte == 92))
 
--- what a byte after a backslash stands for, if it stands for one: `"`, `\` and `/` for themselves, and `b f n r t`
+-- what a byte after a backslash stands for, if it stands for anything: `"`, `\` and `/` for themselves, and `b f n r
+-- t`
 abbrev pub letter_of : ℕ → Option ℕ
 letter_of byte =
     if byte == 34 || (byte == 92 || byte == 47) then Some byte else (
@@ -27,7 +28,7 @@ unit_of a b c d =
 abbrev pub is_in : ℕ → ℕ → ℕ → Bool
 is_in least past n = nat_le least n && nat_lt n past
 
--- what stands after the opening quote, the text that it is read as, and what stands after the closing quote
+-- what comes after the opening quote, the text as which it is read, and what comes after the closing quote
 pub data Inside : Text → Text → Text → Type 0 where
   Closes : (rest : Text) → Inside (34 ∷ rest) [] rest
   Byte : (byte : ℕ) (written text rest : Text) → is_plain byte ≡ true → Inside written text rest →
@@ -38,12 +39,12 @@ pub data Inside : Text → Text → Text → Type 0 where
   Number : (a b c d n : ℕ) (written text rest : Text) → unit_of a b c d ≡ Some n → is_in 55296 57344 n ≡ false →
       Inside written text rest →
       Inside (92 ∷ 117 ∷ a ∷ b ∷ c ∷ d ∷ written) (encode_utf8 n ++ text) rest
-  -- one that takes two numbers
+  -- a character that takes two numbers
   Pair : (a b c d n e f g h m : ℕ) (written text rest : Text) → unit_of a b c d ≡ Some n → is_in 55296 56320 n ≡ true →
       unit_of e f g h ≡ Some m → is_in 56320 57344 m ≡ true → Inside written text rest →
       Inside (92 ∷ 117 ∷ a ∷ b ∷ c ∷ d ∷ 92 ∷ 117 ∷ e ∷ f ∷ g ∷ h ∷ written)
       (encode_utf8 (65536 + ((n - 55296) * 1024 + (m - 56320))) ++ text) rest
 
--- what is written begins with a string that is read as this text, and this is what stands after it
+-- what is written begins with a string that is read as this text; the last text comes after that string
 pub data Reads : Text → Text → Text → Type 0 where
   Opens : (written text rest : Text) → Inside written text rest → Reads (34 ∷ written) text rest

@@ -24,7 +24,7 @@ fn push_field(out: &mut String, key: &str, text: &str) -> Result<(), AllocError>
     push_quoted(out, text)
 }
 
-/// So many steps, or all if there are fewer.
+/// The first `count` steps, or all if there are fewer.
 pub fn first_steps(steps: &[usize], count: usize) -> &[usize]
     ensures { result.now ≡ take count steps.now }
 {
@@ -38,7 +38,7 @@ fn steps_before(steps: &[usize], from: usize) -> &[usize]
     first_steps(steps, from.saturating_sub(1))
 }
 
-/// What `source` prints of a run: the history of its steps. Refused where memory runs out.
+/// What `source` prints of a run: the history of its steps. The only refusal is that memory ran out.
 pub fn history(alloc: Global, names: Names, steps: &[usize]) -> Result<String, AllocError>
     ensures { IfOk result (λ text. string_bytes text ≡ history_text (names_of names.entry) steps.now) }
 {
@@ -87,7 +87,7 @@ fn push_trace(
     push_field(out, "trace", text.as_str())
 }
 
-// Adds the format's number, and that of the first step that is told.
+// Adds the format's number, and that of the first step that is shown.
 fn push_head(out: &mut String, from: usize) -> Result<(), AllocError>
     ensures { OnOk result (string_bytes out.new ≡ string_bytes out.old ++ head_text from) }
 {
@@ -103,7 +103,7 @@ fn push_texts(out: &mut String, texts: Texts) -> Result<(), AllocError>
     push_field(out, "schedule", texts.schedule)
 }
 
-// Adds what was before the first step that is told.
+// Adds what was before the first step that is shown.
 fn push_before(
     alloc: Global,
     out: &mut String,
@@ -117,7 +117,7 @@ fn push_before(
     push_state(alloc, out, names, "before", steps)
 }
 
-// Adds the steps that are told, and the state after them.
+// Adds the steps that are shown, and the state after them.
 fn push_rest(
     alloc: Global,
     out: &mut String,
@@ -132,7 +132,7 @@ fn push_rest(
     push_state(alloc, out, names, "after", first_steps(steps, window.to))
 }
 
-// Adds both.
+// Adds what was before, and the steps that are shown.
 fn push_told(
     alloc: Global,
     out: &mut String,
@@ -166,7 +166,7 @@ fn push_run(
     Ok(())
 }
 
-// Adds an order and what is said of it.
+// Adds an order and the verdict on it.
 fn push_judged(out: &mut String, judged: Judged) -> Result<(), AllocError>
     ensures { OnOk result (string_bytes out.new ≡ string_bytes out.old ++ judged_text (judged_of judged.entry)) }
 {
@@ -174,8 +174,8 @@ fn push_judged(out: &mut String, judged: Judged) -> Result<(), AllocError>
     push_field(out, "verdict", judged.verdict)
 }
 
-/// The data of a page on the run of a schedule, whose steps are numbers of threads: a JSON object in one line. It tells the steps
-/// of the window. Refused where memory runs out.
+/// The data of a page on the run of a schedule: a JSON object in one line, which shows the steps of the window. The
+/// steps of the schedule are numbers of threads. The only refusal is that memory ran out.
 pub fn page_data(
     alloc: Global,
     names: Names,
@@ -192,7 +192,8 @@ pub fn page_data(
     Ok(out)
 }
 
-/// The same with an order of the run's calls, and what `check` says of it. Refused where memory runs out.
+/// The same with an order of the run's calls, and what `check` says of the order. The only refusal is that memory ran
+/// out.
 pub fn page_data_with_order(
     alloc: Global,
     names: Names,

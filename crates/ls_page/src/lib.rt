@@ -1,4 +1,4 @@
-//! A run as the data of a page: the texts that it comes from, its trace, and the states at both ends, as one JSON text.
+//! A run as the data of a page: its texts, its trace, and the states at both ends, as one JSON text.
 #![tactic(auto)]
 
 mod data;

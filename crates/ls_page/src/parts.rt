@@ -8,7 +8,7 @@ pub struct Texts<'t> {
     pub schedule: &'t str,
 }
 
-/// The first and the last step that are told. Steps are numbered from 1, and there may be fewer.
+/// The first and the last step that are shown. Steps are numbered from 1. There may be fewer steps.
 #[derive(Clone, Copy)]
 pub struct Window {
     pub from: usize,

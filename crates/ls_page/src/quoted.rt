@@ -1,4 +1,4 @@
-// Texts as JSON strings that may stand in a page.
+// Texts as JSON strings that may be in a page.
 
 ghost use Rattle.std.specs.Prelude.{◌≡◌, ◌<◌, ◌∷◌, ◌++◌, [], OnOk, chars, flat_map, string_bytes};
 ghost use Rattle.ls_page.specs.Laws.{QuotedIsSafe, QuotedReadsBack};
@@ -60,8 +60,8 @@ fn push_all(out: &mut String, text: &str) -> Result<(), AllocError>
     Ok(())
 }
 
-/// Adds a text as a JSON string without control characters and without `<`, so that it may stand in a page's `script` element.
-/// Refused where memory runs out. A part of the string may stand in `out` then.
+/// Adds a text as a JSON string without control characters and without `<`, so that it may be in a page's `script`
+/// element. The only refusal is that memory ran out. Then a part of the string may be in `out`.
 pub fn push_quoted(out: &mut String, text: &str) -> Result<(), AllocError>
     ensures { OnOk result (string_bytes out.new ≡ string_bytes out.old ++ quoted text.now) }
 {
@@ -70,8 +70,8 @@ pub fn push_quoted(out: &mut String, text: &str) -> Result<(), AllocError>
     out.push_str("\"")
 }
 
-/// A text that is written so has no byte under 32 and no `<`. Read as a JSON string it gives the text back. It ends with its closing
-/// quote, whatever follows.
+/// A text that is written so has no byte under 32 and no `<`. Read as a JSON string it gives the text again. It ends
+/// with its closing quote, whatever follows.
 pub fn quoted_reads_back()
     ensures safe { QuotedIsSafe }
     ensures back { QuotedReadsBack }

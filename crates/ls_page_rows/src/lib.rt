@@ -1,4 +1,4 @@
-//! Data of pages that is worked out by hand.
+//! Data of pages, worked out by hand.
 #![tactic(auto)]
 
 mod rows;

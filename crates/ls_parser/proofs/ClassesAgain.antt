@@ -75,7 +75,7 @@ field_no_call : (name : Text) (value : Option Expression) (ds : List Declarator)
 field_no_call name None ds rest = more_no_paren ds rest
 field_no_call name (Some value) ds rest = refl
 
--- behind modifiers, a type and a name
+-- after modifiers, a type and a name
 typed : (modifiers : List Modifier) (t : TypeName) (name : Text) (rest : List Lexeme) → unmodified_at modifiers (onto_type t (Named name ∷ rest)) ≡ typed_at modifiers t (Named name ∷ rest)
 typed modifiers t name rest = rw (type_no_call t name rest, type_no_void t (Named name ∷ rest), type_complete t name rest) refl
 
@@ -232,6 +232,7 @@ no_package : (is : List Import) (cs : List ClassTree) → after_word words.Packa
 no_package [] cs = classes_no_package cs
 no_package (i ∷ is) cs = refl
 
+-- a file that is spelled is read again
 pub file_complete : (f : File) → WellFormedFile f → file_at (onto_file f []) ≡ Some f
 unfolding file_at
 file_complete f formed =

@@ -144,6 +144,7 @@ locked_sound ks x e =
     let w = bind_some (after_word words.Synchronized ks) _ x e in
     (word_reads words.Synchronized ks w.0 w.1 ∙ ap (cons (Reserved words.Synchronized)) (modifiers_sound w.0 x w.2), tt)
 
+-- a `synchronized` takes a token
 pub locked_shrinks : Shrinks locked_at
 locked_shrinks ks x e = omega (arith, ap length (locked_sound ks x e).0, locked_longer x.0 x.1)
 
@@ -164,6 +165,7 @@ member_sound ks x e =
 
 -- ---- classes
 
+-- a class that is well formed
 abbrev pub FormedClass : ClassTree → Type 0
 FormedClass c = AllByRecursion WellFormedMember c.members
 
@@ -196,6 +198,7 @@ dotted_sound goes ks x e =
     let took = (many_sound onto_part Anything goes part_at part_sound n.0.1 m.0 m.1).0 in
     name_reads ks n.0 n.1 ∙ ap (cons (Named n.0.0)) took.spelled ∙ ap (λ (y : Dotted × List Lexeme). onto_dotted y.0 y.1) (some_is (dotted_of n.0.0 m.0.0, m.0.1) x m.2)
 
+-- an import that is read is spelled by its tokens
 pub import_sound : SoundItem onto_import Anything import_at
 import_sound ks x e =
     let w = bind_some (after_word words.Import ks) _ x e in
@@ -217,6 +220,7 @@ import_sound ks x e =
           )
     ]
 
+-- a package that is read is spelled by its tokens
 pub header_sound : (ks : List Lexeme) (x : Option Dotted × List Lexeme) → header_at ks ≡ Some x → ks ≡ onto_header x.0 x.1
 header_sound ks x e =
     elim (given_cases (after_word words.Package ks) _ (Some (None, ks)) (Some x) e) [
@@ -234,6 +238,7 @@ nothing_left : (ks : List Lexeme) → is_left ks ≡ false → ks ≡ []
 nothing_left [] h = refl
 nothing_left (k ∷ ks) h = absurd cc
 
+-- a file that is read is spelled by its tokens, and well formed
 pub file_sound : (ks : List Lexeme) (f : File) → file_at ks ≡ Some f → (ks ≡ onto_file f []) × WellFormedFile f
 unfolding file_at
 file_sound ks f e =
@@ -247,17 +252,22 @@ file_sound ks f e =
 
 -- ---- each takes a token at least
 
+-- a parameter takes a token
 pub parameter_shrinks : Shrinks parameter_at
 parameter_shrinks ks x e = omega (arith, ap length (parameter_sound ks x e).0, parameter_longer x.0 x.1)
 
+-- a member takes a token
 pub member_shrinks : Shrinks member_at
 member_shrinks ks x e = omega (arith, ap length (member_sound ks x e).0, member_longer x.0 x.1)
 
+-- a class takes a token
 pub class_shrinks : Shrinks class_at
 class_shrinks ks x e = omega (arith, ap length (class_sound ks x e).0, class_longer x.0 x.1)
 
+-- a part of a dotted name takes a token
 pub part_shrinks : Shrinks part_at
 part_shrinks ks x e = omega (arith, ap length (part_sound ks x e).0, part_longer x.0 x.1)
 
+-- an import takes a token
 pub import_shrinks : Shrinks import_at
 import_shrinks ks x e = omega (arith, ap length (import_sound ks x e).0, import_longer x.0 x.1)

@@ -27,6 +27,7 @@ use Rattle.ls_parser.proofs.ClassesRead.{header_sound, import_sound}
 use Rattle.ls_parser.proofs.Spelled.{header_spells, import_spells}
 use Rattle.ls_parser.proofs.Leaving.{taken, spots_forgotten}
 
+-- a file at its places
 pub file_placed : (tokens behind inner : List Token) {name : Option Dotted} {imports : List Import} {classes : List ClassTree} →
     header_at (lexemes tokens) ≡ Some (name, lexemes behind) → Leaves (spots tokens) (spots behind) →
     many_at starts_import import_at (lexemes behind) ≡ Some (imports, lexemes inner) → Leaves (spots behind) (spots inner) →
@@ -52,6 +53,7 @@ text_placed {text = text} ts all order places = record {
   places = places;
 }
 
+-- if a text spells a file, and these are its places, it is the file of the text
 pub text_file : (f : ClassFile) {text : List ℕ} (ts : List Token) → TextSpells (bare_file f) text → tokens_of text ≡ Some (lexemes ts) → InOrder text 0 ts (length text) → FileAt (placed_file f) (spots ts) →
     IsFileOf text (placed_file f)
 text_file f ts spelled all order places = is_file_of f spelled (text_placed ts all order places)

@@ -24,11 +24,13 @@ again f formed = ap file_at (sym (file_spells f)) ∙ file_complete f formed
 pub one_file : (f g : File) → WellFormedFile f → WellFormedFile g → spell f ≡ spell g → f ≡ g
 one_file f g formed formed' same = some_is f g (sym (again f formed) ∙ ap file_at same ∙ again g formed')
 
+-- a file that is read is spelled
 pub found_is : (ks : List Lexeme) (f : File) → file_at ks ≡ Some f → Spells f ks
 found_is ks f e =
     let r = file_sound ks f e in
     record { spelled = r.0 ∙ file_spells f; formed = r.1 }
 
+-- a file that is read is well formed
 pub formed_is : (ks : List Lexeme) (f : File) → file_at ks ≡ Some f → WellFormedFile f
 formed_is ks f e = (file_sound ks f e).1
 
@@ -37,11 +39,13 @@ not_spelled ks h f s =
     let read : file_at ks ≡ Some f = ap file_at s.spelled ∙ again f s.formed in
     cc (h, read)
 
+-- if the reading is refused, no file is spelled
 pub refused_is : (ks : List Lexeme) (e : TextFault) → Fails e (file_at ks) → RefusesTokens e ((f : File) → Spells f ks → ⊥)
 refused_is ks e h = means_map e (not_spelled ks) h
 
 -- ---- texts
 
+-- if tokens spell a file, so does their text
 pub text_found : (text : List ℕ) (f : File) (ks : List Lexeme) → (text_limit < length text → ⊥) → tokens_of text ≡ Some ks → Spells f ks → TextSpells f text
 text_found text f ks long tokens s = record {
   short = elim (cases_lt text_limit (length text)) [ inl lt ↦ absurd (long lt) | inr le ↦ le ];
@@ -52,6 +56,7 @@ text_found text f ks long tokens s = record {
 no_tokens : (text : List ℕ) → tokens_of text ≡ None → (f : File) → TextSpells f text → ⊥
 no_tokens text h f s = let tokens = s.tokens in cc (h, tokens)
 
+-- a text that the lexer refuses spells no file
 pub lexing_refused : (text : List ℕ) (e : TextFault) → Refused text e → Refuses e ((f : File) → TextSpells f text → ⊥)
 lexing_refused text faults.Memory h = tt
 lexing_refused text faults.TooLong h = λ f s. let short = s.short in omega (arith, h, short)
@@ -64,6 +69,7 @@ lexing_refused text (faults.TooDeep at) h = absurd h
 other_text : (text : List ℕ) (ks : List Lexeme) → tokens_of text ≡ Some ks → ((f : File) → Spells f ks → ⊥) → (f : File) → TextSpells f text → ⊥
 other_text text ks tokens none f s = none f (record { spelled = some_is ks (spell f) (sym tokens ∙ s.tokens); formed = s.formed })
 
+-- a text whose tokens are refused spells no file
 pub text_refused : (text : List ℕ) (ks : List Lexeme) (e : TextFault) → tokens_of text ≡ Some ks → RefusesTokens e ((f : File) → Spells f ks → ⊥) → Refuses e ((f : File) → TextSpells f text → ⊥)
 text_refused text ks faults.Memory tokens h = tt
 text_refused text ks faults.TooLong tokens h = absurd h
@@ -73,6 +79,7 @@ text_refused text ks (faults.BadNumber at) tokens h = other_text text ks tokens 
 text_refused text ks (faults.Syntax at) tokens h = other_text text ks tokens h
 text_refused text ks (faults.TooDeep at) tokens h = other_text text ks tokens h
 
+-- a fault of the lexer may come of its text
 pub lexing_may_come : (text : List ℕ) (e : TextFault) → Refused text e → MayCome text e
 lexing_may_come text faults.Memory h = tt
 lexing_may_come text faults.TooLong h = h
@@ -85,6 +92,7 @@ lexing_may_come text (faults.TooDeep at) h = absurd h
 has_tokens : (text : List ℕ) (ks : List Lexeme) → tokens_of text ≡ Some ks → IsSome (tokens_of text)
 has_tokens text ks tokens = subst (λ (o : Option (List Lexeme)). IsSome o) (sym tokens) refl
 
+-- a fault of the grammar may come of its text
 pub parsing_may_come : (text : List ℕ) (ks : List Lexeme) (e : TextFault) → tokens_of text ≡ Some ks → RefusesTokens e ((f : File) → Spells f ks → ⊥) → MayCome text e
 parsing_may_come text ks faults.Memory tokens h = tt
 parsing_may_come text ks faults.TooLong tokens h = absurd h

@@ -185,14 +185,17 @@ star_spells : (all : Bool) (rest : List Lexeme) → onto_star all rest ≡ spell
 star_spells true rest = refl
 star_spells false rest = refl
 
+-- an import is spelled as its spelling says
 pub import_spells : (i : Import) (rest : List Lexeme) → onto_import i rest ≡ spell_import i ++ rest
 import_spells i rest =
     ap (cons (Reserved words.Import)) (dotted_spells i.path (onto_star i.all (Marked signs.Semicolon ∷ rest)) ∙ ap (on (spell_dotted i.path)) (star_spells i.all (Marked signs.Semicolon ∷ rest)) ∙ simp append_assoc)
 
+-- a package is spelled as its spelling says
 pub header_spells : (name : Option Dotted) (rest : List Lexeme) → onto_header name rest ≡ spell_package name ++ rest
 header_spells None rest = refl
 header_spells (Some name) rest = ap (cons (Reserved words.Package)) (dotted_spells name (Marked signs.Semicolon ∷ rest) ∙ sym (append_assoc (spell_dotted name) (Marked signs.Semicolon ∷ []) rest))
 
+-- a file is spelled as its spelling says
 pub file_spells : (f : File) → onto_file f [] ≡ spell f
 file_spells f =
     header_spells f.package_name (onto_all onto_import f.imports (onto_all onto_class_tree f.classes []))

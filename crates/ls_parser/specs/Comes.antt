@@ -5,7 +5,7 @@ use Rattle.ls_lexer.specs.declared.fault.TextFault.TheVariants as faults
 use Rattle.ls_lexer.specs.Places.{text_limit}
 use Rattle.ls_parser_tokens.specs.Answers.{MayCome}
 
--- each fault only of a text of which it may come, and of a text that is too long no other
+-- Each fault comes only of a text of which it may come. If a text is too long, no other fault comes.
 pub record Comes (text : List ℕ) (f : TextFault) : Type 0 where
   pub may : MayCome text f
   pub long : text_limit < length text → f ≡ faults.TooLong

@@ -37,7 +37,7 @@ constructor_at modifiers ks =
     name_at ks >>= λ name. parameters_at name.1 >>= λ parameters.
     block_at most_nodes parameters.1 >>= λ body. Some (Constructor modifiers name.0 parameters.0 body.0, body.1)
 
--- `synchronized`, and the modifiers behind it
+-- whether `synchronized` comes first
 abbrev pub starts_locked : List Lexeme → Bool
 starts_locked ks = is_some (after_word words.Synchronized ks)
 
@@ -47,27 +47,27 @@ locked_at ks = after_word words.Synchronized ks >>= λ rest. modifiers_at rest
 abbrev pub all_locked_at : Reader (List (List Modifier))
 all_locked_at ks = many_at starts_locked locked_at ks
 
--- behind modifiers and a result
+-- what comes after modifiers and a result
 abbrev pub method_at : List Modifier → List (List Modifier) → Option TypeName → Reader Member
 method_at modifiers locked result ks =
     name_at ks >>= λ name. parameters_at name.1 >>= λ parameters.
     block_at most_nodes parameters.1 >>= λ body. Some (Method modifiers locked result name.0 parameters.0 body.0, body.1)
 
--- behind modifiers and a type
+-- what comes after modifiers and a type
 abbrev pub typed_at : List Modifier → TypeName → Reader Member
 typed_at modifiers type_name ks =
     if starts_call ks
     then method_at modifiers [] (Some type_name) ks
     else (declarators_at (expression_at most_nodes) modifiers type_name ks >>= λ d. Some (Fields d.0, d.1))
 
--- behind modifiers
+-- what comes after modifiers
 abbrev pub unmodified_at : List Modifier → Reader Member
 unmodified_at modifiers ks =
     if starts_call ks then constructor_at modifiers ks else
     given (after_word words.Void ks) (λ rest. method_at modifiers [] None rest)
     (type_at ks >>= λ type_name. typed_at modifiers type_name.0 type_name.1)
 
--- behind the modifiers of what is synchronized: it is a method
+-- what comes after the modifiers of a synchronized member, which is a method
 abbrev pub locked_member_at : List Modifier → List (List Modifier) → Reader Member
 locked_member_at modifiers locked ks =
     if starts_call ks then None else
@@ -94,7 +94,7 @@ class_at ks =
     after_sign signs.OpenBrace name.1 >>= λ inside. many_at (not_yet signs.CloseBrace) member_at inside >>= λ members.
     after_sign signs.CloseBrace members.1 >>= λ end. Some (class_of modifiers.0 name.0 members.0, end)
 
--- a name behind a dot
+-- a name after a dot
 abbrev pub part_at : Reader Text
 part_at ks = after_sign signs.Dot ks >>= λ rest. name_at rest
 
@@ -104,7 +104,7 @@ dotted_of first more = record { first = first; more = more }
 abbrev pub dotted_at : (List Lexeme → Bool) → Reader Dotted
 dotted_at goes ks = name_at ks >>= λ first. many_at goes part_at first.1 >>= λ more. Some (dotted_of first.0 more.0, more.1)
 
--- what is left behind `.*`
+-- the tokens after `.*`
 abbrev pub after_star : List Lexeme → Option (List Lexeme)
 after_star ks = after_sign signs.Dot ks >>= λ rest. after_sign signs.Star rest
 
@@ -120,7 +120,7 @@ import_at ks =
     (λ behind. after_sign signs.Semicolon behind >>= λ end. Some (import_of path.0 true, end))
     (after_sign signs.Semicolon path.1 >>= λ end. Some (import_of path.0 false, end))
 
--- behind `package`
+-- what comes after `package`
 abbrev pub package_at : Reader Dotted
 package_at ks = dotted_at (not_yet signs.Semicolon) ks >>= λ name. after_sign signs.Semicolon name.1 >>= λ end. Some (name.0, end)
 

@@ -27,7 +27,8 @@ use ls_parser_tokens::tokens::{
 };
 use ls_tree::tree::{Block, Class, Constructor, Member, Method, Modifier, Name, Parameter, Type};
 
-/// The greatest height of a body or of a field's initialiser.
+/// The greatest height, in nodes, of a body or of a field's initialiser. A higher one is refused with the fault
+/// `TooDeep`.
 pub const MOST_NODES: usize = 128;
 
 // ---- parameters
@@ -53,7 +54,7 @@ fn parameter<'t, 'a>(
     })
 }
 
-// What stands behind an opening parenthesis.
+// What comes after an opening parenthesis: parameters, or none, and the closing one.
 #[tactic(auto, using(ls_parser_expressions::proofs::Repeats::group_none, ls_parser_expressions::proofs::Repeats::group_begins, ls_parser_expressions::proofs::Repeats::group_ends, ls_parser_expressions::proofs::Repeats::group_goes_on, crate::proofs::Places::no_parameter, crate::proofs::Places::first_parameter, crate::proofs::Places::group_is))]
 fn parameter_group<'t, 'a>(
     context: Context,
@@ -161,7 +162,7 @@ fn constructor<'t, 'a>(
     })
 }
 
-// What stands behind the modifiers and the result of a method; no result is `void`.
+// What comes after the modifiers and the result of a method. If there is no result, it is `void`.
 #[tactic(auto, using(crate::proofs::Steps::method_found, crate::proofs::Steps::method_fails, crate::proofs::Places::method_is))]
 fn method<'t, 'a>(
     context: Context,
@@ -187,7 +188,7 @@ fn method<'t, 'a>(
     })
 }
 
-// What stands behind the modifiers and a type. All the tokens begin with the modifiers.
+// What comes after the modifiers and a type. `all` begins with the modifiers.
 #[tactic(auto, using(crate::proofs::Places::fields_is))]
 fn typed<'t, 'a>(
     context: Context,
@@ -215,7 +216,7 @@ fn typed<'t, 'a>(
     })
 }
 
-// What stands behind the modifiers.
+// What comes after the modifiers. `all` begins with the modifiers.
 fn unmodified<'t, 'a>(
     context: Context,
     all: &'t [Token<'a>],
@@ -241,7 +242,7 @@ fn starts_locked(tokens: &[Token]) -> bool
     word_part(tokens, Word::Synchronized).is_some()
 }
 
-// Each `synchronized`, with the modifiers behind it.
+// Each `synchronized`, with the modifiers after it.
 #[tactic(auto, using(crate::proofs::Places::locked_none))]
 fn all_locked<'t, 'a>(
     context: Context,
@@ -276,7 +277,8 @@ fn one_locked<'t, 'a>(
     })
 }
 
-// What stands behind the modifiers of what is synchronized, the first of those words among the tokens at the front.
+// What comes after the modifiers of a synchronized member. `front` begins with its first `synchronized`. If it is no
+// method, the fault has that place.
 fn locked_member<'t, 'a>(
     context: Context,
     front: &'t [Token<'a>],

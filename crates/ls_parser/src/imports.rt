@@ -19,7 +19,7 @@ use ls_parser_tokens::tokens::{
 };
 use ls_tree::tree::{Dotted, Import, Name};
 
-// Names behind dots, up to a semicolon.
+// Names, each after a dot, up to a semicolon.
 #[tactic(auto, using(crate::proofs::Leaving::all_kept))]
 fn package_parts<'t, 'a>(
     context: Context,
@@ -38,7 +38,7 @@ fn package_parts<'t, 'a>(
     Ok(all)
 }
 
-// Names behind dots, up to a semicolon or `.*`.
+// Names, each after a dot, up to a semicolon or `.*`.
 #[tactic(auto, using(crate::proofs::Leaving::all_kept))]
 fn import_parts<'t, 'a>(
     context: Context,
@@ -73,7 +73,7 @@ fn one_part<'t, 'a>(
     })
 }
 
-// What is left behind `.*`.
+// The tokens after `.*`.
 #[tactic(auto, using(crate::proofs::Leaving::two_taken))]
 fn star_part<'t, 'a>(tokens: &'t [Token<'a>]) -> Option<&'t [Token<'a>]>
     ensures read { Finds (λ rest. lexemes rest.now) result (after_star (lexemes tokens.now)) }
@@ -90,7 +90,7 @@ fn more_path(tokens: &[Token]) -> bool
     !(starts_with(tokens, Sign::Semicolon) || star_part(tokens).is_some())
 }
 
-// What stands behind `import`.
+// What comes after `import`.
 #[tactic(auto, using(crate::proofs::Leaving::taken_then))]
 fn path<'t, 'a>(
     context: Context,
@@ -110,7 +110,7 @@ fn path<'t, 'a>(
     })
 }
 
-// An import, where a semicolon is left.
+// An import, of which only the semicolon is left to be read.
 #[tactic(auto, using(crate::proofs::Leaving::one_taken))]
 fn imported<'t, 'a>(
     context: Context,
@@ -151,6 +151,7 @@ fn starts_import(tokens: &[Token]) -> bool
     word_part(tokens, Word::Import).is_some()
 }
 
+/// The imports that the tokens begin with. Refused if one isn't whole, or if memory runs out.
 #[tactic(auto, using(crate::proofs::Leaving::all_kept))]
 pub fn imports<'t, 'a>(
     context: Context,
@@ -184,7 +185,7 @@ fn one_import<'t, 'a>(
     })
 }
 
-// What stands behind `package`.
+// What comes after `package`.
 #[tactic(auto, using(crate::proofs::Leaving::taken_then, crate::proofs::Leaving::then_closed))]
 fn package_name<'t, 'a>(
     context: Context,
@@ -205,7 +206,7 @@ fn package_name<'t, 'a>(
     })
 }
 
-/// The package, if one is named.
+/// The package, or none if the tokens don't begin with `package`.
 #[tactic(auto, using(crate::proofs::Leaving::all_kept, crate::proofs::Leaving::taken_then))]
 pub fn header<'t, 'a>(
     context: Context,

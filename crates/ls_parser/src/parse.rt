@@ -47,11 +47,13 @@ fn read_parts(context: Context, tokens: &[Token]) -> Result<Parts, TextFault>
     })
 }
 
-/// The file that the tokens spell: package, imports and classes (JLS 7.3 to 7.6), their members (JLS 8), statements
-/// (JLS 14, an `else` with the nearest `if` of 14.5) and expressions (JLS 15, operators of one rank to the left). A fault
-/// other than want of memory says that they spell none. `BadNumber` is 2147483648 without a minus before it (JLS 3.10.1),
-/// `TooDeep` a body or an initialiser over the greatest height, which is a limit of this profile, and `Syntax` all else, at
-/// the end of the last token where tokens are wanting.
+/// The file that the tokens spell. Its package, imports and classes follow JLS 7.3 to 7.6, its members JLS 8, its
+/// statements JLS 14, its expressions JLS 15. An `else` belongs to the nearest `if` (JLS 14.5), and operators of one
+/// rank group to the left.
+///
+/// Memory may run out. Any other fault says that the tokens spell no file. `BadNumber` is 2147483648 without a minus
+/// before it (JLS 3.10.1). `TooDeep` is a body or an initialiser over the greatest height, which is a limit of this
+/// profile. `Syntax` is all else. If tokens are missing, its place is the end of the last token.
 #[tactic(auto, using(crate::proofs::Files::found_is, crate::proofs::Files::formed_is, crate::proofs::Files::refused_is))]
 pub fn parse(alloc: Global, tokens: &[Token]) -> Result<ClassFile, TextFault>
     ensures found { IfOk result (λ f. Spells (bare_file f) (lexemes tokens.now)) }
@@ -66,10 +68,12 @@ pub fn parse(alloc: Global, tokens: &[Token]) -> Result<ClassFile, TextFault>
     Ok(ClassFile::new(parts.header, parts.imports, parts.classes))
 }
 
-/// The file that the text spells: the one of its tokens (JLS 3.5). A fault other than want of memory says that it spells
-/// none. `TooLong` comes exactly where the text has more than 262,144 bytes, which is a limit of this profile, and `BadByte`
-/// and `OpenComment` only where that fault stands behind gaps and tokens. `BadNumber` comes where it stands so too, or else,
-/// as `Syntax` and `TooDeep` do, of a text that has tokens, as `parse` says.
+/// The file that the text spells, which is the file of its tokens (JLS 3.5).
+///
+/// Memory may run out. Any other fault says that the text spells no file. `TooLong` comes exactly if the text has more
+/// than 262,144 bytes, which is a limit of this profile. `BadByte` and `OpenComment` come only if that fault is at its
+/// place, after gaps and tokens. `BadNumber` comes only if that fault is at its place, or if the text has tokens.
+/// `Syntax` and `TooDeep` come only of a text that has tokens, as `parse` says.
 #[tactic(auto, using(crate::proofs::Files::text_found, crate::proofs::FilePlaces::text_file, crate::proofs::Files::text_refused, crate::proofs::Files::lexing_refused, crate::proofs::Files::lexing_may_come, crate::proofs::Files::parsing_may_come))]
 pub fn parse_text(alloc: Global, text: &str) -> Result<ClassFile, TextFault>
     ensures found { IfOk result (λ f. TextSpells (bare_file f) text.now) }

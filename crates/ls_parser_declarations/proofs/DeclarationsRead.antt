@@ -24,6 +24,7 @@ cons k ks = k ∷ ks
 
 -- ---- modifiers and types
 
+-- a property that everything has
 abbrev pub Anything : {A : Type 0} → A → Type 0
 Anything x = Unit {0}
 
@@ -77,6 +78,7 @@ named_type_sound text ks x e =
       | inr other ↦ ap (λ (y : TypeName × List Lexeme). onto_type y.0 y.1) (some_is (Class text, ks) x other.1)
     ]
 
+-- a type that is read is spelled by its tokens
 pub type_sound : (ks : List Lexeme) (x : TypeName × List Lexeme) → type_at ks ≡ Some x → ks ≡ onto_type x.0 x.1
 type_sound ks x e =
     elim (given_cases (name_at ks) (λ name. named_type_at name.0 name.1) (given (after_word words.Int ks) (λ rest. Some (Int, rest)) (after_word words.Boolean ks >>= λ rest. boolean_at rest)) (Some x) e) [
@@ -92,6 +94,7 @@ type_sound ks x e =
 
 -- ---- declarations
 
+-- a declarator that is well formed and not too high
 abbrev pub FormedDeclarator : ℕ → Declarator → Type 0
 FormedDeclarator limit d = WellFormedValue d.value × (value_height d.value ≤ limit)
 
@@ -126,6 +129,7 @@ pub record ReadsDeclaration (limit : ℕ) (ks : List Lexeme) (x : Declaration ×
   pub formed : WellFormedDeclaration x.0
   pub fits : declarators_height (x.0.first ∷ x.0.more) ≤ limit
 
+-- declarators that are read are spelled by their tokens
 pub declarators_sound : (limit : ℕ) (modifiers : List Modifier) (type_name : TypeName) (whole ks : List Lexeme) (x : Declaration × List Lexeme)
     → whole ≡ onto_all onto_modifier modifiers (onto_type type_name ks) → declarators_at (expression_at limit) modifiers type_name ks ≡ Some x → ReadsDeclaration limit whole x
 declarators_sound limit modifiers type_name whole ks x before e =
@@ -141,6 +145,7 @@ declarators_sound limit modifiers type_name whole ks x before e =
       fits = omega (arith, first.1.1, formed.1);
     })
 
+-- a declaration that is read is spelled by its tokens
 pub declaration_sound : (limit : ℕ) (ks : List Lexeme) (x : Declaration × List Lexeme) → declaration_at (expression_at limit) ks ≡ Some x → ReadsDeclaration limit ks x
 declaration_sound limit ks x e =
     let m = bind_some (modifiers_at ks) _ x e in
@@ -152,5 +157,6 @@ declaration_sound limit ks x e =
 pub modifier_shrinks : Shrinks modifier_at
 modifier_shrinks ks x e = omega (arith, ap length (modifier_sound ks x e).0, modifier_longer x.0 x.1)
 
+-- a declarator takes a token
 pub declarator_shrinks : (limit : ℕ) → Shrinks (declarator_at (expression_at limit))
 declarator_shrinks limit ks x e = omega (arith, ap length (declarator_sound limit ks x e).0, declarator_longer x.0 x.1)

@@ -8,6 +8,7 @@ use Rattle.ls_parser_expressions.specs.ReadingExpressions.{markable_name}
 use Rattle.ls_parser_expressions.proofs.Onto.{onto, onto_class, onto_longer}
 use Rattle.ls_parser_expressions.proofs.Lists.{onto_all, onto_all_longer}
 
+-- a modifier, spelled onto tokens
 abbrev pub onto_modifier : Modifier → List Lexeme → List Lexeme
 onto_modifier Public rest = Reserved words.Public ∷ rest
 onto_modifier Protected rest = Reserved words.Protected ∷ rest
@@ -16,6 +17,7 @@ onto_modifier Final rest = Reserved words.Final ∷ rest
 onto_modifier Volatile rest = Reserved words.Volatile ∷ rest
 onto_modifier (Annotation name) rest = Marked signs.At ∷ Named name ∷ rest
 
+-- a type, spelled onto tokens
 abbrev pub onto_type : TypeName → List Lexeme → List Lexeme
 onto_type Int rest = Reserved words.Int ∷ rest
 onto_type Boolean rest = Reserved words.Boolean ∷ rest
@@ -23,16 +25,20 @@ onto_type BooleanArray rest = Reserved words.Boolean ∷ Marked signs.OpenBracke
 onto_type (Class name) rest = Named name ∷ rest
 onto_type (Markable name) rest = Named markable_name ∷ onto_class name rest
 
+-- the first value of a variable, spelled onto tokens
 abbrev pub onto_initial : Option Expression → List Lexeme → List Lexeme
 onto_initial None rest = rest
 onto_initial (Some value) rest = Marked signs.Assign ∷ onto value rest
 
+-- a declarator, spelled onto tokens
 abbrev pub onto_declarator : Declarator → List Lexeme → List Lexeme
 onto_declarator d rest = Named d.name ∷ onto_initial d.value rest
 
+-- a comma and a declarator, spelled onto tokens
 abbrev pub onto_next_declarator : Declarator → List Lexeme → List Lexeme
 onto_next_declarator d rest = Marked signs.Comma ∷ onto_declarator d rest
 
+-- a declaration, spelled onto tokens
 abbrev pub onto_declaration : Declaration → List Lexeme → List Lexeme
 onto_declaration d rest = onto_all onto_modifier d.modifiers (onto_type d.type_name (onto_declarator d.first (onto_all onto_next_declarator d.more (Marked signs.Semicolon ∷ rest))))
 
@@ -57,12 +63,15 @@ initial_longer : (value : Option Expression) (rest : List Lexeme) → length res
 initial_longer None rest = omega arith
 initial_longer (Some value) rest = omega (arith, onto_longer value rest)
 
+-- a declarator has a token
 pub declarator_longer : (d : Declarator) (rest : List Lexeme) → length rest < length (onto_declarator d rest)
 declarator_longer d rest = omega (arith, initial_longer d.value rest)
 
+-- so has a declarator after a comma
 pub next_declarator_longer : (d : Declarator) (rest : List Lexeme) → length rest < length (onto_next_declarator d rest)
 next_declarator_longer d rest = omega (arith, declarator_longer d rest)
 
+-- a declaration has a token
 pub declaration_longer : (d : Declaration) (rest : List Lexeme) → length rest < length (onto_declaration d rest)
 declaration_longer d rest =
     let ks1 : List Lexeme = onto_all onto_next_declarator d.more (Marked signs.Semicolon ∷ rest) in

@@ -37,14 +37,14 @@ modifier_at ks = given (modifier_word_at ks) (λ m. Some m) (annotation_at ks)
 abbrev pub modifiers_at : Reader (List Modifier)
 modifiers_at ks = many_at starts_modifier modifier_at ks
 
--- behind `boolean`
+-- what comes after `boolean`
 abbrev pub boolean_at : Reader TypeName
 boolean_at ks =
     given (after_sign signs.OpenBracket ks)
     (λ rest. after_sign signs.CloseBracket rest >>= λ end. Some (BooleanArray, end))
     (Some (Boolean, ks))
 
--- behind a name
+-- what comes after the name of a type
 abbrev pub named_type_at : Text → Reader TypeName
 named_type_at text ks =
     if is_markable text && starts signs.Less ks
@@ -71,7 +71,7 @@ declarator_at value ks =
 abbrev pub declaration_of : List Modifier → TypeName → Declarator → List Declarator → Declaration
 declaration_of modifiers type_name first more = record { modifiers = modifiers; type_name = type_name; first = first; more = more }
 
--- declarators behind commas, and a semicolon
+-- declarators, each after a comma, and a semicolon
 abbrev pub more_declarators_at : Reader Expression → Reader (List Declarator)
 more_declarators_at value ks =
     many_at (not_yet signs.Semicolon) (behind_comma (declarator_at value)) ks >>= λ more.
@@ -84,7 +84,7 @@ declarator_list_at value ks =
     many_at (not_yet signs.Semicolon) (behind_comma (declarator_at value)) first.1 >>= λ more.
     after_sign signs.Semicolon more.1 >>= λ rest. Some ((first.0, more.0), rest)
 
--- behind modifiers and a type
+-- what comes after modifiers and a type
 abbrev pub declarators_at : Reader Expression → List Modifier → TypeName → Reader Declaration
 declarators_at value modifiers type_name ks =
     declarator_at value ks >>= λ first.

@@ -60,6 +60,7 @@ fn modifier_part<'t, 'a>(tokens: &'t [Token<'a>]) -> Option<Read<'t, 'a, Modifie
     }
 }
 
+/// Whether a modifier comes first.
 pub fn starts_modifier(tokens: &[Token]) -> bool
     ensures { result ≡ starts_modifier (lexemes tokens.now) }
 {
@@ -85,6 +86,7 @@ fn modifier<'t, 'a>(
     })
 }
 
+/// The modifiers that the tokens begin with, or none. Refused if an annotation has no name, or if memory runs out.
 #[tactic(auto, using(crate::proofs::Places::modifiers_none))]
 pub fn modifiers<'t, 'a>(
     context: Context,
@@ -118,7 +120,7 @@ fn one_modifier<'t, 'a>(
     })
 }
 
-// What stands behind `boolean`.
+// What comes after `boolean`.
 #[tactic(auto, using(crate::proofs::Places::boolean_is, crate::proofs::Places::array_is))]
 fn boolean_type<'t, 'a>(
     context: Context,
@@ -163,6 +165,7 @@ fn named_type<'t, 'a>(
     }
 }
 
+/// The type that the tokens begin with. Refused if they begin with no type, or if memory runs out.
 #[tactic(auto, using(crate::proofs::Places::int_is))]
 pub fn type_name<'t, 'a>(
     context: Context,
@@ -259,8 +262,8 @@ fn one_declarator<'t, 'a>(
     })
 }
 
-// More declarators behind what is held already, and a semicolon. Generic over what is held: so its drop is that of a
-// parameter's type, where a step fails.
+// The declarators after the one that is held, and a semicolon. This is generic: if a step fails, dropping a
+// parameter's type is much less to prove than dropping a tree.
 #[tactic(auto, using(crate::proofs::Places::list_is))]
 fn with_declarators<'t, 'a, T: Drop>(
     context: Context,
@@ -296,8 +299,8 @@ fn declarator_list<'t, 'a>(
     with_declarators(context, first, limit)
 }
 
-// What stands behind the modifiers and the type, up to and with the semicolon. All the tokens begin with the
-// modifiers. The height is that of the highest initialiser, and each is at most as high as the limit.
+/// What comes after the modifiers and the type, up to and with the semicolon. `all` begins with the modifiers. The
+/// height is that of the highest initialiser. No initialiser is higher than the limit.
 #[tactic(auto, using(crate::proofs::Steps::list_found, crate::proofs::Steps::list_fails, crate::proofs::Places::declaration_is))]
 pub fn declarators<'t, 'a>(
     context: Context,
@@ -325,6 +328,8 @@ pub fn declarators<'t, 'a>(
     })
 }
 
+/// The declaration that the tokens begin with, up to and with the semicolon. Each initialiser has at most the height
+/// `limit`. Refused if the tokens don't begin with a declaration, if an initialiser is higher, or if memory runs out.
 pub fn declaration<'t, 'a>(
     context: Context,
     tokens: &'t [Token<'a>],
@@ -346,7 +351,8 @@ pub fn declaration<'t, 'a>(
     )
 }
 
-// Whether a declaration begins, and no statement: a modifier, a type by its word, two names, or a name and `<`.
+/// Whether a declaration begins, and not a statement. A declaration begins with a modifier, with the word of a type,
+/// with two names, or with a name and `<`.
 pub fn starts_declaration(tokens: &[Token]) -> bool
     ensures { result ≡ starts_declaration (lexemes tokens.now) }
 {

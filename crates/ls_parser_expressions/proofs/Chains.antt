@@ -35,24 +35,28 @@ unfolding binary_at
 binary_zero zero limit operand ks e = refl
 binary_zero (suc low) limit operand ks e = absurd (omega arith)
 
+-- one operator more, with a higher expression
 pub chain_goes_on : {goes : List Lexeme → Bool} {step : Expression → Reader Expression} {limit : ℕ} {left : Expression} {ks : List Lexeme} {whole : Option (Expression × List Lexeme)} {t : Expression} {rest : List Lexeme}
     → InRepeat goes step (limit - expression_height left) left ks whole → goes ks ≡ true → step left ks ≡ Some (t, rest) → expression_height left < expression_height t → expression_height t ≤ limit
     → InRepeat goes step (limit - expression_height t) t rest whole
 chain_goes_on {goes} {step} {limit} {left} {ks} {whole} {t} {rest} r h e grows fits = repeat_goes_on (limit - expression_height t) r h e (omega arith)
 
--- the chain of a rank, behind what is read of all ranks that bind more tightly
+-- the chain of a rank, after what is read of all ranks that bind more tightly
 abbrev pub InChain : ℕ → ℕ → Reader Expression → List Lexeme → Expression → List Lexeme → Type 0
 InChain rank limit operand ks left rest =
     InRepeat (has_operator rank) (joined_at rank limit (binary_at (rank - 1) limit operand)) (limit - expression_height left) left rest (binary_at rank limit operand ks)
 
+-- the first operand begins the chain of rank 1
 pub chain_starts : (limit : ℕ) (operand : Reader Expression) (ks : List Lexeme) (left : Expression) (rest : List Lexeme) → operand ks ≡ Some (left, rest) → InChain 1 limit operand ks left rest
 chain_starts limit operand ks left rest e =
     let first : binary_at (1 - 1) limit operand ks ≡ Some (left, rest) = binary_zero (1 - 1) limit operand ks (omega arith) ∙ e in
     chain_begins 1 limit operand ks left rest (omega arith) first
 
+-- at rank 0 there is the operand alone
 pub operand_alone : (wanted limit : ℕ) (operand : Reader Expression) (ks : List Lexeme) (left : Expression) (rest : List Lexeme) → wanted < 1 → operand ks ≡ Some (left, rest) → binary_at wanted limit operand ks ≡ Some (left, rest)
 operand_alone wanted limit operand ks left rest lt e = binary_zero wanted limit operand ks (omega arith) ∙ e
 
+-- if no operator of a rank follows, the chain of the next rank begins
 pub chain_climbs : (rank limit : ℕ) (operand : Reader Expression) (ks : List Lexeme) (left : Expression) (rest : List Lexeme) → InChain rank limit operand ks left rest → has_operator rank rest ≡ false
     → InChain (rank + 1) limit operand ks left rest
 chain_climbs rank limit operand ks left rest r h =
@@ -61,6 +65,7 @@ chain_climbs rank limit operand ks left rest r h =
     let first : binary_at (rank + 1 - 1) limit operand ks ≡ Some (left, rest) = ap (λ (n : ℕ). binary_at n limit operand ks) is ∙ read in
     chain_begins (rank + 1) limit operand ks left rest (omega arith) first
 
+-- if no operator of the wanted rank follows, the chain is read
 pub chain_ends : (rank wanted limit : ℕ) (operand : Reader Expression) (ks : List Lexeme) (left : Expression) (rest : List Lexeme) → rank ≤ wanted → wanted < rank + 1 → InChain rank limit operand ks left rest → has_operator rank rest ≡ false
     → binary_at wanted limit operand ks ≡ Some (left, rest)
 chain_ends rank wanted limit operand ks left rest up most r h =
@@ -81,11 +86,13 @@ fails_climbs e rank wanted limit operand ks up h =
     let is : wanted - rank + rank ≡ wanted = omega arith in
     fails_rises e (wanted - rank) rank wanted limit operand ks is h
 
+-- if the first operand fails, so does the chain
 pub fails_starts : (e : TextFault) (wanted limit : ℕ) (operand : Reader Expression) (ks : List Lexeme) → Fails e (operand ks) → Fails e (binary_at wanted limit operand ks)
 fails_starts e wanted limit operand ks h = fails_climbs e 0 wanted limit operand ks (omega arith) (subst (Fails e) (sym (binary_zero 0 limit operand ks refl)) h)
 
 -- ---- one operator more
 
+-- an operator and its right operand are joined to the left one
 pub joined_is : (wanted limit : ℕ) (operand : Reader Expression) (left : Expression) (op : BinaryOp) (right : Expression) (ks more rest : List Lexeme) → operator_at wanted ks ≡ Some (op, more) → operand more ≡ Some (right, rest)
     → expression_height left < limit → expression_height right < limit → joined_at wanted limit operand left ks ≡ Some (Binary op left right, rest)
 joined_is wanted limit operand left op right ks more rest o e low low' =
@@ -93,12 +100,14 @@ joined_is wanted limit operand left op right ks more rest o e low low' =
     let yes' : leb (expression_height right + 1) limit ≡ true = le-leb _ _ (omega arith) in
     rw (o, yes, e, yes') refl
 
+-- if the left operand is too high, nothing is joined
 pub left_too_high : (wanted limit : ℕ) (operand : Reader Expression) (left : Expression) (op : BinaryOp) (ks more : List Lexeme) → operator_at wanted ks ≡ Some (op, more)
     → limit ≤ expression_height left → joined_at wanted limit operand left ks ≡ None
 left_too_high wanted limit operand left op ks more o high =
     let no : leb (expression_height left + 1) limit ≡ false = lt-leb _ _ (omega arith) in
     rw (o, no) refl
 
+-- if the right operand is too high, nothing is joined
 pub right_too_high : (wanted limit : ℕ) (operand : Reader Expression) (left : Expression) (op : BinaryOp) (right : Expression) (ks more rest : List Lexeme) → operator_at wanted ks ≡ Some (op, more) → operand more ≡ Some (right, rest)
     → expression_height left < limit → limit ≤ expression_height right → joined_at wanted limit operand left ks ≡ None
 right_too_high wanted limit operand left op right ks more rest o e low high =
@@ -108,6 +117,7 @@ right_too_high wanted limit operand left op right ks more rest o e low high =
 
 -- ---- the first token of an operand
 
+-- an operand by its first token
 pub unary_step : (limit : ℕ) (after_minus : Bool) (k : Lexeme) (ks : List Lexeme) → 0 < limit → unary_at limit after_minus (k ∷ ks) ≡ given (unary_of k) (λ op. signed_at op (unary_at (limit - 1) (is_minus op)) ks) (post_at limit after_minus (k ∷ ks))
 unfolding unary_at post_at
 unary_step zero after_minus k ks lt = absurd (omega arith)
@@ -115,12 +125,14 @@ unary_step (suc limit) after_minus k ks lt =
     let is : suc limit - 1 ≡ limit = omega arith in
     rw is refl
 
+-- no token is no operand
 pub unary_nothing : (limit : ℕ) (after_minus : Bool) (tokens : List Token) → length tokens ≡ 0 → unary_at limit after_minus (lexemes tokens) ≡ None
 unfolding unary_at
 unary_nothing zero after_minus tokens h = refl
 unary_nothing (suc limit) after_minus [] h = refl
 unary_nothing (suc limit) after_minus (t ∷ ts) h = absurd (omega arith)
 
+-- in no height there is no operand
 pub unary_zero : (limit : ℕ) (after_minus : Bool) (ks : List Lexeme) → limit ≡ 0 → unary_at limit after_minus ks ≡ None
 unfolding unary_at
 unary_zero zero after_minus ks e = refl

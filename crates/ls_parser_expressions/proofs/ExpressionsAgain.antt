@@ -29,18 +29,22 @@ pub record Follow (most : ℕ) (ks : List Lexeme) : Type 0 where
   pub bracket : after_sign signs.OpenBracket ks ≡ None
   pub paren : after_sign signs.OpenParen ks ≡ None
 
+-- a closing parenthesis may follow an expression
 pub follow_close : (most : ℕ) (ks : List Lexeme) → Follow most (Marked signs.CloseParen ∷ ks)
 follow_close most ks = record { operators = λ wanted le. refl; dot = refl; bracket = refl; paren = refl }
 
+-- so may a comma
 pub follow_comma : (most : ℕ) (ks : List Lexeme) → Follow most (Marked signs.Comma ∷ ks)
 follow_comma most ks = record { operators = λ wanted le. refl; dot = refl; bracket = refl; paren = refl }
 
 pub follow_bracket : (most : ℕ) (ks : List Lexeme) → Follow most (Marked signs.CloseBracket ∷ ks)
 follow_bracket most ks = record { operators = λ wanted le. refl; dot = refl; bracket = refl; paren = refl }
 
+-- so may a semicolon
 pub follow_semicolon : (most : ℕ) (ks : List Lexeme) → Follow most (Marked signs.Semicolon ∷ ks)
 follow_semicolon most ks = record { operators = λ wanted le. refl; dot = refl; bracket = refl; paren = refl }
 
+-- so may an assignment sign
 pub follow_assign : (most : ℕ) (ks : List Lexeme) → Follow most (Marked signs.Assign ∷ ks)
 follow_assign most ks = record { operators = λ wanted le. refl; dot = refl; bracket = refl; paren = refl }
 
@@ -139,6 +143,7 @@ pub record Begins (Good : Lexeme → Type 0) : Type 0 where
 abbrev pub Head : (Lexeme → Type 0) → List Lexeme → Type 0
 Head Good ks = (k : Lexeme) × (more : List Lexeme) × (ks ≡ k ∷ more) × Good k
 
+-- a postfix expression begins with a token that expressions begin with
 pub post_head : (Good : Lexeme → Type 0) → Begins Good → (after_minus : Bool) (t : Expression) (rest : List Lexeme) → is_post t ≡ true → WellFormed after_minus t → Head Good (onto t rest)
 post_head Good b after_minus (Number text) rest post formed = (_, _, refl, b.number text)
 post_head Good b after_minus True rest post formed = (_, _, refl, b.yes')
@@ -194,6 +199,7 @@ not_semicolon_unary : (op : UnaryOp) → NotSemicolon (Marked (sign_of_unary op)
 not_semicolon_unary unary.Minus ks = refl
 not_semicolon_unary unary.Not ks = refl
 
+-- an expression doesn't begin with a semicolon
 pub no_semicolon : (t : Expression) (rest : List Lexeme) → after_sign signs.Semicolon (onto t rest) ≡ None
 no_semicolon t rest =
     let h = expression_head NotSemicolon (record { number = λ text ks. refl; name = λ text ks. refl; yes' = λ ks. refl; no' = λ ks. refl; null = λ ks. refl; this = λ ks. refl; new = λ ks. refl; paren = λ ks. refl }) not_semicolon_unary t rest in
@@ -237,7 +243,7 @@ chain_goes_on turns limit wanted operand op left right rest is reads fits =
     ∙ rw (joined_again wanted limit operand op left right rest is reads fits) refl
 
 module _ (low limit : ℕ) (operand : Reader Expression) (complete : Complete (binary_at low limit operand) false low limit) where
-  -- reading a tree of the rank comes to a point in a chain, with the tree on its left
+  -- reading a tree of the rank reaches a point in a chain, with the tree on its left
   abbrev Comes : Expression → List Lexeme → Type 0
   Comes t rest = (turns : ℕ) × (limit ≤ turns + expression_height t) × (binary_at (suc low) limit operand (onto t rest) ≡ repeat turns (has_operator (suc low)) (joined_at (suc low) limit (binary_at low limit operand)) t rest)
 
@@ -355,7 +361,7 @@ module _ (limit : ℕ) (whole : Reader Expression) (complete : Complete whole fa
     abbrev go : ℕ → Expression → Reader Expression
     go turns left ks = repeat turns has_suffix (suffix_at (suc limit) whole) left ks
 
-    -- reading a tree comes to a point among its suffixes, with the tree on the left
+    -- reading a tree reaches a point among its suffixes, with the tree on the left
     abbrev ComesPost : Expression → List Lexeme → Type 0
     ComesPost t rest = (turns : ℕ) × (suc limit ≤ turns + expression_height t) × (post_of (suc limit) after_minus whole (onto t rest) ≡ go turns t rest)
 
@@ -439,9 +445,11 @@ unary_complete (suc limit) after_minus (Unary op operand) rest formed ranked fit
 unary_complete (suc limit) after_minus (Binary op left right) rest formed ranked fits follow = absurd (omega (arith, rank_pos op))
 unary_complete (suc limit) after_minus t rest formed ranked fits follow = post_again limit (unary_complete limit false) after_minus t rest refl formed fits follow
 
+-- an expression that is spelled is read again
 pub expression_complete : (limit : ℕ) (t : Expression) (rest : List Lexeme) → WellFormed false t → expression_height t ≤ limit → Follow 6 rest → expression_at limit (onto t rest) ≡ Some (t, rest)
 expression_complete limit t rest formed fits follow = binary_complete 6 limit (unary_at limit false) (unary_complete limit false) t rest formed (ranked_six t) fits follow
 
+-- so is a postfix expression
 pub post_complete : (limit : ℕ) (t : Expression) (rest : List Lexeme) → is_post t ≡ true → WellFormed false t → expression_height t ≤ limit → Follow 0 rest → post_at limit false (onto t rest) ≡ Some (t, rest)
 unfolding post_at
 post_complete zero t rest post formed fits follow = absurd (omega (arith, height_pos t))

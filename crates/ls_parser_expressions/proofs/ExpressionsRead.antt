@@ -432,6 +432,7 @@ unary_sound (suc limit) after_minus (k ∷ ks) x e =
           subst (λ (l : Lexeme). Reads after_minus 0 (suc limit) (l ∷ ks) x) (sym (unary_spells k op.0 op.1)) (signed_sound limit op.0 (unary_at limit (is_minus op.0)) after_minus (unary_sound limit (is_minus op.0)) ks x op.2)
     ]
 
+-- an expression that is read is spelled by its tokens
 pub expression_sound : (limit : ℕ) → Sound (expression_at limit) false 6 limit
 expression_sound limit = binary_sound 6 limit (unary_at limit false) (unary_sound limit false)
 
@@ -442,6 +443,7 @@ pub record ReadsTarget (after_minus : Bool) (limit : ℕ) (ks : List Lexeme) (x 
   pub post : is_post x.0 ≡ true
   pub fits : expression_height x.0 ≤ limit
 
+-- so is a postfix expression
 pub post_sound : (limit : ℕ) (after_minus : Bool) (ks : List Lexeme) (x : Expression × List Lexeme) → post_at limit after_minus ks ≡ Some x → ReadsTarget after_minus limit ks x
 unfolding post_at
 post_sound zero after_minus ks x e = absurd cc
@@ -449,6 +451,7 @@ post_sound (suc limit) after_minus ks x e =
     let p = post_of_sound limit (expression_at limit) (expression_sound limit) after_minus ks x e in
     record { spelled = p.spelled; formed = p.formed; post = p.post; fits = p.fits }
 
+-- an expression takes a token
 pub expression_shrinks : (limit : ℕ) → Shrinks (expression_at limit)
 expression_shrinks limit ks x e =
     let r = expression_sound limit ks x e in

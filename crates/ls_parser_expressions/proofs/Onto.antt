@@ -12,6 +12,7 @@ abbrev pub onto_class : Text → List Lexeme → List Lexeme
 onto_class name rest = Marked signs.Less ∷ Named name ∷ Marked signs.Greater ∷ rest
 
 abbrev mutual
+  -- an expression, spelled onto tokens
   pub onto : Expression → List Lexeme → List Lexeme
   onto (Number text) rest = Numeral text ∷ rest
   onto True rest = Reserved words.True ∷ rest
@@ -35,6 +36,7 @@ abbrev mutual
   onto_expressions NoExpression rest = Marked signs.CloseParen ∷ rest
   onto_expressions (MoreExpressions first others) rest = onto first (onto_others others rest)
 
+  -- a comma before each expression, spelled onto tokens
   pub onto_others : Expressions → List Lexeme → List Lexeme
   onto_others NoExpression rest = Marked signs.CloseParen ∷ rest
   onto_others (MoreExpressions first others) rest = Marked signs.Comma ∷ onto first (onto_others others rest)
@@ -46,6 +48,7 @@ abbrev close : List Lexeme → List Lexeme
 close rest = Marked signs.CloseParen ∷ rest
 
 mutual
+  -- an expression is spelled as its spelling says
   pub onto_spells : (t : Expression) (rest : List Lexeme) → onto t rest ≡ spell_expression t ++ rest
   onto_spells (Number text) rest = refl
   onto_spells True rest = refl
@@ -94,11 +97,13 @@ mutual
       ∙ sym (append_assoc (spell_expression first) (spell_others others ++ Marked signs.CloseParen ∷ []) rest)
       ∙ ap (λ (ks : List Lexeme). ks ++ rest) (sym (append_assoc (spell_expression first) (spell_others others) (Marked signs.CloseParen ∷ []))))
 
+-- how many expressions these are
 abbrev pub count : Expressions → ℕ
 count NoExpression = 0
 count (MoreExpressions first others) = count others + 1
 
 mutual
+  -- an expression has a token
   pub onto_longer : (t : Expression) (rest : List Lexeme) → length rest < length (onto t rest)
   onto_longer (Number text) rest = omega arith
   onto_longer True rest = omega arith

@@ -21,12 +21,15 @@ held_is : (o : Option (Box Expr)) → placed_held (back-Expr-Call-0 o) ≡ place
 held_is None = refl
 held_is (Some b) = refl
 
+-- a call with places
 pub call_placed : (o : Option (Box Expr)) (name : Name) (v : Vec Expr) (span : Span) → placed (exprs.Call o name v span) ≡ call_of (placed_target o) (placed_name name) (placed_all v.items) span
 call_placed o name v span = λ i. call_of (held_is o i) (placed_name name) (row_of_vec v i) span
 
+-- a making of an object with places
 pub new_placed : (name : Name) (v : Vec Expr) (span : Span) → placed (exprs.New name v span) ≡ trees.New (placed_name name) (placed_all v.items) span
 new_placed name v span = ap (λ (es : Expressions). trees.New (placed_name name) es span) (row_of_vec v)
 
+-- a making of a markable reference with places
 pub new_markable_placed : (name : Name) (v : Vec Expr) (span : Span) → placed (exprs.NewMarkable name v span) ≡ trees.NewMarkable (placed_name name) (placed_all v.items) span
 new_markable_placed name v span = ap (λ (es : Expressions). trees.NewMarkable (placed_name name) es span) (row_of_vec v)
 
@@ -35,6 +38,7 @@ abbrev pub snoc : Expressions → Expression → Expressions
 snoc End e = More e End
 snoc (More x es) e = More x (snoc es e)
 
+-- one argument more
 pub all_push : (es : List Expr) (e : Expr) → placed_all (es ++ e ∷ []) ≡ snoc (placed_all es) (placed e)
 all_push [] e = refl
 all_push (x ∷ es) e = ap (More (placed x)) (all_push es e)

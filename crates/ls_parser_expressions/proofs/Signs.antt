@@ -10,6 +10,7 @@ use Rattle.ls_lexer.specs.Lexemes.{Lexeme, Named, Numeral, Reserved, Marked}
 use Rattle.ls_tree.specs.Trees.{Text}
 use Rattle.ls_parser_tokens.specs.Reading.{given, after_sign, after_word, name_at}
 
+-- if a value comes only under a test and there is one, the test is true
 pub guard_some : {A : Type 0} (b : Bool) (x y : A) → cond b (Some x) None ≡ Some y → (b ≡ true) × (x ≡ y)
 guard_some true x y e = (refl, cc)
 guard_some false x y e = absurd cc
@@ -19,6 +20,7 @@ pub guarded : {A : Type 0} (b : Bool) (o : Option A) (y : A) → cond b o None �
 guarded true o y e = (refl, e)
 guarded false o y e = absurd cc
 
+-- if a conjunction is true, both parts are true
 pub both_true : (a b : Bool) → (a && b) ≡ true → (a ≡ true) × (b ≡ true)
 both_true true b h = (refl, h)
 both_true false b h = absurd cc
@@ -28,10 +30,12 @@ pub either : {A : Type 0} (b : Bool) (o p : A) (y : A) → cond b o p ≡ y → 
 either true o p y e = inl (refl, e)
 either false o p y e = inr (refl, e)
 
+-- a value is there, or none is
 pub given_cases : {A B : Type 0} (o : Option A) (go : A → B) (other y : B) → given o go other ≡ y → ((o ≡ None) × (other ≡ y)) ⊎ ((x : A) × (o ≡ Some x) × (go x ≡ y))
 given_cases None go other y e = inl (refl, e)
 given_cases (Some x) go other y e = inr (x, refl, e)
 
+-- if a sign is read, it is the first token
 pub sign_reads : (wanted : Sign) (ks rest : List Lexeme) → after_sign wanted ks ≡ Some rest → ks ≡ Marked wanted ∷ rest
 sign_reads wanted [] rest e = absurd cc
 sign_reads wanted (Named text ∷ ks) rest e = absurd cc
@@ -41,6 +45,7 @@ sign_reads wanted (Marked sign ∷ ks) rest e =
     let g = guard_some (sameb sign_type sign wanted) ks rest e in
     (λ i. Marked (same_true sign_type tt sign wanted g.0 i) ∷ g.1 i)
 
+-- if a word is read, it is the first token
 pub word_reads : (wanted : Word) (ks rest : List Lexeme) → after_word wanted ks ≡ Some rest → ks ≡ Reserved wanted ∷ rest
 word_reads wanted [] rest e = absurd cc
 word_reads wanted (Named text ∷ ks) rest e = absurd cc
@@ -50,6 +55,7 @@ word_reads wanted (Reserved word ∷ ks) rest e =
     let g = guard_some (sameb word_type word wanted) ks rest e in
     (λ i. Reserved (same_true word_type tt word wanted g.0 i) ∷ g.1 i)
 
+-- if a name is read, it is the first token
 pub name_reads : (ks : List Lexeme) (x : Text × List Lexeme) → name_at ks ≡ Some x → ks ≡ Named x.0 ∷ x.1
 name_reads [] x e = absurd cc
 name_reads (Named text ∷ ks) x e =

@@ -40,7 +40,7 @@ operator wanted (Named text) = None
 operator wanted (Numeral text) = None
 operator wanted (Reserved word) = None
 
--- an operator of this rank, and what is left
+-- an operator of this rank, and the tokens after it
 abbrev pub operator_at : ℕ → Reader BinaryOp
 operator_at wanted [] = None
 operator_at wanted (k ∷ ks) = operator wanted k >>= λ op. Some (op, ks)
@@ -51,7 +51,7 @@ has_operator wanted ks = is_some (operator_at wanted ks)
 abbrev pub below : ℕ → Expression → Bool
 below limit t = nat_le (expression_height t + 1) limit
 
--- an operator of a rank and its right operand, under it with left
+-- an operator of a rank and its right operand; the operator is the root, and `left` its left operand
 abbrev pub joined_at : ℕ → ℕ → Reader Expression → Expression → Reader Expression
 joined_at wanted limit operand left ks =
     operator_at wanted ks >>= λ op.
@@ -64,7 +64,7 @@ binary_at (suc low) limit operand ks =
     binary_at low limit operand ks >>= λ left.
     repeat limit (has_operator (suc low)) (joined_at (suc low) limit (binary_at low limit operand)) left.0 left.1
 
--- ---- what stands behind a primary
+-- ---- what comes after a primary
 
 abbrev pub arguments_at : Reader Expression → Reader Expressions
 arguments_at whole ks = group_at whole ks >>= λ ts. Some (listed ts.0, ts.1)
@@ -72,7 +72,7 @@ arguments_at whole ks = group_at whole ks >>= λ ts. Some (listed ts.0, ts.1)
 abbrev pub has_suffix : List Lexeme → Bool
 has_suffix ks = starts signs.Dot ks || starts signs.OpenBracket ks
 
--- behind a dot
+-- what comes after a dot
 abbrev pub member_at : Reader Expression → Expression → Reader Expression
 member_at whole left ks =
     name_at ks >>= λ name. given (after_sign signs.OpenParen name.1)
@@ -130,7 +130,7 @@ is_largest text = bytes_eq text largest
 abbrev pub number_here : Bool → Text → Reader Expression
 number_here after_minus text ks = if after_minus || not (is_largest text) then Some (Number text, ks) else None
 
--- behind a name
+-- what comes after a name
 abbrev pub named_at : Reader Expression → Text → Reader Expression
 named_at whole text ks =
     given (after_sign signs.OpenParen ks)
@@ -153,14 +153,14 @@ class_at ks =
     after_sign signs.Less ks >>= λ rest. name_at rest >>= λ name.
     after_sign signs.Greater name.1 >>= λ end. Some (name.0, end)
 
--- behind `new` and a name
+-- what comes after `new` and a name
 abbrev pub object_at : Reader Expression → Text → Reader Expression
 object_at whole text ks =
     if is_markable text && starts signs.Less ks
     then (class_at ks >>= λ name. made_at whole (NewMarkable name.0) name.1)
     else made_at whole (New text) ks
 
--- behind `new`
+-- what comes after `new`
 abbrev pub new_at : Reader Expression → Reader Expression
 new_at whole ks =
     given (name_at ks)
@@ -182,7 +182,7 @@ abbrev pub primary_at : Bool → Reader Expression → Reader Expression
 primary_at after_minus whole [] = None
 primary_at after_minus whole (k ∷ ks) = primary_from (start_of k) after_minus whole ks
 
--- a primary and what stands behind it, at most so high
+-- a primary and what comes after it, of at most this height
 abbrev pub post_of : ℕ → Bool → Reader Expression → Reader Expression
 post_of limit after_minus whole ks =
     primary_at after_minus whole ks >>= λ left. repeat limit has_suffix (suffix_at limit whole) left.0 left.1
@@ -200,7 +200,7 @@ unary_of (Named text) = None
 unary_of (Numeral text) = None
 unary_of (Reserved word) = None
 
--- what stands behind a unary operator, under it
+-- what comes after a unary operator, which is the root of the answer
 abbrev pub signed_at : UnaryOp → Reader Expression → Reader Expression
 signed_at op operand ks = operand ks >>= λ e. Some (Unary op e.0, e.1)
 
@@ -215,7 +215,7 @@ unary_at (suc limit) after_minus (k ∷ ks) =
 abbrev pub expression_at : ℕ → Reader Expression
 expression_at limit = binary_at 6 limit (unary_at limit false)
 
--- one without an operator
+-- an expression without an operator
 unfoldable pub post_at : ℕ → Bool → Reader Expression
 post_at zero after_minus ks = None
 post_at (suc limit) after_minus ks = post_of (suc limit) after_minus (expression_at limit) ks

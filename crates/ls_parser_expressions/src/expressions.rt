@@ -1,4 +1,4 @@
-// Expressions, but for their suffixes.
+// Expressions without their suffixes.
 
 ghost use Rattle.std.specs.Prelude.{◌≡◌, ◌+◌, ◌-◌, ◌<◌, ◌≤◌, ◌^◌, ◌∷◌, List, IfOk, false};
 ghost use Rattle.ls_lexer.specs.Lexemes.{Named, Reserved, lexemes};
@@ -28,7 +28,8 @@ use ls_parser_tokens::tokens::{
 };
 use ls_tree::tree::{BinaryOp, Expr, UnaryOp};
 
-// A chain of each rank in turn, from those that bind most tightly: what is read of one rank is the first operand of the next.
+/// A chain of operators of each rank in turn, from the rank that binds most tightly. What is read of one rank is the
+/// first operand of the next.
 #[cycle(expressions)]
 #[tactic(auto, using(crate::proofs::Chains::chain_starts, crate::proofs::Chains::operand_alone, crate::proofs::Chains::fails_starts, crate::proofs::Chains::chain_goes_on))]
 pub fn binary<'t, 'a>(
@@ -54,7 +55,7 @@ pub fn binary<'t, 'a>(
     Ok(left)
 }
 
-// An operator and a right operand, under it with what stands on the left.
+// An operator and its right operand. The operator is the root of the answer, and `left` is its left operand.
 #[cycle(expressions)]
 #[tactic(auto, using(crate::proofs::Places::binary_is))]
 fn joined<'t, 'a>(
@@ -78,7 +79,7 @@ fn joined<'t, 'a>(
     })
 }
 
-// The operator and the right operand of what stands on the left.
+// An operator and its right operand, where `left` comes before the operator.
 #[cycle(expressions)]
 #[tactic(auto, using(crate::proofs::Chains::joined_is, crate::proofs::Chains::left_too_high, crate::proofs::Chains::right_too_high, crate::proofs::Places::operand_is))]
 fn operand<'t, 'a>(
@@ -134,7 +135,7 @@ fn unary<'t, 'a>(
     }
 }
 
-// What stands behind the sign of a unary operator, under it.
+// What comes after the sign of a unary operator. The operator is the root of the answer.
 #[cycle(expressions)]
 #[tactic(auto, using(crate::proofs::Places::unary_is))]
 fn signed<'t, 'a>(
@@ -221,7 +222,7 @@ fn primary<'t, 'a>(
     })
 }
 
-// What begins by a name: the name or a call.
+// What begins with a name: the name or a call.
 #[cycle(expressions)]
 #[tactic(auto, using(crate::proofs::Places::name_is, crate::proofs::Places::call_is))]
 fn named<'t, 'a>(
@@ -281,7 +282,7 @@ fn paren<'t, 'a>(
     })
 }
 
-// What stands behind `new`.
+// What comes after `new`.
 #[cycle(expressions)]
 #[tactic(auto, using(crate::proofs::Places::new_array_is))]
 fn made<'t, 'a>(
@@ -310,7 +311,7 @@ fn made<'t, 'a>(
     })
 }
 
-// A class's name behind `new`, and what stands behind it.
+// The name of a class after `new`, and what comes after that name.
 #[cycle(expressions)]
 #[tactic(auto, using(crate::proofs::Places::new_is, crate::proofs::Places::new_markable_is))]
 fn object<'t, 'a>(

@@ -22,6 +22,7 @@ use std::alloc::AllocError;
 
 // ---- operators
 
+/// The binary operator of a sign, or none.
 pub fn operator_of(sign: Sign) -> Option<BinaryOp>
     ensures read { result ≡ operator_of_sign sign }
     ensures spelled { IfSome result (λ op. sign_of op ≡ sign) }
@@ -44,7 +45,7 @@ pub fn operator_of(sign: Sign) -> Option<BinaryOp>
     }
 }
 
-// How loosely it binds: 6 most loosely.
+/// How loosely an operator binds, from 1 (most tightly) to 6 (most loosely).
 pub fn rank(op: BinaryOp) -> usize
     ensures { result ≡ rank_of op }
 {
@@ -58,7 +59,7 @@ pub fn rank(op: BinaryOp) -> usize
     }
 }
 
-/// An operator, where it stands, and the tokens behind it.
+/// An operator, its span, and the tokens after it.
 #[derive(Clone, Copy)]
 pub struct Operator<'t, 'a> {
     pub op: BinaryOp,
@@ -66,6 +67,7 @@ pub struct Operator<'t, 'a> {
     pub rest: &'t [Token<'a>],
 }
 
+/// The operator of this rank that the tokens begin with, or none.
 #[inline(always)]
 #[tactic(auto, using(crate::proofs::Places::operator_stands))]
 pub fn operator_part<'t, 'a>(tokens: &'t [Token<'a>], wanted: usize) -> Option<Operator<'t, 'a>>
@@ -92,7 +94,8 @@ pub fn operator_part<'t, 'a>(tokens: &'t [Token<'a>], wanted: usize) -> Option<O
     }
 }
 
-// Asked once for each rank behind each operand, so it makes no `Operator`.
+/// Whether an operator of this rank comes first. This is asked once for each rank after each operand, so it makes no
+/// `Operator`.
 #[inline(always)]
 pub fn has_operator(tokens: &[Token], wanted: usize) -> bool
     ensures { result ≡ has_operator wanted (lexemes tokens.now) }
@@ -109,6 +112,7 @@ pub fn has_operator(tokens: &[Token], wanted: usize) -> bool
     }
 }
 
+/// The unary operator of a token, or none.
 pub fn unary_op(kind: TokenKind) -> Option<UnaryOp>
     ensures read { result ≡ unary_of (lexeme_of kind.entry) }
     ensures spelled { IfSome result (λ op. lexeme_of kind.entry ≡ Marked (sign_of_unary op)) }
@@ -120,6 +124,8 @@ pub fn unary_op(kind: TokenKind) -> Option<UnaryOp>
     }
 }
 
+/// A binary operator with its operands. Its span goes from the start of the left one to the end of the right one. The
+/// only refusal is that memory ran out.
 pub fn join(context: Context, op: BinaryOp, left: Expr, right: Expr) -> Result<Expr, AllocError>
     ensures read { IfOk result (λ t. bare t ≡ Binary op (bare left) (bare right)) }
     ensures placed { IfOk result (λ t. placed t ≡ trees.Binary op (placed left) (placed right) (upto (trees.span_of (placed left)) (trees.span_of (placed right)))) }

@@ -1,4 +1,4 @@
-// What an expression begins by, and its suffixes, as far as no expression stands in it.
+// What an expression begins with, and its suffixes, if no expression is in them.
 
 ghost use Rattle.std.specs.Prelude.{◌≡◌, ◌∷◌, ◌-◌, ◌<◌, IfOk};
 ghost use Rattle.ls_lexer.specs.Lexemes.{Numeral, lexemes};
@@ -21,20 +21,23 @@ use ls_tree::numbers::may_stand;
 use ls_tree::tree::{Expr, Name};
 use std::alloc::AllocError;
 
-// ---- what stands behind a primary
+// ---- what comes after a primary
 
+/// Whether a dot or an opening bracket comes first.
 pub fn has_suffix(tokens: &[Token]) -> bool
     ensures { result ≡ has_suffix (lexemes tokens.now) }
 {
     starts_with(tokens, Sign::Dot) || starts_with(tokens, Sign::OpenBracket)
 }
 
+/// Whether a tree is the making of an array.
 pub fn is_new_array(tree: &Expr) -> bool
     ensures { result ≡ is_new_array (bare tree.now) }
 {
     matches!(tree, Expr::NewArray { .. })
 }
 
+/// A call with its target, or without one.
 pub fn called(target: Option<Box<Expr>>, name: Name, arguments: Vec<Expr>, span: Span) -> Expr
     ensures read { bare result ≡ call_of (bare_target target) (name_text name) (expressions_of arguments.items) }
     ensures placed { placed result ≡ views.call_of (placed_target target) (placed_name name) (placed_all arguments.items) span }
@@ -49,12 +52,15 @@ pub fn called(target: Option<Box<Expr>>, name: Name, arguments: Vec<Expr>, span:
 
 // ---- primaries
 
+/// Whether a name is `AtomicMarkableReference`.
 pub fn is_markable(text: &str) -> bool
     ensures { result ≡ is_markable text.now }
 {
     text == "AtomicMarkableReference"
 }
 
+/// A number. Refused with `BadNumber` if it is 2147483648 and isn't directly after a unary minus, or if memory runs
+/// out.
 #[tactic(auto, using(ls_parser_spelling::specs::Places::number_at))]
 pub fn number<'t, 'a>(
     context: Context,
@@ -92,6 +98,7 @@ pub fn class_name<'t, 'a>(
     closed(context, name, Sign::Greater)
 }
 
+/// The making of an object.
 pub fn new_object(class: Name, arguments: Vec<Expr>, span: Span) -> Expr
     ensures read { bare result ≡ New (name_text class) (expressions_of arguments.items) }
     ensures placed { placed result ≡ trees.New (placed_name class) (placed_all arguments.items) span }
@@ -103,6 +110,7 @@ pub fn new_object(class: Name, arguments: Vec<Expr>, span: Span) -> Expr
     }
 }
 
+/// The making of a markable.
 pub fn new_markable(class: Name, arguments: Vec<Expr>, span: Span) -> Expr
     ensures read { bare result ≡ NewMarkable (name_text class) (expressions_of arguments.items) }
     ensures placed { placed result ≡ trees.NewMarkable (placed_name class) (placed_all arguments.items) span }

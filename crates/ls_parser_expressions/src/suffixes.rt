@@ -1,4 +1,4 @@
-// What stands behind a primary: fields, calls and items, with their arguments and indexes.
+// What comes after a primary: fields, calls and items, with their arguments and indexes.
 
 ghost use Rattle.std.specs.Prelude.{◌≡◌, ◌+◌, ◌-◌, ◌<◌, ◌≤◌, ◌^◌, ◌∷◌, List, IfOk, map};
 ghost use Rattle.ls_lexer.specs.Lexemes.{lexemes};
@@ -22,7 +22,7 @@ use ls_parser_tokens::tokens::{
 };
 use ls_tree::tree::Expr;
 
-// One suffix, with what stands on its left.
+// One suffix. What it belongs to is read already.
 #[cycle(expressions)]
 #[tactic(auto, using(crate::proofs::Posts::suffix_too_high, crate::proofs::Posts::suffix_fits, crate::proofs::Places::dotted))]
 pub(crate) fn suffix<'t, 'a>(
@@ -46,7 +46,7 @@ pub(crate) fn suffix<'t, 'a>(
     }
 }
 
-// What stands behind a dot.
+// What comes after a dot.
 #[cycle(expressions)]
 #[tactic(auto, using(crate::proofs::Places::field_is, crate::proofs::Places::call_on_is))]
 fn member<'t, 'a>(
@@ -167,7 +167,7 @@ pub(crate) fn arguments<'t, 'a>(
     Ok(all)
 }
 
-// One more argument, behind a comma.
+// One more argument, after a comma.
 #[cycle(expressions)]
 #[tactic(auto, using(crate::proofs::Rows::expressions_height_push, crate::proofs::Rows::map_push, crate::proofs::Places::pushed_is))]
 fn one_argument<'t, 'a>(

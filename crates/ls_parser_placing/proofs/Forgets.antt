@@ -13,7 +13,7 @@ use Rattle.ls_parser_placing.specs.Laws.{plain, all_plain, PlacesForgotten}
 abbrev cons : Lexeme → List Lexeme → List Lexeme
 cons k ks = k ∷ ks
 
--- a part and what stands behind it
+-- a part and what comes after it
 abbrev part : List Lexeme → List Lexeme → List Lexeme
 part ks more = ks ++ more
 
@@ -62,5 +62,6 @@ mutual
       ∙ ap (λ (ks : List Lexeme). spell_expression (plain e) ++ (ks ++ forgotten rest)) (sym (some_spell k))
       ∙ sym (append_assoc (spell_expression (plain e)) (spell_others (all_plain others)) (forgotten rest))
 
+-- the law: without places, the tokens are those that spell the expression
 pub places_forgotten : PlacesForgotten
 places_forgotten e ss rest h = forgets h

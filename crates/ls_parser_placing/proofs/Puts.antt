@@ -12,7 +12,7 @@ use Rattle.ls_tree.specs.PlacedTrees.{Name, Expression, Expressions, End, More, 
 use Rattle.ls_parser_spelling.specs.Places.{Spot, sign, named, upto, class_name_at, At, OperandAt, IndexAt, ArgumentsAt, SomeAt, number_at, true_at, false_at, null_at, this_at, name_at, paren_at, unary_at, binary_at, field_at, call_at, call_on_at, item_at, new_at, new_markable_at, new_array_at, operand_at, index_at, none_at, some_at, one_at, more_at}
 use Rattle.ls_parser_placing.specs.Laws.{plain, all_plain, OnePlacing}
 
--- where the first token stands
+-- the span of the first token
 abbrev here : List Spot → Span
 here [] = record { start = 0; end = 0 }
 here (s ∷ ss) = s.span
@@ -27,7 +27,7 @@ Put = Expression × List Spot
 abbrev PutMany : Type 0
 PutMany = Expressions × List Spot
 
--- arguments, and where the closing parenthesis stands
+-- arguments, and the span of the closing parenthesis
 abbrev PutClosed : Type 0
 PutClosed = (Expressions × Span) × List Spot
 
@@ -93,7 +93,7 @@ abbrev mutual
   put_arguments bare.NoExpression ss = ((End, here ss), behind ss)
   put_arguments (bare.MoreExpressions t ts) ss = closed_of (more_of (put t ss) (put_others ts (put t ss).1))
 
-  -- each behind a comma
+  -- each after a comma
   put_others : bare.Expressions → List Spot → PutMany
   put_others bare.NoExpression ss = (End, ss)
   put_others (bare.MoreExpressions t ts) ss = more_of (put t (behind ss)) (put_others ts (put t (behind ss)).1)
@@ -149,5 +149,6 @@ mutual
       ap (λ (x : Put). more_of x (put_others (all_plain others) x.1)) (puts h)
       ∙ ap (more_of (e, sign signs.Comma comma ∷ middle)) (others_are_some (sign signs.Comma comma) k ∙ some_put k)
 
+-- the law: tokens give an expression its places in at most one way
 pub one_placing : OnePlacing
 one_placing e f ss rest rest' h g same = ap (λ (x : Put). x.0) (sym (puts h) ∙ ap (λ (t : bare.Expression). put t ss) same ∙ puts g)

@@ -153,5 +153,6 @@ class_same c = λ i. record { name = name_tree (name_text c.name); members = map
 file_same : (f : ClassFile) → unplaced_file (placed_file f) ≡ file_tree (bare_file f)
 file_same f = λ i. record { classes = maps_same unplaced_class placed_class class_tree bare_class f.classes.items class_same i }
 
+-- a file that a text spells, at its places, is the file of the text
 pub is_file_of : (f : ClassFile) {text : List ℕ} → TextSpells (bare_file f) text → PlacedIn (placed_file f) text → IsFileOf text (placed_file f)
 is_file_of f spelled placed = record { tree = bare_file f; spelled = spelled; placed = placed; forgotten = file_same f }

@@ -21,7 +21,7 @@ one_token s rest = record { first = s; others = rest; begins = refl; start = ref
 after : {span : Span} {ss rest : List Spot} (s : Spot) → UpTo span ss rest → UpTo span (s ∷ ss) rest
 after s u = record { front = s ∷ u.front; last = u.last; is = ap (λ (xs : List Spot). s ∷ xs) u.is; end = u.end }
 
--- what goes on behind another span
+-- what goes on after another span
 behind : {span next : Span} {ss middle rest : List Spot} → UpTo span ss middle → UpTo next middle rest → UpTo next ss rest
 behind u v = record { front = u.front ++ u.last ∷ v.front; last = v.last; is = u.is ∙ ap (λ (xs : List Spot). u.front ++ u.last ∷ xs) v.is ∙ sym (append_assoc u.front (u.last ∷ v.front) (v.last ∷ _)); end = v.end }
 
@@ -73,5 +73,6 @@ mutual
   some_reach (one_at {e} h) = (span_of e, reaches (whole h))
   some_reach (more_at h k) = ((some_reach k).0, behind (reaches (whole h)) (after _ (some_reach k).1))
 
+-- the law: a span goes over the tokens of its expression
 pub spans_are_whole : SpansAreWhole
 spans_are_whole e ss rest h = whole h

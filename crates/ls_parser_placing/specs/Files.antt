@@ -7,8 +7,8 @@ use Rattle.ls_parser_spelling.specs.FilePlaces.{PlacedIn}
 use Rattle.ls_parser_placing.specs.Unplaced.{unplaced_file}
 use Rattle.ls_parser_placing.specs.Outlines.{file_tree}
 
--- The text spells a file with its package, imports and modifiers (JLS 7.3). The file is the same with the places in which
--- each token stands in the text, and without package, imports and modifiers.
+-- The text spells a file with its package, imports and modifiers (JLS 7.3). `f` is that file with the places of its
+-- tokens in the text, and without package, imports and modifiers.
 pub record IsFileOf (text : List ℕ) (f : File) : Type 0 where
   pub tree : bare.File
   pub spelled : TextSpells tree text

@@ -47,10 +47,10 @@ abbrev mutual
   all_plain End = bare.NoExpression
   all_plain (More e es) = bare.MoreExpressions (plain e) (all_plain es)
 
--- without the places the tokens are those that spell the expression
+-- if the places are left out, the tokens are those that spell the expression
 abbrev pub PlacesForgotten : Type 0
 PlacesForgotten = (e : Expression) (ss rest : List Spot) → At e ss rest → forgotten ss ≡ spell_expression (plain e) ++ forgotten rest
 
--- tokens give the expression one way of standing in them
+-- tokens give an expression without places at most one way to have places
 abbrev pub OnePlacing : Type 0
 OnePlacing = (e f : Expression) (ss rest rest' : List Spot) → At e ss rest → At f ss rest' → plain e ≡ plain f → e ≡ f

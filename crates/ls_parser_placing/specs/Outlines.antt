@@ -1,4 +1,5 @@
--- The tree with every place at 0 of a bare tree; package, imports, modifiers and annotations are left out, but for `synchronized`.
+-- The tree of a bare tree, with each place at 0. Package, imports, modifiers and annotations are left out, but not
+-- `synchronized`.
 use Rattle.std.specs.Prelude.{map, option_map}
 use Rattle.ls_tree.specs.Trees as bare
 use Rattle.ls_tree.specs.PlacedTrees as Trees

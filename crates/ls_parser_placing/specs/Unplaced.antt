@@ -1,4 +1,4 @@
--- Trees with every place put to 0.
+-- Trees with each place set to 0.
 use Rattle.std.specs.Prelude.{map, option_map}
 use Rattle.ls_lexer.specs.declared.token.Span.{Span}
 use Rattle.ls_tree.specs.PlacedTrees as Trees

@@ -4,6 +4,7 @@ use Rattle.ls_lexer.specs.declared.token.TokenKind.{TokenKind}
 use Rattle.ls_lexer.specs.Lexemes.{Lexeme, lexeme_of}
 use Rattle.ls_parser_spelling.specs.Kinds.{lexemes_of}
 
+-- one token more
 pub kinds_push : (kinds : List TokenKind) (kind : TokenKind) → lexemes_of (kinds ++ kind ∷ []) ≡ lexemes_of kinds ++ lexeme_of kind ∷ []
 kinds_push [] kind = refl
 kinds_push (k ∷ kinds) kind = ap (λ (ks : List Lexeme). lexeme_of k ∷ ks) (kinds_push kinds kind)

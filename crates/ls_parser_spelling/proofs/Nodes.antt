@@ -4,6 +4,7 @@ use Rattle.ls_tree.specs.Trees.{Text, Expression, Number, True, False, Null, Thi
 use Rattle.ls_tree.specs.Views.{call_of}
 
 abbrev mutual
+  -- how many nodes an expression has
   pub nodes : Expression → ℕ
   nodes (Number text) = 1
   nodes True = 1
@@ -22,6 +23,7 @@ abbrev mutual
   nodes (NewMarkable class arguments) = all_nodes arguments + 1
   nodes (NewArray length) = nodes length + 1
 
+  -- how many nodes expressions have
   pub all_nodes : Expressions → ℕ
   all_nodes NoExpression = 0
   all_nodes (MoreExpressions first others) = nodes first + all_nodes others + 1
@@ -31,11 +33,13 @@ abbrev pub call_nodes : Option Expression → Expressions → ℕ
 call_nodes None arguments = all_nodes arguments
 call_nodes (Some target) arguments = nodes target + all_nodes arguments
 
+-- a call has one node more than those below it
 pub nodes-call_of : (target : Option Expression) (name : Text) (arguments : Expressions) → nodes (call_of target name arguments) ≡ call_nodes target arguments + 1
 nodes-call_of None name arguments = refl
 nodes-call_of (Some target) name arguments = refl
 
 abbrev mutual
+  -- how many nodes a statement has
   pub statement_nodes : Statement → ℕ
   statement_nodes (Block items) = items_nodes items + 1
   statement_nodes Empty = 1
@@ -50,11 +54,13 @@ abbrev mutual
   statement_nodes (Synchronized target body) = items_nodes body + 1
   statement_nodes (Perform simple) = 1
 
+  -- how many nodes the items of a block have
   pub items_nodes : Items → ℕ
   items_nodes NoItem = 0
   items_nodes (Do first others) = statement_nodes first + items_nodes others + 1
   items_nodes (Declare first others) = items_nodes others + 1
 
+-- how many nodes the other branch has
 abbrev pub other_nodes : Option Statement → ℕ
 other_nodes None = 0
 other_nodes (Some other) = statement_nodes other

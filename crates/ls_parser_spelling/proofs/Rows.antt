@@ -21,11 +21,14 @@ held_is : (o : Option (Box Expr)) → bare_held (back-Expr-Call-0 o) ≡ bare_ta
 held_is None = refl
 held_is (Some b) = refl
 
+-- a call without places
 pub call_bare : (o : Option (Box Expr)) (name : Name) (v : Vec Expr) (span : Span) → bare (exprs.Call o name v span) ≡ call_of (bare_target o) (name_text name) (expressions_of v.items)
 call_bare o name v span = λ i. call_of (held_is o i) (name_text name) (row_of_vec v i)
 
+-- a making of an object without places
 pub new_bare : (name : Name) (v : Vec Expr) (span : Span) → bare (exprs.New name v span) ≡ trees.New (name_text name) (expressions_of v.items)
 new_bare name v span = ap (trees.New (name_text name)) (row_of_vec v)
 
+-- a making of a markable reference without places
 pub new_markable_bare : (name : Name) (v : Vec Expr) (span : Span) → bare (exprs.NewMarkable name v span) ≡ trees.NewMarkable (name_text name) (expressions_of v.items)
 new_markable_bare name v span = ap (trees.NewMarkable (name_text name)) (row_of_vec v)

@@ -21,11 +21,14 @@ row_is_list n (more_of-BlockItem (block_items.Declaration d) rest) = ap (put_bef
 pub row_of_items : (v : Vec BlockItem) → bare_items (hidden-the_row-BlockItem-0 v) ≡ items_of v.items
 row_of_items v = row_is_list _ (hidden-the_row-BlockItem-0 v) ∙ ap items_of (items_hidden-the_row-BlockItem-0 v)
 
+-- a block without places
 pub block_bare : (b : Block) → bare_statement (statements.Block b) ≡ trees.Block (bare_block b)
 block_bare b = ap trees.Block (row_of_items b.items)
 
+-- a `synchronized` without places
 pub synchronized_bare : (e : Expr) (b : Block) (span : Span) → bare_statement (statements.Synchronized e b span) ≡ trees.Synchronized (bare e) (bare_block b)
 synchronized_bare e b span = ap (trees.Synchronized (bare e)) (row_of_items b.items)
 
+-- a `try` without places
 pub try_bare : (b f : Block) (span : Span) → bare_statement (statements.Try b f span) ≡ trees.Try (bare_block b) (bare_block f)
 try_bare b f span = λ i. trees.Try (row_of_items b.items i) (row_of_items f.items i)

@@ -1,4 +1,5 @@
--- Which tokens, standing where, are those of a class and of a file. Its package and its imports have no places in a tree.
+-- Which tokens, at which places, are those of a class and of a file. The package and the imports have no places in a
+-- tree.
 use Rattle.std.specs.Prelude.{◌≡◌, ℕ, ◌+◌, ◌<◌, ◌≤◌, List, [], ◌∷◌, ◌++◌, length, take, drop, Option, Some, None}
 use Rattle.std.specs.List.{flat_map}
 use Rattle.ls_lexer.specs.declared.token.Span.{Span}
@@ -38,7 +39,7 @@ pub data ResultAt : Option TypeName → List Spot → List Spot → Type 0 where
   void_at : {s : Span} {rest : List Spot} → ResultAt None (word words.Void s ∷ rest) rest
   result_at : {type_name : TypeName} {ss rest : List Spot} → TypeAt type_name ss rest → ResultAt (Some type_name) ss rest
 
--- `synchronized`, and the modifiers behind it
+-- `synchronized`, and the modifiers after it
 pub data LockedAt : List Modifier → List Spot → List Spot → Type 0 where
   locked_at : {modifiers : List Modifier} {s : Span} {ss rest : List Spot} →
       ManyAt ModifierAt modifiers ss rest → LockedAt modifiers (word words.Synchronized s ∷ ss) rest
@@ -68,7 +69,7 @@ pub data FileAt : File → List Spot → Type 0 where
       Anywhere (spell_package package_name) ss middle → Anywhere (flat_map spell_import imports) middle behind → ManyAt ClassAt classes behind [] →
       FileAt (record { classes = classes }) ss
 
--- the tokens stand at their spans in the text, in order, from one place on
+-- the tokens are at their spans in the text, in order, from one place on
 abbrev pub StandIn : List ℕ → ℕ → List Spot → Type 0
 StandIn text from [] = from ≤ length text
 StandIn text from (s ∷ ss) =
@@ -76,7 +77,7 @@ StandIn text from (s ∷ ss) =
     × ((size : ℕ) × (s.span.start + size ≡ s.span.end) × (piece_at (drop s.span.start text) ≡ Some (Some s.lexeme, size)))
     × StandIn text s.span.end ss
 
--- The tokens of the text are those of the file, each standing where the file says.
+-- The tokens of the text are those of the file, each at the place that the file has for it.
 pub record PlacedIn (f : File) (text : List ℕ) : Type 0 where
   pub tokens : List Spot
   pub all : tokens_of text ≡ Some (forgotten tokens)

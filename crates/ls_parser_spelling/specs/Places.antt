@@ -1,5 +1,5 @@
--- The tokens of a tree with places: which tokens, standing where, are those of an expression. As in the spelling without
--- places, each form is its tokens in order; its span goes from the first of them to the last.
+-- Which tokens, at which places, are those of an expression. As in the spelling without places, each form is its
+-- tokens in order. The span of a form goes from its first token to its last.
 use Rattle.std.specs.Prelude.{ℕ, List, [], ◌∷◌, codes}
 use Rattle.ls_lexer.specs.declared.token.Span.{Span}
 use Rattle.ls_lexer.specs.declared.token.Token.{Token}
@@ -13,7 +13,7 @@ use Rattle.ls_tree.specs.PlacedTrees as trees
 use Rattle.ls_tree.specs.PlacedTrees.{Name, Expression, Expressions, End, More, span_of}
 use Rattle.ls_parser_spelling.specs.Spelling.{sign_of, sign_of_unary}
 
--- a token, and where it stands
+-- a token and its span
 pub record Spot : Type 0 where
   pub lexeme : Lexeme
   pub span : Span
@@ -91,12 +91,12 @@ mutual
     operand_at : {op : BinaryOp} {right : Expression} {s : Span} {ss rest : List Spot} →
         At right ss rest → OperandAt op right (sign (sign_of op) s ∷ ss) rest
 
-  -- an index in brackets, of which the closing one stands at the span
+  -- an index in brackets; the closing bracket is at the span
   pub data IndexAt : Expression → Span → List Spot → List Spot → Type 0 where
     index_at : {index : Expression} {opening last : Span} {ss rest : List Spot} →
         At index ss (sign signs.CloseBracket last ∷ rest) → IndexAt index last (sign signs.OpenBracket opening ∷ ss) rest
 
-  -- arguments and the closing parenthesis behind them, which stands at the span
+  -- arguments, and after them the closing parenthesis, which is at the span
   pub data ArgumentsAt : Expressions → Span → List Spot → List Spot → Type 0 where
     none_at : {last : Span} {rest : List Spot} → ArgumentsAt End last (sign signs.CloseParen last ∷ rest) rest
     some_at : {arguments : Expressions} {last : Span} {ss rest : List Spot} →

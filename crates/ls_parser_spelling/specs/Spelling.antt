@@ -64,7 +64,7 @@ abbrev mutual
   spell_expressions NoExpression = []
   spell_expressions (MoreExpressions first others) = spell_expression first ++ spell_others others
 
-  -- those behind the first, each behind a comma
+  -- the arguments after the first, each after a comma
   pub spell_others : Expressions → List Lexeme
   spell_others NoExpression = []
   spell_others (MoreExpressions first others) = Marked signs.Comma ∷ (spell_expression first ++ spell_others others)
@@ -123,12 +123,12 @@ abbrev pub spell_simples : List Simple → List Lexeme
 spell_simples [] = []
 spell_simples (s ∷ ss) = spell_simple s ++ flat_map (λ t. Marked signs.Comma ∷ spell_simple t) ss
 
--- with the semicolon behind it
+-- with the semicolon after it
 abbrev pub spell_opening : Opening → List Lexeme
 spell_opening (Declares declaration) = spell_declaration declaration
 spell_opening (Performs simples) = spell_simples simples ++ Marked signs.Semicolon ∷ []
 
--- what stands in the parentheses of a `for`
+-- what is in the parentheses of a `for`
 abbrev pub spell_head : Opening → Option Expression → List Simple → List Lexeme
 spell_head opening condition updates = spell_opening opening ++ spell_value condition ++ Marked signs.Semicolon ∷ spell_simples updates
 
@@ -168,7 +168,7 @@ abbrev pub spell_result : Option TypeName → List Lexeme
 spell_result None = Reserved words.Void ∷ []
 spell_result (Some type_name) = spell_type type_name
 
--- `synchronized`, and the modifiers behind it
+-- `synchronized`, and the modifiers after it
 abbrev pub spell_locked : List Modifier → List Lexeme
 spell_locked ms = Reserved words.Synchronized ∷ flat_map spell_modifier ms
 

@@ -1,5 +1,5 @@
--- Which tokens, standing where, are those of a type, a declaration and a statement. Modifiers have no places in a tree:
--- there may be any.
+-- Which tokens, at which places, are those of a type, a declaration and a statement. Modifiers have no places in a
+-- tree. So their tokens may be anywhere.
 use Rattle.std.specs.Prelude.{Bool, true, false, List, [], ◌∷◌, Option, Some, None, codes}
 use Rattle.ls_lexer.specs.declared.token.Span.{Span}
 use Rattle.ls_lexer.specs.declared.word.Word.{Word}
@@ -19,17 +19,17 @@ word w s = spot (Reserved w) s
 abbrev pub Begins : Type 0 → Type 1
 Begins A = A → List Spot → List Spot → Type 0
 
--- these tokens, wherever they stand
+-- these tokens, at whichever places
 pub data Anywhere : List Lexeme → List Spot → List Spot → Type 0 where
   nothing_more : {rest : List Spot} → Anywhere [] rest rest
   one_token : {k : Lexeme} {ks : List Lexeme} {s : Span} {ss rest : List Spot} → Anywhere ks ss rest → Anywhere (k ∷ ks) (spot k s ∷ ss) rest
 
--- things one behind another
+-- things one after another
 pub data ManyAt {A : Type 0} (one : Begins A) : List A → List Spot → List Spot → Type 0 where
   none_left : {rest : List Spot} → ManyAt one [] rest rest
   next_one : {x : A} {xs : List A} {ss middle rest : List Spot} → one x ss middle → ManyAt one xs middle rest → ManyAt one (x ∷ xs) ss rest
 
--- something behind a comma
+-- something after a comma
 pub data BehindComma {A : Type 0} (one : Begins A) : A → List Spot → List Spot → Type 0 where
   behind_comma_at : {x : A} {comma : Span} {ss rest : List Spot} → one x ss rest → BehindComma one x (sign signs.Comma comma ∷ ss) rest
 
@@ -45,13 +45,13 @@ pub data TypeAt : TypeName → List Spot → List Spot → Type 0 where
   markable_at : {name : Name} {s : Span} {ss rest : List Spot} →
       ClassNameAt name ss rest → TypeAt (Markable name) (spot (Named (codes "AtomicMarkableReference")) s ∷ ss) rest
 
--- a declared name, with the value that it begins with or none
+-- a declared name, with the value that it begins with, or without a value
 pub data DeclaratorAt : Declarator → List Spot → List Spot → Type 0 where
   no_value_at : {name : Name} {rest : List Spot} → DeclaratorAt (record { name = name; value = None }) (named name ∷ rest) rest
   value_at : {name : Name} {value : Expression} {assign : Span} {ss rest : List Spot} →
       At value ss rest → DeclaratorAt (record { name = name; value = Some value }) (named name ∷ sign signs.Assign assign ∷ ss) rest
 
--- the declarators behind the type of a declaration, and the semicolon
+-- the declarators after the type of a declaration, and the semicolon
 pub data DeclaratorsAt : Declarator → List Declarator → List Spot → List Spot → Type 0 where
   declarators_at : {first : Declarator} {more : List Declarator} {semicolon : Span} {ss middle rest : List Spot} →
       DeclaratorAt first ss middle → ManyAt (BehindComma DeclaratorAt) more middle (sign signs.Semicolon semicolon ∷ rest) →
@@ -72,12 +72,12 @@ pub data LabelAt : Option Name → List Spot → List Spot → Type 0 where
   no_label_at : {rest : List Spot} → LabelAt None rest rest
   label_at : {name : Name} {colon : Span} {rest : List Spot} → LabelAt (Some name) (named name ∷ sign signs.Colon colon ∷ rest) rest
 
--- a label or nothing, and a semicolon, which stands at the span
+-- a label or nothing, and a semicolon, which is at the span
 pub data JumpAt : Option Name → Span → List Spot → List Spot → Type 0 where
   bare_jump_at : {last : Span} {rest : List Spot} → JumpAt None last (sign signs.Semicolon last ∷ rest) rest
   jump_to_at : {name : Name} {last : Span} {rest : List Spot} → JumpAt (Some name) last (named name ∷ sign signs.Semicolon last ∷ rest) rest
 
--- a value or nothing, and a semicolon, which stands at the span
+-- a value or nothing, and a semicolon, which is at the span
 pub data ReturnedAt : Option Expression → Span → List Spot → List Spot → Type 0 where
   nothing_at : {last : Span} {rest : List Spot} → ReturnedAt None last (sign signs.Semicolon last ∷ rest) rest
   returned_at : {e : Expression} {last : Span} {ss rest : List Spot} → At e ss (sign signs.Semicolon last ∷ rest) → ReturnedAt (Some e) last ss rest
@@ -98,7 +98,7 @@ pub data SomeSimplesAt : List Simple → List Spot → List Spot → Type 0 wher
   some_simples_at : {first : Simple} {others : List Simple} {ss middle rest : List Spot} →
       SimpleAt first ss middle → ManyAt (BehindComma SimpleAt) others middle rest → SomeSimplesAt (first ∷ others) ss rest
 
--- simple forms, or none, and a sign behind them
+-- simple forms, or none, and a sign after them
 pub data SimplesAt (stop : Sign) : List Simple → List Spot → List Spot → Type 0 where
   no_simple_at : {last : Span} {rest : List Spot} → SimplesAt stop [] (sign stop last ∷ rest) rest
   simples_at : {simples : List Simple} {last : Span} {ss rest : List Spot} →
@@ -115,7 +115,7 @@ pub data HeadAt : Opening → Option Expression → List Simple → List Spot �
       OpeningAt opening ss middle → ReturnedAt condition semicolon middle behind → SimplesAt signs.CloseParen updates behind rest →
       HeadAt opening condition updates (sign signs.OpenParen paren ∷ ss) rest
 
--- Of all statements only those of `break`, `continue` and `return` keep a span: it goes up to the semicolon.
+-- Only the statements `break`, `continue` and `return` keep a span. It goes up to the semicolon.
 mutual
   pub data StatementAt : Statement → List Spot → List Spot → Type 0 where
     block_statement_at : {items : Items} {ss rest : List Spot} → BlockAt items ss rest → StatementAt (Block items) ss rest

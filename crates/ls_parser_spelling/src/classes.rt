@@ -31,7 +31,7 @@ fn put_parameter<'a>(
     put_name(out, &parameter.name)
 }
 
-// The parameters behind the first, each behind a comma.
+// The parameters after the first, each after a comma.
 fn put_more_parameters<'a>(
     out: &mut Vec<TokenKind<'a>>,
     more: &'a [Parameter],
@@ -81,7 +81,7 @@ fn put_result<'a>(out: &mut Vec<TokenKind<'a>>, of: &'a Option<Type>) -> Result<
     }
 }
 
-// Each `synchronized`, with the modifiers behind it.
+// Each `synchronized`, with the modifiers after it.
 fn put_locked<'a>(
     out: &mut Vec<TokenKind<'a>>,
     locked: &'a [Vec<Modifier>],
@@ -145,6 +145,7 @@ fn put_class<'a>(out: &mut Vec<TokenKind<'a>>, class: &'a Class) -> Result<(), A
     put_sign(out, Sign::CloseBrace)
 }
 
+/// Puts the tokens of classes after those in `out`. The only refusal is that memory ran out.
 pub fn put_classes<'a>(out: &mut Vec<TokenKind<'a>>, classes: &'a [Class]) -> Result<(), AllocError>
     ensures { OnOk result (lexemes_of out.new.items ≡ lexemes_of out.old.items ++ flat_map spell_class (map bare_class classes.now)) }
 {
@@ -154,7 +155,7 @@ pub fn put_classes<'a>(out: &mut Vec<TokenKind<'a>>, classes: &'a [Class]) -> Re
     Ok(())
 }
 
-// The names behind the first, each behind a dot.
+// The names after the first, each after a dot.
 fn put_parts<'a>(out: &mut Vec<TokenKind<'a>>, parts: &'a [Name]) -> Result<(), AllocError>
     ensures { OnOk result (lexemes_of out.new.items ≡ lexemes_of out.old.items ++ flat_map (λ name. Marked signs.Dot ∷ Named name ∷ []) (map name_text parts.now)) }
 {
@@ -192,6 +193,7 @@ fn put_import<'a>(out: &mut Vec<TokenKind<'a>>, line: &'a Import) -> Result<(), 
     put_sign(out, Sign::Semicolon)
 }
 
+/// Puts the tokens of imports after those in `out`. The only refusal is that memory ran out.
 pub fn put_imports<'a>(
     out: &mut Vec<TokenKind<'a>>,
     imports: &'a [Import],
@@ -204,6 +206,7 @@ pub fn put_imports<'a>(
     Ok(())
 }
 
+/// Puts the tokens of a package, if there is one, after those in `out`. The only refusal is that memory ran out.
 pub fn put_package<'a>(
     out: &mut Vec<TokenKind<'a>>,
     name: &'a Option<Dotted>,

@@ -32,6 +32,7 @@ fn put_modifier<'a>(out: &mut Vec<TokenKind<'a>>, modifier: &'a Modifier) -> Res
     }
 }
 
+/// Puts the tokens of modifiers after those in `out`. The only refusal is that memory ran out.
 pub fn put_modifiers<'a>(
     out: &mut Vec<TokenKind<'a>>,
     modifiers: &'a [Modifier],
@@ -44,6 +45,7 @@ pub fn put_modifiers<'a>(
     Ok(())
 }
 
+/// Puts the tokens of a type after those in `out`. The only refusal is that memory ran out.
 pub fn put_type<'a>(out: &mut Vec<TokenKind<'a>>, type_name: &'a Type) -> Result<(), AllocError>
     ensures { OnOk result (lexemes_of out.new.items ≡ lexemes_of out.old.items ++ spell_type (bare_type type_name.now)) }
 {
@@ -82,7 +84,7 @@ fn put_declarator<'a>(
     put_initial(out, &declarator.value)
 }
 
-// The declarators behind the first, each behind a comma.
+// The declarators after the first, each after a comma.
 fn put_more_declarators<'a>(
     out: &mut Vec<TokenKind<'a>>,
     more: &'a [Declarator],
@@ -96,7 +98,7 @@ fn put_more_declarators<'a>(
     Ok(())
 }
 
-/// The tokens of a declaration of fields or locals, its semicolon among them.
+/// The tokens of a declaration of fields or locals, with its semicolon. The only refusal is that memory ran out.
 pub fn put_declaration<'a>(
     out: &mut Vec<TokenKind<'a>>,
     declaration: &'a Declaration,

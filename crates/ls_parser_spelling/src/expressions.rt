@@ -45,7 +45,7 @@ fn sign_of(op: BinaryOp) -> Sign
     }
 }
 
-/// The name of markables, with the class that they are of.
+/// The type of markables, `AtomicMarkableReference<class>`. The only refusal is that memory ran out.
 pub fn put_markable<'a>(out: &mut Vec<TokenKind<'a>>, class: &'a Name) -> Result<(), AllocError>
     ensures { OnOk result (lexemes_of out.new.items ≡ lexemes_of out.old.items ++ markable (name_text class.now)) }
 {
@@ -62,7 +62,7 @@ fn put_in_angles<'a>(out: &mut Vec<TokenKind<'a>>, class: &'a Name) -> Result<()
     put_sign(out, Sign::Greater)
 }
 
-/// The tokens of an expression.
+/// The tokens of an expression. The only refusal is that memory ran out.
 #[cycle(expressions)]
 pub fn put_expression<'a>(out: &mut Vec<TokenKind<'a>>, e: &'a Expr) -> Result<(), AllocError>
     ensures { OnOk result (lexemes_of out.new.items ≡ lexemes_of out.old.items ++ spell_expression (bare e.now)) }
@@ -202,7 +202,7 @@ fn put_arguments<'a>(out: &mut Vec<TokenKind<'a>>, arguments: &'a [Expr]) -> Res
     put_sign(out, Sign::CloseParen)
 }
 
-// The arguments behind the first, each behind a comma.
+// The arguments after the first, each after a comma.
 #[cycle(expressions)]
 fn put_others<'a>(out: &mut Vec<TokenKind<'a>>, others: &'a [Expr]) -> Result<(), AllocError>
     ensures { OnOk result (lexemes_of out.new.items ≡ lexemes_of out.old.items ++ spell_others (expressions_of others.now)) }
@@ -214,7 +214,7 @@ fn put_others<'a>(out: &mut Vec<TokenKind<'a>>, others: &'a [Expr]) -> Result<()
     Ok(())
 }
 
-/// The tokens of a value, if there is one.
+/// The tokens of a value, if there is one. The only refusal is that memory ran out.
 pub fn put_value<'a>(
     out: &mut Vec<TokenKind<'a>>,
     value: &'a Option<Expr>,

@@ -1,4 +1,4 @@
-// One token behind those that are there.
+// Each function here puts one token after those that are there.
 
 ghost use Rattle.std.specs.Prelude.{◌≡◌, ◌++◌, ◌∷◌, [], OnOk};
 ghost use Rattle.ls_lexer.specs.Lexemes.{Named, Numeral, Reserved, Marked, lexeme_of};
@@ -19,30 +19,35 @@ fn put<'a>(out: &mut Vec<TokenKind<'a>>, kind: TokenKind<'a>) -> Result<(), Allo
     Ok(())
 }
 
+/// Puts a separator or operator. The only refusal is that memory ran out.
 pub fn put_sign(out: &mut Vec<TokenKind>, sign: Sign) -> Result<(), AllocError>
     ensures { OnOk result (lexemes_of out.new.items ≡ lexemes_of out.old.items ++ Marked sign ∷ []) }
 {
     put(out, TokenKind::Sign(sign))
 }
 
+/// Puts a reserved word. The only refusal is that memory ran out.
 pub fn put_word(out: &mut Vec<TokenKind>, word: Word) -> Result<(), AllocError>
     ensures { OnOk result (lexemes_of out.new.items ≡ lexemes_of out.old.items ++ Reserved word ∷ []) }
 {
     put(out, TokenKind::Word(word))
 }
 
+/// Puts a name with this text. The only refusal is that memory ran out.
 pub fn put_text<'a>(out: &mut Vec<TokenKind<'a>>, text: &'a str) -> Result<(), AllocError>
     ensures { OnOk result (lexemes_of out.new.items ≡ lexemes_of out.old.items ++ Named text.now ∷ []) }
 {
     put(out, TokenKind::Name(text))
 }
 
+/// Puts a name of a tree. The only refusal is that memory ran out.
 pub fn put_name<'a>(out: &mut Vec<TokenKind<'a>>, name: &'a Name) -> Result<(), AllocError>
     ensures { OnOk result (lexemes_of out.new.items ≡ lexemes_of out.old.items ++ Named (name_text name.now) ∷ []) }
 {
     put_text(out, name.text.as_str())
 }
 
+/// Puts a number with this text. The only refusal is that memory ran out.
 pub fn put_number<'a>(out: &mut Vec<TokenKind<'a>>, text: &'a str) -> Result<(), AllocError>
     ensures { OnOk result (lexemes_of out.new.items ≡ lexemes_of out.old.items ++ Numeral text.now ∷ []) }
 {

@@ -54,6 +54,7 @@ fn put_count<'a>(
     }
 }
 
+/// Puts the tokens of a simple form after those in `out`. The only refusal is that memory ran out.
 pub fn put_simple<'a>(out: &mut Vec<TokenKind<'a>>, simple: &'a Simple) -> Result<(), AllocError>
     ensures { OnOk result (lexemes_of out.new.items ≡ lexemes_of out.old.items ++ spell_simple (bare_simple simple.now)) }
 {
@@ -65,7 +66,7 @@ pub fn put_simple<'a>(out: &mut Vec<TokenKind<'a>>, simple: &'a Simple) -> Resul
     }
 }
 
-// Those behind the first, each behind a comma.
+// The simple forms after the first, each after a comma.
 fn put_more_simples<'a>(out: &mut Vec<TokenKind<'a>>, more: &'a [Simple]) -> Result<(), AllocError>
     ensures { OnOk result (lexemes_of out.new.items ≡ lexemes_of out.old.items ++ flat_map (λ s. Marked signs.Comma ∷ spell_simple s) (map bare_simple more.now)) }
 {
@@ -101,7 +102,7 @@ fn put_opening<'a>(out: &mut Vec<TokenKind<'a>>, opening: &'a Opening) -> Result
     }
 }
 
-/// The head of a `for`, in parentheses.
+/// The head of a `for`, in parentheses. The only refusal is that memory ran out.
 pub fn put_head<'a>(
     out: &mut Vec<TokenKind<'a>>,
     opening: &'a Opening,

@@ -13,8 +13,9 @@ use ls_lexer::token::TokenKind;
 use ls_tree::tree::ClassFile;
 use std::alloc::{AllocError, Global};
 
-/// The kinds of the tokens that spell a file (JLS 3.5), with the text of each name and number lent by the tree. Of a file
-/// that `parse` answered they are the kinds of the tokens that it read. They have no spans, since a tree knows no gaps.
+/// The kinds of the tokens that spell a file (JLS 3.5). The text of each name and number is borrowed from the tree. If
+/// `parse` answered the file, these are the kinds of the tokens that it read. A kind has no span, since a tree knows
+/// no gaps. The only refusal is that memory ran out.
 pub fn spell<'a>(alloc: Global, file: &'a ClassFile) -> Result<Vec<TokenKind<'a>>, AllocError>
     ensures spelled { IfOk result (λ kinds. lexemes_of kinds.items ≡ spell (bare_file file.now)) }
     ensures again { IfOk result (λ kinds. (tokens : List Token) → Spells (bare_file file.now) (lexemes tokens) → lexemes_of kinds.items ≡ lexemes tokens) }

@@ -201,7 +201,7 @@ fn put_synchronized<'a>(
     put_block(out, body)
 }
 
-/// Statements and declarations in braces.
+/// Statements and declarations in braces. The only refusal is that memory ran out.
 #[cycle(statements)]
 pub fn put_block<'a>(out: &mut Vec<TokenKind<'a>>, items: &'a [BlockItem]) -> Result<(), AllocError>
     ensures { OnOk result (lexemes_of out.new.items ≡ lexemes_of out.old.items ++ in_braces (spell_items (items_of items.now))) }

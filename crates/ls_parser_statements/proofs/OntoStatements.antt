@@ -9,21 +9,26 @@ use Rattle.ls_parser_spelling.specs.Spelling.{count_sign}
 use Rattle.ls_parser_expressions.proofs.Lists.{onto_all, onto_all_longer}
 use Rattle.ls_parser_declarations.proofs.OntoDeclarations.{onto_declaration, declaration_longer}
 
+-- the name that a jump goes to, spelled onto tokens
 abbrev pub onto_label : Option Text → List Lexeme → List Lexeme
 onto_label None rest = rest
 onto_label (Some name) rest = Named name ∷ rest
 
+-- the label of a statement, spelled onto tokens
 abbrev pub onto_label_before : Option Text → List Lexeme → List Lexeme
 onto_label_before None rest = rest
 onto_label_before (Some name) rest = Named name ∷ Marked signs.Colon ∷ rest
 
+-- the value of a return, spelled onto tokens
 abbrev pub onto_value : Option Expression → List Lexeme → List Lexeme
 onto_value None rest = rest
 onto_value (Some value) rest = onto value rest
 
+-- a condition in parentheses, spelled onto tokens
 abbrev pub onto_condition : Expression → List Lexeme → List Lexeme
 onto_condition condition rest = Marked signs.OpenParen ∷ onto condition (Marked signs.CloseParen ∷ rest)
 
+-- a simple form, spelled onto tokens
 abbrev pub onto_simple : Simple → List Lexeme → List Lexeme
 onto_simple (Assign target value) rest = onto target (Marked signs.Assign ∷ onto value rest)
 onto_simple (Add target value) rest = onto target (Marked signs.PlusAssign ∷ onto value rest)
@@ -31,22 +36,27 @@ onto_simple (Count up true target) rest = Marked (count_sign up) ∷ onto target
 onto_simple (Count up false target) rest = onto target (Marked (count_sign up) ∷ rest)
 onto_simple (Evaluate value) rest = onto value rest
 
+-- a comma and a simple form, spelled onto tokens
 abbrev pub onto_next_simple : Simple → List Lexeme → List Lexeme
 onto_next_simple s rest = Marked signs.Comma ∷ onto_simple s rest
 
+-- simple forms, spelled onto tokens
 abbrev pub onto_simples : List Simple → List Lexeme → List Lexeme
 onto_simples [] rest = rest
 onto_simples (s ∷ ss) rest = onto_simple s (onto_all onto_next_simple ss rest)
 
+-- the opening of a `for`, spelled onto tokens
 abbrev pub onto_opening : Opening → List Lexeme → List Lexeme
 onto_opening (Declares declaration) rest = onto_declaration declaration rest
 onto_opening (Performs simples) rest = onto_simples simples (Marked signs.Semicolon ∷ rest)
 
+-- the head of a `for`, spelled onto tokens
 abbrev pub onto_head : Opening → Option Expression → List Simple → List Lexeme → List Lexeme
 onto_head opening condition updates rest =
     Marked signs.OpenParen ∷ onto_opening opening (onto_value condition (Marked signs.Semicolon ∷ onto_simples updates (Marked signs.CloseParen ∷ rest)))
 
 abbrev mutual
+  -- a statement, spelled onto tokens
   pub onto_statement : Statement → List Lexeme → List Lexeme
   onto_statement (Block items) rest = Marked signs.OpenBrace ∷ onto_items items (Marked signs.CloseBrace ∷ rest)
   onto_statement Empty rest = Marked signs.Semicolon ∷ rest
@@ -62,18 +72,22 @@ abbrev mutual
   onto_statement (Synchronized target body) rest = Reserved words.Synchronized ∷ onto_condition target (Marked signs.OpenBrace ∷ onto_items body (Marked signs.CloseBrace ∷ rest))
   onto_statement (Perform simple) rest = onto_simple simple (Marked signs.Semicolon ∷ rest)
 
+  -- the items of a block, spelled onto tokens
   pub onto_items : Items → List Lexeme → List Lexeme
   onto_items NoItem rest = rest
   onto_items (Do first others) rest = onto_statement first (onto_items others rest)
   onto_items (Declare first others) rest = onto_declaration first (onto_items others rest)
 
+-- a block, spelled onto tokens
 abbrev pub onto_block : Items → List Lexeme → List Lexeme
 onto_block items rest = Marked signs.OpenBrace ∷ onto_items items (Marked signs.CloseBrace ∷ rest)
 
+-- one item of a block, spelled onto tokens
 abbrev pub onto_piece : Piece → List Lexeme → List Lexeme
 onto_piece (Doing statement) rest = onto_statement statement rest
 onto_piece (Declaring declaration) rest = onto_declaration declaration rest
 
+-- collected items are spelled one after the other
 pub onto_collected : (ps : List Piece) (rest : List Lexeme) → onto_items (collected ps) rest ≡ onto_all onto_piece ps rest
 onto_collected [] rest = refl
 onto_collected (Doing a ∷ ps) rest = ap (onto_statement a) (onto_collected ps rest)
@@ -93,6 +107,7 @@ value_longer : (value : Option Expression) (rest : List Lexeme) → length rest 
 value_longer None rest = omega arith
 value_longer (Some value) rest = omega (arith, onto_longer value rest)
 
+-- a simple form has a token
 pub simple_longer : (s : Simple) (rest : List Lexeme) → length rest < length (onto_simple s rest)
 simple_longer (Assign target value) rest = omega (arith, onto_longer target (Marked signs.Assign ∷ onto value rest), onto_longer value rest)
 simple_longer (Add target value) rest = omega (arith, onto_longer target (Marked signs.PlusAssign ∷ onto value rest), onto_longer value rest)
@@ -100,6 +115,7 @@ simple_longer (Count up true target) rest = omega (arith, onto_longer target res
 simple_longer (Count up false target) rest = omega (arith, onto_longer target (Marked (count_sign up) ∷ rest))
 simple_longer (Evaluate value) rest = onto_longer value rest
 
+-- so has a simple form after a comma
 pub next_simple_longer : (s : Simple) (rest : List Lexeme) → length rest < length (onto_next_simple s rest)
 next_simple_longer s rest = omega (arith, simple_longer s rest)
 
@@ -135,11 +151,13 @@ mutual
       omega (arith, onto_longer target (Marked signs.CloseParen ∷ Marked signs.OpenBrace ∷ onto_items body (Marked signs.CloseBrace ∷ rest)), items_longer body (Marked signs.CloseBrace ∷ rest))
   statement_longer (Perform simple) rest = omega (arith, simple_longer simple (Marked signs.Semicolon ∷ rest))
 
+  -- items take no tokens away
   pub items_longer : (ts : Items) (rest : List Lexeme) → length rest ≤ length (onto_items ts rest)
   items_longer NoItem rest = omega arith
   items_longer (Do first others) rest = omega (arith, statement_longer first (onto_items others rest), items_longer others rest)
   items_longer (Declare first others) rest = omega (arith, declaration_longer first (onto_items others rest), items_longer others rest)
 
+-- an item has a token
 pub piece_longer : (p : Piece) (rest : List Lexeme) → length rest < length (onto_piece p rest)
 piece_longer (Doing statement) rest = statement_longer statement rest
 piece_longer (Declaring declaration) rest = declaration_longer declaration rest

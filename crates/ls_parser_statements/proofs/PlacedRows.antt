@@ -22,11 +22,14 @@ row_is_list n (more_of-BlockItem (rows.Declaration d) rest) = ap (Declare (place
 row_of_items : (v : Vec BlockItem) → placed_row (hidden-the_row-BlockItem-0 v) ≡ placed_items v.items
 row_of_items v = row_is_list _ (hidden-the_row-BlockItem-0 v) ∙ ap placed_items (items_hidden-the_row-BlockItem-0 v)
 
+-- a block with places
 pub block_placed : (b : Block) → placed_statement (statements.Block b) ≡ trees.Block (placed_items b.items.items)
 block_placed b = ap trees.Block (row_of_items b.items)
 
+-- a `synchronized` with places
 pub synchronized_placed : (e : Expr) (b : Block) (span : Span) → placed_statement (statements.Synchronized e b span) ≡ trees.Synchronized (placed e) (placed_items b.items.items)
 synchronized_placed e b span = ap (trees.Synchronized (placed e)) (row_of_items b.items)
 
+-- a `try` with places
 pub try_placed : (b f : Block) (span : Span) → placed_statement (statements.Try b f span) ≡ trees.Try (placed_items b.items.items) (placed_items f.items.items)
 try_placed b f span = λ i. trees.Try (row_of_items b.items i) (row_of_items f.items i)

@@ -62,6 +62,7 @@ no_label (New class arguments) rest post formed colon = refl
 no_label (NewMarkable class arguments) rest post formed colon = refl
 no_label (NewArray length') rest post formed colon = refl
 
+-- a call is a postfix expression
 pub called : (t : Expression) → is_call t ≡ true → is_post t ≡ true
 called (Unary op operand) h = absurd cc
 called (Binary op left right) h = absurd cc
@@ -100,6 +101,7 @@ pub record FollowSimple (ks : List Lexeme) : Type 0 where
   pub less : after_sign signs.Less ks ≡ None
   pub colon : after_sign signs.Colon ks ≡ None
 
+-- a semicolon may follow a simple form
 pub simple_semicolon : (ks : List Lexeme) → FollowSimple (Marked signs.Semicolon ∷ ks)
 simple_semicolon ks = record { follow = follow_semicolon 6 ks; post = follow_semicolon 0 ks; assign = refl; add = refl; count = refl; name = refl; less = refl; colon = refl }
 
@@ -120,6 +122,7 @@ follow_down ks = record { operators = λ wanted le. refl; dot = refl; bracket = 
 
 -- ---- how a simple form begins
 
+-- a simple form begins neither a declaration nor a block
 pub simple_opens : (s : Simple) (rest : List Lexeme) → WellFormedSimple s → FollowSimple rest → Opens (onto_simple s rest)
 simple_opens (Assign target value) rest formed f = post_opens target (Marked signs.Assign ∷ onto value rest) formed.0 formed.1 refl refl
 simple_opens (Add target value) rest formed f = post_opens target (Marked signs.PlusAssign ∷ onto value rest) formed.0 formed.1 refl refl
@@ -129,6 +132,7 @@ simple_opens (Count true false target) rest formed f = post_opens target (Marked
 simple_opens (Count false false target) rest formed f = post_opens target (Marked signs.Decrement ∷ rest) formed.0 formed.1 refl refl
 simple_opens (Evaluate value) rest formed f = post_opens value rest (called value formed.0) formed.1 f.name f.less
 
+-- a simple form doesn't begin with a label
 pub simple_label : (s : Simple) (rest : List Lexeme) → WellFormedSimple s → FollowSimple rest → label_at (onto_simple s rest) ≡ None
 simple_label (Assign target value) rest formed f = no_label target (Marked signs.Assign ∷ onto value rest) formed.0 formed.1 refl
 simple_label (Add target value) rest formed f = no_label target (Marked signs.PlusAssign ∷ onto value rest) formed.0 formed.1 refl
@@ -138,6 +142,7 @@ simple_label (Count true false target) rest formed f = no_label target (Marked s
 simple_label (Count false false target) rest formed f = no_label target (Marked signs.Decrement ∷ rest) formed.0 formed.1 refl
 simple_label (Evaluate value) rest formed f = no_label value rest (called value formed.0) formed.1 f.colon
 
+-- a simple form doesn't begin with `else`
 pub simple_else : (s : Simple) (rest : List Lexeme) → WellFormedSimple s → after_word words.Else (onto_simple s rest) ≡ None
 simple_else (Assign target value) rest formed = post_else target (Marked signs.Assign ∷ onto value rest) formed.0 formed.1
 simple_else (Add target value) rest formed = post_else target (Marked signs.PlusAssign ∷ onto value rest) formed.0 formed.1
@@ -149,6 +154,7 @@ simple_else (Evaluate value) rest formed = post_else value rest (called value fo
 
 -- ---- simple forms
 
+-- a simple form that is spelled is read again
 pub from_again : (limit : ℕ) (s : Simple) (rest : List Lexeme) → WellFormedSimple s → simple_height s ≤ suc limit → FollowSimple rest → simple_from (post_at limit false) (expression_at limit) (onto_simple s rest) ≡ Some (s, rest)
 from_again limit (Assign target value) rest formed fits f =
     let ks : List Lexeme = Marked signs.Assign ∷ onto value rest in
@@ -167,6 +173,7 @@ from_again limit (Count false false target) rest formed fits f =
 from_again limit (Evaluate value) rest formed fits f =
     rw (post_count value rest (called value formed.0) formed.1, post_complete limit value rest (called value formed.0) formed.1 (omega arith) f.post, f.assign, f.add, f.count, formed.0) refl
 
+-- a simple form has a height
 pub simple_pos : (s : Simple) → 1 ≤ simple_height s
 simple_pos (Assign target value) = omega arith
 simple_pos (Add target value) = omega arith
@@ -208,16 +215,20 @@ close_none (Count true false target) ks formed = post_close target (Marked signs
 close_none (Count false false target) ks formed = post_close target (Marked signs.Decrement ∷ ks) formed.0 formed.1
 close_none (Evaluate value) ks formed = post_close value ks (called value formed.0) formed.1
 
+-- a semicolon ends simple forms
 pub semicolon_ends : Ends signs.Semicolon
 semicolon_ends = record { closes = λ ks. refl; none = λ s ks formed. semicolon_none s ks; follow = simple_semicolon; comma = λ ks. refl }
 
+-- so does a closing parenthesis
 pub close_ends : Ends signs.CloseParen
 close_ends = record { closes = λ ks. refl; none = close_none; follow = simple_close; comma = λ ks. refl }
 
+-- what comes after a simple form in a list may follow it
 pub others_follow : (stop : Sign) → Ends stop → (ss : List Simple) (rest : List Lexeme) → FollowSimple (onto_all onto_next_simple ss (Marked stop ∷ rest))
 others_follow stop ends [] rest = ends.follow rest
 others_follow stop ends (s ∷ ss) rest = simple_comma (onto_simple s (onto_all onto_next_simple ss (Marked stop ∷ rest)))
 
+-- simple forms that are spelled are read again
 pub simples_complete : (limit : ℕ) (stop : Sign) → Ends stop → (ss : List Simple) (rest : List Lexeme) → WellFormedSimples ss → simples_height ss ≤ limit → simples_to stop (simple_at limit) (onto_simples ss (Marked stop ∷ rest)) ≡ Some (ss, rest)
 simples_complete limit stop ends [] rest formed fits = rw (ends.closes rest) refl
 simples_complete limit stop ends (s ∷ ss) rest formed fits =

@@ -21,6 +21,7 @@ use Rattle.ls_parser_statements.proofs.OntoStatements.{onto_simple, onto_next_si
 abbrev cons : Lexeme → List Lexeme → List Lexeme
 cons k ks = k ∷ ks
 
+-- a simple form that is well formed and not too high
 abbrev pub FormedSimple : ℕ → Simple → Type 0
 FormedSimple limit s = WellFormedSimple s × (simple_height s ≤ limit)
 
@@ -74,6 +75,7 @@ module _ (limit : ℕ) where
             ]
       ]
 
+  -- a simple form that is read is spelled by its tokens
   pub from_sound : (ks : List Lexeme) (x : Simple × List Lexeme) → simple_from (post_at limit false) (expression_at limit) ks ≡ Some x → ReadsSimple (suc limit) ks x
   from_sound ks x e =
       elim (given_cases (counted_at ks) _ _ (Some x) e) [
@@ -94,6 +96,7 @@ pub simple_sound : (limit : ℕ) (ks : List Lexeme) (x : Simple × List Lexeme) 
 simple_sound zero ks x e = absurd cc
 simple_sound (suc limit) ks x e = from_sound limit ks x e
 
+-- a simple form takes a token
 pub simple_shrinks : (limit : ℕ) → Shrinks (simple_at limit)
 simple_shrinks limit ks x e = omega (arith, ap length (simple_sound limit ks x e).spelled, simple_longer x.0 x.1)
 
@@ -144,7 +147,7 @@ some_sound limit ks x e =
       fits = formed.1;
     })
 
--- with the sign behind them
+-- with the sign after them
 pub simples_sound : (limit : ℕ) (stop : Sign) (ks : List Lexeme) (x : List Simple × List Lexeme) → simples_to stop (simple_at limit) ks ≡ Some x → ReadsSimples limit ks x.0 (Marked stop ∷ x.1)
 simples_sound limit stop ks x e =
     elim (given_cases (after_sign stop ks) (λ rest. Some ([], rest)) (simples_at (simple_at limit) ks >>= λ all. after_sign stop all.1 >>= λ rest. Some (all.0, rest)) (Some x) e) [

@@ -38,6 +38,7 @@ modifier_first Final rest = refl
 modifier_first Volatile rest = refl
 modifier_first (Annotation name) rest = refl
 
+-- each thing is anything
 pub anything : {A : Type 0} (xs : List A) → AllByRecursion Anything xs
 anything [] = tt
 anything (x ∷ xs) = (tt, anything xs)
@@ -59,6 +60,7 @@ type_complete BooleanArray name rest = refl
 type_complete (Class text) name rest = rw (and_false (is_markable text)) refl
 type_complete (Markable text) name rest = refl
 
+-- a type doesn't begin with a modifier
 pub type_no_modifier : (t : TypeName) (rest : List Lexeme) → starts_modifier (onto_type t rest) ≡ false
 type_no_modifier Int rest = refl
 type_no_modifier Boolean rest = refl
@@ -89,6 +91,7 @@ declarators_follow : (ds : List Declarator) (rest : List Lexeme) → FollowDecla
 declarators_follow [] rest = record { follow = follow_semicolon 6 rest; assign = refl }
 declarators_follow (d ∷ ds) rest = record { follow = follow_comma 6 (onto_declarator d (onto_all onto_next_declarator ds (Marked signs.Semicolon ∷ rest))); assign = refl }
 
+-- declarators that are spelled are read again
 pub declarators_complete : (limit : ℕ) (d : Declaration) (rest : List Lexeme) → WellFormedDeclaration d → declarators_height (d.first ∷ d.more) ≤ limit
     → declarators_at (expression_at limit) d.modifiers d.type_name (onto_declarator d.first (onto_all onto_next_declarator d.more (Marked signs.Semicolon ∷ rest))) ≡ Some (d, rest)
 declarators_complete limit d rest formed fits =
@@ -371,5 +374,6 @@ nested_complete (suc limit) =
     let inner = nested_complete limit in
     (statement_of_complete limit (statement_at limit) inner.0 (block_at limit) inner.1, λ items rest formed fits. braces_complete limit (statement_at limit) inner.0 items rest formed (omega arith))
 
+-- a block that is spelled is read again
 pub block_complete : (limit : ℕ) → CompleteBlock (block_at limit) limit
 block_complete limit = (nested_complete limit).1

@@ -45,6 +45,7 @@ pub record ReadsBlock (limit : ℕ) (ks : List Lexeme) (x : Items × List Lexeme
 abbrev pub SoundBlock : Reader Items → ℕ → Type 0
 SoundBlock reader limit = (ks : List Lexeme) (x : Items × List Lexeme) → reader ks ≡ Some x → ReadsBlock limit ks x
 
+-- an item that is well formed and not too high
 abbrev pub FormedPiece : ℕ → Piece → Type 0
 FormedPiece limit (Doing a) = WellFormedStatement a × (statement_height a ≤ limit)
 FormedPiece limit (Declaring d) = WellFormedDeclaration d × (declaration_height d ≤ limit)
@@ -353,10 +354,12 @@ nested_sound (suc limit) =
 pub statement_sound : (limit : ℕ) → SoundStatement (statement_at limit) limit
 statement_sound limit = (nested_sound limit).0
 
+-- a block that is read is spelled by its tokens
 pub block_sound : (limit : ℕ) → SoundBlock (block_at limit) limit
 block_sound limit = (nested_sound limit).1
 
 -- ---- each takes a token at least
 
+-- an item takes a token
 pub piece_shrinks : (limit : ℕ) → Shrinks (piece_at (local_at limit) (statement_at limit))
 piece_shrinks limit ks x e = omega (arith, ap length (piece_sound limit (statement_at limit) (statement_sound limit) ks x e).0, piece_longer x.0 x.1)

@@ -35,14 +35,14 @@ condition_at expression ks =
     after_sign signs.OpenParen ks >>= λ rest. expression rest >>= λ condition.
     after_sign signs.CloseParen condition.1 >>= λ end. Some (condition.0, end)
 
--- behind `if`
+-- what comes after `if`
 abbrev pub if_at : Reader Expression → Reader Statement → Reader Statement
 if_at expression statement ks =
     condition_at expression ks >>= λ condition. statement condition.1 >>= λ first. given (after_word words.Else first.1)
     (λ rest. statement rest >>= λ second. Some (IfElse condition.0 first.0 second.0, second.1))
     (Some (If condition.0 first.0, first.1))
 
--- behind `while`
+-- what comes after `while`
 abbrev pub while_at : Reader Expression → Reader Statement → Option Text → Reader Statement
 while_at expression statement label ks =
     condition_at expression ks >>= λ condition. statement condition.1 >>= λ body. Some (While label condition.0 body.0, body.1)
@@ -70,17 +70,17 @@ break_at ks = jump_at ks >>= λ label. Some (Break label.0, label.1)
 abbrev pub continue_at : Reader Statement
 continue_at ks = jump_at ks >>= λ label. Some (Continue label.0, label.1)
 
--- behind `return`
+-- what comes after `return`
 abbrev pub return_at : Reader Expression → Reader Statement
 return_at expression ks = value_at expression ks >>= λ value. Some (Return value.0, value.1)
 
--- behind `try`
+-- what comes after `try`
 abbrev pub try_at : Reader Items → Reader Statement
 try_at block ks =
     block ks >>= λ body. after_word words.Finally body.1 >>= λ rest.
     block rest >>= λ finally. Some (Try body.0 finally.0, finally.1)
 
--- behind `synchronized`
+-- what comes after `synchronized`
 abbrev pub synchronized_at : Reader Expression → Reader Items → Reader Statement
 synchronized_at expression block ks =
     condition_at expression ks >>= λ target. block target.1 >>= λ body. Some (Synchronized target.0 body.0, body.1)
@@ -95,7 +95,7 @@ counted_at ks =
     given (after_sign signs.Increment ks) (λ rest. Some (true, rest))
     (after_sign signs.Decrement ks >>= λ rest. Some (false, rest))
 
--- behind an expression without an operator
+-- what comes after an expression without an operator, with that expression
 abbrev pub used_at : Reader Expression → Expression → Reader Simple
 used_at expression target ks =
     given (after_sign signs.Assign ks) (λ rest. expression rest >>= λ value. Some (Assign target value.0, value.1))
@@ -118,7 +118,7 @@ abbrev pub simples_at : Reader Simple → Reader (List Simple)
 simples_at simple ks =
     simple ks >>= λ first. many_from (first.0 ∷ []) (starts signs.Comma) (behind_comma simple) first.1
 
--- simple forms, or none, and a sign behind them
+-- simple forms, or none, and a sign after them
 abbrev pub simples_to : Sign → Reader Simple → Reader (List Simple)
 simples_to stop simple ks =
     given (after_sign stop ks) (λ rest. Some ([], rest))
@@ -138,12 +138,12 @@ head_at declaration simple expression ks =
     value_at expression opening.1 >>= λ condition.
     simples_to signs.CloseParen simple condition.1 >>= λ updates. Some ((opening.0, condition.0, updates.0), updates.1)
 
--- behind `for`
+-- what comes after `for`
 abbrev pub for_at : Reader (Opening × Option Expression × List Simple) → Reader Statement → Option Text → Reader Statement
 for_at head statement label ks =
     head ks >>= λ h. statement h.1 >>= λ body. Some (For label h.0.0 h.0.1 h.0.2 body.0, body.1)
 
--- a loop behind its label
+-- a loop after its label
 abbrev pub loop_at : Reader Expression → Reader (Opening × Option Expression × List Simple) → Reader Statement → Text → Reader Statement
 loop_at expression head statement label ks =
     given (after_word words.While ks) (λ rest. while_at expression statement (Some label) rest)
@@ -202,7 +202,7 @@ local_at (suc limit) ks = declaration_at (expression_at limit) ks
 abbrev pub head_in : ℕ → Reader (Opening × Option Expression × List Simple)
 head_in limit = head_at (local_at limit) (simple_at limit) (expression_at limit)
 
--- the rest is behind the first token, all with it
+-- `all` begins with the first token, and `rest` comes after it
 abbrev pub statement_from : First → ℕ → Reader Statement → Reader Items → Reader Piece → List Lexeme → Reader Statement
 statement_from FirstEmpty limit statement block piece all rest = Some (Empty, rest)
 statement_from FirstBlock limit statement block piece all rest = block_in (braces_at piece) all
@@ -234,6 +234,6 @@ statement_at limit = (nested_at limit).0
 abbrev pub block_at : ℕ → Reader Items
 block_at limit = (nested_at limit).1
 
--- what a first token begins, where the limit is for what stands in it
+-- the statement that a first token begins; the limit is that of the parts of the statement
 abbrev pub begun_at : ℕ → First → List Lexeme → Reader Statement
 begun_at limit first all rest = statement_from first limit (statement_at limit) (block_at limit) (piece_at (local_at limit) (statement_at limit)) all rest

@@ -1,4 +1,5 @@
-//! Reading of statements: the middle of the parser.
+//! Reading of statements: the middle of the parser. Functions that read are refused as those of
+//! `ls_parser_expressions` are.
 #![tactic(auto)]
 
 pub mod simple_statements;

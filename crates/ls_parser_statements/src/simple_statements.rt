@@ -1,4 +1,4 @@
-// Statements in which no statement stands, and the parts of others.
+// Statements that contain no statement, and parts of the other statements.
 
 ghost use Rattle.std.specs.Prelude.{◌≡◌, ◌+◌, ◌-◌, ◌<◌, ◌≤◌, ◌^◌, ◌∷◌, List, IfOk, IfSome, Some, option_map};
 ghost use Rattle.ls_lexer.specs.Lexemes.{Named};
@@ -30,7 +30,7 @@ use ls_parser_tokens::tokens::{
 use ls_tree::tree::{Block, BlockItem, Declaration, Expr, Name, Statement};
 use std::alloc::AllocError;
 
-// A local declaration of at most this height.
+/// A local declaration of at most this height.
 #[tactic(auto, using(crate::proofs::StatementSteps::local_zero, crate::proofs::StatementSteps::local_step))]
 pub fn local_declaration<'t, 'a>(
     context: Context,
@@ -52,6 +52,7 @@ pub fn local_declaration<'t, 'a>(
     })
 }
 
+/// A local declaration of at most this height, as an item of a block.
 #[tactic(auto, using(crate::proofs::Places::one_declaration))]
 pub fn local<'t, 'a>(
     context: Context,
@@ -70,7 +71,7 @@ pub fn local<'t, 'a>(
     })
 }
 
-// An expression in parentheses.
+/// An expression in parentheses.
 pub fn condition<'t, 'a>(
     context: Context,
     tokens: &'t [Token<'a>],
@@ -85,7 +86,8 @@ pub fn condition<'t, 'a>(
     closed_part(context, condition, Sign::CloseParen)
 }
 
-/// Where `break` or `continue` leads: a label or none, where the semicolon behind it stands, and the tokens behind that.
+/// Where `break` or `continue` leads: a label or none, the span of the semicolon after it, and the tokens after the
+/// semicolon.
 #[derive(Drop)]
 pub struct Jump<'t, 'a> {
     pub label: Option<Name>,
@@ -93,7 +95,7 @@ pub struct Jump<'t, 'a> {
     pub rest: &'t [Token<'a>],
 }
 
-// A label or none, and a semicolon.
+/// A label or none, and a semicolon.
 #[tactic(auto, using(crate::proofs::Places::bare_jump_is, crate::proofs::Places::jump_is))]
 pub fn jump_part<'t, 'a>(
     context: Context,
@@ -123,6 +125,7 @@ pub fn jump_part<'t, 'a>(
     }
 }
 
+/// A `break`, of which the word is read. Refused if no label or semicolon comes, or if memory runs out.
 #[tactic(auto, using(ls_parser_spelling::specs::StatementPlaces::break_at))]
 pub fn break_statement<'t, 'a>(
     context: Context,
@@ -144,6 +147,7 @@ pub fn break_statement<'t, 'a>(
     })
 }
 
+/// A `continue`, of which the word is read. Refused if no label or semicolon comes, or if memory runs out.
 #[tactic(auto, using(ls_parser_spelling::specs::StatementPlaces::continue_at))]
 pub fn continue_statement<'t, 'a>(
     context: Context,
@@ -179,7 +183,7 @@ fn ended<'t, 'a>(
     closed_part(context, value, Sign::Semicolon)
 }
 
-// A value or none, and a semicolon.
+/// A value or none, and a semicolon.
 #[tactic(auto, using(crate::proofs::Places::nothing_is, crate::proofs::Places::returned_is))]
 pub fn value_part<'t, 'a>(
     context: Context,
@@ -207,6 +211,8 @@ pub fn value_part<'t, 'a>(
     })
 }
 
+/// A `return`, of which the word is read. Refused if no value or semicolon comes, if the value is too high, or if
+/// memory runs out.
 #[tactic(auto, using(ls_parser_spelling::specs::StatementPlaces::return_at))]
 pub fn return_statement<'t, 'a>(
     context: Context,
@@ -230,6 +236,7 @@ pub fn return_statement<'t, 'a>(
     })
 }
 
+/// A block as a statement.
 pub fn block_tree(block: Block) -> Statement
     ensures read { bare_statement result ≡ trees.Block (bare_block block) }
     ensures places { placed_statement result ≡ placed_trees.Block (placed_items block.items.items) }
@@ -237,6 +244,7 @@ pub fn block_tree(block: Block) -> Statement
     Statement::Block(block)
 }
 
+/// A `try` with its block and its `finally` block.
 pub fn try_tree(body: Block, finally: Block, span: Span) -> Statement
     ensures read { bare_statement result ≡ trees.Try (bare_block body) (bare_block finally) }
     ensures places { placed_statement result ≡ placed_trees.Try (placed_items body.items.items) (placed_items finally.items.items) }
@@ -248,6 +256,7 @@ pub fn try_tree(body: Block, finally: Block, span: Span) -> Statement
     }
 }
 
+/// A `synchronized` statement.
 pub fn synchronized_tree(target: Expr, body: Block, span: Span) -> Statement
     ensures read { bare_statement result ≡ trees.Synchronized (bare target) (bare_block body) }
     ensures places { placed_statement result ≡ placed_trees.Synchronized (placed target) (placed_items body.items.items) }
@@ -255,7 +264,7 @@ pub fn synchronized_tree(target: Expr, body: Block, span: Span) -> Statement
     Statement::Synchronized { target, body, span }
 }
 
-// A name and a colon, and the tokens behind them.
+/// A name and a colon, and the tokens after the colon.
 pub fn label_part<'t, 'a>(tokens: &'t [Token<'a>]) -> Option<NamePart<'t, 'a>>
     ensures read { Finds (λ l. (l.text.now, lexemes l.rest.now)) result (label_at (lexemes tokens.now)) }
     ensures places { IfSome result (λ l. (colon : Span) × (spots tokens.now ≡ spot (Named l.text.now) l.span ∷ sign signs.Colon colon ∷ spots l.rest.now)) }

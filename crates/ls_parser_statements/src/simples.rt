@@ -27,7 +27,7 @@ use ls_parser_tokens::tokens::{
 };
 use ls_tree::tree::{Expr, Opening, Simple, Statement};
 
-// `++` or `--`, and the tokens behind it: whether it counts up.
+// Whether `++`, which counts up, or `--` comes first, and the tokens after it.
 #[tactic(auto, using(crate::proofs::SimplePlaces::up_is, crate::proofs::SimplePlaces::down_is))]
 fn counted<'t, 'a>(tokens: &'t [Token<'a>]) -> Option<Read<'t, 'a, bool>>
     ensures read { Finds (λ c. (c.tree, lexemes c.rest.now)) result (counted_at (lexemes tokens.now)) }
@@ -46,6 +46,7 @@ fn counted<'t, 'a>(tokens: &'t [Token<'a>]) -> Option<Read<'t, 'a, bool>>
     })
 }
 
+/// Whether an expression is a call or the making of an object.
 pub fn is_call(tree: &Expr) -> bool
     ensures { result ≡ is_call (bare tree.now) }
 {
@@ -55,7 +56,7 @@ pub fn is_call(tree: &Expr) -> bool
     )
 }
 
-// What stands behind the target of an assignment or a count, or behind a call, with it.
+// A simple form, of which the target or the call is read: what comes after that is read here.
 #[tactic(auto, using(crate::proofs::SimplePlaces::assign_is, crate::proofs::SimplePlaces::add_is, crate::proofs::SimplePlaces::count_behind_is, crate::proofs::SimplePlaces::evaluate_is))]
 fn used<'t, 'a>(
     context: Context,
@@ -111,7 +112,7 @@ fn used<'t, 'a>(
     })
 }
 
-// A simple form, where the limit is for what stands in it.
+// A simple form. The limit is that of the expressions in it.
 #[tactic(auto, using(crate::proofs::SimplePlaces::count_before_is))]
 fn form<'t, 'a>(
     context: Context,
@@ -156,7 +157,7 @@ fn simple<'t, 'a>(
     form(context, tokens, limit - 1)
 }
 
-// A simple form and a semicolon.
+/// A simple form and a semicolon.
 #[tactic(auto, using(crate::proofs::SimplePlaces::perform_is))]
 pub fn performed<'t, 'a>(
     context: Context,
@@ -223,7 +224,7 @@ fn one_simple<'t, 'a>(
     })
 }
 
-// Simple forms, or none, and a sign behind them.
+// Simple forms, or none, and a sign after them.
 #[tactic(auto, using(crate::proofs::SimplePlaces::no_simples, crate::proofs::SimplePlaces::simples_are))]
 fn simples<'t, 'a>(
     context: Context,
@@ -278,7 +279,7 @@ fn opening<'t, 'a>(
     })
 }
 
-// The head of a `for`, in parentheses.
+/// The head of a `for`, in parentheses.
 #[tactic(auto, using(crate::proofs::SimplePlaces::head_is))]
 pub fn head<'t, 'a>(
     context: Context,

@@ -54,7 +54,7 @@ fn statement<'t, 'a>(
     }
 }
 
-// The statement that a token begins, where the limit is for what stands in it.
+// The statement that a token begins. The limit is that of the parts of the statement.
 #[cycle(statements)]
 #[tactic(auto, using(crate::proofs::StatementSteps::block_next, crate::proofs::Places::empty_is, crate::proofs::Places::loop_is))]
 fn begun<'t, 'a>(
@@ -363,7 +363,7 @@ fn synchronized_statement<'t, 'a>(
     })
 }
 
-// A loop behind its label.
+// A loop after its label.
 #[cycle(statements)]
 #[tactic(auto, using(crate::proofs::Places::labelled))]
 fn labelled_loop<'t, 'a>(

@@ -1,4 +1,4 @@
--- Where the first token of a slice stands.
+-- The place of the first token of a slice.
 use Rattle.std.proofs.Common.{◌≡◌, ℕ, ◌-◌, ◌≤◌, true, List, [], ◌∷◌, length, take, drop, slice_index_or, sym, ap, ◌∙◌, arith}
 use Rattle.std.proofs.Math.Seq.{take-length}
 use denote.Enum.Bare.{sameb, same_true}
@@ -10,9 +10,11 @@ use Rattle.ls_lexer.specs.declared.word.Word.{Word}
 use Rattle.ls_lexer.specs.Lexemes.{Lexeme, lexeme_of}
 use Rattle.ls_parser_spelling.specs.Places.{spot, spots}
 
+-- signs that are tested to be the same are the same
 pub same_sign : (s t : Sign) → sameb sign_type s t ≡ true → s ≡ t
 same_sign s t e = same_true sign_type tt s t e
 
+-- words that are tested to be the same are the same
 pub same_word : (s t : Word) → sameb word_type s t ≡ true → s ≡ t
 same_word s t e = same_true word_type tt s t e
 

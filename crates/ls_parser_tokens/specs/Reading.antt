@@ -14,18 +14,18 @@ abbrev pub ◌>>=◌ : {A B : Type 0} → Option A → (A → Option B) → Opti
 None >>= f = None
 (Some x) >>= f = f x
 
--- what is read, and what is left
+-- what is read, and the tokens that are left
 abbrev pub Reader : Type 0 → Type 0
 Reader A = List Lexeme → Option (A × List Lexeme)
 
--- where a first step succeeds go on with it, otherwise another way
+-- if a first step succeeds, go on with its answer, otherwise another way
 abbrev pub given : {A B : Type 0} → Option A → (A → B) → B → B
 given None go other = other
 given (Some x) go other = go x
 
 -- ---- one token
 
--- what is left behind a sign
+-- the tokens after a sign, if they begin with that sign
 abbrev pub after_sign : Sign → List Lexeme → Option (List Lexeme)
 after_sign wanted [] = None
 after_sign wanted (Marked sign ∷ ks) = if sameb sign_type sign wanted then Some ks else None
@@ -33,7 +33,7 @@ after_sign wanted (Named text ∷ ks) = None
 after_sign wanted (Numeral text ∷ ks) = None
 after_sign wanted (Reserved word ∷ ks) = None
 
--- what is left behind a reserved word
+-- the tokens after a reserved word, if they begin with that word
 abbrev pub after_word : Word → List Lexeme → Option (List Lexeme)
 after_word wanted [] = None
 after_word wanted (Reserved word ∷ ks) = if sameb word_type word wanted then Some ks else None
@@ -53,7 +53,7 @@ starts wanted ks = is_some (after_sign wanted ks)
 
 -- ---- repetition
 
--- Steps are made as long as the first token asks for one.
+-- Steps are made as long as `goes` says so of the tokens.
 unfoldable pub repeat : {A : Type 0} → ℕ → (List Lexeme → Bool) → (A → Reader A) → A → Reader A
 repeat zero goes step left ks = if goes ks then None else Some (left, ks)
 repeat (suc turns) goes step left ks =
@@ -62,14 +62,14 @@ repeat (suc turns) goes step left ks =
 abbrev pub one_more : {A : Type 0} → Reader A → List A → Reader (List A)
 one_more item front ks = item ks >>= λ x. Some (front ++ x.0 ∷ [], x.1)
 
--- as long as goes says so, behind those in front
+-- things as long as `goes` says so, put after those in front
 abbrev pub many_from : {A : Type 0} → List A → (List Lexeme → Bool) → Reader A → Reader (List A)
 many_from front goes item ks = repeat (length ks) goes (one_more item) front ks
 
 abbrev pub many_at : {A : Type 0} → (List Lexeme → Bool) → Reader A → Reader (List A)
 many_at goes item ks = many_from [] goes item ks
 
--- something behind a comma
+-- something after a comma
 abbrev pub behind_comma : {A : Type 0} → Reader A → Reader A
 behind_comma item ks = after_sign signs.Comma ks >>= λ rest. item rest
 

@@ -1,4 +1,4 @@
-//! Reading of tokens: the next of them, and what is made of it.
+//! Reading of tokens: the next tokens, and what is made of them.
 #![tactic(auto)]
 
 pub mod tokens;

@@ -18,21 +18,22 @@ use ls_lexer::word::Word;
 use ls_tree::tree::Name;
 use std::alloc::{AllocError, Global};
 
-/// What making a tree needs: memory, and the end of the text for a fault there.
+/// What the making of a tree needs: the allocator, and the end of the text in bytes, which is the place of a fault
+/// there.
 #[derive(Clone, Copy)]
 pub struct Context {
     pub alloc: Global,
     pub end: usize,
 }
 
-/// What is read, and the tokens behind it.
+/// What is read, and the tokens after it.
 #[derive(Drop)]
 pub struct Read<'t, 'a, T> {
     pub tree: T,
     pub rest: &'t [Token<'a>],
 }
 
-/// What is read, how high it is, and the tokens behind it.
+/// What is read, how high its tree is, and the tokens after it.
 #[derive(Drop)]
 pub struct Part<'t, 'a, T> {
     pub tree: T,
@@ -40,7 +41,7 @@ pub struct Part<'t, 'a, T> {
     pub rest: &'t [Token<'a>],
 }
 
-/// What is read up to a closing sign, where that sign stands, and the tokens behind it.
+/// What is read up to a closing sign, the span of that sign, and the tokens after it.
 #[derive(Drop)]
 pub struct Enclosed<'t, 'a, T> {
     pub tree: T,
@@ -49,14 +50,14 @@ pub struct Enclosed<'t, 'a, T> {
     pub rest: &'t [Token<'a>],
 }
 
-/// Where a token stands, and the tokens behind it.
+/// The span of a token, and the tokens after it.
 #[derive(Clone, Copy)]
 pub struct Mark<'t, 'a> {
     pub span: Span,
     pub rest: &'t [Token<'a>],
 }
 
-/// The text of a name, where it stands, and the tokens behind it.
+/// The text of a name, the span of the name, and the tokens after it.
 #[derive(Clone, Copy)]
 pub struct NamePart<'t, 'a> {
     pub text: &'a str,
@@ -64,7 +65,7 @@ pub struct NamePart<'t, 'a> {
     pub rest: &'t [Token<'a>],
 }
 
-// Where the first token stands, or the end of the text.
+/// The byte where the first token starts, or the end of the text.
 pub fn place(tokens: &[Token], end: usize) -> usize {
     match tokens {
         [token, ..] => token.span.start,
@@ -72,6 +73,7 @@ pub fn place(tokens: &[Token], end: usize) -> usize {
     }
 }
 
+/// The fault `Syntax`, at the first token or at the end of the text.
 pub fn syntax(context: Context, tokens: &[Token]) -> TextFault
     ensures { (at : ℕ) × (result ≡ Syntax at) }
 {
@@ -80,6 +82,7 @@ pub fn syntax(context: Context, tokens: &[Token]) -> TextFault
     }
 }
 
+/// The fault `TooDeep`, at the first token or at the end of the text.
 pub fn too_deep(context: Context, tokens: &[Token]) -> TextFault
     ensures { (at : ℕ) × (result ≡ TooDeep at) }
 {
@@ -88,7 +91,7 @@ pub fn too_deep(context: Context, tokens: &[Token]) -> TextFault
     }
 }
 
-// From the first of the tokens to the last one before the rest.
+/// From the first of the tokens to the last one before the rest.
 pub fn span_to(tokens: &[Token], rest: &[Token]) -> Span {
     let taken = tokens.len().saturating_sub(rest.len());
     Span {
@@ -110,6 +113,7 @@ pub fn upto(first: Span, last: Span) -> Span
     }
 }
 
+/// The span of the sign, and the tokens after it, if they begin with this sign.
 pub fn sign_part<'t, 'a>(tokens: &'t [Token<'a>], wanted: Sign) -> Option<Mark<'t, 'a>>
     ensures read { Finds (λ m. lexemes m.rest.now) result (after_sign wanted (lexemes tokens.now)) }
     ensures placed { IfSome result (λ m. spots tokens.now ≡ sign wanted m.span ∷ spots m.rest.now) }
@@ -126,6 +130,7 @@ pub fn sign_part<'t, 'a>(tokens: &'t [Token<'a>], wanted: Sign) -> Option<Mark<'
     }
 }
 
+/// The span of the word, and the tokens after it, if they begin with this reserved word.
 pub fn word_part<'t, 'a>(tokens: &'t [Token<'a>], wanted: Word) -> Option<Mark<'t, 'a>>
     ensures read { Finds (λ m. lexemes m.rest.now) result (after_word wanted (lexemes tokens.now)) }
     ensures placed { IfSome result (λ m. spots tokens.now ≡ spot (Reserved wanted) m.span ∷ spots m.rest.now) }
@@ -142,8 +147,8 @@ pub fn word_part<'t, 'a>(tokens: &'t [Token<'a>], wanted: Word) -> Option<Mark<'
     }
 }
 
-/// Where an `else` stands with which the tokens begin, and the tokens behind it. An `else` belongs to the innermost `if` to which
-/// it can (JLS 14.5), so whoever has read the first statement of an `if` asks for its `else` at once.
+/// If the tokens begin with `else`: its span, and the tokens after it. An `else` belongs to the innermost `if` to
+/// which it can (JLS 14.5). So whoever has read the first statement of an `if` asks for its `else` at once.
 pub fn else_part<'t, 'a>(tokens: &'t [Token<'a>]) -> Option<Mark<'t, 'a>>
     ensures read { Finds (λ m. lexemes m.rest.now) result (after_word words.Else (lexemes tokens.now)) }
     ensures placed { IfSome result (λ m. spots tokens.now ≡ spot (Reserved words.Else) m.span ∷ spots m.rest.now) }
@@ -151,6 +156,7 @@ pub fn else_part<'t, 'a>(tokens: &'t [Token<'a>]) -> Option<Mark<'t, 'a>>
     word_part(tokens, Word::Else)
 }
 
+/// The name that the tokens begin with, or none.
 pub fn name_part<'t, 'a>(tokens: &'t [Token<'a>]) -> Option<NamePart<'t, 'a>>
     ensures read { Finds (λ n. (n.text.now, lexemes n.rest.now)) result (name_at (lexemes tokens.now)) }
     ensures placed { IfSome result (λ n. spots tokens.now ≡ spot (Named n.text.now) n.span ∷ spots n.rest.now) }
@@ -168,12 +174,14 @@ pub fn name_part<'t, 'a>(tokens: &'t [Token<'a>]) -> Option<NamePart<'t, 'a>>
     }
 }
 
+/// Whether this sign comes first.
 pub fn starts_with(tokens: &[Token], wanted: Sign) -> bool
     ensures { result ≡ starts wanted (lexemes tokens.now) }
 {
     sign_part(tokens, wanted).is_some()
 }
 
+/// The sign that must come first, and the tokens after it. If another token comes, that is a fault of syntax.
 pub fn expect<'t, 'a>(
     context: Context,
     tokens: &'t [Token<'a>],
@@ -188,6 +196,7 @@ pub fn expect<'t, 'a>(
     }
 }
 
+/// The reserved word that must come first, and the tokens after it. If another token comes, that is a fault of syntax.
 pub fn expect_word<'t, 'a>(
     context: Context,
     tokens: &'t [Token<'a>],
@@ -202,6 +211,7 @@ pub fn expect_word<'t, 'a>(
     }
 }
 
+/// A name with this text and this span. The only refusal is that memory ran out.
 pub fn make_name(context: Context, text: &str, span: Span) -> Result<Name, AllocError>
     ensures { IfOk result (λ n. (name_text n ≡ text.now) × (n.span ≡ span)) }
 {
@@ -209,6 +219,8 @@ pub fn make_name(context: Context, text: &str, span: Span) -> Result<Name, Alloc
     Ok(Name { text, span })
 }
 
+/// The name that must come first. If another token comes, that is a fault of syntax. Else the only refusal is that
+/// memory ran out.
 pub fn name<'t, 'a>(
     context: Context,
     tokens: &'t [Token<'a>],
@@ -225,7 +237,7 @@ pub fn name<'t, 'a>(
     }
 }
 
-/// One more at the end.
+/// The same items, and one more at the end. The only refusal is that memory ran out.
 pub fn push<T: Drop>(mut items: Vec<T>, item: T) -> Result<Vec<T>, AllocError>
     ensures { IfOk result (λ v. v.items ≡ items.items ++ item ∷ []) }
 {
@@ -233,8 +245,8 @@ pub fn push<T: Drop>(mut items: Vec<T>, item: T) -> Result<Vec<T>, AllocError>
     Ok(items)
 }
 
-// Generic, as what follows: where a step may fail while a tree is held, the drop of a parameter's type is much less to
-// prove than that of a tree.
+/// Each value in a box. The only refusal is that memory ran out. This and the functions below are generic. If a step
+/// may fail while a tree is held, dropping a parameter's type is much less to prove than dropping a tree.
 pub fn two_boxed<T: Drop, U: Drop>(
     alloc: Global,
     first: T,
@@ -247,7 +259,7 @@ pub fn two_boxed<T: Drop, U: Drop>(
     Ok((first, second))
 }
 
-/// The same part, its tree in a box.
+/// The same part, with its tree in a box. The only refusal is that memory ran out.
 pub fn boxed_part<'t, 'a, T: Drop>(
     alloc: Global,
     part: Part<'t, 'a, T>,
@@ -261,7 +273,8 @@ pub fn boxed_part<'t, 'a, T: Drop>(
     })
 }
 
-/// The same part, behind which stood a sign.
+/// The same part, with the sign that must come after it. If another token comes, that is a fault of syntax at its
+/// place.
 pub fn closed_part<'t, 'a, T: Drop>(
     context: Context,
     part: Part<'t, 'a, T>,
@@ -280,7 +293,8 @@ pub fn closed_part<'t, 'a, T: Drop>(
     })
 }
 
-/// The same tree, behind which stood a sign.
+/// The same tree, with the sign that must come after it. If another token comes, that is a fault of syntax at its
+/// place.
 pub fn closed<'t, 'a, T: Drop>(
     context: Context,
     read: Read<'t, 'a, T>,

@@ -12,7 +12,7 @@ fn is_kind(token: &Token, kind: &TokenKind) -> bool {
     token.kind == *kind
 }
 
-// Whether a text is accepted, and the tree is spelled by the text's tokens.
+// Whether a text is accepted, and the text's tokens spell its tree.
 fn is_spelled_back(alloc: Global, text: &str) -> Result<bool, Fail> {
     let tokens = lex(alloc, text)?;
     let file = parse(alloc, &tokens)?;

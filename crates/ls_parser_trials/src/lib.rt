@@ -1,5 +1,5 @@
-//! Tests of lexing, parsing and spelling. They stand apart from the crates that they test, so that they are proved without
-//! proving those again.
+//! Tests of lexing, parsing and spelling. They are apart from the crates that they test. So the tests are proved
+//! without proving those crates again.
 #![tactic(auto)]
 
 #[cfg(test)]

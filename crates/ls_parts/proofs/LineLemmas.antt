@@ -7,6 +7,7 @@ use Rattle.ls_parts.specs.Parts.{lines_of, onto_first}
 abbrev pub feed : List ℕ → ℕ
 feed bs = position_or_len (λ b. eqb b 10) bs
 
+-- a text without a line feed is one line
 pub one_line : (bs : List ℕ) → feed bs ≡ length bs → lines_of bs ≡ bs ∷ []
 one_line [] e = refl
 one_line (b ∷ bs) e = go (b == 10) refl (one_line bs)
@@ -17,6 +18,7 @@ one_line (b ∷ bs) e = go (b == 10) refl (one_line bs)
         let more : feed (b ∷ bs) ≡ 1 + feed bs = rw g refl in
         ap (λ t. cond t ([] ∷ lines_of bs) (onto_first b (lines_of bs))) g ∙ ap (onto_first b) (next (omega arith))
 
+-- a text with a line feed: the first line and the others
 pub first_line : (bs : List ℕ) → feed bs < length bs → lines_of bs ≡ take (feed bs) bs ∷ lines_of (drop (feed bs + 1) bs)
 first_line [] e = absurd (omega arith)
 first_line (b ∷ bs) e = go (b == 10) refl (first_line bs)

@@ -26,5 +26,6 @@ at_line done had l ls all e h =
     ap (λ x. done ++ x) (sym (one_more had l (groups_of ls)))
     ∙ ap (λ b. done ++ open_with had (cond b ([] ∷ groups_of ls) (into_group l (groups_of ls)))) (sym e) ∙ h
 
+-- at the end the open part is the last
 pub at_end : (done : List (List ℕ)) (had : Option (List ℕ)) (all : List (List ℕ)) → done ++ open_with had (groups_of []) ≡ all → done ++ unwrap_or had [] ∷ [] ≡ all
 at_end done had all h = ap (λ x. done ++ x) (sym (one_less had [])) ∙ h

@@ -4,16 +4,16 @@ use Rattle.std.specs.List.{flat_map}
 use Rattle.std.specs.Str.{bytes_eq}
 use Rattle.std.specs.Str.Lossy.{utf8_valid_len}
 
--- all of it is UTF-8
+-- whether all of it is UTF-8
 abbrev pub is_text : List ℕ → Bool
 is_text input = utf8_valid_len input == length input
 
--- b before the first of the lines
+-- byte b before the first of the lines
 abbrev pub onto_first : ℕ → List (List ℕ) → List (List ℕ)
 onto_first b [] = (b ∷ []) ∷ []
 onto_first b (l ∷ ls) = (b ∷ l) ∷ ls
 
--- what stands between the line feeds
+-- what is between the line feeds
 abbrev pub lines_of : List ℕ → List (List ℕ)
 lines_of [] = [] ∷ []
 lines_of (b ∷ bs) = if b == 10 then [] ∷ lines_of bs else onto_first b (lines_of bs)
@@ -41,7 +41,7 @@ abbrev pub part_of : List (List ℕ) → List ℕ
 part_of [] = []
 part_of (l ∷ ls) = l ++ fed ls
 
--- a part that has had these lines so far, if any, with one more
+-- a part that has had these lines so far, if any, with one more line
 abbrev pub grown : Option (List ℕ) → List ℕ → List ℕ
 grown None l = l
 grown (Some text) l = text ++ 10 ∷ l

@@ -6,7 +6,7 @@ ghost use Rattle.ls_parts.specs.Parts.{groups_of, grown, is_text, parts_of};
 
 use std::alloc::{AllocError, Global};
 
-/// The input as text.
+/// The input as text, or none if it isn't UTF-8.
 pub fn text_of(bytes: &[u8]) -> Option<&str>
     ensures some { IfSome result (λ text. (text.now ≡ bytes.now) × (is_text bytes.now ≡ true)) }
     ensures none { IfNone result (is_text bytes.now ≡ false) }
@@ -17,7 +17,7 @@ pub fn text_of(bytes: &[u8]) -> Option<&str>
     }
 }
 
-/// The part with one line more.
+/// The part with one line more. The only refusal is that memory ran out.
 fn with_line(alloc: Global, part: Option<String>, line: &str) -> Result<String, AllocError>
     ensures { IfOk result (λ text. string_bytes text ≡ grown (option_map string_bytes part) line.now) }
 {
@@ -40,7 +40,7 @@ fn closed(alloc: Global, part: Option<String>) -> String
     }
 }
 
-/// What is had of the open part after one line more: a line that is exactly `%%` closes it.
+/// The open part after one line more. A line that is exactly `%%` closes it.
 fn cut(
     alloc: Global,
     parts: &mut Vec<String>,
@@ -57,7 +57,7 @@ fn cut(
     Ok(Some(with_line(alloc, part, line)?))
 }
 
-/// The parts of the text, cut at the lines that are exactly `%%`.
+/// The parts of the text, cut at the lines that are exactly `%%`. The only refusal is that memory ran out.
 pub fn parts_of(alloc: Global, text: &str) -> Result<Vec<String>, AllocError>
     ensures { IfOk result (λ parts. map string_bytes parts.items ≡ parts_of text.now) }
 {

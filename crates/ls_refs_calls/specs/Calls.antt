@@ -1,5 +1,5 @@
--- The lowered operator of a checked one, and the lowered tree of a call whose target and arguments are lowered. Its temporaries are numbered from the
--- first local that is free.
+-- The lowered operator of a checked one, and the lowered tree of a call whose target and arguments are lowered. Its
+-- temporaries are numbered from the first free local.
 use Rattle.std.specs.Prelude.{ℕ, ◌+◌}
 use Rattle.ls_checked.specs.declared.tree.Operator.{Operator}
 use Rattle.ls_checked.specs.declared.tree.Operator.TheVariants as written
@@ -46,7 +46,7 @@ second_of es = first_of (rest_of es)
 abbrev pub pack : Expression → Expression → Expression
 pack r m = Binary binary.Pack r m
 
--- the arguments go into temporaries from `free` on in their order, while the target's word is held
+-- the arguments go into temporaries from `free` on in their order, while the target's word is kept
 abbrev pub compare_and_set : ℕ → Expression → Expressions → Expression
 compare_and_set free target es =
     SwapPair
@@ -58,14 +58,14 @@ compare_and_set free target es =
     (pack (Local free) (Local (free + 2)))
     (pack (Local (free + 1)) (Local (free + 3)))
 
--- the array goes into one temporary, the pair that is read into another; then the mark is written
+-- the array goes into one temporary, and the pair that is read into the next; then the mark is written
 abbrev pub get_both : ℕ → Expression → Expression → Expression
 get_both free target array =
     Keep (free + 1) (ReadPair (Hold target free array))
     (After (SetFirst (Local free) (Unary unary.MarkOf (Local (free + 1))))
     (Unary unary.ReferenceOf (Local (free + 1))))
 
--- a call, whose target and arguments are lowered
+-- a call whose target and arguments are lowered
 abbrev pub lowered_call : ℕ → Called → Expression → Expressions → Expression
 lowered_call free (OfMethod m) o es = Call m o es
 lowered_call free LockIt o es = OnLock lock.Lock o

@@ -27,6 +27,7 @@ pub fn value_word(v: Value) -> u64
     }
 }
 
+/// The operator on words for a checked operator.
 pub fn operator(op: Operator) -> BinaryOperator
     ensures { result ≡ the_operator op }
 {
@@ -45,7 +46,7 @@ pub fn operator(op: Operator) -> BinaryOperator
     }
 }
 
-/// The number of a class's constructor; 0 where there is no such class.
+/// The number of a class's constructor, or 0 if there is no such class.
 pub fn constructor_of(classes: &[Class], class: usize) -> usize
     ensures { result ≡ the_constructor (map plain_class classes.now) class }
 {
@@ -88,7 +89,7 @@ fn split(arguments: Expressions) -> (Expression, Expressions)
     }
 }
 
-/// A reference and a mark as a pair.
+/// A reference and a mark as a pair. The only refusal is that memory ran out.
 pub fn pack(
     alloc: Global,
     reference: Expression,
@@ -100,7 +101,7 @@ pub fn pack(
     Ok(Expression::Binary(BinaryOperator::Pack, reference, mark))
 }
 
-/// The first two arguments as a pair.
+/// The first two arguments as a pair. The only refusal is that memory ran out.
 pub fn pack_arguments(alloc: Global, arguments: Expressions) -> Result<Expression, AllocError>
     ensures { IfOk result (λ t. plain t ≡ packed (first_of (all_plain arguments)) (first_of (rest_of (all_plain arguments)))) }
 {
@@ -135,7 +136,7 @@ fn hold(
     Ok(Expression::Hold(value, number, second))
 }
 
-// The target's word is held while the four arguments go into temporaries.
+// The target's word is kept on the operands while the four arguments go into temporaries.
 fn hold_four(
     alloc: Global,
     free: usize,
@@ -181,7 +182,7 @@ fn half(alloc: Global, op: UnaryOperator, pair: usize) -> Result<Box<Expression>
     Ok(Box::new(alloc, Expression::Unary(op, boxed_local(alloc, pair)?))?)
 }
 
-// Of the pair in the second local the mark goes into the array in the first; the reference stays.
+// The mark of the pair in the second local goes into the array in the first. The reference is the word.
 fn spread(alloc: Global, free: usize) -> Result<Box<Expression>, AllocError>
     requires { free + 2 ≤ 128 }
     ensures { IfOk result (λ b. plain b.value ≡ After (SetFirst (Local free) (Unary unary.MarkOf (Local (free + 1)))) (Unary unary.ReferenceOf (Local (free + 1)))) }
@@ -236,7 +237,8 @@ fn attempt(
     Ok(Expression::AttemptMark(target, reference, mark))
 }
 
-/// What is called, on the target, with the arguments. Its temporaries are from `free` on.
+/// The call of `called` on the target, with the arguments. Its temporaries begin at `free`. The only refusal is that
+/// memory ran out.
 pub fn call(
     alloc: Global,
     free: usize,

@@ -48,12 +48,12 @@ abbrev pub put_ahead : Option Statements → Statement → Statements → Statem
 put_ahead None s rest = Then s rest
 put_ahead (Some ss) s rest = joined ss rest
 
--- a statement in front of others; in place of a block stand its statements, so one that does nothing goes
+-- a statement before others; a block is replaced by its statements, so an empty block is gone
 abbrev pub ahead : Statement → Statements → Statements
 ahead s rest = put_ahead (inner_of s) s rest
 
--- A loop is leavable, and so is its body: to continue the n-th loop round a statement is to leave its body, and to break it is to
--- leave the loop itself. So two numbers are each loop's
+-- A loop is leavable, and so is its body. To continue the n-th loop around a statement is to leave the body of that
+-- loop. To break it is to leave the loop itself. So each loop has two numbers.
 abbrev mutual
   pub lowered_statement : List checked.Class → ℕ → checked.Statement → Statement
   lowered_statement classes free (checked.Block ss) = Block (lowered_block classes free ss)

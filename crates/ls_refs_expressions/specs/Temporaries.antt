@@ -1,4 +1,4 @@
--- How many temporaries a tree needs: those of its calls. Each try keeps two more for the lowering of finally blocks.
+-- How many temporaries a tree needs for its calls. Each try needs two more for the lowering of finally blocks.
 use Rattle.std.specs.Prelude.{ℕ, ◌+◌, ◌*◌, length}
 use Rattle.ls_checked.specs.CheckedTree.{Expression, Literal, Slot, Field, Item, Negate, Not, Binary, And, Or, Call, MakeObject, MakeLock, MakeMarkable, MakeArray, Expressions, End, More, Statement, Block, SetSlot, SetField, AddField, SetItem, Evaluate, If, While, Break, Continue, ReturnNothing, ReturnValue, Try, Statements, Done, Then, Method}
 use Rattle.ls_refs_calls.specs.Calls.{own_temporaries}
@@ -64,6 +64,6 @@ taken s = statement_temporaries s + 2 * tries s
 abbrev pub block_taken : Statements → ℕ
 block_taken ss = block_temporaries ss + 2 * block_tries ss
 
--- all locals of a method: `this`, the parameters, the locals, and what is taken beside them
+-- all locals of a method: `this`, the parameters, the locals, and the temporaries
 abbrev pub locals_of : Method → ℕ
 locals_of m = length m.slots + taken m.body

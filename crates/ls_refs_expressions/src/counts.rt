@@ -12,7 +12,7 @@ use ls_refs_calls::calls::own_temporaries;
 /// The most locals of a method.
 pub const MOST_LOCALS: usize = 128;
 
-/// More locals, where they aren't too many.
+/// `count` locals more than `so_far`; none if that is over 128.
 pub fn more(so_far: usize, count: usize) -> Option<usize>
     requires { so_far ≤ 128 }
     ensures { SomeIff result (so_far + count ≤ 128) (so_far + count) }
@@ -24,7 +24,7 @@ pub fn more(so_far: usize, count: usize) -> Option<usize>
     }
 }
 
-/// So many locals, and the temporaries of an expression; none where they are over 128.
+/// `so_far` locals and the temporaries of an expression; none if they are over 128.
 #[cycle(expressions)]
 pub fn count_expression(so_far: usize, e: &Expression) -> Option<usize>
     requires { so_far ≤ 128 }

@@ -22,7 +22,7 @@ pub struct Placed<T> {
     pub free: usize,
 }
 
-/// An expression, with its temporaries from `free` on.
+/// An expression, with its temporaries from `free` on. The only refusal is that memory ran out.
 #[cycle(expressions)]
 pub fn lower_expression(
     alloc: Global,
@@ -179,7 +179,7 @@ fn more(alloc: Global, first: Box<Tree>, rest: Trees) -> Result<Trees, AllocErro
     Ok(Trees::More(first, rest))
 }
 
-/// Arguments, one after the other.
+/// Arguments, one after the other. The only refusal is that memory ran out.
 #[cycle(expressions)]
 pub fn lower_expressions(
     alloc: Global,

@@ -1,5 +1,5 @@
-//! The first lowering of expressions: values become words, and each call's temporaries are locals. What a call becomes, whose target
-//! and arguments are lowered, stands in `ls_refs_calls`.
+//! The first lowering of expressions: values become words, and each call's temporaries are locals. `ls_refs_calls` has
+//! what a call becomes whose target and arguments are lowered.
 #![tactic(auto)]
 
 pub mod counts;

@@ -62,6 +62,7 @@ is_of t e = bytes_eq e.thread.now t
 abbrev pub place_after : Front → NamedEvent → Text → Option ℕ
 place_after old e t = cond (is_of t e) (Some (length old.events.items)) (place_of old.places t)
 
+-- the places are right after one more event
 pub indexed_after : (old new : Front) (e : NamedEvent) → IsIndexed old → new.events.items ≡ old.events.items ++ e ∷ []
     → ((t : Text) → place_of new.places t ≡ place_after old e t) → IsIndexed new
 indexed_after old new e h items place = record {

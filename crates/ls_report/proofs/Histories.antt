@@ -52,12 +52,14 @@ lacks-event e h fits =
     (lacks-occurrence e.occurrence (well_named e h)) in
     lacks-append 10 e.thread (46 ∷ (decimal e.call ++ (32 ∷ occurrence_text e.occurrence))) (lacks-name 10 e.thread refl p.0) number
 
+-- the first line of a text
 pub line_cut : (e : Event) (after : Text) → is_well_formed e ≡ true → e.call < 2 ^ 64 → cut 10 (line e ++ after) ≡ two (event_text e) after
 line_cut e after h fits =
     ap (cut 10) (append_assoc (event_text e) (10 ∷ []) after) ∙ cut_at 10 (event_text e) after (without 10 (event_text e) (lacks-event e h fits))
 
 -- ---- a call's number is no more than the events before it
 
+-- no call has a number over the number of events
 abbrev pub bounded : ℕ → List Event → Bool
 bounded n = list_all (λ e. nat_le e.call n)
 
@@ -113,12 +115,14 @@ follows_bound n (Some d) e b h = go (is_call e.occurrence) h
         let low = b d refl in
         omega arith
 
+-- the number of the next call is at most one over the number of events
 pub next_bound : (front : List Event) (e : Event) → bounded (length front) front ≡ true → is_next front e ≡ true → e.call ≤ length front + 1
 next_bound front e h k =
     let p = and_parts (is_well_formed e) (may_follow (last_of e.thread front) e) k in
     follows_bound (length front) (last_of e.thread front) e
     (λ d f. bounded-find (length front) (λ x. bytes_eq x.thread e.thread) (reverse front) d (bounded-reverse (length front) front h) f) p.1
 
+-- the numbers are bounded after one more event
 pub bounded_push : (front : List Event) (e : Event) → bounded (length front) front ≡ true → is_next front e ≡ true → bounded (length (front ++ e ∷ [])) (front ++ e ∷ []) ≡ true
 bounded_push front e h k =
     let len = length-append front (e ∷ []) in
@@ -133,6 +137,7 @@ bounded_all front (e ∷ es) h k =
     let rest = bounded_all (front ++ e ∷ []) es (bounded_push front e h p.0) p.1 in
     subst (λ (x : List Event). bounded (length x) x ≡ true) (append_assoc front (e ∷ []) es) rest
 
+-- the number of an event that may come next is at most one over the number of events
 pub call_bound : (es : List Event) (e : Event) → is_history es ≡ true → is_next es e ≡ true → e.call ≤ length es + 1
 call_bound es e h k = next_bound es e (bounded_all [] es refl h) k
 
@@ -145,9 +150,11 @@ continues_push front (d ∷ es) e h k =
     and_from (is_next front d) (continues (front ++ d ∷ []) (es ++ e ∷ [])) p.0
     (continues_push (front ++ d ∷ []) es e p.1 (ap (λ x. is_next x e) (append_assoc front (d ∷ []) es) ∙ k))
 
+-- a history with one more event
 pub history_push : (es : List Event) (e : Event) → is_history es ≡ true → is_next es e ≡ true → is_history (es ++ e ∷ []) ≡ true
 history_push es e h k = continues_push [] es e h k
 
+-- the lines of a history with one more event
 pub lines_push : (text rest l after : Text) (es : List Event) (e : Event) → text ≡ history_text es ++ rest → two l after ≡ cut 10 rest → l ≡ event_text e
     → text ≡ history_text (es ++ e ∷ []) ++ after
 lines_push text rest l after es e h c is =
@@ -155,13 +162,15 @@ lines_push text rest l after es e h c is =
     let split : rest ≡ line e ++ after = cut_parts 10 rest l after c ∙ ap (λ x. x ++ 10 ∷ after) is ∙ sym (append_assoc (event_text e) (10 ∷ []) after) in
     h ∙ ap (λ x. history_text es ++ x) split ∙ sym (append_assoc (history_text es) (line e) after) ∙ ap (λ x. x ++ after) (sym more)
 
--- ---- where no line stands
+-- ---- a place at which no line comes
 
+-- if no event that may come next has its line here, the text breaks here
 pub breaks : (text rest : Text) (at : ℕ) (es : List Event) → is_history es ≡ true → text ≡ history_text es ++ rest → at + length rest ≡ length text → 0 < length rest
     → ((e : Event) (after : Text) → is_next es e ≡ true → rest ≡ line e ++ after → ⊥) → BreaksAt text at
 breaks text rest at es h is place some none =
     record { events = es; rest = rest; history = h; lines = is; place = omega (arith, ap length is, length-append (history_text es) rest); goes_on = some; none = none }
 
+-- an event that may come next is well formed
 pub next_is_well_formed : (es : List Event) (e : Event) → is_next es e ≡ true → is_well_formed e ≡ true
 next_is_well_formed es e k = (and_parts (is_well_formed e) (may_follow (last_of e.thread es) e) k).0
 

@@ -18,5 +18,6 @@ reverse-map f (x ∷ xs) =
     reverse_onto (map f xs) (f x) [] ∙ ap (λ ys. ys ++ f x ∷ []) (reverse-map f xs)
     ∙ sym (map-append f (reverse xs) (x ∷ [])) ∙ ap (map f) (sym (reverse_onto xs x []))
 
+-- the last of mapped items that passes
 pub last-map : {X Y : Type 0} (p : Y → Bool) (f : X → Y) (xs : List X) → find p (reverse (map f xs)) ≡ option_map f (find (λ x. p (f x)) (reverse xs))
 last-map p f xs = ap (find p) (reverse-map f xs) ∙ find-map p f (reverse xs)

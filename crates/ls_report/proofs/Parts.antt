@@ -42,15 +42,18 @@ identifier_parts (c ∷ cs) k =
     let p = and_parts (is_letter c) (run is_part cs == length cs) k in
     and_from (is_part c) (list_all is_part cs) (or_right (is_digit c) (is_letter c) p.0) (run_all is_part cs (eqb-true (run is_part cs) (length cs) p.1))
 
+-- a name consists of letters and digits
 pub name_parts : (bs : Text) → is_name bs ≡ true → list_all is_part bs ≡ true
 unfolding is_name
 name_parts bs k = identifier_parts bs (and_parts (is_identifier bs) (is_none (reserved_word bs)) k).0
 
+-- a name has no sign in it
 pub lacks-name : (b : ℕ) (bs : Text) → is_part b ≡ false → is_name bs ≡ true → lacks b bs ≡ true
 lacks-name b bs h k = lacks_parts b bs h (name_parts bs k)
 
 -- ---- what an occurrence's text is cut into
 
+-- the parts of an occurrence
 abbrev pub expected : Occurrence → Parts
 expected (Made object class arguments) = Making object class (arguments_text arguments)
 expected (Called object method arguments) = Calling object method (arguments_text arguments)
@@ -86,6 +89,7 @@ made_is object class vs o m k =
     ∙ ap (head_parts (arguments_text vs) head) (cut_none 46 head (without 46 head no_point))
     ∙ rw (cut_at 32 object (codes "= new " ++ class) (without 32 object (lacks-name 32 object refl o))) refl
 
+-- the text of an occurrence is taken apart into its parts
 pub parts_is : (o : Occurrence) → has_names o ≡ true → parts_of (occurrence_text o) ≡ Some (expected o)
 parts_is (Made object class vs) h =
     let p = and_parts (is_name object) (is_name class && list_all is_shown vs) h in
@@ -101,6 +105,7 @@ parts_is (Trapped k) h = refl
 
 -- ---- and back
 
+-- a making, from its parts
 pub made_back : (object class arguments : Text) (o : Occurrence) → has_names o ≡ true → Some (Making object class arguments) ≡ Some (expected o)
     → (vs : List Value) × (Made object class vs ≡ o) × (arguments ≡ arguments_text vs) × (list_all is_shown vs ≡ true)
 made_back object class arguments (Made a b vs) h e =
@@ -111,6 +116,7 @@ made_back object class arguments (Returned None) h e = absurd cc
 made_back object class arguments (Returned (Some v)) h e = absurd cc
 made_back object class arguments (Trapped k) h e = absurd cc
 
+-- a call of a method, from its parts
 pub called_back : (object method arguments : Text) (o : Occurrence) → has_names o ≡ true → Some (Calling object method arguments) ≡ Some (expected o)
     → (vs : List Value) × (Called object method vs ≡ o) × (arguments ≡ arguments_text vs) × (list_all is_shown vs ≡ true)
 called_back object method arguments (Called a b vs) h e =
@@ -121,6 +127,7 @@ called_back object method arguments (Returned None) h e = absurd cc
 called_back object method arguments (Returned (Some v)) h e = absurd cc
 called_back object method arguments (Trapped k) h e = absurd cc
 
+-- a return without a value, from its parts
 pub returning_back : (o : Occurrence) → Some Returning ≡ Some (expected o) → Returned None ≡ o
 returning_back (Returned None) e = refl
 returning_back (Returned (Some v)) e = absurd cc
@@ -128,6 +135,7 @@ returning_back (Made a b vs) e = absurd cc
 returning_back (Called a b vs) e = absurd cc
 returning_back (Trapped k) e = absurd cc
 
+-- a return with a value, from its parts
 pub giving_back : (value : Text) (o : Occurrence) → has_names o ≡ true → Some (Giving value) ≡ Some (expected o)
     → (v : Value) × (Returned (Some v) ≡ o) × (value ≡ value_text v) × (is_shown v ≡ true)
 giving_back value (Returned (Some v)) h e = (v, refl, cc, h)
@@ -136,6 +144,7 @@ giving_back value (Made a b vs) h e = absurd cc
 giving_back value (Called a b vs) h e = absurd cc
 giving_back value (Trapped k) h e = absurd cc
 
+-- a trap, from its parts
 pub trapping_back : (kind : Text) (o : Occurrence) → Some (Trapping kind) ≡ Some (expected o) → (k : Kind) × (Trapped k ≡ o) × (kind ≡ kind_text k)
 trapping_back kind (Trapped k) e = (k, refl, cc)
 trapping_back kind (Returned None) e = absurd cc
@@ -145,20 +154,24 @@ trapping_back kind (Called a b vs) e = absurd cc
 
 -- ---- an event's line
 
+-- the thread's name is cut off a line
 pub thread_cut : (e : Event) → is_well_formed e ≡ true → cut 46 (event_text e) ≡ two e.thread (decimal e.call ++ (32 ∷ occurrence_text e.occurrence))
 thread_cut e h =
     let p = and_parts (is_name e.thread) (not (bytes_eq e.thread (codes "all")) && has_names e.occurrence) h in
     cut_at 46 e.thread (decimal e.call ++ (32 ∷ occurrence_text e.occurrence)) (without 46 e.thread (lacks-name 46 e.thread refl p.0))
 
+-- the call's number is cut off the rest
 pub number_cut : (e : Event) → e.call < 2 ^ 64 → cut 32 (decimal e.call ++ (32 ∷ occurrence_text e.occurrence)) ≡ two (decimal e.call) (occurrence_text e.occurrence)
 number_cut e h =
     cut_at 32 (decimal e.call) (occurrence_text e.occurrence) (without 32 (decimal e.call) (lacks-decimal 32 e.call (λ m small same. omega arith) h))
 
+-- a well formed event has names
 pub well_named : (e : Event) → is_well_formed e ≡ true → has_names e.occurrence ≡ true
 well_named e h =
     let p = and_parts (is_name e.thread) (not (bytes_eq e.thread (codes "all")) && has_names e.occurrence) h in
     (and_parts (not (bytes_eq e.thread (codes "all"))) (has_names e.occurrence) p.1).1
 
+-- an event with the same parts is the same
 pub same_event : (t : Text) (n : ℕ) (o : Occurrence) (e : Event) → t ≡ e.thread → n ≡ e.call → o ≡ e.occurrence
     → record { thread = t; call = n; occurrence = o } ≡ e
 same_event t n o e p q r = rw (p, q, r) refl

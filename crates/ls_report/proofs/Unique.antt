@@ -115,7 +115,7 @@ pub short : (es : List Event) → 2 * length es ≤ length (history_text es)
 short [] = omega arith
 short (e ∷ es) = let rest = short es in let one = line_long e in let sum = length-append (line e) (history_text es) in omega arith
 
--- one history goes on where another ends
+-- if one history goes on after the end of another
 record GoesOn (front es fs : List Event) (rest : Text) : Type 0 where
   more : List Event
   is : es ≡ fs ++ more
@@ -166,6 +166,7 @@ no_lines (d ∷ es) e =
     let len = ap length e in
     absurd (omega arith)
 
+-- a text is the lines of at most one history
 pub one_history : (text : Text) (es fs : List Event) → length text < 2 ^ 64 → is_history es ≡ true → text ≡ history_text es → Says text fs → fs ≡ es
 one_history text es fs fits h e s =
     let small = small_enough text fs [] fits (s.lines ∙ sym (append-nil (history_text fs))) in
@@ -177,6 +178,7 @@ goes_nowhere : (fs more : List Event) (rest : Text) → history_text more ≡ re
 goes_nowhere fs [] rest e some k none = let len = ap length e in omega arith
 goes_nowhere fs (d ∷ more) rest e some k none = none d (history_text more) (and_parts (is_next fs d) (continues (fs ++ d ∷ []) more) k).0 (sym e)
 
+-- the lines of a history don't break
 pub no_break : (text : Text) (at : ℕ) (es : List Event) → length text < 2 ^ 64 → is_history es ≡ true → text ≡ history_text es → BreaksAt text at → ⊥
 no_break text at es fits h e b =
     let small = small_enough text b.events b.rest fits b.lines in

@@ -22,7 +22,7 @@ has_names (Called object method arguments) = is_name object && (is_name method &
 has_names (Returned (Some value)) = is_shown value
 has_names other = true
 
--- `all` names every thread in a schedule and so is no thread's name
+-- `all` names every thread in a schedule, so it is no thread's name
 abbrev pub is_well_formed : Event → Bool
 is_well_formed e = is_name e.thread && (not (bytes_eq e.thread (codes "all")) && has_names e.occurrence)
 
@@ -52,19 +52,19 @@ last_of thread events = find (λ e. bytes_eq e.thread thread) (reverse events)
 abbrev pub is_placed : Event → Bool
 is_placed e = not (is_making e.occurrence) || bytes_eq e.thread (codes "setup")
 
--- e may come where d was the last event of its thread: a call with the next number at the start or after a return, and a
--- return or trap of the open call, a return without a value where that call is a making
+-- Whether e may come if d was the last event of its thread. A call may come at the start or after a return, if it has
+-- the next number. A return or a trap may come of the open call. If that call is a making, its return has no value.
 abbrev pub may_follow : Option Event → Event → Bool
 may_follow None e = is_call e.occurrence && (e.call == 1 && is_placed e)
 may_follow (Some d) e = if is_call e.occurrence
     then is_return d.occurrence && (e.call == d.call + 1 && is_placed e)
     else is_call d.occurrence && (e.call == d.call && not (is_making d.occurrence && has_value e.occurrence))
 
--- the event may come after those in front
+-- whether the event may come after those before it
 abbrev pub is_next : List Event → Event → Bool
 is_next front e = is_well_formed e && may_follow (last_of e.thread front) e
 
--- the events may come after those in front
+-- whether the events may come after those before them
 abbrev pub continues : List Event → List Event → Bool
 continues front [] = true
 continues front (e ∷ es) = is_next front e && continues (front ++ e ∷ []) es

@@ -6,8 +6,8 @@ use Rattle.ls_events.specs.declared.kind.Kind.{Kind}
 abbrev pub Text : Type 0
 Text = List ℕ
 
--- what happened to a call: it was made (`object = new class(arguments)`), it was called (`object.method(arguments)`),
--- it returned, or it ended by an exception
+-- What happened to a call: it was made (`object = new class(arguments)`), it was called (`object.method(arguments)`),
+-- it returned, or it ended by an exception.
 pub data Occurrence : Type 0 where
   Made : (object class : Text) → (arguments : List Value) → Occurrence
   Called : (object method : Text) → (arguments : List Value) → Occurrence

@@ -1,4 +1,5 @@
--- How a line is taken apart. A line that is no event's line may be taken apart too: the event is printed again and compared.
+-- How a line is taken apart. A line that is no event's line may be taken apart too. So the event is printed again and
+-- compared.
 use Rattle.std.specs.Prelude.{Option, Some, None, option_map, option_and_then, if◌then◌else◌, codes}
 use Rattle.std.specs.Str.{bytes_eq}
 use Rattle.ls_report.specs.Cut.{cut}

@@ -11,7 +11,7 @@ pub record Says (text : Text) (events : List Event) : Type 0 where
   pub history : is_history events ≡ true
   pub lines : text ≡ history_text events
 
--- The text begins with the lines of a history and goes on at this place, where no event that may come next has its line.
+-- The text begins with the lines of a history. It goes on at this place with no line of an event that may come next.
 pub record BreaksAt (text : Text) (at : ℕ) : Type 0 where
   pub events : List Event
   pub rest : Text
@@ -25,7 +25,7 @@ abbrev pub Explains : Text → HistoryFault → Type 0
 Explains text faults.Memory = Unit {0}
 Explains text (faults.BadHistory at) = BreaksAt text at
 
--- what is answered for the lines of this history: it, unless memory runs out
+-- the answer for the lines of this history: that history, or memory ran out
 abbrev pub IsReadAs : List Event → Result (List Event) HistoryFault → Type 0
 IsReadAs events (Ok history) = history ≡ events
 IsReadAs events (Err faults.Memory) = Unit {0}

@@ -119,7 +119,7 @@ fn may_follow(last: Option<&NamedEvent<'_>>, event: &NamedEvent<'_>) -> bool
     }
 }
 
-/// Whether the event may come after those in front.
+/// Whether the event may come after those before it.
 pub(crate) fn is_next(front: &Front<'_>, event: &NamedEvent<'_>) -> bool
     requires { IsIndexed front.now }
     ensures { result ≡ is_next (map plain_event front.now.events.items) (plain_event event.now) }

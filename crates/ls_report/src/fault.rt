@@ -6,11 +6,12 @@ ghost use Rattle.ls_report.specs.declared.fault.HistoryFault.TheVariants.{Memory
 use std::alloc::{AllocError, AllocFailed};
 use thiserror::Error;
 
+/// Why a text is no history.
 #[derive(Clone, Copy, Debug, Error, PartialEq, Eq)]
 pub enum HistoryFault {
     #[error("out of memory")]
     Memory,
-    /// The line that begins at this byte can't stand there.
+    /// The line that begins at this byte can't come there.
     #[error("no line of a history at byte {at}")]
     BadHistory { at: usize },
 }

@@ -23,8 +23,8 @@ fn put_place<'a>(
     Ok(())
 }
 
-/// Events in order, and for each thread's name the place of its last one, so that a search takes no longer with their number than
-/// its logarithm.
+/// Events in order, and for each thread's name the place of its last event. So a search takes only as long as the
+/// logarithm of the number of names.
 #[derive(Drop)]
 pub(crate) struct Front<'a> {
     pub(crate) events: Vec<NamedEvent<'a>>,
@@ -32,7 +32,7 @@ pub(crate) struct Front<'a> {
 }
 
 impl<'a> Front<'a> {
-    /// With room for so many events.
+    /// No events, with room for `most`. The only refusal is that memory ran out.
     pub(crate) fn with_room(alloc: Global, most: usize) -> Result<Front<'a>, AllocError>
         ensures events { IfOk result (λ f. f.events.items ≡ []) }
         ensures indexed { IfOk result IsIndexed }
@@ -53,6 +53,7 @@ impl<'a> Front<'a> {
         self.events.get(place)
     }
 
+    /// One more event. The only refusal is that memory ran out.
     pub(crate) fn push(&mut self, event: NamedEvent<'a>) -> Result<(), AllocError>
         requires { IsIndexed self.old }
         ensures events { OnOk result (self.new.events.items ≡ self.old.events.items ++ event.entry ∷ []) }

@@ -1,4 +1,5 @@
-// Histories with the names of their texts. A name is a place in the text that was read, and so has no memory of its own.
+// Histories with the names of their texts. A name is a place in the text that was read. So it has no memory of its
+// own.
 
 use crate::lines::text_of;
 use ls_events::kind::Kind;
@@ -21,7 +22,7 @@ pub enum Occurrence<'a> {
         method: &'a str,
         arguments: Vec<Value>,
     },
-    /// With the value of a method that answers one.
+    /// With the value, if the method answers one.
     Returned(Option<Value>),
     Trapped(Kind),
 }
@@ -61,13 +62,14 @@ impl<'a> History<'a> {
         History { events }
     }
 
-    /// The lines of the events.
+    /// The lines of the events. The only refusal is that memory ran out.
     pub fn to_text(&self, alloc: Global) -> Result<String, AllocError>
         ensures { IfOk result (λ text. string_bytes text ≡ history_text self.now) }
     {
         text_of(alloc, self.events.as_slice())
     }
 
+    /// The events, in order.
     pub fn events(&self) -> &[NamedEvent<'a>]
         ensures { map plain_event result.now ≡ self.now }
     {

@@ -95,21 +95,21 @@ fn pieces_in(text: &str) -> Option<Pieces<'_>>
     word_in(word, rest)
 }
 
-/// The number that is printed so.
+/// The number that is printed as this text, or none.
 fn number_in(text: &str) -> Option<usize>
     ensures { (n : ℕ) → n < 2 ^ 64 → text.now ≡ decimal n → result ≡ Some n }
 {
     text.parse::<usize>().ok()
 }
 
-/// The int that is printed so.
+/// The int that is printed as this text, or none.
 fn int_in(text: &str) -> Option<i32>
     ensures { (z : ℤ) → FitsSigned w32 z → text.now ≡ signed_decimal z → result ≡ Some z }
 {
     text.parse::<i32>().ok()
 }
 
-/// The value that is printed so.
+/// The value that is printed as this text, or none.
 fn value_in(text: &str) -> Option<Value>
     ensures { (v : ghost_Value) → is_shown v ≡ true → text.now ≡ value_text v → result ≡ Some v }
 {
@@ -122,7 +122,7 @@ fn value_in(text: &str) -> Option<Value>
     }
 }
 
-/// The exception of that class.
+/// The exception of the class with this name, or none.
 fn kind_in(text: &str) -> Option<Kind>
     ensures { (k : ghost_Kind) → text.now ≡ kind_text k → result ≡ Some k }
 {
@@ -138,7 +138,7 @@ fn kind_in(text: &str) -> Option<Kind>
     }
 }
 
-/// How many values the text may have: one, and one more for each comma, which a space and a value follow.
+/// How many values the text may have: one, and one more for each comma, after which come a space and a value.
 fn most_values(text: &str) -> usize
     ensures { result ≤ list_length text.now / 3 + 1 }
 {
@@ -151,7 +151,7 @@ fn most_values(text: &str) -> usize
     commas.min(text.len() / 3) + 1
 }
 
-/// The values that are printed so.
+/// The values that are printed as this text, or none.
 fn values_in(alloc: Global, text: &str) -> Result<Option<Vec<Value>>, AllocError>
     ensures { (vs : List ghost_Value) → list_all is_shown vs ≡ true → text.now ≡ arguments_text vs
         → IfOk result (λ o. option_map (λ v. v.items) o ≡ Some vs) }
@@ -237,7 +237,7 @@ fn trapped_in(kind: &str) -> Option<Occurrence<'_>>
     }
 }
 
-/// The occurrence that is printed so.
+/// The occurrence that is printed as this text, or none.
 fn occurrence_in(alloc: Global, text: &str) -> Result<Option<Occurrence<'_>>, AllocError>
     ensures { (o : ghost_Occurrence) → has_names o ≡ true → text.now ≡ occurrence_text o
         → IfOk result (λ r. option_map plain_occurrence r ≡ Some o) }
@@ -264,7 +264,7 @@ fn occurrence_in(alloc: Global, text: &str) -> Result<Option<Occurrence<'_>>, Al
     }
 }
 
-/// The event whose line it is, without the line feed. Another text may give an event too.
+/// The event of which this is the line, without the line feed. Another text may give an event too.
 pub(crate) fn event_in(alloc: Global, line: &str) -> Result<Option<NamedEvent<'_>>, AllocError>
     ensures { (e : Event) → is_well_formed e ≡ true → e.call < 2 ^ 64 → line.now ≡ event_text e
         → IfOk result (λ o. option_map plain_event o ≡ Some e) }

@@ -35,6 +35,7 @@ pub fn kind_name(kind: Kind) -> &'static str
     }
 }
 
+/// Adds the text of a value. The only refusal is that memory ran out.
 pub(crate) fn push_value(out: &mut String, value: Value) -> Result<(), AllocError>
     ensures { OnOk result (string_bytes out.new ≡ string_bytes out.old ++ value_text value) }
 {
@@ -56,6 +57,7 @@ fn push_more(out: &mut String, values: &[Value]) -> Result<(), AllocError>
     Ok(())
 }
 
+/// Adds the text of arguments, with a comma and a space between them. The only refusal is that memory ran out.
 pub(crate) fn push_arguments(out: &mut String, values: &[Value]) -> Result<(), AllocError>
     ensures { OnOk result (string_bytes out.new ≡ string_bytes out.old ++ arguments_text values.now) }
 {
@@ -68,6 +70,7 @@ pub(crate) fn push_arguments(out: &mut String, values: &[Value]) -> Result<(), A
     }
 }
 
+/// Adds the text of a making. The only refusal is that memory ran out.
 pub(crate) fn push_made(
     out: &mut String,
     object: &str,
@@ -81,6 +84,7 @@ pub(crate) fn push_made(
     out.push_str(")")
 }
 
+/// Adds the text of a call of a method. The only refusal is that memory ran out.
 pub(crate) fn push_called(
     out: &mut String,
     object: &str,
@@ -94,6 +98,7 @@ pub(crate) fn push_called(
     out.push_str(")")
 }
 
+/// Adds the text of a return, with a value or without. The only refusal is that memory ran out.
 pub(crate) fn push_returned(out: &mut String, value: Option<Value>) -> Result<(), AllocError>
     ensures { OnOk result (string_bytes out.new ≡ string_bytes out.old ++ occurrence_text (Returned value)) }
 {
@@ -106,6 +111,7 @@ pub(crate) fn push_returned(out: &mut String, value: Option<Value>) -> Result<()
     }
 }
 
+/// Adds the text of a trap. The only refusal is that memory ran out.
 pub(crate) fn push_trapped(out: &mut String, kind: Kind) -> Result<(), AllocError>
     ensures { OnOk result (string_bytes out.new ≡ string_bytes out.old ++ occurrence_text (Trapped kind)) }
 {
@@ -132,7 +138,7 @@ fn push_occurrence(out: &mut String, occurrence: &Occurrence<'_>) -> Result<(), 
     }
 }
 
-/// Adds the event's line without its line feed.
+/// Adds the event's line without its line feed. The only refusal is that memory ran out.
 pub(crate) fn push_event(out: &mut String, event: &NamedEvent<'_>) -> Result<(), AllocError>
     ensures { OnOk result (string_bytes out.new ≡ string_bytes out.old ++ event_text (plain_event event.now)) }
 {
@@ -149,7 +155,7 @@ fn push_line(out: &mut String, event: &NamedEvent<'_>) -> Result<(), AllocError>
     out.push_str("\n")
 }
 
-/// A line for each event.
+/// A line for each event. The only refusal is that memory ran out.
 pub(crate) fn text_of(alloc: Global, events: &[NamedEvent<'_>]) -> Result<String, AllocError>
     ensures { IfOk result (λ text. string_bytes text ≡ history_text (map plain_event events.now)) }
 {

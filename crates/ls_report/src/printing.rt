@@ -98,7 +98,8 @@ fn call_at(thread: &ThreadProgram, number: usize) -> Option<&ProgramCall>
     thread.calls.get(number.saturating_sub(1))
 }
 
-/// Adds the words of an event without its thread and call, as `call s.add(3)`. An event of no call of the program has none.
+/// Adds the words of an event without its thread and call, as `call s.add(3)`. If the event is of no call of the
+/// program, it has none. The only refusal is that memory ran out.
 pub fn push_words(out: &mut String, program: &Program, event: Event) -> Result<(), AllocError>
     ensures { OnOk result (string_bytes out.new ≡ string_bytes out.old ++ run_words (plain_program program.now) event) }
 {
@@ -123,7 +124,7 @@ fn push_line(out: &mut String, program: &Program, event: Event) -> Result<(), Al
     }
 }
 
-/// The lines of the events of a run of the program.
+/// The lines of the events of a run of the program. The only refusal is that memory ran out.
 pub fn print_history(
     alloc: Global,
     events: &[Event],

@@ -18,7 +18,8 @@ use crate::line_reading::event_in;
 use crate::lines::push_event;
 use std::alloc::{AllocError, Global};
 
-/// Whether it is the event's line, without the line feed. The event is printed in the place of the text that it is lent.
+/// Whether this is the event's line, without the line feed. The event is printed into `printed`, in place of what is
+/// there.
 fn is_line_of(printed: &mut String, event: &NamedEvent<'_>, line: &str) -> Result<bool, AllocError>
     ensures { IfOk result (λ b. b ≡ bytes_eq (event_text (plain_event event.now)) line.now) }
 {
@@ -27,7 +28,7 @@ fn is_line_of(printed: &mut String, event: &NamedEvent<'_>, line: &str) -> Resul
     Ok(printed.as_str() == line)
 }
 
-/// The event of the line, if it may come after those in front.
+/// The event of the line, if it may come after those before it.
 fn next_in<'a>(
     alloc: Global,
     printed: &mut String,
@@ -52,7 +53,7 @@ fn next_in<'a>(
     Ok(Some(event))
 }
 
-/// How many events the text may have: each has a line, of eleven bytes at least, as `A.1 return`.
+/// How many events the text may have. Each has a line of at least eleven bytes, as `A.1 return`.
 fn most_events(text: &str) -> usize
     ensures { result ≤ list_length text.now }
 {
@@ -98,7 +99,8 @@ fn read_events(
     Ok(front.events)
 }
 
-/// The history whose lines the text is. Otherwise the fault says where the first line begins that can't stand there.
+/// The history of which the text has the lines. Otherwise the fault has the byte where the first line begins that
+/// can't come there, or memory ran out.
 pub fn read_history<'a>(alloc: Global, text: &'a str) -> Result<History<'a>, HistoryFault>
     ensures accepts { (es : List Event) → is_history es ≡ true → text.now ≡ history_text es → IsReadAs es result }
     ensures found { IfOk result (Says text.now) }

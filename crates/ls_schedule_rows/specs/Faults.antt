@@ -19,7 +19,7 @@ BadCounts =
     × IsRefused (codes "A*:") (BadItem 0)
     × IsRefused (codes "all*0") (BadItem 0)
 
--- what stands before the star is a name
+-- what comes before the star is a name
 abbrev pub BadNames : Type 0
 BadNames =
     IsRefused (codes "*2") (BadItem 0)
@@ -27,7 +27,7 @@ BadNames =
     × IsRefused (codes "A-B") (BadItem 0)
     × IsRefused (codes "2*A") (BadItem 0)
 
--- a comma and a form feed are no gaps, and no gap stands in an item
+-- a comma and a form feed are no gaps, and there is no gap in an item
 abbrev pub OtherGaps : Type 0
 OtherGaps =
     IsRefused (codes "A,B") (BadItem 0)
@@ -50,7 +50,7 @@ UnknownNames =
 abbrev pub ReservedNames : Type 0
 ReservedNames = IsRefused (codes "int") (BadItem 0) × IsRefused (codes "true*2") (BadItem 0)
 
--- the first item with a fault, whichever it has
+-- the first item with a fault counts, whichever fault it has
 abbrev pub FirstFault : Type 0
 FirstFault =
     IsRefused (codes "C A*0") (UnknownThread 0)

@@ -20,7 +20,7 @@ OtherVersions =
     × IsRefused (codes "@2 A @2") (BadItem 5)
     × IsRefused (codes "@2 (@2 A)") (BadItem 4)
 
--- a group that isn't closed, at its own place, and a parenthesis that ends none
+-- a group that isn't closed is refused at its own place, a parenthesis that ends no group at that parenthesis
 abbrev pub NotClosed : Type 0
 NotClosed =
     IsRefused (codes "@2 (A B") (BadItem 3)
@@ -49,7 +49,7 @@ BadGroupCounts =
     × IsRefused (codes "@2 (A) *2") (BadItem 7)
     × IsRefused (codes "@2 (A )* 2") (BadItem 3)
 
--- after an item or a group stands a gap, a closing parenthesis or the end
+-- after an item or a group comes a gap, a closing parenthesis or the end
 abbrev pub WithoutGaps : Type 0
 WithoutGaps =
     IsRefused (codes "@2 A(B)") (BadItem 3)
@@ -59,7 +59,7 @@ WithoutGaps =
     × IsRefused (codes "@2 (A)B") (BadItem 3)
     × IsRefused (codes "@2 ((A)B)") (BadItem 4)
 
--- a ninth, at its own place
+-- a ninth group is refused at its own place
 abbrev pub NineInOneAnother : Type 0
 NineInOneAnother =
     IsRefused (codes "@2 (((((((((A)))))))))") (BadItem 11)
@@ -67,7 +67,7 @@ NineInOneAnother =
     × IsRefused (codes "@2 ((((((((A (B)))))))))") (BadItem 13)
     × IsRefused (codes "@2 (((((((((A)))))))))*0") (BadItem 3)
 
--- the first fault of the text: a group's own stands before all that is in it
+-- the first fault of the text counts: a fault of a group itself comes before all that is in the group
 abbrev pub FirstOfGroups : Type 0
 FirstOfGroups =
     IsRefused (codes "@2 (C") (BadItem 3)

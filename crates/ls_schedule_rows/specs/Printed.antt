@@ -3,14 +3,14 @@ use Rattle.std.specs.Prelude.{◌≡◌, ℕ, List, [], ◌∷◌, ◌++◌, cod
 use Rattle.ls_schedule.specs.Printing.{schedule_text}
 use Rattle.ls_schedule_rows.specs.Said.{names}
 
--- the steps are this text and a line feed: `@2` stands first
+-- the steps are this text and a line feed; `@2` comes first
 abbrev pub IsPrinted : List ℕ → List ℕ → Type 0
 IsPrinted steps text = schedule_text names steps ≡ text ++ 10 ∷ []
 
 abbrev pub NoSteps : Type 0
 NoSteps = IsPrinted [] (codes "@2")
 
--- neighbouring steps of one thread are one item, without a count where it is 1
+-- neighbouring steps of one thread are one item; the count 1 isn't written
 abbrev pub StepsInARow : Type 0
 StepsInARow =
     IsPrinted (1 ∷ []) (codes "@2 A")

@@ -19,11 +19,11 @@ EachGap =
     × Says (65 ∷ 10 ∷ 66 ∷ []) (1 ∷ 2 ∷ [])
     × Says (65 ∷ 13 ∷ 10 ∷ 32 ∷ 9 ∷ 66 ∷ []) (1 ∷ 2 ∷ [])
 
--- gaps before the first item and behind the last
+-- gaps before the first item and after the last
 abbrev pub GapsRoundAText : Type 0
 GapsRoundAText = Says (32 ∷ 9 ∷ (codes "A B" ++ 13 ∷ 10 ∷ [])) (1 ∷ 2 ∷ [])
 
--- a star and a count: so many steps in a row
+-- a star and a count: this many steps in a row
 abbrev pub Times : Type 0
 Times =
     Says (codes "A*1") (1 ∷ [])
@@ -35,7 +35,7 @@ Times =
 abbrev pub All : Type 0
 All = Says (codes "all") (1 ∷ 2 ∷ []) × Says (codes "B all A") (2 ∷ 1 ∷ 2 ∷ 1 ∷ [])
 
--- again in turn, and not one thread after the other
+-- a step of each thread in turn, several times; not one thread after the other
 abbrev pub AllSeveralTimes : Type 0
 AllSeveralTimes = Says (codes "all*3") (1 ∷ 2 ∷ 1 ∷ 2 ∷ 1 ∷ 2 ∷ [])
 

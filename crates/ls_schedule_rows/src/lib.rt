@@ -1,5 +1,5 @@
-//! Schedule texts whose steps or faults, worked out by hand, are what the definitions of ls_schedule compute, and schedules
-//! whose texts are. They stand above ls_schedule, so that a new one is no change of that crate.
+//! Schedule texts with steps or faults that were worked out by hand, and schedules with such texts. The definitions of
+//! ls_schedule compute exactly these. This crate is above ls_schedule, so a new text doesn't change ls_schedule.
 #![tactic(auto)]
 
 ghost use Rattle.ls_schedule_rows.specs.Texts.{OneStepEach, NothingAtAll, EachGap, GapsRoundAText, Times, All, AllSeveralTimes, SetupIsZero, AllOfNone};
@@ -22,7 +22,7 @@ pub fn texts()
     ensures all_of_none { AllOfNone }
 {}
 
-/// Texts with a fault, and where it stands.
+/// Texts with a fault, and the place of the fault.
 pub fn faults()
     ensures zero_times { ZeroTimes }
     ensures bad_counts { BadCounts }
@@ -45,7 +45,7 @@ pub fn groups()
     ensures group_of_none { GroupOfNone }
 {}
 
-/// Texts with groups that are refused, and where.
+/// Texts with groups that are refused, and the place.
 pub fn group_faults()
     ensures groups_of_version_one { GroupsOfVersionOne }
     ensures other_versions { OtherVersions }

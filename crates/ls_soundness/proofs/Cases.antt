@@ -59,6 +59,7 @@ is_ranged = record { classes = omega arith; fields = few; methods = omega arith 
     few zero c e = subst (λ (z : Class). length z.fields ≤ 64) (there _ c e) (omega arith)
     few (suc n) c e = absurd (nothing_there e)
 
+-- the file of the headline's example is well typed
 pub well_typed : IsWellTyped file
 well_typed = record {
   typed = typed_file;
@@ -92,6 +93,7 @@ is_ranged_program = record { threads = omega arith; calls = few; names = omega a
     few (suc zero) t e = subst (λ (z : ThreadProgram). length z.calls ≤ 256) (there _ t e) (omega arith)
     few (suc (suc n)) t e = absurd (nothing_there e)
 
+-- the program of the headline's example is well typed
 pub well_typed_program : IsWellTypedProgram file program
 well_typed_program = record { typed = typed_program; constants = example_constants.1; limits = is_ranged_program }
 
@@ -99,30 +101,37 @@ well_typed_program = record { typed = typed_program; constants = example_constan
 the_call : (call : ProgramCall) → IsTypedProgram file (with_call call) → IsTypedCall file (with_call call) call
 the_call call typed = typed 1 (record { name = []; calls = call ∷ [] }) 0 call refl refl
 
+-- a call on a name that the setup doesn't give isn't typed
 pub no_name : IsTypedProgram file of_no_name → ⊥
 no_name typed = nothing_there ((the_call (Calling 1 0 [] None []) typed).named)
 
+-- a call of a method that doesn't exist isn't typed
 pub no_method : IsTypedProgram file of_no_method → ⊥
 no_method typed = nothing_there ((the_call (Calling 0 2 [] None []) typed).found)
 
+-- a call with an argument too many isn't typed
 pub no_argument : IsTypedProgram file with_argument → ⊥
 no_argument typed =
     let call : IsTypedCalling file with_argument 0 0 None (Int (pos 1) ∷ []) = the_call (Calling 0 0 [] None (Int (pos 1) ∷ [])) typed in
     subst (λ z. AreArguments (parameters_of z) (Int (pos 1) ∷ [])) (sym (there _ call.called call.found)) call.fit
 
+-- a call that takes an int from a method that answers nothing isn't typed
 pub no_int : IsTypedProgram file for_an_int → ⊥
 no_int typed =
     let call : IsTypedCalling file for_an_int 0 0 (Some types.Int) [] = the_call (Calling 0 0 [] (Some types.Int) []) typed in
     nothing_there (subst (λ (z : Method). z.result ≡ Some types.Int) (sym (there _ call.called call.found)) call.answers)
 
+-- the cases of arguments
 pub arguments : Arguments
 arguments = (search rules, (tt, tt))
 
+-- the cases of what is no argument
 pub no_arguments : NoArguments
 no_arguments = (λ h. too_great h.0, λ h. h.0, λ h. h.0, λ h. h.1)
   where
     too_great : FitsSigned w32 (pos 2147483648) → ⊥
     too_great h = omega (arith, fits_in, h)
 
+-- the cases of pairs
 pub pairs : Pairs
 pairs = (refl, λ h. h)

@@ -28,6 +28,7 @@ CallsGood P file w calls = (n : ℕ) (m : Method) (o : Value) (vs : List Value) 
     Good P file w (HasSort P (answer_sort m.result)) (λ q. calls n (o ∷ vs) q)
 
 module _ (P : ℕ → ValueType → Type 0) (null : (n : ℕ) (t : ValueType) → n ≡ 0 → P n t) (file : File) (w : Way P file) (calls : Calls) (called : CallsGood P file w calls) (slots : List ValueType) where
+  -- the results of an expression have the sort, and it asks on things of the right types
   abbrev pub Evaluates : Sort → Expression → List Value → Type 0
   Evaluates s e ls = Good P file w (HasSort P s) (λ q. evaluate file.classes calls e ls q)
 
@@ -51,6 +52,7 @@ module _ (P : ℕ → ValueType → Type 0) (null : (n : ℕ) (t : ValueType) �
       results_good P file w _ o ho.1)))
 
   mutual
+    -- each typed expression does that
     pub good_of : (e : Expression) (s : Sort) (ls : List Value) → IsTyped file slots s e → Locals P slots ls → Evaluates s e ls
     good_of (Literal v) s ls t h = results_good P file w _ v (literal_sort P null v s t)
     good_of (Slot n) s ls t h = resort P file w s (ValueOf t.0) _ t.1 (results_good P file w _ (slice_index_or ls n nothing) (h.typed n t.0 t.2))

@@ -1,4 +1,4 @@
--- The words of a call that a thread makes, also where the thread has gone on after it.
+-- The words of a call that a thread makes, also after the thread has gone on.
 use Rattle.std.proofs.Common.{◌≡◌, ℕ, List, [], ◌∷◌, ◌++◌, map, Some, refl, sym, ap, ◌∙◌, subst, arith}
 use Rattle.std.specs.Prelude.{slice_get}
 use Rattle.ls_events.specs.declared.kind.Kind.{Kind}
@@ -259,5 +259,6 @@ module _ (file : File) (t : IsTypedFile file) (depth n : ℕ) (m : Method) (o : 
     thrown = λ k rest e. same_throw p.end p.rest rest k (ended_so had p (Threw k) rest e) (rest_suited had p u);
   }
 
+  -- answers that suit a thread suit the call that it makes
   pub in_call : (had : Answers) → Suited IsSmall (λ q. then_next (course q) go throw) had → InThis had
   in_call had u = in_split had u (split_of IsSmall null_small file t depth n m o vs go throw had found ho hvs u)

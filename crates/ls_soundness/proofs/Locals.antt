@@ -10,6 +10,7 @@ use Rattle.ls_meaning.specs.Methods.{frame}
 use Rattle.ls_types_judgement.specs.Sorts.{HasType, HaveTypes}
 use Rattle.ls_soundness.proofs.Values.{start_has}
 
+-- there are as many locals as slots, and each has the type of its slot
 pub record Locals (P : ℕ → ValueType → Type 0) (slots : List ValueType) (ls : List Value) : Type 0 where
   pub long : length ls ≡ length slots
   pub typed : (i : ℕ) (t : ValueType) → slice_get slots i ≡ Some t → HasType P (slice_index_or ls i nothing) t
@@ -47,6 +48,7 @@ module _ (P : ℕ → ValueType → Type 0) where
   Starts (v ∷ vs) [] = ⊥
   Starts (v ∷ vs) (t ∷ slots) = HasType P v t × Starts vs slots
 
+  -- if values have the types of the first p slots, the slots begin with their types
   pub starts_of : (vs : List Value) (p : ℕ) (slots : List ValueType) → HaveTypes P (take p slots) vs → Starts vs slots
   starts_of [] p slots h = tt
   starts_of (v ∷ vs) zero slots h = absurd h

@@ -68,6 +68,7 @@ module _ (P : ℕ → ValueType → Type 0) (null : (n : ℕ) (t : ValueType) �
       goes go h kg kh (Returned (Some v)) ls hc hh = kg v (subst (λ r. HasSort P (answer_sort r) v) (sym hc.1) hc.2)
       goes go h kg kh (Threw k) ls hc hh = kh k
 
+  -- calls of the methods of a typed file, at any depth
   pub calls_good : IsTypedFile file → (d : ℕ) → CallsGood P file w (invoke file d)
   unfolding invoke
   calls_good t zero n m o vs e ho hvs = throws_good P file w (HasSort P (answer_sort m.result)) StackOverflow

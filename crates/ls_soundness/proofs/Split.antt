@@ -73,18 +73,22 @@ suits_call P a s Done m u = u
 suits_call P a s (Gives v) m u = sort_of_answer P v s m u
 suits_call P a s (Fails k) m u = fails_call P a s k u
 
+-- what a thread does next, with what its call does
 abbrev pub two : (a : Next) (b : Evaluated Value) → Both
 two a b = (a, b)
 
 module _ (P : ℕ → ValueType → Type 0) (file : File) (H : Value → Type 0) (go : Value → Answers → Next) (throw : Kind → Answers → Next) where
+  -- the value of a call that has ended is as it should be
   abbrev pub EndHas : End → Type 0
   EndHas (Gave v) = H v
   EndHas (Threw k) = Unit {0}
 
+  -- a call's end, to the call
   abbrev pub call_end : End → Answers → Evaluated Value
   call_end (Gave v) q = Results v q
   call_end (Threw k) q = Throws k q
 
+  -- a call's end, to the thread
   abbrev pub thread_end : End → Answers → Next
   thread_end (Gave v) q = go v q
   thread_end (Threw k) q = throw k q
@@ -107,6 +111,7 @@ module _ (P : ℕ → ValueType → Type 0) (file : File) (H : Value → Type 0)
     pub sort : Sort
     pub asks : (f had).1 ≡ Asks action sort
 
+  -- after answers that suit the thread: the call goes on, or it has ended after the first of them
   pub data Split (f : Answers → Both) (had : Answers) : Type 0 where
     Goes_on : (is : Within f had) → Split f had
     Has_ended : (is : Past f had) → Split f had
@@ -182,6 +187,7 @@ module _ (P : ℕ → ValueType → Type 0) (file : File) (H : Value → Type 0)
     });
   }
 
+  -- what a call does, with what its thread does next
   abbrev pub both_of : Evaluated Value → Both
   both_of x = (then_next x go throw, x)
 

@@ -118,6 +118,7 @@ module _ (P : ℕ → ValueType → Type 0) (null : (n : ℕ) (t : ValueType) �
   part e s ls t h = good_of P null file w calls called slots e s ls t h
 
   mutual
+    -- each typed statement asks on things of the right types, and leaves locals of the right types
     pub good_by : (s : Statement) (ls : List Value) → IsTypedStatement file slots r s → Locals P slots ls → GoodBy P file w slots r (λ q. execute file.classes calls s ls q)
     good_by (Block ss) ls t h = all_good_by ss ls t h
     good_by (SetSlot i x) ls t h = value_good P file w slots r (ValueOf t.0) ls _ _ h (part x (ValueOf t.0) ls t.2 h) (λ v hv.

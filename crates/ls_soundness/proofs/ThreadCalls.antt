@@ -41,20 +41,24 @@ there n ne = by_case (nat_eq n 0) refl
     by_case false e = e
 
 module _ (file : File) (program : Program) where
+  -- the law of a thread at a making
   pub next_in_making : NextInMaking file program
   next_in_making n calls y o q name c text vs = after_by n (invoke file depth_limit (constructor_of file.classes c) (o ∷ vs) q) _ (all_calls file program (n + 1) calls)
 
+  -- the law of a thread at a method's call
   pub next_in_calling : NextInCalling file program
   next_in_calling n calls y o q name m text r vs ne =
       ap (λ z. after_call n z (all_calls file program (n + 1) calls))
       (not_null (nat_eq (reference_of o) 0) q (with_value (invoke file depth_limit m (o ∷ vs) q) (λ v rest. Results (result_of file m v) rest)) (there (reference_of o) ne))
       ∙ after_by n (invoke file depth_limit m (o ∷ vs) q) (λ v rest. Results (result_of file m v) rest) (all_calls file program (n + 1) calls)
 
+  -- the law of a call on null
   pub next_on_null : NextOnNull file program
   next_on_null n calls y o q name m text r vs e =
       ap (λ z. after_call n (unless_null z q (with_value (invoke file depth_limit m (o ∷ vs) q) (λ v rest. Results (result_of file m v) rest))) (all_calls file program (n + 1) calls)) e
 
   module _ (t : IsTypedFile file) where
+    -- answers that suit a thread at a making suit the constructor's call
     pub in_making : SuitedInMaking file program
     in_making n calls y o q name c text vs is u =
         let ho : HasSort IsSmall (NewOf (types.Class c)) o = sort_of_answer IsSmall o (NewOf (types.Class c)) tt u.1.0 in
@@ -62,6 +66,7 @@ module _ (file : File) (program : Program) where
         (after_making file program n name o calls) (after_throw n) q
         (suited_same IsSmall _ _ q (λ more l. next_in_making n calls y o more name c text vs) u.1.1)
 
+    -- answers that suit a thread at a method's call suit that call
     pub in_calling : SuitedInCalling file program
     in_calling n calls y o q name m text r vs is ne u =
         let class : class_in (slice_get program.names name) ≡ is.called.class = ap class_in is.named ∙ sym is.own in

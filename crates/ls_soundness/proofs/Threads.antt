@@ -46,6 +46,7 @@ argument_has P (types.Class c) v h = absurd h
 argument_has P types.Lock v h = absurd h
 argument_has P (types.Markable c) v h = absurd h
 
+-- arguments that the program may have have the types of the parameters
 pub arguments_have : (P : ℕ → ValueType → Type 0) (ts : List ValueType) (vs : List Value) → AreArguments ts vs → HaveTypes P ts vs
 arguments_have P [] [] h = tt
 arguments_have P [] (v ∷ vs) h = absurd h
@@ -213,6 +214,7 @@ typed_calls file program thread typed i c e = in_thread (slice_get program.threa
         none e = cc
     in_thread (Some calls) is e = typed thread calls i c is e
 
+-- the law: typed programs of typed files ask on things of the right types
 pub is_sound : (file : File) (program : Program) → IsTypedFile file → HasItsClasses file → IsTypedProgram file program → IsSound file program
 is_sound file program t there typed = record {
   sound = λ things thread had a s known e.

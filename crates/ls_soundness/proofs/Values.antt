@@ -14,9 +14,11 @@ use Rattle.ls_meaning.specs.Values.{reference_of, nothing, start_of}
 use Rattle.ls_types_judgement.specs.Sorts.{HasType, HasSort, HaveTypes, IsPair}
 use Rattle.ls_headline.specs.Sorts.{HasTypeBy, HasSortBy}
 
+-- a quotient fits in 32 bits
 pub div_fits : (x y : ℤ) → FitsSigned w32 (int_wrapping_div w32 x y)
 div_fits x y = omega (arith, fits_in, read_fits w32 (cast_unsigned w32 (int_div x y)))
 
+-- a reference type
 abbrev pub IsReference : ValueType → Type 0
 IsReference types.Int = ⊥
 IsReference types.Boolean = ⊥
@@ -31,7 +33,7 @@ Makes (NewOf t) = IsReference t
 Makes _ = Unit {0}
 
 module _ (P : ℕ → ValueType → Type 0) where
-  -- the two readings of a value's type
+  -- both readings of a value's type
   pub type_of : (v : Value) (t : ValueType) → HasTypeBy P v t → HasType P v t
   type_of v t h = h
 
@@ -83,6 +85,7 @@ module _ (P : ℕ → ValueType → Type 0) where
   reference_has (Pair n b) types.Lock r h = absurd h
   reference_has (Pair n b) (types.Markable c) r h = absurd h
 
+  -- the reference of a pair is one to an object of the class
   pub pair_reference : (v : Value) (c : ℕ) → IsPair P c v → P (reference_of v) (types.Class c)
   pair_reference (Int z) c h = absurd h
   pair_reference (Boolean b) c h = absurd h
@@ -127,6 +130,7 @@ module _ (P : ℕ → ValueType → Type 0) where
     literal_type (Pair n b) types.Lock h = absurd h
     literal_type (Pair n b) (types.Markable c) h = absurd h
 
+    -- a constant has its sort, whatever is asked of references
     pub literal_sort : (v : Value) (s : Sort) → HasSort (λ n t. n ≡ 0) s v → HasSort P s v
     literal_sort v NoValue h = h
     literal_sort v (ValueOf t) h = literal_type v t h
@@ -136,6 +140,7 @@ module _ (P : ℕ → ValueType → Type 0) where
     literal_sort (Boolean b) (PairOf c) h = absurd h
     literal_sort (Reference n) (PairOf c) h = absurd h
 
+    -- a start value has its type
     pub start_has : (t : ValueType) → HasType P (start_of t) t
     start_has types.Int = search rules
     start_has types.Boolean = tt

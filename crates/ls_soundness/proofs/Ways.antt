@@ -50,9 +50,9 @@ HasAction P file Turn s = s ≡ NoValue
 HasAction P file (Enter m) s = s ≡ NoValue
 HasAction P file _ s = ⊥
 
--- What can be shown of what is left, after given answers: it is the same for what is the same after answers that aren't
--- more; it can be shown where an action that fits is asked for, and after an answer that suits it where it can be shown of
--- the rest. Actions of the right types fit.
+-- What can be shown of what is left, after given answers. It is the same for what is the same after answers that
+-- aren't more. It can be shown if an action that fits is asked for. It can be shown after an answer that suits, if it
+-- can be shown of the rest. Actions of the right types fit.
 pub record Way (P : ℕ → ValueType → Type 0) (file : File) : Type 1 where
   pub Left : Type 0
   pub asks : Action Value → Sort → Left
@@ -71,6 +71,7 @@ module _ (P : ℕ → ValueType → Type 0) (file : File) (w : Way P file) where
   pub record Sure (f : Answers → w.Left) : Type 0 where
     pub is : (had : Answers) → w.Shown f had
 
+  -- it can be shown of what is the same after all answers
   pub sure_same : (f g : Answers → w.Left) → ((q : Answers) → f q ≡ g q) → Sure g → Sure f
   sure_same f g e s = record { is = λ had. w.same f g had (λ q l. e q) (s.is had) }
 
@@ -78,17 +79,21 @@ module _ (P : ℕ → ValueType → Type 0) (file : File) (w : Way P file) where
   pub record Good {A : Type 0} (H : A → Type 0) (x : Answers → Evaluated A) : Type 0 where
     pub good : (go : A → Answers → w.Left) (h : Kind → Answers → w.Left) → ((v : A) → H v → Sure (go v)) → ((k : Kind) → Sure (h k)) → Sure (λ q. ends w.asks (x q) go h)
 
+  -- a result that has H
   pub results_good : {A : Type 0} (H : A → Type 0) (v : A) → H v → Good H (λ q. Results v q)
   results_good H v hv = record { good = λ go h kg kh. kg v hv }
 
+  -- an exception
   pub throws_good : {A : Type 0} (H : A → Type 0) (k : Kind) → Good H (λ q. Throws k q)
   throws_good H k = record { good = λ go h kg kh. kh k }
 
+  -- one expression, and then another with its result
   pub then_good : {A B : Type 0} (H : A → Type 0) (K : B → Type 0) (x : Answers → Evaluated A) (g : A → Answers → Evaluated B) → Good H x → ((v : A) → H v → Good K (λ q. g v q)) → Good K (λ q. with_value (x q) g)
   then_good H K x g a f = record {
     good = λ go h kg kh. sure_same _ _ (λ q. ends_with w.asks (x q) g go h) (a.good (λ v q. ends w.asks (g v q) go h) h (λ v hv. (f v hv).good go h kg kh) kh);
   }
 
+  -- if H is enough for K, results that have H have K
   pub weaken : {A : Type 0} (H K : A → Type 0) (x : Answers → Evaluated A) → ((v : A) → H v → K v) → Good H x → Good K x
   weaken H K x f a = record { good = λ go h kg kh. a.good go h (λ v hv. kg v (f v hv)) kh }
 
@@ -102,6 +107,7 @@ module _ (P : ℕ → ValueType → Type 0) (file : File) (w : Way P file) where
       asked go h kg kh (Gives v ∷ rest) = w.at_more _ a s (Gives v) rest refl m (λ u. (kg v (sort_of_answer P v s m u)).is rest)
       asked go h kg kh (Fails k ∷ rest) = w.at_more _ a s (Fails k) rest refl m (λ u. (kh k).is rest)
 
+  -- one action of the right types, and its answer
   pub ask_good : (a : Action Value) (s : Sort) → Makes s → HasAction P file a s → Good (HasSort P s) (λ q. ask a s q)
   ask_good a s m has = ask_fits a s m (w.fits a s has)
 
@@ -113,12 +119,15 @@ module _ (P : ℕ → ValueType → Type 0) (file : File) (w : Way P file) where
       told go h kg [] = w.at_end _ a NoValue refl has
       told go h kg (y ∷ rest) = w.at_more _ a NoValue y rest refl tt (λ u. (kg nothing tt).is rest)
 
+  -- one of two expressions, by a test
   pub either_good : {A : Type 0} (H : A → Type 0) (b : Bool) (x y : Answers → Evaluated A) → (b ≡ true → Good H x) → (b ≡ false → Good H y) → Good H (λ q. cond b (x q) (y q))
   either_good H true x y f g = f refl
   either_good H false x y f g = g refl
 
+  -- an expression, unless a reference is null
   pub null_good : {A : Type 0} (H : A → Type 0) (n : ℕ) (x : Answers → Evaluated A) → (n ≢ 0 → Good H x) → Good H (λ q. unless_null n q (x q))
   null_good H n x a = either_good H (nat_eq n 0) (λ q. Throws NullPointer q) x (λ e. throws_good H NullPointer) (λ e. a (differ n e))
 
+  -- the same under another name of the sort
   pub resort : (s r : Sort) (x : Answers → Evaluated Value) → s ≡ r → Good (HasSort P r) x → Good (HasSort P s) x
   resort s r x e a = subst (λ z. Good (HasSort P z) x) (sym e) a

@@ -1,4 +1,4 @@
--- Programs of one call beside the setup's, for the file of the headline's example:
+-- Programs with one call beside that of the setup, for the file of the headline's example:
 --
 --     class A { void work() { Lock l = new ReentrantLock(); l.lock(); } }
 --     setup { a = new A(); } thread T { .. }
@@ -16,8 +16,8 @@ with_call call = record {
   threads = record { name = []; calls = Making 0 0 [] [] ∷ [] } ∷ record { name = []; calls = call ∷ [] } ∷ [];
 }
 
--- of a name that the setup doesn't give, of a method that isn't there, with an argument too many, and with an int taken
--- from a method that answers nothing
+-- A call on a name that the setup doesn't give. A call of a method that doesn't exist. A call with an argument too
+-- many. A call that takes an int from a method that answers nothing.
 abbrev pub of_no_name : Program
 of_no_name = with_call (Calling 1 0 [] None [])
 
@@ -34,7 +34,8 @@ for_an_int = with_call (Calling 0 0 [] (Some types.Int) [])
 abbrev pub Arguments : Type 0
 Arguments = AreArguments (types.Int ∷ types.Boolean ∷ []) (Int (pos 2147483647) ∷ Boolean true ∷ [])
 
--- a number past the greatest int, null for an object, a boolean for an int, and an argument too few are none
+-- these are no arguments: a number past the greatest int, null for an object, a boolean for an int, and an argument
+-- too few
 abbrev pub NoArguments : Type 0
 NoArguments =
     (AreArguments (types.Int ∷ []) (Int (pos 2147483648) ∷ []) → ⊥)

@@ -57,7 +57,7 @@ module _ (file : File) (program : Program) (n : ℕ) (cs : List ProgramCall) whe
   fetched_keeps name m values (answers.Gives o) q = entered_if (nat_eq (reference_of o) 0) m values o q
   fetched_keeps name m values (answers.Fails kind) q = refl
 
-  -- a body that has come to its end
+  -- a body that has ended
   worked_keeps : (b : Bottom) (c : Control) (fs : List Frame) (ls : List Value) (d : ℕ) (q : Answers) → is_left c fs ≡ false → phase_meaning file program n cs (worked file b (at c fs ls d) c) q ≡ phase_meaning file program n cs (Works b (at c fs ls d)) q
   worked_keeps (OfMaking name o) (Gives v) [] ls d q h = refl
   worked_keeps (OfCalling m) (Gives v) [] ls d q h = refl
@@ -92,6 +92,7 @@ module _ (file : File) (program : Program) (n : ℕ) (cs : List ProgramCall) whe
   finished_if true b w q h = refl
   finished_if false b w q h = worked_keeps b w.control w.frames w.locals w.depth q h
 
+  -- a phase that is finished means the same
   pub finished_keeps : (p : Phase) (q : Answers) → phase_meaning file program n cs (finished_phase file p) q ≡ phase_meaning file program n cs p q
   finished_keeps Starts q = refl
   finished_keeps (Announces c) q = refl
@@ -130,6 +131,7 @@ module _ (file : File) (program : Program) (n : ℕ) (cs : List ProgramCall) whe
   working_is b w (Gives v) r h = cc
   working_is b w (Ends c) r h = cc
 
+  -- if a phase asks, it means what it asks
   pub asked_is : (p : Phase) (r : Next) → asked_in program n cs p ≡ Some r → phase_meaning file program n cs p [] ≡ r
   asked_is Starts r h = none_begun cs r h
   asked_is (Announces c) r h = announced_is c ∙ same_next (Goes (Call n) NoValue) r h
@@ -161,6 +163,7 @@ module _ (file : File) (program : Program) (n : ℕ) (cs : List ProgramCall) whe
   starts_ask_nothing [] act h = cc
   starts_ask_nothing (c ∷ l) act h = cc
 
+  -- an answer that is given to a phase is the first of its answers
   pub answered_keeps : (p : Phase) (act : Action Value) (a : Answer Value) (q : Answers) → action_in (asked_in program n cs p) ≡ Some act → phase_meaning file program n cs (answered_phase file a p) q ≡ phase_meaning file program n cs p (a ∷ q)
   answered_keeps Starts act a q h = absurd (starts_ask_nothing cs act h)
   answered_keeps (Announces c) act a q h = announced_keeps c a q
@@ -188,6 +191,7 @@ begun_in_keeps file program (ReturnsWith v) n cs q = refl
 begun_in_keeps file program (TrapsWith kind) n cs q = refl
 begun_in_keeps file program IsTrapped n cs q = refl
 
+-- a thread that begins means the same
 pub begun_keeps : (file : File) (program : Program) (t : Thread) (q : Answers) → thread_meaning file program (begun t) q ≡ thread_meaning file program t q
 begun_keeps file program t q = begun_in_keeps file program t.phase t.number t.left q
 

@@ -20,7 +20,7 @@ traced_is Same lines = refl
 traced_is (Moved s) lines = refl
 traced_is (Acted s line) lines = refl
 
--- a step's events stand before those of the steps after it
+-- a step's events come before those of the steps after it
 step_before : (h : List Event) (d : Stepped State (Entry Value)) (lines : List (Entry Value)) → (h ++ history_of (traced d [])) ++ history_of lines ≡ h ++ history_of (traced d lines)
 step_before h d lines =
     append_assoc h (history_of (traced d [])) (history_of lines)
@@ -53,6 +53,7 @@ gone_rest r t ts =
     step_before r.history (source_step r.file r.program r.state t) (trace (source_step r.file r.program) (gone_on r t).state ts)
     ∙ ap (λ s. r.history ++ history_of (traced (source_step r.file r.program r.state t) (trace (source_step r.file r.program) s ts))) (sym (after_step_is r.file r.program r.state t))
 
+-- one step of a schedule further, the whole history stays the same
 pub rest_after : (r r' : Progress) (ts : List ℕ) (i d : ℕ) (whole : List Event) → i < length ts → r' ≡ gone_on r (get_or ts i d) → rest_of r (drop i ts) ≡ whole → rest_of r' (drop (i + 1) ts) ≡ whole
 rest_after r r' ts i d whole within is h =
     ap (λ q. rest_of q (drop (i + 1) ts)) is
@@ -78,6 +79,7 @@ after_step r thread st = record {
   history = r.history ++ history_of (traced (stepped thread st.did st.after) []);
 }
 
+-- a thread that isn't there does nothing
 pub none_stays : (r : Progress) (thread : ℕ) → length r.program.threads ≤ thread → r ≡ gone_on r thread
 none_stays r thread past = sym (
     ap (after_step r thread) (none_is_idle r.file r.program r.state thread past)

@@ -57,6 +57,7 @@ module _ (file : File) (program : Program) where
           ∙ kept i q
           ∙ ap (λ l. next file program i (l ++ q)) (sym (others i differs))
 
+  -- the thread of a number
   pub thread_at : (ts : List KeptThread) (t : ℕ) (v : KeptThread) → t < length ts → v ≡ get_or ts t v → slice_get (map thread_of ts) t ≡ Some (thread_of v)
   thread_at ts t v within is =
       slice_get-map thread_of ts t ∙ ap (option_map thread_of) (slice_get-get_or ts t v within) ∙ ap (λ k. Some (thread_of k)) (sym is)
@@ -111,6 +112,7 @@ module _ (file : File) (program : Program) where
   none_had (t ∷ ts) zero = refl
   none_had (t ∷ ts) (suc i) = none_had ts i
 
+  -- threads that start are kept, without answers
   pub starts : (ts : List ProgramOfThread) → program.threads ≡ map plain_thread ts → IsKept file program (fresh_threads ts) (map (λ t. []) program.threads)
   starts ts e i q =
       ap (λ l. means file program (slice_get l i) q) (all_fresh ts ∙ ap (map fresh) (sym e))

@@ -17,9 +17,11 @@ use Rattle.ls_source_store.specs.declared.thing.Effect.TheVariants.{Waits as Has
 use Rattle.ls_source_store.specs.SeenStore.{seen_effect}
 use Rattle.ls_source.specs.SeenRun.{lists_of}
 
+-- the answers of a thread, as they are kept
 abbrev pub Kept : Type 0
 Kept = Vec (Answer Value) Global
 
+-- a state by its store and its answers
 abbrev pub state : Store → List Answers → State
 state store answers = record { store = store; answers = answers }
 
@@ -40,5 +42,6 @@ pub acts : (st : State) (thread : ℕ) (action : Action Value) (e : Effect) (s' 
 acts st thread action e s' r answer xs h is g =
     ap (state s') g ∙ ap (λ q. (performed st thread action q).after) (ap (seen_effect s') (sym is) ∙ h)
 
+-- an action that has to wait
 pub waits : (st : State) (thread : ℕ) (action : Action Value) (e : Effect) (s' : Store) (r : Outcome) → seen_effect s' r ≡ e → r ≡ HasToWait → st ≡ (performed st thread action e).after
 waits st thread action e s' r h is = ap (λ q. (performed st thread action q).after) (ap (seen_effect s') (sym is) ∙ h)

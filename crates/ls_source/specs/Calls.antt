@@ -19,7 +19,7 @@ use Rattle.ls_meaning.specs.Threads.{Next, Goes, Ended, Trapped, result_of, name
 use Rattle.ls_source_pending.specs.Pending.{State, Control, Invokes, Gives, Ends, Asks, Enters, Turns}
 use Rattle.ls_source_pending.specs.Machine.{OfValue, OfEnd, Rest, at, meaning, is_left, taken}
 
--- what a body was entered for
+-- why a body was entered
 pub data Bottom : Type 0 where
   OfMaking : (name : ℕ) (object : Value) → Bottom
   OfCalling : (method : ℕ) → Bottom
@@ -35,7 +35,7 @@ pub data Phase : Type 0 where
   TrapsWith : (kind : Kind) → Phase
   IsTrapped : Phase
 
--- how many calls have begun, and those after them
+-- how many calls have begun, and the calls after them
 pub record Thread : Type 0 where
   pub number : ℕ
   pub left : List ProgramCall
@@ -142,7 +142,7 @@ answered_phase file a IsTrapped = IsTrapped
 abbrev pub answered : File → Answer Value → Thread → Thread
 answered file a t = record { number = t.number; left = t.left; phase = answered_phase file a t.phase }
 
--- What is asked for, where no move is left.
+-- What is asked for, if no move is left.
 
 abbrev pub asked_by : Control → Option Next
 asked_by (Asks action sort) = Some (Goes action sort)

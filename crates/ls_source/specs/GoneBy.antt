@@ -1,4 +1,4 @@
--- The run after a step that is given.
+-- The run after a given step.
 use Rattle.std.specs.Prelude.{ℕ, [], ◌++◌}
 use Rattle.ls_meaning.specs.Steps.{traced}
 use Rattle.ls_meaning.specs.Runs.{Step, stepped, history_of}

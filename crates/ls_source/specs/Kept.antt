@@ -8,7 +8,7 @@ use Rattle.ls_meaning.specs.Course.{Answers}
 use Rattle.ls_meaning.specs.Threads.{Next, Goes, Ended, Trapped, next}
 use Rattle.ls_source.specs.Calls.{Thread, thread_meaning, asked_now}
 
--- the number of no thread has ended
+-- a thread that doesn't exist has ended
 abbrev pub means : File → Program → Option Thread → Answers → Next
 means file program None q = Ended
 means file program (Some t) q = thread_meaning file program t q
@@ -18,7 +18,7 @@ abbrev pub IsKept : File → Program → List Thread → List Answers → Type 0
 IsKept file program threads answers =
     (i : ℕ) (q : Answers) → means file program (slice_get threads i) q ≡ next file program i (slice_index_or answers i [] ++ q)
 
--- what a thread asks for, where no move is left
+-- what a thread asks for, if no move is left
 abbrev pub asked_at : Program → Option Thread → Option Next
 asked_at program None = Some Ended
 asked_at program (Some t) = asked_now program t

@@ -6,7 +6,7 @@ use Rattle.ls_checked.specs.CheckedProgram.{Program}
 use Rattle.ls_meaning.specs.Steps.{traced}
 use Rattle.ls_meaning.specs.Runs.{State, start, step, source_step, history_of}
 
--- the run of a program of a file, as far as it got: the state, and the events that have happened
+-- the run of a program of a file so far: the state, and the events that have happened
 pub record Progress : Type 0 where
   pub file : File
   pub program : Program

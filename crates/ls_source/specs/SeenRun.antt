@@ -1,4 +1,4 @@
--- The state of a run that the code keeps, in the definitions' words.
+-- The state of a run that the code keeps, in the terms of the definitions.
 use Rattle.std.specs.Prelude.{ℕ, List, [], ◌∷◌, Option, Some, None, map}
 use Rattle.std.specs.declared.vec.Vec.{Vec}
 use Rattle.std.specs.declared.alloc.Global.{Global}

@@ -1,4 +1,4 @@
--- What the code keeps and says of a thread, in the definitions' words.
+-- What the code keeps and says of a thread, in the terms of the definitions.
 use Rattle.std.specs.Prelude.{◌∷◌, [], drop, map}
 use Rattle.ls_checked.specs.PlainProgram.{plain_call}
 use Rattle.ls_meaning.specs.Methods.{depth_limit}
@@ -24,7 +24,7 @@ abbrev pub bottom_of : Bottom → calls.Bottom
 bottom_of (bottoms.Making name o) = calls.OfMaking name o
 bottom_of (bottoms.Calling m) = calls.OfCalling m
 
--- a body that is still to begin counts as its work
+-- if a body is still to begin, it counts as its work
 abbrev pub phase_of : Phase → State → calls.Phase
 phase_of phases.Starts work = calls.Starts
 phase_of (phases.Announces c) work = calls.Announces (plain_call c.now)

@@ -23,8 +23,8 @@ use ls_source_pending::work::Control;
 use ls_source_store::thing::{Effect, Thing};
 use std::alloc::{AllocError, Global};
 
-/// A run of a program of a file: each thread with its pending work, up to its next question. The answers that it has had are
-/// kept, and no step reads them.
+/// A run of a program of a file. Each thread has its pending work, up to its next question. The answers that a thread
+/// has had are kept, but no step reads them.
 #[derive(Drop)]
 pub struct SourceRun<'a> {
     file: &'a File,
@@ -78,7 +78,7 @@ impl<'a> SourceRun<'a> {
     ghost use Rattle.ls_source.specs.Kept.{asked_at, action_in};
     ghost use Rattle.ls_source.specs.Shown.{progress_of};
 
-    /// A run that hasn't made a step.
+    /// A run that hasn't made a step. The only refusal is that memory ran out.
     pub fn new(
         alloc: Global,
         file: &'a File,
@@ -96,7 +96,8 @@ impl<'a> SourceRun<'a> {
         })
     }
 
-    // What a thread does after the answers that it has had. Work that memory was short for isn't gone on with here.
+    // What a thread does after the answers that it has had. If memory ran out for its work, that work doesn't go on
+    // here.
     #[inline(always)]
     fn next_of_thread(&self, thread: usize) -> Result<Next, AllocError>
         ensures asked { IfOk result (λ r. asked_at (progress_of self.now).program (slice_get (map thread_of self.now.threads.items) thread) ≡ Some (seen_next r)) }
@@ -111,7 +112,7 @@ impl<'a> SourceRun<'a> {
         }
     }
 
-    // What the work of a thread does now, where it is in a body.
+    // What the work of a thread does now, if the thread is in a body.
     #[inline(always)]
     fn control_at(&self, thread: usize) -> Option<&Control<'a>>
         ensures { IfSome result (λ c. asked_at (progress_of self.now).program (slice_get (map thread_of self.now.threads.items) thread) ≡ asked_by (control_of c.now)) }
@@ -125,7 +126,8 @@ impl<'a> SourceRun<'a> {
         }
     }
 
-    // What a thread does next, apart from the way that most steps take: an action that many places make is copied in parts.
+    // What a thread does next. This isn't the way that most steps take: an action that is made in many places is
+    // copied in parts.
     #[inline(never)]
     fn next_outside(&self, thread: usize) -> Result<Next, AllocError>
         ensures asked { IfOk result (λ r. asked_at (progress_of self.now).program (slice_get (map thread_of self.now.threads.items) thread) ≡ Some (seen_next r)) }
@@ -134,7 +136,7 @@ impl<'a> SourceRun<'a> {
         self.next_of_thread(thread)
     }
 
-    // What a thread does next, soonest where it is in a body.
+    // What a thread does next. It is found fastest if the thread is in a body.
     #[inline(always)]
     fn next_at_once(&self, thread: usize) -> Result<Next, AllocError>
         ensures asked { IfOk result (λ r. asked_at (progress_of self.now).program (slice_get (map thread_of self.now.threads.items) thread) ≡ Some (seen_next r)) }
@@ -148,7 +150,7 @@ impl<'a> SourceRun<'a> {
         }
     }
 
-    // The setup starts at once, the others when it has ended without a trap.
+    // The setup starts at once. The other threads start when the setup has ended without a trap.
     fn has_started(&self, thread: usize) -> Result<bool, AllocError>
         ensures { IfOk result (λ b. b ≡ has_started (progress_of self.now).file (progress_of self.now).program (progress_of self.now).state thread) }
     {
@@ -158,7 +160,7 @@ impl<'a> SourceRun<'a> {
         self.has_setup_ended()
     }
 
-    /// Whether the setup has ended without a trap.
+    /// Whether the setup has ended without a trap. The only refusal is that memory ran out.
     pub fn has_setup_ended(&self) -> Result<bool, AllocError>
         ensures { IfOk result (λ b. b ≡ has_ended (next (progress_of self.now).file (progress_of self.now).program 0 (answers_of (progress_of self.now).state 0))) }
     {
@@ -168,7 +170,7 @@ impl<'a> SourceRun<'a> {
         }
     }
 
-    /// What a thread asks for next. The number of no thread has ended.
+    /// What a thread asks for next. A thread that doesn't exist has ended. The only refusal is that memory ran out.
     pub fn next(&self, _alloc: Global, thread: usize) -> Result<Asked, AllocError>
         ensures { IfOk result (λ a. a ≡ asked (progress_of self.now).file (progress_of self.now).program (progress_of self.now).state thread) }
     {
@@ -184,7 +186,8 @@ impl<'a> SourceRun<'a> {
         }
     }
 
-    /// Whether a thread has ended with a trap. The number of no thread has not.
+    /// Whether a thread has ended with a trap. A thread that doesn't exist hasn't. The only refusal is that memory ran
+    /// out.
     pub fn has_trapped(&self, thread: usize) -> Result<bool, AllocError>
         ensures { IfOk result (λ b. b ≡ has_trapped (next (progress_of self.now).file (progress_of self.now).program thread (answers_of (progress_of self.now).state thread))) }
     {
@@ -194,14 +197,14 @@ impl<'a> SourceRun<'a> {
         }
     }
 
-    /// All that the run has made, in order of making: object n, counted from 1, stands at place n - 1.
+    /// All things that the run has made, in order of making. Object n, counted from 1, is at index n - 1.
     pub fn things(&self) -> &[Thing]
         ensures { map thing_of result.now ≡ (progress_of self.now).state.store.things }
     {
         self.stage.store.things.as_slice()
     }
 
-    /// What is behind a reference. Nothing is behind 0, which is null, and behind the number of no object.
+    /// The thing that a reference names. 0, which is null, and the number of no object name none.
     pub fn thing(&self, number: u64) -> Option<&Thing>
         ensures { option_map thing_of (option_copied result) ≡ thing_at (progress_of self.now).state.store number }
     {
@@ -211,7 +214,7 @@ impl<'a> SourceRun<'a> {
         self.stage.store.things.get((number - 1) as usize)
     }
 
-    /// The value of a setup name, by its number in text order from 0. It is null where there is no such name.
+    /// The value of a setup name, by its number in text order from 0. If there is no such name, it is null.
     pub fn name_value(&self, number: usize) -> Value
         ensures { result ≡ name_at (progress_of self.now).state.store number }
     {
@@ -253,8 +256,11 @@ impl<'a> SourceRun<'a> {
         Ok(effect)
     }
 
-    /// One step of a thread. It changes the run where it acts, and not where it is refused. What the thread does up to its
-    /// next question is done before and after, and where memory is short after it, the next step goes on with that.
+    /// One step of a thread. It changes the run only if it acts. If memory runs out, the step is refused and the run
+    /// is unchanged.
+    ///
+    /// What the thread does up to its next question is done before and after the action. If memory runs out for that
+    /// after the action, the next step goes on with it.
     pub fn step(&mut self, alloc: Global, thread: usize) -> Result<Did, AllocError>
         ensures did { IfOk result (λ d. d ≡ (step (progress_of self.old).file (progress_of self.old).program (progress_of self.old).state thread).did) }
         ensures run { OnOk result (progress_of self.new ≡ gone_on (progress_of self.old) thread) }
@@ -304,7 +310,7 @@ impl<'a> SourceRun<'a> {
     }
 }
 
-/// The history of a program of a file, for a schedule.
+/// The history of a program of a file, for a schedule. The only refusal is that memory ran out.
 pub fn play(
     alloc: Global,
     file: &File,

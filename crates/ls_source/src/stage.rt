@@ -25,7 +25,7 @@ pub struct Stage {
     pub events: Vec<Event>,
 }
 
-// The event of a history that an action of a thread is.
+// The event of a history that an action of a thread is, or none.
 #[inline(always)]
 fn event_of(thread: usize, action: &Action<Value>) -> Option<Event>
     ensures { result ≡ event_of thread action.now }
@@ -69,7 +69,7 @@ fn no_objects(alloc: Global, names: &[SetupName]) -> Result<Vec<Value>, AllocErr
 }
 
 impl Stage {
-    /// The state at the start of a program.
+    /// The state at the start of a program. The only refusal is that memory ran out.
     #[tactic(auto, using(crate::proofs::Starts::none_is, crate::proofs::Starts::nulls_is))]
     pub fn new(alloc: Global, program: &Program) -> Result<Stage, AllocError>
         ensures state { IfOk result (λ s. state_of s ≡ start (plain_program program.now)) }
@@ -85,7 +85,7 @@ impl Stage {
         })
     }
 
-    /// An action is performed, and its answer and event are kept.
+    /// An action is performed, and its answer and event are kept. The only refusal is that memory ran out.
     pub fn perform(
         &mut self,
         alloc: Global,

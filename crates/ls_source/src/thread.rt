@@ -24,7 +24,7 @@ use ls_source_values::lookups::{constructor_of, method_at};
 use ls_source_values::value::reference_of;
 use std::alloc::{AllocError, Global};
 
-/// What a body was entered for: a setup name and its new object, or a method.
+/// Why a body was entered: to make the object of a setup name, or for a method.
 #[derive(Copy)]
 pub enum Bottom {
     Making(usize, Value),
@@ -37,7 +37,7 @@ impl Clone for Bottom {
     }
 }
 
-/// Where a thread is in its calls. A body begins, and then its work is kept.
+/// Where a thread is in its calls. A body first begins, and then its work is kept.
 #[derive(Copy)]
 pub enum Phase<'a> {
     Starts,
@@ -75,7 +75,7 @@ fn depth_limit() -> u64
     64
 }
 
-// The value of the return event, where the method answers one.
+// The value of the return event, if the method answers one.
 fn result_of(file: &File, method: usize, v: Value) -> Option<Value>
     ensures { result ≡ result_of (plain_file file.now) method v }
 {
@@ -88,7 +88,7 @@ fn result_of(file: &File, method: usize, v: Value) -> Option<Value>
     }
 }
 
-// What the read of a setup name is answered.
+// The sort of the answer to a read of a setup name.
 fn named(program: &Program, n: usize) -> Sort
     ensures { result ≡ named (plain_program program.now) n }
 {
@@ -157,7 +157,7 @@ impl<'a> Thread<'a> {
         }
     }
 
-    // A body's work is made, where it is still to begin. A refusal changes nothing.
+    // If a body is still to begin, its work is made. A refusal changes nothing.
     #[tactic(auto, using(ls_source_pending::proofs::Stacks::none_left))]
     #[inline(never)]
     fn make_body(&mut self, alloc: Global) -> Result<(), AllocError>
@@ -177,7 +177,7 @@ impl<'a> Thread<'a> {
         Ok(())
     }
 
-    // A body's work is made, where it is still to begin: seldom, and so apart from the way that each step takes.
+    // If a body is still to begin, its work is made. That is seldom, so it is not on the way that each step takes.
     #[inline(always)]
     fn begin_body(&mut self, alloc: Global) -> Result<(), AllocError>
         ensures { thread_of self.new ≡ thread_of self.old }
@@ -221,7 +221,7 @@ impl<'a> Thread<'a> {
         }
     }
 
-    /// Goes on to the next question, or to the end. The thread does what it did, also where it is refused.
+    /// Goes on to the next question, or to the end. If memory runs out, the thread still does what it did before.
     pub fn settle(&mut self, alloc: Global, file: &'a File) -> Result<(), AllocError>
         ensures { (program : PlainProgram) (q : Answers) → thread_meaning (plain_file file.now) program (thread_of self.new) q ≡ thread_meaning (plain_file file.now) program (thread_of self.old) q }
     {
@@ -311,7 +311,7 @@ impl<'a> Thread<'a> {
         }
     }
 
-    /// What its work does now, where it is in a body.
+    /// What its work does now, if the thread is in a body.
     #[inline(always)]
     pub fn control(&self) -> Option<&Control<'a>>
         ensures { IfSome result (λ c. (program : PlainProgram) → asked_now program (thread_of self.now) ≡ asked_by (control_of c.now)) }
@@ -322,7 +322,7 @@ impl<'a> Thread<'a> {
         }
     }
 
-    /// What is asked for, where no move is left.
+    /// What is asked for, if no move is left.
     #[tactic(auto, using(crate::proofs::Lefts::one_left, crate::proofs::Lefts::none_left))]
     #[inline(always)]
     pub fn asked(&self, program: &Program) -> Option<Next>

@@ -371,6 +371,7 @@ module _ (file : File) (base : Rest) where
   move_keeps (Enters m vs) fs ls d q = refl
   move_keeps (Turns e s) fs ls d q = refl
 
+  -- a state that moves means the same
   pub moved_keeps : (s : State) (q : Answers) → meaning file base (moved file s) q ≡ meaning file base s q
   moved_keeps s q = move_keeps s.control s.frames s.locals s.depth q
 
@@ -402,5 +403,6 @@ module _ (file : File) (base : Rest) where
   take_keeps a (Gives v) fs ls d q h = absurd h
   take_keeps a (Ends c) fs ls d q h = absurd h
 
+  -- an answer that is taken is the first of the answers
   pub taken_keeps : (a : Answer Value) (s : State) (q : Answers) → IsAsking s.control → meaning file base (taken a s) q ≡ meaning file base s (a ∷ q)
   taken_keeps a s q h = take_keeps a s.control s.frames s.locals s.depth q h

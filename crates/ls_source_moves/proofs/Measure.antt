@@ -1,4 +1,5 @@
--- A measure of pending work, which each move makes less: so an answer is waited for, or the work is done, after finitely many.
+-- A measure of pending work, which each move makes less. So after finitely many moves an answer is waited for, or the
+-- work is done.
 use Rattle.std.proofs.Common.{◌≡◌, ℕ, zero, suc, ◌+◌, ◌<◌, ◌≤◌, Bool, true, false, cond, List, [], ◌∷◌, Option, Some, None, arith}
 use Rattle.std.specs.Prelude.{nat_eq, pos, int_lt, slice_get}
 use Rattle.ls_events.specs.declared.value.Value.{Value}
@@ -124,6 +125,7 @@ abbrev pub load : List Frame → ℕ
 load [] = 0
 load (f ∷ fs) = frame_load f + load fs
 
+-- how much a state has to do before it asks or ends
 abbrev pub burden : File → State → ℕ
 burden file s = control_load file s.control + load s.frames
 
@@ -405,5 +407,6 @@ module _ (file : File) where
   move_less (Enters m vs) fs ls d h = cc
   move_less (Turns e s) fs ls d h = cc
 
+  -- each move leaves less to do
   pub moved_less : (s : State) → is_left s.control s.frames ≡ true → burden file (moved file s) < burden file s
   moved_less s h = move_less s.control s.frames s.locals s.depth h

@@ -74,7 +74,7 @@ fn end<'a>(pending: &mut Pending<'a>, completion: Completion<Value>)
     }
 }
 
-// A method that is entered. A refusal leaves what was to be done.
+// A method is entered. A refusal leaves what was to be done.
 fn open<'a>(
     pending: &mut Pending<'a>,
     alloc: Global,
@@ -109,7 +109,7 @@ fn open<'a>(
     Ok(())
 }
 
-// A method is to be entered, where the depth allows it.
+// A method is to be entered, if the depth allows it.
 fn invoke<'a>(pending: &mut Pending<'a>, method: usize, o: Value, values: Vec<Value>)
     ensures { state_of pending.new ≡ at (if nat_eq pending.old.depth 0 then PlainEnds (Completion.Threw Kind.StackOverflow) else PlainEnters method (o ∷ values.items)) (frames_of pending.old.frames.items) pending.old.locals.items pending.old.depth }
 {
@@ -145,7 +145,7 @@ fn give_on<'a>(pending: &mut Pending<'a>, alloc: Global, file: &'a File) -> Resu
     }
 }
 
-// Most completions are normal, and a function of their own needs no room for one.
+// Most completions are normal. For these a function of its own needs no room for a completion.
 #[inline(never)]
 fn end_normally<'a>(pending: &mut Pending<'a>)
     requires { vec_len pending.old.frames < vec_capacity pending.old.frames }
@@ -184,7 +184,7 @@ fn end_on<'a>(pending: &mut Pending<'a>, alloc: Global, file: &'a File) -> Resul
     }
 }
 
-// One move of any kind. What is to be done is taken out of its place, and a refusal puts it back.
+// One move of any kind. What is to be done is taken out of its place; a refusal puts it back.
 #[inline(never)]
 fn take_move<'a>(pending: &mut Pending<'a>, alloc: Global, file: &'a File) -> Result<(), AllocError>
     requires { vec_len pending.old.frames < vec_capacity pending.old.frames }
@@ -208,7 +208,8 @@ fn take_move<'a>(pending: &mut Pending<'a>, alloc: Global, file: &'a File) -> Re
     Ok(())
 }
 
-/// One move. A refusal changes nothing. What has no values of arguments is read where it stands.
+/// One move. A refusal, which is only that memory ran out, changes nothing. Work without values of arguments is read
+/// in its place.
 pub fn advance<'a>(
     pending: &mut Pending<'a>,
     alloc: Global,

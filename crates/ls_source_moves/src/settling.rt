@@ -11,7 +11,7 @@ use ls_checked::tree::File;
 use ls_source_pending::pending::Pending;
 use std::alloc::{AllocError, Global};
 
-/// Goes on to what is asked for next, or to the end. The work means what it meant, also where it is refused.
+/// Goes on to what is asked for next, or to the end. If memory runs out, the work still means what it meant.
 pub fn settle<'a>(
     pending: &mut Pending<'a>,
     alloc: Global,

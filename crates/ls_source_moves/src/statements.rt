@@ -45,7 +45,7 @@ fn after_loop<'a>(completion: Completion<Value>, e: &'a Expression, s: &'a State
     }
 }
 
-// A value is waited for, before the rest of a statement.
+// The rest of a statement waits for a value.
 #[inline(always)]
 fn wait<'a>(pending: &mut Pending<'a>, rest: Waiting<'a>, e: &'a Expression)
     requires { vec_len pending.old.frames < vec_capacity pending.old.frames }
@@ -54,7 +54,7 @@ fn wait<'a>(pending: &mut Pending<'a>, rest: Waiting<'a>, e: &'a Expression)
     pending.inside(Frame::Waiting(rest), Control::Evaluates(e))
 }
 
-// The write of a field begins, with its object where that is known.
+// The write of a field begins, with its object if that is known.
 #[inline(always)]
 fn target_of_write<'a>(
     pending: &mut Pending<'a>,
@@ -138,7 +138,7 @@ fn runs<'a>(pending: &mut Pending<'a>, ss: &'a [Statement])
     pending.go(Control::Runs(ss))
 }
 
-// A statement of `if`, of two.
+// The first or the second statement of an `if`.
 #[inline(always)]
 fn branch<'a>(pending: &mut Pending<'a>, v: Value, a: &'a Statement, b: &'a Statement)
     ensures { state_of pending.new ≡ at (PlainExecutes (if truth_of v then plain_statement a.now else plain_statement b.now)) (frames_of pending.old.frames.items) pending.old.locals.items pending.old.depth }
@@ -164,7 +164,7 @@ fn guard<'a>(pending: &mut Pending<'a>, b: &'a Statement, f: &'a Statement)
     pending.inside(Frame::Ending(Ending::Try(f)), Control::Executes(b))
 }
 
-// The `finally` block, behind the block of a `try` that has ended.
+// The `finally` block, after the block of a `try` has ended.
 fn finish<'a>(pending: &mut Pending<'a>, f: &'a Statement, reason: Completion<Value>)
     requires { vec_len pending.old.frames < vec_capacity pending.old.frames }
     ensures { state_of pending.new ≡ at (PlainExecutes (plain_statement f.now)) (Up (OfFinally reason) ∷ frames_of pending.old.frames.items) pending.old.locals.items pending.old.depth }
@@ -172,7 +172,7 @@ fn finish<'a>(pending: &mut Pending<'a>, f: &'a Statement, reason: Completion<Va
     pending.inside(Frame::Ending(Ending::Finally(reason)), Control::Executes(f))
 }
 
-// The statements behind one that has ended.
+// The statements after one that has ended.
 #[inline(always)]
 fn behind<'a>(pending: &mut Pending<'a>, ss: &'a [Statement], completion: Completion<Value>)
     ensures { state_of pending.new ≡ at (if_normal completion (PlainRuns (statements_of ss.now))) (frames_of pending.old.frames.items) pending.old.locals.items pending.old.depth }
@@ -183,7 +183,7 @@ fn behind<'a>(pending: &mut Pending<'a>, ss: &'a [Statement], completion: Comple
     }
 }
 
-// What a loop goes on with, behind its body.
+// What a loop goes on with after its body.
 #[inline(always)]
 fn turn<'a>(
     pending: &mut Pending<'a>,
@@ -199,7 +199,7 @@ fn turn<'a>(
     }
 }
 
-// The end of a `try`, behind its `finally` block.
+// The end of a `try`, after its `finally` block.
 fn leave<'a>(pending: &mut Pending<'a>, reason: Completion<Value>, completion: Completion<Value>)
     ensures { state_of pending.new ≡ at (if_normal completion (PlainEnds reason)) (frames_of pending.old.frames.items) pending.old.locals.items pending.old.depth }
 {

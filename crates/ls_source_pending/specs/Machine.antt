@@ -1,4 +1,4 @@
--- One small move of pending work, and what pending work means: a course.
+-- One small move of pending work, and the course that pending work means.
 use Rattle.std.specs.Prelude.{ℕ, zero, suc, ◌-◌, pos, neg_ℤ, Bool, true, false, not, int_lt, nat_eq, List, [], ◌∷◌, ◌++◌, Option, Some, None, slice_get, slice_set, slice_index_or, if◌then◌else◌}
 use Rattle.ls_events.specs.declared.value.Value.{Value}
 use Rattle.ls_events.specs.declared.value.Value.TheVariants as values
@@ -49,22 +49,22 @@ known MakeLock ls = None
 known (MakeMarkable c es) ls = None
 known (MakeArray e) ls = None
 
--- an operator whose left operand has its value, with the right one where that is known
+-- an operator whose left operand has its value, with the right operand if that is known
 abbrev pub on_right : Option Value → Operator → Value → Expression → List Frame → List Value → ℕ → State
 on_right None op x b fs ls d = at (Evaluates b) (In (InRight op x) ∷ fs) ls d
 on_right (Some y) op x b fs ls d = at (if divides_by_zero op y then Ends (Threw Arithmetic) else Gives (operated op x y)) fs ls d
 
--- an operator that begins, with its left operand where that is known
+-- an operator that begins, with its left operand if that is known
 abbrev pub on_left : Option Value → Operator → Expression → Expression → List Frame → List Value → ℕ → State
 on_left None op a b fs ls d = at (Evaluates a) (In (InLeft op b) ∷ fs) ls d
 on_left (Some x) op a b fs ls d = on_right (known b ls) op x b fs ls d
 
--- the read of a field, with its object where that is known
+-- the read of a field, with its object if that is known
 abbrev pub on_target : List Class → Option Value → Expression → ℕ → ℕ → List Frame → List Value → ℕ → State
 on_target classes None e c f fs ls d = at (Evaluates e) (In (InField c f) ∷ fs) ls d
 on_target classes (Some v) e c f fs ls d = at (thrown_on_null (reference_of v) (Asks (ReadField (reference_of v) f) (field_of classes c f))) fs ls d
 
--- a call, with its object where that is known
+-- a call, with its object if that is known
 abbrev pub on_called : Option Value → Expression → Called → Expressions → List Frame → List Value → ℕ → State
 on_called None e m es fs ls d = at (Evaluates e) (In (InTarget m es) ∷ fs) ls d
 on_called (Some o) e m es fs ls d = at (Argues (ToCall m o) [] es) fs ls d
@@ -85,7 +85,7 @@ evaluating classes MakeLock fs ls d = at (Asks NewLock (NewOf types.Lock)) fs ls
 evaluating classes (MakeMarkable c es) fs ls d = at (Argues (ToMark c) [] es) fs ls d
 evaluating classes (MakeArray e) fs ls d = at (Evaluates e) (In InLength ∷ fs) ls d
 
--- an argument, with its value where that is known
+-- an argument, with its value if that is known
 abbrev pub on_argument : Option Value → Purpose → List Value → Expression → Expressions → List Frame → List Value → ℕ → State
 on_argument None p vs e es fs ls d = at (Evaluates e) (In (InArgument p vs es) ∷ fs) ls d
 on_argument (Some v) p vs e es fs ls d = at (Argues p (vs ++ v ∷ []) es) fs ls d
@@ -162,7 +162,7 @@ giving classes v (On f ∷ fs) ls d = going_on f v fs ls d
 giving classes v (Up f ∷ fs) ls d = at (Gives v) fs ls d
 giving classes v (Leaves result saved outer ∷ fs) ls d = at (Gives v) fs ls d
 
--- the write of a field, with its object where that is known
+-- the write of a field, with its object if that is known
 abbrev pub on_written : Option Value → Expression → ℕ → Expression → List Frame → List Value → ℕ → State
 on_written None e f v fs ls d = at (Evaluates e) (On (ToTarget f v) ∷ fs) ls d
 on_written (Some o) e f v fs ls d = at (Evaluates v) (On (ToField o f) ∷ fs) ls d
@@ -186,7 +186,7 @@ abbrev pub running : Statements → List Frame → List Value → ℕ → State
 running Done fs ls d = at (Ends Normal) fs ls d
 running (Then s ss) fs ls d = at (Executes s) (Up (OfSequence ss) ∷ fs) ls d
 
--- what a normal completion goes on with; any other goes on as it is
+-- what a normal completion goes on with; any other completion goes on as it is
 abbrev pub if_normal : Completion Value → Control → Control
 if_normal Normal c = c
 if_normal (Broke n) c = Ends (Broke n)
@@ -242,7 +242,7 @@ move file (Turns e s) fs ls d = at (Turns e s) fs ls d
 abbrev pub moved : File → State → State
 moved file s = move file s.control s.frames s.locals s.depth
 
--- whether a move is left: none where something is asked for, and none at the end of all
+-- whether a move is left: none if something is asked for, and none at the end of all
 abbrev pub is_left : Control → List Frame → Bool
 is_left (Evaluates e) fs = true
 is_left (Argues p vs es) fs = true
@@ -277,12 +277,13 @@ taken a s = at (taking a s.control) s.frames s.locals s.depth
 
 -- The meaning.
 
--- how a part comes out, for the frame round it
+-- the outcome of a part, for the frame around it
 pub data Outcome : Type 0 where
   OfValue : (v : Value) → Outcome
   OfEnd : (completion : Completion Value) → Outcome
 
--- what follows a part: by how many more calls may be entered, the locals, the outcome and the answers left
+-- what follows a part; it takes how many more calls may be entered, the locals, the outcome, and the answers that are
+-- left
 abbrev pub Rest : Type 0
 Rest = ℕ → List Value → Outcome → Answers → Next
 
@@ -368,7 +369,7 @@ around file (Up f) k d ls (OfEnd c) q = executed k d (closed file d f (Completes
 around file (Leaves result saved outer) k d ls (OfValue v) q = k d ls (OfValue v) q
 around file (Leaves result saved outer) k d ls (OfEnd c) q = evaluated k outer saved (leave result (Completes c ls q))
 
--- the frames round a part, up to what follows them all
+-- the frames around a part, up to what follows them all
 abbrev pub rest_of : File → Rest → List Frame → Rest
 rest_of file base [] = base
 rest_of file base (f ∷ fs) = around file f (rest_of file base fs)

@@ -56,7 +56,7 @@ impl<'a> Pending<'a> {
         )
     }
 
-    // An argument that is known. A refusal leaves what was to be done.
+    // An argument with a known value. A refusal leaves what was to be done.
     fn put_known(
         &mut self,
         purpose: Purpose,
@@ -81,7 +81,8 @@ impl<'a> Pending<'a> {
         }
     }
 
-    /// The next argument, with its value where that is known, or what they are for. A refusal leaves what was to be done.
+    /// The next argument, with its value if that is known; or else the use of the arguments. A refusal leaves what was
+    /// to be done.
     pub fn argue(
         &mut self,
         purpose: Purpose,
@@ -143,7 +144,7 @@ impl<'a> Pending<'a> {
         )
     }
 
-    /// What arguments are for.
+    /// The use of arguments.
     pub fn apply(&mut self, classes: &[Class], purpose: Purpose, values: Vec<Value>)
         requires { vec_len self.old.frames < vec_capacity self.old.frames }
         ensures { state_of self.new ≡ applying (map plain_class classes.now) (purpose_of purpose) values.items (frames_of self.old.frames.items) self.old.locals.items self.old.depth }

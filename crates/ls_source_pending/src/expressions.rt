@@ -17,8 +17,8 @@ use ls_meaning::sort::Sort;
 use ls_source_values::value::value_at;
 use std::alloc::Global;
 
-// A function of Rattle clears the room of its locals as it begins. So the parts that hold frames stand in functions of their
-// own, and a move clears no more than it needs.
+// A function of Rattle clears the room of its locals when it begins. So the parts that hold frames are functions of
+// their own, and a move clears no more than it needs.
 impl<'a> Pending<'a> {
     /// An operand, before the rest of its expression.
     #[inline(always)]
@@ -29,7 +29,7 @@ impl<'a> Pending<'a> {
         self.inside(Frame::Operand(rest), Control::Evaluates(e))
     }
 
-    // The read of a field, with its object where that is known.
+    // The read of a field, with its object if that is known.
     #[inline(always)]
     fn target(&mut self, classes: &[Class], class: usize, field: usize, e: &'a Expression)
         requires { vec_len self.old.frames < vec_capacity self.old.frames }
@@ -50,7 +50,7 @@ impl<'a> Pending<'a> {
         self.operand(Operand::Item(index), e)
     }
 
-    // An operator, with its left operand where that is known.
+    // An operator, with its left operand if that is known.
     #[inline(always)]
     fn left(&mut self, op: Operator, e: &'a Expression, right: &'a Expression)
         requires { vec_len self.old.frames < vec_capacity self.old.frames }
@@ -80,7 +80,7 @@ impl<'a> Pending<'a> {
         self.operand(Operand::Or(right), e)
     }
 
-    // A call, with its object where that is known.
+    // A call, with its object if that is known.
     #[inline(always)]
     fn object(&mut self, alloc: Global, e: &'a Expression, called: Called, all: &'a Expressions)
         requires { vec_len self.old.frames < vec_capacity self.old.frames }

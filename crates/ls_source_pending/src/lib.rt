@@ -1,4 +1,5 @@
-//! Pending work: what is left to do of a statement, and of all that is round it, with no look at the answers had so far; and the moves of expressions.
+//! Pending work, which is what is left to do of a statement and of all that is around it, and the moves of
+//! expressions. Pending work doesn't look at earlier answers.
 #![tactic(auto)]
 
 mod calls;

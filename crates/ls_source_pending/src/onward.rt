@@ -58,7 +58,7 @@ impl<'a> Pending<'a> {
         self.go(Control::Asks(action, sort))
     }
 
-    /// On to an action on an object, unless that is null.
+    /// On to an action on an object. If the object is null, it throws.
     #[inline(always)]
     pub fn asks_of(&mut self, object: u64, action: Action<Value>, sort: Sort)
         ensures { state_of self.new ≡ at (thrown_on_null object (PlainAsks action sort)) (frames_of self.old.frames.items) self.old.locals.items self.old.depth }

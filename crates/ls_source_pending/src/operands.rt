@@ -66,7 +66,7 @@ impl<'a> Pending<'a> {
         }
     }
 
-    /// An operator whose left operand has its value, with the right one where that is known.
+    /// An operator whose left operand has its value, with the right operand if that is known.
     #[inline(always)]
     pub fn right(&mut self, op: Operator, left: Value, e: &'a Expression)
         requires { vec_len self.old.frames < vec_capacity self.old.frames }
@@ -90,7 +90,7 @@ impl<'a> Pending<'a> {
         }
     }
 
-    // `&&` behind its left operand.
+    // `&&` after its left operand.
     #[inline(always)]
     fn right_of_and(&mut self, left: Value, right: &'a Expression)
         ensures { state_of self.new ≡ at (if truth_of left then PlainEvaluates (plain right.now) else PlainGives (Value.Boolean false)) (frames_of self.old.frames.items) self.old.locals.items self.old.depth }
@@ -102,7 +102,7 @@ impl<'a> Pending<'a> {
         }
     }
 
-    // `||` behind its left operand.
+    // `||` after its left operand.
     #[inline(always)]
     fn right_of_or(&mut self, left: Value, right: &'a Expression)
         ensures { state_of self.new ≡ at (if truth_of left then PlainGives (Value.Boolean true) else PlainEvaluates (plain right.now)) (frames_of self.old.frames.items) self.old.locals.items self.old.depth }

@@ -1,4 +1,4 @@
-// What a thread does now, and what is left round it.
+// What a thread does now, and what is left around it.
 
 ghost use Rattle.std.specs.Prelude.{◌≡◌};
 ghost use Rattle.ls_source_pending.specs.Filled.{is_some};
@@ -11,7 +11,7 @@ use ls_events::value::Value;
 use ls_meaning::completion::Completion;
 use std::mem;
 
-/// What is done now, the frames round it with the innermost last, the locals, and how many more calls may be entered.
+/// What is done now, the frames around it (the innermost last), the locals, and how many more calls may be entered.
 #[derive(Drop)]
 pub struct Pending<'a> {
     pub control: Control<'a>,
@@ -31,7 +31,7 @@ fn has_some<'a>(frames: &[Frame<'a>]) -> bool
     }
 }
 
-// What goes on after an action that is answered.
+// What goes on after the answer to an action.
 #[inline(always)]
 fn answered<'a>(answer: Answer<Value>) -> Control<'a>
     ensures { control_of result ≡ answered answer }
@@ -61,7 +61,7 @@ impl<'a> Pending<'a> {
         }
     }
 
-    // A method that was asked for may be entered. Anything else stays.
+    // If a method was asked for, it may be entered. Anything else stays.
     fn enter(&mut self, answer: Answer<Value>)
         ensures { state_of self.new ≡ taken answer (state_of self.old) }
     {

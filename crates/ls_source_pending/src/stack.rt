@@ -5,7 +5,7 @@ ghost use Rattle.ls_source_pending.specs.Seen.{frame_of, frames_of};
 
 use crate::work::Frame;
 
-/// One frame more, where there is room.
+/// One frame more. There must be room for it.
 #[tactic(auto, using(crate::proofs::Stacks::one_more))]
 #[inline(always)]
 pub fn push<'a>(frames: &mut Vec<Frame<'a>>, frame: Frame<'a>)
@@ -18,7 +18,7 @@ pub fn push<'a>(frames: &mut Vec<Frame<'a>>, frame: Frame<'a>)
     }
 }
 
-/// The innermost frame is taken away, and leaves room.
+/// Takes the innermost frame away, and leaves its room.
 #[tactic(auto, using(crate::proofs::Stacks::one_more, crate::proofs::Stacks::none_left))]
 #[inline(always)]
 pub fn pop<'a>(frames: &mut Vec<Frame<'a>>) -> Option<Frame<'a>>

@@ -1,4 +1,4 @@
-// The locals of a body as it is entered, what it answers without a value, and expressions that are known at once.
+// The locals of a body when it is entered, what it answers without a value, and expressions that are known at once.
 
 ghost use Rattle.std.specs.Prelude.{◌≡◌, ◌∷◌, IfOk};
 ghost use Rattle.ls_checked.specs.Plain.{plain};
@@ -10,7 +10,7 @@ use ls_events::value::{Value, ValueType};
 use ls_source_values::value::{start_of, starts_of, value_at};
 use std::alloc::{AllocError, Global};
 
-/// The slots of a method as it is entered.
+/// The slots of a method when it is entered. The only refusal is that memory ran out.
 pub fn frame(
     alloc: Global,
     types: &[ValueType],
@@ -29,7 +29,7 @@ pub fn frame(
     Ok(all)
 }
 
-/// What a call answers where its body completes without a value.
+/// What a call answers if its body completes without a value.
 pub fn answer_without(answered: Option<ValueType>) -> Value
     ensures { result ≡ answer_without answered }
 {

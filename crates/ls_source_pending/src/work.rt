@@ -7,7 +7,7 @@ use ls_meaning::completion::Completion;
 use ls_meaning::sort::Sort;
 use std::alloc::AllocError;
 
-/// What arguments are for: a call on an object, a constructor of a new one, or a new markable.
+/// The use of arguments: a call on an object, the constructor of a new object, or a new markable.
 #[derive(Copy)]
 pub enum Purpose {
     Call(Called, Value),
@@ -55,7 +55,7 @@ pub enum Waiting<'a> {
     Slot(usize),
     Target(usize, &'a Expression),
     Field(Value, usize),
-    /// What is added to a field: its object comes, then what it holds, then the addend.
+    /// What is added to a field. First its object has a value, then the field, then the addend.
     Counter(usize, &'a Expression),
     Addend(Value, usize, &'a Expression),
     Sum(Value, usize, Value),
@@ -89,7 +89,8 @@ impl<'a> Clone for Ending<'a> {
     }
 }
 
-/// One frame. An argument stands behind those before it, and a body that is left gives its caller the locals that it had.
+/// One frame. An argument comes after those before it. If a body is left, its caller has the locals that it had
+/// before.
 #[derive(Drop)]
 pub enum Frame<'a> {
     Operand(Operand<'a>),

@@ -25,6 +25,7 @@ put_back_is s o t HasToWait = refl
 put_back_is s o t (HasDone answer) =
     ap (λ things. Does (record { things = things; names = s.names.items }) answer) (map-set thing_of s.things.items (o - 1) t)
 
+-- an action on a thing that is there
 pub acted_within : (s : KeptStore) (o thread : ℕ) (a : Action Value) (t t' : KeptThing) (r : Outcome) → o ≢ 0 → o - 1 < length s.things.items → t ≡ get_or s.things.items (o - 1) t → seen_change (thing_of t') r ≡ change thread a (thing_of t) → seen_effect (record { things = map thing_of (slice_set s.things.items (o - 1) t'); names = s.names.items }) r ≡ on_thing (store_of s) o thread a
 acted_within s o thread a t t' r h within is e =
     let g = slice_get-map thing_of s.things.items (o - 1) ∙ ap (option_map thing_of) (slice_get-get_or s.things.items (o - 1) t within ∙ ap Some (sym is)) in
@@ -32,6 +33,7 @@ acted_within s o thread a t t' r h within is e =
     ∙ ap (put_back (store_of s) o) e
     ∙ ap (λ x. at_thing (store_of s) o x (change thread a)) (sym (thing_is (store_of s) o (Some (thing_of t)) h g))
 
+-- an action on a thing that isn't there
 pub acted_past : (s : KeptStore) (o thread : ℕ) (a : Action Value) → o ≢ 0 → length s.things.items ≤ o - 1 → Does (store_of s) Done ≡ on_thing (store_of s) o thread a
 acted_past s o thread a h past =
     let g = slice_get-map thing_of s.things.items (o - 1) ∙ ap (option_map thing_of) (slice_get_past s.things.items (o - 1) past) in

@@ -1,4 +1,4 @@
--- The store that the code keeps, in the definitions' words.
+-- The store that the code keeps, in the terms of the definitions.
 use Rattle.std.specs.Prelude.{map}
 use Rattle.ls_meaning.specs.Store.{Store}
 use Rattle.ls_meaning.specs.Effect.{Effect, Waits, Does}

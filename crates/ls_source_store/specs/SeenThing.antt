@@ -1,4 +1,4 @@
--- The things that the code keeps, in the definitions' words.
+-- The things that the code keeps, in the terms of the definitions.
 use Rattle.std.specs.Prelude.{ℕ, false, unwrap_or}
 use Rattle.std.specs.Ordering.{nat_cmp}
 use Rattle.std.specs.BTreeMap.{BTreeMap, get}

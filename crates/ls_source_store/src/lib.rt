@@ -1,4 +1,4 @@
-//! The store of a source run: what is behind each reference, the setup names, and what an action does to them.
+//! The store of a source run: the thing that each reference names, the setup names, and what an action does to these.
 #![tactic(auto)]
 
 pub mod store;

@@ -15,7 +15,7 @@ use ls_source_values::value::starts_of;
 use std::alloc::{AllocError, Global};
 use std::collections::BTreeMap;
 
-/// Object n, counted from 1, stands at place n - 1.
+/// Object n, counted from 1, is at index n - 1.
 #[derive(Drop)]
 pub struct Store {
     pub things: Vec<Thing>,
@@ -102,7 +102,7 @@ impl Store {
         done()
     }
 
-    /// What an action of a thread does.
+    /// What an action of a thread does. The only refusal is that memory ran out.
     pub fn act(
         &mut self,
         alloc: Global,

@@ -1,4 +1,4 @@
-// What is behind a reference, and what an action does to it.
+// The things that references name, and what an action does to a thing.
 
 ghost use Rattle.std.specs.Prelude.{◌≡◌, IfOk, OnErr};
 ghost use Rattle.ls_meaning.specs.Effect.{change, in_range, reading_field, writing_field, reading_item, writing_item, locking, trying, unlocking, asking_held, on_lock, on_monitor, reading_pair, setting_pair, swapping, attempting};
@@ -15,7 +15,7 @@ use std::collections::BTreeMap;
 #[derive(Copy)]
 pub enum Hold {
     Free,
-    /// The number of the thread that owns it, and how many times that holds it.
+    /// The number of the thread that owns it, and how many times that thread holds it.
     HeldBy { owner: usize, holds: u32 },
 }
 
@@ -25,7 +25,7 @@ impl Clone for Hold {
     }
 }
 
-/// What is behind a reference. Of an array the items that have been written are kept, whatever its size.
+/// The thing that a reference names. Of an array, only the items that have been written are kept, whatever its size.
 #[derive(Drop)]
 pub enum Thing {
     /// An object's monitor, and its fields in text order.
@@ -36,7 +36,7 @@ pub enum Thing {
     Lock(Hold),
     /// The pair of a markable.
     Markable(Value),
-    /// An array with its size and the items that have been written: `item_at` tells the others.
+    /// An array, with its size and the items that have been written. `item_at` gives the others.
     Array {
         size: u32,
         items: BTreeMap<u32, Value>,
@@ -95,7 +95,7 @@ fn in_range(i: i32, size: u32) -> bool
     }
 }
 
-/// The item of an array at an index, which is false where it was never written.
+/// The item of an array at an index. If it was never written, it is false.
 pub fn item_at(items: &BTreeMap<u32, Value>, index: u32) -> Value
     ensures { result ≡ items_of items.now index }
 {
@@ -359,7 +359,7 @@ fn attempt_mark(thing: &mut Thing, reference: u64, mark: bool) -> Effect
     }
 }
 
-/// What an action does to the thing that it is on.
+/// What an action does to its thing. The only refusal is that memory ran out.
 pub fn change(
     thing: &mut Thing,
     thread: usize,

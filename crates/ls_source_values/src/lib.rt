@@ -1,4 +1,4 @@
-//! The parts of values and what operators compute, and what is looked up in a checked file: in code, by the words of the meaning.
+//! Code for the parts of values, for what operators compute, and for what is looked up in a checked file.
 #![tactic(auto)]
 
 pub mod lookups;

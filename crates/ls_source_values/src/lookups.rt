@@ -7,7 +7,7 @@ ghost use Rattle.ls_meaning.specs.Expressions.{constructor_of, field_of};
 use ls_checked::tree::{Class, File, Method};
 use ls_meaning::sort::Sort;
 
-/// The method with a number.
+/// The method with a number, or none.
 pub fn method_at<'a>(file: &'a File, n: usize) -> Option<&'a Method>
     ensures { option_map plain_method (option_copied result) ≡ slice_get (plain_file file.now).methods n }
 {
@@ -24,7 +24,7 @@ pub fn constructor_of(classes: &[Class], n: usize) -> usize
     }
 }
 
-/// What the read of a field is answered.
+/// The sort of the answer to a read of a field.
 pub fn field_of(classes: &[Class], class: usize, field: usize) -> Sort
     ensures { result ≡ field_of (map plain_class classes.now) class field }
 {

@@ -115,7 +115,7 @@ class FineList {
 }
 ";
 
-/// Locks of two nodes, taken after a search without locks that is then checked.
+/// Locks of two nodes. They are taken after a search without locks, and the search is then checked.
 pub const OPTIMISTIC: &str = "class Node {
   int key;
   Node next;
@@ -191,7 +191,7 @@ class OptimisticList {
 }
 ";
 
-/// The same with a mark in each removed node, so that a search takes no lock.
+/// The same with a mark in each removed node. So a search takes no lock.
 pub const LAZY: &str = "class Node {
   int key;
   Node next;

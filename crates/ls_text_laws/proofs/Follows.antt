@@ -6,12 +6,15 @@ use Rattle.ls_events.specs.declared.kind.Kind.{Kind}
 use Rattle.ls_events.specs.declared.value.Value.{Value}
 
 module _ (t : ℕ) where
+  -- the call event of a thread's call
   abbrev pub called : ℕ → Event
   called n = record { thread = t; call = n; happening = Called }
 
+  -- the return event of a thread's call
   abbrev pub returned : ℕ → Option Value → Event
   returned n v = record { thread = t; call = n; happening = Returned v }
 
+  -- the trap event of a thread's call
   abbrev pub trapped : ℕ → Kind → Event
   trapped n k = record { thread = t; call = n; happening = Trapped k }
 
@@ -22,6 +25,7 @@ pub data Follows (t : ℕ) : Option Event → Event → Type 0 where
   Gives : (n : ℕ) (v : Option Value) → Follows t (Some (called t n)) (returned t n v)
   Fails : (n : ℕ) (k : Kind) → Follows t (Some (called t n)) (trapped t n k)
 
+-- the later of two events, if there is one
 abbrev pub newer : Option Event → Option Event → Option Event
 newer d None = d
 newer d (Some e) = Some e

@@ -54,6 +54,7 @@ pub record Kept (classes : List Class) (named σ : List ValueType) (a : Action V
   pub suits : Suits (Refers sorts) (Goes a s) x
 
 module _ (classes : List Class) (named σ : List ValueType) where
+  -- an action waits, or it leaves things of their types, and an answer that suits
   abbrev pub KeptBy : Action Value → Sort → Effect → Type 0
   KeptBy a s Waits = Unit {0}
   KeptBy a s (Does st' x) = Kept classes named σ a s st' x

@@ -26,6 +26,7 @@ use Rattle.ls_text_laws.proofs.Names.{AreNames, AreProgramNames}
 
 -- ---- values that are shown
 
+-- an int of 32 bits has a line
 pub int_shown : (z : ℤ) → FitsSigned w32 z → is_shown (values.Int z) ≡ true
 int_shown (pos n) h = lt-ltb n (2 ^ 31) (omega (arith, h))
 int_shown (negsuc n) h = lt-ltb n (2 ^ 31) (omega (arith, h))
@@ -45,18 +46,22 @@ returns_shown (Calling n m text (Some types.Boolean) vs) (Some (values.Reference
 returns_shown (Calling n m text (Some types.Boolean) vs) (Some (values.Pair r b)) h = absurd h
 returns_shown (Calling n m text (Some _) vs) (Some v) h = absurd h
 
+-- the arguments of a call are these values
 abbrev pub values_in : ProgramCall → List Value
 values_in (Making n class text vs) = vs
 values_in (Calling n m text result vs) = vs
 
 -- ---- the last event of a thread
 
+-- the last event of a thread after one more event
 pub last_pushed : (name : Text) (front : List Event) (e : Event) → last_of name (front ++ e ∷ []) ≡ (if bytes_eq e.thread name then Some e else last_of name front)
 last_pushed name front e = ap (find (λ d. bytes_eq d.thread name)) (reverse-append front (e ∷ []))
 
+-- equal names compare as equal
 pub same_name : (a b : Text) → a ≡ b → bytes_eq a b ≡ true
 same_name a b e = (bytes_eq-Decides a b).1 e
 
+-- different names compare as different
 pub other_name : (a b : Text) → a ≢ b → bytes_eq a b ≡ false
 other_name a b ne = elim (cases_Bool (bytes_eq a b)) [ inl e ↦ absurd (ne ((bytes_eq-Decides a b).0 e)) | inr e ↦ e ]
 
@@ -68,6 +73,7 @@ module _ (p : Program) where
     pub thread : slice_get p.threads e.thread ≡ Some t
     pub call : slice_get t.calls (e.call - 1) ≡ Some c
 
+  -- the event of a call, with its names
   pub named_is : (e : RunEvent) (t : ThreadProgram) (c : ProgramCall) → IsOf e t c → named p e ≡ Some (event_of p t e c)
   named_is e t c h = ap (option_and_then (λ u. option_map (event_of p u e) (slice_get u.calls (e.call - 1)))) h.thread ∙ ap (option_map (event_of p t e)) h.call
 

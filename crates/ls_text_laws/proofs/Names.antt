@@ -25,7 +25,7 @@ new_at [] name i t h e = absurd (some_none t e)
 new_at (u ∷ ts) name zero t h e = subst (λ (v : ThreadProgram). v.name ≢ name) (same_some u t e) h.0
 new_at (u ∷ ts) name (suc i) t h e = new_at ts name i t h.1 e
 
--- none of the threads behind a thread has its name
+-- no thread after a thread has the same name
 abbrev Once : List ThreadProgram → Type 0
 Once [] = Unit {0}
 Once (t ∷ ts) = IsNewThread ts t.name × Once ts
@@ -38,7 +38,7 @@ once_within (v ∷ ts) h (suc i) zero t u et eu same = absurd (new_at ts v.name 
 once_within (v ∷ ts) h (suc i) (suc j) t u et eu same = ap suc (once_within ts h.1 i j t u et eu same)
 
 module _ (o : Outcome) (names : List SetupName) where
-  -- the threads behind others have other names
+  -- the threads after others have other names
   pub apart : {before ts : List ThreadProgram} → AreThreadsOf o names before ts → ((i : ℕ) (u : ThreadProgram) → slice_get before i ≡ Some u → IsNewThread ts u.name) × Once ts
   apart programs.End = (λ i u e. tt, tt)
   apart (programs.Thread {before = before} {ts = ts} t no_all new calls are more) =
@@ -94,6 +94,7 @@ behind_arguments (spelled.First a more) h = behind_others more (behind_argument 
 abbrev name_at : List SetupName → ℕ → Text
 name_at names n = option_map_or (λ s. s.name) (slice_get names n) []
 
+-- the names of a call are identifiers
 abbrev pub AreNames : List SetupName → ProgramCall → Type 0
 AreNames names (Making n class class_name vs) = IsName (name_at names n) × IsName class_name
 AreNames names (Calling n method method_name result vs) = IsName (name_at names n) × IsName method_name
@@ -129,6 +130,8 @@ all_named p ks (spelled.Whole calls more) h (suc i) j t c e f = threads_named mo
 
 -- ---- a program that a text is
 
+-- The names of a program are identifiers. No two threads have one name, and none is named `all`. Only the setup makes
+-- objects.
 pub record AreProgramNames (p : Program) : Type 0 where
   pub formed : (i : ℕ) (t : ThreadProgram) → slice_get p.threads i ≡ Some t → IsName t.name
   pub not_all : (i : ℕ) (t : ThreadProgram) → slice_get p.threads i ≡ Some t → t.name ≢ codes "all"
@@ -136,6 +139,7 @@ pub record AreProgramNames (p : Program) : Type 0 where
   pub calls : (i j : ℕ) (t : ThreadProgram) (c : ProgramCall) → slice_get p.threads i ≡ Some t → slice_get t.calls j ≡ Some c → AreNames p.names c
   pub setup : (i j name class : ℕ) (t : ThreadProgram) (text : Text) (vs : List Value) → slice_get p.threads i ≡ Some t → slice_get t.calls j ≡ Some (Making name class text vs) → t.name ≡ codes "setup"
 
+-- the names of a program text are so
 pub program_names : (o : Outcome) (text : Text) (p : Program) → IsTextOf o p text → AreProgramNames p
 program_names o text p h =
     let is : IsProgramOf o p = h.program in

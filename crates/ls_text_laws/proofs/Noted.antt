@@ -30,7 +30,7 @@ use Rattle.ls_soundness.proofs.Threads.{suited_same, arguments_have}
 use Rattle.ls_text_laws.proofs.Follows as follows
 use Rattle.ls_text_laws.proofs.Follows.{Follows, called, returned, trapped, newer}
 
--- what a thread does next, with the last event of it, and the one that it does next if it is one
+-- what a thread does next, with the last event of the thread, and the event that it does next, if it is one
 pub record Noted : Type 0 where
   pub last : Option Event
   pub coming : Option Event
@@ -47,7 +47,7 @@ module _ (file : File) (program : Program) (t : ℕ) where
   aloud d a e [] go = record { last = d; coming = Some e; next = Goes a NoValue }
   aloud d a e (y ∷ rest) go = go rest
 
-  -- a call behind its event
+  -- a call after its event
   abbrev body : ProgramCall → Answers → Evaluated (Option Value)
   body (Making name c text values) rest =
       with_value (ask (act.New c) (NewOf (types.Class c)) rest) (λ o rest.
@@ -61,6 +61,7 @@ module _ (file : File) (program : Program) (t : ℕ) where
   abbrev then_trap : ℕ → Kind → Answers → Noted
   then_trap n k rest = aloud (Some (called t n)) (act.Trap n k) (trapped t n k) rest (λ rest. over (Some (trapped t n k)) Trapped)
 
+  -- the calls of a thread, with the last event so far
   abbrev pub noted_calls : ℕ → Option Event → List ProgramCall → Answers → Noted
   noted_calls n d [] answers = over d Ended
   noted_calls n d (c ∷ cs) answers =
@@ -115,7 +116,7 @@ module _ (file : File) (program : Program) (t : ℕ) where
   abbrev IsRight : Noted → Type 0
   IsRight z = IsComing z.next z.coming × IsDue z.last z.coming
 
-  -- along the answers each last event is the one that came last
+  -- along the answers, each last event is the event that came last
   abbrev AreSteps : (Answers → Noted) → Option Event → Answers → Type 0
   AreSteps f d [] = (f []).last ≡ d
   AreSteps f d (y ∷ rest) = ((f []).last ≡ d) × AreSteps (λ q. f (y ∷ q)) (newer d (f []).coming) rest
@@ -247,6 +248,7 @@ module _ (file : File) (program : Program) (t : ℕ) where
 
   -- ---- a thread
 
+  -- a thread after these answers, with its last event
   abbrev pub noted : Answers → Noted
   noted q = noted_calls 1 None (calls_in (slice_get program.threads t)) q
 

@@ -92,6 +92,7 @@ call_shown file program (Calling n m text result vs) h = arguments_shown _ vs h.
 
 -- ---- the text of a history
 
+-- what is printed of a run is the text of its named events
 pub text_is : (p : Program) (es : List RunEvent) → run_text p es ≡ history_text (filter_map (named p) es)
 text_is p [] = refl
 text_is p (e ∷ es) = by_name (text_is p es) (named p e)
@@ -123,7 +124,7 @@ module _ (file : File) (program : Program) (typed : IsTypedFile file) (sound : I
   abbrev noted_at : State → ℕ → Noted
   noted_at s t = noted file program t (answers_of s t)
 
-  -- a state behind which these events stand
+  -- a state after which these events have happened
   pub record Reaches (σ : List ValueType) (s : State) (front : List Event) : Type 0 where
     pub holds : Holds file.classes (names_of program) σ s.store
     pub count : length s.answers ≡ length program.threads
@@ -322,6 +323,7 @@ module _ (file : File) (program : Program) (typed : IsTypedFile file) (sound : I
     last = λ t th is. sym (ap (option_and_then (named program)) (ap (λ q. (noted file program t q).last) (no_answers program.threads t) ∙ no_event t (calls_in (slice_get program.threads t))));
   }
 
+  -- each source run is readable
   pub readable : (ts : List ℕ) → IsReadable program (source_history file program ts)
   readable ts =
       let h = walk ts [] (start program) [] begins in

@@ -24,6 +24,7 @@ thread_at [] i name e = absurd (some_none name e)
 thread_at (u ∷ ts) zero name e = (plain_thread u, refl, same_some (thread_name u) name e)
 thread_at (u ∷ ts) (suc i) name e = thread_at ts i name e
 
+-- the law: the names of a program text are names that schedules read
 pub names_are_read : NamesAreRead
 names_are_read o text program h =
     let n = program_names o text (plain_program program) h in
@@ -33,6 +34,7 @@ names_are_read o text program h =
       once = λ i j name e f. let t = thread_at program.threads.items i name e in let u = thread_at program.threads.items j name f in n.once i j t.0 u.0 t.1 u.1 (t.2 ∙ sym u.2);
     }
 
+-- the law: a schedule that is printed is read as the same schedule
 pub schedules_read_back : SchedulesReadBack
 schedules_read_back o text program steps h is = reads_back (thread_names program) steps (names_are_read o text program h) is.there is.short
 
@@ -199,10 +201,12 @@ module _ (names : List (List ℕ)) where
       by_case None e = plain_fits said steps e
       by_case (Some ps) e = group_fits ps steps e
 
+-- the law: what is read is a schedule of the program's threads
 pub what_is_read : WhatIsReadIsASchedule
 what_is_read program said steps e =
     let f = read_fits (thread_names program) said steps e in
     record { there = all_of (length (thread_names program)) steps f.0; short = f.1 }
 
+-- the law: what is read is read again from what is printed of it
 pub is_read_again : IsReadAgain
 is_read_again o text said program steps h e = schedules_read_back o text program steps h (what_is_read program said steps e)

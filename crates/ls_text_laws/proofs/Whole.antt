@@ -19,18 +19,20 @@ use Rattle.ls_text_laws.specs.Histories.{IsReadable, CompiledIsReadable, SourceI
 use Rattle.ls_text_laws.proofs.Names.{program_names}
 use Rattle.ls_text_laws.proofs.Runs.{readable}
 
+-- the law: source runs are readable
 pub source_is_readable : SourceIsReadable
 source_is_readable f o text p e h =
     let typed = typed_when f o e in
     let calls : IsTypedProgram o.file p = program_reads o typed text p ((reads_what_is_spelled o text p).1 h) in
     readable o.file p typed.typed (is_sound o.file p typed.typed typed.classes calls) calls (program_names o text p h)
 
--- code that is the same as the two
+-- code that is the same as the file and the program
 same_is_readable : (f : File) (o : Outcome) (text : Text) (p : Program) → elaborated f ≡ Ok o → IsTextOf o p text
     → (code : Code) → Same o.file p code → (cells : ℕ) → IsCells code cells → (schedule : List ℕ) → IsReadable p (machine_history code cells schedule)
 same_is_readable f o text p e h code same cells within schedule =
     subst (IsReadable p) (sym (same.back cells within schedule).histories) (source_is_readable f o text p e h (to_source code cells schedule))
 
+-- the law: runs of compiled texts are readable
 pub compiled_is_readable : CompiledIsReadable
 compiled_is_readable classes text image h cells within schedule =
     same_is_readable h.file _ text (plain_program (program_of_image image)) h.elaborates h.reads (code_of_image image) h.runs.same cells within schedule

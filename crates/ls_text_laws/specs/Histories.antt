@@ -15,13 +15,13 @@ use Rattle.ls_report.specs.Events.{Event}
 use Rattle.ls_report.specs.Printing.{named, run_text}
 use Rattle.ls_report.specs.Reading.{Says}
 
--- each event has its call's names, and the text is the lines of a history of the events so named
+-- each event has the names of its call, and the text has the lines of a history of the events with these names
 pub record IsReadable (p : Program) (history : List RunEvent) : Type 0 where
   pub events : List Event
   pub is_named : map (named p) history ≡ map Some events
   pub says : Says (run_text p history) events
 
--- each source run of a program that a text is, for a class text's tree that keeps every rule
+-- each source run of a program text, for a class text's tree that keeps every rule
 abbrev pub SourceIsReadable : Type 0
 SourceIsReadable =
     (f : File) (o : Outcome) (text : Text) (p : Program) → elaborated f ≡ Ok o → IsTextOf o p text

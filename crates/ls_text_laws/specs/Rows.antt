@@ -1,4 +1,4 @@
--- A small program, its history as text, and lists of events that are none.
+-- A small program, its history as text, and lists of events that are no history.
 --
 --     class A { int get() { return 7; } }
 --     setup { a = new A(); } thread T { a.get(); }
@@ -31,7 +31,7 @@ program = record {
       ∷ [];
 }
 
--- five steps of the setup, and of T its call event, and then three more
+-- five steps of the setup, and the call event of T; and then three steps more
 abbrev pub called : List ℕ
 called = 0 ∷ 0 ∷ 0 ∷ 0 ∷ 0 ∷ 1 ∷ []
 
@@ -44,7 +44,7 @@ first_lines = codes "setup.1 call a = new A()" ++ 10 ∷ codes "setup.1 return" 
 abbrev pub all_lines : List ℕ
 all_lines = first_lines ++ codes "T.1 return 7" ++ 10 ∷ []
 
--- a call without its return, and then with it
+-- a call without its return; then the call with its return
 abbrev pub LateReturnIsReadable : Type 0
 LateReturnIsReadable =
     (run_text program (source_history file program called) ≡ first_lines)
@@ -57,7 +57,7 @@ t_returns = record { thread = 1; call = 1; happening = Returned (Some (Int (pos 
 abbrev t_calls : Event
 t_calls = record { thread = 1; call = 1; happening = Called }
 
--- a return without its call, and a second call in front of the return
+-- a return without its call, and a second call before the return
 abbrev pub ReturnWithoutCallIsNot : Type 0
 ReturnWithoutCallIsNot =
     (is_history (filter_map (named program) (t_returns ∷ [])) ≡ false)

@@ -1,4 +1,4 @@
--- What is printed of a schedule of a program reads back as the same schedule.
+-- If a schedule of a program is printed and read, it is the same schedule.
 use Rattle.std.specs.Prelude.{◌≡◌, ◌<◌, ◌≤◌, ℕ, List, length, Ok, All}
 use Rattle.ls_checked.specs.PlainProgram.{plain_program}
 use Rattle.ls_checked.specs.declared.program.Program.{Program}
@@ -9,12 +9,12 @@ use Rattle.ls_schedule.specs.Printing.{schedule_text}
 use Rattle.ls_schedule.specs.Reading.{schedule_of, thread_names}
 use Rattle.ls_schedule.specs.RoundTrip.{AreThreadNames}
 
--- at most 1,000,000 steps, each of a thread that is there
+-- at most 1,000,000 steps, each of a thread that exists
 pub record IsScheduleOf (program : Program) (steps : List ℕ) : Type 0 where
   pub there : All (λ t. t < length (thread_names program)) steps
   pub short : length steps ≤ 1000000
 
--- the names of a program that a text is
+-- the names of a program text
 abbrev pub NamesAreRead : Type 0
 NamesAreRead = (o : Outcome) (text : Text) (program : Program) → IsTextOf o (plain_program program) text → AreThreadNames (thread_names program)
 
@@ -23,12 +23,12 @@ SchedulesReadBack =
     (o : Outcome) (text : Text) (program : Program) (steps : List ℕ) → IsTextOf o (plain_program program) text → IsScheduleOf program steps
     → schedule_of (thread_names program) (schedule_text (thread_names program) steps) ≡ Ok steps
 
--- what is read is such a schedule
+-- if a text is read, it is a schedule of the program's threads
 abbrev pub WhatIsReadIsASchedule : Type 0
 WhatIsReadIsASchedule =
     (program : Program) (said : Text) (steps : List ℕ) → schedule_of (thread_names program) said ≡ Ok steps → IsScheduleOf program steps
 
--- and is read again from what is printed of it
+-- what is read is read again from what is printed of it
 abbrev pub IsReadAgain : Type 0
 IsReadAgain =
     (o : Outcome) (text said : Text) (program : Program) (steps : List ℕ) → IsTextOf o (plain_program program) text

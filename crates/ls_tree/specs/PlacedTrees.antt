@@ -1,5 +1,5 @@
--- Class texts as trees, with the places that a refusal may name. A name is its bytes. The package, imports, modifiers and
--- annotations have no effect, and are left out, but for `synchronized`.
+-- Class texts as trees, with the places that a refusal may name. A name is its bytes. The package, imports, modifiers
+-- and annotations have no effect. So they are left out, but `synchronized` is kept.
 use Rattle.std.specs.Prelude.{ℕ, Bool, true, false, List, [], ◌∷◌, Option}
 use Rattle.ls_lexer.specs.declared.token.Span.{Span}
 use Rattle.ls_tree.specs.declared.tree.UnaryOp.{UnaryOp}
@@ -35,7 +35,7 @@ mutual
     End : Expressions
     More : (first : Expression) → (others : Expressions) → Expressions
 
--- where an expression stands
+-- the span of an expression
 abbrev pub span_of : Expression → Span
 span_of (Number text span) = span
 span_of (True span) = span
@@ -111,7 +111,7 @@ abbrev pub some_in : {A : Type 0} → List A → Bool
 some_in [] = false
 some_in (x ∷ xs) = true
 
--- a method without a result is void; one that is synchronized locks the monitor of its own object (JLS 8.4.3.6)
+-- a method without a result is void; a synchronized method locks the monitor of its own object (JLS 8.4.3.6)
 pub data Member : Type 0 where
   Fields : (declaration : Declaration) → Member
   Method : (is_synchronized : Bool) → (result : Option TypeName) → (name : Name) → (parameters : List Parameter) → (body : Items) → Member

@@ -1,4 +1,4 @@
--- Trees of the whole grammar, without where they lie in memory and in the text. A name is its bytes.
+-- Trees of the whole grammar, without their places in memory and in the text. A name is its bytes.
 use Rattle.std.specs.Prelude.{ℕ, Bool, List, [], ◌∷◌, Option}
 use Rattle.ls_tree.specs.declared.tree.UnaryOp.{UnaryOp}
 use Rattle.ls_tree.specs.declared.tree.BinaryOp.{BinaryOp}
@@ -58,8 +58,8 @@ pub record Declaration : Type 0 where
   pub first : Declarator
   pub more : List Declarator
 
--- what a statement does at once, and each part of the head of a `for`: an assignment, `target += value`, a count that goes up or
--- down by 1, its sign before the target or behind it, a call
+-- What a statement does at once, and each part of the head of a `for`. It is an assignment, an addition `target +=
+-- value`, a count up or down by 1, or a call. The sign of a count comes before or after the target.
 pub data Simple : Type 0 where
   Assign : (target value : Expression) → Simple
   Add : (target value : Expression) → Simple
@@ -109,7 +109,7 @@ pub record Parameter : Type 0 where
   pub type_name : TypeName
   pub name : Text
 
--- The modifiers of a method are those before the first `synchronized`, and those behind each of these words.
+-- The modifiers of a method are those before the first `synchronized`, and for each of these words those after it.
 pub data Member : Type 0 where
   Fields : (declaration : Declaration) → Member
   Method : (modifiers : List Modifier) → (locked : List (List Modifier)) → (result : Option TypeName) → (name : Text) → (parameters : List Parameter) → (body : Items) → Member

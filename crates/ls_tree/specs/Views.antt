@@ -64,7 +64,7 @@ abbrev mutual
   bare_held None' = None
   bare_held (Some' p e) = Some (bare e)
 
--- the same of what a variable holds
+-- the same of a target that may be missing
 abbrev pub bare_target : Option (Box Expr) → Option Expression
 bare_target None = None
 bare_target (Some b) = Some (bare b.value)
@@ -146,7 +146,7 @@ abbrev mutual
   bare_otherwise statement_parts.None' = None
   bare_otherwise (statement_parts.Some' p s) = Some (bare_statement s)
 
--- the same of what a variable holds
+-- the same of a statement that may be missing
 abbrev pub bare_other : Option (Box Statement) → Option trees.Statement
 bare_other None = None
 bare_other (Some b) = Some (bare_statement b.value)

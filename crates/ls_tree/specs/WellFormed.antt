@@ -24,7 +24,7 @@ rank_of binary.Multiply = 1
 rank_of binary.Divide = 1
 rank_of binary.Remainder = 1
 
--- what stands without a binary operator has rank 0
+-- an expression without a binary operator has rank 0
 abbrev pub rank : Expression → ℕ
 rank (Binary op left right) = rank_of op
 rank _ = 0
@@ -39,7 +39,7 @@ abbrev pub is_new_array : Expression → Bool
 is_new_array (NewArray length) = true
 is_new_array _ = false
 
--- what may stand as a statement
+-- what may be a statement
 abbrev pub is_call : Expression → Bool
 is_call (Call name arguments) = true
 is_call (CallOn target name arguments) = true
@@ -51,12 +51,12 @@ abbrev pub is_minus : UnaryOp → Bool
 is_minus unary.Minus = true
 is_minus unary.Not = false
 
--- where a number may stand: the largest only directly after a unary minus
+-- where a number may come; the largest comes only directly after a unary minus
 abbrev pub may_stand : Bool → Text → Bool
 may_stand after_minus text = after_minus || not (bytes_eq text (codes "2147483648"))
 
 abbrev mutual
-  -- whether it stands directly after a unary minus
+  -- an expression of the grammar; the flag says whether it comes directly after a unary minus
   pub WellFormed : Bool → Expression → Type 0
   WellFormed after_minus (Number text) = after_minus ≡ false → text ≢ codes "2147483648"
   WellFormed after_minus True = ⊤
@@ -146,7 +146,7 @@ abbrev pub piece_height : Piece → ℕ
 piece_height (Doing statement) = statement_height statement
 piece_height (Declaring declaration) = declaration_height declaration
 
--- an `else` behind it would belong to an `if` in it
+-- an `else` after it would belong to an `if` in it
 abbrev pub ends_open : Statement → Bool
 ends_open (If condition first) = true
 ends_open (IfElse condition first second) = ends_open second

@@ -9,15 +9,15 @@ ghost use Rattle.ls_tree.specs.Placed.{placed};
 use ls_lexer::token::Span;
 use std::alloc::AllocError;
 
-/// An identifier (JLS 3.8) and where it stands.
+/// An identifier (JLS 3.8) and its span.
 #[derive(Drop)]
 pub struct Name {
     pub text: String,
     pub span: Span,
 }
 
-/// A class text as a tree (JLS 7.3): the package, the imports and the classes. Only `parse` makes one, so the tree is one of the
-/// grammar: no body and no initialiser is over the greatest height.
+/// A class text as a tree (JLS 7.3): the package, the imports and the classes. Only `parse` makes one. So the tree is
+/// one of the grammar, and no body and no initialiser is over the greatest height.
 #[derive(Drop)]
 pub struct ClassFile {
     pub package: Option<Dotted>,
@@ -48,6 +48,7 @@ impl ClassFile {
         &self.classes
     }
 
+    /// The tree of a package, imports and classes.
     pub fn new(package: Option<Dotted>, imports: Vec<Import>, classes: Vec<Class>) -> ClassFile
         requires { WellFormedFile (file_of «package» imports.items classes.items) }
         ensures { (result.«package» ≡ «package») × (result.imports ≡ imports) × (result.classes ≡ classes) }
@@ -111,8 +112,8 @@ pub enum Member {
     Constructor(Constructor),
 }
 
-/// A method (JLS 8.4). `locked` has the modifiers behind each `synchronized` (JLS 8.4.3.6), and none where that word isn't among
-/// the modifiers.
+/// A method (JLS 8.4). `locked` has, for each `synchronized` among its modifiers (JLS 8.4.3.6), the modifiers after
+/// that word.
 #[derive(Drop)]
 pub struct Method {
     pub modifiers: Vec<Modifier>,
@@ -151,15 +152,16 @@ pub struct Declaration {
     pub span: Span,
 }
 
-/// A declared name, with the value that it begins with, if it is given one.
+/// A declared name, with the value that it begins with, if it has one.
 #[derive(Drop)]
 pub struct Declarator {
     pub name: Name,
     pub value: Option<Expr>,
 }
 
-/// What a statement does at once (JLS 14.8), and each part of the head of a `for`: an assignment, `target += value`, a count
-/// as `target++` or `--target`, a call. A count goes up or down, and its sign stands before the target or behind it.
+/// What a statement does at once (JLS 14.8), and each part of the head of a `for`. It is an assignment, an addition
+/// `target += value`, a count such as `target++` or `--target`, or a call. A count goes up or down. Its sign comes
+/// before or after the target.
 #[derive(Drop)]
 pub enum Simple {
     Assign {
@@ -178,7 +180,7 @@ pub enum Simple {
     Evaluate(Expr),
 }
 
-/// What a `for` begins with (JLS 14.14.1): locals, or simple forms, of which there may be none.
+/// What a `for` begins with (JLS 14.14.1): locals, or simple forms, or nothing.
 #[derive(Drop)]
 pub enum Opening {
     Declaration(Declaration),
@@ -193,7 +195,7 @@ pub struct Block {
     pub span: Span,
 }
 
-/// What stands in a block (JLS 14.2).
+/// An item of a block (JLS 14.2).
 #[derive(Drop)]
 #[cycle(statements)]
 pub enum BlockItem {
@@ -201,8 +203,8 @@ pub enum BlockItem {
     Declaration(Declaration),
 }
 
-/// A statement (JLS 14.5 to 14.20). `otherwise` is what stands behind `else`, and `label` the label in front of a loop or
-/// behind `break` or `continue`.
+/// A statement (JLS 14.5 to 14.20). `otherwise` is the statement after `else`. `label` is the label before a loop, or
+/// after `break` or `continue`.
 #[derive(Drop)]
 #[cycle(statements)]
 pub enum Statement {
@@ -269,7 +271,7 @@ impl Clone for UnaryOp {
     }
 }
 
-/// A binary operator (JLS 15.17 to 15.24), from those that bind most loosely.
+/// A binary operator (JLS 15.17 to 15.24); those that bind most loosely come first.
 #[derive(Copy, PartialEq, Eq)]
 pub enum BinaryOp {
     Or,
@@ -353,7 +355,7 @@ pub enum Expr {
 }
 
 impl Expr {
-    /// Where it stands in its text.
+    /// The span of the expression in its text.
     pub fn span(&self) -> Span
         ensures { result ≡ span_of (placed self.now) }
     {

@@ -10,7 +10,7 @@ use std::sync::Wait;
 use std::test::Fail;
 use std::thread::Threads;
 
-// Why a tape isn't followed without the last seat, if it isn't, and how many seats come back.
+// Why a tape isn't followed without the last seat, if it isn't, and how many seats are given back.
 fn follow<R: Threads + Wait + Sync>(
     rt: &R,
     alloc: Global,
@@ -25,7 +25,7 @@ fn follow<R: Threads + Wait + Sync>(
     }
 }
 
-// The others come to an entry of the seat that is missing, which nobody does.
+// The other seats come to an entry of the missing seat, which no seat does.
 #[test]
 fn a_missing_seat_is_spent(rt: HostRuntime) -> Result<(), Fail> {
     let alloc = rt.alloc();

@@ -1,5 +1,6 @@
-//! Tests of turnstiles, and of live threads on a tape: those that run at one time, what seats are answered, and the same where all
-//! further memory is refused. They stand apart from the crates that they test, so that they are proved without proving those again.
+//! Tests of turnstiles, and of live threads on a tape. Threads run at the same time, seats are answered, and all
+//! further memory may be refused. The tests are apart from the crates that they test. So the tests are proved without
+//! proving those crates again.
 #![tactic(auto)]
 
 #[cfg(test)]

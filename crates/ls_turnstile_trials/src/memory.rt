@@ -1,4 +1,4 @@
-// Steps while all further memory is refused: they answer as they do with ample memory.
+// Steps while all further memory is refused. They answer as they do with enough memory.
 
 ghost use Rattle.ls_turnstile.specs.Turns.{IsSeatOf};
 ghost use Rattle.std.specs.Prelude.{All};
@@ -27,7 +27,7 @@ const ADDER: &str = "class Adder { int v; int more() { v = v + 1; return v; } \
 const TWO_GO: &str = "setup { a = new Adder(); a.more(); } \
     thread A { a.more(); a.go(); } thread B { a.go(); }";
 
-// Whether each step of the tape is done at its place, and then none is left.
+// Whether each step of the tape is done at its place, and whether none is left then.
 fn goes_in_order(turnstile: &Turnstile, seats: &mut [TurnSeat]) -> bool
     requires { All (IsSeatOf turnstile.now) seats.old }
 {
@@ -69,7 +69,7 @@ fn a_turnstile_steps(rt: HostRuntime) -> Result<(), Fail> {
     Ok(())
 }
 
-// Why a turnstile isn't opened where all memory is refused.
+// Why a turnstile isn't opened if all memory is refused.
 fn fault_without_memory(alloc: Global, image: &Image) -> Result<Option<LoadFault>, Fail> {
     let mut hoard = Hoard::new(alloc)?;
     let tape = read_schedule(alloc, "setup A B", image.program())?;

@@ -12,7 +12,8 @@ use std::sync::Wait;
 use std::test::Fail;
 use std::thread::Threads;
 
-// What is played: entries of a tape and perhaps one of nobody behind them, on so many cells.
+// What is played: entries of a tape, perhaps an entry of a thread that doesn't exist after them, and a number of
+// cells.
 #[derive(Drop)]
 struct Turns<'p> {
     entries: &'p str,
@@ -20,7 +21,7 @@ struct Turns<'p> {
     cells: usize,
 }
 
-// How many steps and events a record has, or why there is none.
+// How many steps and events a record has, or why there is no record.
 fn counts(played: Result<Record, PlayFault>) -> (Option<PlayFault>, usize, usize) {
     match played {
         Ok(record) => (None, record.schedule().len(), record.history().len()),

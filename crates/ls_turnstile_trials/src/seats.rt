@@ -15,7 +15,7 @@ use std::test::Fail;
 /// The cells of their machines.
 pub(crate) const CELLS: usize = 100;
 
-/// A step of a thread's seat, where there is one.
+/// A step of a thread's seat, if there is one.
 pub(crate) fn step(turnstile: &Turnstile, seats: &mut [TurnSeat], thread: usize) -> Option<Turn>
     requires { All (IsSeatOf turnstile.now) seats.old }
     ensures { All (IsSeatOf turnstile.now) seats.new }
@@ -58,10 +58,10 @@ fn is_idle(turn: Option<Turn>) -> bool {
     )
 }
 
-// A thread, and the kind and place of the turn that it is to be answered.
+// A thread, and the kind and place of the answer that it should get.
 type Wanted = (usize, char, usize);
 
-// How many steps are answered so, and how many of them did nothing.
+// How many steps get these answers, and how many of the steps did nothing.
 fn agreeing(turnstile: &Turnstile, seats: &mut [TurnSeat], order: &[Wanted]) -> (usize, usize)
     requires { All (IsSeatOf turnstile.now) seats.old }
 {
@@ -120,7 +120,7 @@ fn a_tape_without_entries(rt: HostRuntime) -> Result<(), Fail> {
     Ok(())
 }
 
-// How many seats come back where one is missing.
+// How many seats are given back if one is missing.
 fn closed_without_one(alloc: Global, image: &Image) -> Result<Option<usize>, Fail> {
     let (turnstile, mut seats) = opened(alloc, image, "setup A B")?;
     let _ = seats.pop();

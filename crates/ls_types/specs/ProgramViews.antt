@@ -16,11 +16,11 @@ callee_of (callees.Method name method method_name answers) = calls.Method name m
 abbrev pub pending_of : Pending → calls.Pending
 pending_of p = record { callee = callee_of p.callee; types = p.types.items; values = p.values.items }
 
--- a refusal for another reason than want of memory says that no program of the file goes on so
+-- if the refusal is not "out of memory", the definition refuses too
 abbrev pub Refuses : {X : Type 0} → ProgramFault → Option X → Type 0
 Refuses e said = Says e (said ≡ None)
 
--- the answer, seen by view, is what the definition says, unless memory ran out
+-- seen by `view`, the answer is what the definition says, or memory ran out
 abbrev pub Gives : {X Y : Type 0} → (X → Y) → Result X ProgramFault → Option Y → Type 0
 Gives view (Ok x) said = said ≡ Some (view x)
 Gives view (Err e) said = Refuses e said
@@ -31,7 +31,7 @@ fault_seen (Unknown at) = faults.UnknownThing at
 fault_seen (References at) = faults.ReferenceResult at
 fault_seen Past = faults.ProgramLimit
 
--- the fault is this one, unless memory ran out
+-- the fault is this one, or memory ran out
 abbrev pub IsFault : ProgramFault → Fault → Type 0
 IsFault e f = Says e (e ≡ fault_seen f)
 

@@ -17,7 +17,8 @@ use ls_types_elaboration::known::{MethodSign, number_of as class_number};
 use ls_types_elaboration::numbers::digits_of;
 use std::alloc::{AllocError, Global};
 
-/// What is called: a class's constructor for a new setup name, or a method of what a setup name holds.
+/// What is called: the constructor of a class, for a new setup name; or a method of the object that a setup name
+/// holds.
 #[derive(Clone, Copy)]
 pub enum Callee<'a> {
     Maker {
@@ -33,7 +34,7 @@ pub enum Callee<'a> {
     },
 }
 
-/// A call whose arguments are read up to here, and where the class or method is named.
+/// A call, with the arguments that are read so far, and the place where the class or method is named.
 #[derive(Drop)]
 pub struct Pending<'a> {
     pub callee: Callee<'a>,
@@ -59,7 +60,8 @@ fn begun<'a>(
     })
 }
 
-/// A making of a class of the file. Refused with `UnknownThing` at `at` where there is none of that name, and for want of memory.
+/// A making of a class of the file. If no class has that name, it is refused with `UnknownThing` at `at`. Else the
+/// only refusal is that memory ran out.
 pub fn maker<'a>(
     alloc: Global,
     checked: &Checked,
@@ -98,8 +100,9 @@ fn is_plain(answers: Option<ValueType>) -> bool
     }
 }
 
-/// A call of the method that is found on what setup name `n` holds. Refused with `UnknownThing` where none is, with `ReferenceResult` where it
-/// answers a reference, both at `at`, and for want of memory.
+/// A call of the method that is found on what setup name `n` holds. If no method is found, it is refused with
+/// `UnknownThing` at `at`. If the method answers a reference, it is refused with `ReferenceResult` at `at`. Else the
+/// only refusal is that memory ran out.
 pub fn called_on<'a>(
     alloc: Global,
     found: Option<&MethodSign>,
@@ -135,7 +138,9 @@ fn fits(t: ValueType, v: Value) -> bool
     }
 }
 
-/// One more argument, which stands at `at`.
+/// One more argument, which is at `at`. If it is one too many, it is refused with `UnknownThing` at the place of the
+/// class or method. If it is of another type than its parameter, it is refused with `UnknownThing` at `at`. Else the
+/// only refusal is that memory ran out.
 pub fn with_argument<'a>(
     mut p: Pending<'a>,
     v: Value,
@@ -161,7 +166,7 @@ pub fn is_full(p: &Pending) -> bool
     p.values.len() == p.types.len()
 }
 
-/// A number without a minus.
+/// A number without a minus, if it is below 2147483648.
 pub fn plain_number(text: &str) -> Option<Value>
     ensures { result ≡ the_plain_number text.now }
 {
@@ -173,7 +178,7 @@ pub fn plain_number(text: &str) -> Option<Value>
     }
 }
 
-/// A number behind a minus.
+/// A number after a minus.
 pub fn minus_number(text: &str) -> Value
     ensures { result ≡ the_minus_number text.now }
 {
@@ -181,7 +186,7 @@ pub fn minus_number(text: &str) -> Value
     Value::Int((-n) as i32)
 }
 
-/// The call as the program keeps it.
+/// The call as the program keeps it. The only refusal is that memory ran out.
 pub fn call_of(alloc: Global, names: usize, p: Pending) -> Result<ProgramCall, AllocError>
     ensures { IfOk result (λ c. plain_call c ≡ the_call_of names (pending_of p.entry)) }
 {

@@ -35,13 +35,14 @@ impl Checked {
         Checked { names, signs, file }
     }
 
+    /// The checked file itself.
     pub fn file(&self) -> &File
         ensures { result.now ≡ file_of self.now }
     {
         &self.file
     }
 
-    /// The names of the classes, in text order: a class's number is the index of its name.
+    /// The names of the classes, in text order. The number of a class is the index of its name.
     pub fn class_names(&self) -> &[String]
         ensures { texts_of result.now ≡ names_of self.now }
     {

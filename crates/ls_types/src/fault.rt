@@ -8,16 +8,16 @@ use thiserror::Error;
 pub enum ProgramFault {
     #[error("memory ran out")]
     Memory,
-    /// No text of a thread program goes on so, or a name is given twice.
+    /// Tokens that begin no text of a thread program, or a name that is given twice.
     #[error("no thread program at {at}")]
     BadProgram { at: usize },
-    /// A class, setup name or method that isn't there, or arguments of another number or type.
+    /// A class, setup name or method that doesn't exist, or arguments of another number or type.
     #[error("an unknown thing at {at}")]
     UnknownThing { at: usize },
     /// A method that answers neither an int, a boolean nor nothing.
     #[error("a method that answers a reference at {at}")]
     ReferenceResult { at: usize },
-    /// Too many threads, calls of a thread, or bytes.
+    /// Too many threads, too many calls of a thread, or too many bytes.
     #[error("a limit of thread programs is passed")]
     ProgramLimit,
 }

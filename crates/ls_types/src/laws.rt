@@ -1,4 +1,4 @@
-// What each checked file and each source keeps, as the contract of functions that compute nothing.
+// What each checked file and each source keeps. The functions compute nothing; their contracts say it.
 
 ghost use Rattle.ls_types_judgement.specs.WellTyped.{IsWellTyped, IsWellTypedProgram};
 ghost use Rattle.ls_types.specs.CheckedFile.{outcome_of};
@@ -15,7 +15,7 @@ pub fn well_typed(checked: &Checked)
     elaborates_well_typed();
 }
 
-/// The file of a source is well typed, and its program is a well typed program of it.
+/// The file of a source is well typed, and its program is a well typed program of that file.
 pub fn source_is_well_typed(source: &Source)
     ensures file { ∥ IsWellTyped (source_file source.now) ∥₁ }
     ensures program { ∥ IsWellTypedProgram (source_file source.now) (source_program source.now) ∥₁ }

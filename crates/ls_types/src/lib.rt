@@ -1,4 +1,4 @@
-//! Checked files, the calls of thread programs of them, and sources.
+//! Checked files, the calls of a thread program of a checked file, and sources.
 #![tactic(auto)]
 
 pub mod calls;

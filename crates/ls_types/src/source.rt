@@ -31,18 +31,21 @@ impl Source {
         Source { checked, program }
     }
 
+    /// The checked file, with what its text declares.
     pub fn checked(&self) -> &Checked
         ensures { result.now ≡ checked_of self.now }
     {
         &self.checked
     }
 
+    /// The checked file itself.
     pub fn file(&self) -> &File
         ensures { plain_file result.now ≡ source_file self.now }
     {
         self.checked.file()
     }
 
+    /// The thread program.
     pub fn program(&self) -> &Program
         ensures { result.now ≡ program_of self.now }
     {

@@ -87,6 +87,7 @@ fits r s h (Returned None) a i t = t
 fits r s h (Returned (Some v)) a i t = t
 fits r s h (Threw kind) a i t = tt
 
+-- the law: the bodies of an elaborated file fit their results
 pub bodies_fit : (f : File) (o : Outcome) → elaborated f ≡ Ok o → BodiesFit o.file
 bodies_fit f o e n m at classes calls ls answers =
     let x : Executed = execute classes calls m.body ls answers in
@@ -108,6 +109,7 @@ left_so r t h other (Completes (Returned None) ls rest) f = absurd (not_none r t
 left_so r t h other (Completes (Returned (Some v)) ls rest) f = refl
 left_so r t h other (Completes (Threw kind) ls rest) f = refl
 
+-- the law: the value for bodies that leave none is never used
 pub none_left : (f : File) (o : Outcome) → elaborated f ≡ Ok o → NoneLeft o.file
 none_left f o e n m t at has other classes calls ls answers =
     left_so m.result t has other (execute classes calls m.body ls answers) (bodies_fit f o e n m at classes calls ls answers)

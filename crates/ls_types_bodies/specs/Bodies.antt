@@ -11,7 +11,7 @@ use Rattle.ls_meaning.specs.Statements.{Executed, AsksFor, Completes, execute}
 use Rattle.ls_meaning.specs.Methods.{leave}
 use Rattle.ls_types_completion.specs.Ends.{AlwaysEnds}
 
--- a completion of the body of a method that answers this: one that answers a value returns one or throws
+-- how the body of a method may complete: if the method answers a value, the body returns one or throws
 abbrev pub FitsMethod : Option ValueType → Completion Value → Type 0
 FitsMethod result Normal = result ≡ None
 FitsMethod result (Broke n) = ⊥
@@ -20,11 +20,11 @@ FitsMethod result (Returned None) = result ≡ None
 FitsMethod result (Returned (Some v)) = (t : ValueType) × (result ≡ Some t)
 FitsMethod result (Threw kind) = Unit {0}
 
--- no jump leaves a body, and one of a method that answers a value ends with a value or an exception (JLS 8.4.7)
+-- No jump leaves a body. If a method answers a value, its body ends with a value or an exception (JLS 8.4.7).
 abbrev pub BodiesFit : File → Type 0
 BodiesFit file = (n : ℕ) (m : Method) → slice_get file.methods n ≡ Some m → AlwaysEnds (FitsMethod m.result) m.body
 
--- what a body's completion is to the caller, with this where it leaves no value
+-- what a body's completion is to the caller; if the body leaves no value, it is `other`
 abbrev pub leave_or : Value → Executed → Evaluated Value
 leave_or other (AsksFor action sort) = Asks action sort
 leave_or other (Completes Normal locals rest) = Results other rest
@@ -34,7 +34,7 @@ leave_or other (Completes (Returned None) locals rest) = Results other rest
 leave_or other (Completes (Returned (Some v)) locals rest) = Results v rest
 leave_or other (Completes (Threw kind) locals rest) = Throws kind rest
 
--- a call of a method that answers a value never has the value of a body that leaves none: any other would do
+-- If a method answers a value, its call never uses the value for bodies that leave none: any other value would do.
 abbrev pub NoneLeft : File → Type 0
 NoneLeft file =
     (n : ℕ) (m : Method) (t : ValueType) → slice_get file.methods n ≡ Some m → m.result ≡ Some t

@@ -6,8 +6,8 @@ ghost use Rattle.ls_types_elaboration.specs.Trees.{File};
 ghost use Rattle.ls_types_elaboration.specs.Elaboration.{Outcome, elaborated};
 ghost use Rattle.ls_types_bodies.specs.Bodies.{BodiesFit, NoneLeft};
 
-/// In the elaboration of a class text's tree no jump leaves a method's body, and a body of a method that answers a value
-/// ends with a value or an exception: no call of it has the value that stands for none.
+/// In the elaboration of a class text's tree, no jump leaves the body of a method. If a method answers a value, its
+/// body ends with a value or an exception. So no call of that method has the value that stands for none.
 #[tactic(auto, using(crate::proofs::Bodies::bodies_fit, crate::proofs::Bodies::none_left))]
 pub fn bodies_fit()
     ensures bodies { (f : File) (o : Outcome) → elaborated f ≡ Ok o → BodiesFit o.file }

@@ -129,6 +129,7 @@ allowed = record {
   goes_on = gone_on;
 }
 
+-- the law: statements complete only as the rules allow
 pub only_as_allowed : OnlyAsAllowed
 only_as_allowed = always Allows AllowsAll allowed
 

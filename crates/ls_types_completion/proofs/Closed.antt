@@ -19,6 +19,7 @@ use Rattle.ls_types_completion.specs.Completion.{is_true}
 use Rattle.ls_types_completion.specs.Ways.{Abrupt, AfterBody, Closed}
 use Rattle.ls_types_completion.specs.Ends.{Ends, AlwaysEnds}
 
+-- an end with a property has each weaker property
 pub weaker : (P Q : Completion Value → Type 0) (x : Executed) → Ends P x → ((c : Completion Value) → P c → Q c) → Ends Q x
 weaker P Q (AsksFor a s) h k = tt
 weaker P Q (Completes c ls rest) h k = k c h
@@ -117,5 +118,6 @@ module _ (P : Statement → Completion Value → Type 0) (Q : Statements → Com
     statement_ends (Try b f) ls answers =
         finally_ends (P b) (P f) (P (Try b f)) (execute classes calls b ls answers) (execute classes calls f) (statement_ends b ls answers) (λ ls rest. statement_ends f ls rest) (closed.finishes b f) (closed.tries b f)
 
+-- if properties are closed under the ways to complete, each statement ends with its property
 pub always : (P : Statement → Completion Value → Type 0) (Q : Statements → Completion Value → Type 0) → Closed P Q → (s : Statement) → AlwaysEnds (P s) s
 always P Q closed s classes calls ls answers = statement_ends P Q closed classes calls s ls answers

@@ -53,6 +53,7 @@ inside = record {
   goes_on = λ s ss c h k n j. k n j.1;
 }
 
+-- the law: a statement jumps only to its own loops and to those around it
 pub only_to_its_loops : OnlyToItsLoops
 only_to_its_loops n s j classes calls ls answers =
     weaker (Stays s) (IsIn n) (execute classes calls s ls answers) (always Stays AllStay inside s classes calls ls answers) (λ c h. h n j)

@@ -65,6 +65,7 @@ module _ (P : Statement → Completion Value → Type 0) (Q : Statements → Com
     all_broke n Done h = absurd (no h)
     all_broke n (Then s ss) h = either_of (breaks n s) (any_breaks n ss) h (λ k. closed.stops s ss (Broke n) tt (broke n s k)) (λ k. passes s ss n (all_broke n ss k))
 
+-- the law: the rules allow no more than the ways to complete
 pub no_more_than_ways : NoMoreThanWays
 no_more_than_ways p q closed passes s =
     (normal (λ s c. p s c ≡ true) (λ ss c. q ss c ≡ true) closed passes s, λ n. broke (λ s c. p s c ≡ true) (λ ss c. q ss c ≡ true) closed passes n s)

@@ -9,7 +9,7 @@ use Rattle.ls_meaning.specs.Expressions.{Calls}
 use Rattle.ls_meaning.specs.Statements.{Executed, AsksFor, Completes, execute}
 use Rattle.ls_types_completion.specs.Completion.{can_complete, breaks}
 
--- the completion is so; an execution that asks for an action hasn't completed
+-- if an execution is complete, its completion is so; an execution that asks for an action isn't complete
 abbrev pub Ends : (Completion Value → Type 0) → Executed → Type 0
 Ends P (AsksFor action sort) = Unit {0}
 Ends P (Completes completion locals rest) = P completion
@@ -29,7 +29,7 @@ allows s (Threw kind) = true
 abbrev pub Allows : Statement → Completion Value → Type 0
 Allows s completion = allows s completion ≡ true
 
--- a jump to one of the n loops round a statement, or no jump
+-- a jump to one of the n loops around a statement, or no jump
 abbrev pub IsIn : ℕ → Completion Value → Type 0
 IsIn n Normal = Unit {0}
 IsIn n (Broke m) = m < n

@@ -1,4 +1,4 @@
--- The rules of typing keep what the meaning says of how statements complete.
+-- The rules of typing agree with the meaning about how statements complete.
 use Rattle.std.specs.Prelude.{ℕ, ◌≡◌, Bool, true}
 use Rattle.ls_events.specs.declared.value.Value.{Value}
 use Rattle.ls_meaning.specs.declared.completion.Completion.{Completion}
@@ -9,16 +9,17 @@ use Rattle.ls_types_completion.specs.Completion.{can_complete, breaks}
 use Rattle.ls_types_completion.specs.Ways.{Closed}
 use Rattle.ls_types_completion.specs.Ends.{AlwaysEnds, Allows, IsIn}
 
--- a statement completes normally, or breaks a loop, only where the rules say that it can (JLS 14.21)
+-- if a statement completes normally, or breaks a loop, the rules say that it can (JLS 14.21)
 abbrev pub OnlyAsAllowed : Type 0
 OnlyAsAllowed = (s : Statement) → AlwaysEnds (Allows s) s
 
--- a statement whose jumps belong to loops in it or to the n loops round it jumps to none other (JLS 14.15, 14.16)
+-- If its jumps belong to loops in it or to the n loops around it, a statement jumps to no other loop (JLS 14.15,
+-- 14.16).
 abbrev pub OnlyToItsLoops : Type 0
 OnlyToItsLoops = (n : ℕ) (s : Statement) → JumpsInLoops n s → AlwaysEnds (IsIn n) s
 
--- the rules allow no more than follows from the ways that statements complete, where a `break` counts even behind a
--- statement that can't complete: unreachable statements aren't looked at
+-- The rules allow no more than what follows from the ways in which statements complete. A `break` counts even after a
+-- statement that can't complete: the rules don't look for unreachable statements.
 abbrev pub NoMoreThanWays : Type 0
 NoMoreThanWays =
     (p : Statement → Completion Value → Bool) (q : Statements → Completion Value → Bool)

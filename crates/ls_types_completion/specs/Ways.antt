@@ -1,4 +1,4 @@
--- The ways that statements complete, as the rules of typing see them.
+-- The ways in which statements complete, as the rules of typing see them.
 use Rattle.std.specs.Prelude.{ℕ, zero, suc, ◌≡◌, false, Some, None}
 use Rattle.ls_events.specs.declared.kind.Kind.{Kind}
 use Rattle.ls_events.specs.declared.value.Value.{Value}
@@ -14,7 +14,7 @@ Abrupt (Continued n) = Unit {0}
 Abrupt (Returned v) = Unit {0}
 Abrupt (Threw kind) = Unit {0}
 
--- what a loop's body's completion is to the loop, where the loop ends by it (JLS 14.12.1, 14.15, 14.16)
+-- if a loop ends by a completion of its body: what that is to the loop (JLS 14.12.1, 14.15, 14.16)
 abbrev pub AfterBody : (Completion Value → Type 0) → Completion Value → Type 0
 AfterBody P Normal = Unit {0}
 AfterBody P (Broke zero) = P Normal
@@ -24,7 +24,8 @@ AfterBody P (Continued (suc n)) = P (Continued n)
 AfterBody P (Returned v) = P (Returned v)
 AfterBody P (Threw kind) = P (Threw kind)
 
--- the ways that statements complete, as far as a rule may see them: of a condition it sees whether it is `true`
+-- the ways in which statements complete, as far as a rule may see them; of a condition a rule sees whether it is
+-- `true`
 pub record Closed (P : Statement → Completion Value → Type 0) (Q : Statements → Completion Value → Type 0) : Type 0 where
   pub throws : (s : Statement) (kind : Kind) → P s (Threw kind)
   pub block : (ss : Statements) (c : Completion Value) → Q ss c → P (Block ss) c

@@ -1,4 +1,4 @@
-//! Why the rules of normal completion keep what the meaning says.
+//! Why the rules of normal completion agree with the meaning.
 #![tactic(auto)]
 
 ghost use Rattle.ls_types_completion.specs.Laws.{OnlyAsAllowed, OnlyToItsLoops, NoMoreThanWays};
@@ -9,13 +9,13 @@ pub fn only_as_allowed()
     ensures { OnlyAsAllowed }
 {}
 
-/// No jump leaves a statement but to a loop round it.
+/// If a jump leaves a statement, its loop is around the statement.
 #[tactic(auto, using(crate::proofs::Inside::only_to_its_loops))]
 pub fn only_to_its_loops()
     ensures { OnlyToItsLoops }
 {}
 
-/// The rules of typing allow no more than follows from the ways that statements complete.
+/// The rules of typing allow no more than what follows from the ways in which statements complete.
 pub fn no_more_than_ways()
     ensures { NoMoreThanWays }
 {}

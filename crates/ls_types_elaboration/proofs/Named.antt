@@ -8,6 +8,7 @@ use Rattle.ls_types_elaboration.specs.Trees.{Text}
 use Rattle.ls_types_elaboration.specs.Known.{number_of}
 use Rattle.ls_types_elaboration.specs.Tables.{texts_of}
 
+-- a place, seen from one element earlier
 abbrev pub next : Option ℕ → Option ℕ
 next i = option_map (λ i. i + 1) i
 
@@ -17,7 +18,7 @@ first l = grind arith
 behind : (n l : ℕ) → cond (nat_lt (1 + n) (suc l)) (Some (1 + n)) None ≡ next (cond (nat_lt n l) (Some n) None)
 behind n l = grind arith
 
--- the place of the first that passes, or of one behind it
+-- the place of the first item that passes, or of one after it
 pub position_from_first : {K : Type 0} (p : K → Bool) (k : K) (ks : List K)
     → position p (k ∷ ks) ≡ (if p k then Some 0 else next (position p ks))
 position_from_first p k ks = by (p k) refl

@@ -13,12 +13,12 @@ use Rattle.ls_types_elaboration.specs.Refused.{Fails}
 use Rattle.ls_types_elaboration.specs.StaticTypes as statics
 use Rattle.ls_types_elaboration.specs.Members as members
 
--- the answer, seen by view, is what the definition says, unless memory ran out
+-- seen by `view`, the answer is what the definition says, or memory ran out
 abbrev pub Gives : {X Y : Type 0} → (X → Y) → Result X CheckFault → Elaborated Y → Type 0
 Gives view (Ok x) said = said ≡ Ok (view x)
 Gives view (Err e) said = Fails e said
 
--- from the answer, seen by view, the definition goes on to what is next
+-- seen by `view`, the answer leads to what the definition says next, or memory ran out
 abbrev pub Leads : {X Y Z : Type 0} → (X → Y) → (Y → Elaborated Z) → Result X CheckFault → Elaborated Z → Type 0
 Leads view next (Ok x) said = said ≡ next (view x)
 Leads view next (Err e) said = Fails e said
@@ -42,7 +42,7 @@ member_of m = record { called = m.called; parameters = m.parameters.items; resul
 abbrev pub maker_of : Maker → members.Maker
 maker_of m = record { makes = m.makes; parameters = m.parameters.items; type = m.value_type }
 
--- a test's answer, and what comes where it is passed
+-- what comes after a test, if the test is passed; else the rule that it breaks
 abbrev pub unless_refused : {A X : Type 0} → Result X Broken → Elaborated A → Elaborated A
 unless_refused (Ok x) go = go
 unless_refused (Err b) go = Err b

@@ -1,4 +1,4 @@
--- What elaboration answers: the checked form, or a broken rule and where.
+-- What elaboration answers: the checked form, or a broken rule and its place.
 use Rattle.std.specs.Prelude.{Bool, List, [], ◌∷◌, Result, Ok, Err, if◌then◌else◌}
 use Rattle.ls_lexer.specs.declared.token.Span.{Span}
 use Rattle.ls_types_elaboration.specs.declared.rule.Rule.{Rule}
@@ -15,7 +15,7 @@ abbrev pub with_ok : {A B : Type 0} → Elaborated A → (A → Elaborated B) �
 with_ok (Ok a) go = go a
 with_ok (Err e) go = Err e
 
--- goes on where the rule is kept
+-- goes on if the rule is kept
 abbrev pub unless_broken : {A : Type 0} → Bool → Rule → Span → Elaborated A → Elaborated A
 unless_broken breaks rule span go = if breaks then broken rule span else go
 

@@ -1,4 +1,4 @@
--- The checked file of a text's tree, or the first rule that is broken and where.
+-- The checked file of a text's tree, or the first broken rule and its place.
 use Rattle.std.specs.Prelude.{ℕ, ◌+◌, List, [], map, Ok}
 use Rattle.ls_checked.specs.CheckedTree as checked
 use Rattle.ls_types_elaboration.specs.Trees.{Text, ClassTree, File}
@@ -29,7 +29,7 @@ pub record Outcome : Type 0 where
   pub signs : List ClassSign
   pub file : checked.File
 
--- the declarations of all classes come first, since a body may use those behind it (JLS 6.3, 8.3.3)
+-- the declarations of all classes come first, since a body may use those that come after it (JLS 6.3, 8.3.3)
 abbrev pub elaborated : File → Elaborated Outcome
 elaborated file =
     with_ok (class_names file.classes) (λ names.

@@ -33,7 +33,7 @@ pub record ClassSign : Type 0 where
   pub constructor : ℕ
   pub parameters : List ValueType
 
--- what is known where code stands: the names of the classes, what they declare, and the own class
+-- what is known in a class: the names of the classes, what they declare, and the number of this class
 pub record Known : Type 0 where
   pub names : List Text
   pub classes : List ClassSign

@@ -15,7 +15,7 @@ use Rattle.ls_types_elaboration.specs.Trees.{Text, Name}
 use Rattle.ls_types_elaboration.specs.Elaborated.{Elaborated, broken}
 use Rattle.ls_types_elaboration.specs.Known.{Known, MethodSign, method_of, parameters_of, number_of}
 
--- what may be called, the types of its arguments, and that of its result
+-- what may be called, the types of its arguments, and the type of its result
 pub record Member : Type 0 where
   pub called : Called
   pub parameters : List ValueType
@@ -74,7 +74,7 @@ abbrev pub object_maker : Known → Option ℕ → Span → Elaborated Maker
 object_maker known None span = broken UnknownType span
 object_maker known (Some c) span = Ok (record { makes = AnObject c; parameters = parameters_of known c; type = Class c })
 
--- `Lock` is no class that can be made, and no class of the file has its name
+-- `Lock` is not a class that can be made, and no class of the file has its name
 abbrev pub maker_of : Known → Name → Elaborated Maker
 maker_of known n =
     if bytes_eq n.text (codes "ReentrantLock")

@@ -1,5 +1,5 @@
--- The statement `synchronized (target) body` in the forms of the checked tree (JLS 14.19): the object goes into a slot of its own, its monitor
--- is locked, and it is unlocked however the body completes.
+-- The statement `synchronized (target) body` in the forms of the checked tree (JLS 14.19). The object goes into a slot
+-- of its own, and its monitor is locked. However the body completes, the monitor is unlocked.
 use Rattle.std.specs.Prelude.{ℕ}
 use Rattle.ls_checked.specs.declared.tree.Called.TheVariants.{HoldMonitor, FreeMonitor}
 use Rattle.ls_checked.specs.CheckedTree.{Expression, Slot, Call, End, Statement, Block, SetSlot, Evaluate, Try, Done, Then}

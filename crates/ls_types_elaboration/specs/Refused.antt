@@ -4,7 +4,7 @@ use Rattle.ls_types_elaboration.specs.declared.rule.CheckFault.{CheckFault}
 use Rattle.ls_types_elaboration.specs.declared.rule.CheckFault.TheVariants as faults
 use Rattle.ls_types_elaboration.specs.Elaborated.{Elaborated}
 
--- a rule that is broken is the one that the definition answers; want of memory says nothing of it
+-- if a rule is broken, it is the rule that the definition answers; "out of memory" says nothing
 abbrev pub Fails : {Y : Type 0} → CheckFault → Elaborated Y → Type 0
 Fails faults.Memory said = Unit {0}
 Fails (faults.Broken b) said = said ≡ Err b

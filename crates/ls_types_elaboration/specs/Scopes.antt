@@ -13,14 +13,14 @@ use Rattle.ls_types_elaboration.specs.Elaborated.{Elaborated, with_ok, unless_br
 use Rattle.ls_types_elaboration.specs.Known.{Known, Local, local_named, type_of}
 use Rattle.ls_types_elaboration.specs.TypedExpressions.{fitting}
 
--- what is known in a body: the declarations of the file, what the method answers, and where its name stands
+-- what is known in a body: the declarations of the file, what the method answers, and the place of its name
 pub record Body : Type 0 where
   pub known : Known
   pub result : Option ValueType
   pub span : Span
 
--- the types of a method's slots so far, and how many of these have names (or are `this`): the others hold objects whose monitors
--- `synchronized` locks
+-- the types of a method's slots so far, and how many slots have names or are `this`; the other slots hold objects
+-- whose monitors `synchronized` locks
 pub record Slots : Type 0 where
   pub types : List ValueType
   pub named : ℕ
@@ -31,7 +31,7 @@ with_named slots t = record { types = slots.types ++ t ∷ []; named = slots.nam
 abbrev pub with_unnamed : Slots → ValueType → Slots
 with_unnamed slots t = record { types = slots.types ++ t ∷ []; named = slots.named }
 
--- the statements of a block so far, the locals in scope behind them, and the method's slots so far
+-- the statements of a block so far, the locals in scope after them, and the method's slots so far
 pub record Scope : Type 0 where
   pub statements : List checked.Statement
   pub locals : List Local
@@ -41,7 +41,7 @@ pub record Scope : Type 0 where
 abbrev pub most_slots : ℕ
 most_slots = 128
 
--- what a variable starts at (JLS 4.12.5; the profile gives locals such a start too)
+-- the start value of a variable (JLS 4.12.5); the profile gives locals a start value too
 abbrev pub start_of : ValueType → Value
 start_of types.Int = values.Int (pos 0)
 start_of types.Boolean = values.Boolean false
@@ -58,19 +58,20 @@ with_variable scope name t = record {
   slots = with_named scope.slots t;
 }
 
--- a name that no variable in scope has, and room for it; a method with too many is refused at its name
+-- a name that no variable in scope has, and room for it; a method with too many slots is refused at its name
 abbrev pub may_declare : {A : Type 0} → Span → Scope → Name → Elaborated A → Elaborated A
 may_declare method scope n go =
     unless_broken (is_some (local_named scope.locals n.text)) TwiceDeclared n.span (
     unless_broken (not (nat_lt scope.slots.named most_slots)) Limit method go)
 
--- the initialiser, where there is one, as an assignment (JLS 14.4.2)
+-- the initialiser, if there is one, as an assignment (JLS 14.4.2)
 abbrev pub initialised : Known → ValueType → ℕ → Scope → Option parsed.Expression → Elaborated Scope
 initialised known t slot scope None = Ok scope
 initialised known t slot scope (Some e) =
     with_ok (fitting known scope.locals t e) (λ v. Ok (with_statement scope (checked.SetSlot slot v)))
 
--- a local is in scope from its own initialiser on (JLS 6.3); it gets its start value, and then that of its initialiser
+-- a local is in scope from its own initialiser on (JLS 6.3); it gets its start value, then the value of its
+-- initialiser
 abbrev pub declared : Body → ValueType → Scope → Declarator → Elaborated Scope
 declared body t scope d =
     may_declare body.span scope d.name (

@@ -24,7 +24,7 @@ most_fields = 64
 abbrev pub most_methods : ℕ
 most_methods = 512
 
--- refused at the name that is one too many
+-- refused at the first name for which there is no room
 abbrev pub with_room : {A : Type 0} → ℕ → ℕ → Name → Elaborated A → Elaborated A
 with_room count most n go = unless_broken (not (nat_lt count most)) Limit n.span go
 
@@ -42,7 +42,7 @@ one_type names before p = with_ok (type_of names p.type_name) (λ t. Ok (before 
 abbrev pub parameter_types : List Text → Name → List Parameter → Elaborated (List ValueType)
 parameter_types names n ps = with_room (length ps) most_slots n (each (one_type names) [] ps)
 
--- what has been met of a class, and the number of the next method or constructor
+-- what a class has declared so far, and the number of the next method or constructor
 pub record Met : Type 0 where
   pub fields : List FieldSign
   pub methods : List MethodSign
@@ -111,7 +111,7 @@ with_class classes met constructor parameters next =
       next = next;
     })
 
--- a class without a constructor has an empty one, numbered behind its methods (JLS 8.8.9)
+-- a class without a constructor has an empty one, with the number after those of its methods (JLS 8.8.9)
 abbrev pub class_met : Classes → Name → Met → Option ℕ → Elaborated Classes
 class_met classes n met (Some k) = with_class classes met k met.parameters met.next
 class_met classes n met None =

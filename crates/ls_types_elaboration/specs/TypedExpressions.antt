@@ -22,7 +22,7 @@ abbrev pub digits_value : ℕ → Text → ℕ
 digits_value n [] = n
 digits_value n (d ∷ ds) = digits_value (min (n * 10 + (d - 48)) 2147483648) ds
 
--- 2147483648 stands behind a minus alone: it is read as the least int, whose negation is itself (JLS 15.15.4)
+-- 2147483648 comes only after a minus; it is read as the least int, whose negation is itself (JLS 15.15.4)
 abbrev pub int_of_digits : ℕ → ℤ
 int_of_digits n = if nat_lt n 2147483648 then pos n else negsuc 2147483647
 
@@ -52,7 +52,7 @@ abbrev pub field_at : Known → Static → checked.Expression → Name → Elabo
 field_at known (Of (types.Class c)) e n = field_in c (field_of known c n.text) e n.span
 field_at known _ e n = broken UnknownName n.span
 
--- `Integer`, where no local or field in scope has that name (JLS 6.4.2)
+-- `Integer`, if no local or field in scope has that name (JLS 6.4.2)
 abbrev pub is_integer : Known → List Local → parsed.Expression → Bool
 is_integer known locals (parsed.Named n) =
     bytes_eq n.text (codes "Integer")
@@ -116,7 +116,7 @@ abbrev mutual
       with_ok (typed known locals length) (λ x. with_ok (as_type types.Int (span_of length) x) (λ n.
       typed_as types.BooleanArray (checked.MakeArray n)))
 
-  -- the arguments of a call, one for each parameter and each fitting it (JLS 15.12.2.2)
+  -- the arguments of a call, one for each parameter, each of a type that fits the parameter (JLS 15.12.2.2)
   pub passed : Known → List Local → List ValueType → parsed.Expressions → Span → Elaborated checked.Expressions
   passed known locals [] parsed.End span = Ok checked.End
   passed known locals (t ∷ ts) (parsed.More e es) span =

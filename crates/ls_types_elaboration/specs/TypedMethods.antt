@@ -36,7 +36,7 @@ member_set known front (parsed.Fields d) = each (declarator_set known) front (d.
 member_set known front (parsed.Method sync result name ps body) = Ok front
 member_set known front (parsed.Constructor name ps body) = Ok front
 
--- in text order
+-- the initialisers of all fields, in text order
 abbrev pub initialisers : Known → List parsed.Member → Elaborated (List checked.Statement)
 initialisers known members = each (member_set known) [] members
 
@@ -52,7 +52,7 @@ finished known result name count scope =
       body = checked.Block (sequence scope.statements);
     }))
 
--- a synchronized method is that statement over `this` round its body (JLS 8.4.3.6)
+-- a synchronized method is the statement `synchronized (this)` with its body (JLS 8.4.3.6)
 abbrev pub in_monitor : ℕ → ℕ → Scope → Scope
 in_monitor slot class scope = record {
   statements = synchronized slot class (checked.Slot 0) (checked.Block (sequence scope.statements)) ∷ [];
@@ -69,7 +69,7 @@ all_items body true scope block =
     with_ok (items body [] (with_unnamed_slot scope (types.Class body.known.own)) block) (λ end.
     Ok (in_monitor (length scope.slots.types) body.known.own end))
 
--- slot 0 is `this`; the parameters come behind it, then the body's locals
+-- slot 0 is `this`; after it come the parameters, then the locals of the body
 abbrev pub method : Known → Bool → Option ValueType → Name → List Parameter → List checked.Statement → parsed.Items → Elaborated checked.Method
 method known sync result name ps front block =
     let body : Body = record { known = known; result = result; span = name.span } in
@@ -85,7 +85,7 @@ abbrev pub written_constructor : Known → List parsed.Member → Name → List 
 written_constructor known members name ps body =
     with_ok (initialisers known members) (λ front. method known false None name ps front body)
 
--- a method or constructor behind those before it
+-- a method or constructor, after those before it
 abbrev pub one_method : Known → List parsed.Member → List checked.Method → parsed.Member → Elaborated (List checked.Method)
 one_method known members before (parsed.Fields d) = Ok before
 one_method known members before (parsed.Method sync result name ps body) =
@@ -98,7 +98,7 @@ has_constructor [] = false
 has_constructor (parsed.Constructor name ps body ∷ ms) = true
 has_constructor (_ ∷ ms) = has_constructor ms
 
--- a class without a constructor has an empty one, which comes behind its methods (JLS 8.8.9)
+-- a class without a constructor has an empty one, which comes after its methods (JLS 8.8.9)
 abbrev pub default_constructor : Known → List parsed.Member → List checked.Method → Elaborated (List checked.Method)
 default_constructor known members before =
     if has_constructor members then Ok before
@@ -110,7 +110,7 @@ default_constructor known members before =
       body = checked.Block (sequence front);
     } ∷ []))
 
--- the methods and constructors of a class, in text order, behind those of the classes before it
+-- the methods and constructors of a class, in text order, after those of the classes before it
 abbrev pub class_methods : Known → List checked.Method → List parsed.Member → Elaborated (List checked.Method)
 class_methods known before members =
     with_ok (each (one_method known members) before members) (default_constructor known members)

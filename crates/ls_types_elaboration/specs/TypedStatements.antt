@@ -40,13 +40,13 @@ pub record WithSlots (A : Type 0) : Type 0 where
 abbrev pub with_slots : {A : Type 0} → A → Slots → Elaborated (WithSlots A)
 with_slots tree slots = Ok (record { tree = tree; slots = slots })
 
--- to `break` out of a `for` is to leave all of it, to `continue` it is to leave one turn
+-- to `break` out of a `for` is to leave the whole `for`; to `continue` is to leave one turn
 abbrev pub may_leave : (breaking : Bool) → LoopPart → Bool
 may_leave true parts.Turn = false
 may_leave false parts.For = false
 may_leave breaking _ = true
 
--- without a label it is the innermost loop
+-- a jump without a label has the innermost loop as its target
 abbrev pub is_label : Option Text → Option Text → Bool
 is_label None label = true
 is_label (Some name) None = false
@@ -70,12 +70,12 @@ jump breaking [] label span = broken NoLoop span
 jump breaking (l ∷ ls) None span = found_loop (loop_named breaking (l ∷ ls) None) NoLoop span
 jump breaking (l ∷ ls) (Some n) span = found_loop (loop_named breaking (l ∷ ls) (Some n.text)) UnknownLabel n.span
 
--- what a `continue` comes to
+-- the checked form of a `continue`: if its loop is a turn of a `for`, a `break` out of that turn
 abbrev pub continued : LoopPart → ℕ → checked.Statement
 continued parts.Turn n = checked.Break n
 continued _ n = checked.Continue n
 
--- a loop's label isn't that of a loop round it (JLS 14.7)
+-- a loop's label isn't the label of a loop around it (JLS 14.7)
 abbrev pub label_text : Option Name → Option Text
 label_text None = None
 label_text (Some n) = Some n.text
@@ -138,7 +138,7 @@ addition known locals target value =
     with_ok (counter (span_of target) x.expression x.static) (λ to.
     with_ok value (λ v. Ok (added to v))))
 
--- what `++` adds, and what `--` does
+-- what `++` adds, or else what `--` adds
 abbrev pub step : (up : Bool) → checked.Expression
 step true = checked.Literal (values.Int (pos 1))
 step false = checked.Literal (values.Int (negsuc 0))

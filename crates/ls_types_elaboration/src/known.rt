@@ -8,7 +8,7 @@ ghost use Rattle.ls_types_elaboration.specs.Tables.{local_of, texts_of};
 
 use ls_events::value::ValueType;
 
-/// The most slots of a method: `this`, parameters and locals.
+/// The most slots of a method: `this`, parameters and locals. The slots of monitors don't count.
 pub const MOST_SLOTS: usize = 128;
 
 /// A local or parameter in scope, and its slot.
@@ -26,8 +26,8 @@ pub struct FieldSign {
     pub value_type: ValueType,
 }
 
-/// A method: its name, its number in the file, the types of its parameters, and the type that it answers, which is none where it is
-/// void.
+/// A method: its name, its number in the file, the types of its parameters, and the type of its answer. A void method
+/// has none.
 #[derive(Drop)]
 pub struct MethodSign {
     pub name: String,
@@ -36,8 +36,8 @@ pub struct MethodSign {
     pub result: Option<ValueType>,
 }
 
-/// What a class declares, in text order, and the number of its constructor with the types of its parameters. A field's number is
-/// its index.
+/// What a class declares, in text order. A field's number is its index. `constructor` is the number of the constructor
+/// in the file, and `parameters` are the types of its parameters.
 #[derive(Drop)]
 pub struct ClassSign {
     pub fields: Vec<FieldSign>,
@@ -60,7 +60,7 @@ fn name_at(names: &[String], name: &str) -> Option<usize>
     names.iter().position(|n| n.as_str() == name)
 }
 
-/// The number of a class.
+/// The number of the class that has the name: the index of the first such name, or none.
 pub fn number_of(names: &[String], name: &str) -> Option<usize>
     ensures found { result ≡ the_number (texts_of names.now) name.now }
     ensures small { IfSome result (λ n. n < length names.now) }
@@ -68,7 +68,7 @@ pub fn number_of(names: &[String], name: &str) -> Option<usize>
     name_at(names, name)
 }
 
-/// A local in scope.
+/// The first local that has the name, or none.
 pub fn local_named<'t>(locals: &[Local<'t>], name: &str) -> Option<Local<'t>>
     ensures { option_map local_of result ≡ the_local (map local_of locals.now) name.now }
 {

@@ -2,8 +2,9 @@
 
 use std::alloc::AllocError;
 
-/// What a loop of the checked tree is in the text: a `while`; or a `for`, which is two loops, all of it and in that each of its
-/// turns. To `break` out of a `for` is to leave the first, to `continue` it is to leave the second.
+/// What a loop of the checked tree is in the text: a `while`, a whole `for`, or one turn of a `for`. A `for` is two
+/// loops: the whole `for`, and in it the loop of one turn. To `break` out of a `for` is to leave the whole; to
+/// `continue` is to leave the turn.
 #[derive(Copy, PartialEq, Eq)]
 pub enum LoopPart {
     While,

@@ -9,7 +9,7 @@ use ls_checked::tree::{Called, Expression, Expressions};
 use ls_events::value::ValueType;
 use std::alloc::{AllocError, Global};
 
-/// What may be called, the types of its arguments, and that of its result.
+/// What may be called, the types of its arguments, and the type of its result.
 #[derive(Drop)]
 pub struct Member {
     pub called: Called,
@@ -34,7 +34,7 @@ pub struct Maker {
     pub value_type: ValueType,
 }
 
-/// What may be called, with the types of its arguments copied. Refused only for want of memory.
+/// What may be called, with a copy of the types of its arguments. The only refusal is that memory ran out.
 pub fn member_with(
     alloc: Global,
     called: Called,
@@ -50,7 +50,7 @@ pub fn member_with(
     }))
 }
 
-/// The operation of a lock that has the name, if there is one. Refused only for want of memory.
+/// The operation of a lock that has the name, or none. The only refusal is that memory ran out.
 pub fn lock_member(alloc: Global, name: &str) -> Result<Option<Member>, AllocError>
     ensures { IfOk result (λ o. option_map seen_member o ≡ the_lock_member name.now) }
 {
@@ -67,7 +67,7 @@ pub fn lock_member(alloc: Global, name: &str) -> Result<Option<Member>, AllocErr
     }
 }
 
-/// The operation of a markable of a class that has the name, if there is one. Refused only for want of memory.
+/// The operation of a markable of a class that has the name, or none. The only refusal is that memory ran out.
 pub fn markable_member(
     alloc: Global,
     class: usize,
@@ -104,7 +104,7 @@ pub fn markable_member(
     }
 }
 
-/// The making with its arguments. Refused only for want of memory.
+/// The making, with its arguments. The only refusal is that memory ran out.
 pub fn made(alloc: Global, makes: Makes, arguments: Expressions) -> Result<Expression, AllocError>
     ensures { IfOk result (λ e. plain e ≡ the_made makes (all_plain arguments)) }
 {

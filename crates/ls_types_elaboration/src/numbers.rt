@@ -3,7 +3,7 @@
 ghost use Rattle.std.specs.Prelude.{◌≡◌, ◌≤◌};
 ghost use Rattle.ls_types_elaboration.specs.TypedExpressions.{digits_value};
 
-/// The value of decimal digits, no number being above 2147483648.
+/// The value of decimal digits. A value above 2147483648 gives 2147483648; no number token has one.
 pub fn digits_of(text: &[u8]) -> u64
     ensures value { result ≡ digits_value 0 text.now }
     ensures small { result ≤ 2147483648 }

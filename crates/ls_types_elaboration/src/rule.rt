@@ -93,12 +93,14 @@ impl From<Broken> for CheckFault {
     }
 }
 
+/// A rule that is broken at a span.
 pub fn broken_at(rule: Rule, span: Span) -> Broken
     ensures { result ≡ record { rule = rule; span = span } }
 {
     Broken { rule, span }
 }
 
+/// The fault that a rule is broken at a span.
 pub fn refused_at(rule: Rule, span: Span) -> CheckFault
     ensures { result ≡ faults.Broken (record { rule = rule; span = span }) }
 {

@@ -11,7 +11,7 @@ use ls_checked::tree::Expression;
 use ls_events::value::ValueType;
 use ls_lexer::token::Span;
 
-/// The type of an expression, that of `null`, or that of a call of a void method (JLS 4.1, 15.1).
+/// The type of an expression, the type of `null`, or the "type" of a call of a void method (JLS 4.1, 15.1).
 #[derive(Clone, Copy)]
 pub enum Static {
     Of(ValueType),
@@ -72,7 +72,8 @@ pub fn comparable(x: Static, y: Static) -> bool
     }
 }
 
-/// An expression where a value of a type is wanted.
+/// An expression where a value of a type is wanted. If its type doesn't fit, the rule `WrongType` is broken at the
+/// span.
 pub fn as_type(t: ValueType, span: Span, x: Typed) -> Result<Expression, Broken>
     ensures { seen_plain result ≡ the_as_type t span (typed_of x) }
 {
@@ -92,7 +93,7 @@ fn is_void(x: Static) -> bool
     }
 }
 
-/// An expression where any value is wanted.
+/// An expression where any value is wanted. If it has no value, the rule `WrongType` is broken at the span.
 pub fn as_value(span: Span, x: Typed) -> Result<Typed, Broken>
     ensures { seen_typed result ≡ the_as_value span (typed_of x) }
 {
@@ -109,7 +110,7 @@ fn is_array(x: Static) -> bool
     }
 }
 
-/// An expression where an array is wanted.
+/// An expression where an array is wanted. If it is no array, the rule `WrongType` is broken at the span.
 pub fn as_array(span: Span, x: Typed) -> Result<Expression, Broken>
     ensures { seen_plain result ≡ the_as_array span (typed_of x) }
 {
@@ -130,7 +131,7 @@ pub fn typed_as(t: ValueType, expression: Expression) -> Typed
     }
 }
 
-/// The type of a call.
+/// The type of a call of a method with this result.
 pub fn result_type(result_type: Option<ValueType>) -> Static
     ensures { result ≡ the_result_type result_type }
 {

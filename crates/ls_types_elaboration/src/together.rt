@@ -1,4 +1,5 @@
-// Steps on values of any type. What is owned while something else may fail is dropped here, at a parameter's type.
+// Steps on values of any type. If something else may fail while a value is owned, the value is dropped here, at a
+// parameter's type.
 
 ghost use Rattle.std.specs.Prelude.{◌≡◌, ◌∷◌, ◌++◌, [], Err, IfOk, Ok, if◌then◌else◌};
 ghost use Rattle.ls_types_elaboration.specs.Answers.{seen};
@@ -6,7 +7,7 @@ ghost use Rattle.ls_types_elaboration.specs.Answers.{seen};
 use crate::rule::Broken;
 use std::alloc::{AllocError, Global};
 
-/// Both in boxes.
+/// Each value in a box. The only refusal is that memory ran out.
 pub fn two<T: Drop, U: Drop>(alloc: Global, a: T, b: U) -> Result<(Box<T>, Box<U>), AllocError>
     ensures first { IfOk result (λ p. p.0.value ≡ a) }
     ensures second { IfOk result (λ p. p.1.value ≡ b) }
@@ -16,7 +17,7 @@ pub fn two<T: Drop, U: Drop>(alloc: Global, a: T, b: U) -> Result<(Box<T>, Box<U
     Ok((a, b))
 }
 
-/// One more at the end.
+/// The same items, and one more at the end. The only refusal is that memory ran out.
 pub fn push<T: Drop>(mut items: Vec<T>, item: T) -> Result<Vec<T>, AllocError>
     ensures { IfOk result (λ v. v.items ≡ items.items ++ item ∷ []) }
 {
@@ -24,7 +25,7 @@ pub fn push<T: Drop>(mut items: Vec<T>, item: T) -> Result<Vec<T>, AllocError>
     Ok(items)
 }
 
-/// What is there, with a value in a box.
+/// The first value, and the second in a box. The only refusal is that memory ran out.
 pub fn with_box<T: Drop, U: Drop>(
     alloc: Global,
     first: T,
@@ -37,7 +38,7 @@ pub fn with_box<T: Drop, U: Drop>(
     Ok((first, value))
 }
 
-/// What is there, with what comes next, unless that is refused.
+/// The first value, and what comes next. If what comes next is refused, so is this.
 pub fn also<T: Drop, U: Drop, E: Drop>(first: T, next: Result<U, E>) -> Result<(T, U), E>
     ensures next { next ≡ seen (λ p. p.1) result }
     ensures first { IfOk result (λ p. p.0 ≡ first) }
@@ -48,7 +49,7 @@ pub fn also<T: Drop, U: Drop, E: Drop>(first: T, next: Result<U, E>) -> Result<(
     }
 }
 
-/// What is there, if it passes.
+/// The value, if it passes; else the broken rule.
 pub fn passing<T: Drop>(x: T, passes: bool, broken: Broken) -> Result<T, Broken>
     ensures { result ≡ (if passes then Ok x else Err broken) }
 {

@@ -9,7 +9,7 @@ use Rattle.ls_types_elaboration.specs.Trees as parsed
 use Rattle.ls_types_evaluations.specs.Written.{at, one, yes, nothing, self, named, call, call_on, making, making_markable, int, truth, null, passed, own}
 use Rattle.ls_types_evaluations.specs.Expressions.{Is, Breaks}
 
--- a method of the own class and one of another object's
+-- a method of the object's own class, and a method of another object's class
 abbrev pub Methods : Type 0
 Methods =
     Is (call (codes "f") (one 1 ∷ yes 2 ∷ []) 8) (checked.Call (checked.Slot 0) (called.Method 1) (passed (int 1 ∷ truth ∷ []))) (Of types.Int)
@@ -22,7 +22,7 @@ Methods =
     × Breaks (call_on (named (codes "x") 1) (codes "v") [] 8) rules.UnknownName 8
     × Breaks (call_on (call (codes "v") [] 1) (codes "v") [] 8) rules.UnknownName 8
 
--- one argument for each parameter, of its type: the number alone says nothing
+-- one argument for each parameter, of the type of the parameter; the right number of arguments is not enough
 abbrev pub Arguments : Type 0
 Arguments =
     Breaks (call (codes "f") (one 1 ∷ []) 8) rules.WrongArguments 9
@@ -65,7 +65,7 @@ OtherArgumentsOfMarkables =
     × Breaks (call_on (named (codes "r") 1) (codes "attemptMark") (yes 2 ∷ nothing 3 ∷ []) 8) rules.WrongType 2
     × Breaks (call_on (named (codes "r") 1) (codes "weakCompareAndSet") [] 8) rules.UnknownName 8
 
--- `Lock` is an interface, which is not made
+-- `Lock` is an interface: no object is made of it
 abbrev pub Makings : Type 0
 Makings =
     Is (making (codes "A") (one 1 ∷ []) 8) (checked.MakeObject 0 (passed (int 1 ∷ []))) (Of (types.Class 0))

@@ -25,7 +25,7 @@ Is e form static = typed known locals e ≡ Ok (record { expression = form; stat
 abbrev pub Breaks : parsed.Expression → Rule → ℕ → Type 0
 Breaks e rule k = typed known locals e ≡ Err (record { rule = rule; span = at k })
 
--- 2147483648 is the least int, since it stands behind a minus alone
+-- 2147483648 is the least int, since it may come only after a minus
 abbrev pub Literals : Type 0
 Literals =
     Is (parsed.Number (codes "0") (at 1)) (int 0) (Of types.Int)
@@ -49,7 +49,7 @@ IntegerIsALocal =
     typed known (record { name = codes "Integer"; type = types.Class 1; slot = 1 } ∷ []) (field (named (codes "Integer") 1) (codes "MAX_VALUE") 2)
     ≡ Err (record { rule = rules.UnknownName; span = at 2 })
 
--- a local hides a field; a method is no variable
+-- a local hides a field; a method is not a variable
 abbrev pub Names : Type 0
 Names =
     Is (named (codes "x") 1) (checked.Slot 1) (Of types.Int)
@@ -61,7 +61,7 @@ Names =
     × Breaks (named (codes "f") 1) rules.UnknownName 1
     × Breaks (named (codes "j") 1) rules.UnknownName 1
 
--- a field is one of the class of the target's type
+-- a field belongs to the class that is the type of the target
 abbrev pub Fields : Type 0
 Fields =
     Is (field (named (codes "o") 1) (codes "k") 2) (checked.Field (own 6) 1 1) (Of types.Int)
@@ -92,7 +92,7 @@ Comparisons =
     × OfInts written.Greater operators.Greater types.Boolean
     × OfInts written.GreaterEqual operators.GreaterEqual types.Boolean
 
--- the first operand of another type is told
+-- the first operand of another type is reported
 abbrev pub OperandsOfInts : Type 0
 OperandsOfInts =
     Breaks (both written.Add (yes 1) (nothing 2) 3) rules.WrongType 1
@@ -118,7 +118,7 @@ Signs =
     × Breaks (parsed.Unary Not (one 1) (at 2)) rules.WrongType 1
     × Breaks (parsed.Unary Not (nothing 1) (at 2)) rules.WrongType 1
 
--- `==` of two expressions, which are these
+-- `==` of two expressions, with their checked forms
 abbrev pub AreCompared : parsed.Expression → parsed.Expression → checked.Expression → checked.Expression → Type 0
 AreCompared e f a b = Is (both written.Equal e f 9) (checked.Binary operators.Equal a b) (Of types.Boolean)
 
@@ -134,7 +134,7 @@ Comparable =
     × AreCompared (named (codes "r") 1) (named (codes "r") 2) (own 5) (own 5)
     × Is (both written.NotEqual (one 1) (one 2) 9) (checked.Binary operators.NotEqual (int 1) (int 1)) (Of types.Boolean)
 
--- refused as a whole, but for a call without a value
+-- the whole comparison is refused; only a call without a value is refused at its own place
 abbrev pub NotComparable : Type 0
 NotComparable =
     Breaks (both written.Equal (one 1) (yes 2) 9) rules.WrongType 9

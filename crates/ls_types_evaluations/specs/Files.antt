@@ -67,7 +67,8 @@ MembersOfOneName =
     × Break (A (a_constructor 1 [] ∷ parsed.Constructor (name (codes "A") 2) (parameter parsed.Int (codes "x") 3 ∷ []) parsed.NoItem ∷ [])) rules.TwiceDeclared 2
     × Break (A (parsed.Method false None (name (codes "f") 1) (parameter parsed.Int (codes "x") 2 ∷ parameter parsed.Boolean (codes "x") 3 ∷ []) parsed.NoItem ∷ [])) rules.TwiceDeclared 3
 
--- a field and a method, members of two classes, and a method named as its class; a method is called by its name alone in its own class
+-- a field and a method; members of two classes; a method named as its class. A method is called by its name alone only
+-- in its own class.
 abbrev pub OneNameForSeveral : Type 0
 OneNameForSeveral =
     Are (A (an_int (codes "f") 1 ∷ doing (codes "f") 2 [] ∷ []))
@@ -90,7 +91,7 @@ OtherConstructors =
     Break (A (parsed.Constructor (name (codes "B") 1) [] parsed.NoItem ∷ [])) rules.UnknownType 1
     × Break (class (codes "A") 1 [] ∷ class (codes "B") 2 (parsed.Constructor (name (codes "A") 3) [] parsed.NoItem ∷ []) ∷ []) rules.UnknownType 3
 
--- `Lock` and `ReentrantLock` are one type; the classes of the file are types, wherever they stand
+-- `Lock` and `ReentrantLock` are one type; a class of the file is a type wherever it is declared
 abbrev pub Types : Type 0
 Types =
     Are (class (codes "A") 1
@@ -114,7 +115,7 @@ Types =
 
 -- ---- methods
 
--- all are numbered in text order, and a constructor that isn't written comes behind the methods of its class
+-- all are numbered in text order; a constructor that isn't written comes after the methods of its class
 abbrev pub Numbers : Type 0
 Numbers =
     Are (class (codes "A") 1 (doing (codes "f") 2 [] ∷ doing (codes "g") 3 (evaluate (call (codes "f") [] 4) ∷ []) ∷ [])
@@ -147,7 +148,7 @@ Parameters =
           ∷ checked_method 0 None [] ∷ [];
     })
 
--- initialisers of fields stand at the front of the constructor, in text order, written or not
+-- initialisers of fields come at the front of the constructor, in text order, also of a constructor that isn't written
 abbrev pub Initialisers : Type 0
 Initialisers =
     Are (A (parsed.Fields (variable parsed.Int (codes "i") 1 (Some (one 2))) ∷ a_constructor 3 (assign (named (codes "i") 4) (named (codes "j") 5) ∷ []) ∷ parsed.Fields (variable parsed.Int (codes "j") 6 (Some (named (codes "i") 7))) ∷ []))
@@ -171,7 +172,7 @@ returns k = parsed.Return (Some (one k)) (at 90)
 abbrev pub returned : checked.Statement
 returned = checked.ReturnValue (int 1)
 
--- a method of an int may have this statement alone, and it has this checked form
+-- a method that answers an int may have this statement as its whole body, and the statement has this checked form
 abbrev pub Returns : parsed.Statement → checked.Statement → Type 0
 Returns s form =
     Are (A (answering (codes "f") 1 (s ∷ []) ∷ []))
@@ -188,8 +189,9 @@ MissingReturns =
     × Break (A (answering (codes "f") 1 (parsed.While (Some (name (codes "p") 2)) (yes 2) (parsed.While None (yes 3) (parsed.Break (Some (name (codes "p") 4)) (at 5))) ∷ []) ∷ [])) rules.MissingReturn 1
     × Break (A (answering (codes "f") 1 (parsed.Try parsed.NoItem (items (parsed.Empty ∷ [])) ∷ []) ∷ [])) rules.MissingReturn 1
 
--- these don't: a return in both branches, in a try block or in its finally block; an endless loop, also one round another
--- that a break leaves; a break that a finally block replaces
+-- Each of these is enough: a return in both branches, a return in a try block, a return in its finally block, an
+-- endless loop. An endless loop is also enough if it has a loop in it that a `break` leaves, or if a finally block
+-- replaces its `break`.
 abbrev pub EnoughReturns : Type 0
 EnoughReturns =
     Returns (parsed.IfElse (yes 2) (returns 3) (returns 4)) (checked.If truth returned returned)
@@ -224,7 +226,7 @@ fields_in (c ∷ cs) = length c.fields + fields_in cs
 abbrev pub signs_of : List parsed.Member → Elaborated ℕ
 signs_of members = with_ok (class_signs (codes "A" ∷ []) (A members)) (λ classes. Ok (fields_in classes.signs))
 
--- the 65th class, field and the 128th parameter are refused at a name
+-- the 65th class, the 65th field and the 128th parameter are refused at a name
 abbrev pub MostOfAll : Type 0
 MostOfAll =
     (class_names (empty_classes 64) ≡ Ok (letters 64))

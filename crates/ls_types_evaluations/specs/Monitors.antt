@@ -13,18 +13,19 @@ use Rattle.ls_types_evaluations.specs.Written.{at, name, one, nothing, self, nam
 use Rattle.ls_types_evaluations.specs.Statements.{body, slots, filled, Breaks, set, declare, loop}
 use Rattle.ls_types_evaluations.specs.Files.{A, Are, Break, checked_method}
 
--- the object goes into a slot, its monitor is locked, and unlocked behind the block
+-- the object goes into a slot; its monitor is locked, and unlocked after the block
 abbrev pub held : ℕ → ℕ → checked.Expression → List checked.Statement → checked.Statement
 held slot c object ss = checked.Block (block (
     checked.SetSlot slot object
     ∷ checked.Evaluate (checked.Call (checked.Slot slot) (called.HoldMonitor c) checked.End)
     ∷ checked.Try (checked.Block (block ss)) (checked.Evaluate (checked.Call (checked.Slot slot) (called.FreeMonitor c) checked.End)) ∷ []))
 
--- so many slots more, of which these have names
+-- `length more` slots more; `n` more of the slots have names
 abbrev pub with_slots : List ValueType → ℕ → Slots
 with_slots more n = record { types = slots.types ++ more; named = slots.named + n }
 
--- `synchronized (o) { int y = 1; }`: its slot comes before those of its block; two have two slots, and so has one in another
+-- `synchronized (o) { int y = 1; }`: its slot comes before those of its block. Two such statements have two slots,
+-- also if one is in the other.
 abbrev pub Forms : Type 0
 Forms =
     (statement (body None) [] locals slots (parsed.Synchronized (named (codes "o") 1) (declare (codes "y") 3 parsed.NoItem))
@@ -41,11 +42,11 @@ JumpsThrough =
     ≡ Ok (record { tree = checked.While (checked.Literal (values.Boolean true)) (held 3 0 (checked.Slot 0) (checked.Break 0 ∷ [])); slots = with_slots (types.Class 0 ∷ []) 0 }))
     × Breaks (parsed.Synchronized (self 1) (items (parsed.Break None (at 2) ∷ []))) rules.NoLoop 2
 
--- a local of its block is out of scope behind it
+-- after its block, a local of that block is out of scope
 abbrev pub OutOfBlock : Type 0
 OutOfBlock = Breaks (parsed.Block (items (parsed.Synchronized (self 1) (declare (codes "y") 3 parsed.NoItem) ∷ set (codes "y") 5 ∷ []))) rules.UnknownName 5
 
--- objects of the file's classes have monitors for texts, and nothing else; the expression comes before the block
+-- only objects of the file's classes have monitors for texts; the expression is checked before the block
 abbrev pub Locked : Type 0
 Locked =
     Breaks (parsed.Synchronized (named (codes "l") 1) parsed.NoItem) rules.WrongType 1
@@ -67,7 +68,8 @@ NamedSlotsAlone =
     × (statement (body None) [] locals (filled 128 128) (parsed.Synchronized (self 1) (parsed.Declare (variable parsed.Int (codes "y") 1 None) parsed.NoItem))
     ≡ Err (record { rule = rules.Limit; span = at 99 }))
 
--- a synchronized method locks its own object behind its parameters, round all of its body
+-- a synchronized method locks its own object: the slot comes after those of the parameters, and the lock holds for the
+-- whole body
 abbrev pub SynchronizedMethods : Type 0
 SynchronizedMethods =
     Are (A (parsed.Method true None (name (codes "f") 1) (parameter parsed.Int (codes "x") 2 ∷ []) (declare (codes "y") 3 parsed.NoItem) ∷ []))

@@ -24,7 +24,7 @@ IsRead text program = program_of outcome text ≡ Some program
 abbrev pub IsNone : Text → Type 0
 IsNone text = program_of outcome text ≡ None
 
--- behind `setup { s = new A(1); t = new B(); `
+-- `text` after `setup { s = new A(1); t = new B(); `
 abbrev pub behind : Text → Text
 behind text = codes "setup { s = new A(1); t = new B(); " ++ text
 
@@ -54,7 +54,7 @@ Wholes =
     × IsRead (behind (codes "s.v(); } thread T { s.f(1, true); s.v(); } thread U { }"))
     (program (Calling 0 2 (codes "v") None [] ∷ []) (thread (codes "T") (calling one ∷ Calling 0 2 (codes "v") None [] ∷ []) ∷ thread (codes "U") [] ∷ []))
 
--- an int is written as in Java; the least one behind a minus alone
+-- an int is written as in Java; the least int is written only after a minus
 abbrev pub WrittenNumbers : Type 0
 WrittenNumbers =
     IsRead (behind (codes "s.f(-1, true); }")) (program (calling (values.Int (negsuc 0)) ∷ []) [])
@@ -65,7 +65,7 @@ WrittenNumbers =
     × IsNone (behind (codes "s.f(--1, true); }"))
     × IsNone (behind (codes "s.f(-true, true); }"))
 
--- as many arguments as parameters, each of its type; no reference
+-- one argument for each parameter, of its type; no argument is a reference
 abbrev pub PlainArguments : Type 0
 PlainArguments =
     IsNone (behind (codes "s.f(1); }"))
@@ -79,7 +79,7 @@ PlainArguments =
     × IsNone (codes "setup { s = new A(); }")
     × IsNone (codes "setup { s = new B(1); }")
 
--- a method that is there, and that answers no reference
+-- the called method exists, and it answers no reference
 abbrev pub MethodsCalled : Type 0
 MethodsCalled =
     IsNone (behind (codes "s.g(); }"))
@@ -134,7 +134,7 @@ MostThreads =
     (is_some (program_of_tokens outcome (Some (setup_and (threads 64)))) ≡ true)
     × (is_none (program_of_tokens outcome (Some (setup_and (threads 65)))) ≡ true)
 
--- whether a thread with so many calls has room for one more
+-- whether a thread with n calls has room for one more
 abbrev pub has_room : ℕ → Bool
 has_room n =
     is_some (at_semicolon

@@ -15,7 +15,7 @@ use Rattle.ls_types_elaboration.specs.Scopes.{Body, Slots}
 use Rattle.ls_types_elaboration.specs.TypedStatements.{Loops, statement}
 use Rattle.ls_types_evaluations.specs.Written.{at, name, assign, evaluate, one, yes, nothing, self, named, both, field, call, items, variable, int, truth, null, block, known, locals, own}
 
--- a method that answers this, whose name stands at 99
+-- a method that answers this, with its name at 99
 abbrev pub body : Option ValueType → Body
 body result = record { known = known; result = result; span = at 99 }
 
@@ -26,7 +26,8 @@ slots = record { types = types.Class 0 ∷ types.Int ∷ types.Int ∷ []; named
 abbrev pub with_more : List ValueType → Slots
 with_more more = record { types = slots.types ++ more; named = length more + 3 }
 
--- in a method that answers this, within these loops, the statement has this checked form, and the method these further slots
+-- in a method that answers this, within these loops, the statement has this checked form and gives the method these
+-- new slots
 abbrev pub Becomes : Option ValueType → Loops → parsed.Statement → checked.Statement → List ValueType → Type 0
 Becomes result loops s form more = statement (body result) loops locals slots s ≡ Ok (record { tree = form; slots = with_more more })
 
@@ -64,7 +65,7 @@ NotAssigned =
     × Breaks (assign (named (codes "r") 1) (named (codes "q") 2)) rules.WrongType 2
     × Breaks (assign (parsed.Item (named (codes "a") 1) (one 2) (at 3)) (one 4)) rules.WrongType 4
 
--- a call without a value is a statement
+-- a call without a value is a statement; the value of any other expression is dropped
 abbrev pub Evaluations : Type 0
 Evaluations =
     Becomes None [] (evaluate (call (codes "v") [] 1)) (checked.Evaluate (checked.Call (checked.Slot 0) (called.Method 2) checked.End)) []
@@ -72,7 +73,7 @@ Evaluations =
 
 -- ---- scopes
 
--- a local has the next slot, and in it the start value and then that of its initialiser
+-- a local has the next slot; the slot first holds the start value, then the value of the initialiser
 abbrev pub Declarations : Type 0
 Declarations =
     Becomes None [] (parsed.Block (declare (codes "y") 1 (items (set (codes "y") 3 ∷ []))))
@@ -80,13 +81,13 @@ Declarations =
     × Becomes None [] (parsed.Block (parsed.Declare (variable parsed.Boolean (codes "y") 1 None) (parsed.Declare (variable (parsed.Class (name (codes "B") 2)) (codes "z") 3 None) parsed.NoItem)))
     (checked.Block (block (checked.SetSlot 3 (checked.Literal (values.Boolean false)) ∷ checked.SetSlot 4 null ∷ []))) (types.Boolean ∷ types.Class 1 ∷ [])
 
--- its own initialiser may name it
+-- the initialiser of a local may name that local
 abbrev pub OwnInitialiser : Type 0
 OwnInitialiser =
     Becomes None [] (parsed.Block (parsed.Declare (variable parsed.Int (codes "y") 1 (Some (named (codes "y") 2))) parsed.NoItem))
     (checked.Block (block (checked.SetSlot 3 (int 0) ∷ checked.SetSlot 3 (checked.Slot 3) ∷ []))) (types.Int ∷ [])
 
--- behind its block, or before its declaration, a local is not there
+-- a local can't be named after its block, or before its declaration
 abbrev pub OutOfScope : Type 0
 OutOfScope =
     Breaks (parsed.Block (parsed.Do (parsed.Block (declare (codes "y") 1 parsed.NoItem)) (items (set (codes "y") 5 ∷ [])))) rules.UnknownName 5
@@ -94,7 +95,8 @@ OutOfScope =
     × Breaks (parsed.Try (declare (codes "y") 1 parsed.NoItem) (items (set (codes "y") 5 ∷ []))) rules.UnknownName 5
     × Breaks (parsed.IfElse (yes 1) (parsed.Block (declare (codes "y") 2 parsed.NoItem)) (set (codes "y") 5)) rules.UnknownName 5
 
--- no local hides a local, but one may have the name of a field, or of a local that is out of scope; each has a slot of its own
+-- no local hides a local. A local may have the name of a field, or of a local that is out of scope. Each local has a
+-- slot of its own.
 abbrev pub TwoOfOneName : Type 0
 TwoOfOneName =
     Breaks (parsed.Block (declare (codes "x") 1 parsed.NoItem)) rules.TwiceDeclared 1
@@ -113,11 +115,11 @@ OwnSlots =
     (checked.If truth (checked.Block (block (checked.SetSlot 3 (int 0) ∷ checked.SetSlot 3 (int 1) ∷ []))) (checked.Block (block (checked.SetSlot 4 (int 0) ∷ checked.SetSlot 4 (int 1) ∷ []))))
     (types.Int ∷ types.Int ∷ [])
 
--- so many slots, of which these have names
+-- `all` slots; the first `n` of them have names
 abbrev pub filled : ℕ → ℕ → Slots
 filled all n = record { types = replicate all types.Int; named = n }
 
--- 128 slots are there; a method with more is refused at its name
+-- a method has at most 128 slots with names; a method with more is refused at its name
 abbrev pub MostSlots : Type 0
 MostSlots =
     (statement (body None) [] locals (filled 127 127) (parsed.Block (parsed.Declare (variable parsed.Int (codes "y") 1 None) parsed.NoItem))
@@ -151,7 +153,7 @@ NoLoops =
     × Breaks (loop None (parsed.Break (Some (name (codes "p") 3)) (at 2))) rules.UnknownLabel 3
     × Breaks (parsed.Block (parsed.Do (loop (Some (codes "p")) parsed.Empty) (items (parsed.Break None (at 2) ∷ [])))) rules.NoLoop 2
 
--- one label within itself is refused, and beside itself it isn't
+-- a label is refused within a statement of the same label, but not after that statement
 abbrev pub Labels : Type 0
 Labels =
     Breaks (loop (Some (codes "p")) (loop (Some (codes "p")) parsed.Empty)) rules.TwiceDeclared 50
@@ -176,7 +178,7 @@ abbrev pub counting : Option Text → parsed.Statement → parsed.Statement
 counting None s = labelled_count None s
 counting (Some l) s = labelled_count (Some (name l 50)) s
 
--- its loops, where the local is in slot n
+-- its loops, if the local is in slot n
 abbrev pub counted : ℕ → checked.Statement → checked.Statement
 counted n s =
     checked.Block (block (
@@ -187,7 +189,7 @@ counted n s =
     ∷ checked.Block (block (checked.SetSlot n (checked.Binary operators.Add (checked.Slot n) (int 1)) ∷ [])) ∷ [])))
     ∷ []))
 
--- `break` leaves all of a `for`, `continue` one turn of it; each `for` is two loops outward
+-- `break` leaves the whole `for`, `continue` leaves one turn of it; each `for` counts as two loops outward
 abbrev pub ForLoops : Type 0
 ForLoops =
     Becomes None [] (counting None parsed.Empty) (counted 3 (checked.Block checked.Done)) (types.Int ∷ [])
@@ -209,7 +211,7 @@ ForLoops =
     × Breaks (counting (Some (codes "p")) (counting (Some (codes "p")) parsed.Empty)) rules.TwiceDeclared 50
     × Breaks (parsed.For None (parsed.Performs []) (Some (one 1)) [] parsed.Empty) rules.WrongType 1
 
--- what is added to: a local, a field; neither an element nor a variable of another type
+-- what may be added to: a local or a field, but no element and no variable of another type
 abbrev pub Additions : Type 0
 Additions =
     Becomes None [] (parsed.Perform (parsed.Add (named (codes "x") 1) (one 2))) (checked.SetSlot 1 (checked.Binary operators.Add (checked.Slot 1) (int 1))) []

@@ -1,4 +1,5 @@
--- Words in which trees are written. `at k` stands for the place of what is numbered k, since a refusal only hands it on.
+-- Words in which trees are written. `at k` stands for the place of the part with number k. A refusal gives that place
+-- unchanged.
 use Rattle.std.specs.Prelude.{ℕ, ◌+◌, pos, List, [], ◌∷◌, Option, Some, None, codes, true}
 use Rattle.ls_lexer.specs.declared.token.Span.{Span}
 use Rattle.ls_tree.specs.declared.tree.BinaryOp.{BinaryOp}
@@ -15,7 +16,8 @@ at k = record { start = k; end = k }
 abbrev pub name : Text → ℕ → Name
 name text k = record { text = text; span = at k }
 
--- ---- expressions as they are written, each with its place; a call, an access or a making has the place behind its name's
+-- ---- expressions as they are written, each with its place; a call, an access or a making has the place after its
+-- name's
 
 abbrev pub one : ℕ → parsed.Expression
 one k = parsed.Number (codes "1") (at k)
@@ -96,8 +98,9 @@ block (s ∷ ss) = checked.Then s (block ss)
 
 -- ---- two classes
 
--- class A { int i; boolean b; boolean[] a; A n; Lock l; AtomicMarkableReference<A> r; B o; AtomicMarkableReference<B> q;
--- A(int x) { .. } int f(int x, boolean y) { .. } void v() { .. } }
+-- class A { int i; boolean b; boolean[] a; A n; Lock l;
+--   AtomicMarkableReference<A> r; B o; AtomicMarkableReference<B> q;
+--   A(int x) { .. } int f(int x, boolean y) { .. } void v() { .. } }
 abbrev pub first : ClassSign
 first = record {
   fields =

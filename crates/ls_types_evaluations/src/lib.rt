@@ -1,5 +1,6 @@
-//! Small class texts and thread programs whose checked forms or broken rules, worked out by hand, are what the definitions of
-//! typing compute. They stand above ls_types_elaboration and ls_types_programs, so that a new one is no change of those crates.
+//! Small class texts and thread programs, with checked forms or broken rules that were worked out by hand. The
+//! definitions of typing compute exactly these. This crate is above ls_types_elaboration and ls_types_programs, so a
+//! new text changes neither of those crates.
 #![tactic(auto)]
 
 ghost use Rattle.ls_types_evaluations.specs.Expressions.{Literals, Constants, IntegerIsALocal, Names, Fields, Arithmetic, Comparisons, OperandsOfInts, ShortCircuits, Signs, Comparable, NotComparable};

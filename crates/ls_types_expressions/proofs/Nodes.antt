@@ -5,6 +5,7 @@ use Rattle.ls_types_elaboration.specs.Trees.{Name, Expression, Number, True, Fal
 use Rattle.ls_types_elaboration.specs.Placed.{call_of}
 
 abbrev mutual
+  -- how many nodes an expression has
   pub nodes : Expression → ℕ
   nodes (Number text span) = 1
   nodes (True span) = 1
@@ -23,14 +24,17 @@ abbrev mutual
   nodes (NewMarkable class arguments span) = all_nodes arguments + 1
   nodes (NewArray length span) = nodes length + 1
 
+  -- how many nodes expressions have
   pub all_nodes : Expressions → ℕ
   all_nodes End = 0
   all_nodes (More first others) = nodes first + all_nodes others + 1
 
+-- how many nodes a call has below it
 abbrev pub call_nodes : Option Expression → Expressions → ℕ
 call_nodes None es = all_nodes es
 call_nodes (Some target) es = nodes target + all_nodes es
 
+-- a call has one node more than those below it
 pub nodes-call_of : (o : Option Expression) (n : Name) (es : Expressions) (span : Span) → nodes (call_of o n es span) ≡ call_nodes o es + 1
 nodes-call_of None n es span = refl
 nodes-call_of (Some target) n es span = refl

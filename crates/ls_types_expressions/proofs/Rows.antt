@@ -20,12 +20,15 @@ target_read : (o : Option (Box Expr)) → placed_held (back-Expr-Call-0 o) ≡ p
 target_read None = refl
 target_read (Some b) = refl
 
+-- a call, read from its tree
 pub call_read : (e : Expr) (o : Option (Box Expr)) (n : Name) (v : Vec Expr) (span : Span) → e ≡ exprs.Call o n v span → placed e ≡ call_of (placed_target o) (placed_name n) (placed_all v.items) span
 call_read e o n v span is =
     ap placed is ∙ (λ i. call_of (target_read o i) (placed_name n) (row_read v i) span)
 
+-- a making of an object, read from its tree
 pub making_read : (e : Expr) (n : Name) (v : Vec Expr) (span : Span) → e ≡ exprs.New n v span → placed e ≡ trees.New (placed_name n) (placed_all v.items) span
 making_read e n v span is = ap placed is ∙ ap (λ (es : trees.Expressions). trees.New (placed_name n) es span) (row_read v)
 
+-- a making of a markable reference, read from its tree
 pub markable_read : (e : Expr) (n : Name) (v : Vec Expr) (span : Span) → e ≡ exprs.NewMarkable n v span → placed e ≡ trees.NewMarkable (placed_name n) (placed_all v.items) span
 markable_read e n v span is = ap placed is ∙ ap (λ (es : trees.Expressions). trees.NewMarkable (placed_name n) es span) (row_read v)

@@ -1,4 +1,4 @@
-// Assignments: what may stand on the left side.
+// Assignments: what may be on the left side.
 
 ghost use Rattle.std.specs.Prelude.{◌≡◌};
 ghost use Rattle.ls_checked.specs.Plain.{plain, plain_statement};
@@ -78,7 +78,7 @@ fn assigned(place: Place, value: Expression) -> Statement
     }
 }
 
-/// An assignment.
+/// An assignment. Refused only by a broken rule, or if memory runs out.
 pub fn assignment(site: Site, target: &Expr, value: &Expr) -> Result<Statement, CheckFault>
     ensures { Gives plain_statement result (the_assignment (known_of site.entry.known) (locals_of site.entry) (placed target.now) (placed value.now)) }
 {

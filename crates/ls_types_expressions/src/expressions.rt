@@ -43,7 +43,7 @@ fn number(text: &str) -> Expression
     Expression::Literal(Value::Int(value))
 }
 
-// A local, else a field of the own class.
+// A local, else a field of the class to which the code belongs.
 fn name_typed(site: Site, n: &Name) -> Result<Typed, CheckFault>
     ensures { Gives typed_of result (the_name (known_of site.entry.known) (locals_of site.entry) (placed_name n.now)) }
 {
@@ -92,7 +92,7 @@ fn field_at(alloc: Global, known: Known, x: Typed, n: &Name) -> Result<Typed, Ch
     Ok(typed_as(f.value_type, e))
 }
 
-// Whether an expression is the name `Integer`, and that of no local or field in scope.
+// Whether an expression is the name `Integer`, if no local or field in scope has that name.
 fn is_integer(site: Site, e: &Expr) -> bool
     ensures { result ≡ the_integer (known_of site.entry.known) (locals_of site.entry) (placed e.now) }
 {
@@ -137,7 +137,7 @@ fn call_of(
     })
 }
 
-/// An expression, with its type.
+/// An expression, with its type. Refused only by a broken rule, or if memory runs out.
 #[cycle(expressions)]
 pub fn typed(site: Site, e: &Expr) -> Result<Typed, CheckFault>
     ensures { Gives typed_of result (the_typed (known_of site.entry.known) (locals_of site.entry) (placed e.now)) }
@@ -246,7 +246,7 @@ fn call(
     }
 }
 
-// A method of the own class.
+// A method of the class to which the code belongs.
 #[cycle(expressions)]
 fn own_call(site: Site, n: &Name, arguments: &[Expr], span: Span) -> Result<Typed, CheckFault>
     ensures { Gives typed_of result (the_typed (known_of site.entry.known) (locals_of site.entry) (a_call (placed_name n.now) (placed_all arguments.now) span)) }
@@ -334,7 +334,7 @@ fn passed(
     }
 }
 
-/// An expression where a value of a type is wanted.
+/// An expression where a value of a type is wanted. Refused only by a broken rule, or if memory runs out.
 #[cycle(expressions)]
 pub fn fitting(site: Site, t: ValueType, e: &Expr) -> Result<Expression, CheckFault>
     ensures { Gives plain result (the_fitting (known_of site.entry.known) (locals_of site.entry) t (placed e.now)) }

@@ -1,4 +1,4 @@
-//! Typing of expressions and assignments: the checked expression of a tree, or a rule that is broken and where.
+//! Typing of expressions and assignments: the checked expression of a tree, or a broken rule and its place.
 #![tactic(auto)]
 
 pub mod assignments;

@@ -1,4 +1,4 @@
-// Where an expression stands.
+// The span of an expression.
 
 ghost use Rattle.std.specs.Prelude.{◌≡◌};
 ghost use Rattle.ls_types_elaboration.specs.Trees.{span_of as the_span};
@@ -7,6 +7,7 @@ ghost use Rattle.ls_types_elaboration.specs.Placed.{placed};
 use ls_lexer::token::Span;
 use ls_tree::tree::Expr;
 
+/// The span of an expression in its text.
 pub fn span_of(e: &Expr) -> Span
     ensures { result ≡ the_span (placed e.now) }
 {

@@ -81,7 +81,7 @@ fn added(alloc: Global, to: Counter, v: Expression) -> Result<Statement, AllocEr
     }
 }
 
-// What `++` adds, and what `--` does.
+// What `++` adds, or else what `--` adds.
 fn step(up: bool) -> Expression
     ensures { plain result ≡ the_step up }
 {
@@ -92,7 +92,7 @@ fn step(up: bool) -> Expression
     }
 }
 
-// To which variable a form adds.
+// The variable to which a form adds.
 fn counted(site: Site, target: &Expr) -> Result<Counter, CheckFault>
     ensures { Gives counter_of result (with_ok (the_typed (known_of site.entry.known) (locals_of site.entry) (placed target.now)) (λ x. the_counter (the_span (placed target.now)) x.expression x.static)) }
 {
@@ -101,7 +101,7 @@ fn counted(site: Site, target: &Expr) -> Result<Counter, CheckFault>
     Ok(to)
 }
 
-/// A simple form.
+/// A simple form. Refused only by a broken rule, or if memory runs out.
 pub fn simple(site: Site, s: &Simple) -> Result<Statement, CheckFault>
     ensures { Gives plain_statement result (the_simple (known_of site.entry.known) (locals_of site.entry) (placed_simple s.now)) }
 {
@@ -132,7 +132,7 @@ fn one_simple(site: Site, front: &mut Vec<Statement>, s: &Simple) -> Result<(), 
     Ok(())
 }
 
-/// Simple forms, one after another.
+/// Simple forms, one after another. Refused only by a broken rule, or if memory runs out.
 pub fn simples(site: Site, ss: &[Simple]) -> Result<Vec<Statement>, CheckFault>
     ensures { Gives (λ v. map plain_statement v.items) result (the_simples (known_of site.entry.known) (locals_of site.entry) (map placed_simple ss.now)) }
 {

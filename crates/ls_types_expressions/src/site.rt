@@ -1,10 +1,10 @@
-// Where an expression stands.
+// What is around an expression.
 
 use ls_types_elaboration::known::Local;
 use ls_types_tables::known::Known;
 use std::alloc::{AllocError, Global};
 
-/// What the file declares, the locals in scope, and memory for what is made.
+/// What the file declares, the locals in scope, and the allocator.
 #[derive(Copy)]
 pub struct Site<'k, 'l, 't> {
     pub alloc: Global,

@@ -1,4 +1,4 @@
--- A loop is among those left where the rules say that a `break` of it stands.
+-- A loop is among those left exactly if the rules say that it has a `break`.
 use Rattle.std.proofs.Common.{◌≡◌, ℕ, zero, suc, ◌+◌, ◌-◌, ◌<◌, refl, sym, ap, ◌∙◌, arith, Bool, true, false, ◌&&◌, ◌||◌, nat_eq, List, [], ◌∷◌, ◌++◌}
 use Rattle.std.specs.Prelude.{if◌then◌else◌}
 use Rattle.ls_checked.specs.CheckedTree.{Statement, Block, If, While, Break, Try, Statements, Done, Then}
@@ -39,6 +39,7 @@ has_if n true ms = refl
 has_if n false ms = refl
 
 mutual
+  -- a statement leaves exactly the loops that it breaks
   pub left_broken : (n : ℕ) (s : Statement) → has n (left s) ≡ breaks n s
   left_broken n (Block ss) = all_left_broken n ss
   left_broken n (If c a b) = has_both n (left a) (left b) ∙ ap (λ (x : Bool). x || has n (left b)) (left_broken n a) ∙ ap (λ (x : Bool). breaks n a || x) (left_broken n b)
@@ -55,6 +56,7 @@ mutual
   all_left_broken n Done = refl
   all_left_broken n (Then s ss) = has_both n (left s) (all_left ss) ∙ ap (λ (x : Bool). x || has n (all_left ss)) (left_broken n s) ∙ ap (λ (x : Bool). breaks n s || x) (all_left_broken n ss)
 
+-- a break of an outer loop, seen from outside of the inner one
 pub goes_out : (n : ℕ) (ns : List ℕ) → 0 < n → outward (n ∷ ns) ≡ (n - 1) ∷ outward ns
 goes_out zero ns h = absurd (none h)
   where
@@ -66,9 +68,11 @@ append_assoc : (a b c : List ℕ) → (a ++ b) ++ c ≡ a ++ (b ++ c)
 append_assoc [] b c = refl
 append_assoc (n ∷ a) b c = ap (λ (ns : List ℕ). n ∷ ns) (append_assoc a b c)
 
+-- two of three lists joined, then the third
 pub joined : (a b c whole : List ℕ) → a ++ (b ++ c) ≡ whole → (a ++ b) ++ c ≡ whole
 joined a b c whole h = append_assoc a b c ∙ h
 
+-- a list before an empty list
 pub none_more : (a : List ℕ) → a ++ [] ≡ a
 none_more [] = refl
 none_more (n ∷ a) = ap (λ (ns : List ℕ). n ∷ ns) (none_more a)

@@ -5,6 +5,6 @@ use Rattle.ls_checked.specs.Plain.{plain_method}
 use Rattle.ls_checked.specs.declared.tree.Method.{Method}
 use Rattle.ls_types_elaboration.specs.Elaboration as elaboration
 
--- the methods of so many classes
+-- the methods of `count` classes
 abbrev pub bodies_of : ℕ → Vec Method → elaboration.Bodies
 bodies_of count methods = record { methods = map plain_method methods.items; own = count }

@@ -14,7 +14,8 @@ use ls_types_elaboration::rule::CheckFault;
 use ls_types_laws::elaborates_well_typed;
 use std::alloc::Global;
 
-/// Checks a class text's tree: the checked file, which is well typed, or a rule that is broken and where.
+/// Checks a class text's tree. The answer is the checked file, which is well typed, or the broken rule and its place.
+/// Else the only refusal is that memory ran out.
 pub fn check(alloc: Global, parsed: ClassFile) -> Result<Checked, CheckFault>
     ensures checked { IfOk result (λ c. elaborated (placed_file parsed) ≡ Ok (outcome_of c)) }
     ensures typed { IfOk result (λ c. IsWellTyped (outcome_of c).file) }

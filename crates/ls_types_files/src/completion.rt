@@ -19,7 +19,7 @@ fn is_true(e: &Expression) -> bool
     }
 }
 
-// Whether the innermost loop is among them.
+// Whether the innermost loop is among these.
 fn has_innermost(left: &[usize]) -> bool
     ensures { result ≡ the_has 0 left.now }
 {
@@ -31,7 +31,7 @@ fn has_innermost(left: &[usize]) -> bool
     false
 }
 
-// The same loops from outside of the innermost, behind those before them.
+// The same loops as counted from outside of the innermost loop, put after those in `left`.
 #[tactic(auto, using(crate::proofs::Left::goes_out, crate::proofs::Left::joined))]
 fn outward(inner: &[usize], left: &mut Vec<usize>) -> Result<(), AllocError>
     ensures { OnOk result (left.new.items ≡ left.old.items ++ the_outward inner.now) }
@@ -44,7 +44,7 @@ fn outward(inner: &[usize], left: &mut Vec<usize>) -> Result<(), AllocError>
     Ok(())
 }
 
-// Out of a body only where its `finally` completes.
+// A `break` gets out of a body only if the `finally` of that body can complete.
 #[tactic(auto, using(crate::proofs::Left::none_more))]
 fn past(body: &[usize], finally: bool, left: &mut Vec<usize>) -> Result<(), AllocError>
     ensures { OnOk result (left.new.items ≡ left.old.items ++ (if finally then body.now else [])) }
@@ -55,8 +55,8 @@ fn past(body: &[usize], finally: bool, left: &mut Vec<usize>) -> Result<(), Allo
     Ok(())
 }
 
-// Whether a statement can complete normally. The loops that a `break` in it can leave, counted outward from the innermost round it, come behind those
-// before them.
+// Whether a statement can complete normally. Puts into `left` the loops that a `break` in the statement can leave.
+// They are counted outward from the innermost loop around it.
 #[cycle(completion)]
 #[tactic(auto, using(ls_types_statements::proofs::Blocks::block_read, crate::proofs::Left::left_broken, crate::proofs::Left::joined))]
 fn can_complete(alloc: Global, s: &Statement, left: &mut Vec<usize>) -> Result<bool, AllocError>
@@ -110,7 +110,7 @@ fn all_ways(alloc: Global, ss: &[Statement], left: &mut Vec<usize>) -> Result<bo
     Ok(all)
 }
 
-/// Whether statements, one after another, can complete normally.
+/// Whether statements, one after another, can complete normally. The only refusal is that memory ran out.
 pub fn all_complete(alloc: Global, ss: &[Statement]) -> Result<bool, AllocError>
     ensures { IfOk result (λ r. r ≡ the_all_complete (sequence (map plain_statement ss.now))) }
 {

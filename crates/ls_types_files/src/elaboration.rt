@@ -44,7 +44,7 @@ fn file_methods(
     Ok(methods)
 }
 
-// What is handed on: the tables as lists, the classes and the methods.
+// The answer: the tables as lists, the classes and the methods.
 fn outcome(
     alloc: Global,
     names: IndexSet<String>,
@@ -66,7 +66,7 @@ fn outcome(
     })
 }
 
-/// The elaboration of a file.
+/// The elaboration of a file, or the first broken rule and its place. Else the only refusal is that memory ran out.
 pub fn elaborate(alloc: Global, parsed: &ClassFile) -> Result<Outcome, CheckFault>
     ensures { Gives outcome_of result (elaborated (placed_file parsed.now)) }
 {

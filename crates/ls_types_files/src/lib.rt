@@ -1,4 +1,4 @@
-//! Typing of methods and files: the checked file of a class text's tree, or a rule that is broken and where.
+//! Typing of methods and files: the checked file of a class text's tree, or a broken rule and its place.
 #![tactic(auto)]
 
 pub mod checking;

@@ -67,7 +67,7 @@ fn parameters<'t>(
     Ok(())
 }
 
-// The initialiser of a field, where it has one, behind those before it.
+// The initialiser of a field, if it has one, after those before it.
 fn declarator_set(
     alloc: Global,
     known: Known,
@@ -142,7 +142,7 @@ fn first_slot(alloc: Global, known: Known) -> Result<Slots, AllocError>
     Ok(Slots { types, named: 1 })
 }
 
-// The statement that locks the own object's monitor, round those of the scope.
+// The statement that locks the monitor of `this`, around the statements of the scope.
 fn in_monitor(alloc: Global, slot: usize, class: usize, scope: &mut Scope) -> Result<(), CheckFault>
     ensures { (slots : the_slots) → Gives (λ _. scope_of scope.new slots) result (Ok (the_in_monitor slot class (scope_of scope.old slots))) }
 {
@@ -153,7 +153,7 @@ fn in_monitor(alloc: Global, slot: usize, class: usize, scope: &mut Scope) -> Re
     Ok(())
 }
 
-// The statements of a body, in the monitor of the own object where the method is synchronized.
+// The statements of a body. If the method is synchronized, they are in the monitor of `this`.
 fn body_items<'t>(
     context: Context,
     is_synchronized: bool,
@@ -178,7 +178,7 @@ fn body_items<'t>(
     in_monitor(context.alloc, slot, class, scope)
 }
 
-// Whether a method that answers a value can't complete without one.
+// Whether a method that answers a value can't complete without a value.
 fn answered(context: Context, body: &[Statement]) -> Result<(), CheckFault>
     ensures { (go : Elaborated checked_method) → Leads (λ u. u) (λ u. go) result (unless_broken (is_some context.entry.result && the_all_complete (sequence (map plain_statement body.now))) MissingReturn context.entry.span go) }
 {
@@ -188,7 +188,7 @@ fn answered(context: Context, body: &[Statement]) -> Result<(), CheckFault>
     Ok(())
 }
 
-// A method or constructor of this name, whose body begins with the statements of `front`.
+// A method or constructor of this name. Its body begins with the statements of `front`.
 fn method<'t>(
     context: Context,
     is_synchronized: bool,
@@ -260,7 +260,7 @@ fn written_constructor(
     method(context, false, &c.name, &c.parameters, front, &c.body.items)
 }
 
-// A method or constructor behind those before it.
+// A method or constructor, after those before it.
 fn one_method(
     alloc: Global,
     known: Known,
@@ -290,7 +290,7 @@ fn has_constructor(members: &[Member]) -> bool
     false
 }
 
-// The constructor of a class that is written with none.
+// The constructor of a class in which none is written.
 fn default_constructor(
     alloc: Global,
     known: Known,
@@ -315,7 +315,8 @@ fn default_constructor(
     Ok(push(methods, made)?)
 }
 
-/// The methods and constructors of a class, in text order, behind those of the classes before it.
+/// The methods and constructors of a class, in text order, after those of the classes before it. Refused only by a
+/// broken rule, or if memory runs out.
 pub fn class_methods(
     alloc: Global,
     known: Known,

@@ -10,7 +10,7 @@ pub record IsRanged (file : File) : Type 0 where
   pub fields : (n : ℕ) (c : Class) → slice_get file.classes n ≡ Some c → length c.fields ≤ 64
   pub methods : length file.methods ≤ 512
 
--- the setup and at most so many threads beside it, each with so many calls; no more names than calls
+-- at most `most_threads` threads beside the setup; at most `most_calls` calls of each; no more names than calls
 pub record IsRangedProgram (program : Program) : Type 0 where
   pub threads : length program.threads ≤ suc most_threads
   pub calls : (n : ℕ) (t : ThreadProgram) → slice_get program.threads n ≡ Some t → length t.calls ≤ most_calls

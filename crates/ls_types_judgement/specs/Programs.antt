@@ -16,7 +16,7 @@ IsArgument types.Int (values.Int z) = FitsSigned w32 z
 IsArgument types.Boolean (values.Boolean b) = Unit {0}
 IsArgument _ _ = ⊥
 
--- as many arguments as parameters, each for its parameter
+-- as many arguments as parameters, each fit for its parameter
 abbrev pub AreArguments : List ValueType → List Value → Type 0
 AreArguments [] [] = Unit {0}
 AreArguments (t ∷ ts) (v ∷ vs) = IsArgument t v × AreArguments ts vs
@@ -31,7 +31,7 @@ IsPlainResult (Some _) = ⊥
 
 -- `name = new C(values)`
 pub record IsTypedMaking (file : File) (program : Program) (name class : ℕ) (arguments : List Value) : Type 0 where
-  -- the class is there
+  -- the class exists
   pub there : class < length file.classes
   -- with its constructor, which is one of that class
   pub constructor : Method
@@ -44,12 +44,12 @@ pub record IsTypedMaking (file : File) (program : Program) (name class : ℕ) (a
   pub named : slice_get program.names name ≡ Some setup_name
   pub holds : setup_name.class ≡ class
 
--- `name.method(values)`, where `result` is what the call is taken to answer
+-- `name.method(values)`, where `result` is what the program takes the call to answer
 pub record IsTypedCalling (file : File) (program : Program) (name method : ℕ) (result : Option ValueType) (arguments : List Value) : Type 0 where
   -- the name is a setup name
   pub setup_name : SetupName
   pub named : slice_get program.names name ≡ Some setup_name
-  -- the method is there, one of the class of the name's object
+  -- the method exists, and belongs to the class of the name's object
   pub called : Method
   pub found : slice_get file.methods method ≡ Some called
   pub own : called.class ≡ setup_name.class

@@ -17,7 +17,7 @@ HasType P (Reference n) types.Lock = P n types.Lock
 HasType P (Reference n) (types.Markable c) = P n (types.Markable c)
 HasType P _ _ = ⊥
 
--- what a call that answers no value leaves is null, and a new object is never null
+-- a call that answers no value leaves null; a new object is never null
 abbrev pub IsNothing : Value → Type 0
 IsNothing (Reference n) = n ≡ 0
 IsNothing _ = ⊥

@@ -11,7 +11,7 @@ use Rattle.ls_meaning.specs.declared.sort.Sort.TheVariants.{NoValue, ValueOf}
 use Rattle.ls_meaning.specs.Expressions.{field_of, constructor_of}
 use Rattle.ls_types_judgement.specs.Sorts.{HasSort}
 
--- the type that an operator answers, and of its operands
+-- the type of an operator's answer, and that of its operands
 abbrev pub result_type : Operator → ValueType
 result_type Add = types.Int
 result_type Subtract = types.Int
@@ -25,17 +25,17 @@ IsOperand Equal t = Unit {0}
 IsOperand NotEqual t = Unit {0}
 IsOperand _ t = t ≡ types.Int
 
--- the sort of what a method answers
+-- the sort of a method's answer
 abbrev pub answer_sort : Option ValueType → Sort
 answer_sort None = NoValue
 answer_sort (Some t) = ValueOf t
 
--- the types of a method's parameters, `this` aside
+-- the types of a method's parameters, without that of `this`
 abbrev pub parameters_of : Method → List ValueType
 parameters_of m = take m.parameters (drop 1 m.slots)
 
 abbrev mutual
-  -- an expression that has a sort; null has that of each reference
+  -- an expression that has a sort; null has the sort of each reference
   pub IsTyped : File → List ValueType → Sort → Expression → Type 0
   IsTyped file slots s (Literal v) = HasSort (λ n t. n ≡ 0) s v
   IsTyped file slots s (Slot n) = (t : ValueType) × (s ≡ ValueOf t) × (slice_get slots n ≡ Some t)
@@ -103,7 +103,7 @@ abbrev mutual
   AreTypedStatements file slots r Done = Unit {0}
   AreTypedStatements file slots r (Then s ss) = IsTypedStatement file slots r s × AreTypedStatements file slots r ss
 
--- slot 0 is `this`, and the parameters are slots
+-- slot 0 is `this`; after it come the parameters
 pub record IsTypedMethod (file : File) (m : Method) : Type 0 where
   pub locals : List ValueType
   pub this : m.slots ≡ types.Class m.class ∷ locals

@@ -10,7 +10,7 @@ use Rattle.ls_types_judgement.specs.Programs.{IsTypedProgram}
 
 -- what each checked file keeps
 pub record IsWellTyped (file : File) : Type 0 where
-  -- each expression and statement has operands of the right types, and each slot, field, method and constructor is there
+  -- each expression and statement has operands of the right types, and each slot, field, method and constructor exists
   pub typed : IsTypedFile file
   -- each method and constructor is one of a class of the file
   pub classes : HasItsClasses file
@@ -25,7 +25,7 @@ pub record IsWellTyped (file : File) : Type 0 where
 
 -- what each thread program keeps that is read for a checked file
 pub record IsWellTypedProgram (file : File) (program : Program) : Type 0 where
-  -- each name, class and method of a call is there, with the arguments that it takes
+  -- each name, class and method of a call exists, and the call has the right arguments
   pub typed : IsTypedProgram file program
   -- an argument is an int or a boolean
   pub constants : ProgramHasConstants program

@@ -1,3 +1,3 @@
-//! The judgement of checked files and thread programs: what each keeps that `check` and `read_program` answer. The definitions
-//! stand in specs/; there is no code.
+//! The judgement of checked files and thread programs: what each keeps that `check` and `read_program` answer. The
+//! definitions are in specs/; there is no code.
 #![tactic(auto)]

@@ -1,4 +1,4 @@
--- A file and the locals agree with what is known where code stands.
+-- A file and the locals agree with what is known in the code.
 use Rattle.std.proofs.Common.{◌≡◌, ℕ, refl, sym, subst, ap, Bool, true, false, List, [], Option, Some, None, Ok}
 use Rattle.std.specs.Prelude.{slice_get, bytes_eq, codes, if◌then◌else◌}
 use Rattle.ls_lexer.specs.declared.token.Span.{Span}
@@ -43,6 +43,7 @@ pub record Ready (known : Known) (locals : List Local) (W : List ValueType) : Ty
   pub this : slice_get W 0 ≡ Some (Class known.own)
   pub in_scope : Each (λ l. slice_get W l.slot ≡ Some l.type) locals
 
+-- locals that are in slots are in more slots too
 pub ready_grown : (known : Known) (locals : List Local) (V W : List ValueType) → Grows V W → Ready known locals V → Ready known locals W
 ready_grown known locals V W g r = record {
   this = at_grown V W 0 (Class known.own) g r.this;
@@ -65,6 +66,7 @@ local_gives F known locals W r name (Some l) other e h =
     (l.type, refl, each_found (λ l. slice_get W l.slot ≡ Some l.type) (λ l. bytes_eq l.name name) locals l r.in_scope e)
 local_gives F known locals W r name None other e h = h
 
+-- a simple name gives an expression of its type
 pub name_gives : (F : checked.File) (known : Known) (locals : List Local) (W : List ValueType) → Agrees F known → Ready known locals W → (n : Name) → Gives (Shows F W) (name_of known locals n)
 name_gives F known locals W a r n =
     local_gives F known locals W r n.text (local_named locals n.text) (own_field known.own (field_of known known.own n.text) n.span) refl
@@ -75,6 +77,7 @@ field_in_gives : (F : checked.File) (known : Known) (W : List ValueType) → Agr
 field_in_gives F known W a c name e s None is h = tt
 field_in_gives F known W a c name e s (Some f) is h = (f.value_type, refl, a.field c name f is, h)
 
+-- a field of an object gives an expression of its type
 pub field_gives : (F : checked.File) (known : Known) (W : List ValueType) → Agrees F known → (x : Static) (e : checked.Expression) (n : Name) → Has F W x e → Gives (Shows F W) (field_at known x e n)
 field_gives F known W a (Of (Class c)) e n h = field_in_gives F known W a c n.text e n.span (field_of known c n.text) refl h
 field_gives F known W a (Of Int) e n h = tt
@@ -93,6 +96,7 @@ call_shown : (F : checked.File) (W : List ValueType) (r : Option ValueType) (e :
 call_shown F W None e h = h
 call_shown F W (Some t) e h = h
 
+-- a call gives an expression of the type of its answer
 pub call_gives : (F : checked.File) (W : List ValueType) (m : Member) (e : checked.Expression) (es : checked.Expressions) → MayCall F W e m → AreTyped F W m.parameters es → Gives (Shows F W) (call_of m e es)
 call_gives F W m e es may h = call_shown F W m.result (checked.Call e m.called es) (may es h)
 
@@ -111,6 +115,7 @@ method_gives : (F : checked.File) (known : Known) (W : List ValueType) → Agree
 method_gives F known W a c name e s None is h = tt
 method_gives F known W a c name e s (Some m) is h = λ es hs. there_called F W c m.number m.parameters m.result e es (a.method c name m is) h hs
 
+-- a method of the own class may be called
 pub own_method_gives : (F : checked.File) (known : Known) (locals : List Local) (W : List ValueType) → Agrees F known → Ready known locals W → (n : Name) →
     Gives (MayCall F W (checked.Slot 0)) (found (method_member (method_of known known.own n.text)) n.span)
 own_method_gives F known locals W a r n =
@@ -137,6 +142,7 @@ markable_gives F W c name e s h =
     (choose (MayCall F W e) (bytes_eq name (codes "compareAndSet")) _ _ s (λ es hs. (c, refl, h, hs))
     (choose (MayCall F W e) (bytes_eq name (codes "attemptMark")) _ _ s (λ es hs. (c, refl, h, hs)) tt)))))
 
+-- a member of a target may be called
 pub member_gives : (F : checked.File) (known : Known) (W : List ValueType) → Agrees F known → (x : Static) (e : checked.Expression) (n : Name) → Has F W x e →
     Gives (MayCall F W e) (found (member_of known x n.text) n.span)
 member_gives F known W a (Of (Class c)) e n h = method_gives F known W a c n.text e n.span (method_of known c n.text) refl h
@@ -159,11 +165,13 @@ object_gives F known W a name s (Some c) is = λ es hs.
     let there : IsThere F c (meaning.constructor_of F.classes c) (parameters_of known c) None = a.constructor c name is in
     (there.method, there.found, refl, there.class, subst (λ ts. AreTyped F W ts es) (sym there.parameters) hs)
 
+-- a class may be made
 pub maker_gives : (F : checked.File) (known : Known) (W : List ValueType) → Agrees F known → (n : Name) → Gives (MayMake F W) (maker_of known n)
 maker_gives F known W a n =
     either (MayMake F W) (bytes_eq n.text (codes "ReentrantLock")) (Ok (record { makes = ALock; parameters = []; type = Lock })) (object_maker known (number_of known.names n.text) n.span)
     (λ e es hs. refl) (λ e. object_gives F known W a n.text n.span (number_of known.names n.text) refl)
 
+-- a markable may be made
 pub markable_maker_gives : (F : checked.File) (W : List ValueType) (o : Option ℕ) (s : Span) → Gives (MayMake F W) (markable_maker o s)
 markable_maker_gives F W None s = tt
 markable_maker_gives F W (Some c) s = λ es hs. (refl, hs)

@@ -1,4 +1,4 @@
--- Statements that are typed in all slots of a method, and what a part of a body leaves behind it.
+-- Statements that are typed in all slots of a method, and what a part of a body leaves after it.
 use Rattle.std.proofs.Common.{◌≡◌, ℕ, refl, sym, subst, List, [], ◌∷◌, Option, Some, lit<, nat_eq}
 use Rattle.std.specs.Prelude.{slice_get}
 use Rattle.ls_lexer.specs.declared.token.Span.{Span}
@@ -26,6 +26,7 @@ use Rattle.ls_types_laws.proofs.Shown.{Has, Shows}
 use Rattle.ls_types_laws.proofs.Agreement.{Agrees, Ready, ready_grown}
 use Rattle.ls_types_laws.proofs.Evaluated.{typed_gives, fitting_gives}
 
+-- a statement is typed, and evaluates no pair
 abbrev pub Fine : checked.File → List ValueType → Option ValueType → checked.Statement → Type 0
 Fine F W r s = IsTypedStatement F W r s × EvaluatesNoPair s
 
@@ -33,6 +34,7 @@ Fine F W r s = IsTypedStatement F W r s × EvaluatesNoPair s
 abbrev pub Later : checked.File → Known → List ValueType → (List ValueType → Type 0) → Type 0
 Later F known slots T = (W : List ValueType) → Grows slots W → Agrees F known → T W
 
+-- a typed expression stays typed in more slots
 pub typed_later : (F : checked.File) (known : Known) (locals : List Local) (slots : List ValueType) → Ready known locals slots → (e : Expression) →
     Gives (λ x. Later F known slots (λ W. Shows F W x)) (typed known locals e)
 typed_later F known locals slots r e =
@@ -41,6 +43,7 @@ typed_later F known locals slots r e =
     (λ c. typed_gives F known locals c.0 c.2 (ready_grown known locals slots c.0 c.1 r) e))
     (λ x h W g a. h (W, g, a))
 
+-- an expression that fits stays so in more slots
 pub fitting_later : (F : checked.File) (known : Known) (locals : List Local) (slots : List ValueType) → Ready known locals slots → (t : ValueType) (e : Expression) →
     Gives (λ v. Later F known slots (λ W. IsTyped F W (ValueOf t) v)) (fitting known locals t e)
 fitting_later F known locals slots r t e =
@@ -49,7 +52,7 @@ fitting_later F known locals slots r t e =
     (λ c. fitting_gives F known locals c.0 c.2 (ready_grown known locals slots c.0 c.1 r) t e))
     (λ v h W g a. h (W, g, a))
 
--- a statement leaves more slots behind it, and is typed in all of them
+-- a statement leaves more slots after it, and is typed in all of them
 abbrev pub Good : checked.File → Body → Slots → WithSlots checked.Statement → Type 0
 Good F body slots out = Grows slots.types out.slots.types × Later F body.known out.slots.types (λ W. Fine F W body.result out.tree)
 
@@ -59,9 +62,11 @@ Scoped F body scope out =
     Grows scope.slots.types out.slots.types × Ready body.known out.locals out.slots.types
     × Later F body.known out.slots.types (λ W. Each (Fine F W body.result) scope.statements → Each (Fine F W body.result) out.statements)
 
+-- a scope without a new statement
 pub scoped_same : (F : checked.File) (body : Body) (scope : Scope) → Ready body.known scope.locals scope.slots.types → Scoped F body scope scope
 scoped_same F body scope r = (grows_same scope.slots.types, r, λ W g a h. h)
 
+-- one part of a body, and then another
 pub scoped_on : (F : checked.File) (body : Body) (scope mid out : Scope) → Scoped F body scope mid → Scoped F body mid out → Scoped F body scope out
 scoped_on F body scope mid out h k =
     (grows_on scope.slots.types mid.slots.types out.slots.types h.0 k.0, k.1, λ W g a hs. k.2 W g a (h.2 W (grows_on mid.slots.types out.slots.types W k.0 g) a hs))
@@ -71,6 +76,7 @@ pub in_order : (F : checked.File) (W : List ValueType) (r : Option ValueType) (s
 in_order F W r [] h = tt
 in_order F W r (s ∷ ss) h = (h.0.0, in_order F W r ss h.1)
 
+-- statements in order evaluate no pair
 pub in_order_no_pair : (F : checked.File) (W : List ValueType) (r : Option ValueType) (ss : List checked.Statement) → Each (Fine F W r) ss → EvaluateNoPair (sequence ss)
 in_order_no_pair F W r [] h = tt
 in_order_no_pair F W r (s ∷ ss) h = (h.0.1, in_order_no_pair F W r ss h.1)
@@ -90,6 +96,7 @@ no_pair_void F W (checked.Literal (values.Boolean b)) h = tt
 no_pair_void F W (checked.Literal (values.Reference n)) h = tt
 no_pair_void F W _ h = tt
 
+-- an evaluated expression is a fine statement
 pub evaluated_fine : (F : checked.File) (W : List ValueType) (r : Option ValueType) (x : Static) (e : checked.Expression) → Has F W x e → Fine F W r (checked.Evaluate e)
 evaluated_fine F W r (Of t) e h = ((ValueOf t, h), no_pair F W t e h)
 evaluated_fine F W r NullType e h = subst (λ e. Fine F W r (checked.Evaluate e)) (sym h) ((NoValue, refl), tt)
@@ -116,6 +123,7 @@ start_typed F W (Markable c) = refl
 abbrev pub MaySet : checked.File → List ValueType → Option ValueType → Variable → Type 0
 MaySet F W r to = (v : checked.Expression) → IsTyped F W (ValueOf to.type) v → Fine F W r (assigned to.place v)
 
+-- a sort has one type
 pub one_type : (t u : ValueType) → ValueOf t ≡ ValueOf u → t ≡ u
 one_type t u e = cc
 
@@ -130,6 +138,7 @@ set_item : (F : checked.File) (W : List ValueType) (r : Option ValueType) (a i :
     MaySet F W r (record { place = AtItem a i; type = t })
 set_item F W r a i t h v k = ((h.1, h.2, subst (λ u. IsTyped F W (ValueOf u) v) (one_type t Boolean h.0) k), tt)
 
+-- a variable gives a place that may be assigned to
 pub variable_gives : (F : checked.File) (known : Known) (slots : List ValueType) (r : Option ValueType) (s : Span) (e : checked.Expression) (x : Static) → Later F known slots (λ W. Has F W x e) →
     Gives (λ to. Later F known slots (λ W. MaySet F W r to)) (variable s e x)
 variable_gives F known slots r s (checked.Slot n) (Of t) h =

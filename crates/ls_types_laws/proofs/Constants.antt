@@ -123,6 +123,7 @@ module _ (file : File) (slots : List ValueType) where
       use_all Done p h = tt
       use_all (Then s ss) p h = (uses s p.0 h.0, use_all ss p.1 h.1)
 
+-- a typed file without pairs has constants that name no object
 pub of_file : (file : File) → IsTypedFile file → HasNoPairs file → FileHasConstants file
 of_file file t p n m e = uses file m.slots m.result m.body (p n m e) ((t n m e).body)
 
@@ -156,5 +157,6 @@ module _ (file : File) (program : Program) where
   calls_constant [] typed = tt
   calls_constant (c ∷ cs) typed = (call_constant c (typed 0 c refl), calls_constant cs (λ i d e. typed (suc i) d e))
 
+-- a typed program has constants that name no object
 pub of_program : (file : File) (program : Program) → IsTypedProgram file program → ProgramHasConstants program
 of_program file program typed n t e = calls_constant file program t.calls (λ i c is. typed n t i c e is)

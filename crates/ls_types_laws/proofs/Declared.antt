@@ -148,6 +148,7 @@ pub record ClassAgrees (H : List Head) (c : ℕ) (s : ClassSign) : Type 0 where
 class_grown : (H more : List Head) (c : ℕ) (s : ClassSign) → ClassAgrees H c s → ClassAgrees (H ++ more) c s
 class_grown H more c s a = record { methods = heads_grown H more c s.methods a.methods; constructor = at_front H more s.constructor (head c s.parameters None) a.constructor }
 
+-- the declarations of some classes: their number, and methods and constructors with these heads
 pub record Signed (H : List Head) (size : ℕ) (classes : Classes) : Type 0 where
   pub next : classes.next ≡ length H
   pub count : length classes.signs ≡ size
@@ -206,11 +207,13 @@ one_class_gives names done classes c s =
     zero_plus : (n : ℕ) → n ≡ 0 + n
     zero_plus n = omega arith
 
+-- the declarations of classes have the heads of their text
 pub class_signs_give : (names : List Text) (classes : List ClassTree) → Gives (Signed (file_heads names 0 classes) (length classes)) (class_signs names classes)
 class_signs_give names classes =
     each_over (λ done s. Signed (file_heads names 0 done) (length done) s) (one_class names) [] (record { signs = []; next = 0 }) classes
     (record { next = refl; count = refl; agree = λ c s e. absurd (some_none s e) }) (λ done s c h. one_class_gives names done s c h)
 
+-- there are as many names as classes
 pub class_names_give : (classes : List ClassTree) → Gives (λ names. length names ≡ length classes) (class_names classes)
 class_names_give classes =
     each_over (λ done names. length names ≡ length done) one_name [] [] classes refl (λ done names c h.

@@ -26,12 +26,14 @@ use Rattle.ls_types_laws.proofs.Shown.{Has, Shows}
 use Rattle.ls_types_laws.proofs.Agreement.{Ready, ready_grown}
 use Rattle.ls_types_laws.proofs.Bodies.{Fine, Later, one_type, typed_later, fitting_later, Good, Scoped, scoped_same, scoped_on, in_order, in_order_no_pair, evaluated_fine, monitor_fine, start_typed, MaySet, variable_gives}
 
+-- nothing is asked of the answer
 pub any : {A : Type 0} (x : Elaborated A) → Gives (λ _. Unit {0}) x
 any (Ok a) = tt
 any (Err e) = tt
 
 -- declarations
 
+-- a new variable is in a slot of its scope
 pub ready_with : (known : Known) (scope : Scope) (name : Text) (t : ValueType) → Ready known scope.locals scope.slots.types →
     Ready known (with_variable scope name t).locals (with_variable scope name t).slots.types
 ready_with known scope name t r =

@@ -108,6 +108,7 @@ elaborated_ended f =
 all_ended : (f : File) (o : Outcome) → elaborated f ≡ Ok o → Each Ended o.file.methods
 all_ended f o e = gives_of WholeEnded (elaborated f) o e (elaborated_ended f)
 
+-- in an elaborated file each jump has its loop
 pub elaborated_loops : (f : File) (o : Outcome) → elaborated f ≡ Ok o → HasItsLoops o.file
 elaborated_loops f o e n m at = (each_at Ended o.file.methods n m (all_ended f o e) at).0
 
@@ -115,5 +116,6 @@ not_both : (a b : Bool) → a ≡ true → (a && b) ≡ false → b ≡ false
 not_both true b h k = k
 not_both false b h k = cc h
 
+-- in an elaborated file each method that answers a value ends with one
 pub elaborated_ends : (f : File) (o : Outcome) → elaborated f ≡ Ok o → HasItsEnds o.file
 elaborated_ends f o e n m at has = not_both (is_some m.result) (can_complete m.body) has (each_at Ended o.file.methods n m (all_ended f o e) at).1

@@ -31,6 +31,7 @@ constant_gives F W n =
     (λ e. either (Shows F W) (bytes_eq n.text (codes "MAX_VALUE")) (typed_as Int (checked.Literal (values.Int (pos 2147483647)))) (broken rules.UnknownName n.span) (λ e. record { sfits = lit< tt }) (λ e. tt))
 
 mutual
+  -- each expression gives one of its type
   pub typed_gives : (F : checked.File) (known : Known) (locals : List Local) (W : List ValueType) → Agrees F known → Ready known locals W → (e : Expression) → Gives (Shows F W) (typed known locals e)
   typed_gives F known locals W a r (Trees.Number text span) = int_fits (nat_lt (digits_value 0 text) 2147483648) (digits_value 0 text) refl
   typed_gives F known locals W a r (Trees.True span) = tt
@@ -84,6 +85,7 @@ mutual
   passed_gives F known locals W a r [] (Trees.More e es) s = tt
   passed_gives F known locals W a r (t ∷ ts) Trees.End s = tt
 
+-- each expression that fits gives one of the wanted type
 pub fitting_gives : (F : checked.File) (known : Known) (locals : List Local) (W : List ValueType) → Agrees F known → Ready known locals W → (t : ValueType) (e : Expression) →
     Gives (IsTyped F W (ValueOf t)) (fitting known locals t e)
 fitting_gives F known locals W a r t e =

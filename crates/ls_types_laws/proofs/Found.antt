@@ -62,6 +62,7 @@ number_next true o n c h e = subst (λ c. c < suc n) (same_some 0 c e) (omega ar
 number_next false None n c h e = absurd (some_none c e)
 number_next false (Some d) n c h e = let below : d < n = h d refl in subst (λ c. c < suc n) (same_some (d + 1) c e) (omega (arith, below))
 
+-- the number of a class is below the number of classes
 pub number_below : (names : List Text) (name : Text) (c : ℕ) → number_of names name ≡ Some c → c < length names
 number_below [] name c e = absurd (some_none c e)
 number_below (n ∷ names) name c e = number_next (bytes_eq n name) (number_of names name) (length names) c (λ d is. number_below names name d is) e

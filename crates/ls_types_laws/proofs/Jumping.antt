@@ -31,23 +31,28 @@ found_low : (k : ℕ) (o : Option (ℕ × LoopPart)) (rule : Rule) (span : Span)
 found_low k None rule span h = tt
 found_low k (Some w) rule span h = h
 
+-- a jump leads to one of the loops
 pub jump_low : (breaking : Bool) (ls : Loops) (label : Option Name) (span : Span) → Gives (λ w. w.0 < length ls) (jump breaking ls label span)
 jump_low breaking [] label span = tt
 jump_low breaking (l ∷ ls) None span = found_low (length (l ∷ ls)) (loop_named breaking (l ∷ ls) None) rules.NoLoop span (loop_low breaking (l ∷ ls) None)
 jump_low breaking (l ∷ ls) (Some n) span = found_low (length (l ∷ ls)) (loop_named breaking (l ∷ ls) (Some n.text)) rules.UnknownLabel n.span (loop_low breaking (l ∷ ls) (Some n.text))
 
+-- the checked form of a `continue` leads to one of the loops
 pub continued_low : (p : LoopPart) (n k : ℕ) → n < k → JumpsInLoops k (continued p n)
 continued_low parts.Turn n k h = h
 continued_low parts.While n k h = h
 continued_low parts.For n k h = h
 
+-- the test of a label changes no answer
 pub fresh_gives : {A : Type 0} (Q : A → Type 0) (ls : Loops) (label : Option Name) (x : Elaborated A) → Gives Q x → Gives Q (fresh_label ls label x)
 fresh_gives Q ls None x h = h
 fresh_gives Q ls (Some n) x h = unless Q (is_some (loop_named true ls (Some n.text))) rules.TwiceDeclared n.span x (λ e. h)
 
+-- one loop more
 pub one_more : (l : Loop) (ls : Loops) → length (l ∷ ls) ≡ length ls + 1
 one_more l ls = omega arith
 
+-- statements in order jump to these loops, if each does
 pub in_sequence : (n : ℕ) (ss : List checked.Statement) → Each (JumpsInLoops n) ss → JumpInLoops n (sequence ss)
 in_sequence n [] h = tt
 in_sequence n (s ∷ ss) h = (h.0, in_sequence n ss h.1)

@@ -43,5 +43,6 @@ elaborated_ranged f =
     (bodies_add names classes.signs f.classes) (λ b k.
     outcome_ranged names classes f.classes b h.0 h.1 s.0 s.1.0 s.1.1 k)))
 
+-- an elaborated file keeps the limits
 pub ranged_when : (f : File) (o : Outcome) → elaborated f ≡ Ok o → IsRanged o.file
 ranged_when f o e = gives_of IsRangedOutcome (elaborated f) o e (elaborated_ranged f)

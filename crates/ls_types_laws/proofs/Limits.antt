@@ -20,7 +20,7 @@ not_false false e = absurd (wrong e)
     wrong : true ≡ false → ⊥
     wrong e = cc
 
--- where there is room for one more
+-- if there is room for one more
 roomy : {A : Type 0} (Q : A → Type 0) (count most : ℕ) (n : Name) (x : Elaborated A) → (count < most → Gives Q x) → Gives Q (with_room count most n x)
 roomy Q count most n x h = unless Q (not (nat_lt count most)) rules.Limit n.span x (λ e. h (ltb-true count most (not_false (nat_lt count most) e)))
 
@@ -166,11 +166,13 @@ ones : (classes : List ClassTree) → total one classes ≡ length classes
 ones [] = refl
 ones (c ∷ cs) = omega (arith, ones cs)
 
+-- the next number is the number of methods and constructors of all classes
 pub signs_number : (names : List Text) (classes : List ClassTree) → Gives (λ out. out.next ≡ 0 + total class_count classes) (class_signs names classes)
 signs_number names classes =
     each_adds (λ (s : Classes). s.next) class_count (one_class names) (λ s c.
     weaker (AddsClass s (class_count c)) (λ out. out.next ≡ s.next + class_count c) (one_class names s c) (one_class_adds names s c) (λ out h. h.next)) (record { signs = []; next = 0 }) classes
 
+-- there are as many declarations as classes
 pub signs_count : (names : List Text) (classes : List ClassTree) → Gives (λ out. length out.signs ≡ length classes) (class_signs names classes)
 signs_count names classes =
     weaker (λ (out : Classes). length out.signs ≡ 0 + total one classes) (λ out. length out.signs ≡ length classes) (class_signs names classes)
@@ -178,6 +180,7 @@ signs_count names classes =
     weaker (AddsClass s (class_count c)) (λ out. length out.signs ≡ length s.signs + 1) (one_class names s c) (one_class_adds names s c) (λ out h. h.count)) (record { signs = []; next = 0 }) classes)
     (λ out e. omega (arith, e, ones classes))
 
+-- no class has over 64 fields, and the file has at most 512 methods and constructors
 pub signs_few : (names : List Text) (classes : List ClassTree) → Gives AreFew (class_signs names classes)
 signs_few names classes =
     each_keeps AreFew (one_class names) (record { signs = []; next = 0 }) classes (record { fields = tt; methods = omega arith }) (λ s c f.
@@ -191,6 +194,7 @@ one_name_gives names c =
     roomy Q (length names) most_classes c.name (Ok (names ++ c.name.text ∷ [])) (λ room.
     let next = length_push names c.name.text in (next, omega (arith, next, room)))))
 
+-- there are as many names as classes
 pub names_count : (classes : List ClassTree) → Gives (λ names. length names ≡ length classes) (class_names classes)
 names_count classes =
     weaker (λ (names : List Text). length names ≡ 0 + total one classes) (λ names. length names ≡ length classes) (class_names classes)
@@ -198,6 +202,7 @@ names_count classes =
     weaker (λ out. (length out ≡ length names + 1) × (length out ≤ 64)) (λ out. length out ≡ length names + 1) (one_name names c) (one_name_gives names c) (λ out h. h.0)) [] classes)
     (λ names e. omega (arith, e, ones classes))
 
+-- there are at most 64 names of classes
 pub names_few : (classes : List ClassTree) → Gives (λ names. length names ≤ 64) (class_names classes)
 names_few classes =
     each_keeps (λ (names : List Text). length names ≤ 64) one_name [] classes (omega arith) (λ names c h.

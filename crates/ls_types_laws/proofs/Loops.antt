@@ -22,9 +22,11 @@ use Rattle.ls_types_laws.proofs.Jumping.{jump_low, continued_low, fresh_gives, o
 abbrev Good : ℕ → WithSlots checked.Statement → Type 0
 Good n s = JumpsInLoops n s.tree
 
+-- the statements of a scope jump to these loops
 abbrev pub Kept : ℕ → Scope → Type 0
 Kept n scope = Each (JumpsInLoops n) scope.statements
 
+-- the test of a declared name changes no answer
 pub may_gives : {A : Type 0} (Q : A → Type 0) (s : Span) (scope : Scope) (name : Name) (x : Elaborated A) → Gives Q x → Gives Q (may_declare s scope name x)
 may_gives Q s scope name x h =
     unless Q (is_some (local_named scope.locals name.text)) rules.TwiceDeclared name.span _ (λ e.
@@ -143,6 +145,7 @@ mutual
   statement_good body loops locals slots (Trees.Perform s) =
       bind (JumpsInLoops (length loops)) (Good (length loops)) (simple body.known locals s) _ (simple_good (length loops) body.known locals s) (λ s h. h)
 
+  -- the items of a block jump to these loops
   pub items_kept : (body : Body) (loops : Loops) (scope : Scope) (is : Items) → Kept (length loops) scope → Gives (Kept (length loops)) (items body loops scope is)
   items_kept body loops scope Trees.NoItem h = h
   items_kept body loops scope (Trees.Do s rest) h =

@@ -27,10 +27,11 @@ use Rattle.ls_types_laws.proofs.Bodies.{Fine, Later, fitting_later, Scoped, in_o
 use Rattle.ls_types_laws.proofs.Done.{ready_with, all_items_give}
 use Rattle.ls_types_laws.proofs.Heads.{Head, head, head_of, type_or, result_or, types_of, member_heads, members_heads, default_head, class_heads, file_heads, type_is, result_is, map_push, length_push, length_types, take_front, members_push, file_push}
 
+-- a method is typed, and evaluates no pair
 abbrev pub IsGood : checked.File → checked.Method → Type 0
 IsGood F m = IsTypedMethod F m × EvaluatesNoPair m.body
 
--- statements in front of a body, where `this` is in slot 0
+-- statements before a body, if `this` is in slot 0
 abbrev pub FrontIs : checked.File → Known → Option ValueType → List checked.Statement → Type 0
 FrontIs F known r front = (W : List ValueType) → slice_get W 0 ≡ Some (types.Class known.own) → Agrees F known → Each (Fine F W r) front
 
@@ -87,6 +88,7 @@ parameter_gives body front before scope p h =
 
 -- methods
 
+-- a method is typed, with this head
 abbrev pub Whole : checked.File → Known → List ValueType → Option ValueType → checked.Method → Type 0
 Whole F known ts r m = (head_of m ≡ head known.own ts r) × (Agrees F known → IsGood F m)
 
@@ -195,12 +197,14 @@ class_methods_give F known hs before members h =
 
 -- the methods of all classes
 
+-- what is known in the class of a number
 abbrev pub known_at : List Text → List ClassSign → ℕ → Known
 known_at names signs own = record { names = names; classes = signs; own = own }
 
 pub agrees_at : (F : checked.File) (names : List Text) (signs : List ClassSign) (m n : ℕ) → Agrees F (known_at names signs m) → Agrees F (known_at names signs n)
 agrees_at F names signs m n a = record { field = a.field; method = a.method; constructor = a.constructor }
 
+-- the methods so far are typed, with the heads of their classes
 abbrev pub Built : checked.File → List Text → List ClassSign → List ClassTree → Bodies → Type 0
 Built F names signs done b = (b.own ≡ length done) × Listed F (known_at names signs 0) (file_heads names 0 done) b.methods
 
@@ -220,6 +224,7 @@ one_body_gives F names signs done b c h =
     zero_plus : (n : ℕ) → n ≡ 0 + n
     zero_plus n = omega arith
 
+-- the methods of a file are typed, with the heads of the file
 pub file_methods_give : (F : checked.File) (names : List Text) (signs : List ClassSign) (classes : List ClassTree) → Gives (Built F names signs classes) (file_methods names signs classes)
 file_methods_give F names signs classes =
     each_over (Built F names signs) (one_body names signs) [] (record { methods = []; own = 0 }) classes (refl, (refl, λ a. tt)) (λ done b c h. one_body_gives F names signs done b c h)

@@ -19,10 +19,12 @@ member_count (parsed.Fields d) = 0
 member_count (parsed.Method sync r n ps body) = 1
 member_count (parsed.Constructor n ps body) = 1
 
+-- one for a default constructor, none if a constructor is written
 abbrev pub default_count : Bool → ℕ
 default_count true = 0
 default_count false = 1
 
+-- how many methods and constructors a class has
 abbrev pub class_count : ClassTree → ℕ
 class_count c = total member_count c.members + default_count (has_constructor c.members)
 

@@ -59,9 +59,11 @@ abbrev pub CalleeIs : File → List SetupName → Callee → List ValueType → 
 CalleeIs F names (Maker name class text) ts = MakerIs F class ts
 CalleeIs F names (Method name method text result) ts = MethodIs F names name method result ts
 
+-- a call that is being read: its arguments so far have the types of the parameters
 abbrev pub IsPending : File → List SetupName → Pending → Type 0
 IsPending F names p = CalleeIs F names p.callee p.types × Front p.types p.values
 
+-- a making that is being read is so
 pub maker_pending : (o : Outcome) → IsTypedOutcome o → (names : List SetupName) (name class_name : Text) (n : Option ℕ) → number_of o.names class_name ≡ n →
     Reads (IsPending o.file names) (maker o name class_name n)
 maker_pending o t names name class_name None e = tt
@@ -77,11 +79,13 @@ callable_pending F names n s name (Some m) at h = answered (is_plain m.result) r
     answered true e = (record { setup_name = s; named = at; there = h m refl; plain = plain_result m.result e }, tt)
     answered false e = tt
 
+-- a method's call that is being read is so
 pub called_on_pending : (o : Outcome) → IsTypedOutcome o → (names : List SetupName) (n : ℕ) (s : Option SetupName) (name : Text) → slice_get names n ≡ s → Reads (IsPending o.file names) (called_on o n s name)
 called_on_pending o t names n None name e = tt
 called_on_pending o t names n (Some s) name e =
     callable_pending o.file names n s name (method_named (methods_in (slice_get o.signs s.class)) name) e (λ m is. t.agrees.method s.class name m is)
 
+-- so it is with one more argument
 pub argument_pending : (F : File) (names : List SetupName) (p : Pending) → IsPending F names p → (v : Value) → IsRanged v → Reads (IsPending F names) (with_argument p v)
 argument_pending F names p h v r = fitting (fits (slice_get p.types (length p.values)) v) refl
   where
@@ -94,6 +98,7 @@ argument_pending F names p h v r = fitting (fits (slice_get p.types (length p.va
 abbrev pub IsReady : File → List SetupName → Pending → Type 0
 IsReady F names p = CalleeIs F names p.callee p.types × AreArguments p.types p.values
 
+-- a call with all its arguments is ready
 pub full_ready : (F : File) (names : List SetupName) (p : Pending) → IsPending F names p → is_full p ≡ true → IsReady F names p
 full_ready F names p h e = (h.0, is_full_so p.types p.values h.1 e)
 
@@ -120,9 +125,11 @@ finished_call F names (Method name method text result) ts vs h fit = record {
   fit = subst (λ us. AreArguments us vs) (sym h.there.parameters) fit;
 }
 
+-- a call that is ready is typed
 pub ready_call : (F : File) (names : List SetupName) (p : Pending) → IsReady F names p → CallIn F (names_after names p.callee) (call_of (length names) p)
 ready_call F names p h = finished_call F names p.callee p.types p.values h.0 h.1
 
+-- the setup names grow by that of a making
 pub names_grow : (names : List SetupName) (callee : Callee) → Grows names (names_after names callee)
 names_grow names (Maker name class text) = grows_by names (record { name = name; class = class } ∷ [])
 names_grow names (Method name method text result) = grows_same names

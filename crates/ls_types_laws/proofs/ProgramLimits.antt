@@ -26,14 +26,14 @@ Reads P (Some a) = P a
 abbrev HasFewCalls : ThreadProgram → Type 0
 HasFewCalls t = length t.calls ≤ 256
 
--- what is read has at most so many threads, and a name for each call at most
+-- what is read has at most this many threads, and at most one name for each call
 record InRoom (most_here counted_here : ℕ) (r : Parts) : Type 0 where
   calls : length r.calls ≤ 256
   few : length r.threads ≤ most_here
   each : Each HasFewCalls r.threads
   names : length r.names ≤ counted_here + 256 * length r.threads
 
--- behind a block there are as many threads as there may be, and no call of the next
+-- after a block there may be as many threads as the limit, and no call of the next
 abbrev most : Stage → ℕ
 most ThreadPrograms.AtThread = suc most_threads
 most _ = most_threads
@@ -178,7 +178,7 @@ after_room o None ks h = tt
 after_room o (Some r) [] h = h
 after_room o (Some r) (k ∷ ks) h = after_room o (stepped o r.parts r.stage k) ks (step_room o r.parts r.stage k h)
 
--- a program that is read whole ends behind a block
+-- a program that is read whole ends after a block
 ranged : (r : Parts) → InRoom (suc most_threads) 0 r → IsRangedProgram (record { names = r.names; threads = r.threads })
 ranged r h =
     let few = h.few in
@@ -205,5 +205,6 @@ text_reads : (o : Outcome) (b : Bool) (text : Text) → Reads IsRangedProgram (i
 text_reads o true text = tokens_read o (tokens_of text)
 text_reads o false text = tt
 
+-- a program that is read keeps the limits
 pub program_ranged : (o : Outcome) (text : Text) (p : Program) → program_of o text ≡ Some p → IsRangedProgram p
 program_ranged o text p e = subst (Reads IsRangedProgram) e (text_reads o (nat_le (length text) ThreadPrograms.most_bytes) text)

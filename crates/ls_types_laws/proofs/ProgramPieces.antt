@@ -1,4 +1,4 @@
--- Values that are read one after another, and what holds of what is read, where it is.
+-- Values that are read one after another, and what holds of them.
 use Rattle.std.proofs.Common.{◌≡◌, ℕ, zero, suc, ◌+◌, ◌*◌, ◌-◌, ◌<◌, ◌≤◌, refl, Bool, true, false, List, [], ◌∷◌, ◌++◌, length, Option, Some, None, min, pos, negsuc, nat_lt, ◌==◌, ltb-true, eqb-true, lit<, lit≤, arith, if◌then◌else◌}
 use Rattle.std.specs.Prelude.{slice_get, FitsSigned}
 use mir.Syntax.{w32}
@@ -11,6 +11,7 @@ use Rattle.ls_types_elaboration.specs.Trees.{Text}
 use Rattle.ls_types_elaboration.specs.TypedExpressions.{digits_value}
 use Rattle.ls_types_programs.specs.ProgramCalls.{is_plain, fits, plain_number, minus_number}
 
+-- what is read has a property
 abbrev pub Reads : {A : Type 0} → (A → Type 0) → Option A → Type 0
 Reads P (Some a) = P a
 Reads P None = Unit {0}
@@ -18,7 +19,7 @@ Reads P None = Unit {0}
 pub no_truth : false ≡ true → ⊥
 no_truth e = cc
 
--- an int of 32 bits, where it is an int
+-- if it is an int, it has 32 bits
 abbrev pub IsRanged : Value → Type 0
 IsRanged (values.Int z) = FitsSigned w32 z
 IsRanged _ = Unit {0}
@@ -34,6 +35,7 @@ plain_ranged : (b : Bool) (n : ℕ) → nat_lt n 2147483648 ≡ b → Reads IsRa
 plain_ranged true n e = record { sfits = ltb-true n 2147483648 e }
 plain_ranged false n e = tt
 
+-- a number without a minus is an int of 32 bits
 pub plain_number_ranged : (text : Text) → Reads IsRanged (plain_number text)
 plain_number_ranged text = plain_ranged (nat_lt (digits_value 0 text) 2147483648) (digits_value 0 text) refl
 
@@ -45,6 +47,7 @@ negated_ranged (suc n) h false e = record { sfits = below n h }
     below : (n : ℕ) → suc n ≤ 2147483648 → suc n - 1 < 2147483648
     below n h = omega (arith, h)
 
+-- a number after a minus is an int of 32 bits
 pub minus_number_ranged : (text : Text) → IsRanged (minus_number text)
 minus_number_ranged text = negated_ranged (digits_value 0 text) (digits_small 0 text (lit≤ tt)) (digits_value 0 text == 0) refl
 
@@ -59,6 +62,7 @@ fitting types.Int (values.Int z) e r = r
 fitting types.Boolean (values.Boolean b) e r = tt
 fitting _ _ e r = absurd (no_truth e)
 
+-- one more argument that fits
 pub front_push : (ts : List ValueType) (vs : List Value) (v : Value) → Front ts vs → fits (slice_get ts (length vs)) v ≡ true → IsRanged v → Front ts (vs ++ v ∷ [])
 front_push [] [] v h e r = absurd (no_truth (none v e))
   where
@@ -77,9 +81,11 @@ front_full (t ∷ ts) [] h e = absurd (omega (arith, e))
 front_full [] (v ∷ vs) h e = absurd h
 front_full (t ∷ ts) (v ∷ vs) h e = (h.0, front_full ts vs h.1 (omega (arith, e)))
 
+-- a call with as many arguments as parameters has all its arguments
 pub is_full_so : (ts : List ValueType) (vs : List Value) → Front ts vs → (length vs == length ts) ≡ true → AreArguments ts vs
 is_full_so ts vs h e = front_full ts vs h (eqb-true (length vs) (length ts) e)
 
+-- a method that answers no reference may be called
 pub plain_result : (r : Option ValueType) → is_plain r ≡ true → IsPlainResult r
 plain_result None e = tt
 plain_result (Some types.Int) e = tt

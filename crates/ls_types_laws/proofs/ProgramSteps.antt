@@ -167,5 +167,6 @@ text_reads : (o : Outcome) → IsTypedOutcome o → (b : Bool) (text : Text) →
 text_reads o t true text = tokens_read o t (tokens_of text)
 text_reads o t false text = tt
 
+-- a program that is read is typed
 pub program_reads : (o : Outcome) → IsTypedOutcome o → (text : Text) (p : Program) → program_of o text ≡ Some p → IsTypedProgram o.file p
 program_reads o t text p e = subst (Reads (IsTypedProgram o.file)) e (text_reads o t (nat_le (length text) ThreadPrograms.most_bytes) text)

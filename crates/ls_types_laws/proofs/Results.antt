@@ -1,33 +1,39 @@
--- What holds of an elaboration's answer, where it has one.
+-- What holds of an elaboration's answer, if it has one.
 use Rattle.std.proofs.Common.{◌≡◌, ℕ, ◌+◌, refl, sym, subst, ap, arith, Bool, true, false, List, [], ◌∷◌, ◌++◌, append_assoc, Ok, Err}
 use Rattle.std.specs.Prelude.{if◌then◌else◌}
 use Rattle.ls_lexer.specs.declared.token.Span.{Span}
 use Rattle.ls_types_elaboration.specs.declared.rule.Rule.{Rule}
 use Rattle.ls_types_elaboration.specs.Elaborated.{Elaborated, with_ok, unless_broken, each}
 
+-- if the elaboration has an answer, the answer has a property
 abbrev pub Gives : {A : Type 0} → (A → Type 0) → Elaborated A → Type 0
 Gives P (Ok a) = P a
 Gives P (Err e) = Unit {0}
 
+-- one elaboration, and then another
 pub bind : {A B : Type 0} (P : A → Type 0) (Q : B → Type 0) (x : Elaborated A) (go : A → Elaborated B) → Gives P x → ((a : A) → P a → Gives Q (go a)) → Gives Q (with_ok x go)
 bind P Q (Ok a) go h k = k a h
 bind P Q (Err e) go h k = tt
 
+-- nothing is asked of the answer
 pub any : {A : Type 0} (x : Elaborated A) → Gives (λ _. Unit {0}) x
 any (Ok a) = tt
 any (Err e) = tt
 
--- where nothing need be known of the first
+-- if nothing need be known of the first answer
 pub after : {A B : Type 0} (Q : B → Type 0) (x : Elaborated A) (go : A → Elaborated B) → ((a : A) → Gives Q (go a)) → Gives Q (with_ok x go)
 after Q x go k = bind (λ _. Unit {0}) Q x go (any x) (λ a z. k a)
 
+-- the answer of an elaboration has the property
 pub gives_of : {A : Type 0} (P : A → Type 0) (x : Elaborated A) (a : A) → x ≡ Ok a → Gives P x → P a
 gives_of P x a e h = subst (Gives P) e h
 
+-- an answer has both properties
 pub both : {A : Type 0} (P Q : A → Type 0) (x : Elaborated A) → Gives P x → Gives Q x → Gives (λ a. P a × Q a) x
 both P Q (Ok a) h k = (h, k)
 both P Q (Err e) h k = tt
 
+-- an answer has a weaker property
 pub weaker : {A : Type 0} (P Q : A → Type 0) (x : Elaborated A) → Gives P x → ((a : A) → P a → Q a) → Gives Q x
 weaker P Q (Ok a) h k = k a h
 weaker P Q (Err e) h k = tt
@@ -37,10 +43,12 @@ pub later : {A C : Type 0} (P : C → A → Type 0) (x : Elaborated A) → ((c :
 later P (Ok a) h = h
 later P (Err e) h = tt
 
+-- an elaboration that goes on if a rule is kept
 pub unless : {A : Type 0} (Q : A → Type 0) (b : Bool) (rule : Rule) (span : Span) (x : Elaborated A) → (b ≡ false → Gives Q x) → Gives Q (unless_broken b rule span x)
 unless Q true rule span x h = tt
 unless Q false rule span x h = h refl
 
+-- one of two elaborations, by a test
 pub either : {A : Type 0} (Q : A → Type 0) (b : Bool) (x y : Elaborated A) → (b ≡ true → Gives Q x) → (b ≡ false → Gives Q y) → Gives Q (if b then x else y)
 either Q true x y h k = h refl
 either Q false x y h k = k refl

@@ -1,4 +1,4 @@
--- What the type of an elaborated expression says of it, and what fits where.
+-- What the type of an elaborated expression says of it, and what fits a place.
 use Rattle.std.proofs.Common.{◌≡◌, refl, sym, subst, ap, true, false, List, Ok, eqb-true}
 use Rattle.ls_lexer.specs.declared.token.Span.{Span}
 use Rattle.ls_events.specs.declared.value.Value.TheVariants as values
@@ -22,14 +22,17 @@ use Rattle.ls_types_elaboration.specs.StaticTypes.{Typed, typed_as, same_type, i
 use Rattle.ls_types_elaboration.specs.Operators.{unary_of, of_operands, computed, compared, binary_of}
 use Rattle.ls_types_laws.proofs.Results.{Gives, bind, either}
 
+-- an expression is typed as its static type says
 abbrev pub Has : checked.File → List ValueType → Static → checked.Expression → Type 0
 Has F W (Of t) e = IsTyped F W (ValueOf t) e
 Has F W NullType e = e ≡ checked.Literal (values.Reference 0)
 Has F W Void e = IsTyped F W NoValue e
 
+-- an expression with its static type is so
 abbrev pub Shows : checked.File → List ValueType → Typed → Type 0
 Shows F W x = Has F W x.static x.expression
 
+-- false is not true
 pub no_truth : false ≡ true → ⊥
 no_truth e = cc
 
@@ -55,10 +58,12 @@ fits_typed F W t (Of u) e h k = subst (λ t. IsTyped F W (ValueOf t) e) (sym (sa
 fits_typed F W t NullType e h k = subst (λ e. IsTyped F W (ValueOf t) e) (sym k) (null_typed F W t h)
 fits_typed F W t Void e h k = absurd (no_truth h)
 
+-- an expression that fits has the wanted type
 pub as_type_gives : (F : checked.File) (W : List ValueType) (t : ValueType) (s : Span) (x : Typed) → Shows F W x → Gives (λ e. IsTyped F W (ValueOf t) e) (as_type t s x)
 as_type_gives F W t s x h =
     either (λ e. IsTyped F W (ValueOf t) e) (fits t x.static) (Ok x.expression) (broken rules.WrongType s) (λ f. fits_typed F W t x.static x.expression f h) (λ f. tt)
 
+-- an expression with a value keeps its type
 pub as_value_gives : (F : checked.File) (W : List ValueType) (s : Span) (x : Typed) → Shows F W x → Gives (Shows F W) (as_value s x)
 as_value_gives F W s x h = either (Shows F W) (is_void x.static) (broken rules.WrongType s) (Ok x) (λ f. tt) (λ f. h)
 
@@ -72,12 +77,14 @@ array_typed F W (Of (Markable c)) e h k = absurd (no_truth h)
 array_typed F W NullType e h k = absurd (no_truth h)
 array_typed F W Void e h k = absurd (no_truth h)
 
+-- an expression that is an array has the type of arrays
 pub as_array_gives : (F : checked.File) (W : List ValueType) (s : Span) (x : Typed) → Shows F W x → Gives (λ e. IsTyped F W (ValueOf BooleanArray) e) (as_array s x)
 as_array_gives F W s x h =
     either (λ e. IsTyped F W (ValueOf BooleanArray) e) (is_array x.static) (Ok x.expression) (broken rules.WrongType s) (λ f. array_typed F W x.static x.expression f h) (λ f. tt)
 
 -- operators
 
+-- a unary operator gives an expression of its type
 pub unary_gives : (F : checked.File) (W : List ValueType) (op : UnaryOp) (s : Span) (x : Typed) → Shows F W x → Gives (Shows F W) (unary_of op s x)
 unary_gives F W Minus s x h = bind (λ e. IsTyped F W (ValueOf Int) e) (Shows F W) (as_type Int s x) _ (as_type_gives F W Int s x h) (λ e k. (refl, k))
 unary_gives F W Not s x h = bind (λ e. IsTyped F W (ValueOf Boolean) e) (Shows F W) (as_type Boolean s x) _ (as_type_gives F W Boolean s x h) (λ e k. (refl, k))
@@ -110,6 +117,7 @@ compared_gives F W op s l r x y is o h k =
     (λ c. let z : (t : ValueType) × IsTyped F W (ValueOf t) a.expression × IsTyped F W (ValueOf t) b.expression = compared_typed F W a.static b.static a.expression b.expression c p q in
     (z.0, ap (λ u. ValueOf u) is, o z.0, z.1, z.2)) (λ c. tt)))
 
+-- a binary operator gives an expression of its type
 pub binary_gives : (F : checked.File) (W : List ValueType) (op : BinaryOp) (s l r : Span) (x y : Typed) → Shows F W x → Shows F W y → Gives (Shows F W) (binary_of op s l r x y)
 binary_gives F W written.Or s l r x y h k = operands_give F W Boolean (λ a b. typed_as Boolean (checked.Or a b)) l r x y h k (λ a b p q. (refl, p, q))
 binary_gives F W written.And s l r x y h k = operands_give F W Boolean (λ a b. typed_as Boolean (checked.And a b)) l r x y h k (λ a b p q. (refl, p, q))

@@ -12,6 +12,7 @@ use Rattle.ls_types_laws.proofs.Limited.{ranged_when}
 use Rattle.ls_types_laws.proofs.ProgramSteps.{program_reads}
 use Rattle.ls_types_laws.proofs.ProgramLimits.{program_ranged}
 
+-- the law: an elaborated file is well typed
 pub well_typed : (f : File) (o : Outcome) → elaborated f ≡ Ok o → IsWellTyped o.file
 well_typed f o e =
     let t : IsTypedOutcome o = typed_when f o e in
@@ -24,6 +25,7 @@ well_typed f o e =
       limits = ranged_when f o e;
     }
 
+-- the law: a program that is read is well typed
 pub well_typed_program : (f : File) (o : Outcome) (text : Text) (p : Program) → elaborated f ≡ Ok o → program_of o text ≡ Some p → IsWellTypedProgram o.file p
 well_typed_program f o text p e reads =
     let t : IsTypedOutcome o = typed_when f o e in

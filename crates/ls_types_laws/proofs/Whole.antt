@@ -91,5 +91,6 @@ elaborated_typed f =
     (later (λ (F : checked.File) (b : Bodies). Built F names classes.signs f.classes b) (file_methods names classes.signs f.classes) (λ F. file_methods_give F names classes.signs f.classes)) (λ b built.
     outcome_typed names classes f.classes b long s built)))
 
+-- an elaborated file is typed, and agrees with what its text declares
 pub typed_when : (f : parsed.File) (o : Outcome) → elaborated f ≡ Ok o → IsTypedOutcome o
 typed_when f o e = gives_of IsTypedOutcome (elaborated f) o e (elaborated_typed f)

@@ -1,4 +1,4 @@
-//! Typing of operators: what an operator makes of operands that are typed, or a rule that is broken and where.
+//! Typing of operators: what an operator makes of typed operands, or a broken rule and its place.
 #![tactic(auto)]
 
 pub mod operators;

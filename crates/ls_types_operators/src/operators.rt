@@ -1,4 +1,4 @@
-// The operators on operands that are typed.
+// The operators on typed operands.
 
 ghost use Rattle.std.specs.Prelude.{◌≡◌, if◌then◌else◌};
 ghost use Rattle.ls_tree.specs.declared.tree.BinaryOp.TheVariants.{And as and_written, Or as or_written};
@@ -17,7 +17,7 @@ use ls_types_elaboration::static_types::{Static, Typed, as_type, as_value, compa
 use ls_types_elaboration::together::{also, two};
 use std::alloc::{AllocError, Global};
 
-/// Where a binary expression stands, and its operands.
+/// The span of a binary expression, and the spans of its operands.
 #[derive(Copy)]
 pub struct Spans {
     pub whole: Span,
@@ -31,7 +31,8 @@ impl Clone for Spans {
     }
 }
 
-/// A unary operator on an operand that stands at `span`.
+/// A unary operator on an operand with this span. If the operand doesn't fit, the rule `WrongType` is broken. Else the
+/// only refusal is that memory ran out.
 pub fn unary_of(alloc: Global, op: UnaryOp, span: Span, x: Typed) -> Result<Typed, CheckFault>
     ensures { Gives typed_of result (the_unary op span (typed_of x)) }
 {
@@ -106,7 +107,8 @@ fn decided(alloc: Global, and: bool, spans: Spans, x: Typed, y: Typed) -> Result
     }
 }
 
-/// A binary operator with its operands.
+/// A binary operator with its operands. If an operand doesn't fit, the rule `WrongType` is broken. Else the only
+/// refusal is that memory ran out.
 pub fn binary_of(
     alloc: Global,
     op: BinaryOp,

@@ -18,6 +18,7 @@ abbrev rule_or : {A : Type 0} → Rule → Elaborated A → Rule
 rule_or other (Ok a) = other
 rule_or other (Err b) = b.rule
 
+-- answers that differ only in places are the same
 pub same_answer : {A : Type 0} (x y : Elaborated A) → anywhere x ≡ anywhere y → SameAnswer x y
 same_answer (Ok a) (Ok b) e = ap (value_or a) e
 same_answer (Ok a) (Err c) e = cc e

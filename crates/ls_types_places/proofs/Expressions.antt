@@ -27,6 +27,7 @@ use Rattle.ls_parser_placing.specs.Unplaced.{nowhere, unplaced, all_unplaced, un
 use Rattle.ls_types_places.proofs.Anywhere.{anywhere}
 use Rattle.ls_types_places.proofs.Steps.{bind, blank, choice}
 
+-- an expression without places is nowhere
 pub span_nowhere : (e : Expression) → span_of (unplaced e) ≡ nowhere
 span_nowhere (Trees.Number text span) = refl
 span_nowhere (Trees.True span) = refl
@@ -158,6 +159,7 @@ field_same b' b n x x' known same e =
     ∙ choice b _ _ _ _ (constant_same n) (bind x x' _ _ e (λ y. field_at_same known y.static y.expression n))
 
 mutual
+  -- an expression without places has the same type
   pub typed_same : (known : Known) (locals : List Local) (e : Expression) → typed known locals (unplaced e) ≡ anywhere (typed known locals e)
   typed_same known locals (Trees.Number text span) = refl
   typed_same known locals (Trees.True span) = refl
@@ -211,6 +213,7 @@ mutual
       bind (as_type t (span_of e) x) (as_type t (span_of (unplaced e)) x) _ _ (as_type_same t (span_of (unplaced e)) (span_of e) x (span_nowhere e)) (λ a.
       bind (passed known locals ts es span) (passed known locals ts (all_unplaced es) nowhere) _ _ (passed_same known locals ts es span) (λ rest. refl)))
 
+-- an expression without places fits the same type
 pub fitting_same : (known : Known) (locals : List Local) (t : ValueType) (e : Expression) → fitting known locals t (unplaced e) ≡ anywhere (fitting known locals t e)
 fitting_same known locals t e =
     bind (typed known locals e) (typed known locals (unplaced e)) _ _ (typed_same known locals e) (λ x.

@@ -176,6 +176,7 @@ file_same f =
     bind (file_methods names classes.signs f.classes) (file_methods names classes.signs (map unplaced_class f.classes)) _ _
     (each_same (one_body names classes.signs) (one_body names classes.signs) unplaced_class (record { methods = []; own = 0 }) f.classes (λ s a. one_body_same names classes.signs s a)) (λ bodies. refl)))
 
+-- the law: the answer doesn't depend on places
 pub no_places : NoPlaces
 no_places f g same =
     same_answer (elaborated f) (elaborated g) (sym (file_same f) ∙ ap elaborated same ∙ file_same g)

@@ -31,6 +31,7 @@ class_same : (make : ℕ → ValueType) (o : Option ℕ) (s : Span) → class_ty
 class_same make None s = refl
 class_same make (Some c) s = refl
 
+-- the type of a name without places
 pub type_same : (names : List Text) (t : TypeName) → type_of names (unplaced_type t) ≡ anywhere (type_of names t)
 type_same names Trees.Int = refl
 type_same names Trees.Boolean = refl
@@ -38,10 +39,12 @@ type_same names Trees.BooleanArray = refl
 type_same names (Trees.Class n) = choice (is_lock_name n.text) _ _ _ _ refl (class_same (λ c. types.Class c) (number_of names n.text) n.span)
 type_same names (Trees.Markable n) = class_same (λ c. types.Markable c) (number_of names n.text) n.span
 
+-- the result's type without places
 pub result_same : (names : List Text) (t : Option TypeName) → result_of names (option_map unplaced_type t) ≡ anywhere (result_of names t)
 result_same names None = refl
 result_same names (Some t) = bind (type_of names t) (type_of names (unplaced_type t)) _ _ (type_same names t) (λ u. refl)
 
+-- whether a name may be declared, without places
 pub may_same : {A : Type 0} (s : Span) (scope : Scope) (n : Name) (x x' : Elaborated A) → x' ≡ anywhere x
     → may_declare nowhere scope (unplaced_name n) x' ≡ anywhere (may_declare s scope n x)
 may_same s scope n x x' e =
@@ -150,6 +153,7 @@ returned_same known locals (Some t) (Some e) s =
     bind (fitting known locals t e) (fitting known locals t (unplaced e)) _ _ (fitting_same known locals t e) (λ v. refl)
 
 mutual
+  -- a statement without places is elaborated to the same statement
   pub statement_same : (body : Body) (loops : Loops) (locals : List Local) (slots : Slots) (s : Statement)
       → statement (unplaced_body body) loops locals slots (unplaced_statement s) ≡ anywhere (statement body loops locals slots s)
   statement_same body loops locals slots (Trees.Block is) =
@@ -206,6 +210,7 @@ mutual
   statement_same body loops locals slots (Trees.Perform s) =
       bind (simple body.known locals s) (simple body.known locals (unplaced_simple s)) _ _ (simple_same body.known locals s) (λ s. refl)
 
+  -- the items of a block without places are elaborated to the same statements
   pub items_same : (body : Body) (loops : Loops) (scope : Scope) (is : Items)
       → items (unplaced_body body) loops scope (unplaced_items is) ≡ anywhere (items body loops scope is)
   items_same body loops scope Trees.NoItem = refl

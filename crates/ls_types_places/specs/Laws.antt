@@ -6,7 +6,7 @@ use Rattle.ls_types_elaboration.specs.Elaboration.{elaborated}
 use Rattle.ls_parser_placing.specs.Unplaced.{unplaced_file}
 use Rattle.ls_parser_placing.specs.Files.{IsFileOf}
 
--- one outcome, or one rule that is broken, wherever that is
+-- the same outcome, or the same broken rule, at any place
 abbrev pub SameAnswer : {A : Type 0} → Elaborated A → Elaborated A → Type 0
 SameAnswer (Ok a) (Ok b) = a ≡ b
 SameAnswer (Err b) (Err c) = b.rule ≡ c.rule
@@ -16,6 +16,6 @@ SameAnswer _ _ = ⊥
 abbrev pub NoPlaces : Type 0
 NoPlaces = (f g : File) → unplaced_file f ≡ unplaced_file g → SameAnswer (elaborated f) (elaborated g)
 
--- two files that one text is: so where one is refused, every one is
+-- two files of one text: if one is refused, the other is
 abbrev pub OneAnswer : Type 0
 OneAnswer = (text : List ℕ) (f g : File) → IsFileOf text f → IsFileOf text g → SameAnswer (elaborated f) (elaborated g)

@@ -5,13 +5,13 @@ ghost use Rattle.ls_types_places.specs.Laws.{NoPlaces, OneAnswer};
 
 use ls_parser::parse::one_file;
 
-/// Two trees that differ in their places alone have one outcome, or break one rule.
+/// If two trees differ in their places alone, they have the same outcome, or break the same rule.
 pub fn no_places()
     ensures { NoPlaces }
 {}
 
-/// Two files that one text is have one outcome, or break one rule: so a text that is refused is refused for every
-/// file that it is.
+/// If two files are both files of one text, they have the same outcome, or break the same rule. So a text that is
+/// refused is refused for each of its files.
 pub fn one_answer()
     ensures { OneAnswer }
 {

@@ -41,7 +41,7 @@ module _ (o : Outcome) where
   stops ks e p more h is =
       some_none p (sym (ap whole (after_more (Some beginning) ks more ∙ ap (λ x. after o x more) e)) ∙ tokens_read o p (ks ++ more) h is)
 
-  -- the reading at a statement, or at a thread, behind a program
+  -- the reading at a statement, or at a thread, after a program
   record AtStatement (p : Program) (ks : List Lexeme) : Type 0 where
     r : Parts
     read : after o (Some beginning) ks ≡ Some (at r ThreadPrograms.AtCall)
@@ -92,7 +92,7 @@ module _ (o : Outcome) where
       by None e h = absurd (some_none p h)
       by (Some q) e h = by_end q e (ended q.stage) refl h
 
-  -- what is read behind a statement's beginning
+  -- what is read after a statement's beginning
   behind : (p : Program) (ks js : List Lexeme) (a : AtStatement p ks) → after o (Some (at a.r ThreadPrograms.AtCall)) js ≡ None → GoesNowhere o (ks ++ js)
   behind p ks js a e = stops (ks ++ js) (after_more (Some beginning) ks js ∙ ap (λ x. after o x js) a.read ∙ e)
 
@@ -124,7 +124,7 @@ module _ (o : Outcome) where
       yes_either true = refl
       yes_either false = refl
 
-  -- a thread's name that can't stand
+  -- a thread's name that can't come
   no_thread_name : (r : Parts) (name : Text) → (not (bytes_eq name (codes "all")) && not (thread_named r.threads name)) ≡ false
       → after o (Some (at r ThreadPrograms.AtThread)) (Named (codes "thread") ∷ Named name ∷ []) ≡ None
   no_thread_name r name e = by (nat_le (length r.threads) most_threads)
@@ -201,7 +201,7 @@ module _ (o : Outcome) where
       joined ks (Named (codes "thread") ∷ []) (Named t.name ∷ [])
       (behind_thread p ks (Named (codes "thread") ∷ Named t.name ∷ []) a (no_thread_name a.r t.name (ap (λ b. not (bytes_eq t.name (codes "all")) && not b) there ∙ no_both (not (bytes_eq t.name (codes "all"))))))
 
-  -- behind the beginning of a call nothing goes on where no arguments do
+  -- after the beginning of a call nothing goes on if no arguments do
   callee_refused_at : (p : Program) (ks front js : List Lexeme) (callee : Text) (types : List ValueType) (b : IsBefore o p ks) → IsCallee o p front callee types
       → ((r : Parts) → r.names ≡ p.names → r.threads ++ record { name = r.name; calls = r.calls } ∷ [] ≡ p.threads → (c : Callee) → From o r (ThreadPrograms.AtFirst (record { callee = c; types = types; values = [] })) js ≡ None)
       → GoesNowhere o ((ks ++ front) ++ Named callee ∷ Marked signs.OpenParen ∷ js)
@@ -379,7 +379,7 @@ module _ (o : Outcome) where
       by false e = refl
       by true e = absurd (omega (arith, h, leb-true n most_threads e))
 
-  -- a call that fits, behind 256
+  -- a call that fits, after 256 others
   call_past : (p : Program) (ks front js : List Lexeme) (callee : Text) (types : List ValueType) (vs : List Value) (b : IsBefore o p ks) → ((r : Parts) → r.names ≡ p.names → r.threads ++ record { name = r.name; calls = r.calls } ∷ [] ≡ p.threads → 256 ≤ length r.calls)
       → IsCallee o p front callee types → Arguments vs js [] → AreFor types vs → GoesNowhere o ((ks ++ front) ++ Named callee ∷ Marked signs.OpenParen ∷ (js ++ Marked signs.Semicolon ∷ []))
   call_past p ks front js callee types vs b many there spelling fit =
@@ -397,5 +397,6 @@ module _ (o : Outcome) where
       (call_past p ks front js callee types vs b
       (λ r names threads. subst (λ (u : ThreadProgram). 256 ≤ length u.calls) (sym (last_same r.threads ts (record { name = r.name; calls = r.calls }) t (threads ∙ parts))) many) there spelling fit)
 
+-- the law: after a fault the tokens are not the beginning of any program
 pub faults_stand : FaultsStand
 faults_stand o ks js = (bad o ks js, unknown o ks js, reference o ks js, past o ks)

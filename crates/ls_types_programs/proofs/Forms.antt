@@ -24,18 +24,23 @@ use Rattle.ls_types_programs.specs.Faults.{GoesOn}
 use Rattle.ls_types_programs.proofs.Pieces.{no_truth, some_none, same_some, digits_most, append_nil}
 use Rattle.ls_types_programs.proofs.Rest.{gives, with_values, Argued, Argues}
 
+-- this token, and then tokens of a kind
 pub data Begins (k : Lexeme) (P : List Lexeme → Type 0) : List Lexeme → Type 0 where
   By : {ks : List Lexeme} → P ks → Begins k P (k ∷ ks)
 
+-- the other calls of a block, and then threads
 pub data LeftCalls (names : List SetupName) (b : Bool) (ks : List Lexeme) : Type 0 where
   Left : {cs : List ProgramCall} {rest : List Lexeme} {ts : List ThreadProgram} → spelled.Calls b names cs ks rest → Threads names ts rest → LeftCalls names b ks
 
+-- values of a kind, a semicolon, and the other calls
 pub data LeftValues (names : List SetupName) (Kind : List Value → List Lexeme → List Lexeme → Type 0) (b : Bool) (ks : List Lexeme) : Type 0 where
   Valued : {vs : List Value} {rest : List Lexeme} → Kind vs ks (Marked signs.Semicolon ∷ rest) → LeftCalls names b rest → LeftValues names Kind b ks
 
+-- the other threads
 pub data LeftThreads (names : List SetupName) (ks : List Lexeme) : Type 0 where
   Ends : {ts : List ThreadProgram} → Threads names ts ks → LeftThreads names ks
 
+-- what the grammar lets follow in a stage
 abbrev pub Follows : List SetupName → Bool → Stage → List Lexeme → Type 0
 Follows names b ThreadPrograms.AtSetup ks = (b ≡ true) × Begins (Named (codes "setup")) (Begins (Marked signs.OpenBrace) (LeftCalls names true)) ks
 Follows names b ThreadPrograms.AtBlock ks = Begins (Marked signs.OpenBrace) (LeftCalls names b) ks
@@ -53,6 +58,7 @@ Follows names b (ThreadPrograms.AtSemicolon p) ks = Begins (Marked signs.Semicol
 Follows names b ThreadPrograms.AtThread ks = (b ≡ false) × LeftThreads names ks
 Follows names b ThreadPrograms.AtThreadName ks = (b ≡ false) × LeftThreads names (Named (codes "thread") ∷ ks)
 
+-- after a block, the next block isn't the first
 pub not_first : (r : Parts) (t : ThreadProgram) → nat_lt (length (r.threads ++ t ∷ [])) 1 ≡ false
 not_first r t = by (nat_lt (length (r.threads ++ t ∷ [])) 1) refl
   where
@@ -60,10 +66,11 @@ not_first r t = by (nat_lt (length (r.threads ++ t ∷ [])) 1) refl
     by false e = refl
     by true e = absurd (omega (arith, length-append r.threads (t ∷ []), ltb-true (length (r.threads ++ t ∷ [])) 1 e))
 
+-- after a refusal nothing is read
 pub after_none : (o : Outcome) (ks : List Lexeme) (q : Reading) → after o None ks ≡ Some q → ⊥
 after_none o ks q e = some_none q e
 
--- ---- what the grammar lets stand is taken, or refused for another reason than its form
+-- ---- what the grammar lets come is taken, or refused for another reason than its form
 
 module _ (o : Outcome) (names : List SetupName) where
   abbrev Taken : Why → List Lexeme → Option Reading → Type 0
@@ -192,7 +199,7 @@ form_stands o ks k q e none form h =
     let s : Spells h.0 (ks ++ k ∷ h.1) = subst (λ ls. Spells h.0 ls) (append_assoc ks (k ∷ []) h.1) h.2 in
     subst (Taken o h.0.names (why o q.parts q.stage k) h.1) none (step_taken o h.0.names q.parts q.stage k h.1 (spelled_on o ks (k ∷ h.1) q h.0 e s)) form
 
--- and where the tokens end before a block's end, they spell no program
+-- and if the tokens end before a block's end, they spell no program
 pub end_stands : (o : Outcome) (ks : List Lexeme) (q : Reading) → after o (Some beginning) ks ≡ Some q → ended q.stage ≡ false → (p : Program) → Spells p ks → ⊥
 end_stands o ks q e no_end p h = by q.stage no_end (spelled_on o ks [] q p e (subst (λ ls. Spells p ls) (sym (append_nil ks)) h))
   where

@@ -51,5 +51,6 @@ spelled_named : (p : Program) (ks : List Lexeme) → Spells p ks → Formed ks �
 spelled_named p ks (spelled.Whole calls more) h zero t e = subst (λ (v : ThreadProgram). IsName v.name) (same_some _ t e) h.0
 spelled_named p ks (spelled.Whole calls more) h (suc i) t e = threads_named more (behind_calls calls h.1.1) i t e
 
+-- the law: the name of each thread is a name
 pub threads_are_named : ThreadsAreNamed
 threads_are_named o text p h = spelled_named p h.tokens h.spelled (all_formed h.tokens (tokens_are_formed text h.tokens h.lexed))

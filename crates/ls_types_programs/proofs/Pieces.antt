@@ -20,58 +20,71 @@ use Rattle.ls_types_programs.specs.ProgramCalls.{is_plain, fits, negated, setup_
 use Rattle.ls_types_programs.specs.ThreadPrograms.{is_sign, is_word, name_in, number_in, thread_named}
 use Rattle.ls_types_programs.specs.Programs.{type_of, AreFor, IsPlain, IsNewName, IsNewThread}
 
+-- false is not true
 pub no_truth : false ≡ true → ⊥
 no_truth e = cc
 
+-- none is not some
 pub some_none : {A : Type 0} (x : A) → None ≡ Some x → ⊥
 some_none x e = cc
 
+-- equal options have equal values
 pub same_some : {A : Type 0} (x y : A) → Some x ≡ Some y → x ≡ y
 same_some x y e = cc
 
+-- if a conjunction is true, both parts are true
 pub both : (a b : Bool) → (a && b) ≡ true → (a ≡ true) × (b ≡ true)
 both true b e = (refl, e)
 both false b e = absurd (no_truth e)
 
+-- if a negation is true, the negated is false
 pub not_false : (b : Bool) → not b ≡ true → b ≡ false
 not_false false e = refl
 not_false true e = absurd (no_truth e)
 
 -- ---- tokens
 
+-- a token that is tested to be a sign is that sign
 pub sign_is : (s : Sign) (k : Lexeme) → is_sign s k ≡ true → k ≡ Marked s
 sign_is s (Named text) e = absurd (no_truth e)
 sign_is s (Numeral text) e = absurd (no_truth e)
 sign_is s (Reserved word) e = absurd (no_truth e)
 sign_is s (Marked x) e = ap (λ y. Marked y) (same_true sign_type tt x s e)
 
+-- a token that is tested to be a word is that word
 pub word_is : (w : Word) (k : Lexeme) → is_word w k ≡ true → k ≡ Reserved w
 word_is w (Named text) e = absurd (no_truth e)
 word_is w (Numeral text) e = absurd (no_truth e)
 word_is w (Marked sign) e = absurd (no_truth e)
 word_is w (Reserved x) e = ap (λ y. Reserved y) (same_true word_type tt x w e)
 
+-- a token with a name is that name
 pub name_is : (k : Lexeme) (t : Text) → name_in k ≡ Some t → k ≡ Named t
 name_is (Named text) t e = ap (λ y. Named y) (same_some text t e)
 name_is (Numeral text) t e = absurd (some_none t e)
 name_is (Reserved word) t e = absurd (some_none t e)
 name_is (Marked sign) t e = absurd (some_none t e)
 
+-- a token with a number is that number
 pub number_is : (k : Lexeme) (t : Text) → number_in k ≡ Some t → k ≡ Numeral t
 number_is (Numeral text) t e = ap (λ y. Numeral y) (same_some text t e)
 number_is (Named text) t e = absurd (some_none t e)
 number_is (Reserved word) t e = absurd (some_none t e)
 number_is (Marked sign) t e = absurd (some_none t e)
 
+-- texts that are tested to be equal are equal
 pub same_bytes : (a b : Text) → bytes_eq a b ≡ true → a ≡ b
 same_bytes a b e = (bytes_eq-Decides a b).0 e
 
+-- equal texts are tested to be equal
 pub bytes_same : (a b : Text) → a ≡ b → bytes_eq a b ≡ true
 bytes_same a b e = (bytes_eq-Decides a b).1 e
 
+-- texts that are tested to be different are different
 pub other_bytes : (a b : Text) → bytes_eq a b ≡ false → a ≢ b
 other_bytes a b e same = no_truth (sym e ∙ bytes_same a b same)
 
+-- different texts are tested to be different
 pub bytes_other : (a b : Text) → a ≢ b → bytes_eq a b ≡ false
 bytes_other a b n = by (bytes_eq a b) refl
   where
@@ -91,18 +104,21 @@ digits_from n m (d ∷ ds) e = digits_from (10 * n + (d - 48)) (min (m * 10 + (d
 pub digits_are : (text : Text) → digits_value 0 text ≡ min (value_of 0 text) 2147483648
 digits_are text = digits_from 0 0 text refl
 
+-- a small number is counted exactly
 pub digits_small : (text : Text) → digits_value 0 text < 2147483648 → digits_value 0 text ≡ value_of 0 text
 digits_small text h = by (digits_value 0 text) (value_of 0 text) (digits_are text) h
   where
     by : (a b : ℕ) → a ≡ min b 2147483648 → a < 2147483648 → a ≡ b
     by a b e h = omega (arith, e, h)
 
+-- so is a number up to 2147483648
 pub digits_most : (text : Text) → value_of 0 text ≤ 2147483648 → digits_value 0 text ≡ value_of 0 text
 digits_most text h = by (digits_value 0 text) (value_of 0 text) (digits_are text) h
   where
     by : (a b : ℕ) → a ≡ min b 2147483648 → b ≤ 2147483648 → a ≡ b
     by a b e h = omega (arith, e, h)
 
+-- a negated number
 pub negated_is : (n : ℕ) → negated n ≡ neg_ℤ (pos n)
 negated_is zero = refl
 negated_is (suc n) = by (suc n == 0) refl
@@ -111,12 +127,14 @@ negated_is (suc n) = by (suc n == 0) refl
     by true e = absurd (omega (arith, eqb-true (suc n) 0 e))
     by false e = ap negsuc (omega arith)
 
+-- a number in a text is at most 2147483648
 pub number_most : (text : Text) → IsTrue (is_number text) → value_of 0 text ≤ 2147483648
 number_most [] e = absurd (no_truth e)
 number_most (b ∷ bs) e = leb-true (value_of 0 (b ∷ bs)) 2147483648 (both _ (nat_le (value_of 0 (b ∷ bs)) 2147483648) e).1
 
 -- ---- arguments for the first of the parameters
 
+-- values for the first parameters, each of its parameter's type
 abbrev pub Front : List ValueType → List Value → Type 0
 Front ts [] = Unit {0}
 Front [] (v ∷ vs) = ⊥
@@ -127,6 +145,7 @@ fit_type types.Int (values.Int z) e = refl
 fit_type types.Boolean (values.Boolean b) e = refl
 fit_type _ _ e = absurd (no_truth e)
 
+-- one more value that fits
 pub front_push : (ts : List ValueType) (vs : List Value) (v : Value) → Front ts vs → fits (slice_get ts (length vs)) v ≡ true → Front ts (vs ++ v ∷ [])
 front_push [] [] v h e = absurd (no_truth (none v e))
   where
@@ -145,9 +164,11 @@ front_full (t ∷ ts) [] h e = absurd (omega (arith, e))
 front_full [] (v ∷ vs) h e = absurd h
 front_full (t ∷ ts) (v ∷ vs) h e = ap (λ x. x ∷ map type_of vs) h.0 ∙ ap (λ l. Some t ∷ l) (front_full ts vs h.1 (omega (arith, e)))
 
+-- if all parameters have values, the values are for them
 pub is_full_so : (ts : List ValueType) (vs : List Value) → Front ts vs → (length vs == length ts) ≡ true → AreFor ts vs
 is_full_so ts vs h e = front_full ts vs h (eqb-true (length vs) (length ts) e)
 
+-- a result that is tested to be plain is plain
 pub plain_result : (r : Option ValueType) → is_plain r ≡ true → IsPlain r
 plain_result None e = tt
 plain_result (Some types.Int) e = tt
@@ -159,6 +180,7 @@ plain_result (Some (types.Markable c)) e = absurd (no_truth e)
 
 -- ---- lists
 
+-- a list before an empty list
 pub append_nil : {A : Type 0} (xs : List A) → xs ++ [] ≡ xs
 append_nil [] = refl
 append_nil (x ∷ xs) = ap (λ l. x ∷ l) (append_nil xs)
@@ -167,20 +189,24 @@ append_nil (x ∷ xs) = ap (λ l. x ∷ l) (append_nil xs)
 abbrev pub Grows : {A : Type 0} → List A → List A → Type 0
 Grows {A} xs ys = (more : List A) × (xs ++ more ≡ ys)
 
+-- an element of the first list is at its place in both
 pub at_front : {A : Type 0} (xs ys : List A) (n : ℕ) (x : A) → slice_get xs n ≡ Some x → slice_get (xs ++ ys) n ≡ Some x
 at_front [] ys n x e = absurd (some_none x e)
 at_front (y ∷ xs) ys zero x e = e
 at_front (y ∷ xs) ys (suc n) x e = at_front xs ys n x e
 
+-- the element that is put at the end
 pub at_end : {A : Type 0} (xs : List A) (x : A) → slice_get (xs ++ x ∷ []) (length xs) ≡ Some x
 at_end [] x = refl
 at_end (y ∷ xs) x = at_end xs x
 
+-- an element keeps its place in a list that grows
 pub at_grown : {A : Type 0} (xs ys : List A) (n : ℕ) (x : A) → Grows xs ys → slice_get xs n ≡ Some x → slice_get ys n ≡ Some x
 at_grown xs ys n x g e = subst (λ l. slice_get l n ≡ Some x) g.1 (at_front xs g.0 n x e)
 
 -- ---- setup names
 
+-- a name that is found is among the names
 pub named_there : (names : List SetupName) (name : Text) (n : ℕ) → setup_named names name ≡ Some n → (s : SetupName) × (slice_get names n ≡ Some s) × (s.name ≡ name)
 named_there [] name n e = absurd (some_none n e)
 named_there (x ∷ names) name n e = by (named_there names name) (bytes_eq x.name name) refl (setup_named names name) refl e
@@ -199,6 +225,7 @@ named_there (x ∷ names) name n e = by (named_there names name) (bytes_eq x.nam
             let is : suc j ≡ j + 1 = omega arith in
             subst (λ k. slice_get (x ∷ names) k ≡ Some s) is e
 
+-- a name that isn't found is new
 pub is_new : (names : List SetupName) (name : Text) → is_some (setup_named names name) ≡ false → IsNewName names name
 is_new [] name e = tt
 is_new (x ∷ names) name e = by (is_new names name) (bytes_eq x.name name) refl (setup_named names name) refl e
@@ -211,6 +238,7 @@ is_new (x ∷ names) name e = by (is_new names name) (bytes_eq x.name name) refl
 
 -- ---- thread names
 
+-- a thread's name that isn't found is new
 pub is_new_thread : (ts : List ThreadProgram) (name : Text) → thread_named ts name ≡ false → IsNewThread ts name
 is_new_thread [] name e = tt
 is_new_thread (t ∷ ts) name e = by (is_new_thread ts name) (bytes_eq t.name name) refl e

@@ -45,9 +45,11 @@ later_block before h = by (nat_lt (length before) 1) refl
 
 -- ---- arguments
 
+-- the parts of equal lists are equal
 pub same_cons : {A : Type 0} (x y : A) (xs ys : List A) → x ∷ xs ≡ y ∷ ys → (x ≡ y) × (xs ≡ ys)
 same_cons x y xs ys e = (cc, cc)
 
+-- a value fits its type
 pub type_fits : (t : ValueType) (v : Value) → type_of v ≡ Some t → fits (Some t) v ≡ true
 type_fits t (values.Int z) e = subst (λ u. fits (Some u) (values.Int z) ≡ true) (same_some types.Int t e) refl
 type_fits t (values.Boolean b) e = subst (λ u. fits (Some u) (values.Boolean b) ≡ true) (same_some types.Boolean t e) refl
@@ -60,6 +62,7 @@ next_fits (t ∷ ts) [] v vs h = type_fits t v (same_cons (type_of v) (Some t) (
 next_fits [] (u ∷ us) v vs h = absurd cc
 next_fits (t ∷ ts) (u ∷ us) v vs h = next_fits ts us v vs (same_cons (type_of u) (Some t) (map type_of (us ++ v ∷ vs)) (map Some ts) h).1
 
+-- there are as many values as parameters
 pub for_length : (ts : List ValueType) (vs : List Value) → AreFor ts vs → length vs ≡ length ts
 for_length [] [] h = refl
 for_length [] (v ∷ vs) h = absurd cc
@@ -70,13 +73,16 @@ full : (ts : List ValueType) (vs : List Value) → AreFor ts vs → (length vs =
 full ts vs h = eq-eqb (length vs) (length ts) (for_length ts vs h)
 
 module _ (o : Outcome) where
+  -- the reading from a stage on
   abbrev pub From : Parts → Stage → List Lexeme → Option Reading
   From r stage ks = after o (Some (at r stage)) ks
 
+  -- a value that fits is taken
   pub taken : (r : Parts) (p : Pending) (v : Value) (ks : List Lexeme) → fits (slice_get p.types (length p.values)) v ≡ true
       → after o (with_call r ThreadPrograms.AfterArgument (with_argument p v)) ks ≡ From r (ThreadPrograms.AfterArgument (with_values p (p.values ++ v ∷ []))) ks
   taken r p v ks e = ap (λ b. after o (with_call r ThreadPrograms.AfterArgument (if b then Some (with_values p (p.values ++ v ∷ [])) else None)) ks) e
 
+  -- the tokens of an argument are read as that argument
   pub argument_steps : {v : Value} {ks rest : List Lexeme} → Argument v ks rest → (r : Parts) (p : Pending)
       → From r (ThreadPrograms.AtArgument p) ks ≡ after o (with_call r ThreadPrograms.AfterArgument (with_argument p v)) rest
   argument_steps spelled.True r p = refl
@@ -98,6 +104,7 @@ module _ (o : Outcome) where
       → From r (ThreadPrograms.AtArgument p) ks ≡ From r (ThreadPrograms.AfterArgument (with_values p (p.values ++ v ∷ []))) rest
   argument_read {v = v} {rest = rest} a r p e = argument_steps a r p ∙ taken r p v rest e
 
+  -- the first argument is read as the others are
   pub first_same : {v : Value} {ks rest : List Lexeme} → Argument v ks rest → (r : Parts) (p : Pending) → From r (ThreadPrograms.AtFirst p) ks ≡ From r (ThreadPrograms.AtArgument p) ks
   first_same spelled.True r p = refl
   first_same spelled.False r p = refl
@@ -117,6 +124,7 @@ module _ (o : Outcome) where
       ∙ others_read more r (with_values p (p.values ++ v ∷ [])) (subst (AreFor p.types) (sym (append_assoc p.values (v ∷ []) vs)) h)
       ∙ ap (λ us. From r (ThreadPrograms.AtSemicolon (with_values p us)) rest) (append_assoc p.values (v ∷ []) vs)
 
+  -- the tokens of arguments are read as those arguments
   pub arguments_read : {vs : List Value} {ks rest : List Lexeme} → Arguments vs ks rest → (r : Parts) (callee : Callee) (ts : List ValueType) → AreFor ts vs
       → From r (ThreadPrograms.AtFirst (record { callee = callee; types = ts; values = [] })) ks ≡ From r (ThreadPrograms.AtSemicolon (record { callee = callee; types = ts; values = vs })) rest
   arguments_read (spelled.NoArgument {rest = rest}) r callee ts h = ended r (record { callee = callee; types = ts; values = [] }) rest h
@@ -178,6 +186,7 @@ module _ (o : Outcome) where
       one_more : (n : ℕ) → n + 1 ≡ suc n
       one_more n = omega arith
 
+  -- a new name isn't found
   pub new_named : (names : List SetupName) (name : Text) → IsNewName names name → is_some (setup_named names name) ≡ false
   new_named [] name h = refl
   new_named (x ∷ names) name h =
@@ -188,7 +197,7 @@ module _ (o : Outcome) where
       by None e = refl
       by (Some j) e = e
 
-  -- what stands at a number of a list with one more
+  -- what is at a number of a list with one more item
   last_or : {A : Type 0} (xs : List A) (x y : A) (n : ℕ) → slice_get (xs ++ x ∷ []) n ≡ Some y → ((n ≡ length xs) × (x ≡ y)) ⊎ (slice_get xs n ≡ Some y)
   last_or [] x y zero e = inl (refl, same_some x y e)
   last_or [] x y (suc n) e = absurd (some_none y e)
@@ -199,6 +208,7 @@ module _ (o : Outcome) where
       by (inl h) = inl (ap suc h.0, h.1)
       by (inr h) = inr h
 
+  -- with one more new name, each name is found at its place
   pub found_push : (names : List SetupName) (s : SetupName) → IsNewName names s.name → AreFound names → AreFound (names ++ s ∷ [])
   found_push names s new found n t e = by (last_or names s t n e)
     where
@@ -206,6 +216,7 @@ module _ (o : Outcome) where
       by (inl h) = subst (λ (u : SetupName). setup_named (names ++ s ∷ []) u.name ≡ Some n) h.1 (named_end names s new ∙ ap (λ i. Some i) (sym h.0))
       by (inr h) = named_front names (s ∷ []) t.name n (found n t h)
 
+  -- a plain result is tested to be plain
   pub result_plain : (r : Option ValueType) → IsPlain r → is_plain r ≡ true
   result_plain None h = refl
   result_plain (Some types.Int) h = refl
@@ -220,6 +231,7 @@ module _ (o : Outcome) where
   abbrev parts : List SetupName → List ThreadProgram → Text → List ProgramCall → Parts
   parts names threads name calls = record { names = names; threads = threads; name = name; calls = calls }
 
+  -- the tokens of calls are read as those calls
   pub calls_read : {b : Bool} {names all : List SetupName} {cs : List ProgramCall} {ks rest : List Lexeme} → AreCallsOf o b names cs all → spelled.Calls b all cs ks rest
       → (threads : List ThreadProgram) (name : Text) (calls : List ProgramCall) → nat_lt (length threads) 1 ≡ b → AreFound names → length (calls ++ cs) ≤ 256
       → (From (parts names threads name calls) ThreadPrograms.AtCall ks ≡ From (parts all (threads ++ record { name = name; calls = calls ++ cs } ∷ []) [] []) ThreadPrograms.AtThread rest) × AreFound all
@@ -257,6 +269,7 @@ module _ (o : Outcome) where
   new_thread [] name h = refl
   new_thread (t ∷ ts) name h = ap (λ b. b || thread_named ts name) (bytes_other t.name name h.0) ∙ new_thread ts name h.1
 
+  -- the tokens of threads are read as those threads
   pub threads_read : {names : List SetupName} {before ts : List ThreadProgram} {ks : List Lexeme} → AreThreadsOf o names before ts → Threads names ts ks → AreFound names
       → 1 ≤ length before → length (before ++ ts) ≤ suc most_threads
       → From (parts names before [] []) ThreadPrograms.AtThread ks ≡ Some (at (parts names (before ++ ts) [] []) ThreadPrograms.AtThread)

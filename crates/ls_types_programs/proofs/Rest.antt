@@ -23,7 +23,7 @@ use Rattle.ls_types_programs.specs.Programs as programs
 use Rattle.ls_types_programs.specs.Programs.{AreFor, AreCallsOf, AreThreadsOf}
 use Rattle.ls_types_programs.proofs.Pieces.{no_truth, some_none, same_some, both, not_false, sign_is, word_is, name_is, number_is, same_bytes, other_bytes, digits_small, digits_most, negated_is, number_most, Front, front_push, is_full_so, plain_result, append_nil, Grows, at_grown, at_end, named_there, is_new, is_new_thread}
 
--- ---- what a step says where it is taken
+-- ---- what a step says if it is taken
 
 abbrev Then : (Parts → Stage → Type 0) → Option Reading → Type 0
 Then P None = ⊥
@@ -37,7 +37,7 @@ either_then : (P : Parts → Stage → Type 0) (b : Bool) (x y : Option Reading)
 either_then P true x y h = inl (refl, h)
 either_then P false x y h = inr (refl, h)
 
--- ---- the rest of the tokens, where the reading ends with the parts f
+-- ---- the rest of the tokens, if the reading ends with the parts f
 
 pub record RestThreads (o : Outcome) (f : Parts) (before : List ThreadProgram) (ks : List Lexeme) : Type 0 where
   pub ts : List ThreadProgram
@@ -46,9 +46,11 @@ pub record RestThreads (o : Outcome) (f : Parts) (before : List ThreadProgram) (
   pub are : AreThreadsOf o f.names before ts
   pub few : length before ≤ suc most_threads → length f.threads ≤ suc most_threads
 
+-- whether no block has ended, so that calls may give names
 abbrev pub gives : Parts → Bool
 gives r = nat_lt (length r.threads) 1
 
+-- the other calls of a block, and the blocks after it
 pub record RestCalls (o : Outcome) (f r : Parts) (ks : List Lexeme) : Type 0 where
   pub cs : List ProgramCall
   pub rest : List Lexeme
@@ -59,6 +61,7 @@ pub record RestCalls (o : Outcome) (f r : Parts) (ks : List Lexeme) : Type 0 whe
   pub few : length r.calls ≤ 256 → length all ≤ 256
   pub after : RestThreads o f (r.threads ++ record { name = r.name; calls = all } ∷ []) rest
 
+-- a call that is being read, with these arguments
 abbrev pub with_values : Pending → List Value → Pending
 with_values p vs = record { callee = p.callee; types = p.types; values = vs }
 
@@ -83,11 +86,13 @@ pub record RestValues (Kind : List Value → List Lexeme → List Lexeme → Typ
 pub data Argued : List Value → List Lexeme → List Lexeme → Type 0 where
   Argues : {v : Value} {vs : List Value} {ks ls rest : List Lexeme} → Argument v ks ls → Others vs ls rest → Argued (v ∷ vs) ks rest
 
+-- this token, and then the rest
 pub record RestAfter (k : Lexeme) (P : List Lexeme → Type 0) (ks : List Lexeme) : Type 0 where
   pub rest : List Lexeme
   pub tokens : ks ≡ k ∷ rest
   pub after : P rest
 
+-- the rest of the tokens in a stage
 abbrev pub Rest : Outcome → Parts → Parts → Stage → List Lexeme → Type 0
 Rest o f r ThreadPrograms.AtSetup ks = RestAfter (Named (codes "setup")) (RestAfter (Marked signs.OpenBrace) (RestCalls o f r)) ks
 Rest o f r ThreadPrograms.AtBlock ks = RestAfter (Marked signs.OpenBrace) (RestCalls o f r) ks
@@ -105,9 +110,11 @@ Rest o f r (ThreadPrograms.AtSemicolon p) ks = RestSemicolon o f r p ks
 Rest o f r ThreadPrograms.AtThread ks = 1 ≤ length r.threads → (r.names ≡ f.names) × RestThreads o f r.threads ks
 Rest o f r ThreadPrograms.AtThreadName ks = length r.threads ≤ most_threads → 1 ≤ length r.threads → (r.names ≡ f.names) × RestThreads o f r.threads (Named (codes "thread") ∷ ks)
 
+-- a call of a method, before its arguments
 abbrev pub method_pending : ℕ → Text → MethodSign → Pending
 method_pending n name m = record { callee = Method n m.number name m.result; types = m.parameters; values = [] }
 
+-- a making of an object, before its arguments
 abbrev pub maker_pending : Outcome → Text → ℕ → Text → Pending
 maker_pending o name c class_name = record { callee = Maker name c class_name; types = parameters_in (slice_get o.signs c); values = [] }
 
@@ -250,6 +257,7 @@ module _ (o : Outcome) (f : Parts) where
       shorter : (c : ProgramCall) → length (r.calls ++ c ∷ []) ≤ 256
       shorter c = omega (arith, room, length-append r.calls (c ∷ []))
 
+  -- calls only add names
   pub calls_grow : (b : Bool) (names all : List SetupName) (cs : List ProgramCall) → AreCallsOf o b names cs all → Grows names all
   calls_grow b names all [] programs.End = ([], append_nil names)
   calls_grow b names all (c ∷ cs) (programs.Makes s class_name vs setup new there fit more) =
@@ -461,6 +469,7 @@ module _ (o : Outcome) (f : Parts) where
   nothing_left : Rest o f f ThreadPrograms.AtThread []
   nothing_left some = (refl, record { ts = []; spelled = spelled.NoThread; parts = sym (append_nil f.threads); are = programs.End; few = λ few. few })
 
+  -- if a reading ends with the parts f, the tokens are such a rest
   pub rest_is : (r : Parts) (stage : Stage) (ks : List Lexeme) → ((i : ℕ) (k : Lexeme) → slice_get ks i ≡ Some k → IsFormed k)
       → after o (Some (at r stage)) ks ≡ Some (at f ThreadPrograms.AtThread) → Rest o f r stage ks
   rest_is r stage [] formed e = subst (λ (q : Reading). Rest o f q.parts q.stage []) (sym (same_some (at r stage) (at f ThreadPrograms.AtThread) e)) nothing_left

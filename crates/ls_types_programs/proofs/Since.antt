@@ -29,6 +29,7 @@ use Rattle.ls_types_programs.proofs.Rest.{gives, with_values, word_named}
 abbrev pub program_at : Parts → Program
 program_at r = record { names = r.names; threads = r.threads ++ record { name = r.name; calls = r.calls } ∷ [] }
 
+-- the tokens of two lists
 pub lexemes_append : (xs ys : List Token) → lexemes (xs ++ ys) ≡ lexemes xs ++ lexemes ys
 lexemes_append [] ys = refl
 lexemes_append (x ∷ xs) ys = ap (λ l. lexeme_of x.kind ∷ l) (lexemes_append xs ys)
@@ -41,9 +42,11 @@ taken_longer : (js : List Token) (ls : List Lexeme) (t : Token) (k : Lexeme) →
 taken_longer js ls t k e is = lexemes_append js (t ∷ []) ∙ ap (λ l. l ++ lexeme_of t.kind ∷ []) e ∙ ap (λ x. ls ++ x ∷ []) is
 
 module _ (o : Outcome) where
+  -- the reading of these tokens comes to this stage
   abbrev pub Reads : Parts → Stage → List Token → Type 0
   Reads r stage ts = after o (Some beginning) (lexemes ts) ≡ Some (at r stage)
 
+  -- since the call began: its first name
   pub record SinceName (r : Parts) (name : Text) (mark : ℕ) (front : List Token) : Type 0 where
     pub base : List Token
     pub token : Token
@@ -52,6 +55,7 @@ module _ (o : Outcome) where
     pub named : lexeme_of token.kind ≡ Named name
     pub place : mark ≡ token.span.start
 
+  -- since the call began: these tokens
   pub record SinceTokens (r : Parts) (ls : List Lexeme) (front : List Token) : Type 0 where
     pub base : List Token
     pub js : List Token
@@ -59,6 +63,7 @@ module _ (o : Outcome) where
     pub read : Reads r ThreadPrograms.AtCall base
     pub taken : lexemes js ≡ ls
 
+  -- since the call began: its method or class, and these tokens
   pub record SinceCallee (r : Parts) (mark : ℕ) (p : Pending) (ls : List Lexeme) (front : List Token) : Type 0 where
     pub base : List Token
     pub mid : List Token
@@ -81,11 +86,13 @@ module _ (o : Outcome) where
   abbrev pub Others_follow : Pending → List Lexeme → Type 0
   Others_follow p ls = (vs : List Value) (ks rest : List Lexeme) → Others vs ks rest → Arguments (p.values ++ vs) (ls ++ ks) rest
 
+  -- since the call began: its arguments so far
   pub record SinceOpen (Kind : Pending → List Lexeme → Type 0) (r : Parts) (mark : ℕ) (p : Pending) (front : List Token) : Type 0 where
     pub ls : List Lexeme
     pub callee : SinceCallee r mark p (Marked signs.OpenParen ∷ ls) front
     pub kind : Kind p ls
 
+  -- since the call began: its arguments so far, and a minus
   pub record SinceMinus (r : Parts) (mark : ℕ) (minus : Option ℕ) (p : Pending) (front : List Token) : Type 0 where
     pub before : List Token
     pub token : Token
@@ -94,6 +101,7 @@ module _ (o : Outcome) where
     pub place : minus ≡ Some token.span.start
     pub opened : SinceOpen Argues r mark p before
 
+  -- since the last block: the word `thread`
   pub record SinceThread (r : Parts) (front : List Token) : Type 0 where
     pub base : List Token
     pub token : Token
@@ -101,6 +109,7 @@ module _ (o : Outcome) where
     pub read : Reads r ThreadPrograms.AtThread base
     pub named : lexeme_of token.kind ≡ Named (codes "thread")
 
+  -- the tokens since the call began, in each stage
   abbrev pub Since : Parts → Stage → Marks → List Token → Type 0
   Since r (ThreadPrograms.AfterName name) m front = SinceName r name m.name front
   Since r (ThreadPrograms.AfterAssign name) m front = SinceTokens r (Named name ∷ Marked signs.Assign ∷ []) front × (is_new_name r name ≡ true)
@@ -115,7 +124,7 @@ module _ (o : Outcome) where
   Since r ThreadPrograms.AtThreadName m front = SinceThread r front
   Since r _ m front = Unit {0}
 
-  -- ---- a token behind
+  -- ---- a token after those before it
 
   pub with_token : (r : Parts) (ls : List Lexeme) (front : List Token) (t : Token) (k : Lexeme) → lexeme_of t.kind ≡ k → SinceTokens r ls front → SinceTokens r (ls ++ k ∷ []) (front ++ t ∷ [])
   with_token r ls front t k is h = record { base = h.base; js = h.js ++ t ∷ []; is = longer front h.base h.js t h.is; read = h.read; taken = taken_longer h.js ls t k h.taken is }
@@ -153,7 +162,7 @@ module _ (o : Outcome) where
     fit = front_push p.types p.values v h.fit e;
   }
 
-  -- what the next stage stands behind
+  -- what the next stage comes after
   abbrev pub Next : Marks → ℕ → List Token → Option Reading → Type 0
   Next m place front None = Unit {0}
   Next m place front (Some q) = Since q.parts q.stage (marked m place q.stage) front
@@ -182,11 +191,13 @@ module _ (o : Outcome) where
       by false e = tt
       by true e = record { ls = ls ++ ks; callee = with_value r m.callee p v (Marked signs.OpenParen ∷ ls ++ ks) front e h; kind = others_behind p v ls ks a argues }
 
+  -- the token of a number spells its value
   pub number_spells : (text : Text) → digits_value 0 text < 2147483648 → Spells_argument (values.Int (pos (digits_value 0 text))) (Numeral text ∷ [])
   number_spells text small rest =
       let is : digits_value 0 text ≡ value_of 0 text = digits_small text small in
       subst (λ n. Argument (values.Int (pos n)) (Numeral text ∷ rest) rest) (sym is) (spelled.Number text (subst (λ n. n < 2147483648) is small))
 
+  -- a minus and the token of a number spell the negated value
   pub minus_spells : (text : Text) → IsFormed (Numeral text) → Spells_argument (minus_number text) (Marked signs.Minus ∷ Numeral text ∷ [])
   minus_spells text formed rest =
       let most : value_of 0 text ≤ 2147483648 = number_most text formed in
@@ -230,6 +241,7 @@ module _ (o : Outcome) where
   pub first_ends : (p : Pending) → p.values ≡ [] → Arguments p.values (Marked signs.CloseParen ∷ []) []
   first_ends p none = subst (λ us. Arguments us (Marked signs.CloseParen ∷ []) []) (sym none) spelled.NoArgument
 
+  -- at the closing parenthesis the arguments are spelled
   pub others_end : (p : Pending) (ls : List Lexeme) → Others_follow p ls → Arguments p.values (ls ++ Marked signs.CloseParen ∷ []) []
   others_end p ls h = subst (λ us. Arguments us (ls ++ Marked signs.CloseParen ∷ []) []) (append_nil p.values) (h [] (Marked signs.CloseParen ∷ []) [] spelled.NoOther)
 
@@ -292,7 +304,7 @@ module _ (o : Outcome) where
       by None e = when_next m t.span.start (front ++ t ∷ []) (is_sign signs.CloseBrace k) (at (closed r) ThreadPrograms.AtThread) (λ c. tt)
       by (Some name) e = record { base = front; token = t; is = refl; read = read; named = is ∙ name_is k name e; place = refl }
 
-  -- the name of a statement and the token behind it
+  -- the name of a statement and the token after it
   behind_name : (r : Parts) (name : Text) (mark : ℕ) (front : List Token) (t : Token) (k : Lexeme) → lexeme_of t.kind ≡ k → SinceName r name mark front → SinceTokens r (Named name ∷ k ∷ []) (front ++ t ∷ [])
   behind_name r name mark front t k is h = record {
     base = h.base;
@@ -320,13 +332,14 @@ module _ (o : Outcome) where
           (λ new. (behind_name r name m.name front t (Marked signs.Assign) (is ∙ sign_is signs.Assign k e) h, new))
       by false e = dotted (is_sign signs.Dot k) refl
 
+  -- if no block has ended, there is one at the end of this one
   pub one_thread : (r : Parts) → gives r ≡ true → length (r.threads ++ record { name = r.name; calls = r.calls } ∷ []) ≡ 1
   one_thread r e = one (record { name = r.name; calls = r.calls })
     where
       one : (x : ThreadProgram) → length (r.threads ++ x ∷ []) ≡ 1
       one x = omega (arith, length-append r.threads (x ∷ []), ltb-true (length r.threads) 1 e)
 
-  -- a class or method behind the beginning of its call
+  -- a class or method after the beginning of its call
   called : (r : Parts) (ls : List Lexeme) (front : List Token) (t : Token) (name : Text) (p : Pending) → lexeme_of t.kind ≡ Named name → p.values ≡ [] → SinceTokens r ls front → IsCallee o (program_at r) ls name p.types
       → SinceCallee r t.span.start p [] (front ++ t ∷ [])
   called r ls front t name p is none h there = record {
@@ -396,6 +409,7 @@ module _ (o : Outcome) where
   thread_name_next r m place front (Some name) =
       when_next m place front (not (bytes_eq name (codes "all")) && not (thread_named r.threads name)) (at (named r name) ThreadPrograms.AtBlock) (λ e. tt)
 
+  -- after one more token, if it isn't refused
   pub step_next : (r : Parts) (stage : Stage) (m : Marks) (front : List Token) (t : Token) (k : Lexeme) → lexeme_of t.kind ≡ k → IsFormed k → Reads r stage front → Since r stage m front
       → Next m t.span.start (front ++ t ∷ []) (stepped o r stage k)
   step_next r ThreadPrograms.AtSetup m front t k is formed read h = when_next m t.span.start (front ++ t ∷ []) (is_text (codes "setup") (name_in k)) (at r ThreadPrograms.AtBlock) (λ e. tt)

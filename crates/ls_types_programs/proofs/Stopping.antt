@@ -1,4 +1,4 @@
--- Where the reading stops, the fault that is answered stands.
+-- If the reading stops, the fault that is answered is at its place.
 use Rattle.std.proofs.Common.{◌≡◌, ℕ, zero, suc, ◌<◌, ◌≤◌, refl, sym, ◌∙◌, subst, ap, Bool, true, false, not, ◌&&◌, List, [], ◌∷◌, ◌++◌, append_assoc, length, length-append, Option, Some, None, nat_lt, nat_le, ltb-true, arith, if◌then◌else◌, bytes_eq, codes, pos}
 use Rattle.std.proofs.lemmas.Bool.{lt-ltb, le-leb}
 use Rattle.std.specs.Prelude.{slice_get, is_some}
@@ -38,6 +38,7 @@ use Rattle.ls_types_programs.proofs.Forms.{form_stands, end_stands}
 use Rattle.ls_types_programs.proofs.Ways.{goes_on as reading_goes_on}
 use Rattle.ls_types_programs.proofs.Since.{program_at, lexemes_append, Reads, SinceName, SinceTokens, SinceCallee, SinceOpen, SinceMinus, SinceThread, one_thread, Argues, Others_follow, Since, Next, Spells_argument, number_spells, minus_spells, none_yet, first_ends, others_end, step_next}
 
+-- what each fault shows of the text
 abbrev pub Shown : Outcome → Text → Fault → Type 0
 Shown o text (Bad at) = IsBadAt o text at
 Shown o text (Unknown at) = ShowsAt (IsUnknown o) text at
@@ -56,7 +57,7 @@ module _ (o : Outcome) where
       after_more (Some r) [] js = refl
       after_more (Some r) (k ∷ ks) js = after_more (stepped o r.parts r.stage k) ks js
 
-  -- ---- at a token, behind those in front of it
+  -- ---- at a token, after those before it
 
   module _ (text : Text) (front : List Token) (t : Token) (ts : List Token) (lexed : tokens_of text ≡ Some (lexemes (front ++ t ∷ ts))) (spans : InOrder text 0 (front ++ t ∷ ts) (length text)) where
     formed : Formed (lexemes (front ++ t ∷ ts))
@@ -479,6 +480,6 @@ module _ (o : Outcome) where
           (ap (after o (Some beginning)) (lexemes_append front (t ∷ [])) ∙ reads_more (Some beginning) (lexemes front) (lexeme_of t.kind ∷ []) ∙ ap (λ x. after o x (lexeme_of t.kind ∷ [])) read ∙ ap (λ x. after o x []) some)
           (subst (λ x. Next o m t.span.start (front ++ t ∷ []) x) some (step_next o q.parts q.stage m front t (lexeme_of t.kind) refl formed read h)) e
 
--- Where the reading of a text's tokens stops, the fault that is answered stands.
+-- If the reading of a text's tokens stops, the fault that is answered is at its place.
 pub stops_show : (o : Outcome) (text : Text) (ts : List Token) (f : Fault) → tokens_of text ≡ Some (lexemes ts) → InOrder text 0 ts (length text) → stops o (length text) unmarked beginning ts ≡ Some f → Shown o text f
 stops_show o text ts f lexed spans e = walk o text [] ts unmarked beginning f lexed spans refl tt e

@@ -97,7 +97,7 @@ module _ (o : Outcome) (names : List SetupName) where
       by true = (tt, h)
       by false = tt
 
-  -- an argument where one may stand
+  -- an argument where one may come
   abbrev Argues_at : Parts → Stage → Type 0
   Argues_at r stage = (ks : List Lexeme) → LeftValues names Argued (gives r) ks → Follows names (gives r) stage ks
 
@@ -140,7 +140,7 @@ module _ (o : Outcome) (names : List SetupName) where
           subst (λ x. Leads r (ThreadPrograms.AfterMinus p) x (after_minus r p (Some text))) (sym is)
           (value_leads r p (minus_number text) (ThreadPrograms.AfterMinus p) (Numeral text) (λ ks m. behind (spelled.Minus text most) m))
 
-  -- a parenthesis where one may stand
+  -- a parenthesis where one may come
   end_leads : (r : Parts) (p : Pending) (stage : Stage) → ((ks : List Lexeme) → LeftCalls names (gives r) ks → Follows names (gives r) stage (Marked signs.CloseParen ∷ Marked signs.Semicolon ∷ ks)) → Leads r stage (Marked signs.CloseParen) (arguments_end r p)
   end_leads r p stage h = when_leads r stage (Marked signs.CloseParen) (is_full p) (at r (ThreadPrograms.AtSemicolon p)) (λ e. (tt, semicolon))
     where
@@ -227,7 +227,7 @@ module _ (o : Outcome) (names : List SetupName) where
       by None e = tt
       by (Some method) e = subst (λ x. Leads r (ThreadPrograms.AfterDot n) x (after_dot o r n (Some method))) (sym (name_is k method e)) (found method (method_on o (slice_get r.names n) method))
 
-  -- one token that is the only one that may stand
+  -- the only token that may come
   only_leads : (r : Parts) (stage next : Stage) (k : Lexeme) (b : Bool) → (b ≡ true → Kept r next × ((ks : List Lexeme) → Follows names (gives r) next ks → Follows names (gives r) stage (k ∷ ks))) → Leads r stage k (when b (at r next))
   only_leads r stage next k b h = when_leads r stage k b (at r next) h
 

@@ -22,12 +22,14 @@ use Rattle.ls_types_programs.proofs.Pieces.{no_truth, some_none, same_some}
 use Rattle.ls_types_programs.proofs.Rest.{RestAfter, RestCalls, rest_is}
 use Rattle.ls_types_programs.proofs.Read.{calls_read, threads_read}
 
+-- a stage that may end a program is the one before a thread
 pub ended_is : (s : Stage) → ended s ≡ true → s ≡ ThreadPrograms.AtThread
 ended_is ThreadPrograms.AtThread e = refl
 ended_is _ e = absurd (no_truth e)
 
 -- ---- what is read is spelled
 
+-- what is read is spelled
 pub tokens_spell : (o : Outcome) (f : Parts) (ks : List Lexeme) → ((i : ℕ) (k : Lexeme) → slice_get ks i ≡ Some k → IsFormed k)
     → after o (Some beginning) ks ≡ Some (at f ThreadPrograms.AtThread) → AreWhole o (record { names = f.names; threads = f.threads }) ks
 tokens_spell o f ks formed e =
@@ -96,6 +98,7 @@ spelled_reads o names setup ts ks rest gives few_calls few are calls threads =
     one_more : length ts ≤ most_threads → suc (length ts) ≤ suc most_threads
     one_more h = omega (arith, h)
 
+-- what is spelled is read
 pub tokens_read : (o : Outcome) (p : Program) (ks : List Lexeme) → Spells p ks → IsProgramOf o p → program_of_tokens o (Some ks) ≡ Some p
 tokens_read o p ks (spelled.Whole {names = names} {calls = calls} {ts = ts} {ks = ls} {rest = rest} cs more) h =
     let is : record { name = codes "setup"; calls = calls } ∷ ts ≡ record { name = codes "setup"; calls = h.setup } ∷ h.threads = h.parts in
@@ -124,8 +127,10 @@ is_read o text p h =
     ∙ ap (program_of_tokens o) h.lexed
     ∙ tokens_read o p h.tokens h.spelled h.program
 
+-- the law: exactly the programs that are spelled are read
 pub reads_what_is_spelled : ReadsWhatIsSpelled
 reads_what_is_spelled o text p = (reads o text p, is_read o text p)
 
+-- the law: a text has at most one program
 pub one_program : OneProgram
 one_program o text p q h k = same_some p q (sym (is_read o text p h) ∙ is_read o text q k)

@@ -1,5 +1,5 @@
--- Why no program of a file goes on so: a fault of the tokens before a place, and of those from the place up to where the
--- fault shows.
+-- Why some tokens begin no program of a file. Each fault is of the tokens before a place, and of the tokens from that
+-- place on up to where the fault shows.
 use Rattle.std.specs.Prelude.{◌≡◌, ◌≢◌, ℕ, ◌<◌, ◌≤◌, List, [], ◌∷◌, ◌++◌, length, Some, None, codes, slice_get}
 use Rattle.ls_checked.specs.Limits.{most_threads, most_calls}
 use Rattle.ls_lexer.specs.Lexemes.{Lexeme, Named, Reserved, Marked}
@@ -14,7 +14,7 @@ use Rattle.ls_types_elaboration.specs.Elaboration.{Outcome}
 use Rattle.ls_types_programs.specs.Spelled.{Argument, Arguments, Spells}
 use Rattle.ls_types_programs.specs.Programs.{AreFor, type_of, IsPlain, IsNewName, IsProgramOf}
 
--- the tokens, with the end of a block, are the program
+-- the tokens, with the end of a block after them, are the program
 pub record IsBefore (o : Outcome) (p : Program) (ks : List Lexeme) : Type 0 where
   pub spelled : Spells p (ks ++ Marked signs.CloseBrace ∷ [])
   pub program : IsProgramOf o p
@@ -24,12 +24,12 @@ pub record AreWhole (o : Outcome) (p : Program) (ks : List Lexeme) : Type 0 wher
   pub spelled : Spells p ks
   pub program : IsProgramOf o p
 
--- some tokens that begin so spell a program, of whichever file
+-- the tokens are the beginning of some program, of whichever file
 abbrev pub GoesOn : List Lexeme → Type 0
 GoesOn ks = (p : Program) × (more : List Lexeme) × Spells p (ks ++ more)
 
--- The first token with which no tokens spell a program; a making in a thread, or of a name that is given; a thread named
--- `all`, or as another.
+-- The first token with which the tokens begin no program. Or a making in a thread, or of a name that is given already.
+-- Or a thread that is named `all`, or as another thread.
 pub data IsBad (o : Outcome) : List Lexeme → List Lexeme → Type 0 where
   Form : {ks : List Lexeme} (k : Lexeme) → GoesOn ks → (GoesOn (ks ++ k ∷ []) → ⊥) → IsBad o ks (k ∷ [])
   MadeInThread : {ks : List Lexeme} (p : Program) (name : Text) → IsBefore o p ks → 1 < length p.threads
@@ -40,7 +40,7 @@ pub data IsBad (o : Outcome) : List Lexeme → List Lexeme → Type 0 where
   ThreadTwice : {ks : List Lexeme} (p : Program) (n : ℕ) (t : ThreadProgram) → AreWhole o p ks → slice_get p.threads n ≡ Some t
       → IsBad o (ks ++ Named (codes "thread") ∷ []) (Named t.name ∷ [])
 
--- The beginning of a call, up to its class or method, which is there, and the types that this takes.
+-- The beginning of a call, up to its class or method, which exists, and the types of its parameters.
 pub data IsCallee (o : Outcome) (p : Program) : List Lexeme → Text → List ValueType → Type 0 where
   Class : (name class : Text) (c : ℕ) → length p.threads ≡ 1 → IsNewName p.names name → number_of o.names class ≡ Some c
       → IsCallee o p (Named name ∷ Marked signs.Assign ∷ Reserved words.New ∷ []) class (parameters_in (slice_get o.signs c))
@@ -48,12 +48,12 @@ pub data IsCallee (o : Outcome) (p : Program) : List Lexeme → Text → List Va
       → method_named (methods_in (slice_get o.signs s.class)) method ≡ Some m → IsPlain m.result
       → IsCallee o p (Named s.name ∷ Marked signs.Dot ∷ []) method m.parameters
 
--- the tokens, with `)`, are the arguments
+-- the tokens, with `)` after them, are the arguments
 abbrev pub AreBeforeParen : List Value → List Lexeme → Type 0
 AreBeforeParen vs ks = Arguments vs (ks ++ Marked signs.CloseParen ∷ []) []
 
--- A class, setup name or method that isn't there; or arguments that are too few or too many, at the class or method; or the
--- first that is of another type than its parameter.
+-- A class, setup name or method that doesn't exist. Or too few or too many arguments; the place is then that of the
+-- class or method. Or the first argument of another type than its parameter.
 pub data IsUnknown (o : Outcome) : List Lexeme → List Lexeme → Type 0 where
   NoClass : {ks : List Lexeme} (p : Program) (name class : Text) → IsBefore o p ks → length p.threads ≡ 1 → IsNewName p.names name
       → number_of o.names class ≡ None
@@ -80,14 +80,14 @@ pub data IsReference (o : Outcome) : List Lexeme → List Lexeme → Type 0 wher
       → method_named (methods_in (slice_get o.signs s.class)) method ≡ Some m → (IsPlain m.result → ⊥)
       → IsReference o (ks ++ Named s.name ∷ Marked signs.Dot ∷ []) (Named method ∷ [])
 
--- a thread beside the setup and as many others as there may be, or a thread's call after as many others
+-- a thread, if the others have reached the limit of threads; or a call, if its thread has reached the limit of calls
 pub data IsPast (o : Outcome) : List Lexeme → Type 0 where
   Threads : {ks : List Lexeme} (p : Program) → AreWhole o p ks → most_threads < length p.threads → IsPast o (ks ++ Named (codes "thread") ∷ [])
   Calls : {ks front js : List Lexeme} (p : Program) (ts : List ThreadProgram) (t : ThreadProgram) (callee : Text) (types : List ValueType) (vs : List Value)
       → IsBefore o p ks → p.threads ≡ ts ++ t ∷ [] → most_calls ≤ length t.calls → IsCallee o p front callee types → Arguments vs js [] → AreFor types vs
       → IsPast o (ks ++ front ++ Named callee ∷ Marked signs.OpenParen ∷ js ++ Marked signs.Semicolon ∷ [])
 
--- no program of the file goes on so
+-- the tokens are not the beginning of any program of the file
 abbrev pub GoesNowhere : Outcome → List Lexeme → Type 0
 GoesNowhere o ks = (p : Program) (more : List Lexeme) → Spells p (ks ++ more) → IsProgramOf o p → ⊥
 

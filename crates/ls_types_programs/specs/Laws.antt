@@ -13,6 +13,6 @@ ReadsWhatIsSpelled = (o : Outcome) (text : Text) (p : Program) → (program_of o
 abbrev pub OneProgram : Type 0
 OneProgram = (o : Outcome) (text : Text) (p q : Program) → IsTextOf o p text → IsTextOf o q text → p ≡ q
 
--- each thread's name is an identifier and no reserved word
+-- each thread's name is an identifier, and not a reserved word
 abbrev pub ThreadsAreNamed : Type 0
 ThreadsAreNamed = (o : Outcome) (text : Text) (p : Program) → IsTextOf o p text → (i : ℕ) (t : ThreadProgram) → slice_get p.threads i ≡ Some t → IsName t.name

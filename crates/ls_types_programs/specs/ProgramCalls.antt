@@ -10,12 +10,12 @@ use Rattle.ls_types_elaboration.specs.Known.{MethodSign, method_named, methods_i
 use Rattle.ls_types_elaboration.specs.TypedExpressions.{digits_value}
 use Rattle.ls_types_elaboration.specs.Elaboration.{Outcome}
 
--- what is called: a class's constructor for a new setup name, or a method of what a setup name holds
+-- what is called: the constructor of a class, for a new setup name; or a method of the object that a setup name holds
 pub data Callee : Type 0 where
   Maker : (name : Text) → (class : ℕ) → (class_name : Text) → Callee
   Method : (name method : ℕ) → (method_name : Text) → (result : Option ValueType) → Callee
 
--- a call whose arguments are read up to here
+-- a call, with the arguments that are read so far
 pub record Pending : Type 0 where
   pub callee : Callee
   pub types : List ValueType
@@ -24,7 +24,7 @@ pub record Pending : Type 0 where
 abbrev pub pending : Callee → List ValueType → Pending
 pending callee types = record { callee = callee; types = types; values = [] }
 
--- the setup name that a text is
+-- the number of the setup name with this text
 abbrev pub setup_named : List SetupName → Text → Option ℕ
 setup_named [] name = None
 setup_named (n ∷ ns) name = if bytes_eq n.name name then Some 0 else option_map (λ i. i + 1) (setup_named ns name)
@@ -45,7 +45,7 @@ abbrev pub callable : ℕ → Text → Option MethodSign → Option Pending
 callable n name None = None
 callable n name (Some m) = if is_plain m.result then Some (pending (Method n m.number name m.result) m.parameters) else None
 
--- a method of the class of what a setup name holds
+-- a method of the class of the object that a setup name holds
 abbrev pub method_on : Outcome → Option SetupName → Text → Option MethodSign
 method_on o None name = None
 method_on o (Some s) name = method_named (methods_in (slice_get o.signs s.class)) name
@@ -70,7 +70,7 @@ with_argument p v =
 abbrev pub is_full : Pending → Bool
 is_full p = length p.values == length p.types
 
--- a number, which is 2147483648 behind a minus at most, and below without one
+-- a number without a minus: it is below 2147483648
 abbrev pub plain_number : Text → Option Value
 plain_number text =
     if nat_lt (digits_value 0 text) 2147483648 then Some (values.Int (pos (digits_value 0 text))) else None

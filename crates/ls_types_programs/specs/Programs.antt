@@ -20,7 +20,7 @@ type_of (values.Boolean b) = Some types.Boolean
 type_of (values.Reference n) = None
 type_of (values.Pair n m) = None
 
--- as many arguments as parameters, and each of its type
+-- as many arguments as parameters, each of the type of its parameter
 abbrev pub AreFor : List ValueType → List Value → Type 0
 AreFor parameters arguments = map type_of arguments ≡ map Some parameters
 
@@ -40,9 +40,9 @@ abbrev pub IsNewThread : List ThreadProgram → Text → Type 0
 IsNewThread [] name = Unit {0}
 IsNewThread (t ∷ ts) name = (t.name ≢ name) × IsNewThread ts name
 
--- The calls of a block, where these setup names are given before it, and those that are given behind it. A making gives a
--- new name, in the setup alone, and makes an object of a class that is there; a call is on a name that is given, of a
--- method that is there in the class of its object and that answers an int, a boolean or nothing.
+-- The calls of a block. The first list has the setup names that are given before it, the last list those after it. A
+-- making is in the setup alone. It gives a new name, and makes an object of a class of the file. A call is on a name
+-- that is given. Its method is in the class of that object, and answers an int, a boolean or nothing.
 pub data AreCallsOf (o : Outcome) (in_setup : Bool) : List SetupName → List ProgramCall → List SetupName → Type 0 where
   End : {names : List SetupName} → AreCallsOf o in_setup names [] names
   Makes : {names all : List SetupName} {cs : List ProgramCall} (s : SetupName) (class_name : Text) (vs : List Value)
@@ -56,8 +56,8 @@ pub data AreCallsOf (o : Outcome) (in_setup : Bool) : List SetupName → List Pr
       → AreCallsOf o in_setup names cs all
       → AreCallsOf o in_setup names (Calling n m.number name m.result vs ∷ cs) all
 
--- Threads behind those that are there: each has a name of its own, other than `all`, at most `most_calls` calls, and gives no
--- setup name.
+-- The threads of the last list come after those of the first list. Each of them has a name of its own, other than
+-- `all`, and at most `most_calls` calls. It gives no setup name.
 pub data AreThreadsOf (o : Outcome) (names : List SetupName) : List ThreadProgram → List ThreadProgram → Type 0 where
   End : {before : List ThreadProgram} → AreThreadsOf o names before []
   Thread : {before ts : List ThreadProgram} (t : ThreadProgram)
@@ -66,7 +66,8 @@ pub data AreThreadsOf (o : Outcome) (names : List SetupName) : List ThreadProgra
       → AreThreadsOf o names (before ++ t ∷ []) ts
       → AreThreadsOf o names before (t ∷ ts)
 
--- The program of a file: thread 0 is named `setup` and gives the setup names; at most `most_threads` threads stand beside it.
+-- The program of a file: thread 0 is named `setup` and gives the setup names. There are at most `most_threads` other
+-- threads.
 pub record IsProgramOf (o : Outcome) (p : Program) : Type 0 where
   pub setup : List ProgramCall
   pub threads : List ThreadProgram
@@ -76,7 +77,7 @@ pub record IsProgramOf (o : Outcome) (p : Program) : Type 0 where
   pub few : length threads ≤ most_threads
   pub others : AreThreadsOf o p.names (record { name = codes "setup"; calls = setup } ∷ []) threads
 
--- The text is not too long, its tokens spell the program, and that is a program of the file.
+-- The text is not too long, its tokens spell the program, and the program is one of the file.
 pub record IsTextOf (o : Outcome) (p : Program) (text : Text) : Type 0 where
   pub short : length text ≤ 262144
   pub tokens : List Lexeme

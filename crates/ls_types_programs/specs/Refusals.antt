@@ -1,4 +1,4 @@
--- Where in a text a fault stands.
+-- The place of a fault in a text.
 use Rattle.std.specs.Prelude.{◌≡◌, ℕ, ◌<◌, List, [], ◌∷◌, ◌++◌, length, Some, None}
 use Rattle.ls_lexer.specs.declared.fault.TextFault.{TextFault}
 use Rattle.ls_lexer.specs.declared.token.Token.{Token}
@@ -16,7 +16,7 @@ abbrev pub start_of : ℕ → List Token → ℕ
 start_of end [] = end
 start_of end (t ∷ ts) = t.span.start
 
--- The text's tokens are those before the place and those from it on.
+-- `before` are the text's tokens before the place, and `behind` are the tokens from there on.
 pub record SplitsAt (text : Text) (at : ℕ) (before behind : List Lexeme) : Type 0 where
   pub front : List Token
   pub back : List Token
@@ -26,7 +26,7 @@ pub record SplitsAt (text : Text) (at : ℕ) (before behind : List Lexeme) : Typ
   pub spans : InOrder text 0 (front ++ back) (length text)
   pub place : at ≡ start_of (length text) back
 
--- The fault is of the tokens before the place and of some from there.
+-- The fault is of the tokens before the place, and of some tokens from there on.
 pub record ShowsAt (Fault : List Lexeme → List Lexeme → Type 0) (text : Text) (at : ℕ) : Type 0 where
   pub before : List Lexeme
   pub shown : List Lexeme
@@ -34,8 +34,8 @@ pub record ShowsAt (Fault : List Lexeme → List Lexeme → Type 0) (text : Text
   pub fault : Fault before shown
   pub stands : SplitsAt text at before (shown ++ rest)
 
--- No gap and no token begins there; or the text ends, and its tokens aren't a program yet; or a token or name can't stand
--- there.
+-- No gap and no token begins at the place. Or the text ends there, and its tokens aren't a program yet. Or a token or
+-- name there is one that can't come.
 pub data IsBadAt (o : Outcome) (text : Text) (at : ℕ) : Type 0 where
   NoToken : (fault : TextFault) → StandsAt text at fault → tokens_of text ≡ None → IsBadAt o text at
   Ends : (ks : List Lexeme) → tokens_of text ≡ Some ks → at ≡ length text → GoesOn ks → ((p : Program) → Spells p ks → ⊥) → IsBadAt o text at

@@ -1,5 +1,5 @@
--- Which tokens spell a thread program. `K vs ks rest`, for a kind K of phrase: the tokens ks are a phrase of vs, and then
--- the rest.
+-- Which tokens spell a thread program. For a kind K of phrase, `K vs ks rest` says: the tokens ks are a phrase of vs,
+-- and then the rest.
 use Rattle.std.specs.Prelude.{◌≡◌, ℕ, ◌<◌, ◌≤◌, pos, neg_ℤ, Bool, true, false, List, [], ◌∷◌, Some, codes, slice_get, Option}
 use Rattle.ls_lexer.specs.Lexemes.{Lexeme, Named, Numeral, Reserved, Marked}
 use Rattle.ls_lexer.specs.Numbers.{value_of}
@@ -20,7 +20,7 @@ pub data Argument : Value → List Lexeme → List Lexeme → Type 0 where
   Minus : {rest : List Lexeme} (text : Text) → value_of 0 text ≤ 2147483648
       → Argument (values.Int (neg_ℤ (pos (value_of 0 text)))) (Marked signs.Minus ∷ Numeral text ∷ rest) rest
 
--- arguments behind another, each behind a comma, and `)`
+-- the arguments after the first, each after a comma, and `)`
 pub data Others : List Value → List Lexeme → List Lexeme → Type 0 where
   NoOther : {rest : List Lexeme} → Others [] (Marked signs.CloseParen ∷ rest) rest
   Other : {v : Value} {vs : List Value} {ks ls rest : List Lexeme} → Argument v ks ls → Others vs ls rest
@@ -32,7 +32,8 @@ pub data Arguments : List Value → List Lexeme → List Lexeme → Type 0 where
   First : {v : Value} {vs : List Value} {ks ls rest : List Lexeme} → Argument v ks ls → Others vs ls rest
       → Arguments (v ∷ vs) ks rest
 
--- `name = new Class(arguments);`, in the setup alone, or `name.method(arguments);`, where these are the setup names
+-- `name = new Class(arguments);`, in the setup alone, or `name.method(arguments);`; the names are among these setup
+-- names
 pub data Call (in_setup : Bool) (names : List SetupName) : ProgramCall → List Lexeme → List Lexeme → Type 0 where
   New : {n class : ℕ} {class_name : Text} {vs : List Value} {ks rest : List Lexeme} (s : SetupName) → in_setup ≡ true → slice_get names n ≡ Some s
       → Arguments vs ks (Marked signs.Semicolon ∷ rest)

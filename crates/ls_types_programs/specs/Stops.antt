@@ -1,5 +1,5 @@
--- Where the reading of tokens stops, and what is answered: for the reader's own functions, which `Refusals` says in the
--- grammar's terms.
+-- Where the reading of tokens stops, and what is answered. The reader's own functions use these definitions;
+-- `Refusals` says the same in terms of the grammar.
 use Rattle.std.specs.Prelude.{ℕ, List, [], ◌∷◌, Bool, Option, Some, None, codes, if◌then◌else◌, slice_get, length}
 use Rattle.ls_lexer.specs.declared.sign.Sign.TheVariants as signs
 use Rattle.ls_lexer.specs.declared.word.Word.TheVariants as words
@@ -13,7 +13,7 @@ use Rattle.ls_types_elaboration.specs.Elaboration.{Outcome}
 use Rattle.ls_types_programs.specs.ProgramCalls.{Pending, method_on, plain_number}
 use Rattle.ls_types_programs.specs.ThreadPrograms.{Stage, AtSetup, AtBlock, AtCall, AfterName, AfterAssign, AfterNew, AfterDot, AtArguments, AtFirst, AtArgument, AfterMinus, AfterArgument, AtSemicolon, AtThread, AtThreadName, Parts, Reading, stepped, ended, is_sign, is_word, is_text, name_in, number_in}
 
--- why a token can't stand; an argument that doesn't fit, with the type that is wanted, if one is
+-- why a token can't come; if an argument doesn't fit, the type that is wanted, if one is
 pub data Why : Type 0 where
   Form : Why
   NameTaken : Why
@@ -73,7 +73,7 @@ abbrev pub why_thread_name : Option Text → Why
 why_thread_name None = Form
 why_thread_name (Some name) = ThreadTaken
 
--- why a token can't stand in a stage, where it can't
+-- why a token can't come at a stage; this is asked only if it can't
 abbrev pub why : Outcome → Parts → Stage → Lexeme → Why
 why o r AtSetup k = Form
 why o r AtBlock k = Form
@@ -91,8 +91,8 @@ why o r (AtSemicolon p) k = why_semicolon k
 why o r AtThread k = why_thread k
 why o r AtThreadName k = why_thread_name (name_in k)
 
--- places of a statement's name, of the class or method of a call, and of the minus of an argument, behind which a stage
--- stands
+-- The places of the last name of a statement, of the class or method of a call, and of the minus of an argument. A
+-- stage that comes after one of these needs its place.
 pub record Marks : Type 0 where
   pub name : ℕ
   pub callee : ℕ
@@ -110,7 +110,7 @@ callee_mark at = record { name = 0; callee = at; minus = None }
 abbrev pub minus_mark : ℕ → ℕ → Marks
 minus_mark at minus = record { name = 0; callee = at; minus = Some minus }
 
--- the marks of the next stage, behind a token at the place
+-- the marks of the next stage, after a token at this place
 abbrev pub marked : Marks → ℕ → Stage → Marks
 marked m at (AfterName name) = name_mark at
 marked m at (AtArguments p) = callee_mark at
@@ -127,7 +127,7 @@ pub data Fault : Type 0 where
   References : (at : ℕ) → Fault
   Past : Fault
 
--- where an argument begins, and where it is at fault
+-- the place of an argument: that of its minus, if it has one
 abbrev pub argument_at : Option ℕ → ℕ → ℕ
 argument_at None at = at
 argument_at (Some minus) at = minus
@@ -136,7 +136,7 @@ abbrev pub unfit_at : Option ValueType → ℕ → ℕ → ℕ
 unfit_at None callee at = callee
 unfit_at (Some t) callee at = at
 
--- what is answered at a token
+-- the fault that a token gives
 abbrev pub fault_for : Marks → ℕ → Why → Fault
 fault_for m at Form = Bad at
 fault_for m at NameTaken = Bad m.name
@@ -157,7 +157,7 @@ abbrev pub goes_on : Fault → (Reading → Option Fault) → Option Reading →
 goes_on fault on None = Some fault
 goes_on fault on (Some next) = on next
 
--- the fault of the first token that can't stand, or of the end
+-- the fault of the first token that can't come, or of the end
 abbrev pub stops : Outcome → ℕ → Marks → Reading → List Token → Option Fault
 stops o end m q [] = fault_at_end end (ended q.stage)
 stops o end m q (t ∷ ts) =

@@ -18,7 +18,7 @@ use Rattle.ls_types_elaboration.specs.Known.{number_of}
 use Rattle.ls_types_elaboration.specs.Elaboration.{Outcome}
 use Rattle.ls_types_programs.specs.ProgramCalls.{Pending, setup_named, maker, called_on, with_argument, is_full, plain_number, minus_number, call_of, names_after}
 
--- bytes of the text
+-- the most bytes of a text
 abbrev pub most_bytes : ℕ
 most_bytes = 262144
 
@@ -40,7 +40,7 @@ pub data Stage : Type 0 where
   AtThread : Stage
   AtThreadName : Stage
 
--- the setup names, the threads that are read whole, and the name and calls of the one that is being read
+-- the setup names, the threads that are read whole, and the name and calls of the thread that is being read
 pub record Parts : Type 0 where
   pub names : List SetupName
   pub threads : List ThreadProgram
@@ -85,7 +85,7 @@ abbrev pub with_call : Parts → (Pending → Stage) → Option Pending → Opti
 with_call r stage None = None
 with_call r stage (Some p) = Some (at r (stage p))
 
--- the word `setup`
+-- whether a word is this text
 abbrev pub is_text : Text → Option Text → Bool
 is_text text None = false
 is_text text (Some t) = bytes_eq t text
@@ -103,7 +103,7 @@ abbrev pub at_call : Parts → Lexeme → Option Text → Option Reading
 at_call r k None = when (is_sign signs.CloseBrace k) (at (closed r) AtThread)
 at_call r k (Some name) = Some (at r (AfterName name))
 
--- `name = ..` gives a new name, in the setup alone; `name.` uses one that is given
+-- `name = ..` gives a new name, in the setup alone; `name.` uses a name that is given
 abbrev pub is_new_name : Parts → Text → Bool
 is_new_name r name = nat_lt (length r.threads) 1 && not (is_some (setup_named r.names name))
 
@@ -125,7 +125,7 @@ abbrev pub after_dot : Outcome → Parts → ℕ → Option Text → Option Read
 after_dot o r n None = None
 after_dot o r n (Some method) = with_call r AtArguments (called_on o n (slice_get r.names n) method)
 
--- `true`, `false`, a number, or a minus before a number
+-- an argument that is a number
 abbrev pub numbered : Parts → Pending → Option Value → Option Reading
 numbered r p None = None
 numbered r p (Some v) = with_call r AfterArgument (with_argument p v)
@@ -152,7 +152,7 @@ after_argument r p k =
     if is_sign signs.CloseParen k then arguments_end r p
     else when (is_sign signs.Comma k) (at r (AtArgument p))
 
--- one more call, where there is room
+-- one more call
 abbrev pub with_finished : Parts → Pending → Parts
 with_finished r p = record {
   names = names_after r.names p.callee;
@@ -168,7 +168,7 @@ at_semicolon r p k =
 abbrev pub at_thread : Parts → Lexeme → Option Reading
 at_thread r k = when (is_text (codes "thread") (name_in k) && nat_le (length r.threads) most_threads) (at r AtThreadName)
 
--- a thread's name is given once, and is not `setup` or `all`; the setup stands among the threads
+-- whether a thread has the name; the setup is among the threads
 abbrev pub thread_named : List ThreadProgram → Text → Bool
 thread_named [] name = false
 thread_named (t ∷ ts) name = bytes_eq t.name name || thread_named ts name
@@ -203,7 +203,7 @@ after o None ks = None
 after o (Some r) [] = Some r
 after o (Some r) (k ∷ ks) = after o (stepped o r.parts r.stage k) ks
 
--- a program ends behind a block
+-- a program ends after a block
 abbrev pub ended : Stage → Bool
 ended AtThread = true
 ended _ = false

@@ -4,14 +4,15 @@
 ghost use Rattle.ls_types_programs.specs.Faults.{FaultsStand};
 ghost use Rattle.ls_types_programs.specs.Laws.{ReadsWhatIsSpelled, OneProgram, ThreadsAreNamed};
 
-/// What is read from a text is the program of the file that the text's tokens spell, and no text spells two.
+/// If a program is read from a text, it is the program of the file that the text's tokens spell. No text spells more
+/// than one.
 pub fn reads_what_is_spelled()
     ensures law { ReadsWhatIsSpelled }
     ensures one { OneProgram }
     ensures named { ThreadsAreNamed }
 {}
 
-/// Behind tokens with a fault no program of the file goes on.
+/// If tokens have a fault, they are not the beginning of any program of the file.
 pub fn faults_stand()
     ensures { FaultsStand }
 {}

@@ -22,6 +22,7 @@ use Rattle.ls_types_tables.proofs.Keys.{has, swapped, insert_entry_new}
 use Rattle.ls_types_reading.specs.ByName.{value_named, with_first}
 use Rattle.ls_types_reading.specs.MethodsByName.{sign_seen, finds, declares, finds_in, Finds}
 
+-- the first of two values that is there
 abbrev pub first_of : {X : Type 0} → Option X → Option X → Option X
 first_of None o = o
 first_of (Some x) o = Some x
@@ -38,10 +39,12 @@ pub value_found : {V : Type 0} (es : List (String Global × V)) (name : Text) �
 value_found [] name = refl
 value_found (e ∷ es) name = λ j. if swapped name e.0 j then Some e.1 else value_found es name j
 
+-- if a name is given already, nothing changes
 pub given_twice : {V : Type 0} (es : List (String Global × V)) (name : Text) (v : V) → true ≡ is_some (lookup (has name) es)
     → map entry_seen es ≡ with_first (map entry_seen es) name v
 given_twice es name v there = rw (sym (there ∙ ap is_some (value_found es name))) refl
 
+-- if a name is new, it is added
 pub given_new : {V : Type 0} (es after : List (String Global × V)) (k : String Global) (name : Text) (v : V) → string_bytes k ≡ name
     → false ≡ is_some (lookup (has name) es) → after ≡ insert_entry string_eq es k v
     → map entry_seen after ≡ with_first (map entry_seen es) name v
@@ -111,6 +114,7 @@ setup_given es ns k c is name =
     ∙ ap (λ o. first_of o (if bytes_eq k name then Some (length ns) else None)) (is name)
     ∙ sym (setup_last ns (record { name = k; class = c }) name)
 
+-- one more name of the setup
 pub setup_pushed : (es after : List (Text × ℕ)) (k : Text) (n : ℕ) (names new : List names.SetupName) (owned : String Global) (c : ℕ)
     → ((name : Text) → value_named es name ≡ setup_named (map plain_name names) name) → n ≡ length names → string_bytes owned ≡ k
     → after ≡ with_first es k n → new ≡ names ++ record { name = owned; class = c } ∷ []
@@ -123,7 +127,7 @@ setup_pushed es after k n names new owned c is len same given pushed name =
     ∙ sym (map-append plain_name names (record { name = owned; class = c } ∷ []))
     ∙ ap (map plain_name) (sym pushed))
 
--- a method of a name, behind those that are given
+-- a method of a name, after those that are given
 pub method_given : {V : Type 0} (view : V → MethodSign) (es : List (Text × V)) (v : V) (rest : List MethodSign) (name : Text)
     → first_of (option_map view (value_named (with_first es (view v).name v) name)) (method_named rest name)
     ≡ first_of (option_map view (value_named es name)) (method_named (view v ∷ rest) name)
@@ -141,6 +145,7 @@ method_given {V} view es v rest name =
 left_at : (ms : List declared.MethodSign) (i : ℕ) (m : declared.MethodSign) → i < length ms → m ≡ slice_index_or ms i m → drop i ms ≡ m ∷ drop (i + 1) ms
 left_at ms i m l e = drop-cons ms i m l ∙ ap (λ z. z ∷ drop (suc i) ms) (sym e) ∙ ap (λ n. m ∷ drop n ms) (sym (add-one i))
 
+-- one more method of a class is given
 pub one_given : (es after : List (Text × Bor declared.MethodSign)) (k : Text) (v : Bor declared.MethodSign) (ms : List declared.MethodSign) (i : ℕ)
     → i < length ms → v.now ≡ slice_index_or ms i v.now → k ≡ string_bytes v.now.name → after ≡ with_first es k v
     → (name : Text) (found : Option MethodSign)
@@ -153,6 +158,7 @@ one_given es after k v ms i within is key given name found before =
     ∙ ap (λ ms. first_of (option_map sign_seen (value_named es name)) (method_named (map method_sign_of ms) name)) (sym (left_at ms i v.now within is))
     ∙ before
 
+-- if no method is left, all are given
 pub all_given : (o : Option MethodSign) (name : Text) → first_of o (method_named [] name) ≡ o
 all_given None name = refl
 all_given (Some m) name = refl
@@ -162,6 +168,7 @@ abbrev asked : {X Y : Type 0} → Option (X → Option Y) → X → Option Y
 asked None x = None
 asked (Some f) x = f x
 
+-- if each table finds what its class declares, the tables find the methods of classes
 pub class_finds : {S : Type 0} (ts : List (IndexMap (String Global) (Bor declared.MethodSign) S)) (cs : List ClassSign)
     → map finds ts ≡ map declares cs → Finds ts cs
 class_finds {S} ts cs is c name =

@@ -1,4 +1,4 @@
--- The faults that are answered stand in the text.
+-- The faults that are answered are at their places in the text.
 use Rattle.std.proofs.Common.{◌≡◌, ℕ, ◌<◌, length, refl, sym, ◌∙◌, subst, List, Option, Some, None}
 use Rattle.std.specs.Prelude.{option_map}
 use Rattle.ls_lexer.specs.Lexemes.{lexemes}
@@ -21,15 +21,19 @@ use Rattle.ls_types.specs.declared.fault.ProgramFault.TheVariants as faults
 use Rattle.ls_types.specs.ProgramViews.{fault_seen, Refuses}
 use Rattle.ls_types.specs.ProgramRefusals.{Stands, IsNoProgram}
 
+-- a byte that begins no token is bad
 pub bad_byte : (o : Outcome) (text : Text) (at : ℕ) → Refused text (texts.BadByte at) → IsBadAt o text at
 bad_byte o text at h = NoToken (texts.BadByte at) h.0 h.1
 
+-- a comment without an end is bad
 pub open_comment : (o : Outcome) (text : Text) (at : ℕ) → Refused text (texts.OpenComment at) → IsBadAt o text at
 open_comment o text at h = NoToken (texts.OpenComment at) h.0 h.1
 
+-- a number that is too large is bad
 pub bad_number : (o : Outcome) (text : Text) (at : ℕ) → Refused text (texts.BadNumber at) → IsBadAt o text at
 bad_number o text at h = NoToken (texts.BadNumber at) h.0 h.1
 
+-- a text that is too long passes a limit
 pub too_long : (o : Outcome) (text : Text) → 262144 < length text → PassesLimit o text
 too_long o text h = Bytes h
 
@@ -39,9 +43,11 @@ seen_stands o text (Unknown at) h = h
 seen_stands o text (References at) h = h
 seen_stands o text Past h = h
 
+-- a program that is read is spelled by the text
 pub program_spelled : (o : Outcome) (text : Text) (p : Program) → program_of o text ≡ Some p → IsTextOf o p text
 program_spelled o text p e = (reads_what_is_spelled o text p).0 e
 
+-- a fault at which the reading stops stands in the text
 pub program_stands : (o : Outcome) (text : Text) (ts : List Token) (e : ProgramFault) → tokens_of text ≡ Some (lexemes ts) → InOrder text 0 ts (length text)
     → option_map fault_seen (stops o (length text) unmarked beginning ts) ≡ Some e → Stands o text e
 program_stands o text ts e lexed spans is = by (stops o (length text) unmarked beginning ts) (stops_show o text ts) is
@@ -54,6 +60,7 @@ program_stands o text ts e lexed spans is = by (stops o (length text) unmarked b
 none_spelled : (o : Outcome) (text : Text) → program_of o text ≡ None → (p : Program) → IsTextOf o p text → ⊥
 none_spelled o text none p is = (let some : program_of o text ≡ Some p = (reads_what_is_spelled o text p).1 is in let no : None ≡ Some p = sym none ∙ some in cc)
 
+-- if a text is refused and its fault stands, no program has that text, or memory is out
 pub no_program : (o : Outcome) (text : Text) (f : ProgramFault) → Refuses f (program_of o text) → Stands o text f → IsNoProgram o text f
 no_program o text faults.Memory r s = record { none = tt; stands = s }
 no_program o text (faults.BadProgram at) r s = record { none = none_spelled o text r; stands = s }

@@ -23,7 +23,7 @@ abbrev pub finds_in : {S : Type 0} → Option (IndexMap (String Global) (Bor Met
 finds_in None name = None
 finds_in (Some methods) name = finds methods name
 
--- in the tables of all classes a name finds what it does in the classes
+-- in the tables of all classes, a name finds what it finds in the classes
 abbrev pub Finds : {S : Type 0} → List (IndexMap (String Global) (Bor MethodSign) S) → List known.ClassSign → Type 0
 Finds tables classes = (c : ℕ) (name : Text)
     → finds_in (slice_get tables c) name ≡ known.method_named (known.methods_in (slice_get classes c)) name

@@ -49,16 +49,16 @@ marks_of (stages.AfterArgument p) = callee_mark p.at
 marks_of (stages.AtSemicolon p) = callee_mark p.at
 marks_of _ = unmarked
 
--- behind a token at the place the next stage keeps its marks; or else this is the fault
+-- after a token at the place, the next stage keeps its marks; or else this is the fault
 abbrev pub Goes : Marks → ℕ → Why → Result Stage ProgramFault → Type 0
 Goes m at why (Ok s) = marks_of s ≡ marked m at (stage_of s)
 Goes m at why (Err e) = IsFault e (fault_for m at why)
 
--- reading stops with this fault, unless memory ran out
+-- reading stops with this fault, or memory ran out
 abbrev pub StopsWith : ProgramFault → Option Fault → Type 0
 StopsWith e stop = Says e (option_map fault_seen stop ≡ Some e)
 
--- read to the end, which is one or a fault, or stopped by this fault
+-- read to the end, which is the end of a program or a fault; or stopped by this fault
 abbrev pub StopsAt : ℕ → Option Fault → Result Stage ProgramFault → Type 0
 StopsAt end stop (Ok s) = stop ≡ fault_at_end end (programs.ended (stage_of s))
 StopsAt end stop (Err e) = StopsWith e stop

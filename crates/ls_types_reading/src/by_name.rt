@@ -1,4 +1,4 @@
-// Values by name: of each name the first that is given.
+// Values by name. Each name keeps the first value that it is given.
 
 ghost use Rattle.std.specs.Prelude.{◌≡◌, IfErr, IfOk};
 ghost use Rattle.ls_types_reading.specs.ByName.{entries_of, value_named as the_value, with_first};
@@ -6,14 +6,14 @@ ghost use Rattle.ls_types_reading.specs.ByName.{entries_of, value_named as the_v
 use indexmap::IndexMap;
 use std::alloc::{AllocError, Global};
 
-/// The value of a name, if it has one.
+/// The value of a name, or none.
 pub fn value_named<V: Copy>(values: &IndexMap<String, V>, name: &str) -> Option<V>
     ensures { result ≡ the_value (entries_of values.now) name.now }
 {
     values.get(name).copied()
 }
 
-/// Gives a name its value, where it has none. Refused for want of memory alone, and then no name has another value.
+/// Gives a name its value, if it has none. If memory runs out, no name has another value than before.
 pub fn give<V: Copy>(
     alloc: Global,
     values: &mut IndexMap<String, V>,

@@ -42,8 +42,8 @@ fn of_each<'c>(
     Ok(all)
 }
 
-/// A checked file, and the methods of each of its classes by name: what a name finds there is what it finds among the methods that the
-/// class declares.
+/// A checked file, and the methods of each of its classes by name. A name finds here what it finds among the methods
+/// that the class declares.
 #[derive(Drop)]
 pub struct Methods<'c> {
     pub checked: &'c Checked,
@@ -52,6 +52,7 @@ pub struct Methods<'c> {
 }
 
 impl<'c> Methods<'c> {
+    /// The methods of a checked file by name. The only refusal is that memory ran out.
     pub fn new(alloc: Global, checked: &'c Checked) -> Result<Methods<'c>, AllocError>
         ensures { IfOk result (λ m. m.checked ≡ checked.entry) }
     {
@@ -59,7 +60,7 @@ impl<'c> Methods<'c> {
         Ok(Methods { checked, classes })
     }
 
-    /// The method of a name, of the class of what a setup name holds.
+    /// The method of a name, in the class of the object that a setup name holds, or none.
     pub fn method_on(&self, setup: Option<&SetupName>, name: &str) -> Option<&'c MethodSign>
         ensures { option_map (λ m. method_sign_of m.now) result ≡ the_method_on (outcome_of self.now.checked.now) (option_map (λ s. plain_name s.now) setup.entry) name.now }
     {

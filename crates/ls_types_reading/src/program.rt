@@ -38,7 +38,7 @@ fn beginning(alloc: Global) -> Result<Parts, AllocError>
     })
 }
 
-// All tokens, behind which the stage is the one that is answered.
+// Reads all tokens. The answer is the stage after them.
 fn read_tokens<'a>(
     alloc: Global,
     methods: &Methods,
@@ -56,7 +56,7 @@ fn read_tokens<'a>(
     Ok(stage)
 }
 
-// A program ends behind a block; `end` is where the text does.
+// A program ends after a block. `end` is the end of the text, in bytes.
 fn whole<'a>(
     alloc: Global,
     methods: &Methods,
@@ -109,12 +109,17 @@ fn read(alloc: Global, text: &str, checked: &Checked) -> Result<Program, Program
     }
 }
 
-/// The thread program that a text is for a checked file: the one that its tokens spell, a well typed program of the file. A fault other than want of memory
-/// says that it is none, and stands there: `BadProgram` at the first token with which no program of any file is spelled (or
-/// the end, or where no token begins), a making in a thread or of a name that is given, and a thread named `all` or as
-/// another; `UnknownThing` at a class, setup name or method that isn't there, a class or method with too few or too many
-/// arguments, and the first argument of another type; `ReferenceResult` at a method that answers a reference;
-/// `ProgramLimit` for more than 262,144 bytes, a seventeenth thread beside the setup, or a call of a thread behind 256.
+/// The thread program that a text is for a checked file. It is the program that the text's tokens spell, and it is
+/// well typed.
+///
+/// Memory may run out. Any other fault says that the text is no program of the file, and the fault is at its place:
+///
+///   - `BadProgram`: the first token with which no program of any file is spelled; the end; where no token begins;
+///   - `BadProgram`: a making in a thread or of a given name; a thread that is named `all` or as another;
+///   - `UnknownThing`: a class, setup name or method that doesn't exist;
+///   - `UnknownThing`: a class or method with too few or too many arguments; the first argument of another type;
+///   - `ReferenceResult`: a method that answers a reference;
+///   - `ProgramLimit`: over 262,144 bytes, over 64 threads beside the setup, or over 256 calls of a thread.
 pub fn read_program(alloc: Global, text: &str, checked: &Checked) -> Result<Program, ProgramFault>
     ensures read { IfOk result (λ p. program_of (outcome_of checked.now) text.now ≡ Some (plain_program p)) }
     ensures typed { IfOk result (λ p. (f : File) → elaborated f ≡ Ok (outcome_of checked.now) → IsWellTypedProgram (outcome_of checked.now).file (plain_program p)) }

@@ -17,7 +17,7 @@ pub enum Stage<'a> {
     AtArguments(Pending<'a>),
     AtFirst(Pending<'a>),
     AtArgument(Pending<'a>),
-    /// The minus stands at the place.
+    /// The place of the minus comes second.
     AfterMinus(Pending<'a>, usize),
     AfterArgument(Pending<'a>),
     AtSemicolon(Pending<'a>),
@@ -25,7 +25,7 @@ pub enum Stage<'a> {
     AtThreadName,
 }
 
-/// What is read up to here: the setup names, the threads that are read whole, and the name and calls of the one that is being read.
+/// What is read so far: the setup names, the threads that are read whole, and the name and calls of the next thread.
 #[derive(Drop)]
 pub struct Parts {
     pub names: SetupNames,

@@ -31,6 +31,7 @@ impl Model for SetupNames {
 }
 
 impl SetupNames {
+    /// No setup names.
     pub fn new(alloc: Global) -> SetupNames
         ensures { result ≡ [] }
     {
@@ -40,25 +41,28 @@ impl SetupNames {
         }
     }
 
+    /// How many setup names there are.
     pub fn len(&self) -> usize
         ensures { result ≡ length self.now }
     {
         self.names.len()
     }
 
+    /// The setup name of a number, or none.
     pub fn get(&self, number: usize) -> Option<&SetupName>
         ensures { option_map (λ s. plain_name s.now) result ≡ slice_get self.now number }
     {
         self.names.get(number)
     }
 
+    /// The number of the setup name with this text, or none.
     pub fn number_of(&self, name: &str) -> Option<usize>
         ensures { result ≡ setup_named self.now name.now }
     {
         value_named(&self.numbers, name)
     }
 
-    /// One more name.
+    /// The same names, and one more. The only refusal is that memory ran out.
     pub fn with(self, alloc: Global, name: &str, class: usize) -> Result<SetupNames, AllocError>
         ensures { IfOk result (λ s. s ≡ self ++ record { name = name.now; class = class } ∷ []) }
     {
@@ -72,7 +76,7 @@ impl SetupNames {
         Ok(SetupNames { names, numbers })
     }
 
-    /// With the name that a call gives, if it gives one.
+    /// The same names, and the name that a call gives, if it gives one. The only refusal is that memory ran out.
     pub fn with_callee(self, alloc: Global, callee: Callee) -> Result<SetupNames, AllocError>
         ensures { IfOk result (λ s. s ≡ names_after self (callee_of callee.entry)) }
     {
@@ -82,6 +86,7 @@ impl SetupNames {
         }
     }
 
+    /// The setup names in order.
     pub fn into_names(self) -> Vec<SetupName>
         ensures { map plain_name result.items ≡ self }
     {

@@ -31,7 +31,7 @@ use std::mem;
 /// The most threads beside the setup.
 pub const MOST_THREADS: usize = 64;
 
-/// The most calls of a thread, the setup too.
+/// The most calls of a thread, and of the setup.
 pub const MOST_CALLS: usize = 256;
 
 fn is_sign(sign: Sign, kind: TokenKind) -> bool
@@ -97,7 +97,8 @@ fn is_text(text: &str, name: Option<&str>) -> bool
 }
 
 impl Parts {
-    /// One more token, in a stage: the next one.
+    /// The stage after one more token, or the fault at the token or its statement if the token can't come. Else the
+    /// only refusal is that memory ran out.
     pub fn stepped<'a>(
         &mut self,
         alloc: Global,
@@ -162,7 +163,7 @@ impl Parts {
         Ok(Stage::AtThread)
     }
 
-    // `=` gives a new name, in the setup alone; `.` uses one that is given.
+    // `=` gives a new name, in the setup alone; `.` uses a name that is given.
     fn after_name<'a>(
         &self,
         name: &'a str,
@@ -227,7 +228,7 @@ impl Parts {
         }
     }
 
-    // An argument's value; the argument stands at `at`.
+    // The value of an argument, which is at `at`.
     fn valued<'a>(&self, p: Pending<'a>, v: Value, at: usize) -> Result<Stage<'a>, ProgramFault>
         ensures read { Gives (reading_of self.now) result (the_with_call (parts_of self.now) after_argument_stage (the_with_argument (pending_of p.entry) v)) }
         ensures place { Goes (callee_mark p.entry.at) at (why_value (pending_of p.entry)) result }
@@ -352,7 +353,7 @@ impl Parts {
         Ok(Stage::AtCall)
     }
 
-    // Another thread, where there is room.
+    // Another thread, if there is room.
     fn at_thread<'a>(&self, token: Token<'a>) -> Result<Stage<'a>, ProgramFault>
         ensures read { Gives (reading_of self.now) result (the_at_thread (parts_of self.now) (lexeme_of token.entry.kind)) }
         ensures place { Goes unmarked token.entry.span.start (why_thread (lexeme_of token.entry.kind)) result }

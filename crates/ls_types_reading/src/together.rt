@@ -1,10 +1,10 @@
-// A step on a value of any type: what is refused is dropped here, at a parameter's type.
+// A step on a value of any type. A refused value is dropped here, at a parameter's type.
 
 ghost use Rattle.std.specs.Prelude.{◌≡◌, Err, Ok, if◌then◌else◌};
 
 use ls_types::fault::ProgramFault;
 
-/// What is there, if it passes.
+/// `x`, if it passes. Else it is refused with `fault`.
 pub fn passing<T: Drop>(x: T, passes: bool, fault: ProgramFault) -> Result<T, ProgramFault>
     ensures { result ≡ (if passes then Ok x else Err fault) }
 {

@@ -1,10 +1,11 @@
--- A step that is refused refuses all that comes behind it.
+-- If a step is refused, all that comes after it is refused.
 use Rattle.std.proofs.Common.{◌≡◌, ℕ, suc, ◌<◌, List, map, length, get_or, drop, drop-cons, ap, sym, ◌∙◌}
 use Rattle.ls_types_elaboration.specs.declared.rule.CheckFault.{CheckFault}
 use Rattle.ls_types_elaboration.specs.declared.rule.CheckFault.TheVariants as faults
 use Rattle.ls_types_elaboration.specs.Elaborated.{Elaborated, with_ok, each}
 use Rattle.ls_types_elaboration.specs.Refused.{Fails}
 
+-- if the first step fails, so do both
 pub fails_on : {X Y : Type 0} (e : CheckFault) (said : Elaborated X) (go : X → Elaborated Y) → Fails e said → Fails e (with_ok said go)
 fails_on faults.Memory said go h = tt
 fails_on (faults.Broken b) said go h = ap (λ s. with_ok s go) h

@@ -1,4 +1,4 @@
--- What contracts see of the declarations that are met.
+-- What contracts see of the declarations that are read so far.
 use Rattle.std.specs.Prelude.{map}
 use Rattle.ls_types_elaboration.specs.Signs as signs
 use Rattle.ls_types_tables.specs.ByName.{field_entries_of, method_entries_of, class_entry_of}

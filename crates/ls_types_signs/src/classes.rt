@@ -29,7 +29,7 @@ fn checked_class(alloc: Global, c: &ClassSign) -> Result<Class, AllocError>
     })
 }
 
-/// The classes as they are checked.
+/// The classes as they are checked. The only refusal is that memory ran out.
 pub fn checked_classes(alloc: Global, signs: &[ClassSign]) -> Result<Vec<Class>, AllocError>
     ensures { IfOk result (λ v. map plain_class v.items ≡ map the_class (map class_sign_of signs.now)) }
 {

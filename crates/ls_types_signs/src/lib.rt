@@ -1,4 +1,4 @@
-//! What the classes of a text declare, as code of typing.
+//! Typing of declarations: what the classes of a text declare, or a broken rule and its place.
 #![tactic(auto)]
 
 pub mod classes;

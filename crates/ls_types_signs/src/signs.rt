@@ -26,7 +26,7 @@ pub const MOST_FIELDS: usize = 64;
 /// The most methods and constructors of a file, default ones too.
 pub const MOST_METHODS: usize = 512;
 
-// What has been met of a class, and the number of the next method or constructor.
+// What a class has declared so far, and the number of the next method or constructor.
 #[derive(Drop)]
 struct Met {
     fields: IndexMap<String, ValueType>,
@@ -70,7 +70,7 @@ fn one_name(alloc: Global, names: &mut IndexSet<String>, c: &Class) -> Result<()
     Ok(())
 }
 
-/// The names of the classes, by their numbers.
+/// The names of the classes, by their numbers. Refused only by a broken rule, or if memory runs out.
 pub fn class_names(alloc: Global, classes: &[Class]) -> Result<IndexSet<String>, CheckFault>
     ensures { Gives keys_of result (the_class_names (map placed_class classes.now)) }
 {
@@ -81,7 +81,7 @@ pub fn class_names(alloc: Global, classes: &[Class]) -> Result<IndexSet<String>,
     Ok(names)
 }
 
-// The types of parameters, which have room beside `this`.
+// The types of parameters. There must be room for them beside `this`.
 fn parameter_types(
     alloc: Global,
     names: &IndexSet<String>,
@@ -204,7 +204,7 @@ fn member_met(
     }
 }
 
-// A class that is met whole, behind those before it.
+// A class of which all is read, after those before it.
 fn class_met(alloc: Global, classes: &mut Classes, n: &Name, met: Met) -> Result<(), CheckFault>
     ensures { Gives (λ u. classes_of classes.new) result (the_class_met (classes_of classes.old) (placed_name n.now) (met_of met) met.constructor) }
 {
@@ -269,7 +269,7 @@ fn one_class(
     class_met(alloc, classes, &c.name, met)
 }
 
-/// What the classes declare.
+/// What the classes declare. Refused only by a broken rule, or if memory runs out.
 pub fn class_tables(
     alloc: Global,
     names: &IndexSet<String>,

@@ -6,6 +6,7 @@ use Rattle.ls_types_elaboration.specs.PlacedStatements.{if_of, placed_before, pl
 use Rattle.ls_types_elaboration.specs.Trees.{Expression, Statement, Items, Block, Empty, If, IfElse, While, For, Break, Continue, Return, Try, Perform, Synchronized, NoItem, Do, Declare}
 
 abbrev mutual
+  -- how many nodes a statement has
   pub statement_nodes : Statement → ℕ
   statement_nodes (Block items) = items_nodes items + 1
   statement_nodes Empty = 1
@@ -20,11 +21,13 @@ abbrev mutual
   statement_nodes (Synchronized target body) = items_nodes body + 2
   statement_nodes (Perform simple) = 1
 
+  -- how many nodes the items of a block have
   pub items_nodes : Items → ℕ
   items_nodes NoItem = 0
   items_nodes (Do first others) = statement_nodes first + items_nodes others + 1
   items_nodes (Declare first others) = items_nodes others + 1
 
+-- how many nodes the other branch has
 abbrev pub other_nodes : Option Statement → ℕ
 other_nodes None = 0
 other_nodes (Some s) = statement_nodes s
@@ -37,7 +40,7 @@ pub nodes-before : (item : BlockItem) (rest : Items) → items_nodes (placed_bef
 nodes-before (rows.Statement s) rest = omega arith
 nodes-before (rows.Declaration d) rest = omega arith
 
--- the item at a place, and those behind it
+-- the item at a place, and those after it
 pub items_at : (xs : List BlockItem) (i : ℕ) (x : BlockItem) → i < length xs → x ≡ get_or xs i x
     → placed_items (drop i xs) ≡ placed_before x (placed_items (drop (i + 1) xs))
 items_at xs i x low is =
@@ -45,6 +48,7 @@ items_at xs i x low is =
     ap placed_items (drop-cons xs i x low)
     ∙ ap (λ (y : BlockItem). placed_before y (placed_items (drop (suc i) xs))) (sym is))
 
+-- the nodes of the items from a place on
 pub nodes_at : (xs : List BlockItem) (i : ℕ) (x : BlockItem) → i < length xs → x ≡ get_or xs i x
     → items_nodes (placed_items (drop i xs)) ≡ items_nodes (placed_before x NoItem) + items_nodes (placed_items (drop (i + 1) xs))
 nodes_at xs i x low is = ap items_nodes (items_at xs i x low is) ∙ nodes-before x (placed_items (drop (i + 1) xs))

@@ -1,4 +1,4 @@
-//! Typing of statements: what a statement of a class text's tree means in its scope, or a rule that is broken and where.
+//! Typing of statements: what a statement of a class text's tree means in its scope, or a broken rule and its place.
 #![tactic(auto)]
 
 pub mod scope;

@@ -22,7 +22,8 @@ use ls_types_tables::known::Known;
 use ls_types_tables::type_names::type_of;
 use std::alloc::{AllocError, Global};
 
-/// What is known in a body: memory for what is made, the declarations of the file, what the method answers, and where its name stands.
+/// What is known in a body: the allocator, the declarations of the file, what the method answers, and the place of its
+/// name.
 #[derive(Copy)]
 pub struct Context<'k> {
     pub alloc: Global,
@@ -37,15 +38,15 @@ impl<'k> Clone for Context<'k> {
     }
 }
 
-/// The statements of a block so far, and the locals in scope behind them.
+/// The statements of a block so far, and the locals in scope after them.
 #[derive(Drop)]
 pub struct Scope<'t> {
     pub statements: Vec<Statement>,
     pub locals: Vec<Local<'t>>,
 }
 
-/// The types of a method's slots so far, and how many of these have names (or are `this`): the others hold objects whose monitors
-/// `synchronized` locks.
+/// The types of a method's slots so far, and how many slots have names or are `this`. The other slots hold objects
+/// whose monitors `synchronized` locks.
 #[derive(Drop)]
 pub struct Slots {
     pub types: Vec<ValueType>,
@@ -63,7 +64,7 @@ fn with_named(slots: &mut Slots, t: ValueType) -> Result<(), AllocError>
     Ok(())
 }
 
-/// One more slot that no name finds.
+/// One more slot that no name finds. The only refusal is that memory ran out.
 pub fn with_unnamed(slots: &mut Slots, t: ValueType) -> Result<(), AllocError>
     ensures grown { OnOk result (slots_of slots.new ≡ the_unnamed (slots_of slots.old) t) }
     ensures same { OnOk result (slots.new.named ≡ slots.old.named) }
@@ -72,7 +73,7 @@ pub fn with_unnamed(slots: &mut Slots, t: ValueType) -> Result<(), AllocError>
     Ok(())
 }
 
-/// What a local starts at.
+/// The start value of a local.
 pub fn start_of(t: ValueType) -> Value
     ensures { result ≡ the_start t }
 {
@@ -83,7 +84,7 @@ pub fn start_of(t: ValueType) -> Value
     }
 }
 
-/// One more variable in scope, in the next slot.
+/// One more variable in scope, in the next slot. The only refusal is that memory ran out.
 pub fn with_variable<'t>(
     scope: &mut Scope<'t>,
     slots: &mut Slots,
@@ -121,7 +122,7 @@ fn started<'t>(
     Ok(())
 }
 
-/// Whether a name may be declared: no variable in scope has it, and there is room.
+/// A name may be declared if no variable in scope has it, and if there is room. Else the rule that it breaks.
 pub fn may_declare(method: Span, scope: &Scope, slots: &Slots, n: &Name) -> Result<(), Broken>
     ensures may { (go : Elaborated (the_scope)) → the_may_declare method (scope_of scope.now (slots_of slots.now)) (placed_name n.now) go ≡ unless_refused result go }
     ensures room { OnOk result (slots.now.named < 128) }
@@ -135,7 +136,7 @@ pub fn may_declare(method: Span, scope: &Scope, slots: &Slots, n: &Name) -> Resu
     Ok(())
 }
 
-// The initialiser, where there is one, as an assignment.
+// The initialiser, if there is one, as an assignment.
 fn initialised(
     context: Context,
     t: ValueType,
@@ -178,7 +179,7 @@ fn declared<'t>(
     initialised(context, t, slot, scope, &d.value)
 }
 
-/// A declaration of locals.
+/// A declaration of locals. Refused only by a broken rule, or if memory runs out.
 pub fn declaration<'t>(
     context: Context,
     scope: &mut Scope<'t>,

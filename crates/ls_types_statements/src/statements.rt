@@ -48,7 +48,7 @@ impl<'t> Clone for Loop<'t> {
     }
 }
 
-/// What a statement stands in: the body, and the loops, the innermost first.
+/// The body and the loops around a statement, the innermost first.
 #[derive(Copy)]
 pub struct Round<'r, 't> {
     pub context: Context<'r>,
@@ -83,7 +83,7 @@ fn may_leave(breaking: bool, part: LoopPart) -> bool
     }
 }
 
-// Without a label it is the innermost loop.
+// A jump without a label has the innermost loop as its target.
 fn is_label(name: Option<&str>, label: Option<&str>) -> bool
     ensures { result ≡ the_is_label (option_copied name.entry) (option_copied label.entry) }
 {
@@ -154,7 +154,7 @@ fn jump(
     }
 }
 
-// What a `continue` comes to.
+// The checked form of a `continue`. If its loop is a turn of a `for`, it is a `break` out of that turn.
 fn continued(way: (usize, LoopPart)) -> Statement
     ensures { plain_statement result ≡ the_continued way.1 way.0 }
 {
@@ -165,7 +165,7 @@ fn continued(way: (usize, LoopPart)) -> Statement
     }
 }
 
-// A loop's label isn't that of a loop round it.
+// A loop's label isn't the label of a loop around it.
 fn fresh_label(loops: &[Loop], label: &Option<Name>) -> Result<(), Broken>
     ensures { (go : Elaborated (WithSlots checked_statement)) → the_fresh_label (map loop_of loops.now) (option_map placed_name label.now) go ≡ unless_refused result go }
 {
@@ -281,7 +281,8 @@ fn three<T: Drop>(alloc: Global, a: T, b: T, c: T) -> Result<Vec<T>, AllocError>
     Ok(all)
 }
 
-/// The statement that locks the monitor of an object, which a slot keeps, and unlocks it behind its body.
+/// The statement that locks the monitor of an object, which a slot keeps, and unlocks it after its body. Refused only
+/// by a broken rule, or if memory runs out.
 pub fn synchronized_of(
     alloc: Global,
     slot: usize,
@@ -305,7 +306,7 @@ pub fn synchronized_of(
     Ok(block_of(three(alloc, kept, hold, tried)?))
 }
 
-// What a `for` begins with, and the locals in scope behind it.
+// What a `for` begins with, and the locals in scope after it.
 fn opening_of<'r, 't>(
     round: Round<'r, 't>,
     locals: &[Local<'t>],
@@ -334,7 +335,7 @@ fn opening_of<'r, 't>(
     }
 }
 
-// A condition; none is `true`.
+// A condition. If none is written, it is `true`.
 fn condition_of(site: Site, condition: &Option<Expr>) -> Result<Expression, CheckFault>
     ensures { Gives plain result (the_condition (known_of site.entry.known) (locals_of site.entry) (option_map placed condition.now)) }
 {
@@ -391,7 +392,7 @@ fn for_of(
     Ok(block_of(all))
 }
 
-/// A statement.
+/// A statement. Refused only by a broken rule, or if memory runs out.
 #[cycle(statements)]
 pub fn statement<'r, 't>(
     round: Round<'r, 't>,
@@ -603,7 +604,7 @@ fn synchronized<'r, 't>(
     synchronized_of(round.context.alloc, slot, class, object, b)
 }
 
-// A block behind the slot of an object.
+// A block that comes after the slot of an object.
 #[cycle(statements)]
 fn kept_block<'r, 't>(
     round: Round<'r, 't>,
@@ -642,7 +643,8 @@ fn block<'r, 't>(
     Ok(block_of(scope.statements))
 }
 
-/// The statements and declarations of a block, one after another.
+/// The statements and declarations of a block, one after another. Refused only by a broken rule, or if memory runs
+/// out.
 #[cycle(statements)]
 pub fn all_items<'r, 't>(
     round: Round<'r, 't>,

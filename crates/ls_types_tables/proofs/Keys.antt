@@ -24,6 +24,7 @@ use Rattle.ls_types_tables.specs.ByName.{field_entry, method_entry}
 abbrev pub has : Text → String Global → Bool
 has name k = bytes_eq name (string_bytes k)
 
+-- the test the other way round
 pub swapped : (name : Text) (k : String Global) → has name k ≡ bytes_eq (string_bytes k) name
 swapped name k = nat_list_eq_equiv.symm name (string_bytes k)
 
@@ -34,12 +35,13 @@ position_number (k ∷ ks) name =
     position_from_first (has name) k ks
     ∙ (λ j. if swapped name k j then Some 0 else next (position_number ks name j))
 
--- a name has a number where it is there
+-- a name has a number exactly if it is there
 any_step : (b a : Bool) (i : Option ℕ) → a ≡ is_some i → (b || a) ≡ is_some (if b then Some 0 else next i)
 any_step true a i e = refl
 any_step false a None e = e
 any_step false a (Some i) e = e
 
+-- a key of the name is there exactly if the name has a number
 pub any_number : (ks : List (String Global)) (name : Text) → list_any (has name) ks ≡ is_some (number_of (map string_bytes ks) name)
 any_number [] name = refl
 any_number (k ∷ ks) name =
@@ -68,6 +70,7 @@ entry_added {V} {X} view (e ∷ es) k v absent = one (string_eq k e.0) absent (e
     one true gone rest = absurd cc
     one false gone rest = ap (λ l. view e ∷ l) (rest gone)
 
+-- a new entry goes last
 pub insert_entry_new : {V X : Type 0} (view : Text → V → X) (es : List (String Global × V)) (k : String Global) (v : V) (name : Text)
     → string_bytes k ≡ name → is_some (lookup (has name) es) ≡ false
     → map (λ e. view (string_bytes e.0) e.1) (insert_entry string_eq es k v) ≡ map (λ e. view (string_bytes e.0) e.1) es ++ view name v ∷ []
@@ -75,6 +78,7 @@ insert_entry_new view es k v name same absent =
     entry_added (λ e. view (string_bytes e.0) e.1) es k v (ap (λ t. is_some (lookup (has t) es)) same ∙ absent)
     ∙ ap (λ t. map (λ e. view (string_bytes e.0) e.1) es ++ view t v ∷ []) same
 
+-- a field as an entry of the table has it
 abbrev pub field_at : String Global × ValueType → known.FieldSign
 field_at f = field_entry (string_bytes f.0) f.1
 
@@ -102,16 +106,18 @@ table_field (e ∷ es) name =
     ∙ field_step (has name e.0) (position (has name) (keys_of es)) e.1 (lookup (has name) es) (field_named (map field_at es) name) (table_field es name)
     ∙ (λ j. if swapped name e.0 j then Some (record { number = 0; value_type = e.1 }) else next_field (field_named (map field_at es) name))
 
+-- the field that a table finds
 pub field_there : (es : List (String Global × ValueType)) (name : Text) (i : ℕ) (t : ValueType)
     → Some i ≡ position (has name) (keys_of es) → Some t ≡ lookup (has name) es
     → Some (record { number = i; value_type = t }) ≡ field_named (map field_at es) name
 field_there es name i t at is = (λ j. found_field (at j) (is j)) ∙ table_field es name
 
+-- if a table finds no field, there is none of the name
 pub field_missing : (es : List (String Global × ValueType)) (name : Text) → None ≡ position (has name) (keys_of es)
     → None ≡ field_named (map field_at es) name
 field_missing es name at = (λ j. found_field (at j) (lookup (has name) es)) ∙ table_field es name
 
--- a field is found where its name is there
+-- a field is found exactly if its name is there
 pub any_field : (es : List (String Global × ValueType)) (name : Text) → is_some (lookup (has name) es) ≡ is_some (field_named (map field_at es) name)
 any_field [] name = refl
 any_field (e ∷ es) name =
@@ -124,6 +130,7 @@ any_field (e ∷ es) name =
     one false t None h = h
     one false t (Some f) h = h
 
+-- a method as an entry of the table has it
 abbrev pub method_at : String Global × MethodEntry → known.MethodSign
 method_at m = method_entry (string_bytes m.0) m.1
 
@@ -140,7 +147,7 @@ table_method (e ∷ es) name = by (has name e.0) refl (table_method es name)
         rw (is, sym (swapped name e.0) ∙ is) (ap (λ n. Some (method_entry n e.1)) ((bytes_eq-Decides name (string_bytes e.0)).0 is))
     by false is rest = rw (is, sym (swapped name e.0) ∙ is) rest
 
--- a method is found where its name is there
+-- a method is found exactly if its name is there
 pub any_method : (es : List (String Global × MethodEntry)) (name : Text) → is_some (lookup (has name) es) ≡ is_some (method_named (map method_at es) name)
 any_method es name = some_seen (lookup (has name) es) ∙ ap is_some (table_method es name)
   where
@@ -148,6 +155,7 @@ any_method es name = some_seen (lookup (has name) es) ∙ ap is_some (table_meth
     some_seen None = refl
     some_seen (Some m) = refl
 
+-- a method that is found, seen
 pub seen_method : {M X : Type 0} (view : M → X) (m : Option (Bor M)) → option_map (λ m. view m.now) m ≡ option_map view (option_copied m)
 seen_method view None = refl
 seen_method view (Some m) = refl

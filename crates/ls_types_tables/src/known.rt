@@ -11,8 +11,8 @@ use indexmap::{IndexMap, IndexSet};
 use ls_events::value::ValueType;
 use ls_types_elaboration::known::FoundField;
 
-/// The names of the classes, what they declare, and the number of the class in which code stands. A class's number is the index of
-/// its name.
+/// The names of the classes, what they declare, and the number of the class to which the code belongs. A class's
+/// number is the index of its name.
 #[derive(Clone, Copy)]
 pub struct Known<'k> {
     pub names: &'k IndexSet<String>,
@@ -20,7 +20,7 @@ pub struct Known<'k> {
     pub own: usize,
 }
 
-/// The number of a class.
+/// The number of the class of a name: the index of the name, or none.
 pub fn number_of(names: &IndexSet<String>, name: &str) -> Option<usize>
     ensures found { result ≡ the_number (keys_of names.now) name.now }
     ensures small { IfSome result (λ n. n < index_set_len names.now) }
@@ -28,7 +28,7 @@ pub fn number_of(names: &IndexSet<String>, name: &str) -> Option<usize>
     names.get_index_of(name)
 }
 
-/// A field among those of a class.
+/// The field of a name among those of a class, or none.
 pub fn field_named(fields: &IndexMap<String, ValueType>, name: &str) -> Option<FoundField>
     ensures found { result ≡ the_field (field_entries_of fields.now) name.now }
     ensures small { IfSome result (λ f. f.number < index_map_len fields.now) }
@@ -40,7 +40,7 @@ pub fn field_named(fields: &IndexMap<String, ValueType>, name: &str) -> Option<F
     })
 }
 
-/// A method among those of a class.
+/// The method of a name among those of a class, or none.
 pub fn method_named<'a>(
     methods: &'a IndexMap<String, MethodEntry>,
     name: &str,
@@ -50,14 +50,14 @@ pub fn method_named<'a>(
     methods.get(name)
 }
 
-/// The class of a number.
+/// The class of a number, or none.
 pub fn class_at<'a>(known: Known<'a>, class: usize) -> Option<&'a ClassTables>
     ensures { option_map (λ c. class_entry_of c.now) result ≡ slice_get (map class_entry_of known.entry.classes.now) class }
 {
     known.classes.get(class)
 }
 
-/// A field of a class.
+/// The field of a name in the class of a number, or none.
 pub fn field_of(known: Known, class: usize, name: &str) -> Option<FoundField>
     ensures { result ≡ the_field_of (known_of known.entry) class name.now }
 {
@@ -67,7 +67,7 @@ pub fn field_of(known: Known, class: usize, name: &str) -> Option<FoundField>
     }
 }
 
-/// A method of a class.
+/// The method of a name in the class of a number, or none.
 pub fn method_of<'a>(known: Known<'a>, class: usize, name: &str) -> Option<&'a MethodEntry>
     ensures { option_map (λ m. method_entry name.now m.now) result ≡ the_method_of (known_of known.entry) class name.now }
 {

@@ -49,7 +49,8 @@ fn member_in(
     }
 }
 
-/// A method of the own class (JLS 15.12.1). Refused by `UnknownName` at the name where the class has none of that name, and for want of memory.
+/// A method of the class to which the code belongs (JLS 15.12.1). If that class has no method of the name, it is
+/// refused by `UnknownName` at the name. Else the only refusal is that memory ran out.
 pub fn own_member(alloc: Global, known: Known, n: &Name) -> Result<Member, CheckFault>
     ensures { Gives seen_member result (found (the_method_member (the_method_of (known_of known.entry) known.entry.own (string_bytes n.now.text))) n.now.span) }
 {
@@ -59,8 +60,8 @@ pub fn own_member(alloc: Global, known: Known, n: &Name) -> Result<Member, Check
     }
 }
 
-/// What a name means on a target of a type (JLS 15.12.1, 15.12.2). Refused by `UnknownName` at the name where the type has no method of that name,
-/// and for want of memory.
+/// What a name means on a target of a type (JLS 15.12.1, 15.12.2). If the type has no method of the name, it is
+/// refused by `UnknownName` at the name. Else the only refusal is that memory ran out.
 pub fn member_of(
     alloc: Global,
     known: Known,
@@ -90,7 +91,8 @@ fn maker_with(
     })
 }
 
-/// What `new` makes of a class's name (JLS 15.9.1). Refused by `UnknownType` at the name where there is no such class, and for want of memory.
+/// What `new` makes of a class's name (JLS 15.9.1). If there is no such class, it is refused by `UnknownType` at the
+/// name. Else the only refusal is that memory ran out.
 pub fn maker_of(alloc: Global, known: Known, n: &Name) -> Result<Maker, CheckFault>
     ensures { Gives seen_maker result (the_maker_of (known_of known.entry) (placed_name n.now)) }
 {
@@ -111,8 +113,8 @@ pub fn maker_of(alloc: Global, known: Known, n: &Name) -> Result<Maker, CheckFau
     }
 }
 
-/// What `new AtomicMarkableReference` makes, for references to the class of a name. Refused by `UnknownType` at the name where there is no such class,
-/// and for want of memory.
+/// What `new AtomicMarkableReference` makes, for references to objects of a class. If there is no such class, it is
+/// refused by `UnknownType` at the name. Else the only refusal is that memory ran out.
 pub fn markable_maker(alloc: Global, known: Known, n: &Name) -> Result<Maker, CheckFault>
     ensures { Gives seen_maker result (the_markable_maker (the_number (keys_of known.entry.names.now) (string_bytes n.now.text)) n.now.span) }
 {

@@ -1,4 +1,4 @@
-// Tables by name of what a text declares. An index map numbers what it has in the order in which that came.
+// Tables by name of what a text declares. An index map numbers its entries in the order in which they came.
 
 ghost use Rattle.std.specs.Prelude.{◌≡◌, IfOk, map};
 ghost use Rattle.ls_types_elaboration.specs.Tables.{texts_of, field_sign_of, method_sign_of, class_sign_of};
@@ -9,7 +9,7 @@ use ls_events::value::ValueType;
 use ls_types_elaboration::known::{ClassSign, FieldSign, MethodSign};
 use std::alloc::{AllocError, Global};
 
-/// A method: its number in the file, the types of its parameters, and the type that it answers, which is none where it is void.
+/// A method: its number in the file, the types of its parameters, and the type of its answer. A void method has none.
 #[derive(Drop)]
 pub struct MethodEntry {
     pub number: usize,
@@ -17,8 +17,8 @@ pub struct MethodEntry {
     pub result: Option<ValueType>,
 }
 
-/// What a class declares, by name, and the number of its constructor with the types of its parameters. A field's number is its
-/// index.
+/// What a class declares, by name. A field's number is its index. `constructor` is the number of the constructor in
+/// the file, and `parameters` are the types of its parameters.
 #[derive(Drop)]
 pub struct ClassTables {
     pub fields: IndexMap<String, ValueType>,
@@ -27,7 +27,7 @@ pub struct ClassTables {
     pub parameters: Vec<ValueType>,
 }
 
-/// Names as a list, by their numbers. Refused only for want of memory.
+/// Names as a list, by their numbers. The only refusal is that memory ran out.
 pub fn names_of(alloc: Global, names: IndexSet<String>) -> Result<Vec<String>, AllocError>
     ensures { IfOk result (λ v. texts_of v.items ≡ keys_of names) }
 {
@@ -93,7 +93,7 @@ fn class_sign(alloc: Global, tables: ClassTables) -> Result<ClassSign, AllocErro
     })
 }
 
-/// What the classes declare as lists, by numbers. Refused only for want of memory.
+/// What the classes declare as lists, by numbers. The only refusal is that memory ran out.
 pub fn class_signs(alloc: Global, all: Vec<ClassTables>) -> Result<Vec<ClassSign>, AllocError>
     ensures { IfOk result (λ v. map class_sign_of v.items ≡ map class_entry_of all.items) }
 {

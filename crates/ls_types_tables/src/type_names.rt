@@ -13,7 +13,7 @@ use ls_events::value::ValueType;
 use ls_tree::tree::{Name, Type};
 use ls_types_elaboration::rule::{Broken, Rule, broken_at};
 
-/// The type that is written (JLS 4.2, 4.3, 10.1). Refused by `UnknownType` at the name where that is no class.
+/// The type that is written (JLS 4.2, 4.3, 10.1). If a name is no class, it is refused by `UnknownType` at the name.
 pub fn type_of(names: &IndexSet<String>, t: &Type) -> Result<ValueType, Broken>
     ensures { result ≡ the_type (keys_of names.now) (placed_type t.now) }
 {
@@ -41,7 +41,7 @@ fn class_type(names: &IndexSet<String>, n: &Name) -> Result<ValueType, Broken>
     }
 }
 
-/// What a method answers, which is nothing for `void` (JLS 8.4.5). Refused as `type_of` is.
+/// What a method answers; `void` is nothing (JLS 8.4.5). It is refused as `type_of` is.
 pub fn result_of(names: &IndexSet<String>, t: &Option<Type>) -> Result<Option<ValueType>, Broken>
     ensures { result ≡ the_result (keys_of names.now) (option_map placed_type t.now) }
 {

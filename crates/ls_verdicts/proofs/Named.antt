@@ -8,7 +8,7 @@ use Rattle.ls_report.specs.Events.{Event}
 use Rattle.ls_report.specs.Printing.{named}
 use Rattle.ls_verdicts.specs.Verdicts.{IsNamed}
 
--- where each has a value, these are the values
+-- if each has a value, these are the values
 pub all_there : {X Y : Type 0} (f : X → Option Y) (xs : List X) (ys : List Y) → map f xs ≡ map Some ys → filter_map f xs ≡ ys
 all_there f [] [] e = refl
 all_there f [] (y ∷ ys) e = cc
@@ -18,6 +18,6 @@ all_there {Y = Y} f (x ∷ xs) (y ∷ ys) e =
     let tail : map f xs ≡ map Some ys = cc in
     rw head (ap (λ l. y ∷ l) (all_there f xs ys tail))
 
--- what is named of a history of a run is the events that it stands for
+-- the named events of a run's history are the events of that history
 pub named_is : (p : Program) (run : List RunEvent) (events : List Event) → IsNamed p run events → filter_map (named p) run ≡ events
 named_is p run events h = all_there (named p) run events h.is_named

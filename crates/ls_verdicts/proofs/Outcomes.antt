@@ -7,10 +7,11 @@ use Rattle.ls_order_search.specs.declared.judging.Outcome.TheVariants as outcome
 use Rattle.ls_verdicts.specs.Outcomes.{verdict_of}
 use Rattle.ls_verdicts.specs.Verdicts.{IsVerdictOn}
 
--- where no order is legal from an event on, none of all events is
+-- if no order is legal from an event on, none is legal of all events
 hopeless_is_illegal : (events : List Event) (at : ℕ) → IsHopeless events at → NoneIsLegal events
 hopeless_is_illegal events at h = subst NoneIsLegal (take_all (length events) events (le_of_eq refl)) (h.with_it (length events) h.within)
 
+-- an outcome of the search gives its verdict
 pub outcome_told : (events : List Event) (outcome : Outcome) → IsOutcome events outcome → IsVerdictOn events (verdict_of outcome)
 outcome_told events (outcomes.NotOneSet call) h = (h.0, h.1)
 outcome_told events outcomes.TooManyTrapped h = h

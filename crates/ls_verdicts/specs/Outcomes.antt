@@ -1,4 +1,4 @@
--- The verdict that an outcome comes to.
+-- The verdict of an outcome.
 use Rattle.ls_order_search.specs.declared.judging.Outcome.{Outcome}
 use Rattle.ls_order_search.specs.declared.judging.Outcome.TheVariants as outcomes
 use Rattle.ls_verdicts.specs.declared.verdicts.Verdict.{Verdict}

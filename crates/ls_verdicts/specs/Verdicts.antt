@@ -1,4 +1,4 @@
--- What there is to say of the history of a run.
+-- The verdict on the history of a run.
 use Rattle.std.specs.Prelude.{◌≡◌, true, List, Some, None, codes, map}
 use Rattle.ls_events.specs.declared.event.Event.{Event as RunEvent}
 use Rattle.ls_checked.specs.CheckedProgram.{Program}
@@ -11,16 +11,17 @@ use Rattle.ls_order_search.specs.Trapped.{has_many_trapped}
 use Rattle.ls_verdicts.specs.declared.verdicts.Verdict.{Verdict}
 use Rattle.ls_verdicts.specs.declared.verdicts.Verdict.TheVariants as verdicts
 
--- the events are those of the run, each with the names of its call, and a history
+-- the events are those of the run, each with the names of its call, and they are a history
 pub record IsNamed (p : Program) (run : List RunEvent) (events : List Event) : Type 0 where
   pub is_named : map (named p) run ≡ map Some events
   pub history : is_history events ≡ true
 
--- as what is printed of each run of a checked program
+-- the run has named events that are a history, as each run of a checked program has
 abbrev pub IsHistoryOf : Program → List RunEvent → Type 0
 IsHistoryOf p run = (events : List Event) × IsNamed p run events
 
--- Some legal order of all set calls on one object, or none; or a call of another kind, or too many trapped calls on an item.
+-- All calls are set calls on one object, and have a legal order, or none. Or there is a call of another kind. Or an
+-- item has too many trapped calls.
 abbrev pub IsVerdictOn : List Event → Verdict → Type 0
 IsVerdictOn events verdicts.Legal = IsDecided events × HasOrder events
 IsVerdictOn events verdicts.Illegal = IsDecided events × NoneIsLegal events

@@ -1,4 +1,4 @@
-//! What there is to say of the history of a run of a program: whether it has a legal order.
+//! The verdict on the history of a run of a program: whether it has a legal order.
 #![tactic(auto)]
 
 mod naming;

@@ -124,7 +124,7 @@ fn named<'a>(
     Ok(Some(event))
 }
 
-/// The events of calls of the program, each with its names.
+/// The events of calls of the program, each with its names. The only refusal is that memory ran out.
 pub(crate) fn named_events<'a>(
     alloc: Global,
     history: &[Event],

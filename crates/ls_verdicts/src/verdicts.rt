@@ -11,16 +11,16 @@ use ls_events::event::Event;
 use ls_order_search::judging::{Outcome, judge};
 use std::alloc::{AllocError, Global};
 
-/// What there is to say of a history.
+/// The verdict on a history.
 #[derive(Copy, PartialEq, Eq)]
 pub enum Verdict {
     /// All calls are set calls on one object, and they have a legal order.
     Legal,
     /// All calls are set calls on one object, and no order of them is legal.
     Illegal,
-    /// A call is no set call on the one object.
+    /// A call isn't a set call on the same object as the first set call.
     NotOneSet,
-    /// All calls are set calls on one object, and an item has more than 12 trapped ones.
+    /// All calls are set calls on one object, and an item has more than 12 trapped calls.
     TooManyTrapped,
 }
 
@@ -30,7 +30,7 @@ impl Clone for Verdict {
     }
 }
 
-/// The verdict that the outcome comes to.
+/// The verdict of an outcome.
 fn verdict_of(outcome: &Outcome) -> Verdict
     ensures { result ≡ verdict_of outcome.now }
 {
@@ -42,7 +42,8 @@ fn verdict_of(outcome: &Outcome) -> Verdict
     }
 }
 
-/// The verdict on a history of a run of the program, by the names that the program gives to the calls.
+/// The verdict on a history of a run of the program, by the names that the program gives to the calls. The only
+/// refusal is that memory ran out.
 pub fn verdict_on(
     alloc: Global,
     history: &[Event],
@@ -56,8 +57,8 @@ pub fn verdict_on(
     Ok(verdict_of(&outcome))
 }
 
-/// The verdict in a word or two: `legal`, `illegal`, `no set` where a call is no set call on the one object, and `not judged`
-/// where an item has too many trapped calls.
+/// The verdict in a word or two: `legal`, `illegal`, `no set` or `not judged`. It is `no set` if a call isn't a set
+/// call on the same object as the others. It is `not judged` if an item has over 12 trapped calls.
 pub fn verdict_word(verdict: Verdict) -> &'static str
     ensures { result.now ≡ verdict_text verdict }
 {
