@@ -11,9 +11,9 @@ ghost use Rattle.ls_finally.specs.Code.{Fits};
 
 use crate::counts::have_few_locals;
 use crate::flatten::Lowering;
-use ls_finally_copies::together::put;
 use ls_lowered::fault::LowerFault;
 use ls_lowered::tree::{File, Method};
+use ls_together::put;
 use std::alloc::Global;
 
 // A method without `try`, if it has few enough copies.

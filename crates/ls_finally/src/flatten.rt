@@ -10,12 +10,11 @@ ghost use Rattle.ls_finally.specs.Counts.{copies, all_copies};
 ghost use Rattle.ls_finally.specs.Code.{Fits};
 
 use ls_finally_copies::copy::{block_of, copy_expression, copy_statement, leavable_of};
-use ls_finally_copies::together::{in_box, put};
 use ls_finally_exits::exits::exits_of;
 use ls_finally_exits::replace::by_copies;
 use ls_lowered::fault::LowerFault;
-use ls_lowered::together::also;
 use ls_lowered::tree::Statement;
+use ls_together::{also, in_box, put};
 use std::alloc::Global;
 
 /// The most copies of finally blocks of a method.

@@ -4,9 +4,8 @@ ghost use Rattle.std.specs.Prelude.{◌≡◌, IfOk};
 ghost use Rattle.ls_lowered.specs.LoweredTree.{Block, Leavable};
 ghost use Rattle.ls_lowered.specs.Plain.{plain, all_plain, plain_statement, statements_of};
 
-use crate::together::{in_box, put};
-use ls_lowered::together::also;
 use ls_lowered::tree::{Expression, Expressions, Statement};
+use ls_together::{also, in_box, put};
 use std::alloc::{AllocError, Global};
 
 /// The same expression once more. The only refusal is that memory ran out.

@@ -2,4 +2,3 @@
 #![tactic(auto)]
 
 pub mod copy;
-pub mod together;

@@ -13,10 +13,9 @@ ghost use Rattle.ls_finally_exits.specs.PlainExits.{plain_exit, plain_exits};
 
 use crate::exits::{Exit, beyond, collect_exits, within};
 use ls_finally_copies::copy::{block_of, copy_expression, copy_statement, leavable_of};
-use ls_finally_copies::together::{in_box, put};
 use ls_finally_ways::ways::{copied_before, first_ways, guarded, in_turn};
-use ls_lowered::together::also;
 use ls_lowered::tree::{Expression, Statement};
+use ls_together::{also, in_box, put};
 use std::alloc::{AllocError, Global};
 
 // A leave in place of an exit.

@@ -6,9 +6,8 @@ ghost use Rattle.ls_lowered.specs.Plain.{plain_statement, in_front};
 ghost use Rattle.ls_finally_ways.specs.Ways.{both, guarded, first_ways};
 
 use ls_finally_copies::copy::{block_of, copy_statement};
-use ls_finally_copies::together::in_box;
-use ls_lowered::together::{also, pair, two};
 use ls_lowered::tree::Statement;
+use ls_together::{also, in_box, pair, two};
 use std::alloc::{AllocError, Global};
 
 /// The first statement, and then the second. The only refusal is that memory ran out.

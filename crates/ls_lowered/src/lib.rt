@@ -3,5 +3,4 @@
 #![tactic(auto)]
 
 pub mod fault;
-pub mod together;
 pub mod tree;

@@ -11,8 +11,8 @@ ghost use Rattle.ls_refs_calls.specs.Calls.{lowered_operator as the_operator, ow
 
 use ls_checked::tree::{Called, Class, Operator};
 use ls_events::value::Value;
-use ls_lowered::together::{also, three, two};
 use ls_lowered::tree::{BinaryOperator, Expression, Expressions, LockOperation, UnaryOperator};
+use ls_together::{also, three, two};
 use std::alloc::{AllocError, Global};
 
 /// The word of a value.

@@ -8,11 +8,11 @@ ghost use Rattle.ls_refs_expressions.specs.Temporaries.{temporaries, all_tempora
 ghost use Rattle.ls_refs_expressions.specs.Lowered.{lowered, all_lowered};
 
 use ls_checked::tree::{Class, Expression, Expressions};
-use ls_lowered::together::also;
 use ls_lowered::tree::{Expression as Tree, Expressions as Trees, UnaryOperator};
 use ls_refs_calls::calls::{
     call, constructor_of, operator, own_temporaries, pack_arguments, value_word,
 };
+use ls_together::also;
 use std::alloc::{AllocError, Global};
 
 /// A lowered tree, and the first local that is still free.

@@ -17,6 +17,7 @@ use crate::site::Site;
 use ls_checked::tree::{Expression, Expressions};
 use ls_events::value::{Value, ValueType};
 use ls_lexer::token::Span;
+use ls_together::two;
 use ls_tree::tree::{BinaryOp, Expr, Name};
 use ls_types_elaboration::known::{FoundField, local_named};
 use ls_types_elaboration::members::{Member, made};
@@ -25,7 +26,7 @@ use ls_types_elaboration::rule::{Broken, CheckFault, Rule, broken_at, refused_at
 use ls_types_elaboration::static_types::{
     Static, Typed, as_array, as_type, as_value, result_type, typed_as,
 };
-use ls_types_elaboration::together::{also, two};
+use ls_types_elaboration::together::also;
 use ls_types_operators::operators::{Spans, binary_of, unary_of};
 use ls_types_tables::known::{Known, field_of};
 use ls_types_tables::members::{maker_of, markable_maker, member_of, own_member};

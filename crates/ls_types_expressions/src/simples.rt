@@ -21,10 +21,11 @@ use crate::site::Site;
 use ls_checked::tree::{Expression, Operator, Statement};
 use ls_events::value::{Value, ValueType};
 use ls_lexer::token::Span;
+use ls_together::two;
 use ls_tree::tree::{Expr, Simple};
 use ls_types_elaboration::rule::{Broken, CheckFault, Rule, broken_at};
 use ls_types_elaboration::static_types::{Static, Typed};
-use ls_types_elaboration::together::{also, two};
+use ls_types_elaboration::together::also;
 use std::alloc::{AllocError, Global};
 
 /// What is added to: a local, or a field of an object.

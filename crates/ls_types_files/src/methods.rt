@@ -20,11 +20,12 @@ ghost use Rattle.ls_types_statements.specs.ScopeViews.{body_of, slots_of, scope_
 use crate::completion::all_complete;
 use ls_checked::tree::{Expression, Method, Statement};
 use ls_events::value::ValueType;
+use ls_together::push;
 use ls_tree::tree::{
     BlockItem, Constructor, Declarator, Member, Method as MethodText, Modifier, Name, Parameter,
 };
 use ls_types_elaboration::rule::{CheckFault, Rule, refused_at};
-use ls_types_elaboration::together::{also, push};
+use ls_types_elaboration::together::also;
 use ls_types_expressions::expressions::fitting;
 use ls_types_expressions::site::Site;
 use ls_types_statements::scope::{Context, Scope, Slots, may_declare, with_unnamed, with_variable};

@@ -11,10 +11,11 @@ ghost use Rattle.ls_types_elaboration.specs.Answers.{Gives, typed_of, unless_ref
 use ls_checked::tree::{Expression, Operator};
 use ls_events::value::ValueType;
 use ls_lexer::token::Span;
+use ls_together::two;
 use ls_tree::tree::{BinaryOp, UnaryOp};
 use ls_types_elaboration::rule::{Broken, CheckFault, Rule, broken_at};
 use ls_types_elaboration::static_types::{Static, Typed, as_type, as_value, comparable, typed_as};
-use ls_types_elaboration::together::{also, two};
+use ls_types_elaboration::together::also;
 use std::alloc::{AllocError, Global};
 
 /// The span of a binary expression, and the spans of its operands.
