@@ -75,6 +75,7 @@ block_put old new inner s is pushed rest =
     ap (λ (xs : List Tree). in_front xs rest) pushed ∙ front_append old inner rest ∙ ap (in_front old) (sym (joined_front inner rest))
     ∙ ap (λ (t : Statement). in_front old (ahead t rest)) (sym is)
 
+-- a statement without an inner list is put after those that are there
 pub one_put : (old new : List Tree) (s : Tree) → inner_of (plain_statement s) ≡ None → new ≡ old ++ s ∷ [] → (rest : Statements) →
     in_front new rest ≡ in_front old (ahead (plain_statement s) rest)
 one_put old new s alone pushed rest =
@@ -97,6 +98,7 @@ joined_runs : (calls : low.Calls) (ss rest : Statements) (ls : List ℕ) (q : lo
 joined_runs calls Done rest ls q = refl
 joined_runs calls (Then s ss) rest ls q = after calls ss rest (λ ls q. joined_runs calls ss rest ls q) (does.execute calls s ls q)
 
+-- what stands ahead of a list runs first, and then the list
 pub ahead_runs : (calls : low.Calls) (s : Statement) (rest : Statements) (ls : List ℕ) (q : low.Answers) →
     does.execute_all calls (ahead s rest) ls q ≡ low.finish (does.execute calls s ls q) (does.on_normal (does.execute_all calls rest))
 ahead_runs calls s rest ls q =

@@ -50,6 +50,7 @@ item_is : (a a' b b' : ℕ) → a ≡ a' → b ≡ b' → IsAction (act.WriteIte
 item_is a a' b b' e f = ap (λ n. act.WriteItem n (pos 0) b) e ∙ ap (λ n. act.WriteItem a' (pos 0) n) f
 
 module _ (P : ℕ → ValueType → Type 0) (small : (n : ℕ) (t : ValueType) → P n t → n < 2 ^ 32) (file : File) (calls : Calls) (calls' : low.Calls) (called : CallsAgree P file calls calls') (slots : List ValueType) where
+  -- a call of a method asks and ends as its words do
   pub method_agrees : (n : ℕ) (m : Method) (e : Expression) (es : Expressions) → slice_get file.methods n ≡ Some m → Good P file calls calls' slots (ValueOf (types.Class m.class)) e → Each P file calls calls' slots (parameters_of m) es →
       Good P file calls calls' slots (answer_sort m.result) (Call e (OfMethod n) es)
   method_agrees n m e es is a each = record {
@@ -67,6 +68,7 @@ module _ (P : ℕ → ValueType → Type 0) (small : (n : ℕ) (t : ValueType) �
         null_agrees P _ _ base l _ _ _ _ (reference_word P o types.Lock tt ho) (perform_agrees P base l (act.Lock (reference_of o)) (act.Lock (value_word o)) (ap act.Lock (reference_word P o types.Lock tt ho))));
   }
 
+  -- `unlock()` asks and ends as its words do
   pub unlock_agrees : (e : Expression) → Good P file calls calls' slots (ValueOf types.Lock) e → Good P file calls calls' slots NoValue (Call e UnlockIt End)
   unlock_agrees e a = record {
     good = λ base ls old h le room. then_agrees P _ _ _ _ base (base + 0) base old _ _ _ _ (omega arith) (omega arith) (a.good (base + 0) ls old h (omega arith) (omega arith)) (λ o l ho k.
@@ -80,6 +82,7 @@ module _ (P : ℕ → ValueType → Type 0) (small : (n : ℕ) (t : ValueType) �
         null_agrees P _ _ base l _ _ _ _ (reference_word P o (types.Class c) tt ho) (perform_agrees P base l (act.LockMonitor (reference_of o)) (act.LockMonitor (value_word o)) (ap act.LockMonitor (reference_word P o (types.Class c) tt ho))));
   }
 
+  -- the end of `synchronized` asks and ends as its words do
   pub free_agrees : (c : ℕ) (e : Expression) → Good P file calls calls' slots (ValueOf (types.Class c)) e → Good P file calls calls' slots NoValue (Call e (FreeMonitor c) End)
   free_agrees c e a = record {
     good = λ base ls old h le room. then_agrees P _ _ _ _ base (base + 0) base old _ _ _ _ (omega arith) (omega arith) (a.good (base + 0) ls old h (omega arith) (omega arith)) (λ o l ho k.
@@ -102,12 +105,14 @@ module _ (P : ℕ → ValueType → Type 0) (small : (n : ℕ) (t : ValueType) �
         (a.sim go h (λ w l r. go' (flag_word w) l r) h' (λ v l hv k. subst (λ w. Sim P (go v) (go' w l)) (sym (flag_is v hv)) (kg v l hv k)) kh);
   }
 
+  -- `tryLock()` asks and ends as its words do
   pub try_agrees : (e : Expression) → Good P file calls calls' slots (ValueOf types.Lock) e → Good P file calls calls' slots (ValueOf types.Boolean) (Call e TryIt End)
   try_agrees e a = record {
     good = λ base ls old h le room. then_agrees P _ _ _ _ base (base + 0) base old _ _ _ _ (omega arith) (omega arith) (a.good (base + 0) ls old h (omega arith) (omega arith)) (λ o l ho k.
         null_agrees P _ _ base l _ _ _ _ (reference_word P o types.Lock tt ho) (flag_agrees base l _ _ (ask_agrees P base l (act.TryLock (reference_of o)) (ValueOf types.Boolean) (act.TryLock (value_word o)) (ap act.TryLock (reference_word P o types.Lock tt ho)))));
   }
 
+  -- `isHeldByCurrentThread()` asks and ends as its words do
   pub held_agrees : (e : Expression) → Good P file calls calls' slots (ValueOf types.Lock) e → Good P file calls calls' slots (ValueOf types.Boolean) (Call e AskIt End)
   held_agrees e a = record {
     good = λ base ls old h le room. then_agrees P _ _ _ _ base (base + 0) base old _ _ _ _ (omega arith) (omega arith) (a.good (base + 0) ls old h (omega arith) (omega arith)) (λ o l ho k.
@@ -125,6 +130,7 @@ module _ (P : ℕ → ValueType → Type 0) (small : (n : ℕ) (t : ValueType) �
         gets_agrees P (HasSort P (ValueOf (types.Class c))) value_word base l2 (Reference (reference_of p)) _ (pair_has P p c hp) (half_word P small p c hp)))));
   }
 
+  -- `isMarked()` asks and ends as its words do
   pub marked_agrees : (c : ℕ) (e : Expression) → Good P file calls calls' slots (ValueOf (types.Markable c)) e → Good P file calls calls' slots (ValueOf types.Boolean) (Call e (IsMarked c) End)
   marked_agrees c e a = record {
     good = λ base ls old h le room.
@@ -157,6 +163,7 @@ module _ (P : ℕ → ValueType → Type 0) (small : (n : ℕ) (t : ValueType) �
     sim = λ go h go' h' kg kh. sim_eq P _ _ _ _ (λ q. refl) (λ q. pack_outer (find calls' a old q) (λ l r. find calls' b l r) k' go' h') (s.sim go h go' h' kg kh);
   }
 
+  -- a reference and a mark as arguments give the word of their pair
   pub pair_arguments : (c : ℕ) (r m : Expression) → Good P file calls calls' slots (ValueOf (types.Class c)) r → Good P file calls calls' slots (ValueOf types.Boolean) m →
       (H : Value → Type 0) (base : ℕ) (ls : List Value) (old : List ℕ) (k : List Value → Answers → Evaluated Value) (k' : ℕ → List ℕ → low.Answers → low.Course (low.Outcome ℕ)) →
       Holds P slots ls old → length slots ≤ base → base + temporaries r + temporaries m ≤ length old →
@@ -169,6 +176,7 @@ module _ (P : ℕ → ValueType → Type 0) (small : (n : ℕ) (t : ValueType) �
       then_agrees P _ _ _ _ base (base + temporaries r) base l _ _ _ _ (omega arith) (omega arith) (am.good (base + temporaries r) ls l (holds_kept P slots ls base old l le k1 h) (omega arith) (omega (arith, k1.long))) (λ y l2 hy k2.
       subst (λ w. Agrees P H value_word base l2 (λ q. k (x ∷ y ∷ []) q) (λ q. k' w l2 q)) (sym (packed P x y c hx hy)) (f x y l2 hx hy))))))
 
+  -- `set(r, m)` asks and ends as its words do
   pub set_agrees : (c : ℕ) (e r m : Expression) → Good P file calls calls' slots (ValueOf (types.Markable c)) e → Good P file calls calls' slots (ValueOf (types.Class c)) r → Good P file calls calls' slots (ValueOf types.Boolean) m →
       Good P file calls calls' slots NoValue (Call e SetBoth (More r (More m End)))
   set_agrees c e r m a ar am = record {
@@ -179,6 +187,7 @@ module _ (P : ℕ → ValueType → Type 0) (small : (n : ℕ) (t : ValueType) �
         null_agrees P _ _ b l2 _ _ _ _ (reference_word P o (types.Markable c) tt ho) (perform_agrees P b l2 (act.SetPair (reference_of o) (pair_of x y)) (act.SetPair (value_word o) (value_word (pair_of x y))) (ap (λ n. act.SetPair n (value_word (pair_of x y))) (reference_word P o (types.Markable c) tt ho)))));
   }
 
+  -- `attemptMark(r, m)` asks and ends as its words do
   pub attempt_agrees : (c : ℕ) (e r m : Expression) → Good P file calls calls' slots (ValueOf (types.Markable c)) e → Good P file calls calls' slots (ValueOf (types.Class c)) r → Good P file calls calls' slots (ValueOf types.Boolean) m →
       Good P file calls calls' slots (ValueOf types.Boolean) (Call e Attempt (More r (More m End)))
   attempt_agrees c e r m a ar am = record {

@@ -136,6 +136,7 @@ module _ (P : ℕ → ValueType → Type 0) (null : (n : ℕ) (t : ValueType) �
     markable_form c (More r (More m (More x es))) each = absurd each.1.1
 
     mutual
+      -- each typed expression asks and ends as its words do
       pub agrees : (e : Expression) (s : Sort) → IsTyped file slots s e → Good P file calls calls' slots s e
       agrees (Literal v) s t = record { good = λ base ls old h le room. gets_agrees P (HasSort P s) value_word base old v (value_word v) (literal_sort v s t) refl }
       agrees (Slot n) s t = good_of s (ValueOf t.0) (Slot n) t.1 (record { good = λ base ls old h le room. gets_agrees P (HasSort P (ValueOf t.0)) value_word base old (slice_index_or ls n nothing) _ (h.typed n t.0 t.2) (h.worded n (get_within slots n t.0 t.2)) })
@@ -209,6 +210,7 @@ module _ (P : ℕ → ValueType → Type 0) (null : (n : ℕ) (t : ValueType) �
         good = λ base ls old h le room. then_agrees P _ _ _ _ base base base old _ _ _ _ (omega arith) (omega arith) ((agrees e (ValueOf types.Int) t.1).good base ls old h le room) (λ v l hv k. array_agrees base l v hv);
       })
 
+      -- so does each of some typed arguments
       pub each : (es : Expressions) (ts : List ValueType) → AreTyped file slots ts es → Each P file calls calls' slots ts es
       each End [] t = tt
       each (More e es) (u ∷ ts) t = (agrees e (ValueOf u) t.0, each es ts t.1)

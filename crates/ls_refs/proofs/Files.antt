@@ -20,6 +20,7 @@ use Rattle.ls_lowered.proofs.Taken.{all_of_map, mapped_more}
 pub fitting : (methods items : List Method) → methods ≡ items → All (λ m. locals_of (plain_method m) ≤ 128) methods → AllFit (map plain_method items)
 fitting methods items e h = All-map (λ m. locals_of m ≤ 128) plain_method items (subst (λ ms. All (λ m. locals_of (plain_method m) ≤ 128) ms) e h)
 
+-- if the file's methods have few locals, so has each method of the code
 pub not_fitting : (methods items : List Method) → methods ≡ items → AllFit (map plain_method items) → All (λ m. locals_of (plain_method m) ≤ 128) methods
 not_fitting methods items e h = subst (λ ms. All (λ m. locals_of (plain_method m) ≤ 128) ms) (sym e) (all_of_map (λ m. locals_of m ≤ 128) plain_method items h)
 
@@ -40,5 +41,6 @@ pub one_lowered_more : (classes : List checked.Class) (old new : List Lowered) (
     map plain_lowered new ≡ map (λ m. lowered_method classes (plain_method m)) (take (i + 1) methods)
 one_lowered_more classes old new x methods i m l e pushed is h = mapped_more plain_lowered (λ m. lowered_method classes (plain_method m)) old new x methods i m l e pushed is h
 
+-- what holds of all items holds of the one at a place
 pub found_at : {X : Type 0} (P : X → Type 0) (ys xs : List X) (i : ℕ) (x : X) → ys ≡ xs → i < length ys → x ≡ slice_index_or ys i x → All P xs → P x
 found_at P ys xs i x same l e h = let all = subst (λ zs. All P zs) (sym same) h in subst P (sym e) (all i x l)

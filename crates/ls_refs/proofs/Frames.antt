@@ -35,6 +35,7 @@ or_int None = types.Int
 or_int (Some t) = t
 
 module _ (P : ℕ → ValueType → Type 0) (null : (n : ℕ) (t : ValueType) → n ≡ 0 → P n t) where
+  -- the first value of a local has the local's type
   pub start_has : (t : ValueType) → HasType P (start_of t) t
   start_has types.Int = search rules
   start_has types.Boolean = tt
@@ -54,12 +55,14 @@ module _ (P : ℕ → ValueType → Type 0) (null : (n : ℕ) (t : ValueType) �
   Starts (v ∷ vs) [] = ⊥
   Starts (v ∷ vs) (t ∷ slots) = HasType P v t × Starts vs slots
 
+  -- arguments of the parameters' types begin a frame
   pub starts_of : (vs : List Value) (p : ℕ) (slots : List ValueType) → HaveTypes P (take p slots) vs → Starts vs slots
   starts_of [] p slots h = tt
   starts_of (v ∷ vs) zero slots h = absurd h
   starts_of (v ∷ vs) (suc p) [] h = absurd h
   starts_of (v ∷ vs) (suc p) (t ∷ slots) h = (h.0, starts_of vs p slots h.1)
 
+  -- there are as many arguments as parameters
   pub as_long : (vs : List Value) (p : ℕ) (slots : List ValueType) → p ≤ length slots → HaveTypes P (take p slots) vs → length vs ≡ p
   as_long [] zero slots l h = refl
   as_long [] (suc p) [] l h = absurd (let f : ⊥ = omega arith in f)
@@ -85,6 +88,7 @@ module _ (P : ℕ → ValueType → Type 0) (null : (n : ℕ) (t : ValueType) �
   frame_worded (v ∷ vs) (t ∷ slots) k h zero = refl
   frame_worded (v ∷ vs) (t ∷ slots) k h (suc i) = frame_worded vs slots k h.1 i
 
+  -- a frame of such arguments is held by their words, with zeros after them
   pub frame_holds : (vs : List Value) (slots : List ValueType) (k : ℕ) → Starts vs slots → Holds P slots (frame slots vs) (map value_word vs ++ replicate k 0)
   frame_holds vs slots k h = record { long = frame_long vs slots h; typed = frame_typed vs slots h; worded = λ i l. frame_worded vs slots k h i }
 

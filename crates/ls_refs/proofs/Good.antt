@@ -26,9 +26,11 @@ pub record Holds (P : ℕ → ValueType → Type 0) (slots : List ValueType) (ls
   pub typed : (i : ℕ) (t : ValueType) → slice_get slots i ≡ Some t → HasType P (slice_index_or ls i nothing) t
   pub worded : (i : ℕ) → i < length slots → slice_index old i ≡ value_word (slice_index_or ls i nothing)
 
+-- words that are the same up to the locals hold the same values
 pub holds_kept : (P : ℕ → ValueType → Type 0) (slots : List ValueType) (ls : List Value) (base : ℕ) (old new : List ℕ) → length slots ≤ base → Kept base old new → Holds P slots ls old → Holds P slots ls new
 holds_kept P slots ls base old new le k h = record { long = h.long; typed = h.typed; worded = λ i l. k.at i (omega arith) ∙ h.worded i l }
 
+-- an item that is there has a place within the list
 pub get_within : {A : Type 0} (xs : List A) (i : ℕ) (x : A) → slice_get xs i ≡ Some x → i < length xs
 get_within [] i x e = absurd (none e)
   where
@@ -44,15 +46,18 @@ module _ (P : ℕ → ValueType → Type 0) (file : File) (calls : Calls) (calls
       Agrees P (HasSort P (answer_sort m.result)) value_word base old (λ q. calls n (o ∷ vs) q) (λ q. low.returned old (calls' n (map value_word (o ∷ vs)) q))
 
   module _ (slots : List ValueType) where
+    -- an expression, from each frame that words hold, asks and ends as its words do
     pub record Good (s : Sort) (e : Expression) : Type 0 where
       pub good : (base : ℕ) (ls : List Value) (old : List ℕ) → Holds P slots ls old → length slots ≤ base → base + temporaries e ≤ length old →
           Agrees P (HasSort P s) value_word base old (λ q. evaluate file.classes calls e ls q) (λ q. find calls' (lowered file.classes base e) old q)
 
+    -- each argument does, with its parameter's type
     abbrev pub Each : List ValueType → Expressions → Type 0
     Each [] End = Unit {0}
     Each (t ∷ ts) (More e es) = Good (ValueOf t) e × Each ts es
     Each _ _ = ⊥
 
+    -- then all arguments, one after another, do
     pub all_agree : (ts : List ValueType) (es : Expressions) (base : ℕ) (ls : List Value) (old : List ℕ) → Each ts es → Holds P slots ls old → length slots ≤ base → base + all_temporaries es ≤ length old →
         Agrees P (HaveTypes P ts) (map value_word) base old (λ q. arguments file.classes calls es ls q) (λ q. find_all calls' (all_lowered file.classes base es) old q)
     all_agree [] End base ls old t h le room = gets_agrees P (HaveTypes P []) (map value_word) base old [] [] tt refl
@@ -77,6 +82,7 @@ module _ (P : ℕ → ValueType → Type 0) (file : File) (calls : Calls) (calls
   outer (Results v r) z k go h = inner (z r) v k go h
   outer (Throws n r) z k go h = refl
 
+  -- arguments that are one expression are evaluated as that expression
   pub one_argument : {B : Type 0} (H : Value → Type 0) (W : Value → B) (base : ℕ) (old : List ℕ) (e : Expression) (es : Expressions) (ls : List Value) (k : List Value → Answers → Evaluated Value) (x' : low.Answers → low.Course (low.Outcome B)) →
       Agrees P H W base old (λ q. with_value (evaluate file.classes calls e ls q) (λ v r. with_value (arguments file.classes calls es ls r) (λ vs r. k (v ∷ vs) r))) x' →
       Agrees P H W base old (λ q. with_value (arguments file.classes calls (More e es) ls q) k) x'

@@ -54,6 +54,7 @@ module _ (P : ℕ → ValueType → Type 0) (small : (n : ℕ) (t : ValueType) �
       Agrees P H value_word base old x (λ q. low.and_then (low.and_then (find calls' b old q) (λ y l2 r2. low.Ends (low.Results w) (slice_set l2 i y) r2)) k')
   held_next H base old x b i w k' s = flat P H value_word base old x (λ q. find calls' b old q) (λ y l2 r2. low.Ends (low.Results w) (slice_set l2 i y) r2) k' s
 
+  -- `get(array)` asks and ends as its words do
   pub both_agrees : (c : ℕ) (e a : Expression) → Good P file calls calls' slots (ValueOf (types.Markable c)) e → Good P file calls calls' slots (ValueOf types.BooleanArray) a →
       Good P file calls calls' slots (ValueOf (types.Class c)) (Call e (GetBoth c) (More a End))
   both_agrees c e a ge ga = record {
@@ -81,6 +82,7 @@ module _ (P : ℕ → ValueType → Type 0) (small : (n : ℕ) (t : ValueType) �
         gets_agrees P H value_word base l4 (Reference (reference_of p)) _ (pair_has P p c hp) (ap (λ n. n / 2) (k4.at (base + 1) (omega arith) ∙ f1) ∙ half_word P small p c hp)))))))))))));
   }
 
+  -- `compareAndSet` asks and ends as its words do
   pub swap_agrees : (c : ℕ) (e er nr em nm : Expression) → Good P file calls calls' slots (ValueOf (types.Markable c)) e → Good P file calls calls' slots (ValueOf (types.Class c)) er → Good P file calls calls' slots (ValueOf (types.Class c)) nr →
       Good P file calls calls' slots (ValueOf types.Boolean) em → Good P file calls calls' slots (ValueOf types.Boolean) nm → Good P file calls calls' slots (ValueOf types.Boolean) (Call e CompareAndSet (More er (More nr (More em (More nm End)))))
   swap_agrees c e er nr em nm ge g1 g2 g3 g4 = record {

@@ -121,6 +121,7 @@ module _ (P : ℕ → ValueType → Type 0) (null : (n : ℕ) (t : ValueType) �
       goes go h go' h' kg kh [] u = refl
       goes go h go' h' kg kh (x ∷ rest) u = (a.sim go h go' h' kg kh).is rest u.1
 
+  -- calls of a typed file's methods, to each depth, ask and end as those of the lowered file
   pub calls_agree : IsTypedFile file → (d : ℕ) → CallsAgree P file (invoke file d) (word_invoke (lowered_file file) d)
   unfolding invoke word_invoke
   calls_agree t zero base old n m o vs e ho hvs = throws_agrees P (HasSort P (answer_sort m.result)) value_word base old StackOverflow
@@ -144,6 +145,7 @@ word_ends_is low.Lost = refl
 null_small : (n : ℕ) (t : ValueType) → n ≡ 0 → IsSmall n t
 null_small n t e = omega (arith, e)
 
+-- the law: the lowered file asks and ends as the typed file
 pub asks_as_file : (file : File) → IsTypedFile file → AsksAsFile file
 asks_as_file file t = record {
   asks = λ depth n m o vs q e hvs u.

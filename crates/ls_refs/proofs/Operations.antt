@@ -67,6 +67,7 @@ module _ (P : ℕ → ValueType → Type 0) where
   ints Equal x y base old r hx hy = gets_agrees P (HasSort P (ValueOf types.Boolean)) value_word base old (operated Equal x y) _ tt (same_values P types.Int x y hx hy)
   ints NotEqual x y base old r hx hy = gets_agrees P (HasSort P (ValueOf types.Boolean)) value_word base old (operated NotEqual x y) _ tt (ap words.not_word (same_values P types.Int x y hx hy) ∙ not_is _)
 
+  -- an operator of two operands ends as its words do, also if it divides by zero
   pub operate_agrees : (op : Operator) (t : ValueType) (x y : Value) (base : ℕ) (old : List ℕ) → IsOperand op t → HasType P x t → HasType P y t →
       Computes (result_type op) base old (λ q. operate op x y q) (λ q. courses.operate (lowered_operator op) (value_word x) (value_word y) old q)
   operate_agrees Equal t x y base old r hx hy = gets_agrees P (HasSort P (ValueOf types.Boolean)) value_word base old (operated Equal x y) _ tt (same_values P t x y hx hy)
@@ -81,10 +82,12 @@ module _ (P : ℕ → ValueType → Type 0) where
   operate_agrees Greater t x y base old r hx hy = ints Greater x y base old refl (subst (HasType P x) r hx) (subst (HasType P y) r hy)
   operate_agrees GreaterEqual t x y base old r hx hy = ints GreaterEqual x y base old refl (subst (HasType P x) r hx) (subst (HasType P y) r hy)
 
+  -- so does a negation
   pub negate_agrees : (x : Value) (base : ℕ) (old : List ℕ) → HasType P x types.Int →
       Computes types.Int base old (λ q. Results (wrapped (neg_ℤ (int_of x))) q) (λ q. low.Ends (low.Results (words.negative_word (value_word x))) old q)
   negate_agrees x base old hx = gets_agrees P (HasSort P (ValueOf types.Int)) value_word base old (wrapped (neg_ℤ (int_of x))) _ (SFits-int_wrap w32 _) (ap words.negative_word (int_word P x hx) ∙ negative_is _ (int_fits P x hx))
 
+  -- so does `!`
   pub not_agrees : (x : Value) (base : ℕ) (old : List ℕ) → HasType P x types.Boolean →
       Computes types.Boolean base old (λ q. Results (Boolean (not (truth_of x))) q) (λ q. low.Ends (low.Results (words.not_word (value_word x))) old q)
   not_agrees x base old hx = gets_agrees P (HasSort P (ValueOf types.Boolean)) value_word base old (Boolean (not (truth_of x))) _ tt (ap words.not_word (truth_word P x hx) ∙ not_is _)

@@ -29,6 +29,7 @@ one_lowered classes lowered new x next after s items rest pushed split is ends =
     ∙ ap (λ n. in_front lowered (ahead (lowered_statement classes next (checked_statement s)) (lowered_block classes n (statements_of rest)))) ends
     ∙ ap (λ l. in_front lowered (lowered_block classes next (statements_of l))) (sym split)
 
+-- the count of a list, of which one statement more is read
 pub one_counted : (next after : ℕ) (s : Statement) (items rest : List Statement) (whole : ℕ) →
     items ≡ s ∷ rest → after ≡ next + statement_temporaries (checked_statement s) →
     next + block_temporaries (statements_of items) ≡ whole → after + block_temporaries (statements_of rest) ≡ whole

@@ -29,6 +29,7 @@ suited_eq P f g (x ∷ qs) e s = (subst (λ t. Suits P t x) (e [] (omega arith))
 abbrev pub ends : {A : Type 0} → Evaluated A → (A → Answers → Evaluated Value) → (Kind → Answers → Evaluated Value) → Evaluated Value
 ends x go h = followers.ends Asks x go h
 
+-- how a course of words goes on: with a value, or with what is thrown
 abbrev pub word_ends : {B : Type 0} → low.Course (low.Outcome B) → (B → List ℕ → low.Answers → low.Told) → (Kind → List ℕ → low.Answers → low.Told) → low.Told
 word_ends (low.Asks action) go h = low.Asked action
 word_ends (low.Ends (low.Results w) ls rest) go h = go w ls rest
@@ -38,6 +39,7 @@ word_ends low.Stuck go h = low.Lost
 pub ends_with : {A B : Type 0} (x : Evaluated A) (g : A → Answers → Evaluated B) (go : B → Answers → Evaluated Value) (h : Kind → Answers → Evaluated Value) → ends (with_value x g) go h ≡ ends x (λ v r. ends (g v r) go h) h
 ends_with x g go h = followers.ends_with Asks x g go h
 
+-- how one course after another goes on
 pub ends_and : {A B : Type 0} (x : low.Course (low.Outcome A)) (g : A → List ℕ → low.Answers → low.Course (low.Outcome B)) (go : B → List ℕ → low.Answers → low.Told) (h : Kind → List ℕ → low.Answers → low.Told) →
     word_ends (low.and_then x g) go h ≡ word_ends x (λ w l r. word_ends (g w l r) go h) h
 ends_and (low.Asks a) g go h = refl
@@ -50,15 +52,19 @@ pub record Kept (base : ℕ) (old new : List ℕ) : Type 0 where
   pub long : length new ≡ length old
   pub at : (i : ℕ) → i < base → slice_index new i ≡ slice_index old i
 
+-- words keep what they are
 pub kept_refl : (base : ℕ) (ls : List ℕ) → Kept base ls ls
 kept_refl base ls = record { long = refl; at = λ i a. refl }
 
+-- what is kept twice is kept
 pub kept_trans : (base : ℕ) (a b c : List ℕ) → Kept base a b → Kept base b c → Kept base a c
 kept_trans base a b c x y = record { long = y.long ∙ x.long; at = λ i l. y.at i l ∙ x.at i l }
 
+-- if more is kept, less is
 pub kept_less : (base b1 : ℕ) (a b : List ℕ) → base ≤ b1 → Kept b1 a b → Kept base a b
 kept_less base b1 a b le x = record { long = x.long; at = λ i l. x.at i (omega arith) }
 
+-- a write at or after a place keeps what is before that place
 pub kept_set : (base i w : ℕ) (ls : List ℕ) → base ≤ i → Kept base ls (slice_set ls i w)
 kept_set base i w ls le = record { long = length-set ls i w; at = λ j l. get_or-set_other ls i j w 0 (λ e. omega arith) }
 
@@ -70,6 +76,7 @@ module _ (P : ℕ → ValueType → Type 0) where
   pub record Sim (f : Answers → Evaluated Value) (f' : low.Answers → low.Told) : Type 0 where
     pub is : (qs : Answers) → Suited P f qs → f' (answer_words qs) ≡ in_words (f qs)
 
+  -- equal courses are like each other in the same way
   pub sim_eq : (f g : Answers → Evaluated Value) (f' g' : low.Answers → low.Told) → ((q : Answers) → f q ≡ g q) → ((q : low.Answers) → f' q ≡ g' q) → Sim g g' → Sim f f'
   sim_eq f g f' g' e e' s = record { is = λ qs h. e' (answer_words qs) ∙ s.is qs (suited_eq P f g qs (λ q l. e q) h) ∙ ap in_words (sym (e qs)) }
 
@@ -80,15 +87,19 @@ module _ (P : ℕ → ValueType → Type 0) where
         ((k : Kind) (ls : List ℕ) → Kept base old ls → Sim (h k) (h' k ls)) →
         Sim (λ q. ends (x q) go h) (λ q. word_ends (x' q) go' h')
 
+  -- a value is like its word
   pub gets_agrees : {A B : Type 0} (H : A → Type 0) (W : A → B) (base : ℕ) (old : List ℕ) (v : A) (w : B) → H v → w ≡ W v → Agrees H W base old (λ q. Results v q) (λ q. low.Ends (low.Results w) old q)
   gets_agrees H W base old v w hv e = record { sim = λ go h go' h' kg kh. subst (λ u. Sim (go v) (go' u old)) (sym e) (kg v old hv (kept_refl base old)) }
 
+  -- a throw is like the same throw of words
   pub throws_agrees : {A B : Type 0} (H : A → Type 0) (W : A → B) (base : ℕ) (old : List ℕ) (k : Kind) → Agrees H W base old (λ q. Throws k q) (λ q. low.Ends (low.Throws k) old q)
   throws_agrees H W base old k = record { sim = λ go h go' h' kg kh. kh k old (kept_refl base old) }
 
+  -- words that are kept can stand for those before
   pub moved : {A B : Type 0} (H : A → Type 0) (W : A → B) (base : ℕ) (old new : List ℕ) (x : Answers → Evaluated A) (x' : low.Answers → low.Course (low.Outcome B)) → Kept base old new → Agrees H W base new x x' → Agrees H W base old x x'
   moved H W base old new x x' k a = record { sim = λ go h go' h' kg kh. a.sim go h go' h' (λ v ls hv e. kg v ls hv (kept_trans base old new ls k e)) (λ n ls e. kh n ls (kept_trans base old new ls k e)) }
 
+  -- if two expressions are like their words, so is one after the other
   pub then_agrees : {A B C D : Type 0} (H : A → Type 0) (W : A → B) (K : C → Type 0) (V : C → D) (base b1 b2 : ℕ) (old : List ℕ) (x : Answers → Evaluated A) (g : A → Answers → Evaluated C)
       (x' : low.Answers → low.Course (low.Outcome B)) (g' : B → List ℕ → low.Answers → low.Course (low.Outcome D)) → base ≤ b1 → base ≤ b2 → Agrees H W b1 old x x' →
       ((v : A) (ls : List ℕ) → H v → Kept b1 old ls → Agrees K V b2 ls (λ q. g v q) (λ q. g' (W v) ls q)) →
@@ -140,6 +151,7 @@ module _ (P : ℕ → ValueType → Type 0) where
       asked go h go' h' kg kh (Gives v ∷ rest) u = (subst (λ w. Sim (go v) (go' w old)) (nothing_word P v u.0) (kg v old u.0 (kept_refl base old))).is rest u.1
       asked go h go' h' kg kh (Fails k ∷ rest) u = (kh k old (kept_refl base old)).is rest u.1
 
+  -- what throws if a reference is null is like its words
   pub null_agrees : {A B : Type 0} (H : A → Type 0) (W : A → B) (base : ℕ) (old : List ℕ) (n m : ℕ) (x : Answers → Evaluated A) (x' : low.Answers → low.Course (low.Outcome B)) → m ≡ n → Agrees H W base old x x' →
       Agrees H W base old (λ q. unless_null n q (x q)) (λ q. low.unless_null m old q (x' q))
   null_agrees H W base old n m x x' e a = subst (λ u. Agrees H W base old (λ q. unless_null n q (x q)) (λ q. low.unless_null u old q (x' q))) (sym e) (by_case (nat_eq n 0))
@@ -148,6 +160,7 @@ module _ (P : ℕ → ValueType → Type 0) where
       by_case true = throws_agrees H W base old NullPointer
       by_case false = a
 
+  -- so is what throws then, and else goes on with one course more
   pub null_and : {A B C : Type 0} (H : A → Type 0) (W : A → B) (base : ℕ) (old : List ℕ) (n m : ℕ) (x : Answers → Evaluated A) (x' : low.Answers → low.Course (low.Outcome C)) (k' : C → List ℕ → low.Answers → low.Course (low.Outcome B)) → m ≡ n →
       Agrees H W base old x (λ q. low.and_then (x' q) k') → Agrees H W base old (λ q. unless_null n q (x q)) (λ q. low.and_then (low.unless_null m old q (x' q)) k')
   null_and H W base old n m x x' k' e a = subst (λ u. Agrees H W base old (λ q. unless_null n q (x q)) (λ q. low.and_then (low.unless_null u old q (x' q)) k')) (sym e) (by_case (nat_eq n 0))
@@ -164,6 +177,7 @@ module _ (P : ℕ → ValueType → Type 0) where
       by_case true no_ = absurd (no_ refl)
       by_case false no_ = a
 
+  -- what is known of a value may be less
   pub weaken : {A B : Type 0} (H K : A → Type 0) (W : A → B) (base : ℕ) (old : List ℕ) (x : Answers → Evaluated A) (x' : low.Answers → low.Course (low.Outcome B)) → ((v : A) → H v → K v) → Agrees H W base old x x' → Agrees K W base old x x'
   weaken H K W base old x x' f a = record { sim = λ go h go' h' kg kh. a.sim go h go' h' (λ v ls hv k. kg v ls (f v hv) k) kh }
 

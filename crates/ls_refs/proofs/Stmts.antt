@@ -42,12 +42,15 @@ use Rattle.ls_refs.proofs.Exprs.{agrees}
 use Rattle.ls_refs.proofs.Ahead.{ahead_runs}
 use Rattle.ls_meaning.proofs.Shorter.{CallsWithin, evaluate_within, execute_within, turns_eq}
 
+-- how a statement's completion goes on
 abbrev pub Go : Type 0
 Go = Follower (Evaluated Value)
 
+-- how that of words goes on
 abbrev pub GoWord : Type 0
 GoWord = does.Completion → List ℕ → low.Answers → low.Told
 
+-- a statement, and what follows each of its completions
 abbrev pub finish_by : Executed → Go → Evaluated Value
 finish_by x g = followers.finish_by Asks x g
 
@@ -56,6 +59,7 @@ abbrev pub returned_word : Option Value → ℕ
 returned_word None = 0
 returned_word (Some v) = value_word v
 
+-- the completion of words that stands for one of values
 abbrev pub completion_word : Completion Value → does.Completion
 completion_word Normal = does.Normal
 completion_word (Broke n) = does.Left (2 * n + 1)
@@ -118,6 +122,7 @@ abbrev pub ReturnedHas : (ℕ → ValueType → Type 0) → Option ValueType →
 ReturnedHas P r None = Unit {0}
 ReturnedHas P r (Some v) = (t : ValueType) × (r ≡ Some t) × HasType P v t
 
+-- what is returned has the result's type
 abbrev pub CompletionHas : (ℕ → ValueType → Type 0) → Option ValueType → Completion Value → Type 0
 CompletionHas P r (Returned v) = ReturnedHas P r v
 CompletionHas P r _ = Unit {0}
@@ -256,6 +261,7 @@ module _ (P : ℕ → ValueType → Type 0) (null : (n : ℕ) (t : ValueType) �
   part e s base ls l t h le big = (agrees P null small file calls calls' called slots e s t).good base ls l h le big
 
   mutual
+    -- each typed statement asks and ends as its words do
     pub agrees_by : (s : Statement) (base : ℕ) (ls : List Value) (l : List ℕ) → IsTypedStatement file slots r s → Holds P slots ls l → length l ≡ room → length slots ≤ base → base + statement_temporaries s ≤ room →
         AgreesBy P slots r room (λ q. execute file.classes calls s ls q) (λ q. does.execute calls' (lowered_statement file.classes base s) l q)
     agrees_by (Block ss) base ls l t h e le big = all_agree_by ss base ls l t h e le big

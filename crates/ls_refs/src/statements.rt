@@ -9,9 +9,9 @@ ghost use Rattle.ls_refs_expressions.specs.Lowered.{leavable as ended_by_leave, 
 ghost use Rattle.ls_refs.specs.Loops.{JumpsBelow};
 
 use ls_checked::tree::{Class, Statement};
-use ls_lowered::together::also;
 use ls_lowered::tree::{Expression as Value, Statement as Tree};
 use ls_refs_expressions::expressions::{Placed, lower_expression};
+use ls_together::also;
 use std::alloc::{AllocError, Global};
 
 #[tactic(auto, using(ls_lowered::proofs::Rows::block_made))]
