@@ -13,23 +13,15 @@ ghost use Rattle.ls_schedule.specs.Records.{happened, scheduled};
 use ls_checked::program::Program;
 use ls_compiler::compile::compile;
 use ls_faults::fault::ToolFault;
-use ls_following::{OpenGate, play_turns};
+use ls_following::play_turns;
 use ls_image::image::Image;
-use ls_live::{Gate, play_live};
+use ls_live::{OpenGate, play_live};
 use ls_report::print_history;
 use ls_schedule::{Record, print_schedule, read_schedule};
 use ls_text_laws::{compiled_is_readable, schedules_read_back};
 use std::alloc::{AllocError, Global};
 use std::sync::Wait;
 use std::thread::Threads;
-
-/// A gate that lets every step pass.
-#[derive(Drop)]
-struct Open;
-
-impl Gate for Open {
-    fn pass(&self, _thread: usize) {}
-}
 
 /// The schedule of a record, and after it its history.
 fn record_text(alloc: Global, kept: &Record, program: &Program) -> Result<String, AllocError>
@@ -51,7 +43,7 @@ fn lived<R: Threads + Wait + Sync>(
 ) -> Result<String, ToolFault>
     ensures { Gives (Lived image.now cells limit NoMore) result }
 {
-    let record = play_live(rt, alloc, image, cells, limit, &Open)?;
+    let record = play_live(rt, alloc, image, cells, limit, &OpenGate)?;
     Ok(record_text(alloc, &record, image.program())?)
 }
 

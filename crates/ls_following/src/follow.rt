@@ -22,6 +22,7 @@ ghost use Rattle.std.specs.Prelude.{
 };
 
 use crate::fault::FollowFault;
+use ls_live_book::Gate;
 use ls_turnstile::{Turn, TurnSeat, Turnstile};
 use std::alloc::{AllocError, Global};
 use std::sync::Wait;
@@ -29,19 +30,6 @@ use std::sync::atomic::AtomicBool;
 use std::sync::atomic::Ordering::SeqCst;
 use std::thread;
 use std::thread::{Promise, PromisedHandle, Scope, Threads, yield_now};
-
-/// What each thread passes before each of its steps.
-pub trait Gate {
-    fn pass(&self, thread: usize);
-}
-
-/// A gate that every thread passes at once.
-#[derive(Drop)]
-pub struct OpenGate;
-
-impl Gate for OpenGate {
-    fn pass(&self, _thread: usize) {}
-}
 
 /// Why a thread left its seat: the tape is over, there were too many answers `NotYet` at one place, or it was told to
 /// stop.

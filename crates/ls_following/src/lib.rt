@@ -6,5 +6,6 @@ mod follow;
 mod playing;
 
 pub use fault::{FollowFault, PlayFault};
-pub use follow::{Gate, OpenGate, follow_tape};
+pub use follow::follow_tape;
+pub use ls_live_book::{Gate, OpenGate};
 pub use playing::play_turns;

@@ -6,9 +6,10 @@ ghost use Rattle.ls_schedule.specs.Records.{IsRecordOf};
 ghost use Rattle.std.specs.Prelude.{◌≡◌, ◌↔◌, ◌<◌, ℕ, IfOk, IsErrOf, length};
 
 use crate::fault::{FollowFault, PlayFault};
-use crate::follow::{Gate, follow_tape};
+use crate::follow::follow_tape;
 use ls_events::schedule::Schedule;
 use ls_image::image::Image;
+use ls_live_book::Gate;
 use ls_machine::LoadFault;
 use ls_schedule::Record;
 use ls_turnstile::Turnstile;

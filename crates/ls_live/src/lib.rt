@@ -9,6 +9,6 @@ mod running;
 
 pub use fault::{LiveFault, PlayFault};
 pub use live::{CloseFault, Live, Seat};
-pub use ls_live_book::{More, Session, Told};
+pub use ls_live_book::{Gate, More, OpenGate, Session, Told};
 pub use playing::play_live;
-pub use running::{Gate, NoThread, run_live};
+pub use running::{NoThread, run_live};

@@ -11,9 +11,9 @@ ghost use Rattle.std.specs.Prelude.{◌≡◌, ◌↔◌, ◌<◌, ◌≤◌, le
 
 use crate::fault::PlayFault;
 use crate::live::{CloseFault, Live};
-use crate::running::{Gate, run_live};
+use crate::running::run_live;
 use ls_image::image::Image;
-use ls_live_book::Session;
+use ls_live_book::{Gate, Session};
 use ls_schedule::Record;
 use std::alloc::{AllocError, Global};
 use std::marker::Brand;

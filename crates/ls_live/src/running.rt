@@ -5,15 +5,10 @@ ghost use Rattle.std.specs.List.{list_all};
 ghost use Rattle.std.specs.Prelude.{◌≡◌, true, length, IfOk, IfErr};
 
 use crate::live::{Live, Seat};
-use ls_live_book::{More, Session, Told};
+use ls_live_book::{Gate, More, Session, Told};
 use std::sync::Wait;
 use std::thread;
 use std::thread::Threads;
-
-/// What each thread passes before each of its steps, outside the lock.
-pub trait Gate {
-    fn pass(&self, thread: usize);
-}
 
 /// 52: a thread could not be started. The run and all seats are given back.
 #[derive(Drop)]
