@@ -12,10 +12,15 @@ from plain_rust import MANIFEST, derived, without_blocks, write
 
 CRATES = pathlib.Path(__file__).resolve().parents[2]
 OUT = pathlib.Path(sys.argv[1])
+# tests, and what keeps states for explorations, which no comparison runs
+LEFT_OUT = ("tests", "saving")
 
 
 def plain(text, crate):
     text = text.replace("#![tactic(auto)]\n", "")
+    # nothing that is timed saves a machine
+    text = re.sub(r"^pub (mod saving|use machine::saving)\b.*\n", "", text, flags=re.M)
+    text = text.replace(".to_vec(alloc)?", ".to_vec()")
     text = re.sub(r"^#\[tactic.*\n", "", text, flags=re.M)
     text = without_blocks(text, r"^impl Model for ")
     text = without_blocks(text, r"^impl From<AllocError> for LoadFault")
@@ -29,7 +34,7 @@ def plain(text, crate):
     text = text.replace("Vec::new(alloc)", "Vec::new()")
     text = re.sub(r"Vec::with_capacity\(alloc, (\w+)\)\?", r"Vec::with_capacity(\1)", text)
     text = re.sub(r"vec!\[in alloc; (.*?)\]\?", r"vec![\1]", text)
-    text = text.replace(".collect(alloc)?", ".collect()")
+    text = text.replace(".collect(alloc)?", ".collect()").replace(".to_vec(alloc)?", ".to_vec()")
     text = re.sub(r"^( +)(\S.*)\.collect\(alloc\)$", r"\1Ok(\2.collect())", text, flags=re.M)
     text = re.sub(r"(\.(?:push|resize)\([^;]*?\))\?;", r"\1;", text)
     text = text.replace("crate::", f"crate::{crate}::")
@@ -41,17 +46,18 @@ def plain(text, crate):
 
 def main():
     for crate in ("ls_events", "ls_code", "ls_machine_moves", "ls_machine_threads", "ls_machine"):
-        for file in sorted((CRATES / crate / "src").glob("*.rt")):
-            if file.stem == "tests":
+        source = CRATES / crate / "src"
+        for file in sorted(source.rglob("*.rt")):
+            if file.stem in ("tests", "saving"):
                 continue
-            name = "mod" if file.stem == "lib" else file.stem
+            name = "mod" if file.stem == "lib" else file.relative_to(source).with_suffix("")
             text = plain(file.read_text(), crate).replace("//!", "//")
-            text = re.sub(r"^#\[cfg\(test\)\]\nmod tests;\n", "", text, flags=re.M)
+            text = re.sub(r"^#\[cfg\(test\)\]\nmod tests;\n|^pub (mod saving|use machine::saving::.*);\n", "", text, flags=re.M)
             write(OUT / f"src/{crate}/{name}.rs", text)
     images = plain((CRATES / "bench_machine/src/images.rt").read_text(), "bench_machine")
     write(OUT / "src/images.rs", images)
     main_text = plain((CRATES / "bench_machine/src/main.rt").read_text(), "bench_machine").replace("//!", "//")
-    body = main_text[main_text.index("/// How many of so many"):main_text.index("fn main(")]
+    body = main_text[main_text.index("/// How the steps are taken."):main_text.index("fn main(")]
     write(OUT / "src/main.rs", HEAD + body + MAIN)
     write(OUT / "Cargo.toml", MANIFEST.format(name="plain_machine"))
 
@@ -65,7 +71,7 @@ mod ls_machine_moves;
 mod ls_machine_threads;
 use images::{Part, SHORT_STEPS, image};
 use ls_code::code::Code;
-use ls_code::step::Did;
+use ls_events::schedule::Schedule;
 use ls_machine::{LoadFault, Machine};
 
 #[derive(Debug)]
@@ -82,11 +88,12 @@ impl From<AllocError> for ls_machine::LoadFault {
 
 MAIN = """fn main() {
     let words: Vec<String> = std::env::args().collect();
-    let part = part_of(&words[1]).expect("a part");
-    let steps: u64 = words[2].parse().expect("steps");
+    let way = way_of(&words[1]).expect("a way");
+    let part = part_of(&words[2]).expect("a part");
+    let steps: u64 = words[3].parse().expect("steps");
     let code = Code::new(image(Global, part).expect("memory")).expect("small");
-    let acted = timed(Global, &code, part, steps).expect("loaded");
-    println!("{acted} of {steps} steps acted");
+    let number = timed(Global, &code, part, steps, way).expect("loaded");
+    println!("{steps} steps, and the machine's number is {number}");
 }
 """
 

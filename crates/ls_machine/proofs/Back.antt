@@ -25,7 +25,7 @@ abbrev pub Needs : Code → KeptThread → Type 0
 Needs p t = All (λ s. s.need ≤ t.operands_room) p.starts
 
 -- no thread has another memory than the one in its place
-needs_kept : (p : Code) (ts : List KeptThread) (n : ℕ) (k : KeptThread) → All (Needs p) ts → k.operands_room ≡ (get_or ts n no_thread).operands_room → (n < length ts) → All (Needs p) (set ts n k)
+pub needs_kept : (p : Code) (ts : List KeptThread) (n : ℕ) (k : KeptThread) → All (Needs p) ts → k.operands_room ≡ (get_or ts n no_thread).operands_room → (n < length ts) → All (Needs p) (set ts n k)
 needs_kept p ts n k all same within =
     let here : Needs p (get_or ts n no_thread) = all n no_thread within in
     All-set (Needs p) ts n k (subst (λ (room : ℕ). All (λ s. s.need ≤ room) p.starts) (sym same) here) all

@@ -5,3 +5,4 @@ pub mod Keeping
 pub mod Back
 pub mod SameAt
 pub mod Saving
+pub mod Stays

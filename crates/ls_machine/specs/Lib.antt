@@ -6,3 +6,4 @@ pub mod Outcomes
 pub mod Room
 pub mod Back
 pub mod Saved
+pub mod Staying

@@ -1,5 +1,5 @@
 -- A machine's memory, and when it is refused.
-use Rattle.std.specs.Prelude.{◌≡◌, ℕ, ◌+◌, ◌<◌, ◌≤◌, ◌^◌, ◌⊎◌, List, length}
+use Rattle.std.specs.Prelude.{◌≡◌, ℕ, ◌+◌, ◌<◌, ◌≤◌, ◌⊎◌, List, length}
 use Rattle.std.specs.List.{All, sum_by}
 use Rattle.ls_code.specs.Limits.{most_cells}
 use Rattle.ls_code.specs.Code.{Code}

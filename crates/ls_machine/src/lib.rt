@@ -7,6 +7,7 @@ mod fault;
 pub mod laws;
 mod machine;
 pub mod sameness;
+mod staying;
 mod steps;
 
 pub use fault::LoadFault;

@@ -24,6 +24,7 @@ use ls_machine_threads::thread::Thread;
 use std::alloc::{AllocError, Global};
 use std::marker::Model;
 
+pub mod running;
 pub mod saving;
 
 /// The most cells of a machine.
@@ -71,6 +72,13 @@ impl Machine {
         ensures { result.now ≡ self.now.history }
     {
         &self.history
+    }
+
+    /// A law: a machine has at most 65 threads, the setup among them.
+    pub fn has_few_threads(&self)
+        ensures { length self.now.threads ≤ 65 }
+    {
+        let _ = self.threads.as_slice();
     }
 
     /// Where a thread stands. One that isn't there has ended; once the machine has stopped, each other has stopped.
@@ -202,15 +210,6 @@ impl Machine {
             mixed = thread.mix(mixed);
         }
         mixed
-    }
-
-    /// Takes the steps of a schedule. It takes no memory, and always succeeds.
-    pub fn run(&mut self, schedule: &Schedule)
-        ensures { self.new ≡ machine_run self.old schedule.now }
-    {
-        for thread in schedule.steps() {
-            let _ = self.step(*thread);
-        }
     }
 }
 

@@ -348,6 +348,7 @@ pub fn find_acting(code: &Code, thread: &Thread) -> Option<Acting>
         Instruction::GetField(x) => Some(Acting::GetField(x)),
         Instruction::PutField(x) => Some(Acting::PutField(x)),
         Instruction::Enter(x) => Some(Acting::Enter(x)),
+        Instruction::Leave => Some(Acting::Leave),
         Instruction::LeaveWith => Some(Acting::LeaveWith),
         Instruction::See(x) => Some(Acting::See(x)),
         Instruction::Take(x) => Some(Acting::Take(x)),
@@ -381,6 +382,10 @@ pub fn act(
         Acting::GetField(x) => read_field(code, cells, number, thread, x),
         Acting::PutField(x) => write_field(code, cells, number, thread, x),
         Acting::Enter(x) => enter(code, cells, number, thread, x),
+        Acting::Leave => {
+            let _ = thread.leave();
+            Did::Silent
+        }
         Acting::LeaveWith => leave_with(code, cells, number, thread),
         Acting::See(x) => see(code, cells, number, thread, x),
         Acting::Take(x) => take(code, cells, number, thread, x),

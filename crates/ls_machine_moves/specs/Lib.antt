@@ -1,3 +1,4 @@
 pub mod Frames
 pub mod Replies
 pub mod Flows
+pub mod Gliding

@@ -1,9 +1,11 @@
 // The silent instructions of one frame. Their answer fits into two bytes: a larger one would cost half of the speed.
 
-ghost use Rattle.std.specs.Prelude.{◌≡◌, ℕ, ◌+◌, ◌<◌, ◌^◌, ◌/◌, ◌%◌};
+ghost use Rattle.std.specs.Prelude.{◌≡◌, ℕ, ◌+◌, ◌<◌, ◌≤◌, ◌^◌, ◌/◌, ◌%◌, slice_get, IfSome, Some};
 ghost use Rattle.ls_code.specs.Words.{sum_word, difference_word, product_word, quotient_word, remainder_word, negative_word, less_word, at_most_word, same_word, not_word, other_word, pair_word};
 ghost use Rattle.ls_code.specs.Moves.{frame_move, load_move, store_move, jump_move};
 ghost use Rattle.ls_machine_moves.specs.Flows.{IsQuick, LeavesOthers};
+ghost use Rattle.ls_machine_moves.specs.Frames.{keeping};
+ghost use Rattle.ls_machine_moves.specs.Gliding.{glided};
 
 use crate::flow::Quick;
 use crate::frame::Frame;
@@ -209,4 +211,31 @@ pub fn quick(frame: &mut Frame, instruction: Instruction) -> Quick
         | Instruction::Result(_)
         | Instruction::Trap => Quick::Other,
     }
+}
+
+/// Does silent instructions, so many at most, up to the first that isn't silent, throws or is stuck. Answers how many.
+pub fn glide(frame: &mut Frame, instructions: &[Instruction], most: usize) -> usize
+    ensures few { result ≤ most }
+    ensures glided { glided instructions.now result frame.old.frame ≡ Some frame.new.frame }
+    ensures memory { frame.new ≡ keeping frame.old frame.new.frame }
+{
+    for done in 0..most {
+        let Some(instruction) = fetch(instructions, frame.counter()) else {
+            return done;
+        };
+        match quick(frame, instruction) {
+            Quick::Next => {}
+            _ => return done,
+        }
+    }
+    most
+}
+
+/// The instruction at a place.
+#[inline(always)]
+pub fn fetch(instructions: &[Instruction], place: usize) -> Option<Instruction>
+    ensures value { result ≡ slice_get instructions.now place }
+    ensures within { IfSome result (λ _. place + 1 < 2 ^ 64) }
+{
+    instructions.get(place).copied()
 }

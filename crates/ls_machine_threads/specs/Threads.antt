@@ -37,6 +37,7 @@ instruction_of (acting.Turn x) = op.Turn x
 instruction_of (acting.GetField x) = op.GetField x
 instruction_of (acting.PutField x) = op.PutField x
 instruction_of (acting.Enter x) = op.Enter x
+instruction_of acting.Leave = op.Leave
 instruction_of acting.LeaveWith = op.LeaveWith
 instruction_of (acting.See x) = op.See x
 instruction_of (acting.Take x) = op.Take x

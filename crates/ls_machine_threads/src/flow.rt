@@ -24,6 +24,7 @@ pub enum Acting {
     GetField(u32),
     PutField(u32),
     Enter(u32),
+    Leave,
     LeaveWith,
     See(u32),
     Take(u32),

@@ -1,5 +1,5 @@
 // A thread: its frames fill the end of their memory, and the innermost is the first of them.
-ghost use Rattle.std.specs.Prelude.{◌≡◌, ℕ, ◌+◌, ◌-◌, ◌<◌, ◌≤◌, ◌^◌, ◌↔◌, List, [], ◌∷◌, ◌&&◌, ◌==◌, not, nat_le, slice_get, length, map, drop, slice_index_or, slice_set, None, IfSome, IfOk, IsTrue, true, MatchOption, Bool, false};
+ghost use Rattle.std.specs.Prelude.{◌≡◌, ℕ, ◌+◌, ◌-◌, ◌<◌, ◌≤◌, ◌^◌, ◌↔◌, List, [], ◌∷◌, ◌&&◌, ◌==◌, not, nat_le, slice_get, length, map, drop, slice_index_or, slice_set, None, IfSome, IfOk, IsTrue, Some, true, MatchOption, Bool, false};
 ghost use Rattle.ls_code.specs.Thread.{with_top, with_frames};
 ghost use Rattle.ls_code.specs.Moves.{frame_move, resumed};
 ghost use Rattle.ls_code.specs.Frame.{top_one, top_two};
@@ -9,6 +9,7 @@ ghost use Rattle.ls_events.specs.declared.kind.Kind.{Kind};
 ghost use Rattle.ls_machine_moves.specs.Frames.{keeping, no_frame};
 ghost use Rattle.ls_machine_threads.specs.Memory.{keeping_thread, HaveRooms, started_kept, back_at};
 ghost use Rattle.ls_machine_moves.specs.Flows.{IsFlow, IsReady, CanResume, LeavesOthers, is_silent};
+ghost use Rattle.ls_machine_moves.specs.Gliding.{glided};
 ghost use Rattle.ls_machine_threads.specs.Threads.{IsQuickThread, thread_after, call_flow};
 
 use crate::flow::Entered;
@@ -134,6 +135,18 @@ impl Thread {
     {
         let frame = &mut self.frames[self.inner];
         silent::quick(frame, instruction)
+    }
+
+    /// Does silent instructions of the innermost frame, so many at most, up to the first that isn't silent, throws or is stuck.
+    /// Answers how many.
+    #[inline(always)]
+    pub fn glide(&mut self, instructions: &[Instruction], most: usize) -> usize
+        ensures few { result ≤ most }
+        ensures glided { glided instructions.now result self.old.thread.top ≡ Some self.new.thread.top }
+        ensures others { self.new ≡ keeping_thread self.old (with_top self.old.thread self.new.thread.top) }
+    {
+        let frame = &mut self.frames[self.inner];
+        silent::glide(frame, instructions, most)
     }
 
     /// The innermost frame goes on with an answer.

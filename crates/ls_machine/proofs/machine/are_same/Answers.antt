@@ -1,4 +1,4 @@
-use Rattle.std.proofs.Common.{◌≡◌, ◌<◌, length, sym, ap, ◌∙◌, arith}
+use Rattle.std.proofs.Common.{◌<◌, length, sym, ap, ◌∙◌, arith}
 use Rattle.ls_machine_threads.specs.Memory.{KeptThread}
 use Rattle.ls_machine.proofs.SameAt.{same_at}
 use Rattle.ls_machine.proofs.machine.are_same.Goals as goal

@@ -1,4 +1,4 @@
-use Rattle.std.proofs.Common.{◌≡◌, ◌<◌, ◌≤◌, ◌∙◌, List, length, map, ap, sym, subst, rules, arith, vec_len}
+use Rattle.std.proofs.Common.{◌<◌, ◌∙◌, List, length, map, ap, sym, subst, rules, arith, vec_len}
 use Rattle.std.proofs.lemmas.List.{with_items_is}
 use Rattle.std.specs.List.{sum_by}
 use Rattle.ls_machine_threads.specs.Memory.{KeptThread, events_left}
