@@ -1,12 +1,13 @@
 #!/usr/bin/env python3
-"""What `check` or `order` costs beside the same work in plain Rust (plain.rs).
+"""What `check` or `order` costs beside the same work in plain Rust.
 
-  compare.py LISTSET [RUNS [order]]
+  compare.py LISTSET [RUNS [check|order [plain|fast]]]
 
 LISTSET is the built program. Each row is a history of so many threads with so many calls each, whose events come in a random
 order, and for `check` a legal order of it: instructions of the processor by callgrind, without those of a history without events, and the
 least user and system time of RUNS runs (15 where it isn't given), of both programs by turns. Both must say that the order is legal; for
 `order` both must find one and the same order, and in the last row, whose last call answers what it can't, the same event.
+The program in plain Rust is plain.rs, which works as listset does, or fast.rs, which is written for speed.
 """
 import os
 import pathlib
@@ -94,9 +95,10 @@ def main():
         sys.exit(__doc__)
     runs = int(sys.argv[2]) if len(sys.argv) > 2 else 15
     command = sys.argv[3] if len(sys.argv) > 3 else 'check'
+    other = sys.argv[4] if len(sys.argv) > 4 else 'plain'
     with tempfile.TemporaryDirectory() as folder:
         plain = f'{folder}/plain'
-        subprocess.run(['rustc', '--edition', '2021', '-O', '-o', plain, HERE / 'plain.rs'], check=True)
+        subprocess.run(['rustc', '--edition', '2021', '-O', '-o', plain, HERE / f'{other}.rs'], check=True)
         both = [[os.path.abspath(sys.argv[1]), command], [plain, command]]
         starts = [counted(words, b'%%\n' if command == 'check' else b'') for words in both]
         print('| Threads x calls | Events | Instructions | Plain Rust | Ratio | listset | Plain Rust | Ratio |')

@@ -1,15 +1,9 @@
 -- How calls end, one event before the other.
-use Rattle.std.proofs.Common.{◌≡◌, ◌∙◌, ◌==◌, ◌&&◌, ◌+◌, ◌-◌, ◌<◌, ◌≤◌, ℕ, Bool, true, false, cond, List, [], ◌∷◌, ◌++◌, length, map, drop, get_or, arith, refl, sym, ap, eqb-true}
-use Rattle.std.specs.Prelude.{Option, Some, None, nat_lt, reverse, unwrap_or}
-use Rattle.std.specs.BTreeMap.{BTreeMap, UpdatesBy, get}
-use Rattle.std.specs.Cmp.Lexicographic.{slice_cmp}
-use Rattle.std.specs.Ordering.{nat_cmp, ordering_then, is_eq}
-use Rattle.std.specs.declared.cmp.Ordering.{Ordering}
-use Rattle.std.specs.declared.cmp.Ordering.TheVariants.{Less, Equal, Greater}
+use Rattle.std.proofs.Common.{◌≡◌, ◌∙◌, ◌==◌, ◌&&◌, ◌+◌, ◌-◌, ◌<◌, ◌≤◌, ℕ, Bool, true, false, cond, List, [], ◌∷◌, ◌++◌, length, map, drop, get_or, arith, refl, sym, ap}
+use Rattle.std.specs.Prelude.{Option, Some, None, reverse, unwrap_or}
+use Rattle.std.specs.HashMap.{HashMap, UpdatesBy, get}
 use Rattle.std.specs.Str.{bytes_eq}
-use Rattle.std.proofs.lemmas.Bool.{ltb-true}
 use Rattle.std.proofs.lemmas.List.{reverse-append}
-use Rattle.std.proofs.lemmas.Map.Text.{is_eq-slice_cmp}
 use Rattle.ls_report.specs.Events.{Text}
 use Rattle.ls_report.specs.Plain.{plain_event}
 use Rattle.ls_report.specs.declared.history.NamedEvent.{NamedEvent}
@@ -22,39 +16,26 @@ use Rattle.ls_orders.proofs.FindingLemmas.{drop_event}
 
 -- ---- the map
 
-abbrev pub key_cmp : CallKey → CallKey → Ordering
-key_cmp x y = ordering_then (nat_cmp x.0 y.0) (slice_cmp nat_cmp x.1.now y.1.now)
+abbrev pub key_eq : CallKey → CallKey → Bool
+key_eq x y = x.0 == y.0 && bytes_eq x.1.now y.1.now
 
-nat_same : (m n : ℕ) → is_eq (nat_cmp m n) ≡ (m == n)
-nat_same m n = go (nat_lt m n) refl (m == n) refl
-  where
-    go : (a : Bool) → nat_lt m n ≡ a → (b : Bool) → (m == n) ≡ b → is_eq (cond a Less (cond b Equal Greater)) ≡ b
-    go true l true e = absurd (omega (arith, ltb-true m n l, eqb-true m n e))
-    go true l false e = refl
-    go false l true e = refl
-    go false l false e = refl
-
-both : (o p : Ordering) → is_eq (ordering_then o p) ≡ (is_eq p && is_eq o)
-both Less p = elim (is_eq p) as (λ b. false ≡ (b && false)) [ true ↦ refl | false ↦ refl ]
-both Equal p = elim (is_eq p) as (λ b. b ≡ (b && true)) [ true ↦ refl | false ↦ refl ]
-both Greater p = elim (is_eq p) as (λ b. false ≡ (b && false)) [ true ↦ refl | false ↦ refl ]
-
-same_key : (k q : CallKey) → is_eq (key_cmp k q) ≡ (bytes_eq k.1.now q.1.now && k.0 == q.0)
-same_key k q =
-    both (nat_cmp k.0 q.0) (slice_cmp nat_cmp k.1.now q.1.now)
-    ∙ ap (λ b. b && is_eq (nat_cmp k.0 q.0)) (is_eq-slice_cmp k.1.now q.1.now) ∙ ap (λ b. bytes_eq k.1.now q.1.now && b) (nat_same k.0 q.0)
+swap : (a b : Bool) → (a && b) ≡ (b && a)
+swap true true = refl
+swap true false = refl
+swap false true = refl
+swap false false = refl
 
 or_pending : (b : Bool) (w o : Option End) → unwrap_or (cond b w o) Pending ≡ cond b (unwrap_or w Pending) (unwrap_or o Pending)
 or_pending true w o = refl
 or_pending false w o = refl
 
 -- how calls end after one end is put into the map
-pub end_put : (old new : BTreeMap CallKey End) (k : CallKey) (w : Option End) → UpdatesBy key_cmp (key_cmp k) old new w → (thread : Text) (call : ℕ)
+pub end_put : {S : Type 0} (old new : HashMap CallKey End S) (k : CallKey) (w : Option End) → UpdatesBy key_eq (key_eq k) old new w → (thread : Text) (call : ℕ)
     → ended new thread call ≡ cond (bytes_eq k.1.now thread && k.0 == call) (unwrap_or w Pending) (ended old thread call)
 end_put old new k w u thread call =
     let q : CallKey = (call, record { ref_ptr = (0, 0); now = thread }) in
-    ap (λ o. unwrap_or o Pending) (u.0 q) ∙ or_pending (is_eq (key_cmp k q)) w (get key_cmp old q)
-    ∙ ap (λ b. cond b (unwrap_or w Pending) (ended old thread call)) (same_key k q)
+    ap (λ o. unwrap_or o Pending) (u.0 q) ∙ or_pending (key_eq k q) w (get key_eq old q)
+    ∙ ap (λ b. cond b (unwrap_or w Pending) (ended old thread call)) (swap (k.0 == call) (bytes_eq k.1.now thread))
 
 -- the same at other words for the thread and the end
 pub put_there : (old new : Text → ℕ → End) (t u : Text) (n : ℕ) (x y : End) → t ≡ u → x ≡ y

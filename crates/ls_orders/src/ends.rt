@@ -12,7 +12,7 @@ use crate::calls::End;
 use ls_events::value::Value;
 use ls_report::history::{NamedEvent, Occurrence};
 use std::alloc::AllocError;
-use std::collections::BTreeMap;
+use std::collections::HashMap;
 
 fn reply_of(value: Option<Value>) -> Option<bool>
     ensures { result ≡ reply_of value }
@@ -34,7 +34,7 @@ fn end_at(at: usize, occurrence: &Occurrence<'_>) -> End
 }
 
 /// How the call ends, which is open from here on.
-fn take_end<'a>(ends: &mut BTreeMap<(usize, &'a str), End>, call: (usize, &'a str)) -> End
+fn take_end<'a>(ends: &mut HashMap<(usize, &'a str), End>, call: (usize, &'a str)) -> End
     ensures behind { result ≡ ended ends.old call.entry.1.now call.entry.0 }
     ensures put { (thread : Text) (number : ℕ) → ended ends.new thread number
         ≡ (if bytes_eq call.entry.1.now thread && call.entry.0 == number then Pending else ended ends.old thread number) }
@@ -44,7 +44,7 @@ fn take_end<'a>(ends: &mut BTreeMap<(usize, &'a str), End>, call: (usize, &'a st
 
 /// Puts how the call ends, and answers what was there.
 fn put_end<'a>(
-    ends: &mut BTreeMap<(usize, &'a str), End>,
+    ends: &mut HashMap<(usize, &'a str), End>,
     call: (usize, &'a str),
     end: End,
 ) -> Result<End, AllocError>
@@ -60,7 +60,7 @@ fn put_end<'a>(
 /// have ended and haven't begun yet. They are found by their numbers and the names of their threads. Of a history the
 /// map has at most one call of each thread.
 pub(crate) fn put_event<'a>(
-    ends: &mut BTreeMap<(usize, &'a str), End>,
+    ends: &mut HashMap<(usize, &'a str), End>,
     at: usize,
     event: &NamedEvent<'a>,
 ) -> Result<End, AllocError>

@@ -24,7 +24,7 @@ use crate::ends::put_event;
 use ls_events::value::Value;
 use ls_report::history::{NamedEvent, Occurrence};
 use std::alloc::{AllocError, Global};
-use std::collections::BTreeMap;
+use std::collections::HashMap;
 use std::fmt::Write;
 
 /// Room for the longest names of calls, so that they are printed without moving.
@@ -142,7 +142,7 @@ fn set_call(called: usize, asked: (Operation, i32), end: End) -> SetCall
 pub fn set_calls(alloc: Global, events: &[NamedEvent<'_>]) -> Result<Vec<SetCall>, AllocError>
     ensures { IfOk result (λ calls. calls.items ≡ set_calls (map plain_event events.now)) }
 {
-    let mut ends = BTreeMap::new(alloc);
+    let mut ends = HashMap::new(alloc);
     let mut calls = Vec::new(alloc);
     for at in (0..events.len()).rev() {
         let event = &events[at];
@@ -159,10 +159,11 @@ pub fn set_calls(alloc: Global, events: &[NamedEvent<'_>]) -> Result<Vec<SetCall
 pub fn name_of(alloc: Global, event: &NamedEvent<'_>) -> Result<String, AllocError>
     ensures { IfOk result (λ text. string_bytes text ≡ name_of (plain_event event.now)) }
 {
-    let thread = event.thread;
     let call = event.call;
     let mut text = String::with_capacity(alloc, NAME_ROOM)?;
-    write!(text, "{thread}.{call}")?;
+    text.push_str(event.thread)?;
+    text.push_str(".")?;
+    write!(text, "{call}")?;
     Ok(text)
 }
 

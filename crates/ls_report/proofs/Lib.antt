@@ -5,3 +5,5 @@ pub mod Values
 pub mod Parts
 pub mod Histories
 pub mod Unique
+pub mod Numerals
+pub mod Exact

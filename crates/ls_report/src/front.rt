@@ -8,11 +8,11 @@ ghost use Rattle.ls_report.specs.Front.{IsIndexed, place_of};
 
 use crate::history::NamedEvent;
 use std::alloc::{AllocError, Global};
-use std::collections::BTreeMap;
+use std::collections::HashMap;
 
 /// Puts the place of the thread's last event.
 fn put_place<'a>(
-    places: &mut BTreeMap<&'a str, usize>,
+    places: &mut HashMap<&'a str, usize>,
     thread: &'a str,
     place: usize,
 ) -> Result<(), AllocError>
@@ -23,12 +23,11 @@ fn put_place<'a>(
     Ok(())
 }
 
-/// Events in order, and for each thread's name the place of its last event. So a search takes only as long as the
-/// logarithm of the number of names.
+/// Events in order, and for each thread's name the place of its last event.
 #[derive(Drop)]
 pub(crate) struct Front<'a> {
     pub(crate) events: Vec<NamedEvent<'a>>,
-    pub(crate) places: BTreeMap<&'a str, usize>,
+    pub(crate) places: HashMap<&'a str, usize>,
 }
 
 impl<'a> Front<'a> {
@@ -40,7 +39,7 @@ impl<'a> Front<'a> {
         let events = Vec::with_capacity(alloc, most)?;
         Ok(Front {
             events,
-            places: BTreeMap::new(alloc),
+            places: HashMap::new(alloc),
         })
     }
 

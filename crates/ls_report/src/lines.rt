@@ -79,7 +79,11 @@ pub(crate) fn push_made(
 ) -> Result<(), AllocError>
     ensures { OnOk result (string_bytes out.new ≡ string_bytes out.old ++ occurrence_text (Made object.now class.now arguments.now)) }
 {
-    write!(out, "call {object} = new {class}(")?;
+    out.push_str("call ")?;
+    out.push_str(object)?;
+    out.push_str(" = new ")?;
+    out.push_str(class)?;
+    out.push_str("(")?;
     push_arguments(out, arguments)?;
     out.push_str(")")
 }
@@ -93,7 +97,11 @@ pub(crate) fn push_called(
 ) -> Result<(), AllocError>
     ensures { OnOk result (string_bytes out.new ≡ string_bytes out.old ++ occurrence_text (Called object.now method.now arguments.now)) }
 {
-    write!(out, "call {object}.{method}(")?;
+    out.push_str("call ")?;
+    out.push_str(object)?;
+    out.push_str(".")?;
+    out.push_str(method)?;
+    out.push_str("(")?;
     push_arguments(out, arguments)?;
     out.push_str(")")
 }
@@ -139,12 +147,14 @@ fn push_occurrence(out: &mut String, occurrence: &Occurrence<'_>) -> Result<(), 
 }
 
 /// Adds the event's line without its line feed. The only refusal is that memory ran out.
-pub(crate) fn push_event(out: &mut String, event: &NamedEvent<'_>) -> Result<(), AllocError>
+fn push_event(out: &mut String, event: &NamedEvent<'_>) -> Result<(), AllocError>
     ensures { OnOk result (string_bytes out.new ≡ string_bytes out.old ++ event_text (plain_event event.now)) }
 {
-    let thread = event.thread;
     let call = event.call;
-    write!(out, "{thread}.{call} ")?;
+    out.push_str(event.thread)?;
+    out.push_str(".")?;
+    write!(out, "{call}")?;
+    out.push_str(" ")?;
     push_occurrence(out, &event.occurrence)
 }
 

@@ -1,7 +1,6 @@
 // Reading a history.
 
 ghost use Rattle.std.specs.Prelude.{◌≡◌, ◌<◌, ◌≤◌, ◌^◌, List, true, length as list_length, map, IfErr, IfNone, IfOk, IfSome};
-ghost use Rattle.std.specs.Str.{bytes_eq};
 ghost use Rattle.ls_report.specs.Discipline.{is_history, is_next};
 ghost use Rattle.ls_report.specs.Events.{Event};
 ghost use Rattle.ls_report.specs.Front.{IsIndexed};
@@ -15,23 +14,11 @@ use crate::fault::HistoryFault;
 use crate::front::Front;
 use crate::history::{History, NamedEvent};
 use crate::line_reading::event_in;
-use crate::lines::push_event;
 use std::alloc::{AllocError, Global};
-
-/// Whether this is the event's line, without the line feed. The event is printed into `printed`, in place of what is
-/// there.
-fn is_line_of(printed: &mut String, event: &NamedEvent<'_>, line: &str) -> Result<bool, AllocError>
-    ensures { IfOk result (λ b. b ≡ bytes_eq (event_text (plain_event event.now)) line.now) }
-{
-    printed.clear();
-    push_event(printed, event)?;
-    Ok(printed.as_str() == line)
-}
 
 /// The event of the line, if it may come after those before it.
 fn next_in<'a>(
     alloc: Global,
-    printed: &mut String,
     front: &Front<'_>,
     line: &'a str,
 ) -> Result<Option<NamedEvent<'a>>, AllocError>
@@ -47,9 +34,6 @@ fn next_in<'a>(
     if !is_next(front, &event) {
         return Ok(None);
     }
-    if !is_line_of(printed, &event, line)? {
-        return Ok(None);
-    }
     Ok(Some(event))
 }
 
@@ -57,18 +41,8 @@ fn next_in<'a>(
 fn most_events(text: &str) -> usize
     ensures { result ≤ list_length text.now }
 {
-    let mut events = 0usize;
-    let mut length = 0usize;
-    for b in text.as_bytes() {
-        length += 1;
-        if *b == b'\n' {
-            if length >= 11 {
-                events += 1;
-            }
-            length = 0;
-        }
-    }
-    events
+    let feeds = text.as_bytes().iter().filter(|b| **b == b'\n').count();
+    feeds.min(text.len() / 11)
 }
 
 fn read_events(
@@ -82,11 +56,10 @@ fn read_events(
     ensures fault { IfErr result (Explains text.now) }
 {
     let mut front = Front::with_room(alloc, most_events(text))?;
-    let mut printed = String::new(alloc);
     let mut rest = text;
     while let Some((line, after)) = cut(rest, '\n') {
         let at = length - rest.len();
-        let Some(event) = next_in(alloc, &mut printed, &front, line)? else {
+        let Some(event) = next_in(alloc, &front, line)? else {
             return Err(HistoryFault::BadHistory { at });
         };
         front.push(event)?;
