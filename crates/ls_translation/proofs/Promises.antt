@@ -1,9 +1,7 @@
 -- What the promise of an image gives its translations.
-use Rattle.std.proofs.Common.{◌≡◌, ◌↔◌, ℕ, ◌<◌, ◌≤◌, ◌^◌, List, length, Result, Ok, Err, IfOk, Option, None, sym, ap, ◌∙◌, subst, arith, inl, inr}
-use Rattle.std.specs.Prelude.{IfNone}
+use Rattle.std.proofs.Common.{◌≡◌, ◌↔◌, ℕ, ◌<◌, ◌≤◌, ◌^◌, List, length, Result, Ok, Err, IfOk, OnOk, sym, ap, ◌∙◌, subst, arith, inl, inr}
 use Rattle.std.proofs.Math.Logic.{∥∥₁_elim}
 use Rattle.std.proofs.Props.{props}
-use Rattle.std.proofs.lemmas.Result.{IfOk-weaker}
 use Rattle.ls_code.specs.Limits.{most_cells}
 use Rattle.ls_events.specs.declared.event.Event.{Event}
 use Rattle.ls_checked.specs.CheckedTree.{File}
@@ -52,28 +50,29 @@ module _ (file : File) (program : Program) (code : Code) (cells : ℕ) (runs : �
   pub forth_history : Fits file program cells schedule → steps ≡ to_machine file program code cells schedule → machine_history code cells steps ≡ source_history file program schedule
   forth_history fits is = ∥∥₁_elim runs (events_prop _ _) (λ r. ap (machine_history code cells) is ∙ (r.same.forth cells good schedule fits).histories)
 
--- what a function answers, where it answers the steps of a translation that fits
-pub if_alike : (file : File) (program : Program) (code : Code) (cells : ℕ) (schedule : List ℕ) {E : Type 0} (r : Result (List ℕ) E) → ∥ Runs file program code ∥₁ → IsCells code cells → Fits file program cells schedule → IfOk r (λ steps. steps ≡ to_machine file program code cells schedule) → IfOk r (λ steps. ∥ Alike file program code cells steps schedule ∥₁)
-if_alike file program code cells schedule r runs good fits h =
-    IfOk-weaker r (λ steps. steps ≡ to_machine file program code cells schedule) (λ steps. ∥ Alike file program code cells steps schedule ∥₁) (λ steps is. forth_alike file program code cells runs good schedule steps fits is) h
+-- what a function answers that answers the steps of a translation, and only if it fits
+pub if_alike : (file : File) (program : Program) (code : Code) (cells : ℕ) (schedule : List ℕ) {E : Type 0} (r : Result (List ℕ) E) →
+    ∥ Runs file program code ∥₁ →
+    IsCells code cells →
+    OnOk r (Fits file program cells schedule) →
+    IfOk r (λ steps. steps ≡ to_machine file program code cells schedule) →
+    IfOk r (λ steps. ∥ Alike file program code cells steps schedule ∥₁)
+if_alike file program code cells schedule (Ok steps) runs good fits is = forth_alike file program code cells runs good schedule steps fits is
+if_alike file program code cells schedule (Err e) runs good fits is = tt
 
-pub if_history : (file : File) (program : Program) (code : Code) (cells : ℕ) (schedule : List ℕ) {E : Type 0} (r : Result (List ℕ) E) → ∥ Runs file program code ∥₁ → IsCells code cells → Fits file program cells schedule → IfOk r (λ steps. steps ≡ to_machine file program code cells schedule) → IfOk r (λ steps. machine_history code cells steps ≡ source_history file program schedule)
-if_history file program code cells schedule r runs good fits h =
-    IfOk-weaker r (λ steps. steps ≡ to_machine file program code cells schedule) (λ steps. machine_history code cells steps ≡ source_history file program schedule) (λ steps is. forth_history file program code cells runs good schedule steps fits is) h
+pub if_history : (file : File) (program : Program) (code : Code) (cells : ℕ) (schedule : List ℕ) {E : Type 0} (r : Result (List ℕ) E) →
+    ∥ Runs file program code ∥₁ →
+    IsCells code cells →
+    OnOk r (Fits file program cells schedule) →
+    IfOk r (λ steps. steps ≡ to_machine file program code cells schedule) →
+    IfOk r (λ steps. machine_history code cells steps ≡ source_history file program schedule)
+if_history file program code cells schedule (Ok steps) runs good fits is = forth_history file program code cells runs good schedule steps fits is
+if_history file program code cells schedule (Err e) runs good fits is = tt
 
--- the same of the code's own values
-module _ (file file' : File) (program program' : Program) (cells : ℕ) (schedule : List ℕ) (of_file : file' ≡ file) (of_program : program' ≡ program) where
-  pub fits_all : (found : Option ℕ) → found ≡ None → IfNone found (Fits file' program' cells schedule) → Fits file program cells schedule
-  fits_all found is none =
-      subst (λ f. Fits f program cells schedule) of_file
-      (subst (λ p. Fits file' p cells schedule) of_program (subst (λ o. IfNone o (Fits file' program' cells schedule)) is none))
-
-  pub steps_are : (code : Code) (most : ℕ) (m : Machine) {E : Type 0} (r : Result (List ℕ) E) → most ≡ most_silent code → m ≡ loaded code cells → IfOk r (λ steps. steps ≡ steps_all file' program' most (start program') m schedule) → IfOk r (λ steps. steps ≡ to_machine file program code cells schedule)
-  steps_are code most m r of_most of_machine h =
-      IfOk-weaker r (λ steps. steps ≡ steps_all file' program' most (start program') m schedule) (λ steps. steps ≡ to_machine file program code cells schedule)
-      (λ steps is. is
-      ∙ ap (λ f. steps_all f program' most (start program') m schedule) of_file
-      ∙ ap (λ p. steps_all file p most (start p) m schedule) of_program
-      ∙ ap (λ n. steps_all file program n (start program) m schedule) of_most
-      ∙ ap (λ x. steps_all file program (most_silent code) (start program) x schedule) of_machine)
-      h
+-- the steps on a machine that is loaded are those of the translation
+pub on_loaded : (file : File) (program : Program) (code : Code) (cells : ℕ) (schedule : List ℕ) (m : Machine) {E : Type 0} (r : Result (List ℕ) E) →
+    m ≡ loaded code cells →
+    IfOk r (λ steps. steps ≡ steps_all file program (most_silent code) (start program) m schedule) →
+    IfOk r (λ steps. steps ≡ to_machine file program code cells schedule)
+on_loaded file program code cells schedule m r is h =
+    subst (λ x. IfOk r (λ steps. steps ≡ steps_all file program (most_silent code) (start program) x schedule)) is h

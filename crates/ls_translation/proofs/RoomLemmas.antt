@@ -18,6 +18,7 @@ use Rattle.ls_headline.specs.Sorts.{fields_by}
 use Rattle.ls_headline.specs.Same.{size_of, total, Fits}
 use Rattle.ls_headline.proofs.Cells.{sizes_of}
 use Rattle.ls_headline.proofs.Total.{Keeps, keeps}
+use Rattle.ls_meaning.specs.declared.step.Did.{Did}
 use Rattle.ls_translation.specs.Room.{IsFirstUnfit, cells_by, cells_made}
 use Rattle.ls_translation.proofs.SourceSteps.{run_more}
 
@@ -116,9 +117,16 @@ module _ (file : File) (program : Program) (cells : ℕ) (ts : List ℕ) (i d : 
   by_classes : (classes : List Class) → classes ≡ file.classes → cells_by classes (done_in r).did ≡ cells_by file.classes done.did
   by_classes classes e = ap (λ cs. cells_by cs (done_in r).did) e ∙ made_is
 
-  pub room_more : (classes : List Class) (r' : Progress) (found : Option ℕ) (left : ℕ) → classes ≡ file.classes → r' ≡ gone_on r (get_or ts i d) → found ≡ Some left → IfSome found (λ n. n + cells_by classes (step r.file r.program r.state (get_or ts i d)).did ≡ free) → HasRoom file program cells (take (i + 1) ts) r' left
-  room_more classes r' found left e on is some =
-      let fits : left + cells_by classes (done_in r).did ≡ free = subst (λ o. IfSome o (λ n. n + cells_by classes (done_in r).did ≡ free)) is some in
+  pub room_more : (classes : List Class) (r' : Progress) (did : Did) (found : Option ℕ) (left : ℕ) →
+      classes ≡ file.classes →
+      r' ≡ gone_on r (get_or ts i d) →
+      did ≡ (step r.file r.program r.state (get_or ts i d)).did →
+      found ≡ Some left →
+      IfSome found (λ n. n + cells_by classes did ≡ free) →
+      HasRoom file program cells (take (i + 1) ts) r' left
+  room_more classes r' did found left e on done_it is some =
+      let fits : left + cells_by classes (done_in r).did ≡ free =
+      subst (λ x. left + cells_by classes x ≡ free) done_it (subst (λ o. IfSome o (λ n. n + cells_by classes did ≡ free)) is some) in
       record {
         of_file = ap (λ (p : Progress). p.file) on ∙ h.of_file;
         of_program = ap (λ (p : Progress). p.program) on ∙ h.of_program;
@@ -126,9 +134,16 @@ module _ (file : File) (program : Program) (cells : ℕ) (ts : List ℕ) (i d : 
         room = omega (arith, h.room, grown, by_classes classes e, fits);
       }
 
-  pub no_room : (classes : List Class) (found : Option ℕ) (whole : List ℕ) → classes ≡ file.classes → found ≡ None → IfNone found (free < cells_by classes (step r.file r.program r.state (get_or ts i d)).did) → ts ≡ whole → IsFirstUnfit file program cells whole i
-  no_room classes found whole e is none same =
-      let over : free < cells_by classes (done_in r).did = subst (λ o. IfNone o (free < cells_by classes (done_in r).did)) is none in
+  pub no_room : (classes : List Class) (did : Did) (found : Option ℕ) (whole : List ℕ) →
+      classes ≡ file.classes →
+      did ≡ (step r.file r.program r.state (get_or ts i d)).did →
+      found ≡ None →
+      IfNone found (free < cells_by classes did) →
+      ts ≡ whole →
+      IsFirstUnfit file program cells whole i
+  no_room classes did found whole e done_it is none same =
+      let over : free < cells_by classes (done_in r).did =
+      subst (λ x. free < cells_by classes x) done_it (subst (λ o. IfNone o (free < cells_by classes did)) is none) in
       subst (λ l. IsFirstUnfit file program cells l i) same record {
         there = within;
         before = omega (arith, h.room);

@@ -52,7 +52,7 @@ impl MachineRun {
     }
 
     // Takes a step.
-    fn advance(&mut self, thread: usize) -> Result<Did, TranslationFault>
+    fn advance(&mut self, thread: u8) -> Result<Did, TranslationFault>
         ensures run { OnOk result (self.new ≡ one_more self.old thread) }
         ensures did { IfOk result (λ did. did ≡ (machine_step self.old.machine thread).did) }
         ensures short { IfErr result (CutsShort (self.old.steps ++ thread ∷ [])) }
@@ -61,11 +61,11 @@ impl MachineRun {
             return Err(TranslationFault::ResultTooLong);
         }
         self.steps.push(thread)?;
-        Ok(self.machine.step(thread))
+        Ok(self.machine.step(thread as usize))
     }
 
     /// Takes a thread's steps up to and with the one that isn't silent, with at most so many silent ones.
-    pub fn act(&mut self, most: u64, thread: usize) -> Result<(), TranslationFault>
+    pub fn act(&mut self, most: u64, thread: u8) -> Result<(), TranslationFault>
         ensures run { OnOk result (self.new ≡ gone self.old (until_acts most self.old.machine thread)) }
         ensures short { IfErr result (CutsShort (self.old.steps ++ until_acts most self.old.machine thread)) }
     {

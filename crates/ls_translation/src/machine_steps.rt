@@ -1,27 +1,22 @@
 // From a schedule of the source to one of the machine.
 
-ghost use Rattle.std.specs.Prelude.{◌≡◌, ℕ, ◌<◌, ◌↔◌, ◌++◌, ◌*◌, IfErr, IfOk, IsErrOf, OnOk, length};
-ghost use Rattle.ls_checked.specs.Plain.{plain_file};
-ghost use Rattle.ls_checked.specs.PlainProgram.{plain_program};
+ghost use Rattle.std.specs.Prelude.{◌≡◌, ℕ, ◌<◌, ◌≤◌, ◌↔◌, ◌++◌, ◌*◌, Err, IfErr, IfOk, IsErrOf, Ok, OnOk, false, length, true};
 ghost use Rattle.ls_code.specs.Machine.{machine_history};
-ghost use Rattle.ls_image.specs.Images.{code_of_image};
+ghost use Rattle.ls_image.specs.Images.{code_of_image, program_of_image};
 ghost use Rattle.ls_headline.specs.Same.{Alike, Fits};
 ghost use Rattle.ls_headline.specs.Translations.{most_silent, steps_all, to_machine};
 ghost use Rattle.ls_machine.specs.Room.{AreBadCells};
 ghost use Rattle.ls_meaning.specs.Runs.{source_history, start};
-ghost use Rattle.ls_source.specs.Progress.{gone_on};
 ghost use Rattle.ls_source.specs.Shown.{progress_of};
 ghost use Rattle.ls_translation.specs.Faults.{CutsShort};
-ghost use Rattle.ls_translation.specs.MachineRuns.{gone, has_acted, steps_of_one};
+ghost use Rattle.ls_translation.specs.MachineRuns.{gone, has_acted, steps_after, steps_before, steps_of_acting};
 ghost use Rattle.ls_translation.specs.Room.{IsFirstUnfit};
 ghost use Rattle.ls_translation.specs.Texts.{file_of, program_of};
-ghost use Rattle.ls_translation.specs.declared.fault.TranslationFault.TheVariants.{BadCells, DoesNotFit, ResultTooLong};
+ghost use Rattle.ls_translation.specs.declared.fault.TranslationFault.TheVariants.{BadCells, DoesNotFit, Memory, ResultTooLong};
 
 use crate::fault::TranslationFault;
 use crate::machine_run::MachineRun;
-use crate::room::first_unfit;
-use ls_checked::program::Program;
-use ls_checked::tree::File;
+use crate::room::free_after;
 use ls_events::schedule::Schedule;
 use ls_image::image::Image;
 use ls_machine::Machine;
@@ -39,45 +34,64 @@ fn has_acted(did: Did) -> bool
     }
 }
 
-/// One step of the source, and the machine's steps for it.
-fn follow(
-    alloc: Global,
-    source: &mut SourceRun<'_>,
+/// Whether the steps are more than a schedule can have. The only other refusal is that memory ran out.
+fn is_too_long(followed: Result<(), TranslationFault>) -> Result<bool, TranslationFault>
+    ensures goes { IfOk result (λ b. b ≡ false → followed ≡ Ok tt) }
+    ensures long { IfOk result (λ b. b ≡ true → followed ≡ Err ResultTooLong) }
+    ensures err { IfErr result (λ e. (followed ≡ Err e) × (e ≡ ResultTooLong → ⊥)) }
+{
+    match followed {
+        Ok(()) => Ok(false),
+        Err(TranslationFault::ResultTooLong) => Ok(true),
+        Err(fault) => Err(fault),
+    }
+}
+
+/// The setup's steps to its end, if its source has ended. Answers whether they are too many.
+fn begin(source: &SourceRun<'_>, run: &mut MachineRun, most: u64) -> Result<bool, TranslationFault>
+    ensures goes { IfOk result (λ b. b ≡ false → run.new ≡ gone run.old (steps_before (progress_of source.now) most run.old.machine)) }
+    ensures long { IfOk result (λ b. b ≡ true → 1000000 < length (run.old.steps ++ steps_before (progress_of source.now) most run.old.machine)) }
+    ensures err { IfErr result (λ e. e ≡ Memory) }
+{
+    is_too_long(run.finish_if(source.has_setup_ended()?, most))
+}
+
+/// The machine's steps for a step of the source that acts, which the source has made.
+fn act(
+    source: &SourceRun<'_>,
     run: &mut MachineRun,
     most: u64,
-    thread: usize,
+    thread: u8,
 ) -> Result<(), TranslationFault>
-    ensures source { OnOk result (progress_of source.new ≡ gone_on (progress_of source.old) thread) }
-    ensures run { OnOk result (run.new ≡ gone run.old (steps_of_one (progress_of source.old) most run.old.machine thread)) }
-    ensures short { IfErr result (CutsShort (run.old.steps ++ steps_of_one (progress_of source.old) most run.old.machine thread)) }
+    ensures run { OnOk result (run.new ≡ gone run.old (steps_of_acting (progress_of source.now) most run.old.machine thread)) }
+    ensures short { IfErr result (CutsShort (run.old.steps ++ steps_of_acting (progress_of source.now) most run.old.machine thread)) }
 {
-    let did = source.step(alloc, thread)?;
-    if !has_acted(did) {
-        return Ok(());
-    }
     run.act(most, thread)?;
     run.finish_if(source.has_setup_ended()?, most)
 }
 
-/// The machine's steps for a schedule of the source, with at most so many silent steps of a thread in a row.
-fn machine_steps(
-    alloc: Global,
-    file: &File,
-    program: &Program,
-    machine: Machine,
+/// The machine's steps for a step of the source that did this. The source has made the step. Answers whether the steps
+/// are too many. If they have been before, the machine doesn't go on.
+fn follow(
+    source: &SourceRun<'_>,
+    run: &mut MachineRun,
     most: u64,
-    schedule: &Schedule,
-) -> Result<Schedule, TranslationFault>
-    ensures steps { IfOk result (λ steps. steps ≡ steps_all (plain_file file.now) (plain_program program.now) most (start (plain_program program.now)) machine schedule.now) }
-    ensures short { IfErr result (CutsShort (steps_all (plain_file file.now) (plain_program program.now) most (start (plain_program program.now)) machine schedule.now)) }
+    thread: u8,
+    did: Did,
+    was_long: bool,
+) -> Result<bool, TranslationFault>
+    ensures was_short { IfOk result (λ b. b ≡ false → was_long ≡ false) }
+    ensures goes { IfOk result (λ b. b ≡ false → run.new ≡ gone run.old (steps_after (progress_of source.now) most run.old.machine thread did)) }
+    ensures long { IfOk result (λ b. b ≡ true → was_long ≡ false → 1000000 < length (run.old.steps ++ steps_after (progress_of source.now) most run.old.machine thread did)) }
+    ensures err { IfErr result (λ e. e ≡ Memory) }
 {
-    let mut source = SourceRun::new(alloc, file, program)?;
-    let mut run = MachineRun::new(alloc, machine);
-    run.finish_if(source.has_setup_ended()?, most)?;
-    for thread in schedule.steps() {
-        follow(alloc, &mut source, &mut run, most, *thread)?;
+    if was_long {
+        return Ok(true);
     }
-    Ok(run.into_steps())
+    if !has_acted(did) {
+        return Ok(false);
+    }
+    is_too_long(act(source, run, most, thread))
 }
 
 /// The most silent steps of a thread of an image in a row.
@@ -85,6 +99,44 @@ fn most_silent(image: &Image) -> u64
     ensures { result ≡ most_silent (code_of_image image.now) }
 {
     64 * (image.code().instructions().len() as u64)
+}
+
+/// The machine's steps for a schedule of the source, which is played once. Each step is checked for room as it is made.
+/// If there are too many steps, the rest of the schedule is only checked.
+fn machine_steps(
+    alloc: Global,
+    image: &Image,
+    cells: usize,
+    machine: Machine,
+    schedule: &Schedule,
+) -> Result<Schedule, TranslationFault>
+    requires { length (program_of_image image.now).names.items ≤ cells }
+    ensures unfit { (step : ℕ) → IsErrOf result (DoesNotFit step) → IsFirstUnfit (file_of image.now) (program_of image.now) cells schedule.now step }
+    ensures long { IsErrOf result ResultTooLong → 1000000 < length (steps_all (file_of image.now) (program_of image.now) (most_silent (code_of_image image.now)) (start (program_of image.now)) machine schedule.now) }
+    ensures long_fits { IsErrOf result ResultTooLong → Fits (file_of image.now) (program_of image.now) cells schedule.now }
+    ensures bad { ¬ IsErrOf result BadCells }
+    ensures fits { OnOk result (Fits (file_of image.now) (program_of image.now) cells schedule.now) }
+    ensures steps { IfOk result (λ steps. steps ≡ steps_all (file_of image.now) (program_of image.now) (most_silent (code_of_image image.now)) (start (program_of image.now)) machine schedule.now) }
+{
+    let file = image.checked().file();
+    let program = image.program();
+    let most = most_silent(image);
+    let mut source = SourceRun::new(alloc, file, program)?;
+    let mut run = MachineRun::new(alloc, machine);
+    let mut free = cells - program.names.len();
+    let mut is_long = begin(&source, &mut run, most)?;
+    for (step, thread) in schedule.steps().iter().enumerate() {
+        let did = source.step(alloc, *thread as usize)?;
+        let Some(left) = free_after(&file.classes, free, did) else {
+            return Err(TranslationFault::DoesNotFit { step });
+        };
+        free = left;
+        is_long = follow(&source, &mut run, most, *thread, did, is_long)?;
+    }
+    if is_long {
+        return Err(TranslationFault::ResultTooLong);
+    }
+    Ok(run.into_steps())
 }
 
 /// The schedule of instructions for a schedule of source steps, on a machine with so many cells. For each source step
@@ -105,18 +157,11 @@ pub fn to_machine(
     ensures unfit { (step : ℕ) → IsErrOf result (DoesNotFit step) → IsFirstUnfit (file_of image.now) (program_of image.now) cells schedule.now step }
     ensures long { IsErrOf result ResultTooLong → 1000000 < length (to_machine (file_of image.now) (program_of image.now) (code_of_image image.now) cells schedule.now) }
     ensures long_fits { IsErrOf result ResultTooLong → Fits (file_of image.now) (program_of image.now) cells schedule.now }
-
     ensures fits { OnOk result (Fits (file_of image.now) (program_of image.now) cells schedule.now) }
     ensures steps { IfOk result (λ steps. steps ≡ to_machine (file_of image.now) (program_of image.now) (code_of_image image.now) cells schedule.now) }
     ensures history { IfOk result (λ steps. machine_history (code_of_image image.now) cells steps ≡ source_history (file_of image.now) (program_of image.now) schedule.now) }
     ensures alike { IfOk result (λ steps. ∥ Alike (file_of image.now) (program_of image.now) (code_of_image image.now) cells steps schedule.now ∥₁) }
 {
     let machine = Machine::load(alloc, image.code(), cells)?;
-    let file = image.checked().file();
-    let program = image.program();
-    let unfit = first_unfit(alloc, file, program, cells, schedule)?;
-    if let Some(step) = unfit {
-        return Err(TranslationFault::DoesNotFit { step });
-    }
-    machine_steps(alloc, file, program, machine, most_silent(image), schedule)
+    machine_steps(alloc, image, cells, machine, schedule)
 }

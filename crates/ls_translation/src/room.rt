@@ -1,25 +1,16 @@
-// Whether what a schedule of the source makes has room in the cells.
+// Whether what a step of the source makes has room in the cells.
 
-ghost use Rattle.std.specs.Prelude.{◌≡◌, ◌+◌, ◌<◌, ◌≤◌, IfNone, IfOk, IfSome, OnOk, length, map};
-ghost use Rattle.ls_checked.specs.Plain.{plain_class, plain_file};
-ghost use Rattle.ls_checked.specs.PlainProgram.{plain_program};
-ghost use Rattle.ls_headline.specs.Same.{Fits};
+ghost use Rattle.std.specs.Prelude.{◌≡◌, ◌+◌, ◌<◌, IfNone, IfSome, length, map};
+ghost use Rattle.ls_checked.specs.Plain.{plain_class};
 ghost use Rattle.ls_headline.specs.Sorts.{fields_of};
 ghost use Rattle.ls_headline.specs.Threads.{object_cells};
 ghost use Rattle.ls_meaning.specs.Effect.{size_of};
-ghost use Rattle.ls_meaning.specs.Runs.{step};
-ghost use Rattle.ls_source.specs.Progress.{gone_on};
-ghost use Rattle.ls_source.specs.Shown.{progress_of};
-ghost use Rattle.ls_translation.specs.Room.{IsFirstUnfit, cells_by, cells_made};
+ghost use Rattle.ls_translation.specs.Room.{cells_by, cells_made};
 
-use ls_checked::program::Program;
-use ls_checked::tree::{Class, File};
+use ls_checked::tree::Class;
 use ls_events::action::Action;
-use ls_events::schedule::Schedule;
 use ls_events::value::Value;
 use ls_meaning::step::Did;
-use ls_source::run::SourceRun;
-use std::alloc::{AllocError, Global};
 
 /// The cells of an object of a class: one for its monitor, and one for each field.
 fn object_cells(classes: &[Class], class: usize) -> usize
@@ -65,45 +56,14 @@ fn cells_by(classes: &[Class], did: Did) -> usize
     }
 }
 
-/// One step of a run. Answers the cells that are free after it, where what it makes has room.
-fn free_after(
-    alloc: Global,
-    run: &mut SourceRun<'_>,
-    classes: &[Class],
-    free: usize,
-    thread: usize,
-) -> Result<Option<usize>, AllocError>
-    ensures run { OnOk result (progress_of run.new ≡ gone_on (progress_of run.old) thread) }
-    ensures some { IfOk result (λ found. IfSome found (λ left. left + cells_by (map plain_class classes.now) (step (progress_of run.old).file (progress_of run.old).program (progress_of run.old).state thread).did ≡ free)) }
-    ensures none { IfOk result (λ found. IfNone found (free < cells_by (map plain_class classes.now) (step (progress_of run.old).file (progress_of run.old).program (progress_of run.old).state thread).did)) }
+/// The cells that are free after a step that did this, if what it makes has room.
+pub fn free_after(classes: &[Class], free: usize, did: Did) -> Option<usize>
+    ensures some { IfSome result (λ left. left + cells_by (map plain_class classes.now) did ≡ free) }
+    ensures none { IfNone result (free < cells_by (map plain_class classes.now) did) }
 {
-    let cells = cells_by(classes, run.step(alloc, thread)?);
+    let cells = cells_by(classes, did);
     if free < cells {
-        return Ok(None);
+        return None;
     }
-    Ok(Some(free - cells))
-}
-
-/// The first step of a schedule whose making has no room in so many cells, beside the setup names and what was made before.
-pub fn first_unfit(
-    alloc: Global,
-    file: &File,
-    program: &Program,
-    cells: usize,
-    schedule: &Schedule,
-) -> Result<Option<usize>, AllocError>
-    requires { length program.now.names.items ≤ cells }
-    ensures none { IfOk result (λ found. IfNone found (Fits (plain_file file.now) (plain_program program.now) cells schedule.now)) }
-    ensures first { IfOk result (λ found. IfSome found (IsFirstUnfit (plain_file file.now) (plain_program program.now) cells schedule.now)) }
-{
-    let mut run = SourceRun::new(alloc, file, program)?;
-    let mut free = cells - program.names.len();
-    for (step, thread) in schedule.steps().iter().enumerate() {
-        let found = free_after(alloc, &mut run, &file.classes, free, *thread)?;
-        let Some(left) = found else {
-            return Ok(Some(step));
-        };
-        free = left;
-    }
-    Ok(None)
+    Some(free - cells)
 }

@@ -20,12 +20,12 @@ use ls_machine::Machine;
 use std::alloc::{AllocError, Global};
 
 /// Takes a step, and adds its thread where it acts.
-fn take(machine: &mut Machine, acting: &mut Schedule, thread: usize) -> Result<(), AllocError>
+fn take(machine: &mut Machine, acting: &mut Schedule, thread: u8) -> Result<(), AllocError>
     requires { length acting.old < 1000000 }
     ensures machine { OnOk result (machine.new ≡ (machine_step machine.old thread).machine) }
     ensures acting { OnOk result (acting.new ≡ acting.old ++ if_acts thread (machine_step machine.old thread).did) }
 {
-    match machine.step(thread) {
+    match machine.step(thread as usize) {
         Did::Acted(_, _) => acting.push(thread),
         Did::Silent | Did::Waits | Did::Idle | Did::Stopped => Ok(()),
     }
