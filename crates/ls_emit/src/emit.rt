@@ -14,8 +14,9 @@ use crate::fault::EmitFault;
 use crate::statements::emit_statement;
 use crate::targets::Around;
 use ls_code::instruction::Instruction;
+use ls_emit_sizes::ahead::list_ahead;
 use ls_emit_sizes::needs::{larger, statement_need};
-use ls_emit_sizes::sizes::{are_short, size_of_statement};
+use ls_emit_sizes::sizes::are_short;
 use ls_lowered::tree::{File, Method};
 use std::alloc::{AllocError, Global};
 
@@ -25,12 +26,15 @@ fn emit_unit(alloc: Global, method: &Method) -> Result<CodeUnit, AllocError>
     requires small { IsSmallStatement (plain_method method.now).body }
     ensures { IfOk result (λ u. u ≡ unit_of (plain_method method.now)) }
 {
+    let sizes = list_ahead(alloc, &method.body)?;
+    let size = sizes[0];
     let mut out = Emission {
         alloc,
-        instructions: Vec::new(alloc),
+        sizes: &sizes[1..],
+        instructions: Vec::with_capacity(alloc, size + 2)?,
         rows: Vec::new(alloc),
     };
-    let at = Stretch::new(0, size_of_statement(&method.body));
+    let at = Stretch::new(0, size);
     emit_statement(&mut out, &Around::Nothing, at, &method.body)?;
     put(&mut out.instructions, Instruction::Push(0))?;
     put(&mut out.instructions, Instruction::LeaveWith)?;

@@ -1,11 +1,12 @@
 // The code of statements.
 
-ghost use Rattle.std.specs.Prelude.{◌≡◌, ◌+◌, ◌≤◌, ◌++◌, [], ◌∷◌, OnOk, map};
+ghost use Rattle.std.specs.Prelude.{◌≡◌, ◌+◌, ◌≤◌, ◌++◌, [], ◌∷◌, IfOk, OnOk, drop, length, map, take};
 ghost use Rattle.ls_code.specs.declared.instruction.Instruction.TheVariants as op;
 ghost use Rattle.ls_lowered.specs.LoweredTree.{If, While, Guarded, Leavable};
 ghost use Rattle.ls_lowered.specs.Plain.{plain, plain_statement, statements_of};
 ghost use Rattle.ls_emit_laws.specs.Expressions.{size, code};
-ghost use Rattle.ls_emit_laws.specs.Statements.{statement_size, statements_size, exits_size, statement_code, statements_code, exits_code, statement_rows, statements_rows, exits_rows};
+ghost use Rattle.ls_emit_laws.specs.Statements.{places, statement_size, statements_size, exits_size, statement_code, statements_code, exits_code, statement_rows, statements_rows, exits_rows};
+ghost use Rattle.ls_emit_sizes.specs.Ahead.{exit_count, exit_sizes, AreAhead, AreAheadOfBlock, AreAheadOfExits, left_by, left_by_block, left_by_exits};
 ghost use Rattle.ls_emit.specs.Alone.{IsAlone};
 ghost use Rattle.ls_emit.specs.Targets.{targets_of};
 ghost use Rattle.ls_emit.specs.Small.{IsSmall, IsSmallStatement, AreSmallStatements};
@@ -15,8 +16,7 @@ use crate::expressions::{emit_expression, emit_on, emit_on_three, emit_on_two, p
 use crate::targets::{Around, find_target};
 use ls_code::code::HandlerRow;
 use ls_code::instruction::Instruction;
-use ls_emit_sizes::layout::lay_out;
-use ls_emit_sizes::sizes::size_of_statement;
+use ls_emit_sizes::layout::{Layout, lay_out};
 use ls_lowered::tree::{Expression, Statement};
 use std::alloc::AllocError;
 
@@ -25,7 +25,7 @@ use std::alloc::AllocError;
 #[cycle(statements)]
 #[tactic(auto, using(ls_emit_sizes::proofs::Blocks::block_read))]
 pub fn emit_statement(
-    out: &mut Emission,
+    out: &mut Emission<'_>,
     around: &Around,
     at: Stretch,
     s: &Statement,
@@ -33,8 +33,10 @@ pub fn emit_statement(
     requires ends { at.end ≡ at.place + statement_size (plain_statement s.now) }
     requires room { at.end ≤ 65536 }
     requires small { IsSmallStatement (plain_statement s.now) }
+    requires sized { AreAhead (plain_statement s.now) out.old.sizes.now }
     ensures code { OnOk result (out.new.instructions.items ≡ out.old.instructions.items ++ statement_code (targets_of around.now) at.place (plain_statement s.now)) }
     ensures rows { OnOk result (out.new.rows.items ≡ out.old.rows.items ++ statement_rows at.place (plain_statement s.now)) }
+    ensures left { OnOk result (out.new.sizes.now ≡ left_by (plain_statement s.now) out.old.sizes.now) }
 {
     match s {
         Statement::Block(statements) => emit_block(out, &*around, at.place, statements),
@@ -149,19 +151,21 @@ fn emit_throw(out: &mut Vec<Instruction>, number: u32) -> Result<(), AllocError>
 
 #[cycle(statements)]
 fn emit_block(
-    out: &mut Emission,
+    out: &mut Emission<'_>,
     around: &Around,
     place: usize,
     statements: &[Statement],
 ) -> Result<(), AllocError>
     requires room { place + statements_size (statements_of statements.now) ≤ 65536 }
     requires small { AreSmallStatements (statements_of statements.now) }
+    requires sized { AreAheadOfBlock (statements_of statements.now) out.old.sizes.now }
     ensures code { OnOk result (out.new.instructions.items ≡ out.old.instructions.items ++ statements_code (targets_of around.now) place (statements_of statements.now)) }
     ensures rows { OnOk result (out.new.rows.items ≡ out.old.rows.items ++ statements_rows place (statements_of statements.now)) }
+    ensures left { OnOk result (out.new.sizes.now ≡ left_by_block (statements_of statements.now) out.old.sizes.now) }
 {
     let mut next = place;
     for s in statements {
-        let end = next + size_of_statement(s);
+        let end = next + out.take_size();
         emit_statement(out, &*around, Stretch::new(next, end), s)?;
         next = end;
     }
@@ -170,7 +174,7 @@ fn emit_block(
 
 #[cycle(statements)]
 fn emit_if(
-    out: &mut Emission,
+    out: &mut Emission<'_>,
     around: &Around,
     at: Stretch,
     condition: &Expression,
@@ -180,11 +184,13 @@ fn emit_if(
     requires ends { at.end ≡ at.place + (size (plain condition.now) + statement_size (plain_statement first.now) + statement_size (plain_statement second.now) + 2) }
     requires room { at.end ≤ 65536 }
     requires small { IsSmall (plain condition.now) × IsSmallStatement (plain_statement first.now) × IsSmallStatement (plain_statement second.now) }
+    requires sized { AreAhead (If (plain condition.now) (plain_statement first.now) (plain_statement second.now)) out.old.sizes.now }
     ensures code { OnOk result (out.new.instructions.items ≡ out.old.instructions.items ++ statement_code (targets_of around.now) at.place (If (plain condition.now) (plain_statement first.now) (plain_statement second.now))) }
     ensures rows { OnOk result (out.new.rows.items ≡ out.old.rows.items ++ statement_rows at.place (If (plain condition.now) (plain_statement first.now) (plain_statement second.now))) }
+    ensures left { OnOk result (out.new.sizes.now ≡ left_by (If (plain condition.now) (plain_statement first.now) (plain_statement second.now)) out.old.sizes.now) }
 {
+    let other = at.end - out.take_size();
     let next = emit_expression(&mut out.instructions, at.place, condition)?;
-    let other = at.end - size_of_statement(second);
     put(
         &mut out.instructions,
         Instruction::JumpIfFalse(other as u32),
@@ -196,7 +202,7 @@ fn emit_if(
 
 #[cycle(statements)]
 fn emit_while(
-    out: &mut Emission,
+    out: &mut Emission<'_>,
     around: &Around,
     at: Stretch,
     condition: &Expression,
@@ -205,8 +211,10 @@ fn emit_while(
     requires ends { at.end ≡ at.place + (size (plain condition.now) + statement_size (plain_statement body.now) + 2) }
     requires room { at.end ≤ 65536 }
     requires small { IsSmall (plain condition.now) × IsSmallStatement (plain_statement body.now) }
+    requires sized { AreAhead (plain_statement body.now) out.old.sizes.now }
     ensures code { OnOk result (out.new.instructions.items ≡ out.old.instructions.items ++ statement_code (targets_of around.now) at.place (While (plain condition.now) (plain_statement body.now))) }
     ensures rows { OnOk result (out.new.rows.items ≡ out.old.rows.items ++ statement_rows at.place (While (plain condition.now) (plain_statement body.now))) }
+    ensures left { OnOk result (out.new.sizes.now ≡ left_by (plain_statement body.now) out.old.sizes.now) }
 {
     let next = emit_expression(&mut out.instructions, at.place, condition)?;
     put(
@@ -220,7 +228,7 @@ fn emit_while(
 // A throw from the body goes on after the jump over the handler.
 #[cycle(statements)]
 fn emit_guarded(
-    out: &mut Emission,
+    out: &mut Emission<'_>,
     around: &Around,
     at: Stretch,
     body: &Statement,
@@ -230,10 +238,12 @@ fn emit_guarded(
     requires ends { at.end ≡ at.place + (statement_size (plain_statement body.now) + statement_size (plain_statement handler.now) + 2) }
     requires room { at.end ≤ 65536 }
     requires small { IsSmallStatement (plain_statement body.now) × IsSmallStatement (plain_statement handler.now) }
+    requires sized { AreAhead (Guarded (plain_statement body.now) number (plain_statement handler.now)) out.old.sizes.now }
     ensures code { OnOk result (out.new.instructions.items ≡ out.old.instructions.items ++ statement_code (targets_of around.now) at.place (Guarded (plain_statement body.now) number (plain_statement handler.now))) }
     ensures rows { OnOk result (out.new.rows.items ≡ out.old.rows.items ++ statement_rows at.place (Guarded (plain_statement body.now) number (plain_statement handler.now))) }
+    ensures left { OnOk result (out.new.sizes.now ≡ left_by (Guarded (plain_statement body.now) number (plain_statement handler.now)) out.old.sizes.now) }
 {
-    let after = at.end - size_of_statement(handler);
+    let after = at.end - out.take_size();
     emit_statement(out, &*around, Stretch::new(at.place, after - 2), body)?;
     put(&mut out.instructions, Instruction::Jump(at.end as u32))?;
     out.rows.push(HandlerRow {
@@ -246,10 +256,33 @@ fn emit_guarded(
     emit_statement(out, &*around, Stretch::new(after, at.end), handler)
 }
 
+// Where the exits of a leavable statement are that ends at `end`, and how many instructions each has.
+#[tactic(auto, using(ls_emit_sizes::proofs::Places::room_is, ls_emit_sizes::proofs::Places::places_are, ls_emit_sizes::proofs::Places::sizes_are, ls_emit_sizes::proofs::Places::count_is))]
+fn place_exits<'a>(
+    out: &mut Emission<'a>,
+    end: usize,
+    exits: &[Statement],
+) -> Result<(Layout, &'a [usize]), AllocError>
+    requires room { exits_size (statements_of exits.now) ≤ end }
+    requires few { end ≤ 65536 }
+    requires count { exit_count (statements_of exits.now) ≤ length out.old.sizes.now }
+    requires sized { take (exit_count (statements_of exits.now)) out.old.sizes.now ≡ exit_sizes (statements_of exits.now) }
+    ensures place { IfOk result (λ p. p.0.place + exits_size (statements_of exits.now) ≡ end) }
+    ensures begins { IfOk result (λ p. p.0.begins.items ++ end ∷ [] ≡ places p.0.place (statements_of exits.now)) }
+    ensures sizes { IfOk result (λ p. p.1.now ≡ map (λ s. statement_size (plain_statement s)) exits.now) }
+    ensures left { out.new.sizes.now ≡ drop (exit_count (statements_of exits.now)) out.old.sizes.now }
+    ensures code { out.new.instructions ≡ out.old.instructions }
+    ensures rows { out.new.rows ≡ out.old.rows }
+{
+    let sizes = out.take_sizes(exits.len());
+    let layout = lay_out(out.alloc, end, sizes)?;
+    Ok((layout, sizes))
+}
+
 // The exits come after the body.
 #[cycle(statements)]
 fn emit_leavable(
-    out: &mut Emission,
+    out: &mut Emission<'_>,
     around: &Around,
     at: Stretch,
     body: &Statement,
@@ -258,10 +291,12 @@ fn emit_leavable(
     requires ends { at.end ≡ at.place + (statement_size (plain_statement body.now) + exits_size (statements_of exits.now)) }
     requires room { at.end ≤ 65536 }
     requires small { IsSmallStatement (plain_statement body.now) × AreSmallStatements (statements_of exits.now) }
+    requires sized { AreAhead (Leavable (plain_statement body.now) (statements_of exits.now)) out.old.sizes.now }
     ensures code { OnOk result (out.new.instructions.items ≡ out.old.instructions.items ++ statement_code (targets_of around.now) at.place (Leavable (plain_statement body.now) (statements_of exits.now))) }
     ensures rows { OnOk result (out.new.rows.items ≡ out.old.rows.items ++ statement_rows at.place (Leavable (plain_statement body.now) (statements_of exits.now))) }
+    ensures left { OnOk result (out.new.sizes.now ≡ left_by (Leavable (plain_statement body.now) (statements_of exits.now)) out.old.sizes.now) }
 {
-    let layout = lay_out(out.alloc, at.end, exits)?;
+    let (layout, sizes) = place_exits(out, at.end, exits)?;
     let inner = Around::Leavable(&layout.begins, at.end as u32, &*around);
     emit_statement(out, &inner, Stretch::new(at.place, layout.place), body)?;
     emit_exits(
@@ -269,14 +304,14 @@ fn emit_leavable(
         &*around,
         Stretch::new(layout.place, at.end),
         exits,
-        &layout.sizes,
+        sizes,
     )
 }
 
 // Each exit comes after a jump. That jump leads past all exits.
 #[cycle(statements)]
 fn emit_exits(
-    out: &mut Emission,
+    out: &mut Emission<'_>,
     around: &Around,
     at: Stretch,
     exits: &[Statement],
@@ -286,8 +321,10 @@ fn emit_exits(
     requires room { at.end ≤ 65536 }
     requires sizes { sizes.now ≡ map (λ s. statement_size (plain_statement s)) exits.now }
     requires small { AreSmallStatements (statements_of exits.now) }
+    requires sized { AreAheadOfExits (statements_of exits.now) out.old.sizes.now }
     ensures code { OnOk result (out.new.instructions.items ≡ out.old.instructions.items ++ exits_code (targets_of around.now) at.end at.place (statements_of exits.now)) }
     ensures rows { OnOk result (out.new.rows.items ≡ out.old.rows.items ++ exits_rows at.place (statements_of exits.now)) }
+    ensures left { OnOk result (out.new.sizes.now ≡ left_by_exits (statements_of exits.now) out.old.sizes.now) }
 {
     let mut next = at.place;
     let mut number = 0;

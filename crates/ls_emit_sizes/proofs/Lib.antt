@@ -1,3 +1,5 @@
 pub mod Blocks
+pub mod Listed
 pub mod Places
+pub mod Sums
 pub mod Weights

@@ -2,6 +2,7 @@
 //! asked before any code is made.
 #![tactic(auto)]
 
+pub mod ahead;
 pub mod expressions;
 pub mod layout;
 pub mod needs;
