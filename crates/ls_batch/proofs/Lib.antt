@@ -4,3 +4,5 @@ pub mod Settled
 pub mod Batched
 pub mod Replayed
 pub mod Judged
+pub mod Ended
+pub mod Printed

@@ -5,7 +5,7 @@ use Rattle.std.proofs.lemmas.List.{length-append, length-replicate}
 use Rattle.std.proofs.lemmas.List.Elements.{All-append, All-replicate}
 use Rattle.ls_code.specs.Code.{Code}
 use Rattle.ls_code.specs.Machine.{Machine, loaded, machine_state, machine_step, machine_run}
-use Rattle.ls_batch.specs.Samples.{goes_on, played, sample_of, seed_schedule, settled, settling, threads_of}
+use Rattle.ls_batch.specs.Samples.{goes_on, played, sample_of, settled, settling, threads_of}
 use Rattle.ls_batch.specs.Replays.{Replays}
 use Rattle.ls_batch.specs.declared.samples.Drawing.{Drawing}
 use Rattle.ls_machine.specs.Back.{RunsKeep}

@@ -1,5 +1,7 @@
 pub mod Samples
 pub mod Even
+pub mod Ended
+pub mod Gathered
 pub mod Printing
 pub mod Judged
 pub mod Replays

@@ -8,9 +8,9 @@ ghost use Rattle.ls_batch.specs.Samples.{IsBadCount, IsBadDrawing, histories_of}
 ghost use Rattle.ls_batch_tally.specs.Tallies.{IsTally};
 
 use crate::fault::BatchFault;
-use crate::gathering::histories;
+use crate::gathering::counts_of;
 use crate::samples::Drawing;
-use ls_batch_tally::{Tally, tally_of};
+use ls_batch_tally::Tally;
 use ls_code::code::Code;
 use ls_image::image::Image;
 use ls_image::laws::runs;
@@ -91,7 +91,7 @@ pub fn batch(
         return Err(BatchFault::BadCount);
     }
     let seeds = seeds_from(alloc, first_seed, count)?;
-    let histories = histories(rt, alloc, code, cells, seeds.as_slice(), drawing)?;
-    let tally = tally_of(alloc, histories.as_slice(), first_seed)?;
+    let counts = counts_of(rt, alloc, code, cells, seeds.as_slice(), drawing)?;
+    let tally = counts.tally(alloc)?;
     Ok(tally)
 }

@@ -1,49 +1,56 @@
-// The runs of many seeds.
+// The counts of many seeds' histories.
 
-ghost use Rattle.std.specs.Prelude.{◌≡◌, ◌<◌, ℕ, IfOk, Ok, map};
+ghost use Rattle.std.specs.Prelude.{◌≡◌, ◌<◌, ℕ, List, IfOk};
 ghost use Rattle.std.specs.List.{AllZip, flat_map};
 ghost use Rattle.rayon.specs.Lists.{chunks_of};
 ghost use Rattle.ls_machine.specs.Room.{AreBadCells};
-ghost use Rattle.ls_batch.specs.Samples.{history_of};
+ghost use Rattle.ls_batch.specs.Gathered.{runs_of};
+ghost use Rattle.ls_batch_tally.specs.Counted.{AreCounts, Run};
 
 use crate::runs::{load, one_run, threads_of};
 use crate::samples::Drawing;
+use ls_batch_tally::{Counts, joined};
 use ls_code::code::Code;
-use ls_events::event::Event;
+use rayon::current_num_threads;
 use rayon::prelude::*;
 use std::alloc::{AllocError, Global};
 use std::thread::Threads;
 
-/// How many seeds are run one after the other, as a part of all: few enough that each processor has parts, and many enough
-/// that a part costs little beside its runs.
-fn seeds_at_once(count: usize) -> usize
+/// The fewest seeds that are run one after the other on one machine: a machine takes as long to load as some seeds to run.
+const LEAST_PART: usize = 16;
+
+/// How many seeds are run one after the other, as a part of all. There are two parts for each processor, since parts differ
+/// in length.
+fn seeds_at_once(rt: &impl Threads, count: usize) -> usize
     ensures { 0 < result }
 {
-    (count / 16).min(256).max(1)
+    let parts = current_num_threads(rt).saturating_mul(2);
+    count.div_ceil(parts).max(LEAST_PART)
 }
 
-/// The histories of a part of the seeds, in order. They are run on one machine.
+/// The counts of the histories of a part of the seeds. They are run on one machine, and each history is counted before the next run.
 fn run_part(
     alloc: Global,
     code: &Code,
     cells: usize,
     seeds: &[u64],
     drawing: Drawing,
-) -> Result<Vec<Vec<Event>>, AllocError>
+) -> Result<Counts, AllocError>
     requires cells { ¬ AreBadCells code.now.names cells }
     requires chance { 0 < drawing.switch }
-    ensures { IfOk result (λ histories. map (λ h. h.items) histories.items ≡ map (λ seed. history_of code.now cells seed drawing) seeds.now) }
+    ensures { IfOk result (AreCounts (runs_of code.now cells drawing seeds.now)) }
 {
     let mut machine = load(alloc, code, cells)?;
     let threads = threads_of(code);
-    let mut histories = Vec::new(alloc);
+    let mut counts = Counts::new(alloc);
     for seed in seeds {
-        histories.push(one_run(alloc, &mut machine, threads, *seed, drawing)?)?;
+        one_run(&mut machine, threads, *seed, drawing);
+        counts.add(alloc, machine.history(), *seed)?;
     }
-    Ok(histories)
+    Ok(counts)
 }
 
-/// The runs of all parts of so many seeds, in order, by as many threads as there are processors.
+/// The counts of all parts of so many seeds, by as many threads as there are processors.
 fn run_parts(
     rt: &(impl Threads + Sync),
     alloc: Global,
@@ -51,64 +58,54 @@ fn run_parts(
     cells: usize,
     seeds: &[u64],
     drawing: Drawing,
-) -> Result<Vec<Result<Vec<Vec<Event>>, AllocError>>, AllocError>
+) -> Result<Vec<Result<Counts, AllocError>>, AllocError>
     requires cells { ¬ AreBadCells code.now.names cells }
     requires chance { 0 < drawing.switch }
-    ensures { IfOk result (λ runs. (size : ℕ) × (0 < size) × AllZip (λ part run. IfOk run (λ histories. map (λ h. h.items) histories.items ≡ map (λ seed. history_of code.now cells seed drawing) part)) (chunks_of size seeds.now) runs.items) }
+    ensures { IfOk result (λ parts. (size : ℕ) × (0 < size) × AllZip (λ group part. IfOk part (AreCounts (runs_of code.now cells drawing group))) (chunks_of size seeds.now) parts.items) }
 {
     seeds
-        .par_chunks(seeds_at_once(seeds.len()))
+        .par_chunks(seeds_at_once(rt, seeds.len()))
         .with_min_len(1)
         .map(
-            |part: &[u64]| -> Result<Vec<Vec<Event>>, AllocError>
+            |part: &[u64]| -> Result<Counts, AllocError>
                 requires cells { ¬ AreBadCells code.now.names cells }
                 requires chance { 0 < drawing.switch }
-                ensures { IfOk result (λ histories. map (λ h. h.items) histories.items ≡ map (λ seed. history_of code.entry.now cells seed drawing) part.now) }
+                ensures { IfOk result (AreCounts (runs_of code.entry.now cells drawing part.now)) }
             { run_part(alloc, code, cells, part, drawing) },
         )
         .collect(rt, alloc)
 }
 
-/// The parts, where none was refused memory.
-fn gathered(
+/// The counts of all parts together, where none was refused memory.
+fn all_counts(
     alloc: Global,
-    runs: Vec<Result<Vec<Vec<Event>>, AllocError>>,
-) -> Result<Vec<Vec<Vec<Event>>>, AllocError>
-    ensures { IfOk result (λ parts. AllZip (λ run part. run ≡ Ok part) runs.items parts.items) }
+    parts: Vec<Result<Counts, AllocError>>,
+) -> Result<Counts, AllocError>
+    ensures { (groups : List (List Run)) → AllZip (λ group part. IfOk part (AreCounts group)) groups parts.items → IfOk result (AreCounts (flat_map (λ group. group) groups)) }
 {
-    let mut parts = Vec::new(alloc);
-    for run in runs {
-        parts.push(run?)?;
+    let mut all = Counts::new(alloc);
+    for part in parts {
+        let counts = part?;
+        let sum = joined(all, counts)?;
+        all = sum;
     }
-    Ok(parts)
+    Ok(all)
 }
 
-/// The histories of all parts, side by side.
-fn joined(alloc: Global, parts: Vec<Vec<Vec<Event>>>) -> Result<Vec<Vec<Event>>, AllocError>
-    ensures { IfOk result (λ histories. histories.items ≡ flat_map (λ part. part.items) parts.items) }
-{
-    let mut histories = Vec::new(alloc);
-    for mut part in parts {
-        histories.append(&mut part)?;
-    }
-    Ok(histories)
-}
-
-/// The histories of all seeds' runs, in order.
-pub(crate) fn histories(
+/// The counts of the histories of all seeds' runs.
+pub(crate) fn counts_of(
     rt: &(impl Threads + Sync),
     alloc: Global,
     code: &Code,
     cells: usize,
     seeds: &[u64],
     drawing: Drawing,
-) -> Result<Vec<Vec<Event>>, AllocError>
+) -> Result<Counts, AllocError>
     requires cells { ¬ AreBadCells code.now.names cells }
     requires chance { 0 < drawing.switch }
-    ensures { IfOk result (λ histories. map (λ h. h.items) histories.items ≡ map (λ seed. history_of code.now cells seed drawing) seeds.now) }
+    ensures { IfOk result (AreCounts (runs_of code.now cells drawing seeds.now)) }
 {
-    let runs = run_parts(rt, alloc, code, cells, seeds, drawing)?;
-    let parts = gathered(alloc, runs)?;
-    let histories = joined(alloc, parts)?;
-    Ok(histories)
+    let parts = run_parts(rt, alloc, code, cells, seeds, drawing)?;
+    let counts = all_counts(alloc, parts)?;
+    Ok(counts)
 }

@@ -6,6 +6,7 @@ mod fault;
 mod gathering;
 mod judging;
 pub mod laws;
+mod over;
 mod printing;
 mod runs;
 mod samples;

@@ -1,15 +1,13 @@
 // The run of a seed.
 
-ghost use Rattle.std.specs.Prelude.{◌≡◌, ◌<◌, IfOk};
+ghost use Rattle.std.specs.Prelude.{◌≡◌, ◌<◌, ◌≤◌, IfOk};
 ghost use Rattle.ls_code.specs.Machine.{loaded, machine_state};
 ghost use Rattle.ls_machine.specs.Room.{AreBadCells};
 ghost use Rattle.ls_batch.specs.Samples.{goes_on, history_of, played, settled, settling, threads_of};
 
 use crate::samples::{Drawing, run_sample};
-use ls_batch_tally::copied;
 use ls_code::code::Code;
 use ls_code::step::ThreadState;
-use ls_events::event::Event;
 use ls_machine::laws::runs_keep;
 use ls_machine::{LoadFault, Machine};
 use std::alloc::{AllocError, Global};
@@ -19,7 +17,8 @@ pub(crate) const MOST_SETUP_STEPS: usize = 100_000;
 
 /// How many threads there are beside the setup.
 pub(crate) fn threads_of(code: &Code) -> usize
-    ensures { result ≡ threads_of code.now }
+    ensures count { result ≡ threads_of code.now }
+    ensures few { result ≤ 64 }
 {
     code.starts().len().saturating_sub(1)
 }
@@ -72,22 +71,15 @@ pub(crate) fn load(alloc: Global, code: &Code, cells: usize) -> Result<Machine, 
     }
 }
 
-/// The history of a seed's run, on a machine that is set back to its start first.
-pub(crate) fn one_run(
-    alloc: Global,
-    machine: &mut Machine,
-    threads: usize,
-    seed: u64,
-    drawing: Drawing,
-) -> Result<Vec<Event>, AllocError>
+/// Runs a machine by a seed, from its start.
+pub(crate) fn one_run(machine: &mut Machine, threads: usize, seed: u64, drawing: Drawing)
     requires threads { threads ≡ threads_of machine.old.code }
     requires chance { 0 < drawing.switch }
-    ensures history { IfOk result (λ history. history.items ≡ history_of machine.old.code machine.old.cells.limit seed drawing) }
+    ensures history { machine.new.history ≡ history_of machine.old.code machine.old.cells.limit seed drawing }
     ensures code { machine.new.code ≡ machine.old.code }
     ensures cells { machine.new.cells.limit ≡ machine.old.cells.limit }
 {
     runs_keep();
     machine.set_back();
     run_seed(machine, threads, seed, drawing);
-    copied(alloc, machine.history())
 }

@@ -5,6 +5,7 @@ ghost use Rattle.rand_xoshiro.specs.SplitMix64.{mix_u64};
 ghost use Rattle.ls_code.specs.Machine.{machine_run};
 ghost use Rattle.ls_batch.specs.Samples.{next_thread, sample_of};
 
+use crate::over::{idle_after, is_done};
 use ls_events::schedule::Schedule;
 use ls_machine::Machine;
 use rand_core::SeedableRng;
@@ -36,6 +37,7 @@ fn next_thread(rng: &mut SplitMix64, threads: usize, switch: u64, last: usize) -
     requires threads { 0 < threads }
     requires chance { 0 < switch }
     ensures entry { result ≡ next_thread threads switch last (mix_u64 rng.old).0 }
+    ensures within { last ≤ threads → result ≤ threads }
     ensures state { rng.new ≡ (mix_u64 rng.old).1 }
 {
     let word = rng.next_word();
@@ -54,7 +56,7 @@ fn next_thread(rng: &mut SplitMix64, threads: usize, switch: u64, last: usize) -
 pub fn sample(
     alloc: Global,
     seed: u64,
-    threads: usize,
+    threads: u8,
     drawing: Drawing,
 ) -> Result<Schedule, AllocError>
     requires steps { drawing.steps ≤ 1000000 }
@@ -64,17 +66,19 @@ pub fn sample(
     if threads == 0 {
         return Ok(Schedule::new(alloc));
     }
+    let threads = threads as usize;
     let mut entries = Vec::with_capacity(alloc, drawing.steps)?;
     let mut rng = SplitMix64::seed_from_u64(seed);
     let mut last = 0;
     for _ in 0..drawing.steps {
         last = next_thread(&mut rng, threads, drawing.switch, last);
-        entries.push_reserved(last);
+        entries.push_reserved(last as u8);
     }
     Ok(Schedule::of(entries))
 }
 
-/// Takes the steps of a seed's sample. It takes no memory.
+/// Takes the steps of a seed's sample, until none of the threads takes steps any more: the rest would change nothing. Whether one does is
+/// looked at after as many steps with nothing to do, one after the other, as there are threads. It takes no memory.
 #[tactic(auto, using(crate::proofs::Drawn::drawn_run))]
 pub(crate) fn run_sample(machine: &mut Machine, seed: u64, threads: usize, drawing: Drawing)
     requires { 0 < drawing.switch }
@@ -85,8 +89,13 @@ pub(crate) fn run_sample(machine: &mut Machine, seed: u64, threads: usize, drawi
     }
     let mut rng = SplitMix64::seed_from_u64(seed);
     let mut last = 0;
+    let mut idle = 0;
     for _ in 0..drawing.steps {
         last = next_thread(&mut rng, threads, drawing.switch, last);
-        let _ = machine.step(last);
+        let did = machine.step(last);
+        idle = idle_after(did, idle, threads);
+        if is_done(machine, threads, idle) {
+            return;
+        }
     }
 }

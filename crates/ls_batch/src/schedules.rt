@@ -26,7 +26,7 @@ fn setup_steps(alloc: Global, code: &Code, cells: usize) -> Result<usize, AllocE
 }
 
 /// So many steps of the setup, and then those of a schedule.
-fn after_setup(alloc: Global, taken: usize, steps: &[usize]) -> Result<Vec<usize>, AllocError>
+fn after_setup(alloc: Global, taken: usize, steps: &[u8]) -> Result<Vec<u8>, AllocError>
     ensures { IfOk result (λ all. all.items ≡ replicate taken 0 ++ steps.now) }
 {
     let mut all = vec![in alloc; 0; taken]?;
@@ -48,7 +48,7 @@ fn schedule_of(
     ensures { IfOk result (λ schedule. schedule ≡ seed_schedule code.now cells seed drawing) }
 {
     seeds_replay();
-    let sampled = sample(alloc, seed, threads_of(code), drawing)?;
+    let sampled = sample(alloc, seed, threads_of(code) as u8, drawing)?;
     let taken = setup_steps(alloc, code, cells)?;
     let all = after_setup(alloc, taken, sampled.steps())?;
     Ok(Schedule::of(all))

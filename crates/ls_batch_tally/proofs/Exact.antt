@@ -1,8 +1,10 @@
 -- Keys tell events apart, and lists of keys histories.
-use Rattle.std.proofs.Common.{◌≡◌, ℕ, List, [], ◌∷◌, ◌∙◌, map, refl, ap, sym, Bool, true, false, true≢false, Ordering, Less, Equal, Greater}
+use Rattle.std.proofs.Common.{◌≡◌, ◌≢◌, ℕ, List, [], ◌∷◌, ◌∙◌, map, refl, ap, ap₂, sym, Bool, true, false, true≢false, Ordering, Less, Equal, Greater}
 use Rattle.std.specs.Prelude.{Some, None}
 use Rattle.std.specs.Cmp.Lexicographic.{slice_cmp}
-use Rattle.std.specs.Ordering.{ordering_then, nat_cmp, is_eq}
+use Rattle.std.specs.Ordering.{ordering_reverse, ordering_then, int_cmp, nat_cmp, is_eq}
+use Rattle.std.specs.Cmp.{IsTotalOrder}
+use Rattle.std.proofs.lemmas.Cmp.{int_cmp_total, nat_cmp_total}
 use Rattle.std.proofs.lemmas.Map.Lookups.{CmpEqualImpliesEq, exact_unsigned, exact_signed}
 use Rattle.ls_events.specs.declared.event.Event.{Event}
 use Rattle.ls_events.specs.declared.event.Happening.{Happening}
@@ -15,26 +17,12 @@ use Rattle.ls_batch_tally.specs.declared.keys.Outcome.TheVariants as outcome
 use Rattle.ls_batch_tally.specs.declared.keys.EventKey.{EventKey}
 use Rattle.ls_batch_tally.specs.contracts.keys.OutcomeOrd.TheImpl as outcome_ord
 use Rattle.ls_batch_tally.specs.contracts.keys.EventKeyOrd.TheImpl as event_ord
-use Rattle.ls_batch_tally.specs.Keys.{trap_outcome, happening_outcome, event_key}
+use Rattle.ls_batch_tally.specs.Keys.{trap_outcome, happening_outcome, event_key, key_event, outcome_happening}
+use Rattle.ls_batch_tally.specs.Counted.{are_same}
+use Rattle.ls_batch_tally.specs.Numbers.{Key}
 use Rattle.ls_batch_tally.specs.Tallies.{History}
 
--- what happened, back from its outcome
-abbrev happening_of : Outcome → Happening
-happening_of outcome.Called = happening.Called
-happening_of outcome.Returned = happening.Returned None
-happening_of (outcome.Int n) = happening.Returned (Some (value.Int n))
-happening_of (outcome.Boolean b) = happening.Returned (Some (value.Boolean b))
-happening_of (outcome.Reference r) = happening.Returned (Some (value.Reference r))
-happening_of (outcome.Pair r b) = happening.Returned (Some (value.Pair r b))
-happening_of outcome.Arithmetic = happening.Trapped kind.Arithmetic
-happening_of outcome.NullPointer = happening.Trapped kind.NullPointer
-happening_of outcome.ArrayIndexOutOfBounds = happening.Trapped kind.ArrayIndexOutOfBounds
-happening_of outcome.NegativeArraySize = happening.Trapped kind.NegativeArraySize
-happening_of outcome.IllegalMonitorState = happening.Trapped kind.IllegalMonitorState
-happening_of outcome.StackOverflow = happening.Trapped kind.StackOverflow
-happening_of outcome.Error = happening.Trapped kind.Error
-
-trapped_back : (k : Kind) → happening_of (trap_outcome k) ≡ happening.Trapped k
+trapped_back : (k : Kind) → outcome_happening (trap_outcome k) ≡ happening.Trapped k
 trapped_back kind.Arithmetic = refl
 trapped_back kind.NullPointer = refl
 trapped_back kind.ArrayIndexOutOfBounds = refl
@@ -43,7 +31,7 @@ trapped_back kind.IllegalMonitorState = refl
 trapped_back kind.StackOverflow = refl
 trapped_back kind.Error = refl
 
-happened_back : (h : Happening) → happening_of (happening_outcome h) ≡ h
+happened_back : (h : Happening) → outcome_happening (happening_outcome h) ≡ h
 happened_back happening.Called = refl
 happened_back (happening.Returned None) = refl
 happened_back (happening.Returned (Some (value.Int n))) = refl
@@ -52,18 +40,38 @@ happened_back (happening.Returned (Some (value.Reference r))) = refl
 happened_back (happening.Returned (Some (value.Pair r b))) = refl
 happened_back (happening.Trapped k) = trapped_back k
 
-abbrev event_of : EventKey → Event
-event_of m = record { thread = m.thread; call = m.call; happening = happening_of m.happening }
-
-event_back : (e : Event) → event_of (event_key e) ≡ e
+event_back : (e : Event) → key_event (event_key e) ≡ e
 event_back e = λ i. record { thread = e.thread; call = e.call; happening = happened_back e.happening i }
 
-history_back : (h : History) → map event_of (map event_key h) ≡ h
+pub history_back : (h : History) → map key_event (map event_key h) ≡ h
 history_back [] = refl
 history_back (e ∷ es) = λ i. event_back e i ∷ history_back es i
 
 pub same_history : (g h : History) → map event_key g ≡ map event_key h → g ≡ h
-same_history g h e = sym (history_back g) ∙ (ap (map event_of) e ∙ history_back h)
+same_history g h e = sym (history_back g) ∙ (ap (map key_event) e ∙ history_back h)
+
+outcome_back : (o : Outcome) → happening_outcome (outcome_happening o) ≡ o
+outcome_back outcome.Called = refl
+outcome_back outcome.Returned = refl
+outcome_back (outcome.Int n) = refl
+outcome_back (outcome.Boolean b) = refl
+outcome_back (outcome.Reference r) = refl
+outcome_back (outcome.Pair r b) = refl
+outcome_back outcome.Arithmetic = refl
+outcome_back outcome.NullPointer = refl
+outcome_back outcome.ArrayIndexOutOfBounds = refl
+outcome_back outcome.NegativeArraySize = refl
+outcome_back outcome.IllegalMonitorState = refl
+outcome_back outcome.StackOverflow = refl
+outcome_back outcome.Error = refl
+
+key_back : (m : EventKey) → event_key (key_event m) ≡ m
+key_back m = λ i. record { thread = m.thread; call = m.call; happening = outcome_back m.happening i }
+
+-- each list of keys is that of a history
+pub keys_back : (ms : List EventKey) → map event_key (map key_event ms) ≡ ms
+keys_back [] = refl
+keys_back (m ∷ ms) = λ i. key_back m i ∷ keys_back ms i
 
 -- the order of keys tells all apart
 pub both_equal : (a b : Ordering) → ordering_then a b ≡ Equal → (a ≡ Equal) × (b ≡ Equal)
@@ -119,3 +127,66 @@ exact_list R h (x ∷ xs) (y ∷ ys) e = let k = both_equal (R x y) (slice_cmp R
 
 pub exact_history : (xs ys : List EventKey) → slice_cmp event_cmp xs ys ≡ Equal → xs ≡ ys
 exact_history xs ys e = exact_list event_cmp exact_event xs ys e
+
+-- ---- lists of keys as they are compared
+
+is_equal : (o : Ordering) → is_eq o ≡ true → o ≡ Equal
+is_equal Less e = absurd (true≢false (sym e))
+is_equal Equal e = refl
+is_equal Greater e = absurd (true≢false (sym e))
+
+-- ---- a history is compared as equal to itself
+
+itself : {K : Type 0} (R : K → K → Ordering) → IsTotalOrder R → (x : K) → R x x ≡ Equal
+itself {K} R total x = go (R x x) (total.antisymm x x)
+  where
+    go : (o : Ordering) → o ≡ ordering_reverse o → o ≡ Equal
+    go Less e = absurd cc
+    go Equal e = refl
+    go Greater e = absurd cc
+
+then_equal : (a b : Ordering) → a ≡ Equal → b ≡ Equal → ordering_then a b ≡ Equal
+then_equal a b e f = ap₂ ordering_then e f
+
+truth_itself : (b : Bool) → (outcome_ord.ghosts).cmp (outcome.Boolean b) (outcome.Boolean b) ≡ Equal
+truth_itself true = refl
+truth_itself false = refl
+
+outcome_itself : (o : Outcome) → outcome_cmp o o ≡ Equal
+outcome_itself (outcome.Int n) = itself int_cmp int_cmp_total n
+outcome_itself (outcome.Boolean b) = truth_itself b
+outcome_itself (outcome.Reference n) = itself nat_cmp nat_cmp_total n
+outcome_itself (outcome.Pair r b) = then_equal (nat_cmp r r) _ (itself nat_cmp nat_cmp_total r) (truth_itself b)
+outcome_itself outcome.Called = refl
+outcome_itself outcome.Returned = refl
+outcome_itself outcome.Arithmetic = refl
+outcome_itself outcome.NullPointer = refl
+outcome_itself outcome.ArrayIndexOutOfBounds = refl
+outcome_itself outcome.NegativeArraySize = refl
+outcome_itself outcome.IllegalMonitorState = refl
+outcome_itself outcome.StackOverflow = refl
+outcome_itself outcome.Error = refl
+
+event_itself : (k : EventKey) → event_cmp k k ≡ Equal
+event_itself k =
+    then_equal (nat_cmp k.thread k.thread) _ (itself nat_cmp nat_cmp_total k.thread)
+    (then_equal (nat_cmp k.call k.call) (outcome_cmp k.happening k.happening) (itself nat_cmp nat_cmp_total k.call) (outcome_itself k.happening))
+
+list_itself : (ks : List EventKey) → slice_cmp event_cmp ks ks ≡ Equal
+list_itself [] = refl
+list_itself (k ∷ ks) = then_equal (event_cmp k k) (slice_cmp event_cmp ks ks) (event_itself k) (list_itself ks)
+
+-- ---- keys as they are compared
+
+pub same_keys : (k l : Key) → are_same k l ≡ true → k ≡ l
+same_keys k l e =
+    let parts = both_equal (nat_cmp k.number l.number) (slice_cmp event_cmp k.events l.events) (is_equal _ e) in
+    let number = exact_unsigned k.number l.number parts.0 in
+    let events = exact_history k.events l.events parts.1 in
+    λ i. record { number = number i; events = events i }
+
+pub are_itself : (k : Key) → are_same k k ≡ true
+are_itself k = ap is_eq (then_equal (nat_cmp k.number k.number) (slice_cmp event_cmp k.events k.events) (itself nat_cmp nat_cmp_total k.number) (list_itself k.events))
+
+pub are_apart : (k l : Key) → are_same k l ≡ false → k ≢ l
+are_apart k l e = λ same. true≢false (sym (are_itself k) ∙ ap (are_same k) same ∙ e)

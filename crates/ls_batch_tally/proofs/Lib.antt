@@ -1,5 +1,6 @@
-pub mod Counts
+pub mod Standing
 pub mod Exact
-pub mod Gets
-pub mod Placed
+pub mod Both
+pub mod Put
 pub mod Tallied
+pub mod Taken

@@ -31,3 +31,22 @@ happening_outcome (happening.Trapped k) = trap_outcome k
 
 abbrev pub event_key : Event → EventKey
 event_key e = record { thread = e.thread; call = e.call; happening = happening_outcome e.happening }
+
+-- what happened, back from its outcome
+abbrev pub outcome_happening : Outcome → Happening
+outcome_happening outcome.Called = happening.Called
+outcome_happening outcome.Returned = happening.Returned None
+outcome_happening (outcome.Int n) = happening.Returned (Some (value.Int n))
+outcome_happening (outcome.Boolean b) = happening.Returned (Some (value.Boolean b))
+outcome_happening (outcome.Reference r) = happening.Returned (Some (value.Reference r))
+outcome_happening (outcome.Pair r b) = happening.Returned (Some (value.Pair r b))
+outcome_happening outcome.Arithmetic = happening.Trapped kind.Arithmetic
+outcome_happening outcome.NullPointer = happening.Trapped kind.NullPointer
+outcome_happening outcome.ArrayIndexOutOfBounds = happening.Trapped kind.ArrayIndexOutOfBounds
+outcome_happening outcome.NegativeArraySize = happening.Trapped kind.NegativeArraySize
+outcome_happening outcome.IllegalMonitorState = happening.Trapped kind.IllegalMonitorState
+outcome_happening outcome.StackOverflow = happening.Trapped kind.StackOverflow
+outcome_happening outcome.Error = happening.Trapped kind.Error
+
+abbrev pub key_event : EventKey → Event
+key_event m = record { thread = m.thread; call = m.call; happening = outcome_happening m.happening }

@@ -1,3 +1,5 @@
 pub mod Keys
-pub mod Places
 pub mod Tallies
+pub mod Rows
+pub mod Numbers
+pub mod Counted

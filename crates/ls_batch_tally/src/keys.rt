@@ -1,7 +1,8 @@
 // Events in an order, so that histories can be looked up.
 
 ghost use Rattle.std.specs.Prelude.{◌≡◌, map, IfOk};
-ghost use Rattle.ls_batch_tally.specs.Keys.{trap_outcome, happening_outcome, event_key};
+ghost use Rattle.ls_batch_tally.specs.Numbers.{key_of, next_number, number_onto, plain_key};
+ghost use Rattle.ls_batch_tally.specs.Keys.{trap_outcome, happening_outcome, outcome_happening, event_key, key_event};
 
 use ls_events::event::{Event, Happening};
 use ls_events::kind::Kind;
@@ -64,6 +65,29 @@ fn outcome_of(happening: Happening) -> Outcome
     }
 }
 
+fn happening_of(outcome: &Outcome) -> Happening
+    ensures { result ≡ outcome_happening outcome.now }
+{
+    match outcome {
+        Outcome::Called => Happening::Called,
+        Outcome::Returned => Happening::Returned(None),
+        Outcome::Int(number) => Happening::Returned(Some(Value::Int(*number))),
+        Outcome::Boolean(truth) => Happening::Returned(Some(Value::Boolean(*truth))),
+        Outcome::Reference(object) => Happening::Returned(Some(Value::Reference(*object))),
+        Outcome::Pair(reference, mark) => Happening::Returned(Some(Value::Pair {
+            reference: *reference,
+            mark: *mark,
+        })),
+        Outcome::Arithmetic => Happening::Trapped(Kind::Arithmetic),
+        Outcome::NullPointer => Happening::Trapped(Kind::NullPointer),
+        Outcome::ArrayIndexOutOfBounds => Happening::Trapped(Kind::ArrayIndexOutOfBounds),
+        Outcome::NegativeArraySize => Happening::Trapped(Kind::NegativeArraySize),
+        Outcome::IllegalMonitorState => Happening::Trapped(Kind::IllegalMonitorState),
+        Outcome::StackOverflow => Happening::Trapped(Kind::StackOverflow),
+        Outcome::Error => Happening::Trapped(Kind::Error),
+    }
+}
+
 fn key_of(event: &Event) -> EventKey
     ensures { result ≡ event_key event.now }
 {
@@ -74,9 +98,69 @@ fn key_of(event: &Event) -> EventKey
     }
 }
 
+fn event_of(key: &EventKey) -> Event
+    ensures { result ≡ key_event key.now }
+{
+    Event {
+        thread: key.thread,
+        call: key.call,
+        happening: happening_of(&key.happening),
+    }
+}
+
+/// A history as it stands in the order: by a number that its events give, and then by these. So two that differ are mostly told apart
+/// by one comparison.
+#[derive(PartialEq, Eq, PartialOrd, Ord, Drop)]
+pub(crate) struct HistoryKey {
+    pub(crate) number: u64,
+    pub(crate) events: Vec<EventKey>,
+}
+
+/// The number of a history's first events and the next one: by its thread, and whether it is a call.
+#[inline]
+fn next_number(number: u64, event: &EventKey) -> u64
+    ensures { result ≡ next_number number event.now }
+{
+    let ends = match event.happening {
+        Outcome::Called => 0,
+        _ => 1,
+    };
+    number
+        .wrapping_mul(1_099_511_628_211)
+        .wrapping_add(event.thread as u64)
+        .wrapping_mul(2)
+        .wrapping_add(ends)
+}
+
+fn number_of(events: &[EventKey]) -> u64
+    ensures { result ≡ number_onto 0 events.now }
+{
+    let mut number = 0;
+    for event in events {
+        number = next_number(number, event);
+    }
+    number
+}
+
 /// The events of a history as they stand in the order.
-pub(crate) fn keys_of(alloc: Global, history: &[Event]) -> Result<Vec<EventKey>, AllocError>
+fn keys_of(alloc: Global, history: &[Event]) -> Result<Vec<EventKey>, AllocError>
     ensures { IfOk result (λ keys. keys.items ≡ map event_key history.now) }
 {
     history.iter().map(key_of).collect(alloc)
+}
+
+/// A history as it stands in the order.
+pub(crate) fn history_key(alloc: Global, history: &[Event]) -> Result<HistoryKey, AllocError>
+    ensures { IfOk result (λ key. plain_key key ≡ key_of history.now) }
+{
+    let events = keys_of(alloc, history)?;
+    let number = number_of(events.as_slice());
+    Ok(HistoryKey { number, events })
+}
+
+/// The history of which these are the events as they stand in the order.
+pub(crate) fn history_of(alloc: Global, keys: &[EventKey]) -> Result<Vec<Event>, AllocError>
+    ensures { IfOk result (λ history. history.items ≡ map key_event keys.now) }
+{
+    keys.iter().map(event_of).collect(alloc)
 }

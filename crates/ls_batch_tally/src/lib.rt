@@ -1,9 +1,9 @@
 //! The tally of histories: each distinct one once, with how many seeds gave it and the least of them.
 #![tactic(auto)]
 
-mod events;
+mod counting;
 mod keys;
-mod tallying;
+mod tally;
 
-pub use events::copied;
-pub use tallying::{Entry, Tally, tally_of};
+pub use counting::{Counts, joined};
+pub use tally::{Entry, Tally};

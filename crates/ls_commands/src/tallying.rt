@@ -48,7 +48,7 @@ fn tallied(
         sampling.count,
         sampling.drawing,
     )?;
-    Ok(print_tally(alloc, &tally, image.program())?)
+    Ok(print_tally(rt, alloc, &tally, image.program())?)
 }
 
 /// The tally of the compiled program's runs under the samples.

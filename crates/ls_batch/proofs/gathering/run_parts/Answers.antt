@@ -1,8 +1,9 @@
-use Rattle.std.proofs.Common.{◌≡◌, ◌∙◌, refl, IfOk, map, max, arith}
+use Rattle.std.proofs.Common.{◌≡◌, ◌∙◌, refl, IfOk, max, arith}
 use Rattle.rayon.proofs.ListFacts.{IfOk-then}
 use Rattle.rayon.proofs.ToStd.{slice-AllZip}
 use Rattle.rayon.specs.Lists.{chunks_of, chunks_size, chunks_slice}
-use Rattle.ls_batch.specs.Samples.{history_of}
+use Rattle.ls_batch.specs.Gathered.{runs_of}
+use Rattle.ls_batch_tally.specs.Counted.{AreCounts}
 use Rattle.ls_batch.proofs.gathering.run_parts.Goals as goal
 
 pub returns : goal.returns
@@ -14,5 +15,5 @@ returns g c =
       size,
       omega arith,
       rw h.2
-          (slice-AllZip chain.0 (chunks_of size c.args.seeds.now) (chain.1 ∙ parts) (λ part run. IfOk run (λ histories. map (λ h. h.items) histories.items ≡ map (λ seed. history_of c.args.code.now c.args.cells seed c.args.drawing) part)) h.0 chain.2),
+          (slice-AllZip chain.0 (chunks_of size c.args.seeds.now) (chain.1 ∙ parts) (λ group part. IfOk part (AreCounts (runs_of c.args.code.now c.args.cells c.args.drawing group))) h.0 chain.2),
     ))

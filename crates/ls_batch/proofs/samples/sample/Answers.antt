@@ -11,4 +11,5 @@ loop-preserved c = record {
       c.loop.invariant.drawn;
   count = search rules;
   room = search rules;
+  within = c.next_thread-last.ensures.within c.loop.invariant.within;
 }
