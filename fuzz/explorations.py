@@ -1,7 +1,8 @@
 #!/usr/bin/env python3
 """explorations [--program P] [--seed N] [--count N] (examples | sets | tiny): whether `explore` finds what the other commands find.
 
-Of an exploration that is complete: each row's schedule, run by `source`, prints the row's history. Each history that `batch` counts, by
+Of an exploration that is complete: each row's schedule, run by `source`, prints the row's history, and `state` after it says of waiting
+threads what the row says. Each history that `batch` counts, by
 both ways of drawing, and each that `live` comes to, is the beginning of a row's. `examples`: the programs of two and three threads in
 examples/. `sets`: the stored classes, with two threads of two calls on one or two items and with three threads of one call; no history
 may be without a legal order. `tiny`: random programs of two threads of a few steps; each interleaving of seven steps of both is run by
@@ -19,6 +20,10 @@ from tool import PROGRAM, TOP, joined, keep, run
 SEEDS, STEPS, LIVE, EACH = 2_000, 400, 5, 7
 STATES = "2000000"
 CALLS = ("add", "remove", "contains")
+WAITS = re.compile(rb"(?m)^(\w+)\.\d+( waits for .*)$")
+VERDICT = re.compile(rb", (legal|illegal|not judged)$")
+# how a row may end of itself, if no thread waits and if one does
+ENDS = (b"ended", b"out of cells", b"goes on", b"not seen"), (b"out of cells", b"goes on", b"not seen")
 END = re.compile(rb"states (\d+) histories (\d+)( illegal (\d+))? (complete|cut)( .*)?\n")
 
 
@@ -33,12 +38,12 @@ class Explored:
         self.rows = []
         *blocks, last = text.split(b"\n\n")
         for block in blocks:
-            _, schedule, *history = lines(block)
-            self.rows.append((schedule, tuple(history)))
+            head, schedule, *history = lines(block)
+            self.rows.append((head, schedule, tuple(history)))
         end = END.fullmatch(last)
         self.states, self.complete = int(end[1]), end[5] == b"complete"
         self.illegal = int(end[4]) if end[4] else 0
-        self.beginnings = {history[:n] for _, history in self.rows for n in range(len(history) + 1)}
+        self.beginnings = {history[:n] for _, _, history in self.rows for n in range(len(history) + 1)}
 
 
 def explored(program, text):
@@ -65,11 +70,15 @@ def seen(program, text):
 
 def wrong_of(program, text, found):
     """What is wrong with an exploration, or None."""
-    for schedule, history in found.rows:
+    for head, schedule, history in found.rows:
         done = run(program, ["source"], text + b"\n%%\n" + schedule + b"\n")
         if lines(done.out) != history:
             return f"source {schedule.decode()} prints {done.told()}"
-    if len({history for _, history in found.rows}) != len(found.rows):
+        done = run(program, ["state"], text + b"\n%%\n" + schedule + b"\n")
+        waits = b"; ".join(name + words for name, words in WAITS.findall(done.out))
+        if waits != VERDICT.sub(b"", head) and head.partition(b",")[0] not in ENDS[bool(waits)]:
+            return f"{head.decode()}, but state {schedule.decode()} prints {done.told()}"
+    if len({history for _, _, history in found.rows}) != len(found.rows):
         return "a history stands twice"
     if found.complete:
         for words, history in seen(program, text):
@@ -131,7 +140,7 @@ def brute_force(program, text, found):
     lost = [history for history in known if history not in found.beginnings]
     if lost:
         return f"a list of steps shows {b' / '.join(lost[0]).decode()}"
-    for schedule, history in found.rows:
+    for _, schedule, history in found.rows:
         short = max(steps_of(schedule, b"A"), steps_of(schedule, b"B")) <= EACH
         if short and not any(it[: len(history)] == history for it in known):
             return f"no list of steps shows {b' / '.join(history).decode()}"

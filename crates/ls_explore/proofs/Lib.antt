@@ -1,5 +1,6 @@
 pub mod Walks
 pub mod Closing
+pub mod Distinct
 pub mod Seeing
 pub mod Loops
 pub mod Saving

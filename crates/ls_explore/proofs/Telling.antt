@@ -1,33 +1,35 @@
 -- Rows for all that paths lead to.
-use Rattle.std.proofs.Common.{◌≡◌, ◌⊎◌, inl, inr, ℕ, ◌+◌, ◌<◌, ◌≤◌, Bool, true, false, List, [], ◌∷◌, ◌++◌, length, Option, None, Some, refl, sym, ap, ◌∙◌, subst, arith, append-nil, append_assoc, length-append, slice_get}
+use Rattle.std.proofs.Common.{◌≡◌, ◌⊎◌, inl, inr, ℕ, ◌+◌, ◌<◌, ◌≤◌, Bool, true, false, List, [], ◌∷◌, ◌++◌, length, map, replicate, get_or, Option, None, Some, refl, sym, ap, ◌∙◌, subst, arith, append-nil, append_assoc, length-append, slice_get}
 use Rattle.std.specs.Prelude.{Contains}
 use Rattle.std.specs.List.{All}
 use Rattle.std.proofs.lemmas.Bool.{cases_lt}
 use Rattle.std.proofs.lemmas.List.{length-map}
 use Rattle.std.proofs.lemmas.List.Elements.{All-push, All-same}
 use Rattle.ls_events.specs.declared.event.Event.{Event}
+use Rattle.ls_events.specs.declared.value.Value.{Value}
 use Rattle.ls_checked.specs.CheckedTree.{File}
 use Rattle.ls_checked.specs.CheckedProgram.{Program}
-use Rattle.ls_meaning.specs.Runs.{source_history}
+use Rattle.ls_meaning.specs.Steps.{Entry}
+use Rattle.ls_meaning.specs.Runs.{source_history, source_trace}
 use Rattle.ls_code.specs.Code.{Code}
 use Rattle.ls_code.specs.Machine.{Machine, loaded, machine_run}
 use Rattle.ls_code.specs.declared.step.Did.{Did}
 use Rattle.ls_code.specs.declared.step.Did.TheVariants as did
-use Rattle.ls_headline.specs.Translations.{most_silent}
+use Rattle.ls_headline.specs.Translations.{most_silent, to_source}
 use Rattle.ls_headline.proofs.Lists.{get_left, get_right, get_within, get_there, get_map, index_there}
 use Rattle.ls_ends.specs.Acting.{first_did}
 use Rattle.ls_explore_laws.specs.Bursts.{ActsAlong, IsClosed, burst}
-use Rattle.ls_explore_laws.specs.Ends.{AreQuiet, IsEnd as IsEndOf, IsQuiet}
+use Rattle.ls_explore_laws.specs.Ends.{AreQuiet, HasSteps, IsEnd as IsEndOf, IsQuiet}
 use Rattle.ls_explore_laws.specs.Explored.{IsBeginning, IsRoomy, IsSetUp, IsShown}
-use Rattle.ls_explore_laws.proofs.Along.{leads_as_source}
+use Rattle.ls_explore_laws.proofs.Along.{along_is, leads_as_source, whole_source}
 use Rattle.ls_explore_laws.proofs.Covering.{covers_all, covers_whole}
 use Rattle.ls_explore_laws.proofs.Ending.{ends_all, ends_whole, stands_still_along}
 use Rattle.ls_explore.specs.declared.rows.Ending.{Ending}
 use Rattle.ls_explore.specs.declared.searching.Seen.{Seen}
 use Rattle.ls_explore.specs.Walks.{has_acted, led_to, walked}
-use Rattle.ls_explore.specs.Searches.{IsSeen, IsSound}
-use Rattle.ls_explore.specs.Rows.{AllEnd, EndsAs, HasEnd, HasRow, HaveBegun, HaveEnds, IsEnd, IsTold, IsToldBy, Keeps, TellsAll, TellsEnds, TellsOver, TellsTruth, TellsWhole, Told, ending_of, ending_of_seen, row_of}
-use Rattle.ls_explore.proofs.Closing.{there_at, there_left, there_last}
+use Rattle.ls_explore.specs.Searches.{IsSeen, IsSound, StandOnce}
+use Rattle.ls_explore.specs.Rows.{AllEnd, EndsAs, HasEnd, HasRow, HaveBegun, HaveEnds, IsEnd, IsTold, IsToldBy, Keeps, TellsAll, TellsEnds, TellsOver, TellsStates, TellsTruth, TellsWhole, Told, ending_of, ending_of_seen, row_of}
+use Rattle.ls_explore.proofs.Closing.{index_get, there_at, there_left, there_last}
 use Rattle.ls_explore.proofs.Walks.{burst_first}
 
 some_is : {A : Type 0} {x y : A} → Some x ≡ Some y → x ≡ y
@@ -205,6 +207,30 @@ module _ (code : Code) (cells : ℕ) (setup : List ℕ) (threads n : ℕ) (root 
       let quiet' : AreQuiet (most_silent code + 1) (length program.threads) told.0 =
       subst (λ j. AreQuiet j (length program.threads) told.0) en (subst (λ t. AreQuiet n t told.0) (sym count) quiet) in
       stands_still_along file program code cells k root told.0 r.path within acts (subst (IsSetUp file program code cells k) (sym er) up) along quiet'
+
+  -- the paths themselves tell of schedules of the source, and the rows of these
+  pub tells_states : (paths : List (List ℕ)) (seen : List Seen) (states i : ℕ) → length paths ≡ states → StandOnce paths → IsSound n threads root paths seen → length paths ≤ i → HaveBegun n root paths i rows → TellsStates code cells setup rows states
+  tells_states paths seen states i many once sound past have = λ file program k histories has_steps up. record {
+    paths = paths;
+    many = many;
+    apart = λ j l d less within. λ same.
+        let e : j ≡ l = once j l (get_or paths l d) (index_get paths j d (get_or paths l d) (omega arith) same) (index_get paths l d (get_or paths l d) within refl) in
+        absurd (omega arith);
+    acts = λ path there. acts file program k has_steps (subst (IsSetUp file program code cells k) (sym er) up) path (sound.acts there.0 path (at path there));
+    told = λ path there.
+        subst (IsToldBy rows) (leads_as_source file program code cells k n root (walked n root path) path histories (subst (IsSetUp file program code cells k) (sym er) up) (sound.acts there.0 path (at path there)))
+        (have there.0 path (omega (arith, past, there.1)) (at path there));
+  }
+    where
+      at : (path : List ℕ) → (there : Contains paths path) → slice_get paths there.0 ≡ Some path
+      at path there = index_get paths there.0 path path there.1 there.2
+
+      acts : (file : File) (program : Program) (k : ℕ) → HasSteps file program code cells → IsSetUp file program code cells k root → (path : List ℕ) → ActsAlong n root path (walked n root path) → map (λ (e : Entry Value). e.thread) (source_trace file program (replicate k 0 ++ path)) ≡ replicate k 0 ++ path
+      acts file program k has_steps up path along =
+          let r = along_is n root path (walked n root path) along in
+          let whole : List ℕ = up.steps ++ r.steps in
+          let is : to_source code cells whole ≡ replicate k 0 ++ path = whole_source code cells up.steps root (replicate k 0) path (walked n root path) up.reached up.acting r in
+          ap (λ ts. map (λ (e : Entry Value). e.thread) (source_trace file program ts)) (sym is) ∙ sym (has_steps whole) ∙ is
 
   module _ (paths : List (List ℕ)) (first : Contains (led_to n root paths) root) (closed : IsClosed n threads (led_to n root paths)) where
     closed_for : (count : ℕ) → count ≡ threads → IsClosed (most_silent code + 1) count (led_to n root paths)

@@ -1,12 +1,12 @@
 -- Histories with paths that lead to them.
-use Rattle.std.specs.Prelude.{◌≡◌, ◌≢◌, ℕ, ◌+◌, ◌<◌, ◌++◌, AllPairs, Bool, true, false, List, Option, length, replicate, Contains, None, Some, slice_get}
+use Rattle.std.specs.Prelude.{◌≡◌, ◌≢◌, ℕ, ◌+◌, ◌<◌, ◌++◌, AllPairs, Bool, true, false, List, Option, length, map, replicate, Contains, None, Some, slice_get}
 use Rattle.std.specs.declared.cmp.Ordering.{Ordering}
 use Rattle.std.specs.Ordering.{nat_cmp, ordering_then}
 use Rattle.std.specs.Cmp.Lexicographic.{slice_cmp}
 use Rattle.ls_events.specs.declared.event.Event.{Event}
 use Rattle.ls_checked.specs.CheckedTree.{File}
 use Rattle.ls_checked.specs.CheckedProgram.{Program}
-use Rattle.ls_meaning.specs.Runs.{source_run, source_history}
+use Rattle.ls_meaning.specs.Runs.{source_run, source_trace, source_history}
 use Rattle.ls_code.specs.Code.{Code}
 use Rattle.ls_code.specs.Machine.{Machine, loaded, machine_run}
 use Rattle.ls_code.specs.declared.step.Did.TheVariants as did
@@ -103,6 +103,21 @@ HaveEnds n root paths seen i rows =
 abbrev pub HaveBegun : ℕ → Machine → List (List ℕ) → ℕ → List Told → Type 0
 HaveBegun n root paths i rows =
     (j : ℕ) (path : List ℕ) → length paths < j + i + 1 → slice_get paths j ≡ Some path → IsToldBy rows (walked n root path).history
+
+-- So many paths, no two the same: after the setup's steps one step of each thread of a path acts, and the history of these steps is the beginning of a
+-- row's.
+pub record TellStates (file : File) (program : Program) (k : ℕ) (rows : List Told) (states : ℕ) : Type 0 where
+  pub paths : List (List ℕ)
+  pub many : length paths ≡ states
+  pub apart : AllPairs (λ (p q : List ℕ). p ≢ q) paths
+  pub acts : (path : List ℕ) → Contains paths path → map (λ e. e.thread) (source_trace file program (replicate k 0 ++ path)) ≡ replicate k 0 ++ path
+  pub told : (path : List ℕ) → Contains paths path → IsToldBy rows (source_history file program (replicate k 0 ++ path))
+
+-- For each file and program that the code runs as, and whose setup these steps are: so it is of so many states.
+abbrev pub TellsStates : Code → ℕ → List ℕ → List Told → ℕ → Type 0
+TellsStates code cells setup rows states =
+    (file : File) (program : Program) (k : ℕ) → HasHistories file program code cells → HasSteps file program code cells →
+    IsSetUp file program code cells k (machine_run (loaded code cells) setup) → TellStates file program k rows states
 
 -- Each row's history is that of a schedule of source steps: those of the setup, and then one of each thread of its path; for each file and
 -- program that the code runs as, and whose setup these steps are.

@@ -52,3 +52,21 @@ pub record IsSound (n threads : ℕ) (root : Machine) (paths : List (List ℕ)) 
 -- what was saved at each of these paths is how the machine stands to which it leads
 abbrev pub AreSaved : ℕ → Machine → List (List ℕ) → List Standing → Type 0
 AreSaved n root paths saved = saved ≡ map (λ path. standing (walked n root path)) paths
+
+-- no two of these paths are the same
+abbrev pub StandOnce : List (List ℕ) → Type 0
+StandOnce paths = (j k : ℕ) (path : List ℕ) → slice_get paths j ≡ Some path → slice_get paths k ≡ Some path → j ≡ k
+
+-- a path that goes on from another by one thread: from one before the place i, or from that at i by a thread before t
+pub record GoesOnFrom (paths : List (List ℕ)) (i t : ℕ) (path : List ℕ) : Type 0 where
+  pub place : ℕ
+  pub thread : ℕ
+  pub before : List ℕ
+  pub at : slice_get paths place ≡ Some before
+  pub is : path ≡ before ++ thread ∷ []
+  pub early : (place < i) ⊎ ((place ≡ i) × (thread < t))
+
+-- No two of them are the same, and each but the empty one goes on from another so.
+pub record AreDistinct (paths : List (List ℕ)) (i t : ℕ) : Type 0 where
+  pub once : StandOnce paths
+  pub made : (j : ℕ) (path : List ℕ) → slice_get paths j ≡ Some path → (path ≡ []) ⊎ GoesOnFrom paths i t path

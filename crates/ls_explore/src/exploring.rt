@@ -3,7 +3,7 @@
 ghost use Rattle.std.specs.Prelude.{◌≡◌, ◌+◌, All, IfOk, IsSorted, IsTrue, IsErrOf, ◌↔◌, ◌≤◌, false, length};
 ghost use Rattle.ls_headline.specs.Translations.{most_silent};
 ghost use Rattle.ls_machine.specs.Room.{AreBadCells};
-ghost use Rattle.ls_explore.specs.Rows.{AreApart, TellsAll, TellsEnds, TellsOver, TellsTruth, TellsWhole, row_order};
+ghost use Rattle.ls_explore.specs.Rows.{AreApart, TellsAll, TellsEnds, TellsOver, TellsStates, TellsTruth, TellsWhole, row_order};
 
 use crate::rows::Row;
 use crate::searching::{Seen, search};
@@ -47,6 +47,9 @@ fn are_roomy(seen: &[Seen]) -> bool
 /// each text that the code runs as. If also no machine ran out of cells, this is so of each schedule, whether it fits
 /// or not.
 ///
+/// If the rows are cut, as many states were kept as may be. Each state has a path of its own, whose steps act after the
+/// setup's, and its history is the beginning of a row's. So there is a row.
+///
 /// No history stands twice. The row of the shortest path comes first, and of those of one length the row of the
 /// least.
 pub fn explore(
@@ -60,6 +63,8 @@ pub fn explore(
     requires { length code.now.instructions ≤ 65536 }
     ensures bad { IsErrOf result LoadFault.BadCells ↔ AreBadCells code.now.names cells }
     ensures told { IfOk result (λ e. TellsTruth code.now cells setup.now e.rows.items) }
+    ensures found { IfOk result (λ e. TellsStates code.now cells setup.now e.rows.items e.states) }
+    ensures cut { IfOk result (λ e. e.complete ≡ false → limit ≤ e.states) }
     ensures over { IfOk result (λ e. TellsOver code.now cells setup.now threads e.rows.items) }
     ensures tells { IfOk result (λ e. IsTrue e.complete → TellsAll code.now cells setup.now threads e.rows.items) }
     ensures ends { IfOk result (λ e. IsTrue e.complete → TellsEnds code.now cells setup.now threads e.rows.items) }

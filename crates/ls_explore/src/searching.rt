@@ -1,12 +1,12 @@
 // The search for all that threads lead to.
 
-ghost use Rattle.std.specs.Prelude.{◌≡◌, ℕ, ◌<◌, ◌+◌, ◌⊎◌, ◌++◌, [], ◌∷◌, false, length, IfOk, IfSome, OnOk, IsTrue, Contains, slice_index_or};
+ghost use Rattle.std.specs.Prelude.{◌≡◌, ℕ, ◌<◌, ◌≤◌, ◌+◌, ◌⊎◌, ◌++◌, [], ◌∷◌, false, length, IfNone, IfOk, IfSome, OnOk, IsTrue, Contains, slice_index_or};
 ghost use Rattle.ls_code.specs.Machine.{Machine as MachineValue};
 ghost use Rattle.ls_machine.specs.Saved.{standing};
 ghost use Rattle.ls_ends.specs.Acting.{first_did};
 ghost use Rattle.ls_explore_laws.specs.Bursts.{IsClosed};
 ghost use Rattle.ls_explore.specs.Walks.{led_to, root_of, walked};
-ghost use Rattle.ls_explore.specs.Searches.{AllAct, AreSaved, Grows, IsClosedTo, IsSound, Leads, paths_of, seen_with};
+ghost use Rattle.ls_explore.specs.Searches.{AllAct, AreDistinct, AreSaved, Grows, IsClosedTo, IsSound, Leads, StandOnce, paths_of, seen_with};
 
 use crate::table::number_of;
 use crate::walking::{Ground, Place, go_to, has_acted, see};
@@ -113,6 +113,7 @@ impl Nodes {
         requires { at < length self.old.paths.items }
         ensures seen { self.new.seen.items ≡ self.old.seen.items }
         ensures full { IfOk result (λ kept. kept ≡ false → self.new.paths.items ≡ self.old.paths.items) }
+        ensures cut { IfOk result (λ kept. kept ≡ false → ground.now.limit ≤ length self.new.paths.items) }
         ensures grown { OnOk result ((paths_of self.new.paths.items ≡ paths_of self.old.paths.items) ⊎ (paths_of self.new.paths.items ≡ paths_of self.old.paths.items ++ (slice_index_or (paths_of self.old.paths.items) at [] ++ thread ∷ []) ∷ [])) }
         ensures saved { OnOk result ((n : ℕ) (root : MachineValue) → machine.now ≡ walked n root (slice_index_or (paths_of self.old.paths.items) at [] ++ thread ∷ []) → AreSaved n root (paths_of self.old.paths.items) self.old.saved.items → AreSaved n root (paths_of self.new.paths.items) self.new.saved.items) }
         ensures kept { IfOk result (λ kept. IsTrue kept → paths_of self.new.paths.items ≡ paths_of self.old.paths.items ++ (slice_index_or (paths_of self.old.paths.items) at [] ++ thread ∷ []) ∷ []) }
@@ -150,6 +151,8 @@ fn look(
     ensures acts { OnOk result (AllAct ground.now.most (root_of walker.old ground.now.setup.now) (paths_of nodes.old.paths.items) → AllAct ground.now.most (root_of walker.old ground.now.setup.now) (paths_of nodes.new.paths.items)) }
     ensures leads { IfOk result (λ found. IfSome found (λ did. Leads ground.now.most (root_of walker.old ground.now.setup.now) (paths_of nodes.new.paths.items) (slice_index_or (paths_of nodes.old.paths.items) at []) thread)) }
     ensures did { IfOk result (λ found. IfSome found (λ did. did ≡ first_did ground.now.most (walked ground.now.most (root_of walker.old ground.now.setup.now) (slice_index_or (paths_of nodes.old.paths.items) at [])) thread)) }
+    ensures distinct { OnOk result (AreDistinct (paths_of nodes.old.paths.items) at thread → AreDistinct (paths_of nodes.new.paths.items) at (thread + 1)) }
+    ensures cut { IfOk result (λ found. IfNone found (ground.now.limit ≤ length nodes.new.paths.items)) }
     ensures seen { nodes.new.seen.items ≡ nodes.old.seen.items }
     ensures walker_code { walker.new.code ≡ walker.old.code }
     ensures walker_cells { walker.new.cells.limit ≡ walker.old.cells.limit }
@@ -189,6 +192,9 @@ fn expand(
     requires saves { AreSaved ground.now.most (root_of walker.old ground.now.setup.now) (paths_of nodes.old.paths.items) nodes.old.saved.items }
     requires sound { IsSound ground.now.most ground.now.threads (root_of walker.old ground.now.setup.now) (paths_of nodes.old.paths.items) nodes.old.seen.items }
     requires closed { IsClosedTo ground.now.most ground.now.threads (root_of walker.old ground.now.setup.now) (paths_of nodes.old.paths.items) at 0 }
+    requires distinct { AreDistinct (paths_of nodes.old.paths.items) at 0 }
+    ensures distinct { OnOk result (AreDistinct (paths_of nodes.new.paths.items) (at + 1) 0) }
+    ensures cut { IfOk result (λ found. found ≡ false → ground.now.limit ≤ length nodes.new.paths.items) }
     ensures saves { OnOk result (AreSaved ground.now.most (root_of walker.old ground.now.setup.now) (paths_of nodes.new.paths.items) nodes.new.saved.items) }
     ensures sound { OnOk result (IsSound ground.now.most ground.now.threads (root_of walker.old ground.now.setup.now) (paths_of nodes.new.paths.items) nodes.new.seen.items) }
     ensures count { IfOk result (λ found. IsTrue found → length nodes.new.seen.items ≡ at + 1) }
@@ -224,6 +230,9 @@ fn close(
     requires saves { AreSaved ground.now.most (root_of walker.old ground.now.setup.now) (paths_of nodes.old.paths.items) nodes.old.saved.items }
     requires none { nodes.old.seen.items ≡ [] }
     requires sound { IsSound ground.now.most ground.now.threads (root_of walker.old ground.now.setup.now) (paths_of nodes.old.paths.items) nodes.old.seen.items }
+    requires distinct { AreDistinct (paths_of nodes.old.paths.items) 0 0 }
+    ensures once { OnOk result (StandOnce (paths_of nodes.new.paths.items)) }
+    ensures cut { IfOk result (λ found. found ≡ false → ground.now.limit ≤ length nodes.new.paths.items) }
     ensures saves { OnOk result (AreSaved ground.now.most (root_of walker.old ground.now.setup.now) (paths_of nodes.new.paths.items) nodes.new.saved.items) }
     ensures sound { OnOk result (IsSound ground.now.most ground.now.threads (root_of walker.old ground.now.setup.now) (paths_of nodes.new.paths.items) nodes.new.seen.items) }
     ensures count { IfOk result (λ found. IsTrue found → length nodes.new.seen.items ≡ length (paths_of nodes.new.paths.items)) }
@@ -262,6 +271,8 @@ pub(crate) fn search(
 ) -> Result<Searched, AllocError>
     requires code { walker.old.code ≡ other.old.code }
     requires cells { walker.old.cells.limit ≡ other.old.cells.limit }
+    ensures once { IfOk result (λ found. StandOnce (paths_of found.paths.items)) }
+    ensures cut { IfOk result (λ found. found.complete ≡ false → ground.now.limit ≤ length found.paths.items) }
     ensures saves { IfOk result (λ found. AreSaved ground.now.most (root_of walker.old ground.now.setup.now) (paths_of found.paths.items) found.saved.items) }
     ensures sound { IfOk result (λ found. IsSound ground.now.most ground.now.threads (root_of walker.old ground.now.setup.now) (paths_of found.paths.items) found.seen.items) }
     ensures count { IfOk result (λ found. IsTrue found.complete → length found.seen.items ≡ length (paths_of found.paths.items)) }

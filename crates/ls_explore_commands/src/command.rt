@@ -1,16 +1,34 @@
 // The command `explore`.
 
-ghost use Rattle.ls_explore_commands.specs.Explored.{Explored, ExploresTo};
+ghost use Rattle.std.specs.Prelude.{◌≡◌};
+ghost use Rattle.ls_explore_commands.specs.Explored.{Explored, ExploresTo, names_in};
 ghost use Rattle.ls_explore_commands.specs.Readable.{SourceRunsAreReadable};
 ghost use Rattle.ls_faults.specs.Given.{Gives};
+ghost use Rattle.ls_image.specs.Images.{program_of_image};
+ghost use Rattle.ls_labels.specs.Names.{names_of};
 
 use ls_compiler::compile::compile;
 use ls_explore_images::explore_image;
-use ls_explore_reports::{Exploring, Texts, judge_rows, print_exploration};
+use ls_explore_reports::{Exploring, judge_rows, print_exploration};
 use ls_faults::fault::ToolFault;
 use ls_image::image::Image;
+use ls_labels::names::Names;
 use ls_text_laws::source_is_readable;
 use std::alloc::Global;
+
+/// The names of an image's classes and program.
+fn names_in(image: &Image) -> Names<'_>
+    ensures names { names_of result ≡ names_in image.now }
+    ensures program { result.program.now ≡ program_of_image image.now }
+{
+    let checked = image.checked();
+    Names {
+        classes: checked.class_names(),
+        signs: checked.class_signs(),
+        file: checked.file(),
+        program: image.program(),
+    }
+}
 
 /// The histories of all schedules of the image's program, with a verdict on each.
 fn explored(alloc: Global, image: &Image, exploring: Exploring) -> Result<String, ToolFault>
@@ -18,11 +36,8 @@ fn explored(alloc: Global, image: &Image, exploring: Exploring) -> Result<String
     ensures { Gives (Explored image.now exploring) result }
 {
     let found = explore_image(alloc, image, exploring.cells, exploring.states)?;
-    let file = image.checked().file();
-    let program = image.program();
-    let judged = judge_rows(alloc, found.rows.as_slice(), program)?;
-    let texts = Texts { file, program };
-    let text = print_exploration(alloc, &texts, &found, judged.as_slice(), exploring)?;
+    let judged = judge_rows(alloc, found.rows.as_slice(), image.program())?;
+    let text = print_exploration(alloc, names_in(image), &found, judged.as_slice(), exploring)?;
     Ok(text)
 }
 

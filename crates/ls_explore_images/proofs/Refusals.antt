@@ -1,5 +1,5 @@
 -- Refusals that come late.
-use Rattle.std.proofs.Common.{◌≡◌, ◌↔◌, ◌<◌, ◌⊎◌, ℕ, List, Result, Ok, Err, refl, subst, length, replicate}
+use Rattle.std.proofs.Common.{◌≡◌, ◌↔◌, ◌<◌, ◌≤◌, ◌⊎◌, inl, inr, ℕ, List, Result, Ok, Err, refl, subst, arith, length, replicate}
 use Rattle.std.specs.Prelude.{IfErr, IsErrOf}
 use Rattle.ls_checked.specs.CheckedTree.{File}
 use Rattle.ls_checked.specs.CheckedProgram.{Program}
@@ -9,8 +9,8 @@ use Rattle.ls_machine.specs.Room.{AreBadCells}
 use Rattle.ls_translation.specs.Room.{IsFirstUnfit}
 use Rattle.ls_translation.specs.declared.fault.TranslationFault.{TranslationFault}
 use Rattle.ls_translation.specs.declared.fault.TranslationFault.TheVariants as translation
-use Rattle.ls_explore_images.specs.Faults.{IsLate, IsOfSetup, fault_of_translation}
-use Rattle.ls_explore_images.specs.Settings.{EndsAt}
+use Rattle.ls_explore_images.specs.Faults.{IsEndless, IsLate, IsOfSetup, fault_of_translation}
+use Rattle.ls_explore_images.specs.Settings.{EndsAt, GoesOnFor}
 use Rattle.ls_explore_images.specs.declared.fault.ExploreFault.{ExploreFault}
 use Rattle.ls_explore_images.specs.declared.fault.ExploreFault.TheVariants as explore
 
@@ -34,7 +34,6 @@ module _ (file : File) (program : Program) (code : Code) (cells k : ℕ) where
     late_states (Err explore.Memory) late good = (λ e. absurd cc, λ many. absurd (good many))
     late_states (Err explore.BadCells) late good = (λ e. absurd cc, λ many. absurd (good many))
     late_states (Err explore.SetupEndless) late good = absurd late
-    late_states (Err explore.NotSetUp) late good = (λ e. absurd cc, λ many. absurd (good many))
     late_states (Err (explore.Setup f)) late good = (λ e. absurd cc, λ many. absurd (good many))
 
     pub late_cells : (r : Result T ExploreFault) → IfErr r (IsLate file program code cells k) → IsErrOf r explore.BadCells → AreBadCells code.names cells
@@ -43,17 +42,7 @@ module _ (file : File) (program : Program) (code : Code) (cells k : ℕ) where
     late_cells (Err explore.BadStates) late e = absurd late
     late_cells (Err explore.Memory) late e = absurd cc
     late_cells (Err explore.SetupEndless) late e = absurd late
-    late_cells (Err explore.NotSetUp) late e = absurd cc
     late_cells (Err (explore.Setup f)) late e = absurd cc
-
-    pub late_endless : (r : Result T ExploreFault) → IfErr r (IsLate file program code cells k) → IsErrOf r explore.SetupEndless → ⊥
-    late_endless (Err explore.SetupEndless) late e = late
-    late_endless (Ok x) late e = cc
-    late_endless (Err explore.BadStates) late e = late
-    late_endless (Err explore.Memory) late e = cc
-    late_endless (Err explore.BadCells) late e = cc
-    late_endless (Err explore.NotSetUp) late e = cc
-    late_endless (Err (explore.Setup f)) late e = cc
 
   pub late_setup : {T : Type 0} (r : Result T ExploreFault) → EndsAt file program k → IfErr r (IsLate file program code cells k) → IfErr r (IsOfSetup file program code cells)
   late_setup (Ok x) ends late = tt
@@ -61,5 +50,42 @@ module _ (file : File) (program : Program) (code : Code) (cells k : ℕ) where
   late_setup (Err explore.BadCells) ends late = tt
   late_setup (Err explore.BadStates) ends late = tt
   late_setup (Err explore.SetupEndless) ends late = tt
-  late_setup (Err explore.NotSetUp) ends late = (k, ends, late)
   late_setup (Err (explore.Setup f)) ends late = (k, ends, late)
+
+-- ---- the fault of a setup that goes on
+
+-- a number of states that isn't refused
+pub not_many : (states : ℕ) → (states ≡ 0 → ⊥) → states ≤ 16777216 → (states ≡ 0) ⊎ (16777216 < states) → ⊥
+not_many states some few (inl none) = some none
+not_many states some few (inr many) = omega arith
+
+-- exactly where it goes on, but where memory runs out
+abbrev pub EndlessOnly : {T : Type 0} → File → Program → Code → ℕ → ℕ → Result T ExploreFault → Type 0
+EndlessOnly file program code cells states r = IsErrOf r explore.Memory ⊎ (IsErrOf r explore.SetupEndless ↔ IsEndless file program code cells states)
+
+module _ {T : Type 0} (file : File) (program : Program) (code : Code) (cells states : ℕ) where
+  abbrev Only : Result T ExploreFault → Type 0
+  Only r = EndlessOnly file program code cells states r
+
+  pub endless_states : ((states ≡ 0) ⊎ (16777216 < states)) → Only (Err explore.BadStates)
+  endless_states bad = inr (λ e. absurd cc, λ h. absurd (h.states bad))
+
+  pub endless_cells : AreBadCells code.names cells → Only (Err explore.BadCells)
+  endless_cells bad = inr (λ e. absurd cc, λ h. absurd (h.cells bad))
+
+  pub endless_goes : ((states ≡ 0) ⊎ (16777216 < states) → ⊥) → (AreBadCells code.names cells → ⊥) → GoesOnFor file program 100001 → Only (Err explore.SetupEndless)
+  endless_goes some good goes = inr (λ e. record { states = some; cells = good; goes = goes }, λ h. refl)
+
+  pub endless_memory : Only (Err explore.Memory)
+  endless_memory = inl refl
+
+  pub endless_not : (x : T) → (GoesOnFor file program 100001 → ⊥) → Only (Ok x)
+  endless_not x ends = inr (λ e. absurd cc, λ h. absurd (ends h.goes))
+
+  pub endless_late : (k : ℕ) (r : Result T ExploreFault) → IfErr r (IsLate file program code cells k) → (GoesOnFor file program 100001 → ⊥) → Only r
+  endless_late k (Ok x) late ends = endless_not x ends
+  endless_late k (Err explore.Memory) late ends = inl refl
+  endless_late k (Err explore.BadCells) late ends = inr (λ e. absurd cc, λ h. absurd (ends h.goes))
+  endless_late k (Err explore.BadStates) late ends = inr (λ e. absurd cc, λ h. absurd (ends h.goes))
+  endless_late k (Err explore.SetupEndless) late ends = absurd late
+  endless_late k (Err (explore.Setup f)) late ends = inr (λ e. absurd cc, λ h. absurd (ends h.goes))

@@ -1,27 +1,23 @@
 -- The setup's source steps, one by one.
-use Rattle.std.proofs.Common.{◌≡◌, ◌⊎◌, inl, inr, ℕ, suc, ◌+◌, ◌<◌, ◌≤◌, Bool, true, false, [], ◌∷◌, ◌++◌, map, replicate, Option, Some, None, refl, sym, ap, ◌∙◌, subst, arith, slice_get, if◌then◌else◌}
+use Rattle.std.proofs.Common.{◌≡◌, ◌⊎◌, inl, inr, ℕ, zero, suc, ◌+◌, ◌-◌, ◌<◌, ◌≤◌, Bool, true, false, [], ◌∷◌, ◌++◌, length, map, replicate, refl, sym, ap, ◌∙◌, subst, arith, append-nil}
 use Rattle.std.proofs.lemmas.Bool.{cases_lt}
-use Rattle.std.proofs.lemmas.List.{map-append}
+use Rattle.std.proofs.lemmas.List.{length-replicate, map-append, replicate-append-replicate}
 use Rattle.ls_events.specs.declared.value.Value.{Value}
 use Rattle.ls_checked.specs.CheckedTree.{File}
 use Rattle.ls_checked.specs.CheckedProgram.{Program}
-use Rattle.ls_meaning.specs.Steps.{Entry, traced}
+use Rattle.ls_meaning.specs.Steps.{Entry, Stepped, Same, after, trace, traced}
 use Rattle.ls_meaning.specs.Threads.{next}
 use Rattle.ls_meaning.specs.Runs.{State, start, source_run, source_trace, source_step, step, stepped, answers_of, has_ended}
 use Rattle.ls_meaning.specs.declared.step.Did.{Did}
 use Rattle.ls_meaning.specs.declared.step.Did.TheVariants as did
-use Rattle.ls_code.specs.Thread.{Thread}
-use Rattle.ls_code.specs.Machine.{Machine, machine_state, setup_ended, state_in, running_state}
-use Rattle.ls_code.specs.declared.step.ThreadState.TheVariants as state
 use Rattle.ls_headline.specs.Translations.{has_setup_ended}
 use Rattle.ls_source.specs.Progress.{Progress, begun, gone_on}
 use Rattle.ls_translation.specs.MachineRuns.{has_acted}
 use Rattle.ls_translation.proofs.SourceSteps.{after_step_is}
 use Rattle.ls_explore_laws.specs.Ends.{IsStill}
-use Rattle.ls_explore_laws.specs.Stuck.{IsStuck}
 use Rattle.ls_explore_laws.proofs.SourceSteps.{run-append, trace-append}
 use Rattle.ls_explore_laws.proofs.SettingUp.{one_more}
-use Rattle.ls_explore_images.specs.Settings.{EndsAt, GoesOnAfter}
+use Rattle.ls_explore_images.specs.Settings.{EndsAt, GoesOnAfter, GoesOnFor, SticksAt}
 
 -- a run of so many steps of the setup, before each of which it hasn't ended, and which all act
 pub record IsAfter (file : File) (program : Program) (k : ℕ) (p : Progress) : Type 0 where
@@ -78,10 +74,13 @@ module _ (file : File) (program : Program) (k : ℕ) (p : Progress) (h : IsAfter
           subst (λ i. has_setup_ended file program (source_run file program (replicate i 0)) ≡ false) same (sym ended_is ∙ sym e ∙ goes)
 
   -- where it stands still and hasn't ended, it is stuck
-  pub sticks : (b : Bool) (d : Did) → b ≡ has_ended (next p.file p.program 0 (answers_of p.state 0)) → b ≡ false → d ≡ (step p.file p.program p.state 0).did → has_acted d ≡ false → IsStuck file program k
+  pub sticks : (b : Bool) (d : Did) → b ≡ has_ended (next p.file p.program 0 (answers_of p.state 0)) → b ≡ false → d ≡ (step p.file p.program p.state 0).did → has_acted d ≡ false → SticksAt file program k
   sticks b d e goes is stands =
       let more : suc k ≡ k + 1 = omega arith in
-      record { still = still_of _ (ap has_acted (sym (is ∙ did_is)) ∙ stands); before = before_more b e goes (suc k) more }
+      record { stuck = record { still = still_of _ (ap has_acted (sym (is ∙ did_is)) ∙ stands); before = before_more b e goes (suc k) more }; acts = h.acts }
+
+  pub goes_all : GoesOnFor file program k
+  goes_all = record { before = h.before; acts = h.acts }
 
   pub after_more : (b : Bool) (d : Did) (q : Progress) → b ≡ has_ended (next p.file p.program 0 (answers_of p.state 0)) → b ≡ false → d ≡ (step p.file p.program p.state 0).did → has_acted d ≡ true → q ≡ gone_on p 0 → IsAfter file program (k + 1) q
   after_more b d q e goes did_e acted is =
@@ -109,14 +108,41 @@ module _ (file : File) (program : Program) (k : ℕ) (p : Progress) (h : IsAfter
             ∙ longer;
       }
 
--- a machine whose setup stands as ended hasn't stopped
-pub not_stopped : (m : Machine) → setup_ended (slice_get m.threads 0) ≡ true → machine_state m 0 ≡ state.Ended → m.stopped ≡ false
-not_stopped m ready stands = by_thread (slice_get m.threads 0) refl ready stands
-  where
-    by_stop : (t : Thread) (b : Bool) → (if b then state.Stopped else running_state m 0 t) ≡ state.Ended → b ≡ false
-    by_stop t true e = absurd cc
-    by_stop t false e = refl
+-- ---- a setup doesn't go on that ends or stands still
 
-    by_thread : (o : Option Thread) → slice_get m.threads 0 ≡ o → setup_ended o ≡ true → state_in m 0 o ≡ state.Ended → m.stopped ≡ false
-    by_thread None there ready stands = absurd cc
-    by_thread (Some t) there ready stands = by_stop t m.stopped stands
+-- a flag isn't both
+pub no_both : true ≡ false → ⊥
+no_both e = cc
+
+-- a setup that has ended doesn't go on for more steps
+pub not_ending : (file : File) (program : Program) (j k : ℕ) → EndsAt file program j → j < k → GoesOnFor file program k → ⊥
+not_ending file program j k ends less goes = no_both (sym ends.ended ∙ goes.before j less)
+
+module _ (file : File) (program : Program) where
+  abbrev sd : State → ℕ → Stepped State (Entry Value)
+  sd = source_step file program
+
+  still_same : (d : Did) (s : State) → IsStill d → stepped 0 d s ≡ Same
+  still_same (did.Acted a x) s h = absurd h
+  still_same did.Waits s h = refl
+  still_same did.Idle s h = refl
+
+  -- steps that change nothing leave no trace
+  still_trace : (s : State) (n : ℕ) → source_step file program s 0 ≡ Same → trace (source_step file program) s (replicate n 0) ≡ []
+  still_trace s zero e = refl
+  still_trace s (suc n) e = ap (λ d. traced d (trace (source_step file program) (after s d) (replicate n 0))) e ∙ still_trace s n e
+
+  -- a setup that stands still doesn't act in more steps
+  pub not_sticking : (j k : ℕ) → SticksAt file program j → j < k → GoesOnFor file program k → ⊥
+  not_sticking j k stands less goes =
+      let all : j + (k - j) ≡ k = omega arith in
+      let whole : replicate j zero ++ replicate (k - j) zero ≡ replicate k zero = replicate-append-replicate j (k - j) zero ∙ ap (λ n. replicate n zero) all in
+      let here : State = source_run file program (replicate j 0) in
+      let none : trace (source_step file program) here (replicate (k - j) 0) ≡ [] = still_trace here (k - j) (still_same (step file program here 0).did (step file program here 0).after stands.stuck.still) in
+      let same : source_trace file program (replicate k 0) ≡ source_trace file program (replicate j 0) =
+      ap (source_trace file program) (sym whole)
+      ∙ trace-append (source_step file program) (start program) (replicate j 0) (replicate (k - j) 0)
+      ∙ ap (λ l. source_trace file program (replicate j 0) ++ l) none
+      ∙ append-nil (source_trace file program (replicate j 0)) in
+      let counts : replicate j zero ≡ replicate k zero = sym stands.acts ∙ sym (ap (map (λ (f : Entry Value). f.thread)) same) ∙ goes.acts in
+      omega (arith, less, ap length counts, length-replicate j zero, length-replicate k zero)

@@ -21,7 +21,7 @@ use Rattle.ls_explore_laws.specs.Ends.{HasSteps, IsOver}
 use Rattle.ls_explore_laws.specs.Explored.{HasHistories, IsSetUp}
 use Rattle.ls_explore_laws.specs.Stuck.{IsAllOf}
 use Rattle.ls_explore.specs.declared.rows.Ending.TheVariants as ending
-use Rattle.ls_explore.specs.Rows.{AreApart, IsEnd, TellsAll, TellsEnds, TellsOver, TellsTruth, TellsWhole, Told, row_order}
+use Rattle.ls_explore.specs.Rows.{AreApart, IsEnd, IsToldBy, TellStates, TellsAll, TellsEnds, TellsOver, TellsStates, TellsTruth, TellsWhole, Told, row_order}
 use Rattle.ls_explore_images.specs.Settings.{EndsAt}
 use Rattle.ls_explore_images.specs.Tellings.{TellAll, TellTruth, TellWhole}
 
@@ -65,6 +65,9 @@ module _ (file : File) (program : Program) (code : Code) (cells : ℕ) (runs : �
       over = λ r there is. over file program k good acts up count r there is;
     }
 
+    pub tell_states : (states : ℕ) → TellsStates code cells setup rows states → TellStates file program k rows states
+    tell_states states tells = tells file program k has_histories (has_steps file program code cells runs good) up
+
     pub tell_all : TellsAll code cells setup threads rows → TellsEnds code cells setup threads rows → TellAll file program cells rows
     tell_all tells ends = record {
       begun = λ schedule fits. tells file program k good acts has_histories up count schedule fits;
@@ -94,6 +97,19 @@ module _ (file : File) (program : Program) (k : ℕ) (all : IsAllOf file program
   stuck_truth = record {
     told = λ r there. ap (λ (z : Told). z.history) (sym (one_there row r there)) ∙ has ∙ ap (source_history file program) (sym (of_row r there));
     over = λ r there is. subst (λ ts. IsOver file program (source_run file program ts)) (sym (of_row r there)) all.over;
+  }
+
+  pub stuck_states : map (λ (e : Entry Value). e.thread) (source_trace file program (replicate k 0)) ≡ replicate k 0 → TellStates file program k (row ∷ []) 1
+  stuck_states acts = record {
+    paths = [] ∷ [];
+    many = refl;
+    apart = λ i j d less within. absurd (omega arith);
+    acts = λ path there.
+        subst (λ (p : List ℕ). map (λ (e : Entry Value). e.thread) (source_trace file program (replicate k 0 ++ p)) ≡ replicate k 0 ++ p) (one_there [] path there)
+        (ap (λ ts. map (λ (e : Entry Value). e.thread) (source_trace file program ts)) (append-nil (replicate k 0)) ∙ acts ∙ sym (append-nil (replicate k 0)));
+    told = λ path there.
+        subst (λ (p : List ℕ). IsToldBy (row ∷ []) (source_history file program (replicate k 0 ++ p))) (one_there [] path there)
+        (record { row = row; there = is_there row; begins = ([], append-nil (source_history file program (replicate k 0 ++ [])) ∙ ap (source_history file program) (append-nil (replicate k 0)) ∙ sym has) });
   }
 
   pub stuck_whole : TellWhole file program (row ∷ [])

@@ -1,9 +1,8 @@
 -- Why the schedules of an image aren't explored.
-use Rattle.std.specs.Prelude.{◌≡◌, ◌<◌, ◌⊎◌, ℕ, true, false, length, replicate, slice_get}
+use Rattle.std.specs.Prelude.{◌≡◌, ◌<◌, ◌⊎◌, ℕ, length, replicate}
 use Rattle.ls_checked.specs.CheckedTree.{File}
 use Rattle.ls_checked.specs.CheckedProgram.{Program}
 use Rattle.ls_code.specs.Code.{Code}
-use Rattle.ls_code.specs.Machine.{Machine, loaded, machine_run, setup_ended}
 use Rattle.ls_headline.specs.Translations.{to_machine}
 use Rattle.ls_machine.specs.Room.{AreBadCells}
 use Rattle.ls_machine.specs.declared.fault.LoadFault.{LoadFault}
@@ -11,9 +10,9 @@ use Rattle.ls_machine.specs.declared.fault.LoadFault.TheVariants as load
 use Rattle.ls_translation.specs.Room.{IsFirstUnfit}
 use Rattle.ls_translation.specs.declared.fault.TranslationFault.{TranslationFault}
 use Rattle.ls_translation.specs.declared.fault.TranslationFault.TheVariants as translation
-use Rattle.ls_explore_images.specs.Settings.{EndsAt}
+use Rattle.ls_explore_images.specs.Settings.{EndsAt, GoesOnFor}
 use Rattle.ls_explore_images.specs.declared.fault.ExploreFault.{ExploreFault}
-use Rattle.ls_explore_images.specs.declared.fault.ExploreFault.TheVariants.{Memory, BadCells, BadStates, SetupEndless, NotSetUp, Setup}
+use Rattle.ls_explore_images.specs.declared.fault.ExploreFault.TheVariants.{Memory, BadCells, BadStates, SetupEndless, Setup}
 
 -- the same refusal, of a machine that isn't loaded
 abbrev pub fault_of_load : LoadFault → ExploreFault
@@ -27,14 +26,6 @@ fault_of_translation translation.BadCells = BadCells
 fault_of_translation (translation.DoesNotFit step) = Setup (translation.DoesNotFit step)
 fault_of_translation translation.ResultTooLong = Setup translation.ResultTooLong
 
--- the machine's setup has not ended, or the machine has stopped
-abbrev pub IsUnready : Machine → Type 0
-IsUnready m = (setup_ended (slice_get m.threads 0) ≡ false) ⊎ (m.stopped ≡ true)
-
--- So it is after the instructions for so many source steps of the setup.
-abbrev pub StaysUnready : File → Program → Code → ℕ → ℕ → Type 0
-StaysUnready file program code cells k = IsUnready (machine_run (loaded code cells) (to_machine file program code cells (replicate k 0)))
-
 -- Why so many source steps of the setup aren't translated: what one of them makes has no room, or the machine would take too many.
 abbrev pub StaysSource : File → Program → Code → ℕ → ℕ → TranslationFault → Type 0
 StaysSource file program code cells k translation.Memory = ⊥
@@ -45,7 +36,6 @@ StaysSource file program code cells k translation.ResultTooLong = 1000000 < leng
 -- a refusal that comes after the numbers have been looked at, and the setup's source, which ends with so many steps
 abbrev pub IsLate : File → Program → Code → ℕ → ℕ → ExploreFault → Type 0
 IsLate file program code cells k Memory = Unit {0}
-IsLate file program code cells k NotSetUp = StaysUnready file program code cells k
 IsLate file program code cells k (Setup f) = StaysSource file program code cells k f
 IsLate file program code cells k BadCells = AreBadCells code.names cells
 IsLate file program code cells k BadStates = ⊥
@@ -54,8 +44,13 @@ IsLate file program code cells k SetupEndless = ⊥
 -- A fault of the setup's run on the machine comes only where the setup's source ends and its run goes so; of other faults more is said elsewhere.
 abbrev pub IsOfSetup : File → Program → Code → ℕ → ExploreFault → Type 0
 IsOfSetup file program code cells Memory = Unit {0}
-IsOfSetup file program code cells NotSetUp = (k : ℕ) × EndsAt file program k × StaysUnready file program code cells k
 IsOfSetup file program code cells (Setup f) = (k : ℕ) × EndsAt file program k × StaysSource file program code cells k f
 IsOfSetup file program code cells BadCells = Unit {0}
 IsOfSetup file program code cells BadStates = Unit {0}
 IsOfSetup file program code cells SetupEndless = Unit {0}
+
+-- the numbers are good, and the setup goes on after 100,000 source steps
+pub record IsEndless (file : File) (program : Program) (code : Code) (count limit : ℕ) : Type 0 where
+  pub states : ((limit ≡ 0) ⊎ (16777216 < limit)) → ⊥
+  pub cells : AreBadCells code.names count → ⊥
+  pub goes : GoesOnFor file program 100001

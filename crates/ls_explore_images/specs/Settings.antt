@@ -18,10 +18,20 @@ pub record EndsAt (file : File) (program : Program) (k : ℕ) : Type 0 where
 abbrev pub GoesOnAfter : File → Program → ℕ → Type 0
 GoesOnAfter file program k = (j : ℕ) → j < k → has_setup_ended file program (source_run file program (replicate j 0)) ≡ false
 
+-- it has not ended with fewer steps than these, each of which acts
+pub record GoesOnFor (file : File) (program : Program) (k : ℕ) : Type 0 where
+  pub before : GoesOnAfter file program k
+  pub acts : map (λ e. e.thread) (source_trace file program (replicate k 0)) ≡ replicate k 0
+
+-- it stands still after so many steps, each of which acts, and has not ended
+pub record SticksAt (file : File) (program : Program) (k : ℕ) : Type 0 where
+  pub stuck : IsStuck file program k
+  pub acts : map (λ e. e.thread) (source_trace file program (replicate k 0)) ≡ replicate k 0
+
 abbrev pub IsSetting : File → Program → Setting → Type 0
 IsSetting file program (Ends k) = EndsAt file program k
-IsSetting file program (Sticks k) = IsStuck file program k
-IsSetting file program GoesOn = GoesOnAfter file program 100001
+IsSetting file program (Sticks k) = SticksAt file program k
+IsSetting file program GoesOn = GoesOnFor file program 100001
 
 -- it ends, or stands still, after at most 100,000 steps
 abbrev pub IsFew : Setting → Type 0

@@ -1,14 +1,13 @@
 // All schedules of the program of an image.
 
-ghost use Rattle.std.specs.Prelude.{◌≡◌, ◌<◌, ◌≤◌, ◌⊎◌, ◌↔◌, ℕ, IfErr, IfOk, IsErrOf, IsSorted, IsTrue, length};
+ghost use Rattle.std.specs.Prelude.{◌≡◌, ◌<◌, ◌≤◌, ◌⊎◌, ◌↔◌, ℕ, IfErr, IfOk, IsErrOf, IsSorted, IsTrue, false, length, true};
 ghost use Rattle.ls_headline.specs.Same.{IsCells};
 ghost use Rattle.ls_image.specs.Images.{code_of_image};
 ghost use Rattle.ls_machine.specs.Room.{AreBadCells};
 ghost use Rattle.ls_translation.specs.Texts.{file_of, program_of};
-ghost use Rattle.ls_explore_laws.specs.Stuck.{IsStuck};
-ghost use Rattle.ls_explore.specs.Rows.{AreApart, row_order};
-ghost use Rattle.ls_explore_images.specs.Faults.{IsLate, IsOfSetup};
-ghost use Rattle.ls_explore_images.specs.Settings.{EndsAt, GoesOnAfter};
+ghost use Rattle.ls_explore.specs.Rows.{AreApart, TellStates, row_order};
+ghost use Rattle.ls_explore_images.specs.Faults.{IsEndless, IsLate, IsOfSetup};
+ghost use Rattle.ls_explore_images.specs.Settings.{EndsAt, SticksAt};
 ghost use Rattle.ls_explore_images.specs.Tellings.{TellAll, TellTruth, TellWhole};
 
 use crate::fault::ExploreFault;
@@ -57,8 +56,10 @@ fn are_bad_cells(image: &Image, cells: usize) -> bool
 /// What there is of a setup that stands still after so many steps: its history alone.
 fn explore_stuck(alloc: Global, image: &Image, count: usize) -> Result<ImageExploration, AllocError>
     requires few { count ≤ 100000 }
-    requires stuck { IsStuck (file_of image.now) (program_of image.now) count }
+    requires stuck { SticksAt (file_of image.now) (program_of image.now) count }
     ensures told { IfOk result (λ e. TellTruth (file_of image.now) (program_of image.now) e.setup e.rows.items) }
+    ensures found { IfOk result (λ e. TellStates (file_of image.now) (program_of image.now) e.setup e.rows.items e.states) }
+    ensures complete { IfOk result (λ e. e.complete ≡ true) }
     ensures tells { (cells : ℕ) → IfOk result (λ e. IsTrue e.complete → TellAll (file_of image.now) (program_of image.now) cells e.rows.items) }
     ensures whole { IfOk result (λ e. IsTrue e.complete → IsTrue e.roomy → TellWhole (file_of image.now) (program_of image.now) e.rows.items) }
     ensures apart { IfOk result (λ e. AreApart e.rows.items) }
@@ -90,6 +91,8 @@ fn explore_rest(
     requires ends { EndsAt (file_of image.now) (program_of image.now) count }
     ensures late { IfErr result (IsLate (file_of image.now) (program_of image.now) (code_of_image image.now) cells count) }
     ensures told { IfOk result (λ e. TellTruth (file_of image.now) (program_of image.now) e.setup e.rows.items) }
+    ensures found { IfOk result (λ e. TellStates (file_of image.now) (program_of image.now) e.setup e.rows.items e.states) }
+    ensures cut { IfOk result (λ e. e.complete ≡ false → states ≤ e.states) }
     ensures tells { IfOk result (λ e. IsTrue e.complete → TellAll (file_of image.now) (program_of image.now) cells e.rows.items) }
     ensures whole { IfOk result (λ e. IsTrue e.complete → IsTrue e.roomy → TellWhole (file_of image.now) (program_of image.now) e.rows.items) }
     ensures apart { IfOk result (λ e. AreApart e.rows.items) }
@@ -124,12 +127,15 @@ fn explore_rest(
 /// beginning of a row's. If no thread acts after the schedule, its history is that of a row that ends. If the rows
 /// are roomy too, this is so of each schedule, whether it fits or not. A setup that is trapped has its one history.
 ///
+/// If the rows are cut, as many states were kept as may be. Each state has a path of its own, whose steps act after the
+/// setup's, and its history is the beginning of a row's. So there is a row.
+///
 /// No history stands twice. The row of the shortest schedule comes first, and of those of one length the row of the
 /// least.
 ///
-/// Refused with 61 if no states may be kept, or more than 16,777,216; else with 35 as `replay` is. Else refused with
-/// 62 if the setup has not ended in 100,000 source steps; else as the setup's translation to the machine is, with 43
-/// or 44.
+/// Refused with 61 if no states may be kept, or more than 16,777,216; else with 35 as `replay` is. Else, where memory
+/// doesn't run out, refused with 62 exactly if the setup acts in each of 100,001 source steps, and has not ended in
+/// 100,000; else as the setup's translation to the machine is, with 43 or 44.
 pub fn explore_image(
     alloc: Global,
     image: &Image,
@@ -139,9 +145,11 @@ pub fn explore_image(
     ensures states { IsErrOf result ExploreFault.BadStates ↔ ((states ≡ 0) ⊎ (16777216 < states)) }
     ensures cells { IsErrOf result ExploreFault.BadCells → AreBadCells (code_of_image image.now).names cells }
     ensures good { IfOk result (λ e. AreBadCells (code_of_image image.now).names cells → ⊥) }
-    ensures endless { IsErrOf result ExploreFault.SetupEndless → GoesOnAfter (file_of image.now) (program_of image.now) 100001 }
+    ensures endless { IsErrOf result ExploreFault.Memory ⊎ (IsErrOf result ExploreFault.SetupEndless ↔ IsEndless (file_of image.now) (program_of image.now) (code_of_image image.now) cells states) }
     ensures setup { IfErr result (IsOfSetup (file_of image.now) (program_of image.now) (code_of_image image.now) cells) }
     ensures told { IfOk result (λ e. TellTruth (file_of image.now) (program_of image.now) e.setup e.rows.items) }
+    ensures found { IfOk result (λ e. TellStates (file_of image.now) (program_of image.now) e.setup e.rows.items e.states) }
+    ensures cut { IfOk result (λ e. e.complete ≡ false → states ≤ e.states) }
     ensures tells { IfOk result (λ e. IsTrue e.complete → TellAll (file_of image.now) (program_of image.now) cells e.rows.items) }
     ensures whole { IfOk result (λ e. IsTrue e.complete → IsTrue e.roomy → TellWhole (file_of image.now) (program_of image.now) e.rows.items) }
     ensures apart { IfOk result (λ e. AreApart e.rows.items) }

@@ -23,9 +23,6 @@ pub enum ExploreFault {
     /// The setup goes on after 100,000 source steps.
     #[error("the setup has not ended in 100,000 source steps")]
     SetupEndless,
-    /// The machine has not ended the setup with its source.
-    #[error("the machine has not ended the setup")]
-    NotSetUp,
     /// The setup isn't translated to the machine.
     #[error(transparent)]
     Setup(TranslationFault),

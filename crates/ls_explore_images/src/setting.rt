@@ -1,13 +1,13 @@
 // The setup of a program, from the source and on a machine.
 
-ghost use Rattle.std.specs.Prelude.{◌≡◌, ◌≤◌, IfErr, IfOk, IsTrue, false, true, replicate, slice_get};
-ghost use Rattle.ls_code.specs.Machine.{loaded, machine_run, setup_ended};
+ghost use Rattle.std.specs.Prelude.{◌≡◌, ◌≤◌, IfErr, IfOk, replicate};
+ghost use Rattle.ls_code.specs.Machine.{loaded, machine_run};
 ghost use Rattle.ls_checked.specs.Plain.{plain_file};
 ghost use Rattle.ls_checked.specs.PlainProgram.{plain_program};
 ghost use Rattle.ls_headline.specs.Same.{IsCells};
 ghost use Rattle.ls_image.specs.Images.{code_of_image};
 ghost use Rattle.ls_explore_laws.specs.Explored.{IsSetUp};
-ghost use Rattle.ls_explore_images.specs.Faults.{IsLate, IsUnready};
+ghost use Rattle.ls_explore_images.specs.Faults.{IsLate};
 ghost use Rattle.ls_explore_images.specs.Settings.{EndsAt, IsFew, IsSetting};
 ghost use Rattle.ls_translation.specs.MachineRuns.{has_acted};
 ghost use Rattle.ls_translation.specs.Texts.{file_of, program_of};
@@ -15,10 +15,10 @@ ghost use Rattle.ls_translation.specs.Texts.{file_of, program_of};
 use crate::fault::ExploreFault;
 use ls_checked::program::Program;
 use ls_checked::tree::File;
-use ls_code::step::ThreadState;
 use ls_events::schedule::Schedule;
+use ls_explore_laws::laws::sets_up;
 use ls_image::image::Image;
-use ls_machine::Machine;
+use ls_image::laws::{acts_in_time, ends_in_time, has_setup};
 use ls_meaning::step::Did;
 use ls_source::run::SourceRun;
 use ls_translation::laws::translates_back;
@@ -82,26 +82,8 @@ pub(crate) fn setup_steps(alloc: Global, count: usize) -> Result<Schedule, Alloc
     requires { count ≤ 100000 }
     ensures { IfOk result (λ schedule. schedule ≡ replicate count 0) }
 {
-    let steps = vec![in alloc; 0usize; count]?;
+    let steps = vec![in alloc; 0u8; count]?;
     Ok(Schedule::of(steps))
-}
-
-/// Whether a machine hasn't stopped and its setup has ended.
-fn is_ready(machine: &Machine) -> bool
-    ensures goes { IsTrue result → machine.now.stopped ≡ false }
-    ensures ready { IsTrue result → setup_ended (slice_get machine.now.threads 0) ≡ true }
-    ensures unready { result ≡ false → IsUnready machine.now }
-{
-    if !machine.is_set_up() {
-        return false;
-    }
-    match machine.state_of(0) {
-        ThreadState::Ended => true,
-        ThreadState::NotStarted
-        | ThreadState::Running
-        | ThreadState::Trapped
-        | ThreadState::Stopped => false,
-    }
 }
 
 /// The steps of a machine of an image, with so many cells, that set its program up, if its source does so with so
@@ -119,12 +101,11 @@ pub(crate) fn set_up(
     ensures steps { IfOk result (λ steps. IsSetUp (file_of image.now) (program_of image.now) (code_of_image image.now) cells count (machine_run (loaded (code_of_image image.now) cells) steps)) }
 {
     translates_back(image, cells);
+    acts_in_time(image);
+    ends_in_time(image);
+    has_setup(image);
+    sets_up();
     let source = setup_steps(alloc, count)?;
     let steps = to_machine(alloc, image, cells, &source)?;
-    let mut machine = Machine::load(alloc, image.code(), cells)?;
-    machine.run(&steps);
-    if !is_ready(&machine) {
-        return Err(ExploreFault::NotSetUp);
-    }
     Ok(steps)
 }

@@ -1,2 +1,3 @@
-pub mod Asking
+pub mod Waiting
 pub mod Undoubted
+pub mod Others

@@ -1,14 +1,11 @@
 -- The text of an exploration.
-use Rattle.std.specs.Prelude.{ℕ, ◌+◌, Bool, true, false, List, [], ◌∷◌, ◌++◌, codes, length, take}
+use Rattle.std.specs.Prelude.{ℕ, Bool, true, false, List, [], ◌∷◌, ◌++◌, codes, length, take}
 use Rattle.std.specs.Fmt.{decimal}
 use Rattle.std.specs.List.{filter, flat_map}
-use Rattle.ls_checked.specs.CheckedTree.{File}
-use Rattle.ls_checked.specs.CheckedProgram.{Program}
-use Rattle.ls_meaning.specs.Runs.{State, asked, source_run}
-use Rattle.ls_meaning.specs.declared.step.Asked.{Asked}
-use Rattle.ls_meaning.specs.declared.step.Asked.TheVariants as asks
 use Rattle.ls_report.specs.Events.{Text}
 use Rattle.ls_report.specs.Printing.{run_text}
+use Rattle.ls_labels.specs.Names.{Names}
+use Rattle.ls_state.specs.Scene.{scene_of}
 use Rattle.ls_schedule.specs.Printing.{schedule_text}
 use Rattle.ls_explore.specs.declared.rows.Ending.{Ending}
 use Rattle.ls_explore.specs.declared.rows.Ending.TheVariants as ending
@@ -16,31 +13,13 @@ use Rattle.ls_verdicts.specs.declared.verdicts.Verdict.{Verdict}
 use Rattle.ls_verdicts.specs.declared.verdicts.Verdict.TheVariants as verdicts
 use Rattle.ls_explore_reports.specs.declared.printing.Exploring.{Exploring}
 use Rattle.ls_explore_reports.specs.Judged.{Judged, are_decided, count_illegal, is_illegal}
+use Rattle.ls_explore_reports.specs.Waiting.{waiting}
 use Rattle.ls_explore_images.specs.Tellings.{schedule_of}
 
--- whether a thread asks for an action; where no thread acts, it waits for a lock
-abbrev pub is_asking : Asked → Bool
-is_asking (asks.Asks action) = true
-is_asking asks.Ended = false
-is_asking asks.NotStarted = false
-
-abbrev pub asks_in : File → Program → State → ℕ → Bool
-asks_in file program s t = is_asking (asked file program s t)
-
--- the name of a thread that asks, after a space
-abbrev pub if_asks : Bool → Text → Text
-if_asks true name = 32 ∷ name
-if_asks false name = []
-
--- the names of the threads that ask, of those from a number on
-abbrev pub asking : File → Program → State → ℕ → List Text → Text
-asking file program s n [] = []
-asking file program s n (name ∷ names) = if_asks (asks_in file program s n) name ++ asking file program s (n + 1) names
-
--- that all threads have ended or are trapped, or which of them wait
+-- that all threads have ended or are trapped, or what those wait for that haven't
 abbrev pub over_text : Text → Text
 over_text [] = codes "ended"
-over_text (c ∷ names) = codes "waits" ++ c ∷ names
+over_text (c ∷ waiting) = c ∷ waiting
 
 abbrev pub ending_text : Ending → Text → Text
 ending_text ending.Over waiting = over_text waiting
@@ -56,10 +35,10 @@ verdict_part verdicts.TooManyTrapped = codes ", not judged"
 verdict_part verdicts.NotOneSet = []
 
 -- how a row ends and the verdict, its schedule, its history's lines, an empty line
-abbrev pub row_text : File → Program → List Text → ℕ → Judged → Text
-row_text file program names k j =
-    ending_text j.row.ending (asking file program (source_run file program (schedule_of k j.row)) 0 names)
-    ++ (verdict_part j.verdict ++ (10 ∷ (schedule_text names (schedule_of k j.row) ++ (run_text program j.row.history ++ 10 ∷ []))))
+abbrev pub row_text : Names → List Text → ℕ → Judged → Text
+row_text names threads k j =
+    ending_text j.row.ending (waiting names (scene_of names (schedule_of k j.row)) 0 threads)
+    ++ (verdict_part j.verdict ++ (10 ∷ (schedule_text threads (schedule_of k j.row) ++ (run_text names.program j.row.history ++ 10 ∷ []))))
 
 -- with `--illegal` the rows without a legal order alone
 abbrev pub is_shown : Bool → Verdict → Bool
@@ -93,9 +72,9 @@ abbrev pub last_text : ℕ → List Judged → Bool → Bool → Text
 last_text states judged complete roomy =
     counts_text states (length judged) ++ (illegal_text (are_decided judged) (count_illegal judged) ++ end_text complete roomy)
 
-abbrev pub rows_text : File → Program → List Text → ℕ → List Judged → Text
-rows_text file program names k judged = flat_map (row_text file program names k) judged
+abbrev pub rows_text : Names → List Text → ℕ → List Judged → Text
+rows_text names threads k judged = flat_map (row_text names threads k) judged
 
-abbrev pub explored_text : File → Program → List Text → ℕ → List Judged → ℕ → Bool → Bool → Exploring → Text
-explored_text file program names k judged states complete roomy e =
-    rows_text file program names k (shown e judged) ++ last_text states judged complete roomy
+abbrev pub explored_text : Names → List Text → ℕ → List Judged → ℕ → Bool → Bool → Exploring → Text
+explored_text names threads k judged states complete roomy e =
+    rows_text names threads k (shown e judged) ++ last_text states judged complete roomy

@@ -1,6 +1,6 @@
-// What the last line tells, as the contract of a function that computes nothing.
+// What rows and the last line tell, as the contracts of functions that compute nothing.
 
-ghost use Rattle.ls_explore_reports.specs.Laws.{NoneIllegal, NoneIllegalThatFits};
+ghost use Rattle.ls_explore_reports.specs.Laws.{AllWaitForOthers, NoneIllegal, NoneIllegalThatFits};
 
 use ls_explore_verdicts::laws::every_schedule_is_legal;
 
@@ -12,3 +12,8 @@ pub fn none_is_illegal()
 {
     every_schedule_is_legal();
 }
+
+/// If no thread acts any more, each thread that a row says to wait does so for what another thread owns.
+pub fn each_waits_for_another()
+    ensures { AllWaitForOthers }
+{}

@@ -6,4 +6,4 @@ pub mod laws;
 mod printing;
 
 pub use judging::{JudgedRow, judge_rows};
-pub use printing::{Exploring, Texts, print_exploration};
+pub use printing::{Exploring, print_exploration};

@@ -1,27 +1,28 @@
 // The text of an exploration.
 
 ghost use Rattle.std.specs.Prelude.{◌≡◌, ◌<◌, ◌≤◌, ◌⊎◌, ◌++◌, ◌∷◌, [], IfErr, IfOk, IsErrOf, OnOk, length, map, string_bytes};
-ghost use Rattle.ls_checked.specs.Plain.{plain_file};
-ghost use Rattle.ls_checked.specs.PlainProgram.{plain_program};
-ghost use Rattle.ls_meaning.specs.Runs.{source_run};
+ghost use Rattle.ls_labels.specs.Names.{names_of};
 ghost use Rattle.ls_schedule.specs.Reading.{thread_name, thread_names};
-ghost use Rattle.ls_source.specs.Shown.{progress_of};
-ghost use Rattle.ls_explore_reports.specs.Printing.{asking, asks_in, counts_text, end_text, ending_text, explored_text, if_asks, illegal_text, is_shown, last_text, over_text, row_text, rows_text, shown, verdict_part};
+ghost use Rattle.ls_state.specs.Scene.{scene_of};
+ghost use Rattle.ls_state.specs.Seen.{IsOwn, names_in, scene_seen};
+ghost use Rattle.ls_explore_reports.specs.Printing.{counts_text, end_text, ending_text, explored_text, illegal_text, is_shown, last_text, over_text, row_text, rows_text, shown, verdict_part};
+ghost use Rattle.ls_explore_reports.specs.Waiting.{asked_text, listed, waiting, waits_text};
 ghost use Rattle.ls_explore_images.specs.Tellings.{schedule_of};
 ghost use Rattle.ls_explore_reports.specs.Judged.{rows_of};
 ghost use Rattle.ls_explore_reports.specs.Long.{HasLong};
 ghost use Rattle.ls_translation.specs.declared.fault.TranslationFault.TheVariants.{Memory, ResultTooLong};
 
 use crate::judging::{JudgedRow, are_decided, count_illegal, is_illegal};
-use ls_checked::program::{Program, ThreadProgram};
-use ls_checked::tree::File;
+use ls_checked::program::ThreadProgram;
 use ls_events::schedule::{MOST_STEPS, Schedule};
 use ls_explore::{Ending, Row};
 use ls_explore_images::ImageExploration;
+use ls_labels::names::Names;
+use ls_labels::threads::push_wait;
 use ls_meaning::step::Asked;
 use ls_report::print_history;
 use ls_schedule::print_schedule;
-use ls_source::run::SourceRun;
+use ls_state::scene::Scene;
 use ls_translation::fault::TranslationFault;
 use ls_verdicts::Verdict;
 use std::alloc::{AllocError, Global};
@@ -46,15 +47,8 @@ impl Clone for Exploring {
     }
 }
 
-/// A file and its program.
-#[derive(Drop)]
-pub struct Texts<'a> {
-    pub file: &'a File,
-    pub program: &'a Program,
-}
-
 /// Adds a step.
-fn push_step(schedule: &mut Schedule, thread: usize) -> Result<(), TranslationFault>
+fn push_step(schedule: &mut Schedule, thread: u8) -> Result<(), TranslationFault>
     ensures steps { OnOk result (schedule.new ≡ schedule.old ++ thread ∷ []) }
     ensures only { IfErr result (λ e. (e ≡ Memory) ⊎ (e ≡ ResultTooLong)) }
     ensures long { IsErrOf result ResultTooLong → 1000000 ≤ length schedule.old }
@@ -77,81 +71,90 @@ fn schedule_of(alloc: Global, setup: usize, row: &Row) -> Result<Schedule, Trans
         push_step(&mut schedule, 0)?;
     }
     for thread in row.path() {
-        push_step(&mut schedule, *thread as usize)?;
+        push_step(&mut schedule, *thread)?;
     }
     Ok(schedule)
 }
 
-/// Whether a thread asks for an action.
-fn asks(alloc: Global, run: &SourceRun<'_>, thread: usize) -> Result<bool, AllocError>
-    ensures { IfOk result (λ b. b ≡ asks_in (progress_of run.now).file (progress_of run.now).program (progress_of run.now).state thread) }
+/// Adds what a thread of this name waits for, as `A waits for ReentrantLock#2, which B owns`. Nothing where it asks for no action.
+fn push_waits(
+    out: &mut String,
+    scene: &Scene<'_>,
+    name: &str,
+    asked: Asked,
+) -> Result<(), AllocError>
+    ensures { OnOk result (string_bytes out.new ≡ string_bytes out.old ++ asked_text (names_in scene.now) (scene_seen scene.now) name.now asked) }
 {
-    match run.next(alloc, thread)? {
-        Asked::Asks(_) => Ok(true),
-        Asked::Ended | Asked::NotStarted => Ok(false),
+    match asked {
+        Asked::Asks(action) => {
+            write!(out, "{name} ")?;
+            push_wait(out, scene.names, &scene.labels, &scene.run, action)
+        }
+        Asked::Ended | Asked::NotStarted => Ok(()),
     }
 }
 
-/// The name of a thread that asks, after a space.
-fn push_if(out: &mut String, asks: bool, name: &str) -> Result<(), AllocError>
-    ensures { OnOk result (string_bytes out.new ≡ string_bytes out.old ++ if_asks asks name.now) }
-{
-    if asks {
-        out.push_str(" ")?;
-        out.push_str(name)?;
-    }
-    Ok(())
-}
-
-/// A run after these steps.
-fn run_after<'a>(
+/// What a thread of this name waits for.
+fn waits_for(
     alloc: Global,
-    texts: &Texts<'a>,
-    steps: &[usize],
-) -> Result<SourceRun<'a>, AllocError>
-    ensures file { IfOk result (λ r. (progress_of r).file ≡ plain_file texts.now.file.now) }
-    ensures program { IfOk result (λ r. (progress_of r).program ≡ plain_program texts.now.program.now) }
-    ensures state { IfOk result (λ r. (progress_of r).state ≡ source_run (plain_file texts.now.file.now) (plain_program texts.now.program.now) steps.now) }
+    scene: &Scene<'_>,
+    thread: usize,
+    name: &str,
+) -> Result<String, AllocError>
+    requires { IsOwn scene.now }
+    ensures { IfOk result (λ text. string_bytes text ≡ waits_text (names_in scene.now) (scene_seen scene.now) thread name.now) }
 {
-    let mut run = SourceRun::new(alloc, texts.file, texts.program)?;
-    for thread in steps {
-        let _did = run.step(alloc, *thread)?;
-    }
-    Ok(run)
+    let asked = scene.run.next(alloc, thread)?;
+    let mut out = String::new(alloc);
+    push_waits(&mut out, scene, name, asked)?;
+    Ok(out)
 }
 
-/// The names of the threads that ask for an action, each after a space.
-fn names_asking(
+/// Adds a text, if it isn't empty, and `; ` before it, if there is one before it.
+fn push_listed(out: &mut String, text: &str) -> Result<(), AllocError>
+    ensures { OnOk result (string_bytes out.new ≡ listed (string_bytes out.old) text.now) }
+{
+    if text.is_empty() {
+        return Ok(());
+    }
+    if !out.is_empty() {
+        out.push_str("; ")?;
+    }
+    out.push_str(text)
+}
+
+/// What these threads wait for.
+fn waiting(
     alloc: Global,
-    run: &SourceRun<'_>,
+    scene: &Scene<'_>,
     threads: &[ThreadProgram],
 ) -> Result<String, AllocError>
-    ensures { IfOk result (λ names. string_bytes names ≡ asking (progress_of run.now).file (progress_of run.now).program (progress_of run.now).state 0 (map thread_name threads.now)) }
+    requires { IsOwn scene.now }
+    ensures { IfOk result (λ text. string_bytes text ≡ waiting (names_in scene.now) (scene_seen scene.now) 0 (map thread_name threads.now)) }
 {
     let mut out = String::new(alloc);
     for number in 0..threads.len() {
-        let asks = asks(alloc, run, number)?;
-        push_if(&mut out, asks, threads[number].name.as_str())?;
+        let waits = waits_for(alloc, scene, number, threads[number].name.as_str())?;
+        push_listed(&mut out, waits.as_str())?;
     }
     Ok(out)
 }
 
-/// The names of the threads that ask for an action after a schedule, each after a space.
-fn asking_after(alloc: Global, texts: &Texts<'_>, schedule: &Schedule) -> Result<String, AllocError>
-    ensures { IfOk result (λ names. string_bytes names ≡ asking (plain_file texts.now.file.now) (plain_program texts.now.program.now) (source_run (plain_file texts.now.file.now) (plain_program texts.now.program.now) schedule.now) 0 (thread_names texts.now.program.now)) }
+/// What the threads wait for after a schedule.
+fn waiting_after(alloc: Global, names: Names<'_>, schedule: &Schedule) -> Result<String, AllocError>
+    ensures { IfOk result (λ text. string_bytes text ≡ waiting (names_of names.entry) (scene_of (names_of names.entry) schedule.now) 0 (thread_names names.entry.program.now)) }
 {
-    let run = run_after(alloc, texts, schedule.steps())?;
-    names_asking(alloc, &run, texts.program.threads.as_slice())
+    let scene = Scene::after(alloc, names, schedule.steps())?;
+    waiting(alloc, &scene, names.program.threads.as_slice())
 }
 
-/// That all threads have ended or are trapped, or which of them wait.
+/// That all threads have ended or are trapped, or what those wait for that haven't.
 fn push_over(out: &mut String, waiting: &str) -> Result<(), AllocError>
     ensures { OnOk result (string_bytes out.new ≡ string_bytes out.old ++ over_text waiting.now) }
 {
     if waiting.is_empty() {
         return out.push_str("ended");
     }
-    out.push_str("waits")?;
     out.push_str(waiting)
 }
 
@@ -183,19 +186,19 @@ fn verdict_part(verdict: Verdict) -> &'static str
 fn push_row(
     alloc: Global,
     out: &mut String,
-    texts: &Texts<'_>,
+    names: Names<'_>,
     setup: usize,
     judged: &JudgedRow<'_>,
 ) -> Result<(), TranslationFault>
-    ensures text { OnOk result (string_bytes out.new ≡ string_bytes out.old ++ row_text (plain_file texts.now.file.now) (plain_program texts.now.program.now) (thread_names texts.now.program.now) setup judged.now) }
+    ensures text { OnOk result (string_bytes out.new ≡ string_bytes out.old ++ row_text (names_of names.entry) (thread_names names.entry.program.now) setup judged.now) }
     ensures only { IfErr result (λ e. (e ≡ Memory) ⊎ (e ≡ ResultTooLong)) }
     ensures long { IsErrOf result ResultTooLong → 1000000 < length (schedule_of setup judged.now.row) }
 {
     let row = judged.row();
     let schedule = schedule_of(alloc, setup, row)?;
-    let waiting = asking_after(alloc, texts, &schedule)?;
-    let steps = print_schedule(alloc, &schedule, texts.program)?;
-    let history = print_history(alloc, row.history(), texts.program)?;
+    let waiting = waiting_after(alloc, names, &schedule)?;
+    let steps = print_schedule(alloc, &schedule, names.program)?;
+    let history = print_history(alloc, row.history(), names.program)?;
     push_ending(out, row.ending(), waiting.as_str())?;
     out.push_str(verdict_part(judged.verdict()))?;
     out.push_str("\n")?;
@@ -216,12 +219,12 @@ fn is_shown(illegal: bool, verdict: Verdict) -> bool
 fn push_rows(
     alloc: Global,
     out: &mut String,
-    texts: &Texts<'_>,
+    names: Names<'_>,
     setup: usize,
     judged: &[JudgedRow<'_>],
     exploring: Exploring,
 ) -> Result<(), TranslationFault>
-    ensures text { OnOk result (string_bytes out.new ≡ string_bytes out.old ++ rows_text (plain_file texts.now.file.now) (plain_program texts.now.program.now) (thread_names texts.now.program.now) setup (shown exploring judged.now)) }
+    ensures text { OnOk result (string_bytes out.new ≡ string_bytes out.old ++ rows_text (names_of names.entry) (thread_names names.entry.program.now) setup (shown exploring judged.now)) }
     ensures only { IfErr result (λ e. (e ≡ Memory) ⊎ (e ≡ ResultTooLong)) }
     ensures long { IsErrOf result ResultTooLong → HasLong setup (rows_of judged.now) }
 {
@@ -229,7 +232,7 @@ fn push_rows(
         if !is_shown(exploring.illegal, one.verdict()) {
             continue;
         }
-        push_row(alloc, out, texts, setup, one)?;
+        push_row(alloc, out, names, setup, one)?;
         if exploring.first {
             return Ok(());
         }
@@ -289,17 +292,17 @@ fn push_last(
 /// Refused where memory runs out, and where a row's schedule has over 1,000,000 steps.
 pub fn print_exploration(
     alloc: Global,
-    texts: &Texts<'_>,
+    names: Names<'_>,
     found: &ImageExploration,
     judged: &[JudgedRow<'_>],
     exploring: Exploring,
 ) -> Result<String, TranslationFault>
-    ensures text { IfOk result (λ text. string_bytes text ≡ explored_text (plain_file texts.now.file.now) (plain_program texts.now.program.now) (thread_names texts.now.program.now) found.now.setup judged.now found.now.states found.now.complete found.now.roomy exploring) }
+    ensures text { IfOk result (λ text. string_bytes text ≡ explored_text (names_of names.entry) (thread_names names.entry.program.now) found.now.setup judged.now found.now.states found.now.complete found.now.roomy exploring) }
     ensures only { IfErr result (λ e. (e ≡ Memory) ⊎ (e ≡ ResultTooLong)) }
     ensures long { IsErrOf result ResultTooLong → HasLong found.now.setup (rows_of judged.now) }
 {
     let mut out = String::new(alloc);
-    push_rows(alloc, &mut out, texts, found.setup, judged, exploring)?;
+    push_rows(alloc, &mut out, names, found.setup, judged, exploring)?;
     push_last(&mut out, found.states, judged, found.complete, found.roomy)?;
     Ok(out)
 }

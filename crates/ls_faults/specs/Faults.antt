@@ -228,7 +228,6 @@ explore_line explore.Memory = plain (codes "1 Memory")
 explore_line explore.BadCells = plain (codes "35 BadCells")
 explore_line explore.BadStates = plain (codes "61 BadStates")
 explore_line explore.SetupEndless = plain (codes "62 SetupEndless")
-explore_line explore.NotSetUp = plain (codes "63 NotSetUp")
 explore_line (explore.Setup f) = translation_line f
 
 abbrev pub history_line : HistoryFault → List ℕ

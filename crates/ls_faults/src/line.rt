@@ -288,7 +288,6 @@ fn explore_line(fault: ExploreFault) -> Line
         ExploreFault::BadCells => plain("35 BadCells"),
         ExploreFault::BadStates => plain("61 BadStates"),
         ExploreFault::SetupEndless => plain("62 SetupEndless"),
-        ExploreFault::NotSetUp => plain("63 NotSetUp"),
         ExploreFault::Setup(fault) => translation_line(fault),
     }
 }

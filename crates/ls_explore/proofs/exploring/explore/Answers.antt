@@ -8,7 +8,7 @@ use Rattle.ls_explore.specs.Searches.{AreSaved, IsSound, paths_of}
 use Rattle.ls_explore.specs.Walks.{led_to, root_of}
 use Rattle.ls_explore.proofs.Closing.{first_there}
 use Rattle.ls_explore.proofs.Loops.{root_same}
-use Rattle.ls_explore.proofs.Telling.{tells_all, tells_ends, tells_over, tells_truth, tells_whole}
+use Rattle.ls_explore.proofs.Telling.{tells_all, tells_ends, tells_over, tells_states, tells_truth, tells_whole}
 use Rattle.ls_explore.proofs.Walks.{walked_none}
 use Rattle.ls_explore.proofs.exploring.explore.Goals as goal
 
@@ -81,3 +81,16 @@ returns-clause-whole c = λ yes room.
     let past : length paths ≤ length c.in_ok-found.found.paths.items = omega (arith, length-map c.in_ok-found.found.paths.items (λ (w : Vec ℕ Global). w.items)) in
     tells_whole c.args.code.now c.args.cells setup c.args.threads n root c.in_ok-rows.rows.items c.most_steps.ensures er paths first closed seen (c.in_ok-found.ensures.count yes) sound
     (subst (λ s. All (λ (x : Seen). x.stops ≡ false) s) c.as_slice.ensures.value (c.are_roomy.ensures room)) c.in_ok-rows.ensures.ends (length c.in_ok-found.found.paths.items) past c.in_ok-rows.ensures.begun
+
+pub returns-clause-found : goal.returns-clause-found
+returns-clause-found c =
+    let setup : List ℕ = c.args.setup.now in
+    let n : ℕ = c.most_steps.result in
+    let paths : List (List ℕ) = paths_of c.in_ok-found.found.paths.items in
+    let seen = c.in_ok-found.found.seen.items in
+    let er = root_same c.in_ok-walker.walker c.search.new.walker setup c.search.ensures.code c.search.ensures.cells ∙ ap (λ (m : Machine). root_of m setup) c.in_ok-walker.ensures.loaded in
+    let sound = sound_there c.in_ok-walker.walker c.search.new.walker setup c.search.ensures.code c.search.ensures.cells n c.args.threads paths seen c.in_ok-found.ensures.sound in
+    let count : length paths ≡ length c.in_ok-found.found.paths.items = length-map c.in_ok-found.found.paths.items (λ (w : Vec ℕ Global). w.items) in
+    let past : length paths ≤ length c.in_ok-found.found.paths.items = omega (arith, count) in
+    let many : length paths ≡ c.len.result = omega (arith, count) in
+    tells_states c.args.code.now c.args.cells setup c.args.threads n (root_of c.search.new.walker setup) c.in_ok-rows.rows.items c.most_steps.ensures er paths seen c.len.result (length c.in_ok-found.found.paths.items) many c.in_ok-found.ensures.once sound past c.in_ok-rows.ensures.begun

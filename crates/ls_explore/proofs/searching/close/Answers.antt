@@ -14,6 +14,7 @@ loop-at-init c = (
   c.requires.sound,
   closed_none c.args.ground.now.most c.args.ground.now.threads (root_of c.args.walker.now c.args.ground.now.setup.now) (paths_of c.args.nodes.now.paths.items),
   c.requires.saves,
+  c.requires.distinct,
 )
 
 pub expand-requires-clause-sound : goal.expand-requires-clause-sound
@@ -37,6 +38,7 @@ loop-at-preserved c =
       subst (λ r. IsSound c.args.ground.now.most c.args.ground.now.threads r (paths_of c.expand.new.nodes.paths.items) c.expand.new.nodes.seen.items) same c.in_ok-expand.ensures.sound,
       subst (λ r. IsClosedTo c.args.ground.now.most c.args.ground.now.threads r (paths_of c.expand.new.nodes.paths.items) (c.loop-at.at + 1) 0) same (c.in_ok-expand.ensures.closed c.if-not-branch.false),
       subst (λ r. AreSaved c.args.ground.now.most r (paths_of c.expand.new.nodes.paths.items) c.expand.new.nodes.saved.items) same c.in_ok-expand.ensures.saves,
+      c.in_ok-expand.ensures.distinct,
     )
 
 pub returns-then-not-branch-clause-sound : goal.returns-then-not-branch-clause-sound
@@ -78,3 +80,15 @@ returns-then-not-branch-clause-saves c =
     let kept = c.loop-at.invariant.0 in
     let same = root_same c.args.walker.now c.loop-at.walker c.args.ground.now.setup.now kept.walker_code kept.walker_cells in
     subst (λ r. AreSaved c.args.ground.now.most r (paths_of c.expand.new.nodes.paths.items) c.expand.new.nodes.saved.items) same c.in_ok-expand.ensures.saves
+
+pub returns-then-at-len-clause-once : goal.returns-then-at-len-clause-once
+returns-then-at-len-clause-once c = c.loop-at.invariant.5.once
+
+pub returns-then-not-branch-clause-once : goal.returns-then-not-branch-clause-once
+returns-then-not-branch-clause-once c = c.in_ok-expand.ensures.distinct.once
+
+pub returns-clause-once : goal.returns-clause-once
+returns-clause-once c = c.loop-at.invariant.5.once
+
+pub expand-requires-clause-distinct : goal.expand-requires-clause-distinct
+expand-requires-clause-distinct c = c.loop-at.invariant.5

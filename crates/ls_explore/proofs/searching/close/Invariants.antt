@@ -1,5 +1,5 @@
 use Rattle.std.proofs.Common.{◌≡◌, length}
-use Rattle.ls_explore.specs.Searches.{AreSaved, IsClosedTo, IsSound, paths_of}
+use Rattle.ls_explore.specs.Searches.{AreDistinct, AreSaved, IsClosedTo, IsSound, paths_of}
 use Rattle.ls_explore.specs.Walks.{root_of}
 use Rattle.ls_explore.proofs.Loops.{AreKept}
 use Rattle.ls_explore.proofs.searching.close.Given as goal
@@ -11,3 +11,4 @@ invariant-loop-at l =
     × IsSound l.ground.most l.ground.threads (root_of l.fn.walker l.ground.setup.now) (paths_of l.nodes.paths.items) l.nodes.seen.items
     × IsClosedTo l.ground.most l.ground.threads (root_of l.fn.walker l.ground.setup.now) (paths_of l.nodes.paths.items) l.at 0
     × AreSaved l.ground.most (root_of l.fn.walker l.ground.setup.now) (paths_of l.nodes.paths.items) l.nodes.saved.items
+    × AreDistinct (paths_of l.nodes.paths.items) l.at 0

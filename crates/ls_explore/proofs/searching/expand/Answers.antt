@@ -1,8 +1,9 @@
-use Rattle.std.proofs.Common.{◌∙◌, ℕ, List, length, refl, sym, ap, subst, arith, Vec, Global}
+use Rattle.std.proofs.Common.{◌∙◌, ◌+◌, ℕ, List, length, refl, sym, ap, subst, arith, Vec, Global}
 use Rattle.std.proofs.lemmas.List.{length-map}
 use Rattle.ls_code.specs.Machine.{Machine}
 use Rattle.ls_explore.specs.Searches.{AreSaved, paths_of}
 use Rattle.ls_explore.specs.Walks.{root_of}
+use Rattle.ls_explore.proofs.Distinct.{distinct_path}
 use Rattle.ls_explore.proofs.Loops.{end_closed, end_count, end_sound, kept_more, on_looked, root_same, sound_looked}
 use Rattle.ls_explore.proofs.Seeing.{seen_of_none}
 use Rattle.ls_explore.proofs.searching.expand.Goals as goal
@@ -13,6 +14,7 @@ loop-thread-init c = (
   refl,
   record { there = omega (arith, c.requires.at, length-map c.args.nodes.now.paths.items (λ (w : Vec ℕ Global). w.items)); sound = c.requires.sound; closed = c.requires.closed; seen = seen_of_none c.args.ground.now.most _ _ refl refl },
   c.requires.saves,
+  c.requires.distinct,
 )
 
 pub loop-thread-preserved : goal.loop-thread-preserved
@@ -26,6 +28,7 @@ loop-thread-preserved c =
           (paths_of c.loop-thread.nodes.paths.items) (paths_of c.look.new.nodes.paths.items) c.loop-thread.nodes.seen.items c.look.new.nodes.seen.items c.look.ensures.seen c.in_ok-did.ensures.grows c.in_ok-did.ensures.acts
           c.args.at c.loop-thread.thread c.loop-thread.seen c.seen_with-seen.result c.in_ok-did.field-0 c.in-Some.did c.loop-thread.invariant.2 c.seen_with-seen.ensures c.in-Some.is c.in_ok-did.ensures.leads c.in_ok-did.ensures.did,
       subst (λ r. AreSaved c.args.ground.now.most r (paths_of c.look.new.nodes.paths.items) c.look.new.nodes.saved.items) (root_same c.args.walker.now c.loop-thread.walker setup kept.walker_code kept.walker_cells) c.in_ok-did.ensures.saves,
+      c.in_ok-did.ensures.distinct c.loop-thread.invariant.4,
     )
 
 pub returns-in_default-clause-sound : goal.returns-in_default-clause-sound
@@ -62,3 +65,9 @@ returns-in_default-clause-saves c =
     let kept = c.loop-thread.invariant.0 in
     let same = root_same c.args.walker.now c.loop-thread.walker c.args.ground.now.setup.now kept.walker_code kept.walker_cells in
     subst (λ r. AreSaved c.args.ground.now.most r (paths_of c.look.new.nodes.paths.items) c.look.new.nodes.saved.items) same c.in_ok-did.ensures.saves
+
+pub returns-clause-distinct : goal.returns-clause-distinct
+returns-clause-distinct c = distinct_path (paths_of c.loop-thread.nodes.paths.items) c.args.at c.loop-thread.thread c.loop-thread.invariant.4
+
+pub returns-in_default-clause-distinct : goal.returns-in_default-clause-distinct
+returns-in_default-clause-distinct c = distinct_path (paths_of c.look.new.nodes.paths.items) c.args.at (c.loop-thread.thread + 1) (c.in_ok-did.ensures.distinct c.loop-thread.invariant.4)

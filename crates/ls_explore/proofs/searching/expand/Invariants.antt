@@ -1,5 +1,5 @@
 use Rattle.std.proofs.Common.{◌≡◌}
-use Rattle.ls_explore.specs.Searches.{AreSaved, paths_of}
+use Rattle.ls_explore.specs.Searches.{AreDistinct, AreSaved, paths_of}
 use Rattle.ls_explore.specs.Walks.{root_of}
 use Rattle.ls_explore.proofs.Loops.{AreKept, IsOn}
 use Rattle.ls_explore.proofs.searching.expand.Given as goal
@@ -10,3 +10,4 @@ invariant-loop-thread l =
     × (l.nodes.seen.items ≡ l.fn.nodes.seen.items)
     × IsOn l.ground.most l.ground.threads (root_of l.fn.walker l.ground.setup.now) (paths_of l.nodes.paths.items) l.nodes.seen.items l.at l.thread l.seen
     × AreSaved l.ground.most (root_of l.fn.walker l.ground.setup.now) (paths_of l.nodes.paths.items) l.nodes.saved.items
+    × AreDistinct (paths_of l.nodes.paths.items) l.at l.thread

@@ -6,6 +6,7 @@ use Rattle.ls_headline.proofs.Lists.{index_there}
 use Rattle.ls_explore.specs.Walks.{root_of, walked}
 use Rattle.ls_explore.specs.Searches.{Leads, paths_of}
 use Rattle.ls_explore.proofs.Closing.{acts_grown, leads_new, leads_none, leads_there, path_is}
+use Rattle.ls_explore.proofs.Distinct.{distinct_grown, distinct_same}
 use Rattle.ls_explore.proofs.Saving.{saved_there, saves_within, there_saved}
 use Rattle.ls_explore.proofs.Walks.{walked_keeps}
 use Rattle.ls_explore.proofs.searching.look.Goals as goal
@@ -104,3 +105,23 @@ returns-clause-saves c =
     let is = at_place c.args.nodes.now.paths.items c.args.at path here in
     let acted = sym c.has_acted.ensures ∙ c.if-not-has_acted.false in
     c.in_ok-keep.ensures.saved most root (c.see-did.ensures.at acted ∙ ap (λ p. walked most root (p ++ c.args.thread ∷ [])) (sym is)) c.requires.saves
+
+pub returns-then-not-has_acted-clause-distinct : goal.returns-then-not-has_acted-clause-distinct
+returns-then-not-has_acted-clause-distinct c = distinct_same (paths_of c.args.nodes.now.paths.items) c.args.at c.args.thread
+
+pub returns-then-has-clause-distinct : goal.returns-then-has-clause-distinct
+returns-then-has-clause-distinct c = distinct_same (paths_of c.args.nodes.now.paths.items) c.args.at c.args.thread
+
+pub returns-then-not-branch-clause-distinct : goal.returns-then-not-branch-clause-distinct
+returns-then-not-branch-clause-distinct c =
+    let path : List ℕ = c.as_slice.result.now in
+    let here : slice_get (paths_of c.args.nodes.now.paths.items) c.args.at ≡ Some path = path_is c.args.nodes.now.paths.items c.args.at c.index.result.now path c.requires.at c.index.ensures c.as_slice.ensures.value in
+    distinct_grown (paths_of c.args.nodes.now.paths.items) (paths_of c.keep.new.self.paths.items) c.args.at c.args.thread (get_or (paths_of c.args.nodes.now.paths.items) c.args.at [])
+    (here ∙ ap Some (sym (at_place c.args.nodes.now.paths.items c.args.at path here))) c.in_ok-keep.ensures.grown
+
+pub returns-clause-distinct : goal.returns-clause-distinct
+returns-clause-distinct c =
+    let path : List ℕ = c.as_slice.result.now in
+    let here : slice_get (paths_of c.args.nodes.now.paths.items) c.args.at ≡ Some path = path_is c.args.nodes.now.paths.items c.args.at c.index.result.now path c.requires.at c.index.ensures c.as_slice.ensures.value in
+    distinct_grown (paths_of c.args.nodes.now.paths.items) (paths_of c.keep.new.self.paths.items) c.args.at c.args.thread (get_or (paths_of c.args.nodes.now.paths.items) c.args.at [])
+    (here ∙ ap Some (sym (at_place c.args.nodes.now.paths.items c.args.at path here))) c.in_ok-keep.ensures.grown

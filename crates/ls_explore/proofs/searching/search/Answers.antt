@@ -3,6 +3,7 @@ use Rattle.ls_code.specs.Machine.{Machine}
 use Rattle.ls_machine.specs.Saved.{standing}
 use Rattle.ls_explore.specs.Searches.{paths_of}
 use Rattle.ls_explore.specs.Walks.{root_of, walked}
+use Rattle.ls_explore.proofs.Distinct.{distinct_first}
 use Rattle.ls_explore.proofs.Loops.{root_same, sound_first}
 use Rattle.ls_explore.proofs.searching.search.Goals as goal
 
@@ -18,3 +19,6 @@ close-requires-clause-saves c =
     c.in_ok-nodes.ensures.saved
     ∙ ap (λ (m : Machine). standing m ∷ []) (c.go_to.ensures.at ∙ ap (λ r. walked most r []) same)
     ∙ sym (ap (map (λ (path : List ℕ). standing (walked most (root_of c.args.walker.now setup) path))) c.in_ok-nodes.ensures.paths)
+
+pub close-requires-clause-distinct : goal.close-requires-clause-distinct
+close-requires-clause-distinct c = distinct_first (paths_of c.in_ok-nodes.nodes.paths.items) c.in_ok-nodes.ensures.paths

@@ -2,9 +2,9 @@ use Rattle.std.proofs.Common.{ℕ, List, subst}
 use Rattle.ls_checked.specs.CheckedTree.{File}
 use Rattle.ls_checked.specs.CheckedProgram.{Program}
 use Rattle.ls_code.specs.Code.{Code}
-use Rattle.ls_explore.specs.Rows.{TellsAll, TellsEnds, TellsOver, TellsTruth, TellsWhole}
+use Rattle.ls_explore.specs.Rows.{TellsAll, TellsEnds, TellsOver, TellsStates, TellsTruth, TellsWhole}
 use Rattle.ls_translation.specs.Texts.{file_of, program_of}
-use Rattle.ls_explore_images.proofs.Tellings.{tell_all, tell_truth, tell_whole}
+use Rattle.ls_explore_images.proofs.Tellings.{tell_all, tell_states, tell_truth, tell_whole}
 use Rattle.ls_explore_images.proofs.exploring.explore_rest.Goals as goal
 
 pub returns-clause-told : goal.returns-clause-told
@@ -41,3 +41,14 @@ returns-clause-whole c = λ yes room.
     let rows = c.in_ok-rows.field-0.rows.items in
     tell_whole file program code c.args.cells c.args.image.now.kept c.requires.cells setup c.args.count threads rows c.acts_in_time.ensures c.in_ok-steps.ensures.steps c.count_threads-threads.ensures
     (subst (λ (p : Code). TellsWhole p c.args.cells setup threads rows) c.code.ensures (c.in_ok-rows.ensures.whole yes room))
+
+pub returns-clause-found : goal.returns-clause-found
+returns-clause-found c =
+    let file : File = file_of c.args.image.now in
+    let program : Program = program_of c.args.image.now in
+    let code : Code = c.args.image.now.code in
+    let setup : List ℕ = c.in_ok-steps.steps in
+    let rows = c.in_ok-rows.field-0.rows.items in
+    let states : ℕ = c.in_ok-rows.field-0.states in
+    tell_states file program code c.args.cells c.args.image.now.kept c.requires.cells setup c.args.count c.count_threads-threads.result rows c.acts_in_time.ensures c.in_ok-steps.ensures.steps c.count_threads-threads.ensures states
+    (subst (λ (p : Code). TellsStates p c.args.cells setup rows states) c.code.ensures c.in_ok-rows.ensures.found)
