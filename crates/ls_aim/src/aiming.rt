@@ -31,7 +31,7 @@ fn go_to(
     steps.fits();
     let mut stop = target.stop;
     'walk: loop {
-        match runner.sight(alloc, at, target.thread, stop)? {
+        match runner.sight(alloc, at, target.thread as usize, stop)? {
             Sight::Arrived => return Ok(()),
             Sight::Missed(fault) => return Err(fault),
             Sight::GoesOn(still) => {
@@ -60,7 +60,7 @@ fn go(
 }
 
 // Adds these steps.
-fn follow(steps: &mut Schedule, more: &[usize]) -> Result<(), AimFault>
+fn follow(steps: &mut Schedule, more: &[u8]) -> Result<(), AimFault>
     ensures { Gives (λ u. steps.new) result (followed steps.old more.now) }
 {
     steps.fits();

@@ -2,7 +2,6 @@
 #![tactic(auto)]
 
 mod aiming;
-mod counts;
 pub mod fault;
 mod items;
 mod labels;

@@ -7,10 +7,10 @@ ghost use Rattle.ls_schedule.specs.Answers.{Says};
 ghost use Rattle.ls_schedule.specs.Reading.{count_of, thread_name};
 ghost use Rattle.ls_aim.specs.Reading.{bare, before, before_counted, before_said, closed_at, is_colon, is_mark, is_quote, mark_of, named, rest_said, stop_of, stop_said, target_of, target_said, text_said};
 
-use crate::counts::count;
 use crate::texts::opens_group;
 use ls_checked::program::ThreadProgram;
 use ls_lexer::names::is_name_bytes;
+use ls_schedule::count;
 use ls_schedule::fault::ScheduleFault;
 
 /// Where a thread is to stop: at its end or where it waits, or before a step whose label has a text, of which it passes so many.
@@ -23,7 +23,7 @@ pub enum Stop<'t> {
 /// A thread, and where it is to stop.
 #[derive(Clone, Copy)]
 pub struct Target<'t> {
-    pub thread: usize,
+    pub thread: u8,
     pub stop: Stop<'t>,
 }
 
@@ -163,7 +163,8 @@ fn stop_said(said: &[u8]) -> Option<Stop<'_>>
 }
 
 fn thread_at(threads: &[ThreadProgram], name: &[u8]) -> Option<usize>
-    ensures { result ≡ position (λ t. bytes_eq (thread_name t) name.now) threads.now }
+    ensures place { result ≡ position (λ t. bytes_eq (thread_name t) name.now) threads.now }
+    ensures within { IfSome result (λ i. i < length threads.now) }
 {
     threads.iter().position(|t| t.name.as_bytes() == name)
 }
@@ -171,7 +172,8 @@ fn thread_at(threads: &[ThreadProgram], name: &[u8]) -> Option<usize>
 // The thread of that name.
 #[tactic(auto, using(ls_schedule::proofs::Named::position_map))]
 fn thread_named(threads: &[ThreadProgram], name: &[u8]) -> Option<usize>
-    ensures { result ≡ position (λ n. bytes_eq n name.now) (map thread_name threads.now) }
+    ensures place { result ≡ position (λ n. bytes_eq n name.now) (map thread_name threads.now) }
+    ensures within { IfSome result (λ i. i < length threads.now) }
 {
     thread_at(threads, name)
 }
@@ -182,6 +184,7 @@ fn named<'t>(
     stop: Option<Stop<'t>>,
     threads: &[ThreadProgram],
 ) -> Result<Target<'t>, ScheduleFault>
+    requires { length threads.now ≤ 65 }
     ensures { Says target_of result (named (map thread_name threads.now) at name.now (option_map stop_of stop.entry)) }
 {
     let Some(stop) = stop else {
@@ -191,7 +194,10 @@ fn named<'t>(
         return Err(ScheduleFault::BadItem { at });
     }
     match thread_named(threads, name) {
-        Some(thread) => Ok(Target { thread, stop }),
+        Some(thread) => Ok(Target {
+            thread: thread as u8,
+            stop,
+        }),
         None => Err(ScheduleFault::UnknownThread { at }),
     }
 }
@@ -203,7 +209,8 @@ pub fn read_target<'t>(
     mark: usize,
     threads: &[ThreadProgram],
 ) -> Result<Target<'t>, ScheduleFault>
-    requires { mark ≤ length item.now }
+    requires mark { mark ≤ length item.now }
+    requires few { length threads.now ≤ 65 }
     ensures { Says target_of result (target_said (map thread_name threads.now) at item.now mark) }
 {
     let (name, said) = item.split_at(mark);

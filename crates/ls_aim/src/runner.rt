@@ -131,14 +131,14 @@ impl<'a> Runner<'a> {
     }
 
     /// The run of a schedule.
-    pub fn after(alloc: Global, names: Names<'a>, steps: &[usize]) -> Result<Runner<'a>, AllocError>
+    pub fn after(alloc: Global, names: Names<'a>, steps: &[u8]) -> Result<Runner<'a>, AllocError>
         ensures run { IfOk result (λ r. run_in r ≡ run_of (names_of names.entry) steps.now) }
         ensures names { IfOk result (λ r. names_in r ≡ names_of names.entry) }
         ensures runs { IfOk result (λ r. RunsNamed r) }
     {
         let mut runner = Runner::new(alloc, names)?;
         for thread in steps {
-            let _did = runner.step(alloc, *thread)?;
+            let _did = runner.step(alloc, *thread as usize)?;
         }
         Ok(runner)
     }

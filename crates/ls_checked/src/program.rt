@@ -1,5 +1,7 @@
 // Thread programs whose names are resolved, with the texts that a history shows.
 
+ghost use Rattle.std.specs.Prelude.{◌≤◌, length};
+
 use ls_events::value::{Value, ValueType};
 
 /// A setup name, and the class of its object.
@@ -40,4 +42,6 @@ pub struct ThreadProgram {
 pub struct Program {
     pub names: Vec<SetupName>,
     pub threads: Vec<ThreadProgram>,
+    /// At most 64 threads follow the setup.
+    pub ghost few: { length threads.items ≤ 65 },
 }

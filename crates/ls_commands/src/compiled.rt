@@ -40,7 +40,7 @@ fn replayed(alloc: Global, image: &Image, cells: usize, schedule: &str) -> Resul
     ensures { Gives (Replayed image.now cells (schedule_of (names_of_image image.now) schedule.now)) result }
 {
     let schedule = read_schedule(alloc, schedule, image.program())?;
-    let record = ls_schedule::replay(alloc, image, cells, &schedule)?;
+    let record = ls_schedule::replay(alloc, image, cells, schedule)?;
     Ok(print_history(alloc, record.history(), image.program())?)
 }
 

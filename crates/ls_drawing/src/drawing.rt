@@ -293,7 +293,7 @@ pub(crate) fn push_graph(out: &mut String, scene: &Scene) -> Result<(), AllocErr
 /// The objects and the setup names after a schedule, as a graph in the language of Graphviz. The steps of the schedule
 /// are numbers of threads. There is a record for each object with its fields, and an arrow for each reference that
 /// isn't null. The only refusal is that memory ran out.
-pub fn drawing<'n>(alloc: Global, names: Names<'n>, steps: &[usize]) -> Result<String, AllocError>
+pub fn drawing<'n>(alloc: Global, names: Names<'n>, steps: &[u8]) -> Result<String, AllocError>
     ensures { IfOk result (λ text. string_bytes text ≡ drawing_text (names_of names.entry) steps.now) }
 {
     let scene = Scene::after(alloc, names, steps)?;

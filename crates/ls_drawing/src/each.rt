@@ -27,7 +27,7 @@ fn push_headed(out: &mut String, number: usize, scene: &Scene) -> Result<(), All
 pub fn drawings<'n>(
     alloc: Global,
     names: Names<'n>,
-    schedule: &[usize],
+    schedule: &[u8],
     from: usize,
     to: usize,
 ) -> Result<String, AllocError>
@@ -37,7 +37,7 @@ pub fn drawings<'n>(
     let mut out = String::new(alloc);
     let steps = &schedule[..to.min(schedule.len())];
     for (place, thread) in steps.iter().enumerate() {
-        scene.step(alloc, *thread)?;
+        scene.step(alloc, *thread as usize)?;
         let number = place + 1;
         if from <= number {
             push_headed(&mut out, number, &scene)?;

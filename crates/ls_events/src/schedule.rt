@@ -6,10 +6,10 @@ use std::marker::Model;
 /// The most steps of a schedule.
 pub const MOST_STEPS: usize = 1_000_000;
 
-/// Which thread takes each step of a run, by number: 0 is the setup. A number need not be that of a thread.
+/// Which thread takes each step of a run, by number: 0 is the setup. A number need not be that of a thread. A step takes one byte.
 #[derive(Drop)]
 pub struct Schedule {
-    steps: Vec<usize>,
+    steps: Vec<u8>,
 }
 
 impl Model for Schedule {
@@ -23,7 +23,7 @@ impl Model for Schedule {
 }
 
 impl Schedule {
-    ghost use Rattle.std.specs.Prelude.{◌≡◌, ◌<◌, ◌≤◌, ◌↔◌, ◌++◌, ◌∷◌, [], length, IfOk, IsTrue, OnOk, OnErr};
+    ghost use Rattle.std.specs.Prelude.{◌≡◌, ◌<◌, ◌≤◌, ◌+◌, ◌↔◌, ◌++◌, ◌∷◌, [], length, replicate, IfOk, IsTrue, OnOk, OnErr};
 
     /// The empty schedule.
     pub fn new(alloc: Global) -> Schedule
@@ -35,7 +35,7 @@ impl Schedule {
     }
 
     /// The schedule of these steps.
-    pub fn of(steps: Vec<usize>) -> Schedule
+    pub fn of(steps: Vec<u8>) -> Schedule
         requires { length steps.items ≤ 1000000 }
         ensures { result ≡ steps.items }
     {
@@ -43,7 +43,7 @@ impl Schedule {
     }
 
     /// The threads of the steps, in order.
-    pub fn steps(&self) -> &[usize]
+    pub fn steps(&self) -> &[u8]
         ensures { result.now ≡ self.now }
     {
         self.steps.as_slice()
@@ -84,12 +84,27 @@ impl Schedule {
         self.len() == MOST_STEPS
     }
 
+    /// Adds so many steps of one thread.
+    pub fn push_run(&mut self, thread: u8, count: usize) -> Result<(), AllocError>
+        requires { length self.old + count ≤ 1000000 }
+        ensures added { OnOk result (self.new ≡ self.old ++ replicate count thread) }
+        ensures unchanged { OnErr result (self.new ≡ self.old) }
+    {
+        self.steps.resize(self.steps.len() + count, thread)?;
+        Ok(())
+    }
+
     /// Adds a step.
-    pub fn push(&mut self, thread: usize) -> Result<(), AllocError>
+    #[inline(always)]
+    pub fn push(&mut self, thread: u8) -> Result<(), AllocError>
         requires { length self.old < 1000000 }
         ensures added { OnOk result (self.new ≡ self.old ++ thread ∷ []) }
         ensures unchanged { OnErr result (self.new ≡ self.old) }
     {
+        if self.steps.len() < self.steps.capacity() {
+            self.steps.push_reserved(thread);
+            return Ok(());
+        }
         self.steps.push(thread)?;
         Ok(())
     }

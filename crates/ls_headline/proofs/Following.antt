@@ -119,6 +119,7 @@ module _ (file : File) (program : Program) (code : Code) (asks : Asks file progr
   in_words_at ρ t Trapped IsStuck h = cc
   in_words_at ρ t Trapped TooLong h = cc
 
+  -- what the store's objects take is within the room of the cells
   pub used_length : (σ : List ValueType) (st : Store) (c : Cells) → StoreHolds σ st c → names + total st.things ≤ room
   used_length σ st c holds =
       omega (arith, ap length holds.words, length_all (renaming names st) st.names st.things, many_length σ st.names named holds.names, holds.within)

@@ -6,7 +6,7 @@ ghost use Rattle.ls_live_book.specs.Books.{IsKept};
 ghost use Rattle.ls_live_book.specs.Records.{IsRecordFrom};
 ghost use Rattle.ls_live_book.specs.Seats.{agrees, seat_of, told_agrees};
 ghost use Rattle.ls_schedule.specs.Records.{scheduled};
-ghost use Rattle.std.specs.Prelude.{◌≡◌, ◌==◌, ◌≤◌, ◌<◌, ℕ, List, [], length, count_by, vec_len, vec_capacity};
+ghost use Rattle.std.specs.Prelude.{◌≡◌, ◌==◌, ◌≤◌, ◌<◌, ℕ, List, [], false, length, count_by, vec_len, vec_capacity};
 
 use ls_code::step::{Did, ThreadState};
 use ls_events::schedule::Schedule;
@@ -72,7 +72,7 @@ impl Session for Brand {
 #[derive(Drop)]
 pub struct Book<L: Session> {
     machine: Machine,
-    schedule: Vec<usize>,
+    schedule: Vec<u8>,
     limit: usize,
     session: PhantomData<L>,
 }
@@ -87,7 +87,7 @@ impl<L: Session> Model for Book<L> {
 
 impl<L: Session> Book<L> {
     /// The book of a machine that has run nothing. It has room for as many steps as it may record.
-    pub fn new(machine: Machine, schedule: Vec<usize>, limit: usize) -> Book<L>
+    pub fn new(machine: Machine, schedule: Vec<u8>, limit: usize) -> Book<L>
         requires start { machine ≡ L.start }
         requires limit { limit ≡ L.limit }
         requires most { limit ≤ 1000000 }
@@ -129,6 +129,16 @@ impl<L: Session> Book<L> {
         matches!(self.machine.state_of(thread), ThreadState::NotStarted)
     }
 
+    // The entry of a thread that isn't over. So it is there.
+    #[tactic(auto, using(crate::proofs::Threads::is_there))]
+    fn entry_of(&self, thread: usize) -> u8
+        requires { is_over (machine_run L.start self.now) thread ≡ false }
+        ensures { result ≡ thread }
+    {
+        self.machine.has_few_threads();
+        thread as u8
+    }
+
     /// One step of a thread. Answers `Over` if no step will come of the thread, else `Full` if the book is full, else
     /// `Later` if the thread hasn't started. Else the thread makes a step, which is recorded. It takes no memory.
     #[tactic(auto, using(crate::proofs::Books::kept_on), unfolding(crate::specs::Answers::answer))]
@@ -145,8 +155,9 @@ impl<L: Session> Book<L> {
         if self.is_not_started(thread) {
             return More::Later;
         }
+        let entry = self.entry_of(thread);
         let did = self.machine.step(thread);
-        self.schedule.push_reserved(thread);
+        self.schedule.push_reserved(entry);
         More::Did(did)
     }
 
@@ -154,7 +165,10 @@ impl<L: Session> Book<L> {
     fn entries_of(&self, thread: usize) -> usize
         ensures { result ≡ count_by (λ t. t == thread) self.now }
     {
-        self.schedule.iter().filter(|t| **t == thread).count()
+        self.schedule
+            .iter()
+            .filter(|t| **t as usize == thread)
+            .count()
     }
 
     // Whether what a seat was told is so now.

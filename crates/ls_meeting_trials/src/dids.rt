@@ -57,11 +57,12 @@ fn work_all<'x, L: Session + Send + Sync, R: Threads + Wait + Sync>(
 }
 
 // The digests of what a machine does by these steps, one for each thread.
-fn stepped(machine: &mut Machine, steps: &[usize]) -> [u64; 3] {
+fn stepped(machine: &mut Machine, steps: &[u8]) -> [u64; 3] {
     let mut digests = [0; 3];
     for thread in steps {
-        let did = machine.step(*thread);
-        if let Some(digest) = digests.get_mut(*thread) {
+        let thread = usize::from(*thread);
+        let did = machine.step(thread);
+        if let Some(digest) = digests.get_mut(thread) {
             *digest = with_did(*digest, did);
         }
     }

@@ -47,12 +47,16 @@ fn counts_of<L: Session>(seats: &[Seat<L>]) -> [u64; 3] {
 fn are_counted(record: &Record, counts: &[u64; 3]) -> bool {
     let steps = record.schedule().steps();
     counts.iter().enumerate().all(|(thread, count)| {
-        steps.iter().filter(|step| **step == thread).count() as u64 == *count
+        steps
+            .iter()
+            .filter(|step| usize::from(**step) == thread)
+            .count() as u64
+            == *count
     })
 }
 
 fn replays(alloc: Global, image: &Image, record: &Record) -> Result<bool, Fail> {
-    let again = replay(alloc, image, CELLS, record.schedule())?;
+    let again = replay(alloc, image, CELLS, record.schedule().copied(alloc)?)?;
     Ok(again.history() == record.history())
 }
 

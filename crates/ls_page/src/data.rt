@@ -25,33 +25,28 @@ fn push_field(out: &mut String, key: &str, text: &str) -> Result<(), AllocError>
 }
 
 /// The first `count` steps, or all if there are fewer.
-pub fn first_steps(steps: &[usize], count: usize) -> &[usize]
+pub fn first_steps(steps: &[u8], count: usize) -> &[u8]
     ensures { result.now ≡ take count steps.now }
 {
     &steps[..count.min(steps.len())]
 }
 
 // The steps before a step. They are numbered from 1.
-fn steps_before(steps: &[usize], from: usize) -> &[usize]
+fn steps_before(steps: &[u8], from: usize) -> &[u8]
     ensures { result.now ≡ take (from - 1) steps.now }
 {
     first_steps(steps, from.saturating_sub(1))
 }
 
 /// What `source` prints of a run: the history of its steps. The only refusal is that memory ran out.
-pub fn history(alloc: Global, names: Names, steps: &[usize]) -> Result<String, AllocError>
+pub fn history(alloc: Global, names: Names, steps: &[u8]) -> Result<String, AllocError>
     ensures { IfOk result (λ text. string_bytes text ≡ history_text (names_of names.entry) steps.now) }
 {
     let events = play(alloc, names.file, names.program, steps)?;
     print_history(alloc, &events, names.program)
 }
 
-fn push_past(
-    alloc: Global,
-    out: &mut String,
-    names: Names,
-    steps: &[usize],
-) -> Result<(), AllocError>
+fn push_past(alloc: Global, out: &mut String, names: Names, steps: &[u8]) -> Result<(), AllocError>
     ensures { OnOk result (string_bytes out.new
         ≡ string_bytes out.old ++ field (codes "past") (history_text (names_of names.entry) steps.now)) }
 {
@@ -64,7 +59,7 @@ fn push_state(
     out: &mut String,
     names: Names,
     key: &str,
-    steps: &[usize],
+    steps: &[u8],
 ) -> Result<(), AllocError>
     ensures { OnOk result (string_bytes out.new
         ≡ string_bytes out.old ++ field key.now (state_text (names_of names.entry) steps.now)) }
@@ -77,7 +72,7 @@ fn push_trace(
     alloc: Global,
     out: &mut String,
     names: Names,
-    steps: &[usize],
+    steps: &[u8],
     window: Window,
 ) -> Result<(), AllocError>
     ensures { OnOk result (string_bytes out.new ≡ string_bytes out.old
@@ -108,7 +103,7 @@ fn push_before(
     alloc: Global,
     out: &mut String,
     names: Names,
-    steps: &[usize],
+    steps: &[u8],
 ) -> Result<(), AllocError>
     ensures { OnOk result (string_bytes out.new
         ≡ string_bytes out.old ++ before_text (names_of names.entry) steps.now) }
@@ -122,7 +117,7 @@ fn push_rest(
     alloc: Global,
     out: &mut String,
     names: Names,
-    steps: &[usize],
+    steps: &[u8],
     window: Window,
 ) -> Result<(), AllocError>
     ensures { OnOk result (string_bytes out.new
@@ -137,7 +132,7 @@ fn push_told(
     alloc: Global,
     out: &mut String,
     names: Names,
-    steps: &[usize],
+    steps: &[u8],
     window: Window,
 ) -> Result<(), AllocError>
     ensures { OnOk result (string_bytes out.new
@@ -154,7 +149,7 @@ fn push_run(
     out: &mut String,
     names: Names,
     texts: Texts,
-    steps: &[usize],
+    steps: &[u8],
     window: Window,
 ) -> Result<(), AllocError>
     ensures { OnOk result (string_bytes out.new ≡ string_bytes out.old
@@ -180,7 +175,7 @@ pub fn page_data(
     alloc: Global,
     names: Names,
     texts: Texts,
-    steps: &[usize],
+    steps: &[u8],
     window: Window,
 ) -> Result<String, AllocError>
     ensures { IfOk result (λ text. string_bytes text
@@ -198,7 +193,7 @@ pub fn page_data_with_order(
     alloc: Global,
     names: Names,
     texts: Texts,
-    steps: &[usize],
+    steps: &[u8],
     window: Window,
     judged: Judged,
 ) -> Result<String, AllocError>

@@ -26,7 +26,7 @@ fn judged(
     alloc: Global,
     wanted: Wanted,
     names: Names,
-    steps: &[usize],
+    steps: &[u8],
     order: &str,
 ) -> Result<String, ToolFault>
     requires { HistoriesRead (names_of names) }
@@ -41,7 +41,7 @@ fn judged(
 }
 
 // The page of a run.
-fn told(alloc: Global, wanted: Wanted, names: Names, steps: &[usize]) -> Result<String, ToolFault>
+fn told(alloc: Global, wanted: Wanted, names: Names, steps: &[u8]) -> Result<String, ToolFault>
     requires { HistoriesRead (names_of names) }
     ensures { Gives (TellsTo (wanted_of wanted.entry) (names_of names.entry) steps.now
         (wanted_of wanted.entry).order) result }

@@ -8,6 +8,7 @@ pub mod Passes
 pub mod Plain
 pub mod RoundTrip
 pub mod Runs
+pub mod Short
 pub mod Spoilt
 pub mod Steps
 pub mod Words

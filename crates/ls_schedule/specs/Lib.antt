@@ -5,3 +5,4 @@ pub mod Printing
 pub mod Reading
 pub mod Records
 pub mod RoundTrip
+pub mod Table

@@ -18,6 +18,7 @@ ghost use Rattle.ls_schedule.specs.Passing.{
 };
 ghost use Rattle.ls_schedule.specs.Pieces.{ends_word, pieces};
 ghost use Rattle.ls_schedule.specs.Reading.{group_schedule, thread_name};
+ghost use Rattle.ls_schedule.specs.Table.{IsShort, IsTable};
 ghost use Rattle.ls_schedule.specs.declared.fault.ScheduleFault.TheVariants.{BadItem};
 ghost use Rattle.std.specs.List.{range_with_len};
 ghost use Rattle.std.specs.Prelude.{
@@ -46,6 +47,7 @@ use crate::fault::ScheduleFault;
 use crate::pieces::{begins_group, is_gap, times_here, word_len};
 use crate::reading::{Said, all_threads, goes_on_with, read_item};
 use crate::repeating::goes_again;
+use crate::table::{Table, goes_on_once, short_item, table_of};
 use ls_checked::program::ThreadProgram;
 use ls_events::schedule::Schedule;
 use std::alloc::{AllocError, Global};
@@ -184,6 +186,7 @@ fn read_word(
     joined: bool,
     threads: &[ThreadProgram],
 ) -> Result<Said, ScheduleFault>
+    requires { length threads.now ≤ 65 }
     ensures { Says (view (length threads.now)) result (capped_item (map thread_name threads.now) at word.now joined) }
 {
     if joined {
@@ -256,7 +259,7 @@ impl Reader {
         Ok(())
     }
 
-    fn add_item(&mut self, said: Said, all: &[usize]) -> Result<(), AllocError>
+    fn add_item(&mut self, said: Said, all: &[u8]) -> Result<(), AllocError>
         requires { length self.old.schedule ≤ 1000000 }
         ensures groups { self.new.open_groups.items ≡ self.old.open_groups.items }
         ensures filled { OnOk result (self.new.filled ≡ true) }
@@ -325,10 +328,11 @@ impl Reader {
         at: usize,
         text: &[u8],
         threads: &[ThreadProgram],
-        all: &[usize],
+        all: &[u8],
     ) -> Result<usize, ScheduleFault>
         requires some { 0 < length text.now }
         requires first { ends_word (slice_index text.now 0) ≡ false }
+        requires threads { length threads.now ≤ 65 }
         requires few { length self.old.schedule ≤ 1000000 }
         ensures passes { all.now ≡ range_with_len 1 (length threads.now - 1) → Passes (map thread_name threads.now) self.old self.new at text.now result }
         ensures few { length self.new.schedule ≤ 1000000 }
@@ -350,9 +354,10 @@ impl Reader {
         at: usize,
         text: &[u8],
         threads: &[ThreadProgram],
-        all: &[usize],
+        all: &[u8],
     ) -> Result<usize, ScheduleFault>
         requires some { 0 < length text.now }
+        requires threads { length threads.now ≤ 65 }
         requires few { length self.old.schedule ≤ 1000000 }
         ensures passes { all.now ≡ range_with_len 1 (length threads.now - 1) → Passes (map thread_name threads.now) self.old self.new at text.now result }
         ensures few { length self.new.schedule ≤ 1000000 }
@@ -368,6 +373,41 @@ impl Reader {
             return self.pass_closing(at, text);
         }
         self.pass_word(at, text, threads, all)
+    }
+
+    // A text that begins with an item of one byte and a gap.
+    #[inline(always)]
+    fn pass_short(&mut self, thread: u8) -> Result<usize, ScheduleFault>
+        requires { length self.old.schedule ≤ 1000000 }
+        ensures passes { (names : List (List ℕ)) (table : List ℕ) (at : ℕ) (text : List ℕ) → IsTable names table → IsShort table text thread → Passes names self.old self.new at text result }
+        ensures few { length self.new.schedule ≤ 1000000 }
+    {
+        self.fits = goes_on_once(self.fits, &mut self.schedule, thread)?;
+        self.filled = true;
+        Ok(2)
+    }
+
+    // The first pieces of a text: an item of one byte with a gap, or one piece.
+    #[inline(always)]
+    fn pass_on(
+        &mut self,
+        at: usize,
+        text: &[u8],
+        threads: &[ThreadProgram],
+        all: &[u8],
+        table: &Table,
+    ) -> Result<usize, ScheduleFault>
+        requires some { 0 < length text.now }
+        requires threads { length threads.now ≤ 65 }
+        requires table { IsTable (map thread_name threads.now) table.now }
+        requires few { length self.old.schedule ≤ 1000000 }
+        ensures passes { all.now ≡ range_with_len 1 (length threads.now - 1) → Passes (map thread_name threads.now) self.old self.new at text.now result }
+        ensures few { length self.new.schedule ≤ 1000000 }
+    {
+        match short_item(table, text) {
+            Some(thread) => self.pass_short(thread),
+            None => self.pass(at, text, threads, all),
+        }
     }
 
     fn finish(self) -> Result<Schedule, ScheduleFault>
@@ -399,16 +439,18 @@ pub fn read_groups(
     start: usize,
     threads: &[ThreadProgram],
 ) -> Result<Schedule, ScheduleFault>
-    requires { start ≤ length text.now }
+    requires start { start ≤ length text.now }
+    requires threads { length threads.now ≤ 65 }
     ensures { Gives (λ s. s) result (group_schedule (map thread_name threads.now) (pieces start (drop start text.now))) }
 {
     let numbers = all_threads(alloc, threads.len())?;
     let all = numbers.as_slice();
+    let table = table_of(threads);
     let mut reader = Reader::new(alloc);
     let mut at = start;
     let mut rest = text.split_at(start).1;
     'pieces: while !rest.is_empty() {
-        let len = reader.pass(at, rest, threads, all)?;
+        let len = reader.pass_on(at, rest, threads, all, &table)?;
         rest = rest.split_at(len).1;
         at += len;
     }

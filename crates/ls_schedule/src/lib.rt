@@ -9,7 +9,8 @@ mod printing;
 mod reading;
 mod repeating;
 mod replaying;
+mod table;
 
 pub use printing::print_schedule;
-pub use reading::read_schedule;
+pub use reading::{count, read_schedule};
 pub use replaying::{Record, replay};

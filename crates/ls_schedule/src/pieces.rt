@@ -28,7 +28,7 @@ pub fn is_gap(b: u8) -> bool
     b == b' ' || b == b'\t' || b == b'\r' || b == b'\n'
 }
 
-fn ends_word(b: u8) -> bool
+pub fn ends_word(b: u8) -> bool
     ensures { result ≡ ends_word b }
 {
     is_gap(b) || b == b'(' || b == b')'

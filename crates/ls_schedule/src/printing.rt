@@ -23,7 +23,7 @@ use std::alloc::{AllocError, Global};
 use std::fmt::Write;
 
 // How many steps of the thread stand first.
-fn run_len(thread: usize, steps: &[usize]) -> usize
+fn run_len(thread: u8, steps: &[u8]) -> usize
     ensures len { result ≡ prefix_len (λ t. t == thread) steps.now }
     ensures within { result ≤ length steps.now }
 {
@@ -37,10 +37,10 @@ fn run_len(thread: usize, steps: &[usize]) -> usize
     len
 }
 
-fn name_at(threads: &[ThreadProgram], thread: usize) -> &str
+fn name_at(threads: &[ThreadProgram], thread: u8) -> &str
     ensures { result.now ≡ name_of (map thread_name threads.now) thread }
 {
-    match threads.get(thread) {
+    match threads.get(usize::from(thread)) {
         Some(found) => found.name.as_str(),
         None => "",
     }
@@ -58,7 +58,7 @@ fn push_times(out: &mut String, count: usize) -> Result<(), AllocError>
 fn push_item(
     out: &mut String,
     threads: &[ThreadProgram],
-    thread: usize,
+    thread: u8,
     count: usize,
 ) -> Result<(), AllocError>
     ensures { OnOk result (string_bytes out.new ≡ string_bytes out.old ++ item_text (map thread_name threads.now) (thread, count)) }

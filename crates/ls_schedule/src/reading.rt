@@ -25,10 +25,13 @@ ghost use Rattle.std.specs.Prelude.{
   ◌==◌,
   ◌-◌,
   ◌++◌,
+  ◌∷◌,
+  [],
   ◌⊎◌,
   ℕ,
   IfErr,
   IfOk,
+  IfSome,
   IsErrOf,
   OnOk,
   Some,
@@ -45,6 +48,7 @@ ghost use Rattle.std.specs.Str.{bytes_eq};
 use crate::fault::ScheduleFault;
 use crate::groups::read_groups;
 use crate::pieces::after_version;
+use crate::table::{goes_on_once, short_item, table_of};
 use ls_checked::program::{Program, ThreadProgram};
 use ls_events::schedule::{MOST_STEPS, Schedule};
 use ls_items::item_len;
@@ -56,7 +60,7 @@ const MOST_COUNT: u64 = 1_000_001;
 // Which threads an item names.
 #[derive(Copy)]
 pub enum Who {
-    One(usize),
+    One(u8),
     All,
 }
 
@@ -113,7 +117,7 @@ fn value(digits: &[u8]) -> u64
     number
 }
 
-// The number of times, where the text has the form of a count.
+/// The number of times, if the text has the form of a count. A number above 1,000,000 is taken for 1,000,001.
 pub fn count(text: &[u8]) -> Option<u64>
     ensures { result ≡ option_map (λ n. min n 1000001) (count_of text.now) }
 {
@@ -125,7 +129,8 @@ pub fn count(text: &[u8]) -> Option<u64>
 }
 
 fn thread_at(threads: &[ThreadProgram], name: &[u8]) -> Option<usize>
-    ensures { result ≡ position (λ t. bytes_eq (thread_name t) name.now) threads.now }
+    ensures place { result ≡ position (λ t. bytes_eq (thread_name t) name.now) threads.now }
+    ensures within { IfSome result (λ i. i < length threads.now) }
 {
     threads.iter().position(|t| t.name.as_bytes() == name)
 }
@@ -133,26 +138,29 @@ fn thread_at(threads: &[ThreadProgram], name: &[u8]) -> Option<usize>
 // The thread of that name.
 #[tactic(auto, using(crate::proofs::Named::position_map))]
 fn thread_named(threads: &[ThreadProgram], name: &[u8]) -> Option<usize>
-    ensures { result ≡ position (λ n. bytes_eq n name.now) (map thread_name threads.now) }
+    ensures place { result ≡ position (λ n. bytes_eq n name.now) (map thread_name threads.now) }
+    ensures within { IfSome result (λ i. i < length threads.now) }
 {
     thread_at(threads, name)
 }
 
 // Which threads the name stands for.
 fn threads_behind(threads: &[ThreadProgram], name: &[u8]) -> Option<Who>
+    requires { length threads.now ≤ 65 }
     ensures { option_map (threads_of (length threads.now)) result ≡ threads_named (map thread_name threads.now) name.now }
 {
     if name == b"all".as_slice() {
         return Some(Who::All);
     }
     match thread_named(threads, name) {
-        Some(thread) => Some(Who::One(thread)),
+        Some(thread) => Some(Who::One(thread as u8)),
         None => None,
     }
 }
 
 // An item: a name, and where a star follows it a count.
 pub fn read_item(at: usize, item: &[u8], threads: &[ThreadProgram]) -> Result<Said, ScheduleFault>
+    requires { length threads.now ≤ 65 }
     ensures { Says (view (length threads.now)) result (capped_turns (map thread_name threads.now) (at, item.now)) }
 {
     let (name, count) = match star_at(item) {
@@ -178,7 +186,7 @@ fn star_at(item: &[u8]) -> Option<usize>
 }
 
 // Appends the threads once.
-fn push_all(schedule: &mut Schedule, threads: &[usize]) -> Result<(), ScheduleFault>
+fn push_all(schedule: &mut Schedule, threads: &[u8]) -> Result<(), ScheduleFault>
     requires { length schedule.old ≤ 1000000 }
     ensures ok { OnOk result (schedule.new ≡ schedule.old ++ threads.now) }
     ensures few { length schedule.new ≤ 1000000 }
@@ -195,7 +203,7 @@ fn push_all(schedule: &mut Schedule, threads: &[usize]) -> Result<(), ScheduleFa
 }
 
 // Appends the threads so many times.
-fn append(schedule: &mut Schedule, threads: &[usize], count: u64) -> Result<(), ScheduleFault>
+fn append(schedule: &mut Schedule, threads: &[u8], count: u64) -> Result<(), ScheduleFault>
     requires { length schedule.old ≤ 1000000 }
     ensures ok { OnOk result (schedule.new ≡ schedule.old ++ repeated count threads.now) }
     ensures few { length schedule.new ≤ 1000000 }
@@ -212,18 +220,19 @@ fn append(schedule: &mut Schedule, threads: &[usize], count: u64) -> Result<(), 
 }
 
 // The numbers of all threads but the setup.
-pub fn all_threads(alloc: Global, threads: usize) -> Result<Vec<usize>, AllocError>
+pub fn all_threads(alloc: Global, threads: usize) -> Result<Vec<u8>, AllocError>
+    requires { threads ≤ 65 }
     ensures { IfOk result (λ v. v.items ≡ range_with_len 1 (threads - 1)) }
 {
     let mut all = Vec::new(alloc);
     for before in 0..threads.saturating_sub(1) {
-        all.push(before + 1)?;
+        all.push((before + 1) as u8)?;
     }
     Ok(all)
 }
 
 // Appends the threads so many times, and tells whether the steps fit then.
-fn goes_on(schedule: &mut Schedule, threads: &[usize], count: u64) -> Result<bool, AllocError>
+fn goes_on(schedule: &mut Schedule, threads: &[u8], count: u64) -> Result<bool, AllocError>
     requires { length schedule.old ≤ 1000000 }
     ensures more { IfOk result (λ fits. so_far fits schedule.new ≡ more_steps (Some schedule.old) threads.now count) }
     ensures few { length schedule.new ≤ 1000000 }
@@ -236,12 +245,26 @@ fn goes_on(schedule: &mut Schedule, threads: &[usize], count: u64) -> Result<boo
     }
 }
 
+// Appends so many steps of a thread, and tells whether the steps fit then.
+fn goes_on_by(schedule: &mut Schedule, thread: u8, count: u64) -> Result<bool, AllocError>
+    requires { length schedule.old ≤ 1000000 }
+    ensures more { IfOk result (λ fits. so_far fits schedule.new ≡ more_steps (Some schedule.old) (thread ∷ []) count) }
+    ensures few { length schedule.new ≤ 1000000 }
+{
+    let room = MOST_STEPS - schedule.len();
+    if count > room as u64 {
+        return Ok(false);
+    }
+    schedule.push_run(thread, count as usize)?;
+    Ok(true)
+}
+
 // Appends the steps of an item if those so far fit, and tells whether they all do.
 pub fn goes_on_with(
     fits: bool,
     schedule: &mut Schedule,
     said: Said,
-    all: &[usize],
+    all: &[u8],
 ) -> Result<bool, AllocError>
     requires { length schedule.old ≤ 1000000 }
     ensures more { (names : ℕ) → all.now ≡ range_with_len 1 (names - 1) → IfOk result (λ now. so_far now schedule.new ≡ more_steps (so_far fits schedule.old) (threads_of names said.who) said.count) }
@@ -251,7 +274,7 @@ pub fn goes_on_with(
         return Ok(false);
     }
     match said.who {
-        Who::One(thread) => goes_on(schedule, &[thread], said.count),
+        Who::One(thread) => goes_on_by(schedule, thread, said.count),
         Who::All => goes_on(schedule, all, said.count),
     }
 }
@@ -263,15 +286,23 @@ fn read_steps(
     text: &[u8],
     threads: &[ThreadProgram],
 ) -> Result<Schedule, ScheduleFault>
+    requires { length threads.now ≤ 65 }
     ensures { Gives (λ s. s) result (capped_schedule (map thread_name threads.now) text.now) }
 {
     let numbers = all_threads(alloc, threads.len())?;
     let all = numbers.as_slice();
+    let table = table_of(threads);
     let mut schedule = Schedule::new(alloc);
     let mut fits = true;
     let mut at = 0;
     let mut rest = text;
     while !rest.is_empty() {
+        if let Some(thread) = short_item(&table, rest) {
+            fits = goes_on_once(fits, &mut schedule, thread)?;
+            rest = rest.split_at(2).1;
+            at += 2;
+            continue;
+        }
         let len = item_len(rest);
         if len == 0 {
             rest = &rest[1..];

@@ -54,15 +54,14 @@ pub fn replay(
     alloc: Global,
     image: &Image,
     cells: usize,
-    schedule: &Schedule,
+    schedule: Schedule,
 ) -> Result<Record, LoadFault>
     ensures bad { IsErrOf result LoadFault.BadCells ↔ AreBadCells (code_of_image image.now).names cells }
-    ensures record { IfOk result (IsRecordOf (code_of_image image.now) cells schedule.now) }
+    ensures record { IfOk result (IsRecordOf (code_of_image image.now) cells schedule) }
     ensures image { ∥ RunsAsItsTexts image.now ∥₁ }
 {
     runs(image);
     let mut machine = Machine::load(alloc, image.code(), cells)?;
-    let schedule = schedule.copied(alloc)?;
     machine.run(&schedule);
     Ok(Record::new(schedule, machine))
 }

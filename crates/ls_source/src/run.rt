@@ -315,13 +315,13 @@ pub fn play(
     alloc: Global,
     file: &File,
     program: &Program,
-    steps: &[usize],
+    steps: &[u8],
 ) -> Result<Vec<Event>, AllocError>
     ensures { IfOk result (λ es. es.items ≡ source_history (plain_file file.now) (plain_program program.now) steps.now) }
 {
     let mut run = SourceRun::new(alloc, file, program)?;
     for thread in steps {
-        let _did = run.step(alloc, *thread)?;
+        let _did = run.step(alloc, *thread as usize)?;
     }
     Ok(run.into_history())
 }

@@ -33,7 +33,7 @@ fn push_headed(
 pub fn states<'n>(
     alloc: Global,
     names: Names<'n>,
-    schedule: &[usize],
+    schedule: &[u8],
     from: usize,
     to: usize,
 ) -> Result<String, AllocError>
@@ -43,7 +43,7 @@ pub fn states<'n>(
     let mut out = String::new(alloc);
     let steps = &schedule[..to.min(schedule.len())];
     for (place, thread) in steps.iter().enumerate() {
-        scene.step(alloc, *thread)?;
+        scene.step(alloc, *thread as usize)?;
         let number = place + 1;
         if from <= number {
             push_headed(alloc, &mut out, number, &scene)?;

@@ -66,7 +66,7 @@ impl<'n> Scene<'n> {
     }
 
     /// The run of a program for a schedule.
-    pub fn after(alloc: Global, names: Names<'n>, steps: &[usize]) -> Result<Scene<'n>, AllocError>
+    pub fn after(alloc: Global, names: Names<'n>, steps: &[u8]) -> Result<Scene<'n>, AllocError>
         ensures names { IfOk result (λ s. names_in s ≡ names_of names.entry) }
         ensures own { IfOk result (λ s. IsOwn s) }
         ensures scene { IfOk result (λ s. scene_seen s ≡ scene_of (names_of names.entry) steps.now) }
@@ -74,7 +74,7 @@ impl<'n> Scene<'n> {
         let mut run = SourceRun::new(alloc, names.file, names.program)?;
         let mut labels = Vec::new(alloc);
         for thread in steps {
-            let did = run.step(alloc, *thread)?;
+            let did = run.step(alloc, *thread as usize)?;
             keep_label(&mut labels, did)?;
         }
         Ok(Scene { names, run, labels })

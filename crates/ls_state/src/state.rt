@@ -23,7 +23,7 @@ pub(crate) fn push_state(alloc: Global, out: &mut String, scene: &Scene) -> Resu
 
 /// What holds after a schedule, whose steps are numbers of threads: a line for each object, each setup name and each thread. Refused
 /// where memory runs out.
-pub fn state<'n>(alloc: Global, names: Names<'n>, steps: &[usize]) -> Result<String, AllocError>
+pub fn state<'n>(alloc: Global, names: Names<'n>, steps: &[u8]) -> Result<String, AllocError>
     ensures { IfOk result (λ text. string_bytes text ≡ state_text (names_of names.entry) steps.now) }
 {
     let scene = Scene::after(alloc, names, steps)?;

@@ -148,7 +148,7 @@ impl<'a> Folder<'a> {
 pub fn folded_trace(
     alloc: Global,
     names: Names,
-    schedule: &[usize],
+    schedule: &[u8],
     from: usize,
     to: usize,
 ) -> Result<String, AllocError>
@@ -159,7 +159,8 @@ pub fn folded_trace(
     let steps = &schedule[..to.min(schedule.len())];
     for (place, thread) in steps.iter().enumerate() {
         let number = place + 1;
-        folder.step(alloc, &mut text, number, *thread, from <= number)?;
+        let thread = *thread as usize;
+        folder.step(alloc, &mut text, number, thread, from <= number)?;
     }
     folder.push_open(&mut text)?;
     Ok(text)

@@ -13,7 +13,7 @@ use std::alloc::{AllocError, Global};
 pub fn trace(
     alloc: Global,
     names: Names,
-    schedule: &[usize],
+    schedule: &[u8],
     from: usize,
     to: usize,
 ) -> Result<String, AllocError>
@@ -23,10 +23,11 @@ pub fn trace(
     let mut text = String::new(alloc);
     let steps = &schedule[..to.min(schedule.len())];
     for (place, thread) in steps.iter().enumerate() {
-        let did = teller.step(alloc, *thread)?;
+        let thread = *thread as usize;
+        let did = teller.step(alloc, thread)?;
         let number = place + 1;
         if from <= number {
-            teller.push_line(alloc, &mut text, number, *thread, did)?;
+            teller.push_line(alloc, &mut text, number, thread, did)?;
         }
     }
     Ok(text)

@@ -26,7 +26,7 @@ use std::snapshot::Snapshot;
 pub struct About {
     pub code: Snapshot<Code>,
     pub cells: usize,
-    pub tape: Snapshot<Vec<usize>>,
+    pub tape: Snapshot<Vec<u8>>,
     pub seats: usize,
 }
 

@@ -49,7 +49,7 @@ use std::snapshot::Snapshot;
 #[derive(Drop)]
 pub struct Turnstile {
     table: MachineTable,
-    tape: Vec<usize>,
+    tape: Vec<u8>,
     seats: usize,
 }
 
@@ -183,7 +183,7 @@ impl Turnstile {
         if place >= self.tape.len() {
             return Turn::Over;
         }
-        if self.tape[place] != thread {
+        if self.tape[place] as usize != thread {
             return Turn::NotYet { place };
         }
         self.take(&mut seat.seat, found);
@@ -318,7 +318,7 @@ fn seat_of(
 }
 
 // The record, where the seat stands for all seats.
-fn finish(table: MachineTable, all: Seat<Machine, View>, mut tape: Vec<usize>) -> Record
+fn finish(table: MachineTable, all: Seat<Machine, View>, mut tape: Vec<u8>) -> Record
     requires id { (all.table_id ≡ table.shared.table_id) × (table.shared.table_id.words ≡ 1) × (table.shared.table_id.slots ≡ 1) }
     requires all { (table.shared.key.seats ≤ all.me.0.parts) × (all.me.0.out ≡ 0) }
     requires tape { tape.items ≡ table.shared.key.tape.value.items }

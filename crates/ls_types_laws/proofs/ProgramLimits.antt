@@ -201,6 +201,10 @@ tokens_read : (o : Outcome) (ks : Option (List Lexeme)) → Reads IsRangedProgra
 tokens_read o None = tt
 tokens_read o (Some ks) = whole_reads (after o (Some beginning) ks) (after_room o (Some beginning) ks (record { calls = omega arith; few = omega arith; each = tt; names = omega arith }))
 
+-- a program that is read from tokens keeps the limits
+pub tokens_ranged : (o : Outcome) (ks : Option (List Lexeme)) (p : Program) → program_of_tokens o ks ≡ Some p → IsRangedProgram p
+tokens_ranged o ks p e = subst (Reads IsRangedProgram) e (tokens_read o ks)
+
 text_reads : (o : Outcome) (b : Bool) (text : Text) → Reads IsRangedProgram (if b then program_of_tokens o (tokens_of text) else None)
 text_reads o true text = tokens_read o (tokens_of text)
 text_reads o false text = tt

@@ -1,2 +1,3 @@
 pub mod ByName
+pub mod FewThreads
 pub mod Standing

@@ -64,14 +64,14 @@ pub fn names_in<'n>(checked: &'n Checked, program: &'n Program) -> Names<'n>
 }
 
 // So many steps, or all if there are fewer.
-fn first_steps(steps: &[usize], count: usize) -> &[usize]
+fn first_steps(steps: &[u8], count: usize) -> &[u8]
     ensures { result.now ≡ take count steps.now }
 {
     &steps[..count.min(steps.len())]
 }
 
 /// What is shown of the run of a schedule.
-fn shown(alloc: Global, view: View, names: Names, steps: &[usize]) -> Result<String, AllocError>
+fn shown(alloc: Global, view: View, names: Names, steps: &[u8]) -> Result<String, AllocError>
     ensures { IfOk result (λ text. string_bytes text ≡ shown view (names_of names.entry) steps.now) }
 {
     match view {

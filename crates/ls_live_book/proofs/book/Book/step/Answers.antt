@@ -12,4 +12,4 @@ invariant_of-self g c =
     rw c.self.view_is (sym c.is_not_started.ensures ∙ c.if-is_not_started.false) in
     let less : length c.self.inside.schedule.items ≢ c.self.inside.limit = omega arith in
     let kept = kept_on _ _ _ _ _ _ _ c.self.invariant.0 c.step-did.ensures.machine over started less in
-    (rw c.push_reserved.ensures.items kept, omega arith, omega arith)
+    (rw c.push_reserved.ensures.items (rw c.entry_of-entry.ensures kept), omega arith, omega arith)
