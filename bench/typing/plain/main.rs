@@ -16,7 +16,7 @@ mod ls_parser_tokens;
 mod ls_tree;
 mod ls_types;
 mod ls_types_files;
-mod ls_types_operators;
+mod ls_types_expressions;
 mod ls_types_signs;
 mod ls_types_tables;
 mod memory;

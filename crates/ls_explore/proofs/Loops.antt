@@ -3,7 +3,7 @@ use Rattle.std.proofs.Common.{◌≡◌, ℕ, ◌+◌, ◌<◌, List, [], ◌∷
 use Rattle.std.specs.Prelude.{IfSome}
 use Rattle.ls_code.specs.Machine.{Machine, loaded, machine_run}
 use Rattle.ls_code.specs.declared.step.Did.{Did}
-use Rattle.ls_ends.specs.Acting.{first_did}
+use Rattle.ls_headline.specs.Acting.{first_did}
 use Rattle.ls_headline.proofs.Lists.{index_there}
 use Rattle.ls_explore.specs.Walks.{root_of, walked}
 use Rattle.ls_explore.specs.Searches.{AllAct, Grows, IsClosedTo, IsSeen, IsSound, Leads, seen_with}

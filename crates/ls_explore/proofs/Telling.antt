@@ -17,7 +17,7 @@ use Rattle.ls_code.specs.declared.step.Did.{Did}
 use Rattle.ls_code.specs.declared.step.Did.TheVariants as did
 use Rattle.ls_headline.specs.Translations.{most_silent, to_source}
 use Rattle.ls_headline.proofs.Lists.{get_left, get_right, get_within, get_there, get_map, index_there}
-use Rattle.ls_ends.specs.Acting.{first_did}
+use Rattle.ls_headline.specs.Acting.{first_did}
 use Rattle.ls_explore_laws.specs.Bursts.{ActsAlong, IsClosed, burst}
 use Rattle.ls_explore_laws.specs.Ends.{AreQuiet, HasSteps, IsEnd as IsEndOf, IsQuiet}
 use Rattle.ls_explore_laws.specs.Explored.{IsBeginning, IsRoomy, IsSetUp, IsShown}

@@ -11,7 +11,7 @@ use Rattle.ls_code.specs.Code.{Code}
 use Rattle.ls_code.specs.Machine.{Machine, loaded, machine_run}
 use Rattle.ls_code.specs.declared.step.Did.TheVariants as did
 use Rattle.ls_headline.specs.Same.{Fits, IsCells}
-use Rattle.ls_ends.specs.Acting.{ActsInTime, first_did}
+use Rattle.ls_headline.specs.Acting.{ActsInTime, first_did}
 use Rattle.ls_explore_laws.specs.Bursts.{ActsAlong, burst}
 use Rattle.ls_explore_laws.specs.Ends.{AreQuiet, HasSteps, IsOver}
 use Rattle.ls_explore_laws.specs.Explored.{HasHistories, IsBeginning, IsSetUp}

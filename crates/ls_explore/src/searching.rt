@@ -3,7 +3,7 @@
 ghost use Rattle.std.specs.Prelude.{◌≡◌, ℕ, ◌<◌, ◌≤◌, ◌+◌, ◌⊎◌, ◌++◌, [], ◌∷◌, false, length, IfNone, IfOk, IfSome, OnOk, IsTrue, Contains, slice_index_or};
 ghost use Rattle.ls_code.specs.Machine.{Machine as MachineValue};
 ghost use Rattle.ls_machine.specs.Saved.{standing};
-ghost use Rattle.ls_ends.specs.Acting.{first_did};
+ghost use Rattle.ls_headline.specs.Acting.{first_did};
 ghost use Rattle.ls_explore_laws.specs.Bursts.{IsClosed};
 ghost use Rattle.ls_explore.specs.Walks.{led_to, root_of, walked};
 ghost use Rattle.ls_explore.specs.Searches.{AllAct, AreDistinct, AreSaved, Grows, IsClosedTo, IsSound, Leads, StandOnce, paths_of, seen_with};

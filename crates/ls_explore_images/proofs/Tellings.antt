@@ -12,7 +12,7 @@ use Rattle.ls_code.specs.Code.{Code}
 use Rattle.ls_code.specs.Machine.{Entry as MachineEntry, loaded, machine_run, machine_trace, setup_ended}
 use Rattle.ls_headline.specs.Same.{IsCells}
 use Rattle.ls_headline.specs.Translations.{to_source}
-use Rattle.ls_ends.specs.Acting.{ActsInTime}
+use Rattle.ls_headline.specs.Acting.{ActsInTime}
 use Rattle.ls_linker_laws.specs.Runs.{Runs}
 use Rattle.ls_translation.specs.RoundTrips.{acting_steps}
 use Rattle.ls_translation.proofs.Promises.{back_history}

@@ -19,7 +19,7 @@ use Rattle.ls_code.specs.declared.step.Did.TheVariants as machine_did
 use Rattle.ls_headline.specs.Same.{Fits, IsCells}
 use Rattle.ls_headline.specs.Translations.{most_silent, to_source}
 use Rattle.ls_headline.proofs.Runs.{trace-append}
-use Rattle.ls_ends.specs.Acting.{ActsInTime, ActsAs, StepsAs, acts_or_stops, first_did, has_room}
+use Rattle.ls_headline.specs.Acting.{ActsInTime, ActsAs, StepsAs, acts_or_stops, first_did, has_room}
 use Rattle.ls_explore_laws.specs.Bursts.{burst, IsClosed}
 use Rattle.ls_explore_laws.specs.Explored.{HasHistories, IsSetUp}
 use Rattle.ls_explore_laws.specs.Ends.{AreQuiet, Ends, EndsWhole, HasSteps, IsEnd, IsOver, IsQuiet, IsStill, StandsStill, StandsStillAlong}

@@ -3,7 +3,7 @@ use Rattle.std.proofs.Common.{◌≡◌, ◌⊎◌, inl, inr, ℕ, zero, suc, �
 use Rattle.std.proofs.lemmas.Bool.{cases_lt}
 use Rattle.ls_code.specs.Machine.{Machine, machine_step}
 use Rattle.ls_code.specs.declared.step.Did.TheVariants as did
-use Rattle.ls_ends.specs.Acting.{first_did, or_later}
+use Rattle.ls_headline.specs.Acting.{first_did, or_later}
 use Rattle.ls_explore_laws.specs.Bursts.{IsSilentTo, NeverActs, acted_or, burst}
 
 -- so many steps of the thread are silent

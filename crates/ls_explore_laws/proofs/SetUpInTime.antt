@@ -27,8 +27,8 @@ use Rattle.ls_headline.specs.Translations.{has_setup_ended, most_silent, setup_e
 use Rattle.ls_headline.proofs.Lists.{get_map, get_there, set_other, set_same}
 use Rattle.ls_headline.proofs.Runs.{run-append, trace-append}
 use Rattle.ls_headline.proofs.Shorter.{shorter}
-use Rattle.ls_ends.specs.InTime.{EndsInTime, StandsAs, next_of}
-use Rattle.ls_ends.specs.Acting.{ActsInTime, ActsAs, StepsAs, acts_or_stops, first_did, has_room, or_later}
+use Rattle.ls_headline.specs.InTime.{EndsInTime, StandsAs, next_of}
+use Rattle.ls_headline.specs.Acting.{ActsInTime, ActsAs, StepsAs, acts_or_stops, first_did, has_room, or_later}
 use Rattle.ls_explore_laws.specs.Explored.{SetsUp}
 use Rattle.ls_explore_laws.proofs.Open.{IsReady}
 use Rattle.ls_explore_laws.proofs.SettingUp.{one_more}

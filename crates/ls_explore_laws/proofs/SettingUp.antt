@@ -17,7 +17,7 @@ use Rattle.ls_code.specs.Machine.{Machine}
 use Rattle.ls_headline.specs.Same.{Fits, IsCells}
 use Rattle.ls_headline.specs.Translations.{most_silent, has_setup_ended}
 use Rattle.ls_headline.proofs.Shorter.{shorter}
-use Rattle.ls_ends.specs.Acting.{ActsInTime}
+use Rattle.ls_headline.specs.Acting.{ActsInTime}
 use Rattle.ls_explore_laws.specs.Bursts.{IsClosed}
 use Rattle.ls_explore_laws.specs.Explored.{HasHistories, IsBeginning, IsRoomy, IsSetUp, IsShown}
 use Rattle.ls_explore_laws.proofs.SourceSteps.{Like, like_itself, like_more, like_still, idle_still}

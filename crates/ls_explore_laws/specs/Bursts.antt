@@ -3,7 +3,7 @@ use Rattle.std.specs.Prelude.{◌≡◌, ℕ, zero, suc, ◌<◌, List, [], ◌�
 use Rattle.ls_code.specs.Machine.{Machine, machine_step}
 use Rattle.ls_code.specs.declared.step.Did.{Did}
 use Rattle.ls_code.specs.declared.step.Did.TheVariants as did
-use Rattle.ls_ends.specs.Acting.{first_did}
+use Rattle.ls_headline.specs.Acting.{first_did}
 
 -- what a step comes to: the machine after it where it acts, what comes later where it is silent
 abbrev pub acted_or : Did → Machine → Option Machine → Option Machine

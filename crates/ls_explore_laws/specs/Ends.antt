@@ -13,7 +13,7 @@ use Rattle.ls_code.specs.declared.step.Did.{Did as MachineDid}
 use Rattle.ls_code.specs.declared.step.Did.TheVariants as machine_did
 use Rattle.ls_headline.specs.Same.{Fits, IsCells}
 use Rattle.ls_headline.specs.Translations.{to_source, most_silent}
-use Rattle.ls_ends.specs.Acting.{ActsInTime, first_did}
+use Rattle.ls_headline.specs.Acting.{ActsInTime, first_did}
 use Rattle.ls_explore_laws.specs.Bursts.{ActsAlong, IsClosed, burst}
 use Rattle.ls_explore_laws.specs.Explored.{HasHistories, IsRoomy, IsSetUp}
 

@@ -9,7 +9,7 @@ use Rattle.ls_lowered.specs.Words.{kind_word, kind_of}
 use Rattle.ls_lowered.specs.Course.{Answers, Course, Asks, Ends, Stuck, Calls, finish}
 use Rattle.ls_lowered.specs.Statements.{Completion, Normal, Returned, Threw, Left, Go, on_normal, on_any, on_throw, on_leave, throw, execute, execute_all, leave_to}
 use Rattle.ls_finally_exits.specs.Exits.{Exit, LeaveOut, ReturnOut, exits, replaced, exit_of, ways, finally_of}
-use Rattle.ls_finally_ways.specs.Ways.{both}
+use Rattle.ls_finally_copies.specs.Ways.{both}
 use Rattle.ls_finally.specs.Agreement.{Agree, Fits}
 use Rattle.ls_finally.proofs.Agreeing.{finish_finish, Above, above_refl, agree_slot}
 use Rattle.ls_finally.proofs.Alike.{same}

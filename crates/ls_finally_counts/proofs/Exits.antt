@@ -3,7 +3,7 @@ use Rattle.std.proofs.Common.{◌≡◌, ℕ, suc, ◌+◌, ◌*◌, ◌≤◌, 
 use Rattle.ls_lowered.specs.LoweredTree.{Statement, Block, SetLocal, SetField, AddField, SetItem, Evaluate, If, While, Return, Try, Guarded, Throw, Leavable, Leave, Statements, Done, Then}
 use Rattle.ls_finally_exits.specs.Exits.{outward, count, Exit, LeaveOut, ReturnOut, leave_exit, exits, all_exits, or_leave, replaced, all_replaced, exit_of, ways, finally_of}
 use Rattle.ls_finally_exits.proofs.Numbers.{is_inside}
-use Rattle.ls_finally_ways.specs.Ways.{both}
+use Rattle.ls_finally_copies.specs.Ways.{both}
 use Rattle.ls_finally_counts.proofs.Outward.{inward, outs, beyond_both}
 use Rattle.ls_finally_counts.proofs.Flats.{HasNoTry, HaveNoTry}
 use Rattle.ls_finally_counts.proofs.Products.{two_more}

@@ -1,7 +1,7 @@
 -- `try b finally f` by copies of f, where b and f have no `try` left (JLS 14.20.2). Each exit of b gets its own copy, and
 -- none of them lies in the region that is guarded.
 use Rattle.std.specs.Prelude.{ℕ, zero, suc, ◌+◌, List, [], ◌∷◌, ◌++◌, length, Option, Some, None}
-use Rattle.ls_finally_ways.specs.Ways.{both, guarded, first_ways}
+use Rattle.ls_finally_copies.specs.Ways.{both, guarded, first_ways}
 use Rattle.ls_lowered.specs.LoweredTree.{Statement, Block, SetLocal, SetField, AddField, SetItem, Evaluate, If, While, Return, Try, Guarded, Throw, Leavable, Leave, Statements, Done, Then, Local}
 
 -- how far a leave goes beyond so many numbers

@@ -8,12 +8,12 @@ ghost use Rattle.ls_lowered.specs.LoweredTree.{Statements, SetLocal, Leavable, L
 ghost use Rattle.ls_lowered.specs.Plain.{plain, plain_statement, statements_of};
 ghost use Rattle.ls_finally_exits.specs.Exits.{count, exits, all_exits, exit_of, replaced, all_replaced, ways, finally_of};
 ghost use Rattle.ls_finally_exits.specs.Numbers.{numbers, all_numbers};
-ghost use Rattle.ls_finally_ways.specs.Ways.{both, first_ways};
+ghost use Rattle.ls_finally_copies.specs.Ways.{both, first_ways};
 ghost use Rattle.ls_finally_exits.specs.PlainExits.{plain_exit, plain_exits};
 
 use crate::exits::{Exit, beyond, collect_exits, within};
 use ls_finally_copies::copy::{block_of, copy_expression, copy_statement, leavable_of};
-use ls_finally_ways::ways::{copied_before, first_ways, guarded, in_turn};
+use ls_finally_copies::ways::{copied_before, first_ways, guarded, in_turn};
 use ls_lowered::tree::{Expression, Statement};
 use ls_together::{also, in_box, put};
 use std::alloc::{AllocError, Global};

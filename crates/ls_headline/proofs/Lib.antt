@@ -33,3 +33,12 @@ mod OwnParts
 mod Meets
 mod FedByWords
 mod AskedByWords
+pub mod Reached
+pub mod Quieted
+pub mod Once
+pub mod Alone
+pub mod LocksAct
+pub mod Read
+pub mod Acts
+pub mod Endless
+pub mod Refused

@@ -7,3 +7,6 @@ pub mod Same
 pub mod Example
 pub mod Rows
 pub mod ByWords
+pub mod InTime
+pub mod Acting
+pub mod WrongImages

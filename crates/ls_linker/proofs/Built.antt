@@ -11,7 +11,7 @@ use Rattle.ls_emit_laws.specs.Units.{CodeUnit, units_of}
 use Rattle.ls_emit_laws.specs.Emittable.{IsEmittableFile}
 use Rattle.ls_emit.specs.Short.{AllShort}
 use Rattle.ls_linker_laws.specs.Linked.{linked}
-use Rattle.ls_linker_ranges.specs.Links.{Links}
+use Rattle.ls_linker_bounds.specs.Links.{Links}
 use Rattle.ls_linker_laws.specs.Compiled.{flat_of, code_of}
 use Rattle.std.specs.Prelude.{List}
 

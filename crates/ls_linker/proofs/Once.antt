@@ -7,7 +7,7 @@ use Rattle.ls_checked.specs.CheckedProgram.{Program, ThreadProgram}
 use Rattle.ls_code.specs.Code.{Code, Start}
 use Rattle.ls_code.specs.declared.code.Method.{Method}
 use Rattle.ls_headline.specs.Threads.{calls_of}
-use Rattle.ls_ends.proofs.Once.{acting_prop, ends_prop}
+use Rattle.ls_headline.proofs.Once.{acting_prop, ends_prop}
 use Rattle.ls_linker_laws.specs.Runs.{Runs}
 
 inner : {A : Type 0} {x y : A} → Some x ≡ Some y → x ≡ y

@@ -17,7 +17,7 @@ use Rattle.ls_emit.specs.declared.fault.EmitFault.{EmitFault}
 use Rattle.ls_emit.specs.declared.fault.EmitFault.TheVariants as emit
 use Rattle.ls_emit_laws.specs.Units.{CodeUnit, units_of, file_size}
 use Rattle.ls_linker_laws.specs.Linked.{linked}
-use Rattle.ls_linker_sizes.specs.Floor.{CodeHoldsMethods, KeepsFloor}
+use Rattle.ls_linker_bounds.specs.Floor.{CodeHoldsMethods, KeepsFloor}
 use Rattle.ls_linker.specs.declared.fault.LinkFault.{LinkFault}
 use Rattle.ls_linker.specs.declared.fault.LinkFault.TheVariants as link
 use Rattle.ls_linker.specs.declared.fault.BuildFault.TheVariants.{Lower, Emit, Link}

@@ -9,8 +9,8 @@ use Rattle.ls_emit_laws.specs.Units.{CodeUnit}
 use Rattle.ls_headline.specs.Threads.{call_result}
 use Rattle.ls_linker_laws.specs.Threads.{thread_size}
 use Rattle.ls_linker_laws.specs.Linked.{linked, words_of, units_code, method_rows, starts}
-use Rattle.ls_linker_ranges.specs.Landing.{UnitLands}
-use Rattle.ls_linker_ranges.specs.Links.{ThreadLinks, Links}
+use Rattle.ls_linker_bounds.specs.Landing.{UnitLands}
+use Rattle.ls_linker_bounds.specs.Links.{ThreadLinks, Links}
 use Rattle.ls_linker.specs.Added.{AddsUnits}
 use Rattle.ls_linker.proofs.Wholes.{units_length}
 

@@ -4,7 +4,7 @@ ghost use Rattle.std.specs.Prelude.{◌≡◌, ◌<◌, ◌≤◌, All, Err, IfO
 ghost use Rattle.ls_checked.specs.Plain.{plain_class, plain_file};
 ghost use Rattle.ls_checked.specs.PlainProgram.{plain_program};
 ghost use Rattle.ls_linker_laws.specs.Linked.{linked, class_size as the_size};
-ghost use Rattle.ls_linker_ranges.specs.Links.{ThreadLinks, Links};
+ghost use Rattle.ls_linker_bounds.specs.Links.{ThreadLinks, Links};
 ghost use Rattle.ls_linker.specs.Added.{AddsThreads, first_parts as the_first};
 ghost use Rattle.ls_linker.specs.declared.fault.LinkFault.TheVariants as faults;
 

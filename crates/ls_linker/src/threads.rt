@@ -8,7 +8,7 @@ ghost use Rattle.ls_headline.specs.Threads.{call_result as the_result, result_ty
 ghost use Rattle.ls_meaning.specs.Expressions.{constructor_of as the_constructor};
 ghost use Rattle.ls_linker_laws.specs.Threads.{pushes, result_code, call_code, calls_code, call_need as the_need, calls_need as the_needs};
 ghost use Rattle.ls_code.specs.declared.instruction.Instruction.TheVariants as op;
-ghost use Rattle.ls_linker_ranges.specs.Links.{IsWritten, CallLinks, ThreadLinks};
+ghost use Rattle.ls_linker_bounds.specs.Links.{IsWritten, CallLinks, ThreadLinks};
 ghost use Rattle.ls_linker.specs.Added.{Adds, AddsThreads, PushesThread};
 
 use ls_checked::program::{ProgramCall, ThreadProgram};

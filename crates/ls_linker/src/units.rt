@@ -2,7 +2,7 @@
 
 ghost use Rattle.std.specs.Prelude.{◌≡◌, ◌++◌, ◌+◌, ◌*◌, ◌^◌, ◌≤◌, ◌∷◌, [], All, OnOk, length, map};
 ghost use Rattle.ls_emit_laws.specs.Units.{moved as the_moved, moved_row as the_moved_row};
-ghost use Rattle.ls_linker_ranges.specs.Landing.{Lands, RowLands, UnitLands};
+ghost use Rattle.ls_linker_bounds.specs.Landing.{Lands, RowLands, UnitLands};
 ghost use Rattle.ls_linker.specs.Added.{AddsUnits};
 
 use ls_code::code::{HandlerRow, Method, Parts};

@@ -6,8 +6,8 @@ use Rattle.ls_code.specs.Code.{Code}
 use Rattle.ls_headline.specs.Same.{Same}
 use Rattle.ls_headline.specs.Threads.{Asks}
 use Rattle.ls_headline.specs.ByWords.{AsksByWords}
-use Rattle.ls_ends.specs.InTime.{EndsInTime}
-use Rattle.ls_ends.specs.Acting.{ActsInTime}
+use Rattle.ls_headline.specs.InTime.{EndsInTime}
+use Rattle.ls_headline.specs.Acting.{ActsInTime}
 use Rattle.ls_emit_laws.specs.Units.{units_of}
 use Rattle.ls_linker_laws.specs.Quick.{KeepsFrames}
 use Rattle.ls_linker_laws.specs.Own.{ThreadsAreQuick}

@@ -5,7 +5,7 @@ use Rattle.ls_events.specs.declared.value.ValueType.TheVariants as types
 use Rattle.ls_checked.specs.CheckedTree as checked
 use Rattle.ls_checked.specs.CheckedTree.{Statement, Block, SetSlot, SetField, AddField, SetItem, Evaluate, If, While, Break, Continue, ReturnNothing, ReturnValue, Try, Statements, Done, Then}
 use Rattle.ls_meaning.specs.Statements.{execute}
-use Rattle.ls_types_completion.specs.Completion.{can_complete}
+use Rattle.ls_types_judgement.specs.Completion.{can_complete}
 use Rattle.ls_types_elaboration.specs.declared.known.FoundField.{FoundField}
 use Rattle.ls_types_elaboration.specs.declared.rule.Rule.TheVariants as rules
 use Rattle.ls_types_elaboration.specs.Trees as parsed

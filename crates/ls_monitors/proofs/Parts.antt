@@ -2,7 +2,7 @@
 use Rattle.std.proofs.Common.{◌≡◌, Bool, true, false, ◌&&◌, ◌||◌, refl, arith}
 use Rattle.ls_events.specs.declared.value.ValueType.TheVariants as types
 use Rattle.ls_meaning.specs.declared.sort.Sort.TheVariants.{NoValue}
-use Rattle.ls_types_completion.specs.Completion.{can_complete, breaks}
+use Rattle.ls_types_judgement.specs.Completion.{can_complete, breaks}
 use Rattle.ls_monitors.specs.Laws.{CompletesAsItsBlock, BreaksAsItsBlock, JumpsAsItsBlock, TakesThreeMore, IsTypedByItsParts}
 
 and_true : (a : Bool) → ((a && true) && true) ≡ a

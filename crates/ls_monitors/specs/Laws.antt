@@ -4,8 +4,8 @@ use Rattle.ls_events.specs.declared.value.ValueType.{ValueType}
 use Rattle.ls_events.specs.declared.value.ValueType.TheVariants as types
 use Rattle.ls_checked.specs.CheckedTree.{File, Method, Expression, Statement}
 use Rattle.ls_meaning.specs.declared.sort.Sort.TheVariants.{ValueOf}
-use Rattle.ls_types_completion.specs.Completion.{can_complete, breaks}
-use Rattle.ls_types_completion.specs.Jumps.{JumpsInLoops}
+use Rattle.ls_types_judgement.specs.Completion.{can_complete, breaks}
+use Rattle.ls_types_judgement.specs.Leaving.{JumpsInLoops}
 use Rattle.ls_types_judgement.specs.Typing.{IsTyped, IsTypedStatement}
 use Rattle.ls_refs_expressions.specs.Temporaries.{temporaries, locals_of}
 use Rattle.ls_types_elaboration.specs.Monitors.{synchronized}

@@ -16,7 +16,7 @@ use Rattle.ls_meaning.specs.Course.{Answers, Evaluated, Throws, ask}
 use Rattle.ls_meaning.specs.Expressions.{Calls, constructor_of}
 use Rattle.ls_lowered.specs.Words as words
 use Rattle.ls_lowered.specs.Course as low
-use Rattle.ls_refs_calls.specs.ValueWords.{value_word}
+use Rattle.ls_refs_expressions.specs.ValueWords.{value_word}
 use Rattle.ls_types_judgement.specs.Sorts.{HasType, HasSort}
 use Rattle.ls_types_judgement.specs.Typing.{IsTyped, AreTyped, result_type, answer_sort, parameters_of}
 use Rattle.ls_refs_expressions.specs.Temporaries.{temporaries}

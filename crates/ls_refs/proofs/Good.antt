@@ -13,7 +13,7 @@ use Rattle.ls_meaning.specs.Course.{Answers, Evaluated, Asks, Results, Throws, w
 use Rattle.ls_meaning.specs.Expressions.{Calls, evaluate, arguments}
 use Rattle.ls_lowered.specs.Course as low
 use Rattle.ls_lowered.specs.Expressions.{find, find_all}
-use Rattle.ls_refs_calls.specs.ValueWords.{value_word}
+use Rattle.ls_refs_expressions.specs.ValueWords.{value_word}
 use Rattle.ls_types_judgement.specs.Sorts.{HasType, HasSort, HaveTypes}
 use Rattle.ls_types_judgement.specs.Typing.{answer_sort, parameters_of}
 use Rattle.ls_refs_expressions.specs.Temporaries.{temporaries, all_temporaries}

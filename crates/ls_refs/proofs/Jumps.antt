@@ -9,7 +9,7 @@ use Rattle.ls_checked.specs.declared.tree.Statement.TheBlock.{hidden-the_row-Sta
 use Rattle.ls_checked.specs.declared.tree.Statement.TheVariants.{Block'}
 use Rattle.ls_checked.specs.Plain.{statements_of, plain_statement}
 use Rattle.ls_checked.specs.CheckedTree.{Statement, Block, SetSlot, SetField, AddField, SetItem, Evaluate, If, While, Break, Continue, ReturnNothing, ReturnValue, Try, Statements, Done, Then, Method, File}
-use Rattle.ls_types_completion.specs.Jumps.{JumpsInLoops, JumpInLoops}
+use Rattle.ls_types_judgement.specs.Leaving.{JumpsInLoops, JumpInLoops}
 use Rattle.ls_types_judgement.specs.Jumps.{HasItsLoops}
 use Rattle.ls_refs.proofs.Rows.{block_read}
 use Rattle.ls_refs.specs.Loops.{loops, block_loops, JumpsBelow, JumpBelow}

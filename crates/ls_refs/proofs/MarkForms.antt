@@ -18,7 +18,7 @@ use Rattle.ls_lowered.specs.Words as words
 use Rattle.ls_lowered.specs.LoweredTree as trees
 use Rattle.ls_lowered.specs.Course as low
 use Rattle.ls_lowered.specs.Expressions.{find}
-use Rattle.ls_refs_calls.specs.ValueWords.{value_word}
+use Rattle.ls_refs_expressions.specs.ValueWords.{value_word}
 use Rattle.ls_types_judgement.specs.Sorts.{HasType, HasSort}
 use Rattle.ls_refs_expressions.specs.Temporaries.{temporaries}
 use Rattle.ls_refs_expressions.specs.Lowered.{lowered}

@@ -19,7 +19,7 @@ use Rattle.ls_lowered.specs.Course as low
 use Rattle.ls_lowered.specs.Statements as does
 use Rattle.ls_lowered.specs.Methods as courses
 use Rattle.ls_lowered.specs.Methods.{invoke as word_invoke}
-use Rattle.ls_refs_calls.specs.ValueWords.{value_word, IsSmall}
+use Rattle.ls_refs_expressions.specs.ValueWords.{value_word, IsSmall}
 use Rattle.ls_types_judgement.specs.Sorts.{HasType, HasSort, HaveTypes}
 use Rattle.ls_types_judgement.specs.Typing.{IsTypedMethod, IsTypedFile, answer_sort, parameters_of}
 use Rattle.ls_refs_expressions.specs.Temporaries.{statement_temporaries}

@@ -27,7 +27,7 @@ use Rattle.ls_lowered.specs.Course as low
 use Rattle.ls_lowered.specs.Expressions.{find}
 use Rattle.ls_lowered.specs.Statements as does
 use Rattle.ls_lowered.specs.Methods.{told}
-use Rattle.ls_refs_calls.specs.ValueWords.{value_word}
+use Rattle.ls_refs_expressions.specs.ValueWords.{value_word}
 use Rattle.ls_types_judgement.specs.Sorts.{HasType, HasSort}
 use Rattle.ls_types_judgement.specs.Typing.{IsTyped, IsTypedStatement, AreTypedStatements}
 use Rattle.ls_refs_expressions.specs.Temporaries.{temporaries, statement_temporaries, block_temporaries}

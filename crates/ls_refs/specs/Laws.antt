@@ -13,7 +13,7 @@ use Rattle.ls_meaning.specs.Course.{Answers, Evaluated, Asks, Results, Throws}
 use Rattle.ls_meaning.specs.Methods.{invoke}
 use Rattle.ls_lowered.specs.Course as lowered
 use Rattle.ls_lowered.specs.Methods as courses
-use Rattle.ls_refs_calls.specs.ValueWords.{value_word, IsSmall}
+use Rattle.ls_refs_expressions.specs.ValueWords.{value_word, IsSmall}
 use Rattle.ls_types_judgement.specs.Sorts.{HasSort, HaveTypes}
 use Rattle.ls_types_judgement.specs.Typing.{parameters_of}
 use Rattle.ls_refs_expressions.specs.Lowered.{lowered_file}

@@ -5,7 +5,7 @@ ghost use Rattle.ls_checked.specs.Plain.{plain_method as checked_method, plain_c
 ghost use Rattle.ls_lowered.specs.Plain.{plain_method, plain_file};
 ghost use Rattle.ls_refs_expressions.specs.Temporaries.{locals_of};
 ghost use Rattle.ls_refs_expressions.specs.Lowered.{lowered_method, lowered_file};
-ghost use Rattle.ls_types_completion.specs.Jumps.{JumpsInLoops};
+ghost use Rattle.ls_types_judgement.specs.Leaving.{JumpsInLoops};
 ghost use Rattle.ls_types_judgement.specs.Jumps.{HasItsLoops};
 ghost use Rattle.ls_refs.specs.Refused.{AllFit, AllSlotted, Refused};
 

@@ -1,2 +1,4 @@
 pub mod Temporaries
 pub mod Lowered
+pub mod ValueWords
+pub mod Calls

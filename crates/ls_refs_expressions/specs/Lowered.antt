@@ -4,8 +4,8 @@ use Rattle.ls_checked.specs.CheckedTree as checked
 use Rattle.ls_lowered.specs.declared.tree.UnaryOperator.TheVariants as unary
 use Rattle.ls_lowered.specs.LoweredTree.{Expression, Word, Local, Unary, Binary, And, Or, Field, Item, MakeObject, MakeLock, MakeMarkable, MakeArray, Expressions, End, More, Statement, Block, SetLocal, SetField, AddField, SetItem, Evaluate, If, While, Return, Try, Leavable, Leave, Statements, Done, Then, Method, File}
 use Rattle.ls_meaning.specs.Expressions.{constructor_of}
-use Rattle.ls_refs_calls.specs.ValueWords.{value_word}
-use Rattle.ls_refs_calls.specs.Calls.{lowered_operator, own_temporaries, first_of, second_of, pack, lowered_call}
+use Rattle.ls_refs_expressions.specs.ValueWords.{value_word}
+use Rattle.ls_refs_expressions.specs.Calls.{lowered_operator, own_temporaries, first_of, second_of, pack, lowered_call}
 use Rattle.ls_refs_expressions.specs.Temporaries.{temporaries, statement_temporaries}
 
 abbrev mutual

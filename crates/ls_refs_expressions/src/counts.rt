@@ -3,11 +3,11 @@
 ghost use Rattle.std.specs.Prelude.{◌≡◌, ℕ, ◌+◌, ◌≤◌};
 ghost use Rattle.std.specs.Option.{SomeIff};
 ghost use Rattle.ls_checked.specs.Plain.{plain as checked, all_plain as all_checked};
-ghost use Rattle.ls_refs_calls.specs.Calls.{own_temporaries as those_of};
+ghost use Rattle.ls_refs_expressions.specs.Calls.{own_temporaries as those_of};
 ghost use Rattle.ls_refs_expressions.specs.Temporaries.{temporaries, all_temporaries};
 
 use ls_checked::tree::{Expression, Expressions};
-use ls_refs_calls::calls::own_temporaries;
+use crate::calls::own_temporaries;
 
 /// The most locals of a method.
 pub const MOST_LOCALS: usize = 128;

@@ -9,7 +9,7 @@ ghost use Rattle.ls_refs_expressions.specs.Lowered.{lowered, all_lowered};
 
 use ls_checked::tree::{Class, Expression, Expressions};
 use ls_lowered::tree::{Expression as Tree, Expressions as Trees, UnaryOperator};
-use ls_refs_calls::calls::{
+use crate::calls::{
     call, constructor_of, operator, own_temporaries, pack_arguments, value_word,
 };
 use ls_together::also;

@@ -2,5 +2,6 @@
 //! what a call becomes whose target and arguments are lowered.
 #![tactic(auto)]
 
+pub mod calls;
 pub mod counts;
 pub mod expressions;

@@ -10,8 +10,8 @@ use Rattle.ls_checked.specs.CheckedProgram.{ThreadProgram, ProgramCall, Making, 
 use Rattle.ls_meaning.specs.declared.sort.Sort.TheVariants.{NoValue}
 use Rattle.ls_types_judgement.specs.Typing.{IsTypedMethod, IsTypedFile, parameters_of}
 use Rattle.ls_headline.specs.Example.{file, program}
-use Rattle.ls_types_completion.specs.Completion.{can_complete}
-use Rattle.ls_types_completion.specs.Jumps.{JumpsInLoops}
+use Rattle.ls_types_judgement.specs.Completion.{can_complete}
+use Rattle.ls_types_judgement.specs.Leaving.{JumpsInLoops}
 use Rattle.ls_types_judgement.specs.Classes.{HasItsClasses}
 use Rattle.ls_types_judgement.specs.Jumps.{HasItsLoops, HasItsEnds}
 use Rattle.ls_types_judgement.specs.Limits.{IsRanged, IsRangedProgram}

@@ -17,7 +17,7 @@ use Rattle.ls_meaning.specs.Methods.{invoke}
 use Rattle.ls_meaning.specs.Threads.{Next, Goes, Ended, Trapped}
 use Rattle.ls_lowered.specs.Course as low
 use Rattle.ls_lowered.specs.Methods as courses
-use Rattle.ls_refs_calls.specs.ValueWords.{value_word, IsSmall}
+use Rattle.ls_refs_expressions.specs.ValueWords.{value_word, IsSmall}
 use Rattle.ls_types_judgement.specs.Sorts.{HasType, HasSort, HaveTypes}
 use Rattle.ls_types_judgement.specs.Typing.{IsTypedFile, answer_sort, parameters_of}
 use Rattle.ls_refs_expressions.specs.Lowered.{lowered_file}

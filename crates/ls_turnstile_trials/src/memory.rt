@@ -5,7 +5,7 @@ ghost use Rattle.std.specs.Prelude.{All};
 
 use crate::seats::{CELLS, key, opened, step};
 use crate::texts::{STEPPER, TWO_STEP};
-use ls_hoard::Hoard;
+use ls_lent_images::Hoard;
 use ls_image::image::Image;
 use ls_lent_images::with_image;
 use ls_machine::LoadFault;

@@ -10,7 +10,7 @@ use Rattle.ls_types_elaboration.specs.Trees as parsed
 use Rattle.ls_types_elaboration.specs.Elaborated.{Elaborated, with_ok, unless_broken, each}
 use Rattle.ls_types_elaboration.specs.Known.{Known, field_of, type_of, result_of}
 use Rattle.ls_types_elaboration.specs.TypedExpressions.{fitting}
-use Rattle.ls_types_completion.specs.Completion.{can_complete}
+use Rattle.ls_types_judgement.specs.Completion.{can_complete}
 use Rattle.ls_types_elaboration.specs.Scopes.{Body, with_unnamed, Scope, with_variable, may_declare}
 use Rattle.ls_types_elaboration.specs.Monitors.{synchronized}
 use Rattle.ls_types_elaboration.specs.TypedStatements.{sequence, items}

@@ -27,7 +27,7 @@ use ls_types_elaboration::static_types::{
     Static, Typed, as_array, as_type, as_value, result_type, typed_as,
 };
 use ls_types_elaboration::together::also;
-use ls_types_operators::operators::{Spans, binary_of, unary_of};
+use crate::operators::{Spans, binary_of, unary_of};
 use ls_types_tables::known::{Known, field_of};
 use ls_types_tables::members::{maker_of, markable_maker, member_of, own_member};
 use std::alloc::{AllocError, Global};

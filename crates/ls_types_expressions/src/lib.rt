@@ -3,6 +3,7 @@
 
 pub mod assignments;
 pub mod expressions;
+pub mod operators;
 pub mod places;
 pub mod simples;
 pub mod site;

@@ -2,7 +2,7 @@
 use Rattle.std.proofs.Common.{◌≡◌, ℕ, zero, suc, ◌+◌, ◌-◌, ◌<◌, refl, sym, ap, ◌∙◌, arith, Bool, true, false, ◌&&◌, ◌||◌, nat_eq, List, [], ◌∷◌, ◌++◌}
 use Rattle.std.specs.Prelude.{if◌then◌else◌}
 use Rattle.ls_checked.specs.CheckedTree.{Statement, Block, If, While, Break, Try, Statements, Done, Then}
-use Rattle.ls_types_completion.specs.Completion.{breaks, any_breaks, can_complete}
+use Rattle.ls_types_judgement.specs.Completion.{breaks, any_breaks, can_complete}
 use Rattle.ls_types_files.specs.Left.{outward, has, left, all_left}
 
 or_assoc : (a b c : Bool) → ((a || b) || c) ≡ (a || (b || c))

@@ -1,7 +1,7 @@
 -- The loops that a `break` in a statement can leave, counted outward from the innermost loop around the statement.
 use Rattle.std.specs.Prelude.{ℕ, zero, suc, Bool, false, ◌||◌, nat_eq, List, [], ◌∷◌, ◌++◌, if◌then◌else◌}
 use Rattle.ls_checked.specs.CheckedTree.{Statement, Block, If, While, Break, Try, Statements, Done, Then}
-use Rattle.ls_types_completion.specs.Completion.{can_complete}
+use Rattle.ls_types_judgement.specs.Completion.{can_complete}
 
 -- the loops as counted from outside of the innermost loop, which is left out
 abbrev pub outward : List ℕ → List ℕ

@@ -4,7 +4,7 @@ ghost use Rattle.std.specs.Prelude.{◌≡◌, ◌++◌, [], IfOk, OnOk, if◌th
 ghost use Rattle.ls_checked.specs.Plain.{plain, plain_statement};
 ghost use Rattle.ls_types_elaboration.specs.TypedStatements.{sequence};
 ghost use Rattle.ls_types_files.specs.Left.{outward as the_outward, has as the_has, left as the_left, all_left as the_all_left};
-ghost use Rattle.ls_types_completion.specs.Completion.{is_true as the_true, can_complete as the_can_complete, all_complete as the_all_complete};
+ghost use Rattle.ls_types_judgement.specs.Completion.{is_true as the_true, can_complete as the_can_complete, all_complete as the_all_complete};
 
 use ls_checked::tree::{Expression, Statement};
 use ls_events::value::Value;

@@ -3,7 +3,7 @@
 ghost use Rattle.std.specs.Prelude.{◌≡◌, ◌≤◌, ◌&&◌, ◌∷◌, [], IfOk, Ok, OnOk, is_some, map, option_map};
 ghost use Rattle.ls_events.specs.declared.value.ValueType.TheVariants.{Class as class_type};
 ghost use Rattle.ls_checked.specs.CheckedTree.{Method as checked_method};
-ghost use Rattle.ls_types_completion.specs.Completion.{all_complete as the_all_complete};
+ghost use Rattle.ls_types_judgement.specs.Completion.{all_complete as the_all_complete};
 ghost use Rattle.ls_types_elaboration.specs.declared.rule.Rule.TheVariants.{MissingReturn};
 ghost use Rattle.ls_types_elaboration.specs.Answers.{Gives, Leads};
 ghost use Rattle.ls_types_elaboration.specs.TypedStatements.{sequence};

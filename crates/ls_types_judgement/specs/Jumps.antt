@@ -1,8 +1,8 @@
 -- Checked files in which each jump has its loop, and each method its value.
 use Rattle.std.specs.Prelude.{◌≡◌, ℕ, true, false, Some, is_some, slice_get}
 use Rattle.ls_checked.specs.CheckedTree.{Method, File}
-use Rattle.ls_types_completion.specs.Completion.{can_complete}
-use Rattle.ls_types_completion.specs.Jumps.{JumpsInLoops}
+use Rattle.ls_types_judgement.specs.Completion.{can_complete}
+use Rattle.ls_types_judgement.specs.Leaving.{JumpsInLoops}
 
 abbrev pub HasItsLoops : File → Type 0
 HasItsLoops file = (n : ℕ) (m : Method) → slice_get file.methods n ≡ Some m → JumpsInLoops 0 m.body

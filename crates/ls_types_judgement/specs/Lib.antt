@@ -5,3 +5,8 @@ pub mod Jumps
 pub mod Limits
 pub mod Programs
 pub mod WellTyped
+pub mod Completion
+pub mod Leaving
+pub mod Ends
+pub mod Ways
+pub mod CompletionLaws

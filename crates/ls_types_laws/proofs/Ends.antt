@@ -11,13 +11,13 @@ use Rattle.ls_types_elaboration.specs.Trees.{Text, Name, Expression, TypeName, D
 use Rattle.ls_types_elaboration.specs.Elaborated.{Elaborated, each}
 use Rattle.ls_types_elaboration.specs.Known.{Known, ClassSign, field_of, type_of, result_of}
 use Rattle.ls_types_elaboration.specs.TypedExpressions.{fitting}
-use Rattle.ls_types_completion.specs.Completion.{can_complete}
+use Rattle.ls_types_judgement.specs.Completion.{can_complete}
 use Rattle.ls_types_elaboration.specs.Scopes.{Body, Scope}
 use Rattle.ls_types_elaboration.specs.TypedStatements.{sequence, items}
 use Rattle.ls_types_elaboration.specs.TypedMethods.{parameter, field_set, declarator_set, member_set, initialisers, finished, with_unnamed_slot, all_items, method, written_method, written_constructor, one_method, has_constructor, default_constructor, class_methods}
 use Rattle.ls_types_elaboration.specs.Signs.{class_names, class_signs}
 use Rattle.ls_types_elaboration.specs.Elaboration.{Bodies, one_body, file_methods, Outcome, elaborated}
-use Rattle.ls_types_completion.specs.Jumps.{JumpsInLoops}
+use Rattle.ls_types_judgement.specs.Leaving.{JumpsInLoops}
 use Rattle.ls_types_judgement.specs.Jumps.{HasItsLoops, HasItsEnds}
 use Rattle.ls_types_laws.proofs.Results.{Gives, bind, after, unless, each_keeps, gives_of}
 use Rattle.ls_types_laws.proofs.Lists.{Each, each_push, each_at}

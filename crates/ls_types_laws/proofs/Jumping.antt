@@ -10,7 +10,7 @@ use Rattle.ls_types_elaboration.specs.declared.rule.Rule.TheVariants as rules
 use Rattle.ls_types_elaboration.specs.Trees.{Text, Name}
 use Rattle.ls_types_elaboration.specs.Elaborated.{Elaborated}
 use Rattle.ls_types_elaboration.specs.TypedStatements.{Loop, Loops, is_target, loop_named, found_loop, jump, continued, fresh_label, sequence}
-use Rattle.ls_types_completion.specs.Jumps.{JumpsInLoops, JumpInLoops}
+use Rattle.ls_types_judgement.specs.Leaving.{JumpsInLoops, JumpInLoops}
 use Rattle.ls_types_laws.proofs.Results.{Gives, unless}
 use Rattle.ls_types_laws.proofs.Lists.{Each}
 

@@ -23,3 +23,4 @@ pub mod ProgramCalls
 pub mod ProgramSteps
 pub mod ProgramLimits
 pub mod WellTyped
+pub mod FittingBodies

@@ -13,7 +13,7 @@ use Rattle.ls_types_elaboration.specs.Known.{Known, Local, local_named, type_of}
 use Rattle.ls_types_elaboration.specs.TypedExpressions.{typed, fitting}
 use Rattle.ls_types_elaboration.specs.Scopes.{Body, Slots, with_unnamed, Scope, most_slots, start_of, with_variable, with_statement, may_declare, initialised, declared, declaration}
 use Rattle.ls_types_elaboration.specs.TypedStatements.{Loops, loop_of, WithSlots, jump, label_text, variable, Place, AtSlot, AtField, AtItem, assigned, assignment, Counter, OfSlot, OfField, counter, added, addition, step, simple, one_simple, simples, returned, opened, opening, condition, for_loop, closed, followed, monitor, statement, items}
-use Rattle.ls_types_completion.specs.Jumps.{JumpsInLoops}
+use Rattle.ls_types_judgement.specs.Leaving.{JumpsInLoops}
 use Rattle.ls_types_laws.proofs.Results.{Gives, bind, after, unless, each_keeps}
 use Rattle.ls_types_laws.proofs.Lists.{Each, each_push}
 use Rattle.ls_types_laws.proofs.Jumping.{jump_low, continued_low, fresh_gives, one_more, in_sequence}

@@ -15,7 +15,7 @@ use Rattle.ls_types_elaboration.specs.Trees.{Text, Name, Expression, Declarator,
 use Rattle.ls_types_elaboration.specs.Elaborated.{with_ok, each}
 use Rattle.ls_types_elaboration.specs.Known.{Known, ClassSign, local_named, field_of, type_of, result_of}
 use Rattle.ls_types_elaboration.specs.TypedExpressions.{fitting}
-use Rattle.ls_types_completion.specs.Completion.{can_complete}
+use Rattle.ls_types_judgement.specs.Completion.{can_complete}
 use Rattle.ls_types_elaboration.specs.Scopes.{Body, Scope, with_variable}
 use Rattle.ls_types_elaboration.specs.TypedStatements.{sequence}
 use Rattle.ls_types_elaboration.specs.TypedMethods.{parameter, field_set, declarator_set, member_set, initialisers, all_items, method, written_method, written_constructor, one_method, has_constructor, default_constructor, class_methods}

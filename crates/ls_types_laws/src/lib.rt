@@ -1,6 +1,8 @@
 //! Laws of typing: what is elaborated, and what is read for it, is well typed.
 #![tactic(auto)]
 
+pub mod fitting;
+
 ghost use Rattle.std.specs.Prelude.{◌≡◌, Ok, Some};
 ghost use Rattle.ls_checked.specs.CheckedProgram.{Program};
 ghost use Rattle.ls_types_elaboration.specs.Trees.{File, Text};

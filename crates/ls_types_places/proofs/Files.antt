@@ -12,7 +12,7 @@ use Rattle.ls_types_elaboration.specs.Trees.{Text, Name, Expression, TypeName, D
 use Rattle.ls_types_elaboration.specs.Elaborated.{each}
 use Rattle.ls_types_elaboration.specs.Known.{Known, ClassSign, field_of, type_of, result_of, number_of, field_named, method_named}
 use Rattle.ls_types_elaboration.specs.TypedExpressions.{fitting}
-use Rattle.ls_types_completion.specs.Completion.{can_complete}
+use Rattle.ls_types_judgement.specs.Completion.{can_complete}
 use Rattle.ls_types_elaboration.specs.Scopes.{Body, Scope, most_slots}
 use Rattle.ls_types_elaboration.specs.TypedStatements.{sequence, items}
 use Rattle.ls_types_elaboration.specs.TypedMethods.{parameter, field_set, declarator_set, member_set, initialisers, finished, with_unnamed_slot, all_items, method, written_method, written_constructor, one_method, has_constructor, default_constructor, class_methods}

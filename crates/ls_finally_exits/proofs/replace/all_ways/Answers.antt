@@ -6,7 +6,7 @@ use Rattle.ls_lowered.specs.Plain.{plain_statement, in_front}
 use Rattle.ls_finally_exits.specs.declared.exits.Exit.{Exit}
 use Rattle.ls_finally_exits.specs.declared.exits.Exit.TheVariants.{Leave}
 use Rattle.ls_finally_exits.specs.Exits.{exit_of, ways}
-use Rattle.ls_finally_ways.specs.Ways.{both}
+use Rattle.ls_finally_copies.specs.Ways.{both}
 use Rattle.ls_finally_exits.specs.PlainExits.{plain_exit, plain_exits}
 use Rattle.ls_finally_copies.proofs.Fronts.{one_made}
 use Rattle.ls_finally_exits.proofs.replace.all_ways.Goals as goal

@@ -1,7 +1,7 @@
 use Rattle.std.proofs.Common.{◌≡◌, ◌+◌, drop}
 use Rattle.ls_lowered.specs.Plain.{plain_statement, in_front}
 use Rattle.ls_finally_exits.specs.Exits.{ways}
-use Rattle.ls_finally_ways.specs.Ways.{first_ways}
+use Rattle.ls_finally_copies.specs.Ways.{first_ways}
 use Rattle.ls_finally_exits.specs.PlainExits.{plain_exits}
 use Rattle.ls_finally_exits.proofs.replace.all_ways.Given as goal
 

@@ -1,7 +1,7 @@
 use Rattle.std.proofs.Common.{rules, ◌≤◌, ◌<◌, refl, subst, map, length}
 use Rattle.std.specs.Prelude.{All}
 use Rattle.ls_checked.specs.Plain.{plain_statement as checked_statement, plain_method as checked_method, plain_class, plain_file as checked_file}
-use Rattle.ls_types_completion.specs.Jumps.{JumpsInLoops}
+use Rattle.ls_types_judgement.specs.Leaving.{JumpsInLoops}
 use Rattle.ls_refs.proofs.Files.{fitting, not_fitting, wants_memory, all_lowered_so, found_at}
 use Rattle.ls_refs.proofs.Jumps.{all_in_loops}
 use Rattle.ls_lowered.proofs.Taken.{all_of_map, no_truth}

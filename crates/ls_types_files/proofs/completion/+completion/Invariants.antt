@@ -2,7 +2,7 @@ use Rattle.std.proofs.Common.{◌≡◌, ◌&&◌, ◌++◌, drop, map}
 use Rattle.ls_checked.specs.Plain.{plain_statement}
 use Rattle.ls_types_elaboration.specs.TypedStatements.{sequence}
 use Rattle.ls_types_files.specs.Left.{all_left}
-use Rattle.ls_types_completion.specs.Completion.{all_complete}
+use Rattle.ls_types_judgement.specs.Completion.{all_complete}
 use Rattle.ls_types_files.proofs.completion.+completion.Given as goal
 
 abbrev pub invariant-all_ways-loop-s : goal.invariant-all_ways-loop-s

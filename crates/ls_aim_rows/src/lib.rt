@@ -1,4 +1,0 @@
-//! Targets whose steps are worked out by hand.
-#![tactic(auto)]
-
-mod rows;

@@ -1,0 +1,4 @@
+pub mod Idling
+pub mod Floor
+pub mod Landing
+pub mod Links

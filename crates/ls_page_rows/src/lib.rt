@@ -1,4 +1,0 @@
-//! Data of pages, worked out by hand.
-#![tactic(auto)]
-
-mod rows;

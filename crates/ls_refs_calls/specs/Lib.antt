@@ -1,2 +1,0 @@
-pub mod ValueWords
-pub mod Calls

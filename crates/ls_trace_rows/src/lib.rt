@@ -1,4 +1,0 @@
-//! Traces that are worked out by hand.
-#![tactic(auto)]
-
-mod rows;

@@ -1,5 +1,0 @@
-use Rattle.ls_types_completion.proofs.Least.{no_more_than_ways as shown}
-use Rattle.ls_types_completion.proofs.no_more_than_ways.Goals as goal
-
-pub returns : goal.returns
-returns c = shown

@@ -1,0 +1,4 @@
+pub mod Traces
+pub mod States
+pub mod Pages
+pub mod Aims
