@@ -24,6 +24,7 @@ use Rattle.ls_headline.specs.Sorts.{Names, ActionHas}
 use Rattle.ls_headline.specs.Threads.{Asks}
 use Rattle.ls_headline.specs.Same.{IsCells, total}
 use Rattle.ls_headline.specs.Translations.{most_silent, to_source}
+use Rattle.ls_headline.proofs.Setting.{Setting}
 use Rattle.ls_headline.proofs.Lists.{get_there, index_there}
 use Rattle.ls_headline.proofs.Meaning.{Means}
 use Rattle.ls_headline.proofs.LockCells.{full_is}
@@ -39,30 +40,41 @@ use Rattle.ls_headline.proofs.LocksAct.{Word}
 use Rattle.ls_headline.proofs.Read.{in_middle}
 
 module _ (file : File) (program : Program) (code : Code) (asks : Asks file program code) (sound : Means file program) (room : ℕ) (within : IsCells code room) where
+  abbrev setting : Setting
+  setting = record {
+    file = file;
+    program = program;
+    code = code;
+    asks = asks;
+    sound = sound;
+    room = room;
+    small = within.most;
+  }
+
   abbrev bound : ℕ
   bound = most_silent code
 
   abbrev names : ℕ
-  names = Following.names file program code asks sound room within.most
+  names = Following.names setting
 
   abbrev Follows : State → Machine → Type 0
-  Follows = Following.Follows file program code asks sound room within.most
+  Follows = Following.Follows setting
 
   abbrev Each : (s : State) (m : Machine) → Follows s m → ℕ → Option Answers → Option Thread → Type 0
-  Each s m h t o p = Following.Each file program code asks sound room within.most m.cells h.sorts (renaming names s.store) t o p
+  Each s m h t o p = Following.Each setting m.cells h.sorts (renaming names s.store) t o p
 
   -- whether there is room for a store
   abbrev roomy : Store → Bool
   roomy st = nat_le (length program.names + total st.things) room
 
   abbrev acts_as : State → Action Value → Action ℕ
-  acts_as = Following.acts_as file program code asks sound room within.most
+  acts_as = Following.acts_as setting
 
   abbrev stands : ℕ → Thread → Pause
-  stands = Following.stands file program code asks sound room within.most
+  stands = Following.stands setting
 
   abbrev InWords : (ℕ → ℕ) → Next → Pause → Type 0
-  InWords = Following.InWords file program code asks sound room within.most
+  InWords = Following.InWords setting
 
   module _ (s : State) (m : Machine) (h : Follows s m) (t : ℕ) (had : Answers) (at : slice_get s.answers t ≡ Some had) (x : Thread) (there : slice_get m.threads t ≡ Some x) (each : Each s m h t (Some had) (Some x)) (a : Action Value) (q : Sort) (goes : next file program t had ≡ Goes a q) where
     has : ActionHas file program h.sorts t a q
@@ -72,18 +84,18 @@ module _ (file : File) (program : Program) (code : Code) (asks : Asks file progr
     replies : (go : Answer ℕ → Option Thread) → stands t each.3 ≡ Paused (acts_as s a) go → (st : Store) (y : Answer Value) → effect file.classes s.store t a ≡ Does st y → Replies (roomy st) m.cells t (acts_as s a) go
     replies go stood st y does =
         by_effect (cells.effect m.cells t (acts_as s a)) refl
-        (subst (λ d. Agrees file.classes (Following.named file program code asks sound room within.most) code.sizes room h.sorts s.store a q d (cells.effect m.cells t (acts_as s a))) does
-        (Following.agree_here file program code asks sound room within.most s m h t a q has))
+        (subst (λ d. Agrees file.classes (Following.named setting) code.sizes room h.sorts s.store a q d (cells.effect m.cells t (acts_as s a))) does
+        (Following.agree_here setting s m h t a q has))
       where
         no_room : room < names + total st.things → roomy st ≡ false
         no_room h = (let same : names ≡ length program.names = length-map program.names _ in grind (arith, nat_tests))
 
-        by_effect : (e : cells.Effect) → cells.effect m.cells t (acts_as s a) ≡ e → Agrees file.classes (Following.named file program code asks sound room within.most) code.sizes room h.sorts s.store a q (Does st y) e → Replies (roomy st) m.cells t (acts_as s a) go
+        by_effect : (e : cells.Effect) → cells.effect m.cells t (acts_as s a) ≡ e → Agrees file.classes (Following.named setting) code.sizes room h.sorts s.store a q (Does st y) e → Replies (roomy st) m.cells t (acts_as s a) go
         by_effect cells.Waits ee agree = absurd agree
         by_effect cells.Unfit ee agree = absurd agree
         by_effect cells.Stops ee agree = Stopped (no_room agree) ee
         by_effect (cells.Answers c w) ee agree =
-            let both = Following.both_act file program code asks sound room within.most s m h t had x at there each a q goes has go stood st y c w does (λ z. z) (λ y' e l. (y', refl, Here refl)) agree in
+            let both = Following.both_act setting s m h t had x at there each a q goes has go stood st y c w does (λ z. z) (λ y' e l. (y', refl, Here refl)) agree in
             Answered c w both.0 ee both.1
 
     -- the lock that it is on
@@ -96,7 +108,7 @@ module _ (file : File) (program : Program) (code : Code) (asks : Asks file progr
     named_word (suc k) lock q held named e =
         let r = thing_there file.classes h.sorts s.store.things h.sorts k q h.holds.typed named in (
           lock_word r.0,
-          ap (λ z. cells.cell_at m.cells z 0) (sym e) ∙ word_there file.classes (Following.named file program code asks sound room within.most) code.sizes room h.sorts s.store m.cells h.holds k r.0 q r.1 held r.2,
+          ap (λ z. cells.cell_at m.cells z 0) (sym e) ∙ word_there file.classes (Following.named setting) code.sizes room h.sorts s.store m.cells h.holds k r.0 q r.1 held r.2,
           full_is file.classes h.sorts r.0 q t r.2,
         )
 
@@ -118,7 +130,7 @@ module _ (file : File) (program : Program) (code : Code) (asks : Asks file progr
     pub acts : IsOpen m t → (st : Store) (y : Answer Value) → effect file.classes s.store t a ≡ Does st y → Acting (roomy st) (first_did (suc bound) m t)
     acts is_open st y does =
         acts_by is_open (stands t each.3) refl
-        (subst (λ d. InWords (renaming names s.store) d (stands t each.3)) goes (Following.stands_so file program code asks sound room within.most h.sorts s.store m.cells h.holds t had x each)) st y does
+        (subst (λ d. InWords (renaming names s.store) d (stands t each.3)) goes (Following.stands_so setting h.sorts s.store m.cells h.holds t had x each)) st y does
 
   abbrev So : Machine → ℕ → Step → Type 0
   So m t p = StepsAs program room p (first_did (suc bound) m t)

@@ -35,6 +35,7 @@ use Rattle.ls_headline.specs.InWords.{map_answer, written, map_action, in_words}
 use Rattle.ls_headline.specs.Sorts.{Names, Refers, Suits, Known, ActionHas}
 use Rattle.ls_code.specs.Reading.{seen, exchanged, full_word, word_of_another, after_lock, after_try, after_unlock, whole_move, begins_early, carry, quiet, quiet_from}
 use Rattle.ls_headline.specs.Parts.{one, LockParts, TryParts, UnlockParts, IsPlanned, Parts}
+use Rattle.ls_headline.proofs.Setting.{Setting}
 use Rattle.ls_headline.proofs.PartsThere.{parts_are_there}
 use Rattle.ls_headline.proofs.LockWords.{own_left, not_left}
 use Rattle.ls_headline.proofs.LockCells.{lock_is, unlock_is, store_is, won_is, another_is, full_is}
@@ -59,7 +60,28 @@ use Rattle.ls_headline.specs.Same.{total}
 use Rattle.ls_headline.proofs.Feeding.{IsLoud, silent_keeps, beginning, asked_by, silent_is, NoPlan, none, ended, trapped, still, Stands, at_end, more, told_one, stand-append}
 use Rattle.ls_headline.proofs.Following
 
-module _ (file : File) (program : Program) (code : Code) (asks : Asks file program code) (sound : Means file program) (room : ℕ) (small : room ≤ most_cells) where
+module _ (setting : Setting) where
+  abbrev file : File
+  file = setting.file
+
+  abbrev program : Program
+  program = setting.program
+
+  abbrev code : Code
+  code = setting.code
+
+  abbrev asks : Asks file program code
+  asks = setting.asks
+
+  abbrev sound : Means file program
+  sound = setting.sound
+
+  abbrev room : ℕ
+  room = setting.room
+
+  abbrev small : room ≤ most_cells
+  small = setting.small
+
   abbrev named : List ValueType
   named = names_of program
 
@@ -73,13 +95,13 @@ module _ (file : File) (program : Program) (code : Code) (asks : Asks file progr
   stands t x = Stands code t bound x
 
   abbrev StoreHolds : List ValueType → Store → cells.Cells → Type 0
-  StoreHolds = Following.StoreHolds file program code asks sound room small
+  StoreHolds = Following.StoreHolds setting
 
   abbrev words : (ℕ → ℕ) → Answers → List (Answer ℕ)
-  words = Following.words file program code asks sound room small
+  words = Following.words setting
 
   abbrev fed_to : ℕ → Start → List (Answer ℕ) → Pause
-  fed_to = Following.fed_to file program code asks sound room small
+  fed_to = Following.fed_to setting
 
   -- between two bursts no thread is in the midst of an operation
   abbrev pub Each : List ValueType → (ℕ → ℕ) → ℕ → Option Answers → Option Thread → Type 0
@@ -97,10 +119,10 @@ module _ (file : File) (program : Program) (code : Code) (asks : Asks file progr
     pub each : (t : ℕ) → Each sorts (renaming names s.store) t (slice_get s.answers t) (slice_get m.threads t)
 
   abbrev InWords : (ℕ → ℕ) → Next → Pause → Type 0
-  InWords = Following.InWords file program code asks sound room small
+  InWords = Following.InWords setting
 
   abbrev Live : State → source.Entry Value → Type 0
-  Live = Following.Live file program code asks sound room small
+  Live = Following.Live setting
 
   abbrev Later : State → State → Type 0
   Later s s' = Grows names s.store s'.store
@@ -126,15 +148,15 @@ module _ (file : File) (program : Program) (code : Code) (asks : Asks file progr
   abbrev moved : Machine → ℕ → machine_steps.Outcome → machine.Stepped
   moved m t o = machine.stepped_by (machine.after m t o) o.did
 
-  abbrev each_back : (c : cells.Cells) (σ : List ValueType) (ρ : ℕ → ℕ) (t : ℕ) (had : Answers) (x : Thread) → Each σ ρ t (Some had) (Some x) → Following.Each file program code asks sound room small c σ ρ t (Some had) (Some x)
+  abbrev each_back : (c : cells.Cells) (σ : List ValueType) (ρ : ℕ → ℕ) (t : ℕ) (had : Answers) (x : Thread) → Each σ ρ t (Some had) (Some x) → Following.Each setting c σ ρ t (Some had) (Some x)
   each_back c σ ρ t had x e = (e.0, e.1, e.2, x, e.3, Here refl)
 
   -- each thread of the machine is at what the source does next
   pub stands_so : (σ : List ValueType) (st : Store) (c : cells.Cells) → StoreHolds σ st c → (t : ℕ) (had : Answers) (x : Thread) → Each σ (renaming names st) t (Some had) (Some x) → InWords (renaming names st) (next file program t had) (stands t x)
-  stands_so σ st c holds t had x e = Following.stands_so file program code asks sound room small σ st c holds t had x (each_back c σ (renaming names st) t had x e)
+  stands_so σ st c holds t had x e = Following.stands_so setting σ st c holds t had x (each_back c σ (renaming names st) t had x e)
 
   loud_so : (σ : List ValueType) (st : Store) (c : cells.Cells) → StoreHolds σ st c → (t : ℕ) (had : Answers) (x : Thread) → Each σ (renaming names st) t (Some had) (Some x) → IsLoud (stands t x)
-  loud_so σ st c holds t had x e = Following.in_words_loud file program code asks sound room small (renaming names st) (next file program t had) _ (stands_so σ st c holds t had x e)
+  loud_so σ st c holds t had x e = Following.in_words_loud setting (renaming names st) (next file program t had) _ (stands_so σ st c holds t had x e)
 
   -- a silent instruction keeps that
   pub keeps : (σ : List ValueType) (st : Store) (c : cells.Cells) → StoreHolds σ st c → (t : ℕ) (had : Answers) (x x' : Thread) → Each σ (renaming names st) t (Some had) (Some x) → x.mode ≡ mode.Running → whole_move code t x ≡ Silent x' → Each σ (renaming names st) t (Some had) (Some x')
@@ -190,7 +212,7 @@ module _ (file : File) (program : Program) (code : Code) (asks : Asks file progr
   after_first s' f m t k r e h = subst (λ z. Performs s' f (machine.traced t z.did (machine_trace z.machine (k z))) (machine_run z.machine (k z))) (sym e) h
 
   some_thread : (ρ : ℕ → ℕ) (t : ℕ) (d : Next) (o : Option Thread) → InWords ρ d (quiet_from code t bound o) → (x : Thread) × (o ≡ Some x)
-  some_thread ρ t d None h = absurd (Following.not_stuck file program code asks sound room small ρ d h)
+  some_thread ρ t d None h = absurd (Following.not_stuck setting ρ d h)
   some_thread ρ t d (Some x) h = (x, refl)
 
   entry_same : (t : ℕ) (b b' : Action ℕ) (w w' : Answer ℕ) → b ≡ b' → w ≡ w' → ◌≡◌ {A = Entry} (line_in t b w) (line_in t b' w')
@@ -211,7 +233,7 @@ module _ (file : File) (program : Program) (code : Code) (asks : Asks file progr
       let way : fed_to t st (words ρ' (had ++ y ∷ [])) ≡ quiet_from code t bound (go w) =
       ap (fed_to t st) said ∙ stand-append code t bound (words ρ had) w (stands t (machine.started st)) ∙ ap (λ z. told_one code t bound z w) acts in
       let leads = some_thread ρ' t (next file program t (had ++ y ∷ [])) (go w)
-      (subst (λ z. InWords ρ' (next file program t (had ++ y ∷ [])) z) way (Following.asks_words file program code asks sound room small σ' st' c' done.holds t st (had ++ y ∷ []) es known)) in
+      (subst (λ z. InWords ρ' (next file program t (had ++ y ∷ [])) z) way (Following.asks_words setting σ' st' c' done.holds t st (had ++ y ∷ []) es known)) in
       let way' : stands t (x_of leads.0) ≡ fed_to t st (words ρ' (had ++ y ∷ [])) = steady leads.0 leads.1 ∙ sym (way ∙ ap (λ o. quiet_from code t bound o) leads.1) in (
         leads.0,
         leads.1,
@@ -246,7 +268,7 @@ module _ (file : File) (program : Program) (code : Code) (asks : Asks file progr
   never_still : (s : State) (m : Machine) (h : Follows s m) (t : ℕ) (had : Answers) (x : Thread) → Each h.sorts (renaming names s.store) t (Some had) (Some x) → x.mode ≡ mode.Running → whole_move code t x ≡ Still → ⊥
   never_still s m h t had x each runs em =
       let at : stands t x ≡ IsStuck = still code t bound x runs em in
-      Following.not_stuck file program code asks sound room small (renaming names s.store) (next file program t had) (subst (λ z. InWords (renaming names s.store) (next file program t had) z) at (stands_so h.sorts s.store m.cells h.holds t had x each))
+      Following.not_stuck setting (renaming names s.store) (next file program t had) (subst (λ z. InWords (renaming names s.store) (next file program t had) z) at (stands_so h.sorts s.store m.cells h.holds t had x each))
 
   module _ (s : State) (t : ℕ) (had : Answers) (at : slice_get s.answers t ≡ Some had) (a : Action Value) (q : Sort) (goes : next file program t had ≡ Goes a q) (st' : Store) (y : Answer Value) (does : effect file.classes s.store t a ≡ Does st' y) (fits : names + total st'.things ≤ room) where
     abbrev s' : State
@@ -341,7 +363,7 @@ module _ (file : File) (program : Program) (code : Code) (asks : Asks file progr
 
       word_of : (b : Action ℕ) → whole_move code t x ≡ MoveAsks b go → (lock : ℕ) → lock_on b ≡ Some lock → Word lock
       word_of b em lock on =
-          let l = Following.lock_of file program code asks sound room small h.sorts s.store c h.holds t had x (each_back c h.sorts (renaming names s.store) t had x each) runs b go em lock on in
+          let l = Following.lock_of setting h.sorts s.store c h.holds t had x (each_back c h.sorts (renaming names s.store) t had x each) runs b go em lock on in
           named_word l.0 lock l.1 l.2 l.3 l.4
 
       -- the effect that the source's action has isn't a wait

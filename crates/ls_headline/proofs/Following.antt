@@ -23,6 +23,7 @@ use Rattle.ls_code.specs.Cells as cells
 use Rattle.ls_code.specs.Steps.{Asks as MoveAsks}
 use Rattle.ls_code.specs.Fed.{Pause, Paused, Passes, IsOver, IsStuck, TooLong}
 use Rattle.ls_code.specs.Reading.{whole_move, quiet_from, resume}
+use Rattle.ls_headline.proofs.Setting.{Setting}
 use Rattle.ls_headline.proofs.Others.{Sees, IsHeldType, lock_on, lock_renamed, renamed_lock, lock_named, LockNamed, sees_kept}
 use Rattle.ls_headline.proofs.Middle.{Middle, same_mode, middle_kept}
 use Rattle.ls_code.specs.Machine.{Machine, Entry, started, is_running, setup_ended, is_due}
@@ -44,7 +45,28 @@ use Rattle.ls_headline.proofs.Effects as effects
 use Rattle.ls_headline.proofs.AllCases.{names_of, effects_agree}
 use Rattle.ls_headline.proofs.Answers.{action_words, answers_words, suited_end, suited_more, suited_renamed, answer_agree, answers_agree, action_agree, Says, says}
 
-module _ (file : File) (program : Program) (code : Code) (asks : Asks file program code) (sound : Means file program) (room : ℕ) (small : room ≤ most_cells) where
+module _ (setting : Setting) where
+  abbrev file : File
+  file = setting.file
+
+  abbrev program : Program
+  program = setting.program
+
+  abbrev code : Code
+  code = setting.code
+
+  abbrev asks : Asks file program code
+  asks = setting.asks
+
+  abbrev sound : Means file program
+  sound = setting.sound
+
+  abbrev room : ℕ
+  room = setting.room
+
+  abbrev small : room ≤ most_cells
+  small = setting.small
+
   -- the types of the setup names' objects
   abbrev pub named : List ValueType
   named = names_of program

@@ -1,5 +1,6 @@
 pub mod Lists
 pub mod Meaning
+pub mod Setting
 pub mod Runs
 pub mod LiftBack
 pub mod LiftForth

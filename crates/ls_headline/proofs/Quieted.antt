@@ -23,6 +23,7 @@ use Rattle.ls_code.specs.declared.step.ThreadState.TheVariants as state
 use Rattle.ls_headline.specs.Threads.{Asks}
 use Rattle.ls_headline.specs.Same.{IsCells}
 use Rattle.ls_headline.specs.Translations.{most_silent, to_source}
+use Rattle.ls_headline.proofs.Setting.{Setting}
 use Rattle.ls_headline.proofs.Lists.{set_same, set_other, get_there, index_there}
 use Rattle.ls_headline.proofs.Meaning.{Means}
 use Rattle.ls_headline.proofs.Runs.{run-append}
@@ -152,22 +153,33 @@ module _ (code : Code) (t : ℕ) where
       (ap (λ v. performed m.cells t v (thread_move code v)) ex ∙ h.told m.cells w k) (ap (whole_move code t) ey ∙ h.told_whole (word_of_another t) (another_is t)) e
 
 module _ (file : File) (program : Program) (code : Code) (asks : Asks file program code) (sound : Means file program) (room : ℕ) (within : IsCells code room) where
+  abbrev setting : Setting
+  setting = record {
+    file = file;
+    program = program;
+    code = code;
+    asks = asks;
+    sound = sound;
+    room = room;
+    small = within.most;
+  }
+
   abbrev bound : ℕ
   bound = most_silent code
 
   abbrev Follows : State → Machine → Type 0
-  Follows = Following.Follows file program code asks sound room within.most
+  Follows = Following.Follows setting
 
   abbrev Each : (s : State) (m : Machine) → Follows s m → ℕ → Option Answers → Option Thread → Type 0
-  Each s m h t o p = Following.Each file program code asks sound room within.most m.cells h.sorts (renaming (Following.names file program code asks sound room within.most) s.store) t o p
+  Each s m h t o p = Following.Each setting m.cells h.sorts (renaming (Following.names setting) s.store) t o p
 
   abbrev Stood : Next → Machine → ℕ → Type 0
   Stood d m t = StandsAs d (machine_state (machine_run m (replicate bound t)) t)
 
   abbrev InWords : (ℕ → ℕ) → Next → Pause → Type 0
-  InWords = Following.InWords file program code asks sound room within.most
+  InWords = Following.InWords setting
 
-  in_time_by : (ρ : ℕ → ℕ) (m : Machine) (t : ℕ) → m.code ≡ code → IsOpen m t → (y x : Thread) → slice_get m.threads t ≡ Some x → Middle code m.cells t y x → (d : Next) (q : Pause) → Following.stands file program code asks sound room within.most t y ≡ q → InWords ρ d q → Stood d m t
+  in_time_by : (ρ : ℕ → ℕ) (m : Machine) (t : ℕ) → m.code ≡ code → IsOpen m t → (y x : Thread) → slice_get m.threads t ≡ Some x → Middle code m.cells t y x → (d : Next) (q : Pause) → Following.stands setting t y ≡ q → InWords ρ d q → Stood d m t
   in_time_by ρ m t image is_open y x there mid (Goes a k) q e w = tt
   in_time_by ρ m t image is_open y x there mid Ended (IsOver mode.Ended) e w = over_middle code t mode.Ended bound m image is_open.0 is_open.1 y x there mid e
   in_time_by ρ m t image is_open y x there mid Trapped (IsOver mode.Trapped) e w = over_middle code t mode.Trapped bound m image is_open.0 is_open.1 y x there mid e
@@ -187,8 +199,8 @@ module _ (file : File) (program : Program) (code : Code) (asks : Asks file progr
   in_time_at : (s : State) (m : Machine) (h : Follows s m) (t : ℕ) → IsOpen m t → (had : Answers) → slice_get s.answers t ≡ Some had → (p : Option Thread) → slice_get m.threads t ≡ p → Each s m h t (Some had) p → Stood (next file program t had) m t
   in_time_at s m h t is_open had at None there each = absurd each
   in_time_at s m h t is_open had at (Some x) there each =
-      in_time_by _ m t h.image is_open each.3 x there each.5 (next file program t had) (Following.stands file program code asks sound room within.most t each.3) refl
-      (Following.stands_so file program code asks sound room within.most h.sorts s.store m.cells h.holds t had x each)
+      in_time_by _ m t h.image is_open each.3 x there each.5 (next file program t had) (Following.stands setting t each.3) refl
+      (Following.stands_so setting h.sorts s.store m.cells h.holds t had x each)
 
   pub in_time : (s : State) (m : Machine) (h : Follows s m) (t : ℕ) → t < length program.threads → IsOpen m t → Stood (next file program t (answers_of s t)) m t
   in_time s m h t is is_open =

@@ -11,6 +11,7 @@ use Rattle.ls_code.specs.Machine.{Machine, Entry, loaded, machine_run}
 use Rattle.ls_headline.specs.Threads.{Asks}
 use Rattle.ls_headline.specs.Translations.{to_source}
 use Rattle.ls_headline.specs.Same.{IsCells}
+use Rattle.ls_headline.proofs.Setting.{Setting}
 use Rattle.ls_headline.proofs.Meaning.{Means}
 use Rattle.ls_headline.proofs.Runs.{md, run_is, trace_is}
 use Rattle.ls_headline.proofs.LiftBack
@@ -18,17 +19,28 @@ use Rattle.ls_headline.proofs.Following
 use Rattle.ls_headline.proofs.Theorem
 
 module _ (file : File) (program : Program) (code : Code) (asks : Asks file program code) (sound : Means file program) (room : ℕ) (within : IsCells code room) where
+  abbrev setting : Setting
+  setting = record {
+    file = file;
+    program = program;
+    code = code;
+    asks = asks;
+    sound = sound;
+    room = room;
+    small = within.most;
+  }
+
   abbrev Follows : State → Machine → Type 0
-  Follows = Following.Follows file program code asks sound room within.most
+  Follows = Following.Follows setting
 
   abbrev Live : State → source.Entry Value → Type 0
-  Live = Following.Live file program code asks sound room within.most
+  Live = Following.Live setting
 
   abbrev Later : State → State → Type 0
-  Later = Following.Later file program code asks sound room within.most
+  Later = Following.Later setting
 
   abbrev write : State → source.Entry Value → Entry
-  write = Following.write file program code asks sound room within.most
+  write = Following.write setting
 
   -- after each schedule the machine follows the source
   pub follows_all : (ts : List ℕ) → Follows (source_run file program (to_source code room ts)) (machine_run (loaded code room) ts)

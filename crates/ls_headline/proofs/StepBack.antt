@@ -34,6 +34,7 @@ use Rattle.ls_events.specs.declared.action.Action.TheVariants as act
 use Rattle.ls_events.specs.declared.action.Answer.TheVariants.{Done as AnswerDone, Gives, Fails}
 use Rattle.ls_code.specs.Reading.{seen, exchanged, full_word, word_of_another, after_lock, after_try, after_unlock, whole_move}
 use Rattle.ls_headline.specs.Parts.{one, LockParts, TryParts, UnlockParts, IsPlanned, Parts}
+use Rattle.ls_headline.proofs.Setting.{Setting}
 use Rattle.ls_headline.proofs.PartsThere.{parts_are_there}
 use Rattle.ls_headline.proofs.LockWords.{fresh_now, lost_other, full_now, own_left, not_left}
 use Rattle.ls_headline.proofs.LockCells.{lock_is, unlock_is, store_is, won_is, lost_is, another_is, full_is}
@@ -53,7 +54,28 @@ use Rattle.ls_headline.proofs.Feeding.{IsLoud, silent_keeps, asking, asked_by, s
 use Rattle.ls_headline.proofs.Effects.{thing_there, renaming, Agrees}
 use Rattle.ls_headline.proofs.AllCases.{names_of}
 
-module _ (file : File) (program : Program) (code : Code) (asks : Asks file program code) (sound : Means file program) (room : ℕ) (small : room ≤ most_cells) where
+module _ (setting : Setting) where
+  abbrev file : File
+  file = setting.file
+
+  abbrev program : Program
+  program = setting.program
+
+  abbrev code : Code
+  code = setting.code
+
+  abbrev asks : Asks file program code
+  asks = setting.asks
+
+  abbrev sound : Means file program
+  sound = setting.sound
+
+  abbrev room : ℕ
+  room = setting.room
+
+  abbrev small : room ≤ most_cells
+  small = setting.small
+
   abbrev named : List ValueType
   named = names_of program
 
@@ -64,40 +86,40 @@ module _ (file : File) (program : Program) (code : Code) (asks : Asks file progr
   bound = most_silent code
 
   abbrev stands : ℕ → Thread → Pause
-  stands = Following.stands file program code asks sound room small
+  stands = Following.stands setting
 
   abbrev words : (ℕ → ℕ) → Answers → List (Answer ℕ)
-  words = Following.words file program code asks sound room small
+  words = Following.words setting
 
   abbrev fed_to : ℕ → Start → List (Answer ℕ) → Pause
-  fed_to = Following.fed_to file program code asks sound room small
+  fed_to = Following.fed_to setting
 
   abbrev Each : Cells → List ValueType → (ℕ → ℕ) → ℕ → Option Answers → Option Thread → Type 0
-  Each = Following.Each file program code asks sound room small
+  Each = Following.Each setting
 
   abbrev Follows : State → Machine → Type 0
-  Follows = Following.Follows file program code asks sound room small
+  Follows = Following.Follows setting
 
   abbrev InWords : (ℕ → ℕ) → Next → Pause → Type 0
-  InWords = Following.InWords file program code asks sound room small
+  InWords = Following.InWords setting
 
   abbrev Live : State → source.Entry Value → Type 0
-  Live = Following.Live file program code asks sound room small
+  Live = Following.Live setting
 
   abbrev Later : State → State → Type 0
-  Later = Following.Later file program code asks sound room small
+  Later = Following.Later setting
 
   abbrev write : State → source.Entry Value → Entry
-  write = Following.write file program code asks sound room small
+  write = Following.write setting
 
   abbrev line : ℕ → Action Value → Answer Value → source.Entry Value
-  line = Following.line file program code asks sound room small
+  line = Following.line setting
 
   abbrev told_to : State → ℕ → Answers → Store → Answer Value → State
-  told_to = Following.told_to file program code asks sound room small
+  told_to = Following.told_to setting
 
   abbrev acts_as : State → Action Value → Action ℕ
-  acts_as = Following.acts_as file program code asks sound room small
+  acts_as = Following.acts_as setting
 
   abbrev MachineDid : Type 0
   MachineDid = Stepped Machine Entry
@@ -114,15 +136,15 @@ module _ (file : File) (program : Program) (code : Code) (asks : Asks file progr
   moved m t o = machine.stepped_by (machine.after m t o) o.did
 
   back_effect : (s : State) (m : Machine) (h : Follows s m) (t : ℕ) (had : Answers) (x : Thread) → has_started file program s t ≡ true → slice_get s.answers t ≡ Some had → slice_get m.threads t ≡ Some x → (each : Each m.cells h.sorts (renaming names s.store) t (Some had) (Some x)) → (a : Action Value) (q : Sort) → next file program t had ≡ Goes a q → ActionHas file program h.sorts t a q → (go : Answer ℕ → Option Thread) → stands t each.3 ≡ Paused (acts_as s a) go → (d : Effect) (e : cells.Effect) → effect file.classes s.store t a ≡ d → Agrees file.classes named code.sizes room h.sorts s.store a q d e → BackStep s m t (so t (moved m t (machine_steps.settled m.cells x (acts_as s a) go e)))
-  back_effect s m h t had x start at there each a q goes has go acts d cells.Waits de ag = Following.went_on file program code asks sound room small s m h t had x x false _ at there each
-  back_effect s m h t had x start at there each a q goes has go acts d cells.Stops de ag = Following.went_on file program code asks sound room small s m h t had x x true _ at there each
+  back_effect s m h t had x start at there each a q goes has go acts d cells.Waits de ag = Following.went_on setting s m h t had x x false _ at there each
+  back_effect s m h t had x start at there each a q goes has go acts d cells.Stops de ag = Following.went_on setting s m h t had x x true _ at there each
   back_effect s m h t had x start at there each a q goes has go acts Waits cells.Unfit de ag = absurd ag
   back_effect s m h t had x start at there each a q goes has go acts (Does st' y) cells.Unfit de ag = absurd ag
   back_effect s m h t had x start at there each a q goes has go acts Waits (cells.Answers c' w) de ag = absurd ag
   back_effect s m h t had x start at there each a q goes has go acts (Does st' y) (cells.Answers c' w) de ag =
-      let both = Following.both_act file program code asks sound room small s m h t had x at there each a q goes has go acts st' y c' w de (λ z. z) (λ y' e l. (y', refl, Here refl)) ag in
+      let both = Following.both_act setting s m h t had x at there each a q goes has go acts st' y c' w de (λ z. z) (λ y' e l. (y', refl, Here refl)) ag in
       subst (λ o. BackStep s m t (so t (moved m t (machine_steps.replied c' x (acts_as s a) w o)))) (sym both.1)
-      (refl, (told_to s t had st' y, line t a y, Following.source_acts file program code asks sound room small s t had a q st' y start at goes de, both.2 false _, both.3, both.4, both.5))
+      (refl, (told_to s t had st' y, line t a y, Following.source_acts setting s t had a q st' y start at goes de, both.2 false _, both.3, both.4, both.5))
 
   back_asked : (s : State) (m : Machine) (h : Follows s m) (t : ℕ) (had : Answers) (x : Thread) → has_started file program s t ≡ true → slice_get s.answers t ≡ Some had → slice_get m.threads t ≡ Some x → (each : Each m.cells h.sorts (renaming names s.store) t (Some had) (Some x)) → (b : Action ℕ) (go : Answer ℕ → Option Thread) → stands t each.3 ≡ Paused b go → (d : Next) → next file program t had ≡ d → InWords (renaming names s.store) d (Paused b go) → BackStep s m t (so t (moved m t (machine_steps.settled m.cells x b go (cells.effect m.cells t b))))
   back_asked s m h t had x start at there each b go acts Ended goes w = absurd w
@@ -130,7 +152,7 @@ module _ (file : File) (program : Program) (code : Code) (asks : Asks file progr
   back_asked s m h t had x start at there each b go acts (Goes a q) goes w =
       let has : ActionHas file program h.sorts t a q = sound.sound h.sorts t had a q each.2 goes in
       subst (λ z. BackStep s m t (so t (moved m t (machine_steps.settled m.cells x z go (cells.effect m.cells t z))))) (sym w)
-      (back_effect s m h t had x start at there each a q goes has go (acts ∙ ap (λ z. Paused z go) w) (effect file.classes s.store t a) _ refl (Following.agree_here file program code asks sound room small s m h t a q has))
+      (back_effect s m h t had x start at there each a q goes has go (acts ∙ ap (λ z. Paused z go) w) (effect file.classes s.store t a) _ refl (Following.agree_here setting s m h t a q has))
 
   -- the acting instruction of an operation
   abbrev Acting : State → Machine → ℕ → Action ℕ → (Answer ℕ → Option Thread) → Cells → Answer ℕ → (Thread → Thread) → Type 0
@@ -142,8 +164,8 @@ module _ (file : File) (program : Program) (code : Code) (asks : Asks file progr
   acting_by : (s : State) (m : Machine) (h : Follows s m) (t : ℕ) (had : Answers) (x : Thread) → has_started file program s t ≡ true → slice_get s.answers t ≡ Some had → slice_get m.threads t ≡ Some x → (each : Each m.cells h.sorts (renaming names s.store) t (Some had) (Some x)) → (a : Action Value) (q : Sort) → next file program t had ≡ Goes a q → ActionHas file program h.sorts t a q → (go : Answer ℕ → Option Thread) → stands t each.3 ≡ Paused (acts_as s a) go → (c' : Cells) (w : Answer ℕ) (x_of : Thread → Thread) → Mids t go c' w x_of → (d : Effect) → effect file.classes s.store t a ≡ d → Agrees file.classes named code.sizes room h.sorts s.store a q d (cells.Answers c' w) → Acting s m t (acts_as s a) go c' w x_of
   acting_by s m h t had x start at there each a q goes has go acts c' w x_of mid Waits de ag = absurd ag
   acting_by s m h t had x start at there each a q goes has go acts c' w x_of mid (Does st' y) de ag =
-      let both = Following.both_act file program code asks sound room small s m h t had x at there each a q goes has go acts st' y c' w de x_of mid ag in
-      (both.0, both.1, (refl, (told_to s t had st' y, line t a y, Following.source_acts file program code asks sound room small s t had a q st' y start at goes de, both.2 false _, both.3, both.4, both.5)))
+      let both = Following.both_act setting s m h t had x at there each a q goes has go acts st' y c' w de x_of mid ag in
+      (both.0, both.1, (refl, (told_to s t had st' y, line t a y, Following.source_acts setting s t had a q st' y start at goes de, both.2 false _, both.3, both.4, both.5)))
 
   acting : (s : State) (m : Machine) (h : Follows s m) (t : ℕ) (had : Answers) (x : Thread) → has_started file program s t ≡ true → slice_get s.answers t ≡ Some had → slice_get m.threads t ≡ Some x → (each : Each m.cells h.sorts (renaming names s.store) t (Some had) (Some x)) → (b : Action ℕ) (go : Answer ℕ → Option Thread) → stands t each.3 ≡ Paused b go → (c' : Cells) (w : Answer ℕ) → cells.effect m.cells t b ≡ cells.Answers c' w → (x_of : Thread → Thread) → Mids t go c' w x_of → (d : Next) → next file program t had ≡ d → InWords (renaming names s.store) d (Paused b go) → Acting s m t b go c' w x_of
   acting s m h t had x start at there each b go acts c' w ee x_of mid Ended goes iw = absurd iw
@@ -152,7 +174,7 @@ module _ (file : File) (program : Program) (code : Code) (asks : Asks file progr
       let has : ActionHas file program h.sorts t a q = sound.sound h.sorts t had a q each.2 goes in
       subst (λ z. Acting s m t z go c' w x_of) (sym iw)
       (acting_by s m h t had x start at there each a q goes has go (acts ∙ ap (λ z. Paused z go) iw) c' w x_of mid (effect file.classes s.store t a) refl
-      (subst (λ e. Agrees file.classes named code.sizes room h.sorts s.store a q (effect file.classes s.store t a) e) (ap (cells.effect m.cells t) (sym iw) ∙ ee) (Following.agree_here file program code asks sound room small s m h t a q has)))
+      (subst (λ e. Agrees file.classes named code.sizes room h.sorts s.store a q (effect file.classes s.store t a) e) (ap (cells.effect m.cells t) (sym iw) ∙ ee) (Following.agree_here setting s m h t a q has)))
 
   -- a thread that runs, by what it does next
   pub standing : (t : ℕ) (x : Thread) (b : Action ℕ) (go : Answer ℕ → Option Thread) → x.mode ≡ mode.Running → thread_move code x ≡ MoveAsks b go → stands t x ≡ Paused b go
@@ -167,19 +189,19 @@ module _ (file : File) (program : Program) (code : Code) (asks : Asks file progr
     EachOf x = Each m.cells h.sorts (renaming names s.store) t (Some had) (Some x)
 
     pub comes_to : (x x' : Thread) → slice_get m.threads t ≡ Some x → (each : EachOf x) → (y : Thread) → stands t y ≡ stands t each.3 → Middle code m.cells t y x' → Step (machine_steps.outcome_of x' m.cells did.Silent)
-    comes_to x x' there each y same mid = Following.went_on file program code asks sound room small s m h t had x x' false _ at there (each.0, each.1, each.2, y, same ∙ each.4, mid)
+    comes_to x x' there each y same mid = Following.went_on setting s m h t had x x' false _ at there (each.0, each.1, each.2, y, same ∙ each.4, mid)
 
     module _ (y : Thread) (runs : y.mode ≡ mode.Running) (b : Action ℕ) (go : Answer ℕ → Option Thread) (em : whole_move code t y ≡ MoveAsks b go) (planned : IsPlanned (thread_move code y)) (x : Thread) (there : slice_get m.threads t ≡ Some x) (start_ : Start) (es : slice_get code.starts t ≡ Some start_) (known : Known file program h.sorts t had) (way : stands t y ≡ fed_to t start_ (words (renaming names s.store) had)) (mid : Middle code m.cells t y x) where
       abbrev each : EachOf x
       each = (start_, es, known, y, way, mid)
 
       abbrev acts : stands t y ≡ Paused b go
-      acts = Following.began file program code asks sound room small h.sorts s.store m.cells h.holds t had x each runs b go em
+      acts = Following.began setting h.sorts s.store m.cells h.holds t had x each runs b go em
 
       acts_here : (c' : Cells) (w : Answer ℕ) → cells.effect m.cells t b ≡ cells.Answers c' w → (x_of : Thread → Thread) → Mids t go c' w x_of → Acting s m t b go c' w x_of
       acts_here c' w ee x_of mids =
           acting s m h t had x start at there each b go acts c' w ee x_of mids (next file program t had) refl
-          (subst (λ q. InWords (renaming names s.store) (next file program t had) q) acts (Following.stands_so file program code asks sound room small h.sorts s.store m.cells h.holds t had x each))
+          (subst (λ q. InWords (renaming names s.store) (next file program t had) q) acts (Following.stands_so setting h.sorts s.store m.cells h.holds t had x each))
 
       -- if the thread goes on as its origin does
       acts_so : (c' : Cells) (w : Answer ℕ) → cells.effect m.cells t b ≡ cells.Answers c' w → (x' : Thread) → go w ≡ Some x' → Step (machine_steps.outcome_of x' c' (did.Acted b w))
@@ -204,7 +226,7 @@ module _ (file : File) (program : Program) (code : Code) (asks : Asks file progr
           (r.0, full_is file.classes h.sorts r.0 q t r.2, ap (λ z. cells.cell_at m.cells z 0) (sym e) ∙ word_there file.classes named code.sizes room h.sorts s.store m.cells h.holds k r.0 q r.1 held r.2)
 
       word_of_lock : (a : ℕ) → lock_on b ≡ Some a → Word a
-      word_of_lock a on = (let l = Following.lock_of file program code asks sound room small h.sorts s.store m.cells h.holds t had x each runs b go em a on in named_word l.0 a l.1 l.2 l.3 l.4)
+      word_of_lock a on = (let l = Following.lock_of setting h.sorts s.store m.cells h.holds t had x each runs b go em a on in named_word l.0 a l.1 l.2 l.3 l.4)
 
       sees_now : (a w : ℕ) → cells.cell_at m.cells a 0 ≡ Some w → Sees m.cells t a w
       sees_now a w ec = (w, ec, fresh_now t w)
@@ -401,18 +423,18 @@ module _ (file : File) (program : Program) (code : Code) (asks : Asks file progr
 
     back_whole : x ≡ y → (d : Move) → whole_move code t y ≡ d → Comes (one code t m.cells x)
     back_whole here Still em =
-        absurd (Following.not_stuck file program code asks sound room small (renaming names s.store) (next file program t had) (subst (λ q. InWords (renaming names s.store) (next file program t had) q) (still code t bound y runs em) (Following.stands_so file program code asks sound room small h.sorts s.store m.cells h.holds t had x (start_, es, known, y, way, mid))))
+        absurd (Following.not_stuck setting (renaming names s.store) (next file program t had) (subst (λ q. InWords (renaming names s.store) (next file program t had) q) (still code t bound y runs em) (Following.stands_so setting h.sorts s.store m.cells h.holds t had x (start_, es, known, y, way, mid))))
     back_whole here (Plans go) em = absurd (subst (NoPlan code t) em (none code t y (thread_move code y)))
     back_whole here (Silent x') em =
         subst Comes (sym (ap (one code t m.cells) here ∙ silent_is code t y x' m.cells em))
-        (comes_to s m h t had start at x x' there (start_, es, known, y, way, mid) x' (silent_keeps code t bound y x' runs em (Following.loud_so file program code asks sound room small h.sorts s.store m.cells h.holds t had x (start_, es, known, y, way, mid))) (Here refl))
+        (comes_to s m h t had start at x x' there (start_, es, known, y, way, mid) x' (silent_keeps code t bound y x' runs em (Following.loud_so setting h.sorts s.store m.cells h.holds t had x (start_, es, known, y, way, mid))) (Here refl))
     back_whole here (MoveAsks b go) em = by_instruction (asked_by code t y b go (thread_move code y) em)
       where
         by_instruction : (thread_move code y ≡ MoveAsks b go) ⊎ IsPlanned (thread_move code y) → Comes (one code t m.cells x)
         by_instruction (inl et) =
-            let acts = Following.began file program code asks sound room small h.sorts s.store m.cells h.holds t had x (start_, es, known, y, way, mid) runs b go em in
+            let acts = Following.began setting h.sorts s.store m.cells h.holds t had x (start_, es, known, y, way, mid) runs b go em in
             subst Comes (sym (ap (λ z. machine_steps.performed m.cells t x (thread_move code z)) here ∙ ap (machine_steps.performed m.cells t x) et))
-            (back_asked s m h t had x start at there (start_, es, known, y, way, mid) b go acts (next file program t had) refl (subst (λ q. InWords (renaming names s.store) (next file program t had) q) acts (Following.stands_so file program code asks sound room small h.sorts s.store m.cells h.holds t had x (start_, es, known, y, way, mid))))
+            (back_asked s m h t had x start at there (start_, es, known, y, way, mid) b go acts (next file program t had) refl (subst (λ q. InWords (renaming names s.store) (next file program t had) q) acts (Following.stands_so setting h.sorts s.store m.cells h.holds t had x (start_, es, known, y, way, mid))))
         by_instruction (inr planned) = see_any b go em planned (parts_are_there code t y b go planned em) here
 
   back_middle : (s : State) (m : Machine) (h : Follows s m) (t : ℕ) (had : Answers) → has_started file program s t ≡ true → slice_get s.answers t ≡ Some had → (x : Thread) → x.mode ≡ mode.Running → slice_get m.threads t ≡ Some x → (each : Each m.cells h.sorts (renaming names s.store) t (Some had) (Some x)) → (mid : Middle code m.cells t each.3 x) → BackStep s m t (so t (moved m t (one code t m.cells x)))
@@ -426,7 +448,7 @@ module _ (file : File) (program : Program) (code : Code) (asks : Asks file progr
   back_middle s m h t had start at x runs there each (Told r z a w parts ey ex ek) =
       let silent : whole_move code t each.3 ≡ Silent (exchanged z 0) = ap (whole_move code t) ey ∙ parts.told_whole (word_of_another t) (another_is t) in
       subst (λ o. BackStep s m t (so t (moved m t o))) (sym (ap (one code t m.cells) ex ∙ parts.told m.cells w ek))
-      (comes_to s m h t had start at x (exchanged z 0) there each (exchanged z 0) (silent_keeps code t bound each.3 (exchanged z 0) r silent (Following.loud_so file program code asks sound room small h.sorts s.store m.cells h.holds t had x each)) (Here refl))
+      (comes_to s m h t had start at x (exchanged z 0) there each (exchanged z 0) (silent_keeps code t bound each.3 (exchanged z 0) r silent (Following.loud_so setting h.sorts s.store m.cells h.holds t had x each)) (Here refl))
 
   back_move : (s : State) (m : Machine) (h : Follows s m) (t : ℕ) (had : Answers) (x : Thread) → x.mode ≡ mode.Running → has_started file program s t ≡ true → slice_get s.answers t ≡ Some had → slice_get m.threads t ≡ Some x → Each m.cells h.sorts (renaming names s.store) t (Some had) (Some x) → BackStep s m t (so t (moved m t (machine_steps.performed m.cells t x (thread_move code x))))
   back_move s m h t had x runs start at there each = back_middle s m h t had start at x runs there each each.5
@@ -438,7 +460,7 @@ module _ (file : File) (program : Program) (code : Code) (asks : Asks file progr
   back_due : (s : State) (m : Machine) (h : Follows s m) (t : ℕ) (x : Thread) → slice_get m.threads t ≡ Some x → (b : Bool) → is_due m.threads t x ≡ b → BackStep s m t (so t (due_step m t x b))
   back_due s m h t x there false eb = h
   back_due s m h t x there true eb =
-      let start = Following.started_back file program code asks sound room small s m h t x eb in
+      let start = Following.started_back setting s m h t x eb in
       subst (λ p. BackStep s m t (so t (moved m t (machine_steps.performed m.cells t x (thread_move p x))))) (sym h.image)
       (back_had s m h t x start.0 start.1 there (slice_get s.answers t) refl (subst (λ p. Each m.cells h.sorts (renaming names s.store) t (slice_get s.answers t) p) there (h.each t)))
 

@@ -27,6 +27,7 @@ use Rattle.ls_code.specs.declared.step.Mode.{Mode}
 use Rattle.ls_code.specs.declared.step.Mode.TheVariants as mode
 use Rattle.ls_code.specs.declared.step.Did.TheVariants as did
 use Rattle.ls_headline.specs.Threads.{Asks}
+use Rattle.ls_headline.proofs.Setting.{Setting}
 use Rattle.ls_headline.proofs.Meaning.{Means}
 use Rattle.ls_headline.specs.Translations.{most_silent, until_acts, unless, until_over, setup_end, has_setup_ended}
 use Rattle.ls_headline.specs.Same.{total}
@@ -39,7 +40,28 @@ use Rattle.ls_headline.proofs.AllCases.{names_of}
 use Rattle.ls_headline.proofs.Following
 use Rattle.ls_headline.proofs.Bursts
 
-module _ (file : File) (program : Program) (code : Code) (asks : Asks file program code) (sound : Means file program) (room : ℕ) (small : room ≤ most_cells) where
+module _ (setting : Setting) where
+  abbrev file : File
+  file = setting.file
+
+  abbrev program : Program
+  program = setting.program
+
+  abbrev code : Code
+  code = setting.code
+
+  abbrev asks : Asks file program code
+  asks = setting.asks
+
+  abbrev sound : Means file program
+  sound = setting.sound
+
+  abbrev room : ℕ
+  room = setting.room
+
+  abbrev small : room ≤ most_cells
+  small = setting.small
+
   abbrev names : ℕ
   names = length (names_of program)
 
@@ -47,31 +69,31 @@ module _ (file : File) (program : Program) (code : Code) (asks : Asks file progr
   bound = most_silent code
 
   abbrev stands : ℕ → Thread → Pause
-  stands = Following.stands file program code asks sound room small
+  stands = Following.stands setting
 
   abbrev Each : List ValueType → (ℕ → ℕ) → ℕ → Option Answers → Option Thread → Type 0
-  Each = Bursts.Each file program code asks sound room small
+  Each = Bursts.Each setting
 
   abbrev Follows : State → Machine → Type 0
-  Follows = Bursts.Follows file program code asks sound room small
+  Follows = Bursts.Follows setting
 
   abbrev InWords : (ℕ → ℕ) → Next → Pause → Type 0
-  InWords = Following.InWords file program code asks sound room small
+  InWords = Following.InWords setting
 
   abbrev Live : State → source.Entry Value → Type 0
-  Live = Following.Live file program code asks sound room small
+  Live = Following.Live setting
 
   abbrev Later : State → State → Type 0
-  Later = Following.Later file program code asks sound room small
+  Later = Following.Later setting
 
   abbrev write : State → source.Entry Value → Entry
-  write = Following.write file program code asks sound room small
+  write = Following.write setting
 
   abbrev line : ℕ → Action Value → Answer Value → source.Entry Value
-  line = Following.line file program code asks sound room small
+  line = Following.line setting
 
   abbrev told_to : State → ℕ → Answers → Store → Answer Value → State
-  told_to = Following.told_to file program code asks sound room small
+  told_to = Following.told_to setting
 
   abbrev moved : Machine → ℕ → machine_steps.Outcome → machine.Stepped
   moved m t o = machine.stepped_by (machine.after m t o) o.did
@@ -121,7 +143,7 @@ module _ (file : File) (program : Program) (code : Code) (asks : Asks file progr
   quiet_step n s ih m h unstopped x there runs (Plans go) em e = absurd (cc)
   quiet_step n s ih m h unstopped x there runs (Silent x') em e =
       let r : machine.Stepped = moved m 0 (machine_steps.outcome_of x' m.cells did.Silent) in
-      let eq : machine_step m 0 ≡ r = Bursts.machine_goes file program code asks sound room small m 0 x (thread_move code x) h.image unstopped runs refl there refl ∙ ap (moved m 0) (silent_is code 0 x x' m.cells em) in
+      let eq : machine_step m 0 ≡ r = Bursts.machine_goes setting m 0 x (thread_move code x) h.image unstopped runs refl there refl ∙ ap (moved m 0) (silent_is code 0 x x' m.cells em) in
       let on : setup_ended (slice_get m.threads 0) ≡ false = ap setup_ended there ∙ ap machine.has_ended runs in
       let h1 : Follows s r.machine = by_had (slice_get s.answers 0) refl (subst (λ p. Each h.sorts (renaming names s.store) 0 (slice_get s.answers 0) p) there (h.each 0)) in
       let rest = ih r.machine h1 refl x' (set_same m.threads 0 x x' there) e in
@@ -130,7 +152,7 @@ module _ (file : File) (program : Program) (code : Code) (asks : Asks file progr
     where
       by_had : (o : Option Answers) → slice_get s.answers 0 ≡ o → Each h.sorts (renaming names s.store) 0 o (Some x) → Follows s (moved m 0 (machine_steps.outcome_of x' m.cells did.Silent)).machine
       by_had None at each = absurd each
-      by_had (Some had) at each = Bursts.went_on file program code asks sound room small s m h 0 had x x' false _ at there (Bursts.keeps file program code asks sound room small h.sorts s.store m.cells h.holds 0 had x x' each runs em)
+      by_had (Some had) at each = Bursts.went_on setting s m h 0 had x x' false _ at there (Bursts.keeps setting h.sorts s.store m.cells h.holds 0 had x x' each runs em)
 
   quiet_more : (n : ℕ) (s : State) → Quiets s n → (m : Machine) → Follows s m → m.stopped ≡ false → (x : Thread) → slice_get m.threads 0 ≡ Some x → quiet code 0 (suc n) x ≡ IsOver mode.Ended → (z : Mode) → x.mode ≡ z → Quiet s (machine_trace m (until_over (suc n) m)) (machine_run m (until_over (suc n) m))
   quiet_more n s ih m h unstopped x there e mode.Running em = quiet_step n s ih m h unstopped x there em (whole_move code 0 x) refl (sym (more code 0 n x em) ∙ e)
@@ -166,7 +188,7 @@ module _ (file : File) (program : Program) (code : Code) (asks : Asks file progr
   setup_at s m h unstopped (Some had) None at there each over = absurd each
   setup_at s m h unstopped (Some had) (Some x) at there each over =
       let over' : has_ended (next file program 0 had) ≡ true = ap (λ l. has_ended (next file program 0 l)) (sym (index_there s.answers 0 had [] at)) ∙ over in
-      let stood : stands 0 x ≡ IsOver mode.Ended = over_words (renaming names s.store) (next file program 0 had) (stands 0 x) (Bursts.stands_so file program code asks sound room small h.sorts s.store m.cells h.holds 0 had x each) over' in
+      let stood : stands 0 x ≡ IsOver mode.Ended = over_words (renaming names s.store) (next file program 0 had) (stands 0 x) (Bursts.stands_so setting h.sorts s.store m.cells h.holds 0 had x each) over' in
       quiet_run bound s m h unstopped x there stood
 
   -- in step, with the setup's end made in the machine once its source has ended
@@ -200,8 +222,8 @@ module _ (file : File) (program : Program) (code : Code) (asks : Asks file progr
   forth_does s m h t had at start a q goes st' y does None there each = absurd each
   forth_does s m h t had at start a q goes st' y does (Some x) there each = λ fits.
       let s1 = told_to s t had st' y in
-      let loud : IsLoud (quiet code t bound x) = Following.in_words_loud file program code asks sound room small (renaming names s.store) (next file program t had) _ (Bursts.stands_so file program code asks sound room small h.follows.sorts s.store m.cells h.follows.holds t had x each) in
-      let r = Bursts.burst file program code asks sound room small s t had at a q goes st' y does fits bound m h.follows h.goes (ready_forth s m h t x there (nat_eq t 0) start) x there loud in
+      let loud : IsLoud (quiet code t bound x) = Following.in_words_loud setting (renaming names s.store) (next file program t had) _ (Bursts.stands_so setting h.follows.sorts s.store m.cells h.follows.holds t had x each) in
+      let r = Bursts.burst setting s t had at a q goes st' y does fits bound m h.follows h.goes (ready_forth s m h t x there (nat_eq t 0) start) x there loud in
       let ts = until_acts bound m t in
       let m1 = machine_run m ts in
       let e = setup_made s1 m1 r.1.1 r.1.2 (has_setup_ended file program s1) refl in

@@ -16,6 +16,7 @@ use Rattle.ls_code.specs.Thread.{Thread}
 use Rattle.ls_code.specs.Machine.{Machine, Entry, started, loaded, machine_trace}
 use Rattle.ls_headline.specs.InWords.{written, in_words, births, numbered, ArePlaces, Agree}
 use Rattle.ls_headline.specs.Threads.{Asks, calls_of}
+use Rattle.ls_headline.proofs.Setting.{Setting}
 use Rattle.ls_headline.proofs.Meaning.{Means}
 use Rattle.ls_headline.specs.Translations.{to_source, most_silent, has_setup_ended, to_machine}
 use Rattle.ls_headline.specs.Same.{total, Fits, IsCells, Alike, Same}
@@ -50,6 +51,17 @@ same_length (x ∷ xs) [] h = absurd (h 0)
 same_length (x ∷ xs) (y ∷ ys) h = ap suc (same_length xs ys (λ t. h (suc t)))
 
 module _ (file : File) (program : Program) (code : Code) (asks : Asks file program code) (sound : Means file program) (room : ℕ) (within : IsCells code room) where
+  abbrev setting : Setting
+  setting = record {
+    file = file;
+    program = program;
+    code = code;
+    asks = asks;
+    sound = sound;
+    room = room;
+    small = within.most;
+  }
+
   abbrev sd : State → ℕ → Stepped State (source.Entry Value)
   sd = source_step file program
 
@@ -67,22 +79,22 @@ module _ (file : File) (program : Program) (code : Code) (asks : Asks file progr
 
   -- the relation between the two runs
   abbrev pub Follows : State → Machine → Type 0
-  Follows = Following.Follows file program code asks sound room within.most
+  Follows = Following.Follows setting
 
   -- what is kept of an entry, whatever is made later
   abbrev pub Live : State → source.Entry Value → Type 0
-  Live = Following.Live file program code asks sound room within.most
+  Live = Following.Live setting
 
   -- a later state
   abbrev pub Later : State → State → Type 0
-  Later = Following.Later file program code asks sound room within.most
+  Later = Following.Later setting
 
   -- an entry of the source's trace in words
   abbrev pub write : State → source.Entry Value → Entry
-  write = Following.write file program code asks sound room within.most
+  write = Following.write setting
 
   abbrev Has : ℕ → Option Answers → Option Thread → Type 0
-  Has t o p = Bursts.Each file program code asks sound room within.most [] (renaming names s0.store) t o p
+  Has t o p = Bursts.Each setting [] (renaming names s0.store) t o p
 
   each_start : (xs : List Start) (ys : List ThreadProgram) (k t : ℕ) → ((u : ℕ) → calls_of (slice_get xs u) (slice_get ys u)) → ((u : ℕ) (x : Start) → slice_get xs u ≡ Some x → slice_get code.starts (k + u) ≡ Some x) → Has (k + t) (slice_get (map (λ y. []) ys) t) (slice_get (map started xs) t)
   each_start [] [] k t c h = tt
@@ -98,7 +110,7 @@ module _ (file : File) (program : Program) (code : Code) (asks : Asks file progr
   count : names ≡ length program.names
   count = length-map program.names (λ x. type.Class x.class)
 
-  steady_start : Bursts.Follows file program code asks sound room within.most s0 m0
+  steady_start : Bursts.Follows setting s0 m0
   steady_start = record {
     sorts = [];
     image = refl;
@@ -115,7 +127,7 @@ module _ (file : File) (program : Program) (code : Code) (asks : Asks file progr
     each = λ t. let e : 0 + t ≡ t = omega arith in subst (λ n. Has n (slice_get (map (λ y. []) program.threads) t) (slice_get (map started code.starts) t)) e (each_start code.starts program.threads 0 t asks.threads (λ u x g. let e' : u ≡ 0 + u = omega arith in subst (λ n. slice_get code.starts n ≡ Some x) e' g));
   }
 
-  back_each : (σ : List ValueType) (t : ℕ) (o : Option Answers) (p : Option Thread) → Bursts.Each file program code asks sound room within.most σ (renaming names s0.store) t o p → Following.Each file program code asks sound room within.most m0.cells σ (renaming names s0.store) t o p
+  back_each : (σ : List ValueType) (t : ℕ) (o : Option Answers) (p : Option Thread) → Bursts.Each setting σ (renaming names s0.store) t o p → Following.Each setting m0.cells σ (renaming names s0.store) t o p
   back_each σ t None None h = tt
   back_each σ t None (Some x) h = absurd h
   back_each σ t (Some had) None h = absurd h
@@ -144,14 +156,14 @@ module _ (file : File) (program : Program) (code : Code) (asks : Asks file progr
     grows_trans = λ a b c g h. grows_trans file program names a.store b.store c.store g h;
     stable = stable;
     lives = lives;
-    step = λ s m t h. StepBack.step_back file program code asks sound room within.most s m t h;
+    step = λ s m t h. StepBack.step_back setting s m t h;
   }
 
   abbrev InStep : State → Machine → Type 0
-  InStep = StepForth.InStep file program code asks sound room within.most
+  InStep = StepForth.InStep setting
 
   abbrev FitsNow : State → Type 0
-  FitsNow = StepForth.Fits file program code asks sound room within.most
+  FitsNow = StepForth.Fits setting
 
   forth_laws : LiftForth.Laws file program bound write InStep Later Live FitsNow
   forth_laws = record {
@@ -160,7 +172,7 @@ module _ (file : File) (program : Program) (code : Code) (asks : Asks file progr
     stable = stable;
     lives = lives;
     shrinks = λ s t f. omega (arith, (grows_step file program names s t).cells);
-    step = λ s m t h. StepForth.step_forth file program code asks sound room within.most s m t h;
+    step = λ s m t h. StepForth.step_forth setting s m t h;
   }
 
   abbrev Alive : State → List (source.Entry Value) → Type 0
@@ -200,7 +212,7 @@ module _ (file : File) (program : Program) (code : Code) (asks : Asks file progr
   source_right ts =
       let r = LiftBack.to_source_right State Machine (source.Entry Value) Entry sd md (λ f. f.thread) write Follows Later Live back_laws ts s0 m0 follows_start in
       let e = trace_is ts m0 in
-      subst (λ fs. Alike file program code room ts (map (λ f. f.thread) fs)) e (alike ts (map (λ f. f.thread) (trace md m0 ts)) (trace md m0 ts) (Following.used_length file program code asks sound room within.most r.0.sorts (run sd s0 (map (λ f. f.thread) (trace md m0 ts))).store (run md m0 ts).cells r.0.holds) (sym e) r.1 r.3)
+      subst (λ fs. Alike file program code room ts (map (λ f. f.thread) fs)) e (alike ts (map (λ f. f.thread) (trace md m0 ts)) (trace md m0 ts) (Following.used_length setting r.0.sorts (run sd s0 (map (λ f. f.thread) (trace md m0 ts))).store (run md m0 ts).cells r.0.holds) (sym e) r.1 r.3)
 
   same_alive : (s : State) (es : List (source.Entry Value)) → LiftForth.Alive file program bound write InStep Later Live FitsNow s es → Alive s es
   same_alive s [] h = tt
@@ -208,7 +220,7 @@ module _ (file : File) (program : Program) (code : Code) (asks : Asks file progr
 
   pub machine_right : (ts : List ℕ) → Fits file program room ts → Alike file program code room (to_machine file program code room ts) ts
   machine_right ts fits =
-      let made = StepForth.setup_made file program code asks sound room within.most s0 m0 steady_start refl (has_setup_ended file program s0) refl in
+      let made = StepForth.setup_made setting s0 m0 steady_start refl (has_setup_ended file program s0) refl in
       let fits' : FitsNow (run sd s0 ts) = omega (arith, count) in
       let r = LiftForth.to_machine_right file program bound write InStep Later Live FitsNow forth_laws ts s0 m0 made.0 made.1 fits' in
       alike (to_machine file program code room ts) ts _ fits' refl r.0 (same_alive (run sd s0 ts) (trace sd s0 ts) r.1)
