@@ -1,4 +1,5 @@
 -- The steps that targets take are of threads that are there, and are no more than a schedule has.
+use Rattle.ls_events.specs.Limits.{most_steps}
 use Rattle.std.proofs.Common.{◌≡◌, ℕ, zero, suc, ◌+◌, ◌-◌, ◌<◌, ◌≤◌, refl, arith, Bool, true, false, List, [], ◌∷◌, ◌++◌, length, take, drop, map, Option, Some, None, Result, Ok, Err}
 use Rattle.std.specs.Prelude.{All, nat_lt, if◌then◌else◌}
 use Rattle.std.specs.List.{position, position_or_len}
@@ -28,7 +29,7 @@ module _ (names : Names) where
   AreThere steps = All (λ t. t < threads) steps
 
   abbrev pub Fit : List ℕ → Type 0
-  Fit steps = AreThere steps × (length steps ≤ 1000000)
+  Fit steps = AreThere steps × (length steps ≤ most_steps)
 
   abbrev pub Fits : Result (List ℕ) AimFault → Type 0
   Fits (Ok steps) = Fit steps
@@ -39,7 +40,7 @@ module _ (names : Names) where
   sight_fits (GoesOn still) steps go_on h k = k still
   sight_fits (Missed f) steps go_on h k = tt
 
-  to_fits : (at thread : ℕ) → thread < threads → (r : Run) (stop : Stop) (steps : List ℕ) (room : ℕ) → AreThere steps → length steps + room ≤ 1000000
+  to_fits : (at thread : ℕ) → thread < threads → (r : Run) (stop : Stop) (steps : List ℕ) (room : ℕ) → AreThere steps → length steps + room ≤ most_steps
       → Fits (gone_to names at thread r stop steps room)
   to_fits at thread lt r stop steps zero h few =
       sight_fits (sight names at r thread stop) steps (λ still. Err (fault.TooFar at)) (h, omega arith) (λ still. tt)
@@ -51,9 +52,9 @@ module _ (names : Names) where
       (omega (arith, length-append steps (thread ∷ []))))
 
   followed_fits : (steps more : List ℕ) → AreThere steps → AreThere more → Fits (followed steps more)
-  followed_fits steps more h k = by_test (nat_lt 1000000 (length (steps ++ more))) refl
+  followed_fits steps more h k = by_test (nat_lt most_steps (length (steps ++ more))) refl
     where
-      by_test : (b : Bool) → nat_lt 1000000 (length (steps ++ more)) ≡ b → Fits (if b then Err (fault.Schedule schedule.TooManySteps) else Ok (steps ++ more))
+      by_test : (b : Bool) → nat_lt most_steps (length (steps ++ more)) ≡ b → Fits (if b then Err (fault.Schedule schedule.TooManySteps) else Ok (steps ++ more))
       by_test true e = tt
       by_test false e = (All-append (λ t. t < threads) steps more h k, grind (arith, nat_tests))
 
@@ -75,7 +76,7 @@ module _ (names : Names) where
       by_test true = placed_fits at (length item) steps h (schedule_of (thread_names_of names) (alone item)) (says (alone item))
       by_test false = tt
 
-  thread_fits : (at : ℕ) (stop : Stop) (p : Text → Bool) (steps : List ℕ) → AreThere steps → length steps ≤ 1000000
+  thread_fits : (at : ℕ) (stop : Stop) (p : Text → Bool) (steps : List ℕ) → AreThere steps → length steps ≤ most_steps
       → Fits (on_read (thread_said at stop (position p (thread_names_of names))) (λ t. gone names at steps t))
   thread_fits at stop p steps h few = by_test (nat_lt (position_or_len p (thread_names_of names)) threads) refl
     where
@@ -85,7 +86,7 @@ module _ (names : Names) where
           to_fits at (position_or_len p (thread_names_of names)) (grind (arith, nat_tests)) (run_of names steps) stop steps (room_after steps) h (omega arith)
       by_test false e = tt
 
-  named_fits : (at : ℕ) (name : Text) (stop : Option Stop) (steps : List ℕ) → AreThere steps → length steps ≤ 1000000
+  named_fits : (at : ℕ) (name : Text) (stop : Option Stop) (steps : List ℕ) → AreThere steps → length steps ≤ most_steps
       → Fits (on_read (named (thread_names_of names) at name stop) (λ t. gone names at steps t))
   named_fits at name None steps h few = tt
   named_fits at name (Some stop) steps h few = by_test (is_name name)

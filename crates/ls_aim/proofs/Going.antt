@@ -1,4 +1,5 @@
 -- The steps of a thread until it stops.
+use Rattle.ls_events.specs.Limits.{most_steps}
 use Rattle.std.proofs.Common.{◌≡◌, ◌∙◌, ◌+◌, ◌-◌, ◌<◌, ◌≤◌, ℕ, zero, suc, List, [], ◌∷◌, ◌++◌, length, refl, sym, ap, arith, Result, Ok, Err}
 use Rattle.std.proofs.lemmas.List.{length-append}
 use Rattle.ls_labels.specs.Names.{Names}
@@ -17,7 +18,7 @@ module _ (names : Names) (at thread : ℕ) (r : Run) (stop : Stop) (steps : List
   misses zero f e = ap (λ s. by_sight s steps (λ still. Err (fault.TooFar at))) e
   misses (suc room) f e = ap (λ s. by_sight s steps (λ still. gone_to names at thread (after_step names r thread) still (steps ++ thread ∷ []) room)) e
 
-  pub goes_on : (still : Stop) → length steps < 1000000 → sight names at r thread stop ≡ GoesOn still
+  pub goes_on : (still : Stop) → length steps < most_steps → sight names at r thread stop ≡ GoesOn still
       → gone_to names at thread (after_step names r thread) still (steps ++ thread ∷ []) (room_after (steps ++ thread ∷ []))
       ≡ gone_to names at thread r stop steps (room_after steps)
   goes_on still few e =

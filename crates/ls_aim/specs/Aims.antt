@@ -1,4 +1,5 @@
 -- The steps that targets take.
+use Rattle.ls_events.specs.Limits.{most_steps}
 use Rattle.std.specs.Prelude.{◌==◌, ◌-◌, ℕ, zero, suc, Bool, List, [], ◌∷◌, ◌++◌, length, map, nat_lt, Option, Some, None, Result, Ok, Err, if◌then◌else◌}
 use Rattle.ls_events.specs.declared.value.Value.{Value}
 use Rattle.ls_meaning.specs.declared.step.Asked.{Asked}
@@ -69,14 +70,14 @@ gone_to names at thread r stop steps (suc room) =
 
 -- a schedule has 1,000,000 steps at the most
 abbrev pub room_after : List ℕ → ℕ
-room_after steps = 1000000 - length steps
+room_after steps = most_steps - length steps
 
 abbrev pub gone : Names → ℕ → List ℕ → Target → Result (List ℕ) AimFault
 gone names at steps t = gone_to names at t.thread (run_of names steps) t.stop steps (room_after steps)
 
 -- these steps, and then those
 abbrev pub followed : List ℕ → List ℕ → Result (List ℕ) AimFault
-followed steps more = if nat_lt 1000000 (length (steps ++ more)) then Err (fault.Schedule schedule.TooManySteps) else Ok (steps ++ more)
+followed steps more = if nat_lt most_steps (length (steps ++ more)) then Err (fault.Schedule schedule.TooManySteps) else Ok (steps ++ more)
 
 abbrev pub on_read : {A : Type 0} → Result A ScheduleFault → (A → Result (List ℕ) AimFault) → Result (List ℕ) AimFault
 on_read (Ok x) go_on = go_on x

@@ -1,5 +1,6 @@
 // The schedule of a seed.
 
+ghost use Rattle.ls_events.specs.Limits.{most_steps};
 ghost use Rattle.std.specs.Prelude.{◌≡◌, ◌<◌, ◌≤◌, IfOk};
 ghost use Rattle.rand_xoshiro.specs.SplitMix64.{mix_u64};
 ghost use Rattle.ls_code.specs.Machine.{machine_run};
@@ -59,7 +60,7 @@ pub fn sample(
     threads: u8,
     drawing: Drawing,
 ) -> Result<Schedule, AllocError>
-    requires steps { drawing.steps ≤ 1000000 }
+    requires steps { drawing.steps ≤ most_steps }
     requires chance { 0 < drawing.switch }
     ensures { IfOk result (λ schedule. schedule ≡ sample_of seed threads drawing) }
 {

@@ -1,4 +1,5 @@
 -- What the commands that run live threads may answer.
+use Rattle.ls_events.specs.Limits.{most_steps}
 use Rattle.std.proofs.Common.{◌≡◌, ◌↔◌, ◌⊎◌, ◌<◌, ◌≤◌, ◌∙◌, ◌++◌, ℕ, List, length, Result, Ok, Err, refl, sym, subst, ap, arith}
 use Rattle.std.specs.Prelude.{IsErrOf}
 use Rattle.ls_code.specs.Machine.{machine_history}
@@ -35,7 +36,7 @@ module _ (i : Image) (cells : ℕ) where
     abbrev Unlived : LiveFault → Result Record LiveFault
     Unlived f = Err f
 
-    pub live_fails : (f : LiveFault) → (IsErrOf (Unlived f) (live.Open opening.BadCells) ↔ Bad) → (IsErrOf (Unlived f) (live.Open opening.BadLimit) ↔ (¬ Bad × (1000000 < limit))) →
+    pub live_fails : (f : LiveFault) → (IsErrOf (Unlived f) (live.Open opening.BadCells) ↔ Bad) → (IsErrOf (Unlived f) (live.Open opening.BadLimit) ↔ (¬ Bad × (most_steps < limit))) →
         Gives (Lived i cells limit NoMore) (Err (lifted_live f))
     live_fails (live.Open opening.Memory) bad large = tt
     live_fails (live.Open opening.BadCells) bad large = NoCells (bad.0 refl)
@@ -43,13 +44,13 @@ module _ (i : Image) (cells : ℕ) where
     live_fails live.NoThread bad large = NoThread
     live_fails live.Disagree bad large = Disagree
 
-    within : (r : Record) → ¬ Bad → (IsErrOf {E = LiveFault} (Ok r) (live.Open opening.BadLimit) ↔ (¬ Bad × (1000000 < limit))) → limit ≤ 1000000
+    within : (r : Record) → ¬ Bad → (IsErrOf {E = LiveFault} (Ok r) (live.Open opening.BadLimit) ↔ (¬ Bad × (most_steps < limit))) → limit ≤ most_steps
     within r good large =
-        let no : ¬ (1000000 < limit) = λ h. not_refused r (live.Open opening.BadLimit) (¬ Bad × (1000000 < limit)) large (good, h) in
+        let no : ¬ (most_steps < limit) = λ h. not_refused r (live.Open opening.BadLimit) (¬ Bad × (most_steps < limit)) large (good, h) in
         omega (arith, no)
 
     pub live_runs : (r : Record) (t : Text) → (IsErrOf {E = LiveFault} (Ok r) (live.Open opening.BadCells) ↔ Bad) →
-        (IsErrOf {E = LiveFault} (Ok r) (live.Open opening.BadLimit) ↔ (¬ Bad × (1000000 < limit))) → IsRecordOf (code_of_image i) cells (scheduled r) r →
+        (IsErrOf {E = LiveFault} (Ok r) (live.Open opening.BadLimit) ↔ (¬ Bad × (most_steps < limit))) → IsRecordOf (code_of_image i) cells (scheduled r) r →
         AreLived (code_of_image i) cells limit (scheduled r) → t ≡ schedule_text (names_of_image i) (scheduled r) ++ lines r → Lived i cells limit NoMore (Ok t)
     live_runs r t bad large is lived said =
         let good : ¬ Bad = not_refused r (live.Open opening.BadCells) Bad bad in

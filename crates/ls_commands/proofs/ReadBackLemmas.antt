@@ -1,4 +1,5 @@
 -- What is printed of runs reads back.
+use Rattle.ls_events.specs.Limits.{most_steps}
 use Rattle.std.proofs.Common.{◌≡◌, ◌<◌, ◌≤◌, ◌∙◌, ℕ, List, length, Result, Ok, sym, subst, inl, inr, arith}
 use Rattle.std.specs.Prelude.{All, String}
 use Rattle.std.proofs.lemmas.List.{length-map}
@@ -61,13 +62,13 @@ module _ (readable : CompiledIsReadable) (classes program : Text) (i : Image) (c
   replayed_live_of s r g = wider (ReplayedLive i cells (schedule_of (names_of_image i) s)) (ReplayedLiveOf cells s i) r (λ a h. (h, replayed_live_back h)) g
 
   module _ (prints : SchedulesReadBack) (limit : ℕ) where
-    read_again : (steps : List ℕ) → limit ≤ 1000000 → AreLived (code_of_image i) cells limit steps → schedule_of (names_of_image i) (lived_schedule i steps) ≡ Ok steps
+    read_again : (steps : List ℕ) → limit ≤ most_steps → AreLived (code_of_image i) cells limit steps → schedule_of (names_of_image i) (lived_schedule i steps) ≡ Ok steps
     read_again steps most lived =
         let few = lived.few in
         prints (outcome_of (checked_of i)) program (program_of_image i) steps compiles.reads
         (record { there = subst (λ n. All (λ t. t < n) steps) (sym (names_count classes program i compiles)) lived.there; short = omega arith })
 
-    reads_back_as : (steps : List ℕ) → ¬ AreBadCells (code_of_image i).names cells → limit ≤ 1000000 → AreLived (code_of_image i) cells limit steps → ReadsBackAs i cells steps
+    reads_back_as : (steps : List ℕ) → ¬ AreBadCells (code_of_image i).names cells → limit ≤ most_steps → AreLived (code_of_image i) cells limit steps → ReadsBackAs i cells steps
     reads_back_as steps good most lived =
         let again = read_again steps most lived in
         record {

@@ -1,4 +1,5 @@
 -- What `translate` may answer.
+use Rattle.ls_events.specs.Limits.{most_steps}
 use Rattle.std.proofs.Common.{◌≡◌, ◌↔◌, ◌⊎◌, ◌<◌, ℕ, List, length, Result, Ok, Err, refl, inl, inr, sym, subst}
 use Rattle.std.specs.Prelude.{IsErrOf}
 use Rattle.ls_machine.specs.Room.{AreBadCells}
@@ -48,7 +49,7 @@ module _ (i : Image) (cells : ℕ) (steps : List ℕ) where
 
   pub machine_fails : (f : TranslationFault) → (IsErrOf (Refused f) translation.BadCells ↔ Bad) →
       ((step : ℕ) → IsErrOf (Refused f) (translation.DoesNotFit step) → IsFirstUnfit (file_of_image i) (plain_program_of i) cells steps step) →
-      (IsErrOf (Refused f) translation.ResultTooLong → 1000000 < length whole) → (IsErrOf (Refused f) translation.ResultTooLong → Fit) → Given sides.Machine (Err (lifted_translation f))
+      (IsErrOf (Refused f) translation.ResultTooLong → most_steps < length whole) → (IsErrOf (Refused f) translation.ResultTooLong → Fit) → Given sides.Machine (Err (lifted_translation f))
   machine_fails translation.Memory bad unfit long fits = tt
   machine_fails translation.BadCells bad unfit long fits = NoCells sides.Machine (bad.0 refl)
   machine_fails (translation.DoesNotFit step) bad unfit long fits = NoRoom (λ b. let e = bad.1 b in absurd (cc)) step (unfit step refl)

@@ -1,4 +1,5 @@
 -- What the commands that run live threads say: `live`, and `replay --live`.
+use Rattle.ls_events.specs.Limits.{most_steps}
 use Rattle.std.specs.Prelude.{◌≡◌, ℕ, ◌<◌, ◌≤◌, ◌⊎◌, List, ◌++◌, length, true, Result, Ok, Err, All}
 use Rattle.ls_code.specs.Code.{Code}
 use Rattle.ls_code.specs.Machine.{loaded, machine_history, machine_run}
@@ -44,10 +45,10 @@ lived_history i cells steps = run_text (plain_program_of i) (machine_history (co
 -- The schedule of a live run, and the history of the machine's run of it, of which more is said. Or the cells are too few or too
 -- many, or else the limit is too large; or a thread couldn't be started.
 pub data Lived (i : Image) (cells limit : ℕ) (More : List ℕ → Type 0) : Result Text ToolFault → Type 0 where
-  Lives : (steps : List ℕ) → ¬ AreBadCells (code_of_image i).names cells → limit ≤ 1000000 → AreLived (code_of_image i) cells limit steps → More steps →
+  Lives : (steps : List ℕ) → ¬ AreBadCells (code_of_image i).names cells → limit ≤ most_steps → AreLived (code_of_image i) cells limit steps → More steps →
       Lived i cells limit More (Ok (lived_schedule i steps ++ lived_history i cells steps))
   NoCells : AreBadCells (code_of_image i).names cells → Lived i cells limit More (Err faults.BadCells)
-  BadLimit : ¬ AreBadCells (code_of_image i).names cells → 1000000 < limit → Lived i cells limit More (Err (faults.Live (live.Open opening.BadLimit)))
+  BadLimit : ¬ AreBadCells (code_of_image i).names cells → most_steps < limit → Lived i cells limit More (Err (faults.Live (live.Open opening.BadLimit)))
   NoThread : Lived i cells limit More (Err (faults.Live live.NoThread))
   Disagree : Lived i cells limit More (Err (faults.Live live.Disagree))
 

@@ -1,4 +1,5 @@
 -- What the command `translate` says.
+use Rattle.ls_events.specs.Limits.{most_steps}
 use Rattle.std.specs.Prelude.{ℕ, ◌<◌, ◌≤◌, List, length, Result, Ok, Err}
 use Rattle.ls_machine.specs.Room.{AreBadCells}
 use Rattle.ls_headline.specs.Same.{Fits}
@@ -27,7 +28,7 @@ pub data Turned (i : Image) (cells : ℕ) (steps : List ℕ) : Side → Result (
   NoRoom : ¬ AreBadCells (code_of_image i).names cells → (step : ℕ) → IsFirstUnfit (file_of_image i) (plain_program_of i) cells steps step →
       Turned i cells steps sides.Machine (Err (faults.Translation (translation.DoesNotFit step)))
   TooLong : ¬ AreBadCells (code_of_image i).names cells → Fits (file_of_image i) (plain_program_of i) cells steps →
-      1000000 < length (to_machine (file_of_image i) (plain_program_of i) (code_of_image i) cells steps) →
+      most_steps < length (to_machine (file_of_image i) (plain_program_of i) (code_of_image i) cells steps) →
       Turned i cells steps sides.Machine (Err (faults.Translation translation.ResultTooLong))
   NoCells : (to : Side) → AreBadCells (code_of_image i).names cells → Turned i cells steps to (Err faults.BadCells)
 

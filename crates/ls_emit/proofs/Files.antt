@@ -1,4 +1,5 @@
 -- The methods of a file.
+use Rattle.ls_code.specs.Limits.{most_instructions}
 use Rattle.std.proofs.Common.{◌≡◌, ℕ, zero, suc, ◌+◌, ◌<◌, ◌≤◌, length, map, sym, subst, arith, Result, Ok, Err, List, [], ◌∷◌, true, false}
 use Rattle.std.specs.Prelude.{All, slice_index_or, IfErr}
 use Rattle.std.proofs.lemmas.List.{get_or-map, length-map}
@@ -31,12 +32,12 @@ pub all_of_map : {X Y : Type 0} (P : Y → Type 0) (f : X → Y) (xs : List X) �
 all_of_map P f xs h = λ k d l. subst P (get_or-map f xs k d (f d) l) (h k (f d) (let e = length-map xs f in omega (arith, e, l)))
 
 -- the methods that the code sees and those of the file
-pub short_methods : (methods items : List Method) → methods ≡ items → All (λ m. method_size (plain_method m) ≤ 65536) methods → AllShort (map plain_method items)
-short_methods methods items e h = All-map (λ m. method_size m ≤ 65536) plain_method items (subst (λ ms. All (λ m. method_size (plain_method m) ≤ 65536) ms) e h)
+pub short_methods : (methods items : List Method) → methods ≡ items → All (λ m. method_size (plain_method m) ≤ most_instructions) methods → AllShort (map plain_method items)
+short_methods methods items e h = All-map (λ m. method_size m ≤ most_instructions) plain_method items (subst (λ ms. All (λ m. method_size (plain_method m) ≤ most_instructions) ms) e h)
 
 -- if the methods of the file are short, so are those that the code sees
-pub methods_short : (methods items : List Method) → methods ≡ items → AllShort (map plain_method items) → All (λ m. method_size (plain_method m) ≤ 65536) methods
-methods_short methods items e h = subst (λ ms. All (λ m. method_size (plain_method m) ≤ 65536) ms) (sym e) (all_of_map (λ m. method_size m ≤ 65536) plain_method items h)
+pub methods_short : (methods items : List Method) → methods ≡ items → AllShort (map plain_method items) → All (λ m. method_size (plain_method m) ≤ most_instructions) methods
+methods_short methods items e h = subst (λ ms. All (λ m. method_size (plain_method m) ≤ most_instructions) ms) (sym e) (all_of_map (λ m. method_size m ≤ most_instructions) plain_method items h)
 
 -- false is not true
 pub no_truth : false ≡ true → ⊥

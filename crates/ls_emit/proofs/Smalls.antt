@@ -1,13 +1,14 @@
 -- The numbers of an emittable tree are operands.
+use Rattle.ls_code.specs.Limits.{most_instructions}
 use Rattle.std.proofs.Common.{ℕ, suc, ◌+◌, ◌<◌, ◌≤◌, ◌^◌, arith}
 use Rattle.ls_lowered.specs.LoweredTree.{Expression, Word, Local, Unary, Binary, And, Or, Hold, Keep, After, Field, Item, SetFirst, ReadPair, SetPair, SwapPair, AttemptMark, OnLock, Call, MakeObject, MakeLock, MakeMarkable, MakeArray, Expressions, End, More, Statement, Block, SetLocal, SetField, AddField, SetItem, Evaluate, If, While, Return, Try, Guarded, Throw, Leavable, Leave, Statements, Done, Then, File}
 use Rattle.ls_emit_laws.specs.Emittable.{statement_count, IsEmittable, AreEmittable, IsEmittableStatement, AreEmittableStatements}
 use Rattle.ls_emit.specs.Small.{IsSmall, AreSmall, IsSmallStatement, AreSmallStatements}
 
-below : (k n : ℕ) → k ≤ 65536 → n < k → n < 2 ^ 32
+below : (k n : ℕ) → k ≤ most_instructions → n < k → n < 2 ^ 32
 below k n few h = omega arith
 
-module _ (ms : File) (k : ℕ) (few : k ≤ 65536) where
+module _ (ms : File) (k : ℕ) (few : k ≤ most_instructions) where
   mutual
     pub small : (e : Expression) → IsEmittable ms k e → IsSmall e
     small (Word w) h = h

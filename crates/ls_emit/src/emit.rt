@@ -1,5 +1,6 @@
 // The units of a file.
 
+ghost use Rattle.ls_code.specs.Limits.{most_instructions};
 ghost use Rattle.std.specs.Prelude.{◌≡◌, ◌≤◌, ◌↔◌, All, IfOk, OnOk, map};
 ghost use Rattle.ls_lowered.specs.Plain.{plain_method, plain_file};
 ghost use Rattle.ls_emit_laws.specs.Emittable.{IsEmittableFile};
@@ -22,7 +23,7 @@ use std::alloc::{AllocError, Global};
 
 // The unit of a method whose code isn't too long.
 fn emit_unit(alloc: Global, method: &Method) -> Result<CodeUnit, AllocError>
-    requires short { method_size (plain_method method.now) ≤ 65536 }
+    requires short { method_size (plain_method method.now) ≤ most_instructions }
     requires small { IsSmallStatement (plain_method method.now).body }
     ensures { IfOk result (λ u. u ≡ unit_of (plain_method method.now)) }
 {
@@ -48,7 +49,7 @@ fn emit_unit(alloc: Global, method: &Method) -> Result<CodeUnit, AllocError>
 }
 
 fn emit_units(alloc: Global, methods: &[Method]) -> Result<Vec<CodeUnit>, AllocError>
-    requires short { All (λ m. method_size (plain_method m) ≤ 65536) methods.now }
+    requires short { All (λ m. method_size (plain_method m) ≤ most_instructions) methods.now }
     requires small { All (λ m. IsSmallStatement (plain_method m).body) methods.now }
     ensures { IfOk result (λ us. us.items ≡ units_of (map plain_method methods.now)) }
 {

@@ -1,5 +1,6 @@
 // The code of expressions.
 
+ghost use Rattle.ls_code.specs.Limits.{most_instructions};
 ghost use Rattle.std.specs.Prelude.{◌≡◌, ◌+◌, ◌<◌, ◌≤◌, ◌^◌, ◌++◌, [], ◌∷◌, IfOk, OnOk};
 ghost use Rattle.ls_code.specs.declared.instruction.Instruction.TheVariants as op;
 ghost use Rattle.ls_lowered.specs.Plain.{plain, all_plain};
@@ -70,7 +71,7 @@ pub fn emit_expression(
     place: usize,
     e: &Expression,
 ) -> Result<usize, AllocError>
-    requires room { place + size (plain e.now) ≤ 65536 }
+    requires room { place + size (plain e.now) ≤ most_instructions }
     requires small { IsSmall (plain e.now) }
     ensures code { OnOk result (out.new.items ≡ out.old.items ++ code place (plain e.now)) }
     ensures next { IfOk result (λ next. (next ≡ place + size (plain e.now)) × (place < next)) }
@@ -137,7 +138,7 @@ pub fn emit_expression(
 // Arguments, from the left.
 #[cycle(expressions)]
 fn emit_all(out: &mut Vec<Instruction>, place: usize, es: &Expressions) -> Result<usize, AllocError>
-    requires room { place + all_size (all_plain es.now) ≤ 65536 }
+    requires room { place + all_size (all_plain es.now) ≤ most_instructions }
     requires small { AreSmall (all_plain es.now) }
     ensures code { OnOk result (out.new.items ≡ out.old.items ++ all_code place (all_plain es.now)) }
     ensures next { IfOk result (λ next. next ≡ place + all_size (all_plain es.now)) }
@@ -157,7 +158,7 @@ fn emit_one(
     place: usize,
     instruction: Instruction,
 ) -> Result<usize, AllocError>
-    requires { place + 1 ≤ 65536 }
+    requires { place + 1 ≤ most_instructions }
     ensures code { OnOk result (out.new.items ≡ out.old.items ++ instruction ∷ []) }
     ensures next { IfOk result (λ next. (next ≡ place + 1) × (place < next)) }
 {
@@ -173,7 +174,7 @@ pub fn emit_on(
     e: &Expression,
     instruction: Instruction,
 ) -> Result<usize, AllocError>
-    requires room { place + size (plain e.now) + 1 ≤ 65536 }
+    requires room { place + size (plain e.now) + 1 ≤ most_instructions }
     requires small { IsSmall (plain e.now) }
     ensures code { OnOk result (out.new.items ≡ out.old.items ++ (code place (plain e.now) ++ instruction ∷ [])) }
     ensures next { IfOk result (λ next. (next ≡ place + (size (plain e.now) + 1)) × (place < next)) }
@@ -192,7 +193,7 @@ pub fn emit_on_two(
     b: &Expression,
     instruction: Instruction,
 ) -> Result<usize, AllocError>
-    requires room { place + size (plain a.now) + size (plain b.now) + 1 ≤ 65536 }
+    requires room { place + size (plain a.now) + size (plain b.now) + 1 ≤ most_instructions }
     requires small { IsSmall (plain a.now) × IsSmall (plain b.now) }
     ensures code { OnOk result (out.new.items ≡ out.old.items ++ (code place (plain a.now) ++ code (place + size (plain a.now)) (plain b.now) ++ instruction ∷ [])) }
     ensures next { IfOk result (λ next. (next ≡ place + (size (plain a.now) + size (plain b.now) + 1)) × (place < next)) }
@@ -213,7 +214,7 @@ pub fn emit_on_three(
     b: &Expression,
     instruction: Instruction,
 ) -> Result<usize, AllocError>
-    requires room { place + size (plain e.now) + size (plain a.now) + size (plain b.now) + 1 ≤ 65536 }
+    requires room { place + size (plain e.now) + size (plain a.now) + size (plain b.now) + 1 ≤ most_instructions }
     requires small { IsSmall (plain e.now) × IsSmall (plain a.now) × IsSmall (plain b.now) }
     ensures code { OnOk result (out.new.items ≡ out.old.items ++ (code place (plain e.now) ++ code (place + size (plain e.now)) (plain a.now) ++ code (place + size (plain e.now) + size (plain a.now)) (plain b.now) ++ instruction ∷ [])) }
     ensures next { IfOk result (λ next. (next ≡ place + (size (plain e.now) + size (plain a.now) + size (plain b.now) + 1)) × (place < next)) }
@@ -234,7 +235,7 @@ fn emit_around(
     instruction: Instruction,
     b: &Expression,
 ) -> Result<usize, AllocError>
-    requires room { place + size (plain a.now) + size (plain b.now) + 1 ≤ 65536 }
+    requires room { place + size (plain a.now) + size (plain b.now) + 1 ≤ most_instructions }
     requires small { IsSmall (plain a.now) × IsSmall (plain b.now) }
     ensures code { OnOk result (out.new.items ≡ out.old.items ++ (code place (plain a.now) ++ instruction ∷ code (place + size (plain a.now) + 1) (plain b.now))) }
     ensures next { IfOk result (λ next. (next ≡ place + (size (plain a.now) + size (plain b.now) + 1)) × (place < next)) }
@@ -251,7 +252,7 @@ fn emit_and(
     a: &Expression,
     b: &Expression,
 ) -> Result<usize, AllocError>
-    requires room { place + size (plain a.now) + size (plain b.now) + 3 ≤ 65536 }
+    requires room { place + size (plain a.now) + size (plain b.now) + 3 ≤ most_instructions }
     requires small { IsSmall (plain a.now) × IsSmall (plain b.now) }
     ensures code { OnOk result (out.new.items ≡ out.old.items ++ (code place (plain a.now) ++ op.JumpIfFalse (place + size (plain a.now) + size (plain b.now) + 2) ∷ code (place + size (plain a.now) + 1) (plain b.now) ++ op.Jump (place + size (plain a.now) + size (plain b.now) + 3) ∷ op.Push 0 ∷ [])) }
     ensures next { IfOk result (λ next. (next ≡ place + (size (plain a.now) + size (plain b.now) + 3)) × (place < next)) }
@@ -275,7 +276,7 @@ fn emit_or(
     a: &Expression,
     b: &Expression,
 ) -> Result<usize, AllocError>
-    requires room { place + size (plain a.now) + size (plain b.now) + 3 ≤ 65536 }
+    requires room { place + size (plain a.now) + size (plain b.now) + 3 ≤ most_instructions }
     requires small { IsSmall (plain a.now) × IsSmall (plain b.now) }
     ensures code { OnOk result (out.new.items ≡ out.old.items ++ (code place (plain a.now) ++ op.JumpIfFalse (place + size (plain a.now) + 3) ∷ op.Push 1 ∷ op.Jump (place + size (plain a.now) + size (plain b.now) + 3) ∷ code (place + size (plain a.now) + 3) (plain b.now))) }
     ensures next { IfOk result (λ next. (next ≡ place + (size (plain a.now) + size (plain b.now) + 3)) × (place < next)) }

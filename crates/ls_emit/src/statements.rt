@@ -1,5 +1,6 @@
 // The code of statements.
 
+ghost use Rattle.ls_code.specs.Limits.{most_instructions};
 ghost use Rattle.std.specs.Prelude.{◌≡◌, ◌+◌, ◌≤◌, ◌++◌, [], ◌∷◌, IfOk, OnOk, drop, length, map, take};
 ghost use Rattle.ls_code.specs.declared.instruction.Instruction.TheVariants as op;
 ghost use Rattle.ls_lowered.specs.LoweredTree.{If, While, Guarded, Leavable};
@@ -31,7 +32,7 @@ pub fn emit_statement(
     s: &Statement,
 ) -> Result<(), AllocError>
     requires ends { at.end ≡ at.place + statement_size (plain_statement s.now) }
-    requires room { at.end ≤ 65536 }
+    requires room { at.end ≤ most_instructions }
     requires small { IsSmallStatement (plain_statement s.now) }
     requires sized { AreAhead (plain_statement s.now) out.old.sizes.now }
     ensures code { OnOk result (out.new.instructions.items ≡ out.old.instructions.items ++ statement_code (targets_of around.now) at.place (plain_statement s.now)) }
@@ -68,7 +69,7 @@ fn emit_addition(
     field: u32,
     value: &Expression,
 ) -> Result<(), AllocError>
-    requires room { place + size (plain object.now) + size (plain value.now) + 4 ≤ 65536 }
+    requires room { place + size (plain object.now) + size (plain value.now) + 4 ≤ most_instructions }
     requires small { IsSmall (plain object.now) × IsSmall (plain value.now) }
     ensures { OnOk result (out.new.items ≡ out.old.items ++ (code place (plain object.now) ++ op.Dup ∷ op.GetField field ∷ code (place + size (plain object.now) + 2) (plain value.now) ++ op.Add ∷ op.PutField field ∷ [])) }
 {
@@ -89,7 +90,7 @@ fn emit_alone(
     s: &Statement,
 ) -> Result<(), AllocError>
     requires alone { IsAlone (plain_statement s.now) }
-    requires room { place + statement_size (plain_statement s.now) ≤ 65536 }
+    requires room { place + statement_size (plain_statement s.now) ≤ most_instructions }
     requires small { IsSmallStatement (plain_statement s.now) }
     ensures { OnOk result (out.new.items ≡ out.old.items ++ statement_code (targets_of around.now) place (plain_statement s.now)) }
 {
@@ -134,7 +135,7 @@ fn emit_value(
     e: &Expression,
     instruction: Instruction,
 ) -> Result<(), AllocError>
-    requires room { place + size (plain e.now) + 1 ≤ 65536 }
+    requires room { place + size (plain e.now) + 1 ≤ most_instructions }
     requires small { IsSmall (plain e.now) }
     ensures { OnOk result (out.new.items ≡ out.old.items ++ (code place (plain e.now) ++ instruction ∷ [])) }
 {
@@ -156,7 +157,7 @@ fn emit_block(
     place: usize,
     statements: &[Statement],
 ) -> Result<(), AllocError>
-    requires room { place + statements_size (statements_of statements.now) ≤ 65536 }
+    requires room { place + statements_size (statements_of statements.now) ≤ most_instructions }
     requires small { AreSmallStatements (statements_of statements.now) }
     requires sized { AreAheadOfBlock (statements_of statements.now) out.old.sizes.now }
     ensures code { OnOk result (out.new.instructions.items ≡ out.old.instructions.items ++ statements_code (targets_of around.now) place (statements_of statements.now)) }
@@ -182,7 +183,7 @@ fn emit_if(
     second: &Statement,
 ) -> Result<(), AllocError>
     requires ends { at.end ≡ at.place + (size (plain condition.now) + statement_size (plain_statement first.now) + statement_size (plain_statement second.now) + 2) }
-    requires room { at.end ≤ 65536 }
+    requires room { at.end ≤ most_instructions }
     requires small { IsSmall (plain condition.now) × IsSmallStatement (plain_statement first.now) × IsSmallStatement (plain_statement second.now) }
     requires sized { AreAhead (If (plain condition.now) (plain_statement first.now) (plain_statement second.now)) out.old.sizes.now }
     ensures code { OnOk result (out.new.instructions.items ≡ out.old.instructions.items ++ statement_code (targets_of around.now) at.place (If (plain condition.now) (plain_statement first.now) (plain_statement second.now))) }
@@ -209,7 +210,7 @@ fn emit_while(
     body: &Statement,
 ) -> Result<(), AllocError>
     requires ends { at.end ≡ at.place + (size (plain condition.now) + statement_size (plain_statement body.now) + 2) }
-    requires room { at.end ≤ 65536 }
+    requires room { at.end ≤ most_instructions }
     requires small { IsSmall (plain condition.now) × IsSmallStatement (plain_statement body.now) }
     requires sized { AreAhead (plain_statement body.now) out.old.sizes.now }
     ensures code { OnOk result (out.new.instructions.items ≡ out.old.instructions.items ++ statement_code (targets_of around.now) at.place (While (plain condition.now) (plain_statement body.now))) }
@@ -236,7 +237,7 @@ fn emit_guarded(
     handler: &Statement,
 ) -> Result<(), AllocError>
     requires ends { at.end ≡ at.place + (statement_size (plain_statement body.now) + statement_size (plain_statement handler.now) + 2) }
-    requires room { at.end ≤ 65536 }
+    requires room { at.end ≤ most_instructions }
     requires small { IsSmallStatement (plain_statement body.now) × IsSmallStatement (plain_statement handler.now) }
     requires sized { AreAhead (Guarded (plain_statement body.now) number (plain_statement handler.now)) out.old.sizes.now }
     ensures code { OnOk result (out.new.instructions.items ≡ out.old.instructions.items ++ statement_code (targets_of around.now) at.place (Guarded (plain_statement body.now) number (plain_statement handler.now))) }
@@ -264,7 +265,7 @@ fn place_exits<'a>(
     exits: &[Statement],
 ) -> Result<(Layout, &'a [usize]), AllocError>
     requires room { exits_size (statements_of exits.now) ≤ end }
-    requires few { end ≤ 65536 }
+    requires few { end ≤ most_instructions }
     requires count { exit_count (statements_of exits.now) ≤ length out.old.sizes.now }
     requires sized { take (exit_count (statements_of exits.now)) out.old.sizes.now ≡ exit_sizes (statements_of exits.now) }
     ensures place { IfOk result (λ p. p.0.place + exits_size (statements_of exits.now) ≡ end) }
@@ -289,7 +290,7 @@ fn emit_leavable(
     exits: &[Statement],
 ) -> Result<(), AllocError>
     requires ends { at.end ≡ at.place + (statement_size (plain_statement body.now) + exits_size (statements_of exits.now)) }
-    requires room { at.end ≤ 65536 }
+    requires room { at.end ≤ most_instructions }
     requires small { IsSmallStatement (plain_statement body.now) × AreSmallStatements (statements_of exits.now) }
     requires sized { AreAhead (Leavable (plain_statement body.now) (statements_of exits.now)) out.old.sizes.now }
     ensures code { OnOk result (out.new.instructions.items ≡ out.old.instructions.items ++ statement_code (targets_of around.now) at.place (Leavable (plain_statement body.now) (statements_of exits.now))) }
@@ -318,7 +319,7 @@ fn emit_exits(
     sizes: &[usize],
 ) -> Result<(), AllocError>
     requires ends { at.end ≡ at.place + exits_size (statements_of exits.now) }
-    requires room { at.end ≤ 65536 }
+    requires room { at.end ≤ most_instructions }
     requires sizes { sizes.now ≡ map (λ s. statement_size (plain_statement s)) exits.now }
     requires small { AreSmallStatements (statements_of exits.now) }
     requires sized { AreAheadOfExits (statements_of exits.now) out.old.sizes.now }

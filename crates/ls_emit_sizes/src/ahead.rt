@@ -1,5 +1,6 @@
 // The sizes that are known ahead while code is made, so that no statement is counted twice.
 
+ghost use Rattle.ls_code.specs.Limits.{most_instructions};
 ghost use Rattle.std.specs.Prelude.{◌≡◌, ◌+◌, ◌≤◌, ◌++◌, ◌∷◌, [], IfOk, OnOk, reverse};
 ghost use Rattle.ls_lowered.specs.Plain.{plain_statement, statements_of};
 ghost use Rattle.ls_emit_laws.specs.Statements.{statement_size, statements_size, exits_size};
@@ -15,7 +16,7 @@ use std::alloc::{AllocError, Global};
 #[cycle(statements)]
 #[tactic(auto, using(crate::proofs::Blocks::block_read, crate::proofs::Weights::exits_hold))]
 fn put_ahead(alloc: Global, out: &mut Vec<usize>, s: &Statement) -> Result<usize, AllocError>
-    requires { statement_size (plain_statement s.now) ≤ 65536 }
+    requires { statement_size (plain_statement s.now) ≤ most_instructions }
     ensures size { IfOk result (λ n. n ≡ statement_size (plain_statement s.now)) }
     ensures ahead { OnOk result (reverse out.new.items ≡ sizes_ahead (plain_statement s.now) (reverse out.old.items)) }
 {
@@ -54,7 +55,7 @@ fn put_two(
     first: &Statement,
     second: &Statement,
 ) -> Result<usize, AllocError>
-    requires { statement_size (plain_statement first.now) + statement_size (plain_statement second.now) ≤ 65536 }
+    requires { statement_size (plain_statement first.now) + statement_size (plain_statement second.now) ≤ most_instructions }
     ensures size { IfOk result (λ n. n ≡ statement_size (plain_statement first.now) + statement_size (plain_statement second.now)) }
     ensures ahead { OnOk result (reverse out.new.items ≡ statement_size (plain_statement second.now) ∷ sizes_ahead (plain_statement first.now) (sizes_ahead (plain_statement second.now) (reverse out.old.items))) }
 {
@@ -70,7 +71,7 @@ fn put_block(
     out: &mut Vec<usize>,
     statements: &[Statement],
 ) -> Result<usize, AllocError>
-    requires { statements_size (statements_of statements.now) ≤ 65536 }
+    requires { statements_size (statements_of statements.now) ≤ most_instructions }
     ensures size { IfOk result (λ n. n ≡ statements_size (statements_of statements.now)) }
     ensures ahead { OnOk result (reverse out.new.items ≡ block_ahead (statements_of statements.now) (reverse out.old.items)) }
 {
@@ -91,7 +92,7 @@ fn put_leavable(
     body: &Statement,
     exits: &[Statement],
 ) -> Result<usize, AllocError>
-    requires { statement_size (plain_statement body.now) + exits_size (statements_of exits.now) ≤ 65536 }
+    requires { statement_size (plain_statement body.now) + exits_size (statements_of exits.now) ≤ most_instructions }
     ensures size { IfOk result (λ n. n ≡ statement_size (plain_statement body.now) + exits_size (statements_of exits.now)) }
     ensures ahead { OnOk result (reverse out.new.items ≡ exit_sizes (statements_of exits.now) ++ sizes_ahead (plain_statement body.now) (exits_ahead (statements_of exits.now) (reverse out.old.items))) }
 {
@@ -110,7 +111,7 @@ fn put_exits(
     exits: &[Statement],
     sizes: &mut Vec<usize>,
 ) -> Result<usize, AllocError>
-    requires { exits_size (statements_of exits.now) ≤ 65536 }
+    requires { exits_size (statements_of exits.now) ≤ most_instructions }
     ensures size { IfOk result (λ n. n ≡ exits_size (statements_of exits.now)) }
     ensures ahead { OnOk result (reverse out.new.items ≡ exits_ahead (statements_of exits.now) (reverse out.old.items)) }
     ensures sizes { OnOk result (reverse sizes.new.items ≡ exit_sizes (statements_of exits.now) ++ reverse sizes.old.items) }
@@ -137,7 +138,7 @@ fn put_size(out: &mut Vec<usize>, size: usize) -> Result<(), AllocError>
 /// needs them. The only refusal is that memory ran out.
 #[tactic(auto, using(crate::proofs::Listed::reversed_all, crate::proofs::Listed::reversed_one))]
 pub fn list_ahead(alloc: Global, s: &Statement) -> Result<Vec<usize>, AllocError>
-    requires { statement_size (plain_statement s.now) ≤ 65536 }
+    requires { statement_size (plain_statement s.now) ≤ most_instructions }
     ensures { IfOk result (λ sizes. sizes.items ≡ statement_size (plain_statement s.now) ∷ sizes_ahead (plain_statement s.now) []) }
 {
     let mut sizes = Vec::new(alloc);

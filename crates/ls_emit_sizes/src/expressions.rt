@@ -1,5 +1,6 @@
 // How long the code of an expression is; 65,537 if it has over 65,536 instructions.
 
+ghost use Rattle.ls_code.specs.Limits.{most_instructions};
 ghost use Rattle.std.specs.Prelude.{◌≡◌, ◌+◌, ◌≤◌, min};
 ghost use Rattle.ls_lowered.specs.Plain.{plain, all_plain};
 ghost use Rattle.ls_emit_laws.specs.Expressions.{size, all_size};
@@ -76,7 +77,7 @@ fn count_expressions(so_far: usize, es: &Expressions) -> usize
 
 /// How many instructions an expression has.
 pub fn size_of(e: &Expression) -> usize
-    requires { size (plain e.now) ≤ 65536 }
+    requires { size (plain e.now) ≤ most_instructions }
     ensures { result ≡ size (plain e.now) }
 {
     count_expression(0, e)

@@ -1,5 +1,6 @@
 // Where the exits of a leavable statement are.
 
+ghost use Rattle.ls_code.specs.Limits.{most_instructions};
 ghost use Rattle.std.specs.Prelude.{◌≡◌, ◌+◌, ◌≤◌, ◌++◌, [], ◌∷◌, IfOk};
 ghost use Rattle.ls_emit_sizes.specs.Places.{room, places_by};
 
@@ -14,7 +15,7 @@ pub struct Layout {
 
 // How many instructions exits of these sizes have, each after a jump.
 fn room_of(sizes: &[usize]) -> usize
-    requires { room sizes.now ≤ 65536 }
+    requires { room sizes.now ≤ most_instructions }
     ensures { result ≡ room sizes.now }
 {
     let mut count = 0;
@@ -26,7 +27,7 @@ fn room_of(sizes: &[usize]) -> usize
 
 // Where exits of these sizes begin, each after a jump, if the first jump is at `place`.
 fn find_begins(alloc: Global, place: usize, sizes: &[usize]) -> Result<Vec<u32>, AllocError>
-    requires { place + room sizes.now ≤ 65536 }
+    requires { place + room sizes.now ≤ most_instructions }
     ensures { IfOk result (λ begins. begins.items ++ (place + room sizes.now) ∷ [] ≡ places_by place sizes.now) }
 {
     let mut begins = Vec::with_capacity(alloc, sizes.len())?;
@@ -41,7 +42,7 @@ fn find_begins(alloc: Global, place: usize, sizes: &[usize]) -> Result<Vec<u32>,
 /// Where exits of these sizes are that end at `end`. The only refusal is that memory ran out.
 pub fn lay_out(alloc: Global, end: usize, sizes: &[usize]) -> Result<Layout, AllocError>
     requires room { room sizes.now ≤ end }
-    requires few { end ≤ 65536 }
+    requires few { end ≤ most_instructions }
     ensures place { IfOk result (λ layout. layout.place + room sizes.now ≡ end) }
     ensures begins { IfOk result (λ layout. layout.begins.items ++ end ∷ [] ≡ places_by layout.place sizes.now) }
 {

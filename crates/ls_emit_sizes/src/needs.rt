@@ -1,5 +1,6 @@
 // How many operands a tree's code has at most at one time.
 
+ghost use Rattle.ls_code.specs.Limits.{most_instructions};
 ghost use Rattle.std.specs.Prelude.{◌≡◌, ◌≤◌, max};
 ghost use Rattle.ls_lowered.specs.Plain.{plain, all_plain, plain_statement, statements_of};
 ghost use Rattle.ls_emit_laws.specs.Expressions.{size, all_size};
@@ -18,7 +19,7 @@ pub fn larger(a: usize, b: usize) -> usize
 /// The need of an expression whose code isn't too long.
 #[cycle(expressions)]
 pub fn need(e: &Expression) -> usize
-    requires { size (plain e.now) ≤ 65536 }
+    requires { size (plain e.now) ≤ most_instructions }
     ensures need { result ≡ need_of (plain e.now) }
     ensures some { 1 ≤ result }
     ensures few { result ≤ size (plain e.now) }
@@ -50,7 +51,7 @@ pub fn need(e: &Expression) -> usize
 
 #[cycle(expressions)]
 fn all_need(es: &Expressions) -> usize
-    requires { all_size (all_plain es.now) ≤ 65536 }
+    requires { all_size (all_plain es.now) ≤ most_instructions }
     ensures need { result ≡ all_need_of (all_plain es.now) }
     ensures few { result ≤ all_size (all_plain es.now) }
 {
@@ -64,7 +65,7 @@ fn all_need(es: &Expressions) -> usize
 #[cycle(statements)]
 #[tactic(auto, using(crate::proofs::Blocks::block_read, crate::proofs::Weights::exits_hold))]
 pub fn statement_need(s: &Statement) -> usize
-    requires { statement_size (plain_statement s.now) ≤ 65536 }
+    requires { statement_size (plain_statement s.now) ≤ most_instructions }
     ensures need { result ≡ statement_need_of (plain_statement s.now) }
     ensures few { result ≤ statement_size (plain_statement s.now) }
 {
@@ -94,7 +95,7 @@ pub fn statement_need(s: &Statement) -> usize
 
 #[cycle(statements)]
 fn statements_need(statements: &[Statement]) -> usize
-    requires { statements_size (statements_of statements.now) ≤ 65536 }
+    requires { statements_size (statements_of statements.now) ≤ most_instructions }
     ensures need { result ≡ statements_need_of (statements_of statements.now) }
     ensures few { result ≤ statements_size (statements_of statements.now) }
 {

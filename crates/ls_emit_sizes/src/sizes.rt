@@ -1,5 +1,6 @@
 // How long the code of statements is; 65,537 if it has over 65,536 instructions.
 
+ghost use Rattle.ls_code.specs.Limits.{most_instructions};
 ghost use Rattle.std.specs.Prelude.{◌≡◌, ◌+◌, ◌≤◌, ◌↔◌, All, IsTrue, min};
 ghost use Rattle.ls_lowered.specs.Plain.{plain_statement, statements_of, plain_method};
 ghost use Rattle.ls_emit_laws.specs.Statements.{statement_size, statements_size, exits_size};
@@ -80,7 +81,7 @@ fn count_exits(so_far: usize, exits: &[Statement]) -> usize
 
 /// How many instructions a statement has.
 pub fn size_of_statement(s: &Statement) -> usize
-    requires { statement_size (plain_statement s.now) ≤ 65536 }
+    requires { statement_size (plain_statement s.now) ≤ most_instructions }
     ensures { result ≡ statement_size (plain_statement s.now) }
 {
     count_statement(0, s)
@@ -88,14 +89,14 @@ pub fn size_of_statement(s: &Statement) -> usize
 
 // Whether a method's code isn't too long.
 fn is_short(method: &Method) -> bool
-    ensures { IsTrue result ↔ (method_size (plain_method method.now) ≤ 65536) }
+    ensures { IsTrue result ↔ (method_size (plain_method method.now) ≤ most_instructions) }
 {
     count_statement(2, &method.body) <= MOST_INSTRUCTIONS
 }
 
 /// Whether no method's code is too long.
 pub fn are_short(methods: &[Method]) -> bool
-    ensures { IsTrue result ↔ All (λ m. method_size (plain_method m) ≤ 65536) methods.now }
+    ensures { IsTrue result ↔ All (λ m. method_size (plain_method m) ≤ most_instructions) methods.now }
 {
     methods.iter().all(|method| is_short(method))
 }

@@ -13,16 +13,18 @@ pub struct Schedule {
 }
 
 impl Model for Schedule {
+    ghost use Rattle.ls_events.specs.Limits.{most_steps};
     ghost use Rattle.std.specs.Prelude.{ℕ, ◌≤◌, List, length};
 
     ghost Value = { List ℕ };
 
     ghost view = { λ s. s.steps.items };
 
-    ghost invariant = { λ s. length s.steps.items ≤ 1000000 };
+    ghost invariant = { λ s. length s.steps.items ≤ most_steps };
 }
 
 impl Schedule {
+    ghost use Rattle.ls_events.specs.Limits.{most_steps};
     ghost use Rattle.std.specs.Prelude.{◌≡◌, ◌<◌, ◌≤◌, ◌+◌, ◌↔◌, ◌++◌, ◌∷◌, [], length, replicate, IfOk, IsTrue, OnOk, OnErr};
 
     /// The empty schedule.
@@ -36,7 +38,7 @@ impl Schedule {
 
     /// The schedule of these steps.
     pub fn of(steps: Vec<u8>) -> Schedule
-        requires { length steps.items ≤ 1000000 }
+        requires { length steps.items ≤ most_steps }
         ensures { result ≡ steps.items }
     {
         Schedule { steps }
@@ -57,7 +59,7 @@ impl Schedule {
 
     /// A law: no schedule has more than `MOST_STEPS` steps.
     pub fn fits(&self)
-        ensures { length self.now ≤ 1000000 }
+        ensures { length self.now ≤ most_steps }
     {
         let _ = self.steps.as_slice();
     }
@@ -79,14 +81,14 @@ impl Schedule {
 
     /// Whether it has as many steps as a schedule can have.
     pub fn is_full(&self) -> bool
-        ensures { IsTrue result ↔ (length self.now ≡ 1000000) }
+        ensures { IsTrue result ↔ (length self.now ≡ most_steps) }
     {
         self.len() == MOST_STEPS
     }
 
     /// Adds so many steps of one thread.
     pub fn push_run(&mut self, thread: u8, count: usize) -> Result<(), AllocError>
-        requires { length self.old + count ≤ 1000000 }
+        requires { length self.old + count ≤ most_steps }
         ensures added { OnOk result (self.new ≡ self.old ++ replicate count thread) }
         ensures unchanged { OnErr result (self.new ≡ self.old) }
     {
@@ -97,7 +99,7 @@ impl Schedule {
     /// Adds a step.
     #[inline(always)]
     pub fn push(&mut self, thread: u8) -> Result<(), AllocError>
-        requires { length self.old < 1000000 }
+        requires { length self.old < most_steps }
         ensures added { OnOk result (self.new ≡ self.old ++ thread ∷ []) }
         ensures unchanged { OnErr result (self.new ≡ self.old) }
     {

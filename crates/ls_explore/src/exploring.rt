@@ -1,5 +1,6 @@
 // All that threads lead to from the machine after a setup.
 
+ghost use Rattle.ls_code.specs.Limits.{most_instructions};
 ghost use Rattle.std.specs.Prelude.{◌≡◌, ◌+◌, All, IfOk, IsSorted, IsTrue, IsErrOf, ◌↔◌, ◌≤◌, false, length};
 ghost use Rattle.ls_headline.specs.Translations.{most_silent};
 ghost use Rattle.ls_machine.specs.Room.{AreBadCells};
@@ -25,7 +26,7 @@ pub struct Exploration {
 
 /// The most silent steps of a thread in a row, and one more.
 fn most_steps(code: &Code) -> u64
-    requires { length code.now.instructions ≤ 65536 }
+    requires { length code.now.instructions ≤ most_instructions }
     ensures { result ≡ most_silent code.now + 1 }
 {
     64 * (code.instructions().len() as u64) + 1
@@ -60,7 +61,7 @@ pub fn explore(
     threads: u8,
     limit: usize,
 ) -> Result<Exploration, LoadFault>
-    requires { length code.now.instructions ≤ 65536 }
+    requires { length code.now.instructions ≤ most_instructions }
     ensures bad { IsErrOf result LoadFault.BadCells ↔ AreBadCells code.now.names cells }
     ensures told { IfOk result (λ e. TellsTruth code.now cells setup.now e.rows.items) }
     ensures found { IfOk result (λ e. TellsStates code.now cells setup.now e.rows.items e.states) }

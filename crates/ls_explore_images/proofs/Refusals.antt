@@ -1,4 +1,5 @@
 -- Refusals that come late.
+use Rattle.ls_events.specs.Limits.{most_steps}
 use Rattle.std.proofs.Common.{◌≡◌, ◌↔◌, ◌<◌, ◌≤◌, ◌⊎◌, inl, inr, ℕ, List, Result, Ok, Err, refl, subst, arith, length, replicate}
 use Rattle.std.specs.Prelude.{IfErr, IsErrOf}
 use Rattle.ls_checked.specs.CheckedTree.{File}
@@ -19,12 +20,12 @@ module _ (file : File) (program : Program) (code : Code) (cells k : ℕ) where
   pub late_translation : {T : Type 0} (f : TranslationFault) (source : List ℕ) → source ≡ replicate k 0
       → (IsErrOf {T = T} (Err f) translation.BadCells ↔ AreBadCells code.names cells)
       → ((step : ℕ) → IsErrOf {T = T} (Err f) (translation.DoesNotFit step) → IsFirstUnfit file program cells source step)
-      → (IsErrOf {T = T} (Err f) translation.ResultTooLong → 1000000 < length (to_machine file program code cells source))
+      → (IsErrOf {T = T} (Err f) translation.ResultTooLong → most_steps < length (to_machine file program code cells source))
       → IsLate file program code cells k (fault_of_translation f)
   late_translation translation.Memory source e bad unfit long = tt
   late_translation translation.BadCells source e bad unfit long = bad.0 refl
   late_translation (translation.DoesNotFit step) source e bad unfit long = subst (λ s. IsFirstUnfit file program cells s step) e (unfit step refl)
-  late_translation translation.ResultTooLong source e bad unfit long = subst (λ s. 1000000 < length (to_machine file program code cells s)) e (long refl)
+  late_translation translation.ResultTooLong source e bad unfit long = subst (λ s. most_steps < length (to_machine file program code cells s)) e (long refl)
 
   -- what a late refusal is, and what it isn't
   module _ {T : Type 0} (states : ℕ) where

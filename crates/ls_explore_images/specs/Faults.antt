@@ -1,4 +1,5 @@
 -- Why the schedules of an image aren't explored.
+use Rattle.ls_events.specs.Limits.{most_steps}
 use Rattle.std.specs.Prelude.{◌≡◌, ◌<◌, ◌⊎◌, ℕ, length, replicate}
 use Rattle.ls_checked.specs.CheckedTree.{File}
 use Rattle.ls_checked.specs.CheckedProgram.{Program}
@@ -31,7 +32,7 @@ abbrev pub StaysSource : File → Program → Code → ℕ → ℕ → Translati
 StaysSource file program code cells k translation.Memory = ⊥
 StaysSource file program code cells k translation.BadCells = ⊥
 StaysSource file program code cells k (translation.DoesNotFit step) = IsFirstUnfit file program cells (replicate k 0) step
-StaysSource file program code cells k translation.ResultTooLong = 1000000 < length (to_machine file program code cells (replicate k 0))
+StaysSource file program code cells k translation.ResultTooLong = most_steps < length (to_machine file program code cells (replicate k 0))
 
 -- a refusal that comes after the numbers have been looked at, and the setup's source, which ends with so many steps
 abbrev pub IsLate : File → Program → Code → ℕ → ℕ → ExploreFault → Type 0

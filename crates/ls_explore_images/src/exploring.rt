@@ -1,5 +1,6 @@
 // All schedules of the program of an image.
 
+ghost use Rattle.ls_code.specs.Limits.{most_instructions};
 ghost use Rattle.std.specs.Prelude.{◌≡◌, ◌<◌, ◌≤◌, ◌⊎◌, ◌↔◌, ℕ, IfErr, IfOk, IsErrOf, IsSorted, IsTrue, false, length, true};
 ghost use Rattle.ls_headline.specs.Same.{IsCells};
 ghost use Rattle.ls_image.specs.Images.{code_of_image};
@@ -36,7 +37,7 @@ pub struct ImageExploration {
 
 /// Nothing: the code of an image is short.
 fn is_short(image: &Image)
-    ensures { length (code_of_image image.now).instructions ≤ 65536 }
+    ensures { length (code_of_image image.now).instructions ≤ most_instructions }
 {}
 
 /// How many threads the program of an image has, the setup with them.

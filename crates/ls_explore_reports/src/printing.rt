@@ -1,5 +1,6 @@
 // The text of an exploration.
 
+ghost use Rattle.ls_events.specs.Limits.{most_steps};
 ghost use Rattle.std.specs.Prelude.{◌≡◌, ◌<◌, ◌≤◌, ◌⊎◌, ◌++◌, ◌∷◌, [], IfErr, IfOk, IsErrOf, OnOk, length, map, string_bytes};
 ghost use Rattle.ls_labels.specs.Names.{names_of};
 ghost use Rattle.ls_schedule.specs.Reading.{thread_name, thread_names};
@@ -51,7 +52,7 @@ impl Clone for Exploring {
 fn push_step(schedule: &mut Schedule, thread: u8) -> Result<(), TranslationFault>
     ensures steps { OnOk result (schedule.new ≡ schedule.old ++ thread ∷ []) }
     ensures only { IfErr result (λ e. (e ≡ Memory) ⊎ (e ≡ ResultTooLong)) }
-    ensures long { IsErrOf result ResultTooLong → 1000000 ≤ length schedule.old }
+    ensures long { IsErrOf result ResultTooLong → most_steps ≤ length schedule.old }
 {
     if schedule.len() >= MOST_STEPS {
         return Err(TranslationFault::ResultTooLong);
@@ -64,7 +65,7 @@ fn push_step(schedule: &mut Schedule, thread: u8) -> Result<(), TranslationFault
 fn schedule_of(alloc: Global, setup: usize, row: &Row) -> Result<Schedule, TranslationFault>
     ensures steps { IfOk result (λ s. s ≡ schedule_of setup row.now) }
     ensures only { IfErr result (λ e. (e ≡ Memory) ⊎ (e ≡ ResultTooLong)) }
-    ensures long { IsErrOf result ResultTooLong → 1000000 < length (schedule_of setup row.now) }
+    ensures long { IsErrOf result ResultTooLong → most_steps < length (schedule_of setup row.now) }
 {
     let mut schedule = Schedule::new(alloc);
     for _ in 0..setup {
@@ -192,7 +193,7 @@ fn push_row(
 ) -> Result<(), TranslationFault>
     ensures text { OnOk result (string_bytes out.new ≡ string_bytes out.old ++ row_text (names_of names.entry) (thread_names names.entry.program.now) setup judged.now) }
     ensures only { IfErr result (λ e. (e ≡ Memory) ⊎ (e ≡ ResultTooLong)) }
-    ensures long { IsErrOf result ResultTooLong → 1000000 < length (schedule_of setup judged.now.row) }
+    ensures long { IsErrOf result ResultTooLong → most_steps < length (schedule_of setup judged.now.row) }
 {
     let row = judged.row();
     let schedule = schedule_of(alloc, setup, row)?;

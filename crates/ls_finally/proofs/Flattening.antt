@@ -1,4 +1,5 @@
 -- A block whose statements are lowered, one after the other.
+use Rattle.ls_lowered.specs.Limits.{most_locals}
 use Rattle.std.proofs.Common.{◌≡◌, ℕ, ◌+◌, ◌*◌, ◌≤◌, ap, sym, ◌∙◌, List, [], ◌∷◌, ◌++◌, arith}
 use Rattle.ls_lowered.specs.declared.tree.Statement.{Statement}
 use Rattle.ls_lowered.specs.declared.fault.LowerFault.{LowerFault}
@@ -52,7 +53,7 @@ too_many_more TooManyCopies m n h l = omega (arith, h, l)
 
 -- a statement of a block has room
 pub one_fits : (first so_far : ℕ) (whole done : List Statement) (free count : ℕ) (items rest : List Statement) (s : Statement) → items ≡ s ∷ rest →
-    Flattening first so_far whole done free count items → first + 2 * all_tries (statements_of whole) ≤ 128 → free + 2 * tries (plain_statement s) ≤ 128
+    Flattening first so_far whole done free count items → first + 2 * all_tries (statements_of whole) ≤ most_locals → free + 2 * tries (plain_statement s) ≤ most_locals
 one_fits first so_far whole done free count items rest s split g h =
     let e = tries_split items rest s split in
     let l = g.locals in

@@ -1,4 +1,5 @@
 -- How many copies of finally blocks a method has without `try`, and which files are refused.
+use Rattle.ls_lowered.specs.Limits.{most_locals}
 use Rattle.std.specs.Prelude.{ℕ, ◌+◌, ◌*◌, ◌≤◌, length, All}
 use Rattle.ls_lowered.specs.declared.fault.LowerFault.{LowerFault}
 use Rattle.ls_lowered.specs.declared.fault.LowerFault.TheVariants.{Memory, TooManyLocals, TooManyCopies}
@@ -37,7 +38,7 @@ FewCopies methods = All (λ m. copies_of m ≤ 4096) methods
 
 -- no method has more than 128 locals
 abbrev pub FewLocals : File → Type 0
-FewLocals methods = All (λ m. locals_of m ≤ 128) methods
+FewLocals methods = All (λ m. locals_of m ≤ most_locals) methods
 
 abbrev pub Refused : File → LowerFault → Type 0
 Refused methods Memory = FewLocals methods

@@ -1,5 +1,6 @@
 // How many locals a method takes.
 
+ghost use Rattle.ls_lowered.specs.Limits.{most_locals};
 ghost use Rattle.std.specs.Prelude.{◌≡◌, ℕ, ◌+◌, ◌*◌, ◌≤◌, ◌↔◌, All, IsTrue};
 ghost use Rattle.std.specs.Option.{SomeIff};
 ghost use Rattle.ls_lowered.specs.Plain.{plain_statement, statements_of, plain_method};
@@ -13,8 +14,8 @@ pub const MOST_LOCALS: usize = 128;
 
 // `count` locals more than `so_far`; none if that is over 128.
 fn more(so_far: usize, count: usize) -> Option<usize>
-    requires { so_far ≤ 128 }
-    ensures { SomeIff result (so_far + count ≤ 128) (so_far + count) }
+    requires { so_far ≤ most_locals }
+    ensures { SomeIff result (so_far + count ≤ most_locals) (so_far + count) }
 {
     if count <= MOST_LOCALS - so_far {
         Some(so_far + count)
@@ -27,8 +28,8 @@ fn more(so_far: usize, count: usize) -> Option<usize>
 #[cycle(statements)]
 #[tactic(auto, using(ls_finally_copies::proofs::Fronts::block_read))]
 fn count_tries(s: &Statement, so_far: usize) -> Option<usize>
-    requires { so_far ≤ 128 }
-    ensures { SomeIff result (so_far + 2 * tries (plain_statement s.now) ≤ 128) (so_far + 2 * tries (plain_statement s.now)) }
+    requires { so_far ≤ most_locals }
+    ensures { SomeIff result (so_far + 2 * tries (plain_statement s.now) ≤ most_locals) (so_far + 2 * tries (plain_statement s.now)) }
 {
     match s {
         Statement::Block(statements) => count_in_block(statements, so_far),
@@ -54,8 +55,8 @@ fn count_tries(s: &Statement, so_far: usize) -> Option<usize>
 
 #[cycle(statements)]
 fn count_in_block(statements: &[Statement], so_far: usize) -> Option<usize>
-    requires { so_far ≤ 128 }
-    ensures { SomeIff result (so_far + 2 * all_tries (statements_of statements.now) ≤ 128) (so_far + 2 * all_tries (statements_of statements.now)) }
+    requires { so_far ≤ most_locals }
+    ensures { SomeIff result (so_far + 2 * all_tries (statements_of statements.now) ≤ most_locals) (so_far + 2 * all_tries (statements_of statements.now)) }
 {
     let mut count = so_far;
     for s in statements {
@@ -65,7 +66,7 @@ fn count_in_block(statements: &[Statement], so_far: usize) -> Option<usize>
 }
 
 fn count_locals(method: &Method) -> Option<usize>
-    ensures { SomeIff result (locals_of (plain_method method.now) ≤ 128) (locals_of (plain_method method.now)) }
+    ensures { SomeIff result (locals_of (plain_method method.now) ≤ most_locals) (locals_of (plain_method method.now)) }
 {
     let own = more(more(0, method.arguments)?, method.locals)?;
     count_tries(&method.body, own)
@@ -73,7 +74,7 @@ fn count_locals(method: &Method) -> Option<usize>
 
 /// Whether no method has over 128 locals, with two for each `try`.
 pub fn have_few_locals(methods: &[Method]) -> bool
-    ensures { IsTrue result ↔ All (λ m. locals_of (plain_method m) ≤ 128) methods.now }
+    ensures { IsTrue result ↔ All (λ m. locals_of (plain_method m) ≤ most_locals) methods.now }
 {
     for method in methods {
         if count_locals(method).is_none() {

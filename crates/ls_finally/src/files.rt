@@ -1,5 +1,6 @@
 // Methods and files.
 
+ghost use Rattle.ls_lowered.specs.Limits.{most_locals};
 ghost use Rattle.std.specs.Prelude.{◌≡◌, ℕ, ◌≤◌, List, length, map, All, IfOk, IfErr, OnOk};
 ghost use Rattle.ls_lowered.specs.Plain.{plain_method, plain_file};
 ghost use Rattle.ls_lowered.specs.Course.{Answers};
@@ -18,7 +19,7 @@ use std::alloc::Global;
 
 // A method without `try`, if it has few enough copies.
 fn lower_method(alloc: Global, method: &Method) -> Result<Method, LowerFault>
-    requires { locals_of (plain_method method.now) ≤ 128 }
+    requires { locals_of (plain_method method.now) ≤ most_locals }
     ensures tree { IfOk result (λ m. plain_method m ≡ flat_method (plain_method method.now)) }
     ensures few { Fits result (copies_of (plain_method method.now)) }
 {
@@ -36,7 +37,7 @@ fn lower_method(alloc: Global, method: &Method) -> Result<Method, LowerFault>
 
 // All methods without `try`, if each has few enough copies.
 fn lower_methods(alloc: Global, methods: &[Method]) -> Result<Vec<Method>, LowerFault>
-    requires { All (λ m. locals_of (plain_method m) ≤ 128) methods.now }
+    requires { All (λ m. locals_of (plain_method m) ≤ most_locals) methods.now }
     ensures tree { IfOk result (λ v. map plain_method v.items ≡ flat_file (map plain_method methods.now)) }
     ensures few { OnOk result (FewCopies (map plain_method methods.now)) }
     ensures refused { IfErr result (Refused (map plain_method methods.now)) }

@@ -1,5 +1,6 @@
 // Statements without `try`.
 
+ghost use Rattle.ls_lowered.specs.Limits.{most_locals};
 ghost use Rattle.std.specs.Prelude.{◌≡◌, ℕ, ◌+◌, ◌*◌, ◌≤◌, length, IfOk, IfErr, OnOk, Ok, Err};
 ghost use Rattle.std.specs.Option.{SomeIff};
 ghost use Rattle.ls_lowered.specs.LoweredTree.{Try, Leavable};
@@ -61,7 +62,7 @@ impl Lowering {
     #[cycle(flatten)]
     #[tactic(auto, using(ls_finally_copies::proofs::Fronts::block_read, ls_lowered::proofs::Rows::block_made))]
     pub fn flatten(&mut self, alloc: Global, s: &Statement) -> Result<Statement, LowerFault>
-        requires room { self.old.free + 2 * tries (plain_statement s.now) ≤ 128 }
+        requires room { self.old.free + 2 * tries (plain_statement s.now) ≤ most_locals }
         requires few { self.old.count ≤ 4096 }
         ensures tree { IfOk result (λ t. plain_statement t ≡ flat self.old.free (plain_statement s.now)) }
         ensures free { OnOk result (self.new.free ≡ self.old.free + 2 * tries (plain_statement s.now)) }
@@ -105,7 +106,7 @@ impl Lowering {
         alloc: Global,
         statements: &[Statement],
     ) -> Result<Vec<Statement>, LowerFault>
-        requires room { self.old.free + 2 * all_tries (statements_of statements.now) ≤ 128 }
+        requires room { self.old.free + 2 * all_tries (statements_of statements.now) ≤ most_locals }
         requires few { self.old.count ≤ 4096 }
         ensures tree { IfOk result (λ v. statements_of v.items ≡ all_flat self.old.free (statements_of statements.now)) }
         ensures free { OnOk result (self.new.free ≡ self.old.free + 2 * all_tries (statements_of statements.now)) }
@@ -123,7 +124,7 @@ impl Lowering {
     #[cycle(flatten)]
     #[inline(never)]
     fn flat_part(&mut self, alloc: Global, s: &Statement) -> Result<Box<Statement>, LowerFault>
-        requires room { self.old.free + 2 * tries (plain_statement s.now) ≤ 128 }
+        requires room { self.old.free + 2 * tries (plain_statement s.now) ≤ most_locals }
         requires few { self.old.count ≤ 4096 }
         ensures tree { IfOk result (λ t. plain_statement t.value ≡ flat self.old.free (plain_statement s.now)) }
         ensures free { OnOk result (self.new.free ≡ self.old.free + 2 * tries (plain_statement s.now)) }
@@ -143,7 +144,7 @@ impl Lowering {
         first: &Statement,
         second: &Statement,
     ) -> Result<(Box<Statement>, Box<Statement>), LowerFault>
-        requires room { self.old.free + 2 * (tries (plain_statement first.now) + tries (plain_statement second.now)) ≤ 128 }
+        requires room { self.old.free + 2 * (tries (plain_statement first.now) + tries (plain_statement second.now)) ≤ most_locals }
         requires few { self.old.count ≤ 4096 }
         ensures first { IfOk result (λ p. plain_statement p.0.value ≡ flat self.old.free (plain_statement first.now)) }
         ensures second { IfOk result (λ p. plain_statement p.1.value ≡ flat (self.old.free + 2 * tries (plain_statement first.now)) (plain_statement second.now)) }
@@ -164,7 +165,7 @@ impl Lowering {
         body: &Statement,
         own: &[Statement],
     ) -> Result<Statement, LowerFault>
-        requires room { self.old.free + 2 * (tries (plain_statement body.now) + all_tries (statements_of own.now)) ≤ 128 }
+        requires room { self.old.free + 2 * (tries (plain_statement body.now) + all_tries (statements_of own.now)) ≤ most_locals }
         requires few { self.old.count ≤ 4096 }
         ensures tree { IfOk result (λ t. plain_statement t ≡ flat self.old.free (Leavable (plain_statement body.now) (statements_of own.now))) }
         ensures free { OnOk result (self.new.free ≡ self.old.free + 2 * (tries (plain_statement body.now) + all_tries (statements_of own.now))) }
@@ -189,7 +190,7 @@ impl Lowering {
         body: &Statement,
         finally: &Statement,
     ) -> Result<Statement, LowerFault>
-        requires room { self.old.free + 2 * (tries (plain_statement body.now) + tries (plain_statement finally.now) + 1) ≤ 128 }
+        requires room { self.old.free + 2 * (tries (plain_statement body.now) + tries (plain_statement finally.now) + 1) ≤ most_locals }
         requires few { self.old.count ≤ 4096 }
         ensures tree { IfOk result (λ t. plain_statement t ≡ flat self.old.free (Try (plain_statement body.now) (plain_statement finally.now))) }
         ensures free { OnOk result (self.new.free ≡ self.old.free + 2 * (tries (plain_statement body.now) + tries (plain_statement finally.now) + 1)) }
@@ -216,7 +217,7 @@ impl Lowering {
         within: usize,
     ) -> Result<Statement, LowerFault>
         requires few { within ≤ 4096 }
-        requires room { self.old.free ≤ 128 }
+        requires room { self.old.free ≤ most_locals }
         ensures tree { IfOk result (λ t. plain_statement t ≡ finally_of self.old.free (plain_statement body.now) (plain_statement finally.now)) }
         ensures free { OnOk result (self.new.free ≡ self.old.free + 2) }
         ensures count { OnOk result (self.new.count ≡ self.old.count + (2 + length (exits 0 (plain_statement body.now))) * (1 + within)) }

@@ -1,4 +1,5 @@
 -- The methods of a file.
+use Rattle.ls_code.specs.Limits.{most_instructions}
 use Rattle.std.proofs.Common.{◌≡◌, ℕ, ◌+◌, ◌<◌, ◌≤◌, length, take, map, refl, sym, ap, ◌∙◌, subst, arith, Result, Ok, Err, List, [], ◌∷◌, ◌++◌}
 use Rattle.std.specs.Prelude.{All, slice_index_or, IfErr, min}
 use Rattle.std.proofs.lemmas.List.{map-append}
@@ -53,31 +54,31 @@ pub passes_on : {A : Type 0} (methods items : List Method) (r : Result A CountFa
 passes_on methods items (Ok x) same h = tt
 passes_on methods items (Err e) same h = refused_so methods items same e h
 
-short_here : (m : Method) → method_size (flat_method (plain_method m)) ≤ 65536 → counted_size (plain_statement m.body) ≤ 65536
+short_here : (m : Method) → method_size (flat_method (plain_method m)) ≤ most_instructions → counted_size (plain_statement m.body) ≤ most_instructions
 short_here m h = omega (arith, h, size_right (plain_statement m.body) (m.arguments + m.locals))
 
-size_here : (m : Method) → counted_size (plain_statement m.body) ≤ 65536 → method_size (flat_method (plain_method m)) ≤ 65536
+size_here : (m : Method) → counted_size (plain_statement m.body) ≤ most_instructions → method_size (flat_method (plain_method m)) ≤ most_instructions
 size_here m h = omega (arith, h, size_right (plain_statement m.body) (m.arguments + m.locals))
 
 -- what is counted of each method, and the code of each
-pub are_short : (methods items : List Method) (lengths : List ℕ) → methods ≡ items → lengths ≡ map (λ m. counted_size (plain_statement m.body)) methods → AreShort (map plain_method items) → All (λ n. n ≤ 65536) lengths
+pub are_short : (methods items : List Method) (lengths : List ℕ) → methods ≡ items → lengths ≡ map (λ m. counted_size (plain_statement m.body)) methods → AreShort (map plain_method items) → All (λ n. n ≤ most_instructions) lengths
 are_short methods items lengths same counted h =
-    let flat : All (λ m. method_size (flat_method m) ≤ 65536) (map plain_method items) = all_of_map (λ m. method_size m ≤ 65536) flat_method (map plain_method items) h in
-    let code : All (λ m. method_size (flat_method (plain_method m)) ≤ 65536) items = all_of_map (λ m. method_size (flat_method m) ≤ 65536) plain_method items flat in
-    let short : All (λ m. counted_size (plain_statement m.body) ≤ 65536) items =
-    all_weaker (λ m. method_size (flat_method (plain_method m)) ≤ 65536) (λ m. counted_size (plain_statement m.body) ≤ 65536) items short_here code in
-    subst (λ ns. All (λ n. n ≤ 65536) ns) (sym (counted ∙ ap (map (λ m. counted_size (plain_statement m.body))) same))
-    (All-map (λ n. n ≤ 65536) (λ m. counted_size (plain_statement m.body)) items short)
+    let flat : All (λ m. method_size (flat_method m) ≤ most_instructions) (map plain_method items) = all_of_map (λ m. method_size m ≤ most_instructions) flat_method (map plain_method items) h in
+    let code : All (λ m. method_size (flat_method (plain_method m)) ≤ most_instructions) items = all_of_map (λ m. method_size (flat_method m) ≤ most_instructions) plain_method items flat in
+    let short : All (λ m. counted_size (plain_statement m.body) ≤ most_instructions) items =
+    all_weaker (λ m. method_size (flat_method (plain_method m)) ≤ most_instructions) (λ m. counted_size (plain_statement m.body) ≤ most_instructions) items short_here code in
+    subst (λ ns. All (λ n. n ≤ most_instructions) ns) (sym (counted ∙ ap (map (λ m. counted_size (plain_statement m.body))) same))
+    (All-map (λ n. n ≤ most_instructions) (λ m. counted_size (plain_statement m.body)) items short)
 
 -- if no counted length is over 65536, no method's code is too long
-pub short_so : (methods items : List Method) (lengths : List ℕ) → methods ≡ items → lengths ≡ map (λ m. counted_size (plain_statement m.body)) methods → All (λ n. n ≤ 65536) lengths → AreShort (map plain_method items)
+pub short_so : (methods items : List Method) (lengths : List ℕ) → methods ≡ items → lengths ≡ map (λ m. counted_size (plain_statement m.body)) methods → All (λ n. n ≤ most_instructions) lengths → AreShort (map plain_method items)
 short_so methods items lengths same counted h =
-    let all : All (λ n. n ≤ 65536) (map (λ m. counted_size (plain_statement m.body)) items) =
-    subst (λ ns. All (λ n. n ≤ 65536) ns) (counted ∙ ap (map (λ m. counted_size (plain_statement m.body))) same) h in
-    let short : All (λ m. counted_size (plain_statement m.body) ≤ 65536) items = all_of_map (λ n. n ≤ 65536) (λ m. counted_size (plain_statement m.body)) items all in
-    let code : All (λ m. method_size (flat_method (plain_method m)) ≤ 65536) items =
-    all_weaker (λ m. counted_size (plain_statement m.body) ≤ 65536) (λ m. method_size (flat_method (plain_method m)) ≤ 65536) items size_here short in
-    All-map (λ m. method_size m ≤ 65536) flat_method (map plain_method items) (All-map (λ m. method_size (flat_method m) ≤ 65536) plain_method items code)
+    let all : All (λ n. n ≤ most_instructions) (map (λ m. counted_size (plain_statement m.body)) items) =
+    subst (λ ns. All (λ n. n ≤ most_instructions) ns) (counted ∙ ap (map (λ m. counted_size (plain_statement m.body))) same) h in
+    let short : All (λ m. counted_size (plain_statement m.body) ≤ most_instructions) items = all_of_map (λ n. n ≤ most_instructions) (λ m. counted_size (plain_statement m.body)) items all in
+    let code : All (λ m. method_size (flat_method (plain_method m)) ≤ most_instructions) items =
+    all_weaker (λ m. counted_size (plain_statement m.body) ≤ most_instructions) (λ m. method_size (flat_method (plain_method m)) ≤ most_instructions) items size_here short in
+    All-map (λ m. method_size m ≤ most_instructions) flat_method (map plain_method items) (All-map (λ m. method_size (flat_method m) ≤ most_instructions) plain_method items code)
 
 -- the sum is right up to its bound
 sum_right : (items : List Method) → min (sum (map (λ m. counted_size (plain_statement m.body)) items)) 65537 ≡ min (file_size (flat_file (map plain_method items))) 65537
@@ -90,9 +91,9 @@ sum_here methods items lengths same counted =
     ap (λ ns. min (sum ns) 65537) (counted ∙ ap (map (λ m. counted_size (plain_statement m.body))) same) ∙ sum_right items
 
 -- if the methods are short together, so are the counted lengths
-pub together : (methods items : List Method) (lengths : List ℕ) → methods ≡ items → lengths ≡ map (λ m. counted_size (plain_statement m.body)) methods → AreShortTogether (map plain_method items) → sum lengths ≤ 65536
+pub together : (methods items : List Method) (lengths : List ℕ) → methods ≡ items → lengths ≡ map (λ m. counted_size (plain_statement m.body)) methods → AreShortTogether (map plain_method items) → sum lengths ≤ most_instructions
 together methods items lengths same counted h = omega (arith, h, sum_here methods items lengths same counted)
 
 -- if the counted lengths are short together, so are the methods
-pub together_so : (methods items : List Method) (lengths : List ℕ) → methods ≡ items → lengths ≡ map (λ m. counted_size (plain_statement m.body)) methods → sum lengths ≤ 65536 → AreShortTogether (map plain_method items)
+pub together_so : (methods items : List Method) (lengths : List ℕ) → methods ≡ items → lengths ≡ map (λ m. counted_size (plain_statement m.body)) methods → sum lengths ≤ most_instructions → AreShortTogether (map plain_method items)
 together_so methods items lengths same counted h = omega (arith, h, sum_here methods items lengths same counted)

@@ -1,4 +1,5 @@
 -- Why a file has no tree without `try`.
+use Rattle.ls_code.specs.Limits.{most_instructions}
 use Rattle.std.specs.Prelude.{ℕ, ◌<◌, ◌≤◌, Result, Ok, Err, All, List}
 use Rattle.ls_lowered.specs.LoweredTree.{File}
 use Rattle.ls_lowered.specs.Plain.{plain_statement}
@@ -12,11 +13,11 @@ use Rattle.ls_finally_counts.specs.declared.fault.CountFault.TheVariants.{Memory
 
 -- no method's code has over 65,536 instructions
 abbrev pub AreShort : File → Type 0
-AreShort methods = All (λ m. method_size m ≤ 65536) (flat_file methods)
+AreShort methods = All (λ m. method_size m ≤ most_instructions) (flat_file methods)
 
 -- all methods have at most 65,536 instructions together
 abbrev pub AreShortTogether : File → Type 0
-AreShortTogether methods = file_size (flat_file methods) ≤ 65536
+AreShortTogether methods = file_size (flat_file methods) ≤ most_instructions
 
 -- Copies come before lengths, and the length of each method comes before that of all. "Out of memory" says nothing.
 abbrev pub Refused : File → CountFault → Type 0

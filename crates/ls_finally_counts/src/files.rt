@@ -1,5 +1,6 @@
 // Methods and files.
 
+ghost use Rattle.ls_code.specs.Limits.{most_instructions};
 ghost use Rattle.std.specs.Prelude.{◌≡◌, ◌≤◌, ◌↔◌, All, map, IfOk, IfErr, IsTrue, OnOk};
 ghost use Rattle.ls_lowered.specs.Plain.{plain_statement, plain_file};
 ghost use Rattle.ls_finally.specs.Counts.{FewCopies};
@@ -43,7 +44,7 @@ fn count_methods(alloc: Global, methods: &[Method]) -> Result<Vec<usize>, CountF
 
 // Whether no method has over 65,536 instructions.
 fn are_short(lengths: &[usize]) -> bool
-    ensures { IsTrue result ↔ All (λ n. n ≤ 65536) lengths.now }
+    ensures { IsTrue result ↔ All (λ n. n ≤ most_instructions) lengths.now }
 {
     for length in lengths {
         if *length > MOST_INSTRUCTIONS {
@@ -55,7 +56,7 @@ fn are_short(lengths: &[usize]) -> bool
 
 // Whether the methods have at most 65,536 instructions together.
 fn are_short_together(lengths: &[usize]) -> bool
-    ensures { IsTrue result ↔ (sum lengths.now ≤ 65536) }
+    ensures { IsTrue result ↔ (sum lengths.now ≤ most_instructions) }
 {
     let mut left = MOST_INSTRUCTIONS;
     for length in lengths {

@@ -3,6 +3,7 @@
 // A tree can be hundreds of levels high: what isn't recursive is kept out of the recursive functions, whose frames have to be
 // small.
 
+ghost use Rattle.ls_lowered.specs.Limits.{most_locals};
 ghost use Rattle.std.specs.Prelude.{◌≡◌, ℕ, suc, ◌+◌, ◌<◌, ◌≤◌, ◌^◌, ◌++◌, length, IfOk, OnOk};
 ghost use Rattle.ls_lowered.specs.LoweredTree.{Statements, SetLocal, Leavable, Leave};
 ghost use Rattle.ls_lowered.specs.Plain.{plain, plain_statement, statements_of};
@@ -217,7 +218,7 @@ fn all_ways(
     found: &[Exit],
     free: usize,
 ) -> Result<Vec<Statement>, AllocError>
-    requires { free ≤ 128 }
+    requires { free ≤ most_locals }
     ensures { IfOk result (λ v. statements_of v.items ≡ first_ways free (plain_statement finally.now) (ways (free + 1) (plain_statement finally.now) (plain_exits found.now))) }
 {
     let mut out = first_ways(alloc, finally, free)?;
@@ -241,7 +242,7 @@ pub fn by_copies(
     requires those { plain_exits found.now ≡ exits 0 (plain_statement body.now) }
     requires few { length (exits 0 (plain_statement body.now)) ≤ 4096 }
     requires low { numbers (plain_statement body.now) < 2 ^ 63 }
-    requires room { free ≤ 128 }
+    requires room { free ≤ most_locals }
     ensures { IfOk result (λ t. plain_statement t ≡ finally_of free (plain_statement body.now) (plain_statement finally.now)) }
 {
     let mut next = 2;

@@ -1,4 +1,5 @@
 -- What each layer's fault says of the checked file.
+use Rattle.ls_code.specs.Limits.{most_instructions}
 use Rattle.std.proofs.Common.{◌≡◌, ◌<◌, ◌≤◌, List, length, arith, refl, sym, subst, ap, ◌∙◌}
 use Rattle.ls_checked.specs.CheckedTree.{File}
 use Rattle.ls_checked.specs.CheckedProgram.{Program}
@@ -31,7 +32,7 @@ long_unit file program floor long =
     let no : ¬ (count file program ≤ 4096) = λ le. long (floor file program (flat_of file) le).0 in
     omega (arith, no)
 
-long_code : (file : File) (program : Program) → KeepsFloor → 65536 < length (code_of file program).instructions → 4096 < count file program
+long_code : (file : File) (program : Program) → KeepsFloor → most_instructions < length (code_of file program).instructions → 4096 < count file program
 long_code file program floor long =
     let no : ¬ (count file program ≤ 4096) = λ le. (let short = (floor file program (flat_of file) le).1 in omega (arith, short, long)) in
     omega (arith, no)
@@ -52,8 +53,8 @@ module _ (file : File) (program : Program) (refs : low.File) (r : refs ≡ lower
       (fits, subst FewCopies r refused.0, too_long, long_unit file program floor too_long)
   counts_past counts.TooLongTogether holds floor fits refused =
       let here : flat_file refs ≡ flat_of file = ap flat_file r in
-      let no : ¬ (file_size (flat_of file) ≤ 65536) = λ le. refused.2 (subst (λ f. file_size f ≤ 65536) (sym here) le) in
-      let too_long : 65536 < length (code_of file program).instructions = omega (arith, no, holds file program (flat_of file)) in
+      let no : ¬ (file_size (flat_of file) ≤ most_instructions) = λ le. refused.2 (subst (λ f. file_size f ≤ most_instructions) (sym here) le) in
+      let too_long : most_instructions < length (code_of file program).instructions = omega (arith, no, holds file program (flat_of file)) in
       (fits, subst FewCopies r refused.0, subst AllShort here refused.1, too_long, long_code file program floor too_long)
 
   pub units_past : (flat : low.File) (f : EmitFault) → KeepsFloor → AllFit file.methods → FewCopies refs → flat ≡ flat_file refs → (f ≡ emit.CodeTooLong → ¬ AllShort flat) → GoesPast file program (Emit f)
@@ -64,9 +65,9 @@ module _ (file : File) (program : Program) (refs : low.File) (r : refs ≡ lower
 
   -- so does a fault of linking
   pub link_past : (flat : low.File) (units : List CodeUnit) (f : LinkFault) → KeepsFloor → AllFit file.methods → FewCopies refs → flat ≡ flat_file refs → AllShort flat → units ≡ units_of flat →
-      (f ≡ link.CodeTooLong → 65536 < length (linked file program units).instructions) → GoesPast file program (Link f)
+      (f ≡ link.CodeTooLong → most_instructions < length (linked file program units).instructions) → GoesPast file program (Link f)
   link_past flat units link.Memory floor fits few e short u long = tt
   link_past flat units link.CodeTooLong floor fits few e short u long =
       let flat_here : flat ≡ flat_of file = e ∙ ap flat_file r in
-      let too_long : 65536 < length (code_of file program).instructions = subst (λ us. 65536 < length (linked file program us).instructions) (u ∙ ap units_of flat_here) (long refl) in
+      let too_long : most_instructions < length (code_of file program).instructions = subst (λ us. most_instructions < length (linked file program us).instructions) (u ∙ ap units_of flat_here) (long refl) in
       (fits, subst FewCopies r few, subst AllShort flat_here short, too_long, long_code file program floor too_long)

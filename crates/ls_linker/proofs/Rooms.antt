@@ -1,4 +1,5 @@
 -- Places of a code stay small enough, and so a machine can be made of it.
+use Rattle.ls_code.specs.Limits.{most_instructions}
 use Rattle.std.proofs.Common.{◌≡◌, ℕ, zero, suc, ◌+◌, ◌*◌, ◌^◌, ◌≤◌, List, [], ◌∷◌, length, map, ap, ◌∙◌, arith}
 use Rattle.std.specs.Prelude.{All}
 use Rattle.std.proofs.lemmas.List.{length-append, length-map}
@@ -30,7 +31,7 @@ all_unmapped P f (x ∷ xs) h (suc k) d below = all_unmapped P f xs (others_of_a
 
 -- after a unit there is room for those that follow it
 pub unit_room : (old new : Code) (u : CodeUnit) (us : List CodeUnit) → AddsUnits old (u ∷ []) new → UnitLands u →
-    length old.instructions + 65536 * length (u ∷ us) ≤ 2 ^ 26 → length new.instructions + 65536 * length us ≤ 2 ^ 26
+    length old.instructions + most_instructions * length (u ∷ us) ≤ 2 ^ 26 → length new.instructions + most_instructions * length us ≤ 2 ^ 26
 unit_room old new u us a lands room =
     let all = ap length a.instructions ∙ length-append old.instructions (units_code (length old.instructions) (u ∷ [])) in
     let many = units_length (length old.instructions) (u ∷ []) in

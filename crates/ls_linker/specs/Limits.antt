@@ -1,4 +1,5 @@
 -- When no code is built of a checked file and a program, and what holds if code is built.
+use Rattle.ls_code.specs.Limits.{most_instructions}
 use Rattle.std.specs.Prelude.{◌<◌, ◌≤◌, length}
 use Rattle.ls_checked.specs.CheckedTree.{File}
 use Rattle.ls_checked.specs.CheckedProgram.{Program}
@@ -19,7 +20,7 @@ pub record KeepsLimits (file : File) (program : Program) : Type 0 where
   pub locals : AllFit file.methods
   pub copies : FewCopies (lowered_file file)
   pub short : AllShort (flat_of file)
-  pub whole : length (code_of file program).instructions ≤ 65536
+  pub whole : length (code_of file program).instructions ≤ most_instructions
 
 -- A fault names the first limit that isn't kept: locals, then copies, then the instructions of a method, then those of
 -- the whole code. If the count is at most 4,096, no code is too long. "Out of memory" says nothing.
@@ -31,4 +32,4 @@ GoesPast file program (Emit emit.Memory) = Unit {0}
 GoesPast file program (Emit emit.CodeTooLong) = AllFit file.methods × FewCopies (lowered_file file) × ¬ AllShort (flat_of file) × 4096 < count file program
 GoesPast file program (Link link.Memory) = Unit {0}
 GoesPast file program (Link link.CodeTooLong) =
-    AllFit file.methods × FewCopies (lowered_file file) × AllShort (flat_of file) × 65536 < length (code_of file program).instructions × 4096 < count file program
+    AllFit file.methods × FewCopies (lowered_file file) × AllShort (flat_of file) × most_instructions < length (code_of file program).instructions × 4096 < count file program

@@ -1,5 +1,6 @@
 // The law of the whole way: the function computes nothing, and its contract says the law.
 
+ghost use Rattle.ls_code.specs.Limits.{most_instructions};
 ghost use Rattle.std.specs.Prelude.{◌≤◌, length};
 ghost use Rattle.ls_checked.specs.CheckedTree.{File};
 ghost use Rattle.ls_checked.specs.CheckedProgram.{Program};
@@ -21,7 +22,7 @@ use ls_soundness::laws::{is_sound, suited_in_call};
 
 /// The code of a well typed file and a well typed program of it runs as these do, if the code isn't too long.
 pub fn compiled_runs()
-    ensures { (file : File) (program : Program) → ∥ IsWellTyped file ∥₁ → ∥ IsWellTypedProgram file program ∥₁ → AllPlaced (lowered_file file) (lowered_file file) → IsEmittableFile (flat_of file) → length (code_of file program).instructions ≤ 65536 → Runs file program (code_of file program) }
+    ensures { (file : File) (program : Program) → ∥ IsWellTyped file ∥₁ → ∥ IsWellTypedProgram file program ∥₁ → AllPlaced (lowered_file file) (lowered_file file) → IsEmittableFile (flat_of file) → length (code_of file program).instructions ≤ most_instructions → Runs file program (code_of file program) }
 {
     suited_in_call();
     keeps_courses();

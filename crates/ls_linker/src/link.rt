@@ -1,5 +1,6 @@
 // The whole code.
 
+ghost use Rattle.ls_code.specs.Limits.{most_instructions};
 ghost use Rattle.std.specs.Prelude.{◌≡◌, ◌<◌, ◌≤◌, All, Err, IfOk, OnOk, length, map};
 ghost use Rattle.ls_checked.specs.Plain.{plain_class, plain_file};
 ghost use Rattle.ls_checked.specs.PlainProgram.{plain_program};
@@ -89,8 +90,8 @@ pub fn link(
 ) -> Result<Code, LinkFault>
     requires { Links (plain_file file.now) (plain_program program.now) units.now }
     ensures code { IfOk result (λ c. c ≡ linked (plain_file file.now) (plain_program program.now) units.now) }
-    ensures long { result ≡ Err faults.CodeTooLong → 65536 < length (linked (plain_file file.now) (plain_program program.now) units.now).instructions }
-    ensures short { IfOk result (λ c. length c.instructions ≤ 65536) }
+    ensures long { result ≡ Err faults.CodeTooLong → most_instructions < length (linked (plain_file file.now) (plain_program program.now) units.now).instructions }
+    ensures short { IfOk result (λ c. length c.instructions ≤ most_instructions) }
 {
     let parts = linked_parts(alloc, units, file, program)?;
     if parts.instructions.len() > MOST_INSTRUCTIONS {

@@ -1,5 +1,6 @@
 // Units, one after another.
 
+ghost use Rattle.ls_code.specs.Limits.{most_instructions};
 ghost use Rattle.std.specs.Prelude.{◌≡◌, ◌++◌, ◌+◌, ◌*◌, ◌^◌, ◌≤◌, ◌∷◌, [], All, OnOk, length, map};
 ghost use Rattle.ls_emit_laws.specs.Units.{moved as the_moved, moved_row as the_moved_row};
 ghost use Rattle.ls_linker_bounds.specs.Landing.{Lands, RowLands, UnitLands};
@@ -13,7 +14,7 @@ use std::alloc::AllocError;
 /// An instruction of a unit that begins at `start`.
 fn moved(start: u32, instruction: Instruction) -> Instruction
     requires room { start ≤ 2 ^ 26 }
-    requires lands { Lands 65536 instruction }
+    requires lands { Lands most_instructions instruction }
     ensures { result ≡ the_moved start instruction }
 {
     match instruction {
@@ -27,7 +28,7 @@ fn moved(start: u32, instruction: Instruction) -> Instruction
 
 fn moved_row(start: usize, row: HandlerRow) -> HandlerRow
     requires room { start ≤ 2 ^ 26 }
-    requires lands { RowLands 65536 row }
+    requires lands { RowLands most_instructions row }
     ensures { result ≡ the_moved_row start row }
 {
     HandlerRow {
@@ -44,7 +45,7 @@ fn add_instructions(
     instructions: &[Instruction],
 ) -> Result<(), AllocError>
     requires room { start ≤ 2 ^ 26 }
-    requires lands { All (Lands 65536) instructions.now }
+    requires lands { All (Lands most_instructions) instructions.now }
     ensures { OnOk result (code.new.items ≡ code.old.items ++ map (the_moved start) instructions.now) }
 {
     for instruction in instructions {
@@ -59,7 +60,7 @@ fn add_rows(
     rows: &[HandlerRow],
 ) -> Result<(), AllocError>
     requires room { start ≤ 2 ^ 26 }
-    requires lands { All (RowLands 65536) rows.now }
+    requires lands { All (RowLands most_instructions) rows.now }
     ensures { OnOk result (handlers.new.items ≡ handlers.old.items ++ map (the_moved_row start) rows.now) }
 {
     for row in rows {
@@ -90,7 +91,7 @@ fn add_unit(parts: &mut Parts, unit: &CodeUnit) -> Result<(), AllocError>
 /// only refusal is that memory ran out.
 #[tactic(auto, using(crate::proofs::Rooms::first_of_all, crate::proofs::Rooms::others_of_all, crate::proofs::Rooms::unit_room))]
 pub fn add_units(parts: &mut Parts, units: &[CodeUnit]) -> Result<(), AllocError>
-    requires room { length parts.old.instructions + 65536 * length units.now ≤ 2 ^ 26 }
+    requires room { length parts.old.instructions + most_instructions * length units.now ≤ 2 ^ 26 }
     requires lands { All UnitLands units.now }
     ensures { OnOk result (AddsUnits parts.old units.now parts.new) }
 {

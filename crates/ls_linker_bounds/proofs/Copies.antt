@@ -1,4 +1,5 @@
 -- Nodes of trees without `try`, by the copies of finally blocks.
+use Rattle.ls_lowered.specs.Limits.{most_locals}
 use Rattle.std.proofs.Common.{◌≡◌, ℕ, zero, suc, ◌+◌, ◌*◌, ◌≤◌, List, [], ◌∷◌, length, Option, Some, None, arith, length-append}
 use Rattle.ls_checked.specs.CheckedTree as checked
 use Rattle.ls_lowered.specs.LoweredTree.{Statement, Block, SetLocal, SetField, AddField, SetItem, Evaluate, If, While, Return, Try, Guarded, Throw, Leavable, Leave, Statements, Done, Then}
@@ -126,12 +127,12 @@ lowers_few classes m =
     let h = flat_few (16 * written_nodes m.body) words.body (words.arguments + words.locals) few in
     omega (arith, few, h)
 
-written_few : (classes : List checked.Class) (ms : List checked.Method) → All (λ g. locals_of g ≤ 128) (map (lowered_method classes) ms) →
+written_few : (classes : List checked.Class) (ms : List checked.Method) → All (λ g. locals_of g ≤ most_locals) (map (lowered_method classes) ms) →
     file_count (map flat_method (map (lowered_method classes) ms)) ≤ written_count classes ms
 written_few classes [] few = omega arith
 written_few classes (m ∷ ms) few =
     let words = lowered_method classes m in
-    let names : locals_of words ≤ 128 = few 0 words (omega arith) in
+    let names : locals_of words ≤ most_locals = few 0 words (omega arith) in
     omega (arith, names, lowers_few classes m, written_few classes ms (λ k d below. few (suc k) d (omega (arith, below))))
 
 -- the law: the count of the lowered tree, by what is written

@@ -1,4 +1,5 @@
 -- The jumps and rows of a unit name places of the unit, or the place just after it.
+use Rattle.ls_code.specs.Limits.{most_instructions}
 use Rattle.std.proofs.Common.{ℕ, zero, suc, ◌+◌, ◌≤◌, ◌<◌, List, [], ◌∷◌, ◌++◌, length, arith}
 use Rattle.std.specs.Prelude.{All, slice_index_or}
 use Rattle.std.proofs.lemmas.List.{length-append}
@@ -186,21 +187,21 @@ each_all P [] h k d below = absurd (let f : ⊥ = omega (arith, below) in f)
 each_all P (x ∷ xs) h zero d below = h.0
 each_all P (x ∷ xs) h (suc k) d below = each_all P xs h.1 k d (omega (arith, below))
 
-unit_lands : (ms : File) (m : Method) → IsEmittableMethod ms m → method_size m ≤ 65536 → UnitLands (unit_of m)
+unit_lands : (ms : File) (m : Method) → IsEmittableMethod ms m → method_size m ≤ most_instructions → UnitLands (unit_of m)
 unit_lands ms m e short =
     let length_is = statement_size_is m.body [] 0 in
     let many = length-append (statement_code [] 0 m.body) (op.Push 0 ∷ op.LeaveWith ∷ []) in
     let locals = e.locals in
     record {
       short = omega (arith, length_is, many, short);
-      jumps = each_all (Lands 65536) (method_code 0 m)
-          (joined 65536 (statement_code [] 0 m.body) (op.Push 0 ∷ op.LeaveWith ∷ []) (statement_lands 65536 [] 0 m.body (lead_nowhere 65536) (omega (arith, short))) (tt, (tt, tt)));
-      rows = each_all (RowLands 65536) (method_rows 0 m) (rows_land 65536 0 m.body (omega (arith, short)));
+      jumps = each_all (Lands most_instructions) (method_code 0 m)
+          (joined most_instructions (statement_code [] 0 m.body) (op.Push 0 ∷ op.LeaveWith ∷ []) (statement_lands most_instructions [] 0 m.body (lead_nowhere most_instructions) (omega (arith, short))) (tt, (tt, tt)));
+      rows = each_all (RowLands most_instructions) (method_rows 0 m) (rows_land most_instructions 0 m.body (omega (arith, short)));
       arguments = omega (arith, locals);
       more = omega (arith, locals);
     }
 
-each_unit : (ms : File) (rest : File) → AllEmittable ms rest → ((k : ℕ) (d : Method) → k < length rest → method_size (slice_index_or rest k d) ≤ 65536) → Each UnitLands (units_of rest)
+each_unit : (ms : File) (rest : File) → AllEmittable ms rest → ((k : ℕ) (d : Method) → k < length rest → method_size (slice_index_or rest k d) ≤ most_instructions) → Each UnitLands (units_of rest)
 each_unit ms [] e short = tt
 each_unit ms (m ∷ rest) e short =
     (unit_lands ms m e.0 (short 0 m (omega arith)), each_unit ms rest e.1 (λ k d below. short (suc k) d (omega (arith, below))))

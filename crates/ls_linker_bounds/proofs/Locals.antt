@@ -1,4 +1,5 @@
 -- The lowered methods have as many locals as the checked ones.
+use Rattle.ls_lowered.specs.Limits.{most_locals}
 use Rattle.std.proofs.Common.{◌≡◌, ℕ, ◌+◌, ◌≤◌, ◌<◌, List, length, refl, ap₂, ◌∙◌, arith}
 use Rattle.std.specs.Prelude.{slice_index_or}
 use Rattle.std.proofs.lemmas.List.Elements.{All-map}
@@ -39,7 +40,7 @@ mutual
       ∙ ap₂ (λ x y. x + y) (tries_same classes _ s) (all_tries_same classes _ ss)
 
 -- a method with few locals has a lowered method with few locals
-pub few_here : (classes : List Class) (m : Method) → m.parameters < length m.slots → refs.locals_of m ≤ 128 → locals_of (lowered_method classes m) ≤ 128
+pub few_here : (classes : List Class) (m : Method) → m.parameters < length m.slots → refs.locals_of m ≤ most_locals → locals_of (lowered_method classes m) ≤ most_locals
 few_here classes m slots few =
     let e = tries_same classes (length m.slots) m.body in
     omega (arith, e, slots, few)
@@ -47,5 +48,5 @@ few_here classes m slots few =
 -- if the methods of a file have few locals, so have its lowered methods
 pub few_locals : (file : File) → AllSlotted file.methods → AllFit file.methods → FewLocals (lowered_file file)
 few_locals file slots fit =
-    All-map (λ m. locals_of m ≤ 128) (lowered_method file.classes) file.methods
+    All-map (λ m. locals_of m ≤ most_locals) (lowered_method file.classes) file.methods
     (λ k m below. few_here file.classes (slice_index_or file.methods k m) (slots k m below) (fit k m below))

@@ -1,4 +1,5 @@
 -- The tree without `try` of a typed file in range has code.
+use Rattle.ls_lowered.specs.Limits.{most_locals}
 use Rattle.std.proofs.Common.{◌≡◌, ℕ, suc, ◌+◌, ◌*◌, ◌≤◌, ◌<◌, List, [], ◌∷◌, length, map, Option, Some, refl, ap, lit<, arith}
 use Rattle.std.specs.Prelude.{slice_get}
 use Rattle.ls_events.specs.declared.value.ValueType.{ValueType}
@@ -77,7 +78,7 @@ module _ (file : File) (typed : IsTypedFile file) (its : HasItsClasses file) (ra
         (flattens free loops around s two fits (omega (arith, room)) h.0 j.0) (all_flatten (free + statement_temporaries s) loops around ss two (omega (arith, fits)) (omega (arith, room)) h.1 j.1)
 
 module _ (file : File) (typed : IsTypedFile file) (its : HasItsClasses file) (ranged : IsRanged file) where
-  method_emittable : (m : Method) → IsTypedMethod file m → JumpsInLoops 0 m.body → refs.locals_of m ≤ 128 →
+  method_emittable : (m : Method) → IsTypedMethod file m → JumpsInLoops 0 m.body → refs.locals_of m ≤ most_locals →
       IsEmittableMethod (flat_file (lowered_file file)) (flat_method (lowered_method file.classes m))
   method_emittable m t j fit =
       let low = lowered_method file.classes m in
@@ -93,7 +94,7 @@ module _ (file : File) (typed : IsTypedFile file) (its : HasItsClasses file) (ra
       }
 
   all_emittable : (rest : List Method) → ((n : ℕ) (m : Method) → slice_get rest n ≡ Some m → IsTypedMethod file m) →
-      ((n : ℕ) (m : Method) → slice_get rest n ≡ Some m → JumpsInLoops 0 m.body) → ((n : ℕ) (m : Method) → slice_get rest n ≡ Some m → refs.locals_of m ≤ 128) →
+      ((n : ℕ) (m : Method) → slice_get rest n ≡ Some m → JumpsInLoops 0 m.body) → ((n : ℕ) (m : Method) → slice_get rest n ≡ Some m → refs.locals_of m ≤ most_locals) →
       AllEmittable (flat_file (lowered_file file)) (map flat_method (map (lowered_method file.classes) rest))
   all_emittable [] h j f = tt
   all_emittable (m ∷ rest) h j f =
@@ -101,4 +102,4 @@ module _ (file : File) (typed : IsTypedFile file) (its : HasItsClasses file) (ra
 
   -- the tree without `try` of a file with few locals has code
   pub file_emittable : HasItsLoops file → AllFit file.methods → IsEmittableFile (flat_file (lowered_file file))
-  file_emittable loops fit = all_emittable file.methods typed loops (λ n m e. all_at (λ m. refs.locals_of m ≤ 128) file.methods fit n m e)
+  file_emittable loops fit = all_emittable file.methods typed loops (λ n m e. all_at (λ m. refs.locals_of m ≤ most_locals) file.methods fit n m e)

@@ -1,4 +1,5 @@
 -- The whole code by the counts.
+use Rattle.ls_code.specs.Limits.{most_instructions}
 use Rattle.std.proofs.Common.{◌≡◌, ℕ, ◌+◌, ◌*◌, zero, suc, ◌<◌, ◌≤◌, List, [], ◌∷◌, length, map, arith, length-append}
 use Rattle.std.specs.Prelude.{slice_index_or}
 use Rattle.std.proofs.lemmas.List.{length-map}
@@ -76,7 +77,7 @@ code_short file program flat =
     let a = length-append (units_code 0 (units_of flat)) (threads_code file.classes program.threads) in
     omega (arith, a, units_short 0 flat, threads_short file.classes program.threads)
 
-each_short : (flat : File) → file_count flat ≤ 4096 → (k : ℕ) (d : Method) → k < length flat → method_size (slice_index_or flat k d) ≤ 65536
+each_short : (flat : File) → file_count flat ≤ 4096 → (k : ℕ) (d : Method) → k < length flat → method_size (slice_index_or flat k d) ≤ most_instructions
 each_short [] le k d l = absurd (let no : ⊥ = omega (arith, l) in no)
 each_short (m ∷ ms) le zero d l = omega (arith, le, method_sized m)
 each_short (m ∷ ms) le (suc k) d l = each_short ms (omega (arith, le)) k d (omega (arith, l))

@@ -1,4 +1,5 @@
 -- How long code may be, by the counts of its tree and its program.
+use Rattle.ls_code.specs.Limits.{most_instructions}
 use Rattle.std.specs.Prelude.{ℕ, ◌+◌, ◌*◌, ◌≤◌, List, [], ◌∷◌, length}
 use Rattle.std.specs.List.{All}
 use Rattle.ls_checked.specs.CheckedTree as checked
@@ -30,7 +31,7 @@ CodeIsShort =
 abbrev pub KeepsFloor : Type 0
 KeepsFloor =
     (file : checked.File) (program : Program) (flat : File) → file_count flat + program_count program ≤ 4096 →
-    All (λ m. method_size m ≤ 65536) flat × length (linked file program (units_of flat)).instructions ≤ 65536
+    All (λ m. method_size m ≤ most_instructions) flat × length (linked file program (units_of flat)).instructions ≤ most_instructions
 
 -- The lowering makes at most 16 nodes of one node. Then each copy of a finally block adds at most 6 nodes, and the
 -- nodes of the body that the block belongs to.

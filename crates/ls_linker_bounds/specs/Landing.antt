@@ -1,4 +1,5 @@
 -- Units whose jumps and rows name no place beyond the greatest length of a unit.
+use Rattle.ls_code.specs.Limits.{most_instructions}
 use Rattle.std.specs.Prelude.{ℕ, ◌≤◌, length}
 use Rattle.std.specs.List.{All}
 use Rattle.ls_code.specs.declared.instruction.Instruction.{Instruction}
@@ -21,8 +22,8 @@ pub record RowLands (n : ℕ) (row : HandlerRow) : Type 0 where
 
 -- at most 65,536 instructions, arguments and further locals, and places within them
 pub record UnitLands (u : CodeUnit) : Type 0 where
-  pub short : length u.instructions ≤ 65536
-  pub jumps : All (Lands 65536) u.instructions
-  pub rows : All (RowLands 65536) u.handlers
-  pub arguments : u.arguments ≤ 65536
-  pub more : u.more ≤ 65536
+  pub short : length u.instructions ≤ most_instructions
+  pub jumps : All (Lands most_instructions) u.instructions
+  pub rows : All (RowLands most_instructions) u.handlers
+  pub arguments : u.arguments ≤ most_instructions
+  pub more : u.more ≤ most_instructions

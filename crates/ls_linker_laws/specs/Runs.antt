@@ -1,4 +1,5 @@
 -- What the code of a file and a program promises about its runs.
+use Rattle.ls_code.specs.Limits.{most_instructions}
 use Rattle.std.specs.Prelude.{◌*◌, ◌≤◌, length}
 use Rattle.ls_checked.specs.CheckedTree.{File}
 use Rattle.ls_checked.specs.CheckedProgram.{Program}
@@ -32,5 +33,5 @@ pub record Runs (file : File) (program : Program) (code : Code) : Type 0 where
   -- In its own code a thread makes at most three more than the most values that a call passes.
   pub threads : ThreadsAreQuick file program code
   -- The code has at most 65,536 instructions, and at most 16 for each thing that is counted.
-  pub short : length code.instructions ≤ 65536
+  pub short : length code.instructions ≤ most_instructions
   pub lean : length code.instructions ≤ 16 * count file program

@@ -203,6 +203,7 @@ fn agree_all<L: Session>(book: &Book<L>, seats: &[Seat<L>]) -> bool
 }
 
 impl<L: Session> Live<L> {
+    ghost use Rattle.ls_events.specs.Limits.{most_steps};
     ghost use Rattle.ls_live.specs.Closing.{IsClosed, IsNotClosed};
 
     /// A live run of an image on `cells` cells, with at most `limit` steps. It has one seat for each thread, that of
@@ -223,7 +224,7 @@ impl<L: Session> Live<L> {
         requires start { L.start ≡ loaded (code_of_image image.now) cells }
         requires limit { L.limit ≡ limit }
         ensures cells { IsErrOf result LiveFault.BadCells ↔ AreBadCells (code_of_image image.now).names cells }
-        ensures limit { IsErrOf result LiveFault.BadLimit ↔ (¬ AreBadCells (code_of_image image.now).names cells × (1000000 < limit)) }
+        ensures limit { IsErrOf result LiveFault.BadLimit ↔ (¬ AreBadCells (code_of_image image.now).names cells × (most_steps < limit)) }
         ensures seats { IfOk result (λ r. length r.1.items ≡ L.seats) }
         ensures seat { IfOk result (λ r. (t : ℕ) → t < L.seats → slice_get r.1.items t ≡ Some (seat_of t 0 Nothing)) }
     {

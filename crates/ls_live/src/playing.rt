@@ -1,5 +1,6 @@
 // A whole live run.
 
+ghost use Rattle.ls_events.specs.Limits.{most_steps};
 ghost use Rattle.ls_code.specs.Machine.{loaded};
 ghost use Rattle.ls_image.specs.Images.{code_of_image};
 ghost use Rattle.ls_live.specs.Records.{AreThere, IsDone};
@@ -48,7 +49,7 @@ fn played<L: Session + Send + Sync, G: Gate + Sync, R: Threads + Wait + Sync>(
     requires start { L.start ≡ loaded (code_of_image image.now) bounds.cells }
     requires limit { L.limit ≡ bounds.limit }
     ensures cells { IsErrOf result (PlayFault.Open BadCells) ↔ AreBadCells (code_of_image image.now).names bounds.cells }
-    ensures limit { IsErrOf result (PlayFault.Open BadLimit) ↔ (¬ AreBadCells (code_of_image image.now).names bounds.cells × (1000000 < bounds.limit)) }
+    ensures limit { IsErrOf result (PlayFault.Open BadLimit) ↔ (¬ AreBadCells (code_of_image image.now).names bounds.cells × (most_steps < bounds.limit)) }
     ensures record { IfOk result (λ r. IsRecordOf (code_of_image image.now) bounds.cells (scheduled r) r) }
     ensures there { IfOk result (AreThere (code_of_image image.now)) }
     ensures due { IfOk result (λ r. AreDue (loaded (code_of_image image.now) bounds.cells) (scheduled r)) }
@@ -86,7 +87,7 @@ pub fn play_live<G: Gate + Sync, R: Threads + Wait + Sync>(
     gate: &G,
 ) -> Result<Record, PlayFault>
     ensures cells { IsErrOf result (PlayFault.Open BadCells) ↔ AreBadCells (code_of_image image.now).names cells }
-    ensures limit { IsErrOf result (PlayFault.Open BadLimit) ↔ (¬ AreBadCells (code_of_image image.now).names cells × (1000000 < limit)) }
+    ensures limit { IsErrOf result (PlayFault.Open BadLimit) ↔ (¬ AreBadCells (code_of_image image.now).names cells × (most_steps < limit)) }
     ensures record { IfOk result (λ r. IsRecordOf (code_of_image image.now) cells (scheduled r) r) }
     ensures there { IfOk result (AreThere (code_of_image image.now)) }
     ensures due { IfOk result (λ r. AreDue (loaded (code_of_image image.now) cells) (scheduled r)) }

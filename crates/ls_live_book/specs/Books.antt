@@ -1,4 +1,5 @@
 -- What the book of a live run keeps.
+use Rattle.ls_events.specs.Limits.{most_steps}
 use Rattle.std.specs.Prelude.{◌≡◌, ℕ, ◌<◌, ◌≤◌, List, length, All}
 use Rattle.ls_code.specs.Machine.{Machine, machine_run}
 use Rattle.ls_live_book.specs.Due.{AreDue}
@@ -11,4 +12,4 @@ pub record IsKept (start : Machine) (most : ℕ) (machine : Machine) (steps : Li
   pub due : AreDue start steps
   pub within : length steps ≤ limit
   pub same : limit ≡ most
-  pub few : limit ≤ 1000000
+  pub few : limit ≤ most_steps

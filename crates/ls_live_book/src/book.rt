@@ -1,5 +1,6 @@
 // The book of a live run, which a lock guards. What one step does and answers is exact here.
 
+ghost use Rattle.ls_events.specs.Limits.{most_steps};
 ghost use Rattle.ls_code.specs.Machine.{Machine as MachineValue, machine_run, machine_state};
 ghost use Rattle.ls_live_book.specs.Answers.{answer, is_not_started, is_over, recorded_after};
 ghost use Rattle.ls_live_book.specs.Books.{IsKept};
@@ -90,7 +91,7 @@ impl<L: Session> Book<L> {
     pub fn new(machine: Machine, schedule: Vec<u8>, limit: usize) -> Book<L>
         requires start { machine ≡ L.start }
         requires limit { limit ≡ L.limit }
-        requires most { limit ≤ 1000000 }
+        requires most { limit ≤ most_steps }
         requires empty { schedule.items ≡ [] }
         requires room { limit ≤ vec_capacity schedule }
         ensures { result ≡ [] }

@@ -1,3 +1,4 @@
+pub mod Limits
 pub mod LoweredTree
 pub mod Plain
 pub mod Words

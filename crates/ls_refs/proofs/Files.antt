@@ -1,4 +1,5 @@
 -- The methods of a file.
+use Rattle.ls_lowered.specs.Limits.{most_locals}
 use Rattle.std.proofs.Common.{◌≡◌, ℕ, ◌+◌, ◌<◌, ◌≤◌, length, take, map, sym, ap, ◌∙◌, subst, Result, Ok, Err, List, [], ◌∷◌, ◌++◌}
 use Rattle.std.specs.Prelude.{All, slice_index_or, IfErr}
 use Rattle.std.proofs.lemmas.List.{take_all}
@@ -17,12 +18,12 @@ use Rattle.ls_refs.specs.Refused.{AllFit, Refused}
 use Rattle.ls_lowered.proofs.Taken.{all_of_map, mapped_more}
 
 -- the methods that the code sees and those of the file
-pub fitting : (methods items : List Method) → methods ≡ items → All (λ m. locals_of (plain_method m) ≤ 128) methods → AllFit (map plain_method items)
-fitting methods items e h = All-map (λ m. locals_of m ≤ 128) plain_method items (subst (λ ms. All (λ m. locals_of (plain_method m) ≤ 128) ms) e h)
+pub fitting : (methods items : List Method) → methods ≡ items → All (λ m. locals_of (plain_method m) ≤ most_locals) methods → AllFit (map plain_method items)
+fitting methods items e h = All-map (λ m. locals_of m ≤ most_locals) plain_method items (subst (λ ms. All (λ m. locals_of (plain_method m) ≤ most_locals) ms) e h)
 
 -- if the file's methods have few locals, so has each method of the code
-pub not_fitting : (methods items : List Method) → methods ≡ items → AllFit (map plain_method items) → All (λ m. locals_of (plain_method m) ≤ 128) methods
-not_fitting methods items e h = subst (λ ms. All (λ m. locals_of (plain_method m) ≤ 128) ms) (sym e) (all_of_map (λ m. locals_of m ≤ 128) plain_method items h)
+pub not_fitting : (methods items : List Method) → methods ≡ items → AllFit (map plain_method items) → All (λ m. locals_of (plain_method m) ≤ most_locals) methods
+not_fitting methods items e h = subst (λ ms. All (λ m. locals_of (plain_method m) ≤ most_locals) ms) (sym e) (all_of_map (λ m. locals_of m ≤ most_locals) plain_method items h)
 
 -- where the methods fit, want of memory may be answered
 pub wants_memory : {A : Type 0} (f : checked.File) (r : Result A LowerFault) → AllFit f.methods → IfErr r (λ e. e ≡ Memory) → IfErr r (Refused f)

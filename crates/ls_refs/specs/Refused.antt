@@ -1,4 +1,5 @@
 -- When the lowering refuses a file.
+use Rattle.ls_lowered.specs.Limits.{most_locals}
 use Rattle.std.specs.Prelude.{◌≤◌, ◌<◌, List, length, All}
 use Rattle.ls_checked.specs.CheckedTree.{Method, File}
 use Rattle.ls_lowered.specs.declared.fault.LowerFault.{LowerFault}
@@ -7,7 +8,7 @@ use Rattle.ls_refs_expressions.specs.Temporaries.{locals_of}
 
 -- no method has more than 128 locals, with those that are taken beside its own
 abbrev pub AllFit : List Method → Type 0
-AllFit methods = All (λ m. locals_of m ≤ 128) methods
+AllFit methods = All (λ m. locals_of m ≤ most_locals) methods
 
 -- each method has slots for `this` and its parameters
 abbrev pub AllSlotted : List Method → Type 0

@@ -1,5 +1,6 @@
 // How many locals a method takes.
 
+ghost use Rattle.ls_lowered.specs.Limits.{most_locals};
 ghost use Rattle.std.specs.Prelude.{◌≡◌, ℕ, ◌+◌, ◌*◌, ◌≤◌, length};
 ghost use Rattle.std.specs.Option.{SomeIff};
 ghost use Rattle.ls_checked.specs.Plain.{plain_statement, plain_method, statements_of};
@@ -12,8 +13,8 @@ use ls_refs_expressions::counts::{count_expression, more};
 #[cycle(statements)]
 #[tactic(auto, using(crate::proofs::Rows::block_read))]
 pub fn count_statement(so_far: usize, s: &Statement) -> Option<usize>
-    requires { so_far ≤ 128 }
-    ensures { SomeIff result (so_far + taken (plain_statement s.now) ≤ 128) (so_far + taken (plain_statement s.now)) }
+    requires { so_far ≤ most_locals }
+    ensures { SomeIff result (so_far + taken (plain_statement s.now) ≤ most_locals) (so_far + taken (plain_statement s.now)) }
 {
     match s {
         Statement::Block(statements) => count_statements(so_far, statements),
@@ -55,8 +56,8 @@ pub fn count_statement(so_far: usize, s: &Statement) -> Option<usize>
 
 #[cycle(statements)]
 fn count_statements(so_far: usize, statements: &[Statement]) -> Option<usize>
-    requires { so_far ≤ 128 }
-    ensures { SomeIff result (so_far + block_taken (statements_of statements.now) ≤ 128) (so_far + block_taken (statements_of statements.now)) }
+    requires { so_far ≤ most_locals }
+    ensures { SomeIff result (so_far + block_taken (statements_of statements.now) ≤ most_locals) (so_far + block_taken (statements_of statements.now)) }
 {
     let mut count = so_far;
     for s in statements {
@@ -67,7 +68,7 @@ fn count_statements(so_far: usize, statements: &[Statement]) -> Option<usize>
 
 /// All locals of a method; none where they are over 128.
 pub fn count_locals(method: &Method) -> Option<usize>
-    ensures { SomeIff result (locals_of (plain_method method.now) ≤ 128) (locals_of (plain_method method.now)) }
+    ensures { SomeIff result (locals_of (plain_method method.now) ≤ most_locals) (locals_of (plain_method method.now)) }
 {
     count_statement(more(0, method.slots.len())?, &method.body)
 }

@@ -1,5 +1,6 @@
 // Methods and files.
 
+ghost use Rattle.ls_lowered.specs.Limits.{most_locals};
 ghost use Rattle.std.specs.Prelude.{◌≡◌, ℕ, ◌<◌, ◌≤◌, ◌↔◌, length, map, All, IfOk, IfErr, OnOk, IsTrue};
 ghost use Rattle.ls_checked.specs.Plain.{plain_method as checked_method, plain_class, plain_file as checked_file};
 ghost use Rattle.ls_lowered.specs.Plain.{plain_method, plain_file};
@@ -24,7 +25,7 @@ pub type RefTree = LoweredFile;
 // A method, where its locals aren't too many. After its loops were counted, each number of a jump is known to be a machine word.
 fn lower_method(alloc: Global, classes: &[Class], method: &Method) -> Result<Lowered, AllocError>
     requires slots { method.now.parameters < length method.now.slots.items }
-    requires few { locals_of (checked_method method.now) ≤ 128 }
+    requires few { locals_of (checked_method method.now) ≤ most_locals }
     requires loops { JumpsInLoops 0 (checked_method method.now).body }
     ensures { IfOk result (λ m. plain_method m ≡ lowered_method (map plain_class classes.now) (checked_method method.now)) }
 {
@@ -40,7 +41,7 @@ fn lower_method(alloc: Global, classes: &[Class], method: &Method) -> Result<Low
 
 // Whether no method has too many locals.
 fn all_fit(methods: &[Method]) -> bool
-    ensures { IsTrue result ↔ All (λ m. locals_of (checked_method m) ≤ 128) methods.now }
+    ensures { IsTrue result ↔ All (λ m. locals_of (checked_method m) ≤ most_locals) methods.now }
 {
     for method in methods {
         if count_locals(method).is_none() {

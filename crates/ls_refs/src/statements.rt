@@ -1,5 +1,6 @@
 // Statements.
 
+ghost use Rattle.ls_lowered.specs.Limits.{most_locals};
 ghost use Rattle.std.specs.Prelude.{◌≡◌, ℕ, ◌+◌, ◌*◌, ◌<◌, ◌≤◌, ◌^◌, IfOk, map};
 ghost use Rattle.ls_checked.specs.Plain.{plain as checked, plain_statement as checked_statement, statements_of as checked_statements, plain_class};
 ghost use Rattle.ls_lowered.specs.LoweredTree.{Block, While, Leave, Statements};
@@ -73,7 +74,7 @@ pub fn lower_statement(
     free: usize,
     s: &Statement,
 ) -> Result<Placed<Tree>, AllocError>
-    requires few { free + statement_temporaries (checked_statement s.now) ≤ 128 }
+    requires few { free + statement_temporaries (checked_statement s.now) ≤ most_locals }
     requires jumps { JumpsBelow (2 ^ 63) (checked_statement s.now) }
     ensures tree { IfOk result (λ r. plain_statement r.tree ≡ lowered_statement (map plain_class classes.now) free (checked_statement s.now)) }
     ensures free { IfOk result (λ r. r.free ≡ free + statement_temporaries (checked_statement s.now)) }
@@ -205,7 +206,7 @@ fn lower_part(
     free: usize,
     s: &Statement,
 ) -> Result<Placed<Box<Tree>>, AllocError>
-    requires few { free + statement_temporaries (checked_statement s.now) ≤ 128 }
+    requires few { free + statement_temporaries (checked_statement s.now) ≤ most_locals }
     requires jumps { JumpsBelow (2 ^ 63) (checked_statement s.now) }
     ensures tree { IfOk result (λ r. plain_statement r.tree.value ≡ lowered_statement (map plain_class classes.now) free (checked_statement s.now)) }
     ensures free { IfOk result (λ r. r.free ≡ free + statement_temporaries (checked_statement s.now)) }

@@ -1,4 +1,5 @@
 -- The last steps of a schedule, once more.
+use Rattle.ls_events.specs.Limits.{most_steps}
 use Rattle.std.proofs.Common.{◌≡◌, ◌∙◌, ◌+◌, ◌-◌, ◌<◌, ◌≤◌, ℕ, List, [], ◌∷◌, ◌++◌, length, take, drop, get_or, refl, sym, ap, arith, append_assoc}
 use Rattle.std.proofs.lemmas.List.{drop-append-le, get_or_append_left, get_or-drop, length-append, length-drop, take_at, take_more}
 use Rattle.ls_schedule.specs.Reading.{repeated}
@@ -33,8 +34,8 @@ appended_again old now new from len n done is le added =
 pub longer_now : (old now more : List ℕ) → now ≡ old ++ more → length old ≤ length now
 longer_now old now more done = omega (arith, ap length done, length-append old more)
 
-pub too_many_again : (old now : List ℕ) (from len n count : ℕ) → now ≡ old ++ repeated n (drop from old) → len ≡ length old - from → n < count → 1000000 < length now + len
-    → 1000000 < length (old ++ repeated count (drop from old))
+pub too_many_again : (old now : List ℕ) (from len n count : ℕ) → now ≡ old ++ repeated n (drop from old) → len ≡ length old - from → n < count → most_steps < length now + len
+    → most_steps < length (old ++ repeated count (drop from old))
 too_many_again old now from len n count done is lt over =
     let group : List ℕ = drop from old in
     too_many old group (now ++ group) n count (appended old group now (now ++ group) n done refl) lt

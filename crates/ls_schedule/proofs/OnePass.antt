@@ -1,4 +1,5 @@
 -- One pass over a text gives its schedule.
+use Rattle.ls_events.specs.Limits.{most_steps}
 use Rattle.std.proofs.Common.{◌≡◌, ◌∙◌, inl, inr, ◌-◌, ◌<◌, ◌≤◌, ℕ, zero, suc, Bool, true, false, cond, List, [], ◌∷◌, ◌++◌, length, drop, min, take, Option, Some, None, Result, Ok, Err, refl, sym, ap, arith, append_assoc, append-nil}
 use Rattle.std.specs.Prelude.{◌==◌, ◌&&◌, not, nat_lt, if◌then◌else◌}
 use Rattle.std.specs.Char.{digit_value}
@@ -21,30 +22,30 @@ use Rattle.ls_schedule.proofs.Spoilt.{Level, broken, content_of, ended_broken, g
 
 -- ---- the steps that are kept
 
-none_kept : (all : List ℕ) → 1000000 < length all → kept all ≡ None
-none_kept all over = ap (λ b. so_far (not b) all) (lt-ltb 1000000 (length all) over)
+none_kept : (all : List ℕ) → most_steps < length all → kept all ≡ None
+none_kept all over = ap (λ b. so_far (not b) all) (lt-ltb most_steps (length all) over)
 
-all_kept : (all : List ℕ) → length all ≤ 1000000 → kept all ≡ Some all
-all_kept all few = ap (λ b. so_far (not b) all) (le-ltb 1000000 (length all) few)
+all_kept : (all : List ℕ) → length all ≤ most_steps → kept all ≡ Some all
+all_kept all few = ap (λ b. so_far (not b) all) (le-ltb most_steps (length all) few)
 
 -- of a count and a greater one, where both are too many
-both_over : (all ts : List ℕ) (k n : ℕ) → k ≤ n → 1000000 < length (all ++ repeated k ts) → kept (all ++ repeated k ts) ≡ kept (all ++ repeated n ts)
+both_over : (all ts : List ℕ) (k n : ℕ) → k ≤ n → most_steps < length (all ++ repeated k ts) → kept (all ++ repeated k ts) ≡ kept (all ++ repeated n ts)
 both_over all ts k n le over =
-    let more : 1000000 < length (all ++ repeated n ts) = omega (arith, over, longer k n ts le, length-append all (repeated k ts), length-append all (repeated n ts)) in
+    let more : most_steps < length (all ++ repeated n ts) = omega (arith, over, longer k n ts le, length-append all (repeated k ts), length-append all (repeated n ts)) in
     none_kept (all ++ repeated k ts) over ∙ sym (none_kept (all ++ repeated n ts) more)
 
 more_kept : (all ts : List ℕ) (n : ℕ) → more_steps (kept all) ts (min n 1000001) ≡ kept (all ++ repeated n ts)
 more_kept all ts n =
-    elim (cases_lt 1000000 (length all)) [
+    elim (cases_lt most_steps (length all)) [
       | inl over ↦
-          let more : 1000000 < length (all ++ repeated n ts) = omega (arith, over, length-append all (repeated n ts)) in
+          let more : most_steps < length (all ++ repeated n ts) = omega (arith, over, length-append all (repeated n ts)) in
           ap (λ s. more_steps s ts (min n 1000001)) (none_kept all over) ∙ sym (none_kept (all ++ repeated n ts) more)
       | inr few ↦ ap (λ s. more_steps s ts (min n 1000001)) (all_kept all few) ∙ by_cap
     ]
   where
     by_cap : kept (all ++ repeated (min n 1000001) ts) ≡ kept (all ++ repeated n ts)
     by_cap =
-        elim (cases_lt 1000000 (length (repeated (min n 1000001) ts))) [
+        elim (cases_lt most_steps (length (repeated (min n 1000001) ts))) [
           | inl over ↦ both_over all ts (min n 1000001) n (omega arith) (omega (arith, over, length-append all (repeated (min n 1000001) ts)))
           | inr few ↦ ap (λ l. kept (all ++ l)) (cap_is (ts, n) few)
         ]
@@ -57,11 +58,11 @@ once_more before [] m =
 once_more before (t ∷ ts) m =
     let now : List ℕ = t ∷ ts in
     let whole : kept ((before ++ now) ++ repeated m now) ≡ kept (before ++ repeated (suc m) now) = ap kept (append_assoc before now (repeated m now)) in
-    elim (cases_lt 1000000 m) [
+    elim (cases_lt most_steps m) [
       | inl over ↦
           let k : ℕ = min (suc m) 1000001 - 1 in
-          let is : k ≡ 1000000 = omega (arith, over) in
-          let big : 1000000 < length ((before ++ now) ++ repeated k now) =
+          let is : k ≡ most_steps = omega (arith, over) in
+          let big : most_steps < length ((before ++ now) ++ repeated k now) =
           omega (arith, is, at_least k t ts, length-append before now, length-append (before ++ now) (repeated k now)) in
           both_over (before ++ now) now k m (omega (arith, over, is)) big ∙ whole
       | inr few ↦
@@ -72,13 +73,13 @@ once_more before (t ∷ ts) m =
 again_kept : (before now : List ℕ) (n : ℕ) → 0 < n → again (kept (before ++ now)) (kept_len (kept before)) (min n 1000001) ≡ kept (before ++ repeated n now)
 again_kept before now zero some = absurd (omega arith)
 again_kept before now (suc m) some =
-    elim (cases_lt 1000000 (length (before ++ now))) [
+    elim (cases_lt most_steps (length (before ++ now))) [
       | inl over ↦
-          let more : 1000000 < length (before ++ repeated (suc m) now) =
+          let more : most_steps < length (before ++ repeated (suc m) now) =
           omega (arith, over, length-append before now, length-append before (repeated (suc m) now), length-append now (repeated m now)) in
           ap (λ s. again s (kept_len (kept before)) (min (suc m) 1000001)) (none_kept (before ++ now) over) ∙ sym (none_kept (before ++ repeated (suc m) now) more)
       | inr few ↦
-          let front : length before ≤ 1000000 = omega (arith, few, length-append before now) in
+          let front : length before ≤ most_steps = omega (arith, few, length-append before now) in
           ap (λ s. again s (kept_len (kept before)) (min (suc m) 1000001)) (all_kept (before ++ now) few)
           ∙ ap (λ s. kept ((before ++ now) ++ repeated (min (suc m) 1000001 - 1) (drop (kept_len s) (before ++ now)))) (all_kept before front)
           ∙ ap (λ l. kept ((before ++ now) ++ repeated (min (suc m) 1000001 - 1) l)) (drop_at before now (length before) refl)
@@ -143,7 +144,7 @@ opened_length [] = refl
 opened_length (l ∷ ls) = ap (λ n. suc n) (opened_length ls)
 
 finish_kept : (steps : List ℕ) → finish (kept steps) ≡ within steps
-finish_kept steps = by_test (nat_lt 1000000 (length steps))
+finish_kept steps = by_test (nat_lt most_steps (length steps))
   where
     by_test : (b : Bool) → finish (so_far (not b) steps) ≡ cond b (Err fault.TooManySteps) (Ok steps)
     by_test true = refl

@@ -1,4 +1,5 @@
 -- What is printed reads back.
+use Rattle.ls_events.specs.Limits.{most_steps}
 use Rattle.std.proofs.Common.{◌≡◌, ◌∙◌, ◌+◌, ◌-◌, ◌<◌, ◌≤◌, inl, inr, ℕ, suc, true, false, cond, List, [], ◌∷◌, ◌++◌, length, get_or, Option, Some, None, Ok, Err, refl, sym, ap, subst, arith, append_assoc, append-nil, eqb-true, map}
 use Rattle.std.specs.Prelude.{◌==◌, nat_lt, codes, slice_get, option_map, unwrap_or, All}
 use Rattle.std.specs.Fmt.{decimal}
@@ -59,7 +60,7 @@ named names t a lt =
 
 -- a run of a thread that is there
 abbrev Fits : List (List ℕ) → Run → Type 0
-Fits names r = (r.0 < length names) × (0 < r.1) × (r.1 ≤ 1000000)
+Fits names r = (r.0 < length names) × (0 < r.1) × (r.1 ≤ most_steps)
 
 abbrev turn : Run → Turns
 turn r = (r.0 ∷ [], r.1)
@@ -89,7 +90,7 @@ turn_is names at r a f =
     ap (λ l. turns_of names (at, l)) text ∙ ap (λ (p : List ℕ × Option ℕ). counted names at p.0 p.1) (parts_is names r a f)
     ∙ ap (λ b. cond b (known at (threads_named names name) r.1) (Err (fault.BadItem at))) formed ∙ ap (λ o. known at o r.1) (named names r.0 a f.0)
 
-times_gaps : (n : ℕ) → n ≤ 1000000 → NoGaps (times n)
+times_gaps : (n : ℕ) → n ≤ most_steps → NoGaps (times n)
 times_gaps n le =
     elim (cases_Bool (n == 1)) [
       | inl e ↦ subst NoGaps (sym (ap (λ b. cond b [] (42 ∷ decimal n)) e)) tt
@@ -184,7 +185,7 @@ runs_upto : (names : List (List ℕ)) (steps : List ℕ) → Each (λ t. t < len
 runs_upto names [] h = tt
 runs_upto names (t ∷ ts) h = step_upto names (length ts) t (runs_of ts) h.0 (runs_upto names ts h.1)
 
-fit : (names : List (List ℕ)) (n : ℕ) (rs : List Run) → n ≤ 1000000 → Upto names n rs → AllFit names rs
+fit : (names : List (List ℕ)) (n : ℕ) (rs : List Run) → n ≤ most_steps → Upto names n rs → AllFit names rs
 fit names n [] le u = tt
 fit names n (r ∷ rs) le u = ((u.0.0, u.0.1, omega (arith, u.0.2)), fit names n rs le u.1)
 
@@ -194,7 +195,7 @@ each_of P (x ∷ xs) h = (h 0 0 (omega arith), each_of P xs (λ k d lt. h (suc k
 
 -- ---- a printed text has no parentheses
 
-times_plain : (n : ℕ) → n ≤ 1000000 → NoGroups (times n)
+times_plain : (n : ℕ) → n ≤ most_steps → NoGroups (times n)
 times_plain n le =
     elim (cases_Bool (n == 1)) [
       | inl e ↦ subst NoGroups (sym (ap (λ b. cond b [] (42 ∷ decimal n)) e)) tt
@@ -232,4 +233,4 @@ reads_back names steps a there le =
     ∙ without_groups names 2 text plain
     ∙ ap (λ x. x >>= λ turns. within (steps_of turns)) (read_more names 2 rs a f)
     ∙ ap within (runs_steps steps)
-    ∙ ap (λ b. cond b (Err fault.TooManySteps) (Ok steps)) (le-ltb 1000000 (length steps) le)
+    ∙ ap (λ b. cond b (Err fault.TooManySteps) (Ok steps)) (le-ltb most_steps (length steps) le)

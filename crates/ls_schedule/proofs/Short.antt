@@ -1,4 +1,5 @@
 -- Items of one byte that a gap follows, as a table reads them.
+use Rattle.ls_events.specs.Limits.{most_steps}
 use Rattle.std.proofs.Common.{◌≡◌, ◌≢◌, ◌∙◌, ◌+◌, ◌<◌, ◌≤◌, ℕ, zero, suc, Bool, true, false, cond, List, [], ◌∷◌, ◌++◌, length, drop, get_or, replicate, Option, Some, None, Ok, Err, refl, sym, ap, subst, arith, ⊎_elim}
 use Rattle.std.specs.Prelude.{◌||◌, ◌==◌, reverse, slice_index, if◌then◌else◌}
 use Rattle.std.proofs.lemmas.Bool.{cases_eq, le-ltb, lt-ltb, true≢false}
@@ -92,14 +93,14 @@ repeated_length zero t = refl
 repeated_length (suc n) t = ap (λ k. suc k) (repeated_length n t)
 
 -- so many steps of a thread are too many, or fit
-pub by_over : (steps : List ℕ) (t n : ℕ) → 1000000 < length steps + n → None ≡ more_steps (Some steps) (t ∷ []) n
+pub by_over : (steps : List ℕ) (t n : ℕ) → most_steps < length steps + n → None ≡ more_steps (Some steps) (t ∷ []) n
 by_over steps t n over =
-    let big : 1000000 < length (steps ++ repeated n (t ∷ [])) = omega (arith, over, length-append steps (repeated n (t ∷ [])), repeated_length n t) in
+    let big : most_steps < length (steps ++ repeated n (t ∷ [])) = omega (arith, over, length-append steps (repeated n (t ∷ [])), repeated_length n t) in
     rw (lt-ltb _ _ big) refl
 
-pub by_fits : (steps new : List ℕ) (t n : ℕ) → length steps + n ≤ 1000000 → new ≡ steps ++ replicate n t → Some new ≡ more_steps (Some steps) (t ∷ []) n
+pub by_fits : (steps new : List ℕ) (t n : ℕ) → length steps + n ≤ most_steps → new ≡ steps ++ replicate n t → Some new ≡ more_steps (Some steps) (t ∷ []) n
 by_fits steps new t n few is =
-    let small : length (steps ++ repeated n (t ∷ [])) ≤ 1000000 = omega (arith, few, length-append steps (repeated n (t ∷ [])), repeated_length n t) in
+    let small : length (steps ++ repeated n (t ∷ [])) ≤ most_steps = omega (arith, few, length-append steps (repeated n (t ∷ [])), repeated_length n t) in
     rw (le-ltb _ _ small) (ap (λ l. Some l) (is ∙ ap (λ l. steps ++ l) (sym (repeated_one n t))))
 
 -- ---- a pass

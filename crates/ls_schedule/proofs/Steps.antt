@@ -1,4 +1,5 @@
 -- The steps of items, and what a cap on their counts changes: nothing.
+use Rattle.ls_events.specs.Limits.{most_steps}
 use Rattle.std.proofs.Common.{◌≡◌, ◌∙◌, inl, inr, ◌+◌, ◌<◌, ◌≤◌, ℕ, zero, suc, List, [], ◌∷◌, ◌++◌, length, map, min, refl, sym, ap, append_assoc, append-nil, arith, Option, Some, None, Result, Ok, Err}
 use Rattle.std.specs.List.{range_with_len}
 use Rattle.std.proofs.lemmas.Bool.{cases_lt, le-ltb, lt-ltb}
@@ -33,7 +34,7 @@ appended base ts now new n h e =
     ∙ ap (λ k. base ++ repeated k ts) one
 
 -- and then there are too many, if there are now
-pub too_many : (base ts new : List ℕ) (n count : ℕ) → new ≡ base ++ repeated (n + 1) ts → n < count → 1000000 < length new → 1000000 < length (base ++ repeated count ts)
+pub too_many : (base ts new : List ℕ) (n count : ℕ) → new ≡ base ++ repeated (n + 1) ts → n < count → most_steps < length new → most_steps < length (base ++ repeated count ts)
 too_many base ts new n count e lt over =
     omega (arith, ap length e, length-append base (repeated (n + 1) ts), length-append base (repeated count ts), longer (n + 1) count ts (omega arith))
 
@@ -46,14 +47,14 @@ at_least zero t ts = omega arith
 at_least (suc n) t ts = omega (arith, at_least n t ts, length-append (t ∷ ts) (repeated n (t ∷ ts)))
 
 -- where the capped count gives at most a million steps, it is the count, or there is no step
-pub cap_is : (p : Turns) → length (repeated (min p.1 1000001) p.0) ≤ 1000000 → repeated (min p.1 1000001) p.0 ≡ repeated p.1 p.0
+pub cap_is : (p : Turns) → length (repeated (min p.1 1000001) p.0) ≤ most_steps → repeated (min p.1 1000001) p.0 ≡ repeated p.1 p.0
 cap_is ([], n) h = repeated_none (min n 1000001) ∙ sym (repeated_none n)
 cap_is (t ∷ ts, n) h = ap (λ k. repeated k (t ∷ ts)) (omega (arith, at_least (min n 1000001) t ts))
 
 caps : List Turns → List Turns
 caps = map capped
 
-pub steps_capped : (ps : List Turns) → length (steps_of (map capped ps)) ≤ 1000000 → steps_of (map capped ps) ≡ steps_of ps
+pub steps_capped : (ps : List Turns) → length (steps_of (map capped ps)) ≤ most_steps → steps_of (map capped ps) ≡ steps_of ps
 steps_capped [] h = refl
 steps_capped (p ∷ ps) h =
     let l = length-append (repeated (min p.1 1000001) p.0) (steps_of (map capped ps)) in
@@ -70,8 +71,8 @@ steps_shorter (p ∷ ps) = omega (
 )
 
 pub within_capped : (ps : List Turns) → within (steps_of (map capped ps)) ≡ within (steps_of ps)
-within_capped ps = elim (cases_lt 1000000 (length (steps_of (map capped ps)))) [
-  | inl over ↦ rw (lt-ltb _ _ over, lt-ltb 1000000 (length (steps_of ps)) (omega (arith, steps_shorter ps))) refl
+within_capped ps = elim (cases_lt most_steps (length (steps_of (map capped ps)))) [
+  | inl over ↦ rw (lt-ltb _ _ over, lt-ltb most_steps (length (steps_of ps)) (omega (arith, steps_shorter ps))) refl
   | inr fits ↦ ap within (steps_capped ps fits)
 ]
 
@@ -116,12 +117,12 @@ none_more : (p : Turns) (read : Result (List Turns) ScheduleFault) → goes_to N
 none_more p (Ok ps) = refl
 none_more p (Err e) = refl
 
-over_more : (steps : List ℕ) (p : Turns) (read : Result (List Turns) ScheduleFault) → 1000000 < length (steps ++ repeated p.1 p.0)
+over_more : (steps : List ℕ) (p : Turns) (read : Result (List Turns) ScheduleFault) → most_steps < length (steps ++ repeated p.1 p.0)
     → goes_to None read ≡ goes_to (Some steps) (behind p read)
 over_more steps p (Err e) over = refl
 over_more steps p (Ok ps) over =
     let split = append_assoc steps (repeated p.1 p.0) (steps_of ps) in
-    let big : 1000000 < length (steps ++ (repeated p.1 p.0 ++ steps_of ps)) =
+    let big : most_steps < length (steps ++ (repeated p.1 p.0 ++ steps_of ps)) =
     omega (arith, over, ap length split, length-append (steps ++ repeated p.1 p.0) (steps_of ps)) in
     rw (lt-ltb _ _ big) refl
 
@@ -133,7 +134,7 @@ fits_more steps p (Ok ps) = ap within (append_assoc steps (repeated p.1 p.0) (st
 step_more : (so_far : Option (List ℕ)) (p : Turns) (read : Result (List Turns) ScheduleFault)
     → goes_to (more_steps so_far p.0 p.1) read ≡ goes_to so_far (behind p read)
 step_more None p read = none_more p read
-step_more (Some steps) p read = elim (cases_lt 1000000 (length (steps ++ repeated p.1 p.0))) [
+step_more (Some steps) p read = elim (cases_lt most_steps (length (steps ++ repeated p.1 p.0))) [
   | inl over ↦ rw (lt-ltb _ _ over) (over_more steps p read over)
   | inr fits ↦ rw (le-ltb _ _ fits) (fits_more steps p read)
 ]
@@ -152,7 +153,7 @@ ends_with f None i d more all e h = sym h ∙ ap (λ r. goes_to None (r >>= λ y
 ends_with f (Some steps) i d more all e h = sym h ∙ ap (λ r. goes_to (Some steps) (r >>= λ y. each f more >>= λ ys. Ok (y ∷ ys))) e
 
 -- no item is left
-pub all_read : (steps : List ℕ) → length steps ≤ 1000000 → goes_to (Some steps) (Ok []) ≡ Ok steps
+pub all_read : (steps : List ℕ) → length steps ≤ most_steps → goes_to (Some steps) (Ok []) ≡ Ok steps
 all_read steps few = ap within (append-nil steps) ∙ rw (le-ltb _ _ few) refl
 
 -- ---- the whole

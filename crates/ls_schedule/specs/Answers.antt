@@ -1,4 +1,5 @@
 -- What the reader's functions answer.
+use Rattle.ls_events.specs.Limits.{most_steps}
 use Rattle.std.specs.Prelude.{◌≡◌, ◌-◌, ℕ, Bool, not, List, [], ◌∷◌, ◌++◌, length, min, nat_lt, Option, Some, None, Result, Ok, Err, if◌then◌else◌}
 use Rattle.std.specs.List.{range_with_len}
 use Rattle.ls_schedule.specs.declared.fault.ScheduleFault.{ScheduleFault}
@@ -45,7 +46,7 @@ so_far fits steps = if fits then Some steps else None
 abbrev pub more_steps : Option (List ℕ) → List ℕ → ℕ → Option (List ℕ)
 more_steps None threads count = None
 more_steps (Some steps) threads count =
-    let all = steps ++ repeated count threads in so_far (not (nat_lt 1000000 (length all))) all
+    let all = steps ++ repeated count threads in so_far (not (nat_lt most_steps (length all))) all
 
 -- a function returned what reading gives, seen by view: memory never runs out
 abbrev pub Says : {X Y : Type 0} → (X → Y) → Result X ScheduleFault → Result Y ScheduleFault → Type 0

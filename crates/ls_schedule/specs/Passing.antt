@@ -1,4 +1,5 @@
 -- What the functions answer that read a text of version 2 in one pass.
+use Rattle.ls_events.specs.Limits.{most_steps}
 use Rattle.std.specs.Prelude.{◌≡◌, ◌==◌, ◌-◌, ◌+◌, ◌<◌, ◌≤◌, ℕ, zero, suc, Bool, true, false, not, List, [], ◌∷◌, length, take, drop, map, min, nat_lt, reverse, slice_get, unwrap_or, Option, Some, None, option_map, Result, Ok, Err, if◌then◌else◌}
 use Rattle.std.specs.List.{prefix_len}
 use Rattle.ls_schedule.specs.declared.fault.ScheduleFault.{ScheduleFault}
@@ -82,7 +83,7 @@ last_first xs (suc k) = place_of xs k ∷ last_first xs k
 
 -- none once they are too many
 abbrev pub kept : List ℕ → Option (List ℕ)
-kept all = so_far (not (nat_lt 1000000 (length all))) all
+kept all = so_far (not (nat_lt most_steps (length all))) all
 
 abbrev pub kept_len : Option (List ℕ) → ℕ
 kept_len None = 0

@@ -1,4 +1,5 @@
 -- What a schedule text says.
+use Rattle.ls_events.specs.Limits.{most_steps}
 use Rattle.std.specs.Prelude.{◌==◌, ◌&&◌, ◌+◌, ◌-◌, ℕ, zero, suc, Bool, true, false, not, List, [], ◌∷◌, ◌++◌, length, take, drop, nat_lt, Option, Some, None, Result, Ok, Err, if◌then◌else◌, codes, option_map, map, string_bytes}
 use Rattle.std.specs.Option.{option_map_or}
 use Rattle.std.specs.List.{flat_map, list_all, position, range_with_len}
@@ -77,7 +78,7 @@ abbrev pub steps_of : List Turns → List ℕ
 steps_of = flat_map (λ p. repeated p.1 p.0)
 
 abbrev pub within : List ℕ → Result (List ℕ) ScheduleFault
-within steps = if nat_lt 1000000 (length steps) then Err fault.TooManySteps else Ok steps
+within steps = if nat_lt most_steps (length steps) then Err fault.TooManySteps else Ok steps
 
 -- What a text of version 1 says: its items stand between gaps.
 abbrev pub plain_schedule : List (List ℕ) → List ℕ → Result (List ℕ) ScheduleFault

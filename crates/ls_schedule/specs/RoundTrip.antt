@@ -1,4 +1,5 @@
 -- A printed schedule reads back as the same schedule.
+use Rattle.ls_events.specs.Limits.{most_steps}
 use Rattle.std.specs.Prelude.{◌≡◌, ◌≢◌, ◌<◌, ◌≤◌, ℕ, List, length, Some, Ok, All, codes, slice_get}
 use Rattle.ls_lexer.specs.Names.{IsName}
 use Rattle.ls_schedule.specs.Printing.{schedule_text}
@@ -12,5 +13,5 @@ pub record AreThreadNames (names : List (List ℕ)) : Type 0 where
 
 abbrev pub ReadsBack : Type 0
 ReadsBack =
-    (names : List (List ℕ)) (steps : List ℕ) → AreThreadNames names → All (λ t. t < length names) steps → length steps ≤ 1000000
+    (names : List (List ℕ)) (steps : List ℕ) → AreThreadNames names → All (λ t. t < length names) steps → length steps ≤ most_steps
     → schedule_of names (schedule_text names steps) ≡ Ok steps

@@ -1,5 +1,6 @@
 // Reading a text of version 2, with its groups, in one pass.
 
+ghost use Rattle.ls_events.specs.Limits.{most_steps};
 ghost use Rattle.ls_schedule.specs.Answers.{Gives, Says, more_steps, so_far, threads_of, view};
 ghost use Rattle.ls_schedule.specs.Passing.{
   Passes,
@@ -247,11 +248,11 @@ impl Reader {
     }
 
     fn open_group(&mut self, at: usize) -> Result<(), AllocError>
-        requires { length self.old.schedule ≤ 1000000 }
+        requires { length self.old.schedule ≤ most_steps }
         ensures groups { OnOk result (self.new.open_groups.items ≡ self.old.open_groups.items ++ record { at = at; from = kept_len (so_far self.old.fits self.old.schedule) } ∷ []) }
         ensures filled { OnOk result (self.new.filled ≡ false) }
         ensures steps { so_far self.new.fits self.new.schedule ≡ so_far self.old.fits self.old.schedule }
-        ensures few { length self.new.schedule ≤ 1000000 }
+        ensures few { length self.new.schedule ≤ most_steps }
     {
         let from = self.kept_len();
         self.open_groups.push(Opened { at, from })?;
@@ -260,11 +261,11 @@ impl Reader {
     }
 
     fn add_item(&mut self, said: Said, all: &[u8]) -> Result<(), AllocError>
-        requires { length self.old.schedule ≤ 1000000 }
+        requires { length self.old.schedule ≤ most_steps }
         ensures groups { self.new.open_groups.items ≡ self.old.open_groups.items }
         ensures filled { OnOk result (self.new.filled ≡ true) }
         ensures steps { (names : ℕ) → all.now ≡ range_with_len 1 (names - 1) → OnOk result (so_far self.new.fits self.new.schedule ≡ more_steps (so_far self.old.fits self.old.schedule) (threads_of names said.who) said.count) }
-        ensures few { length self.new.schedule ≤ 1000000 }
+        ensures few { length self.new.schedule ≤ most_steps }
     {
         self.fits = goes_on_with(self.fits, &mut self.schedule, said, all)?;
         self.filled = true;
@@ -272,11 +273,11 @@ impl Reader {
     }
 
     fn close_group(&mut self, from: usize, count: u64) -> Result<(), AllocError>
-        requires { length self.old.schedule ≤ 1000000 }
+        requires { length self.old.schedule ≤ most_steps }
         ensures groups { self.new.open_groups.items ≡ self.old.open_groups.items }
         ensures filled { OnOk result (self.new.filled ≡ true) }
         ensures steps { OnOk result (so_far self.new.fits self.new.schedule ≡ again (so_far self.old.fits self.old.schedule) from count) }
-        ensures few { length self.new.schedule ≤ 1000000 }
+        ensures few { length self.new.schedule ≤ most_steps }
     {
         self.fits = goes_again(self.fits, &mut self.schedule, from, count)?;
         self.filled = true;
@@ -287,9 +288,9 @@ impl Reader {
     fn pass_opening(&mut self, at: usize, text: &[u8]) -> Result<usize, ScheduleFault>
         requires some { 0 < length text.now }
         requires first { slice_index text.now 0 ≡ 40 }
-        requires few { length self.old.schedule ≤ 1000000 }
+        requires few { length self.old.schedule ≤ most_steps }
         ensures passes { (names : List (List ℕ)) → Passes names self.old self.new at text.now result }
-        ensures few { length self.new.schedule ≤ 1000000 }
+        ensures few { length self.new.schedule ≤ most_steps }
     {
         if self.open_groups.len() >= MOST_GROUPS {
             let groups = self.open_groups.as_slice();
@@ -303,9 +304,9 @@ impl Reader {
     fn pass_closing(&mut self, at: usize, text: &[u8]) -> Result<usize, ScheduleFault>
         requires some { 0 < length text.now }
         requires first { slice_index text.now 0 ≡ 41 }
-        requires few { length self.old.schedule ≤ 1000000 }
+        requires few { length self.old.schedule ≤ most_steps }
         ensures passes { (names : List (List ℕ)) → Passes names self.old self.new at text.now result }
-        ensures few { length self.new.schedule ≤ 1000000 }
+        ensures few { length self.new.schedule ≤ most_steps }
     {
         let Some(group) = self.open_groups.pop() else {
             return Err(ScheduleFault::BadItem { at });
@@ -333,9 +334,9 @@ impl Reader {
         requires some { 0 < length text.now }
         requires first { ends_word (slice_index text.now 0) ≡ false }
         requires threads { length threads.now ≤ 65 }
-        requires few { length self.old.schedule ≤ 1000000 }
+        requires few { length self.old.schedule ≤ most_steps }
         ensures passes { all.now ≡ range_with_len 1 (length threads.now - 1) → Passes (map thread_name threads.now) self.old self.new at text.now result }
-        ensures few { length self.new.schedule ≤ 1000000 }
+        ensures few { length self.new.schedule ≤ most_steps }
     {
         let len = word_len(text);
         let (word, next) = text.split_at(len);
@@ -358,9 +359,9 @@ impl Reader {
     ) -> Result<usize, ScheduleFault>
         requires some { 0 < length text.now }
         requires threads { length threads.now ≤ 65 }
-        requires few { length self.old.schedule ≤ 1000000 }
+        requires few { length self.old.schedule ≤ most_steps }
         ensures passes { all.now ≡ range_with_len 1 (length threads.now - 1) → Passes (map thread_name threads.now) self.old self.new at text.now result }
-        ensures few { length self.new.schedule ≤ 1000000 }
+        ensures few { length self.new.schedule ≤ most_steps }
     {
         let first = text[0];
         if is_gap(first) {
@@ -378,9 +379,9 @@ impl Reader {
     // A text that begins with an item of one byte and a gap.
     #[inline(always)]
     fn pass_short(&mut self, thread: u8) -> Result<usize, ScheduleFault>
-        requires { length self.old.schedule ≤ 1000000 }
+        requires { length self.old.schedule ≤ most_steps }
         ensures passes { (names : List (List ℕ)) (table : List ℕ) (at : ℕ) (text : List ℕ) → IsTable names table → IsShort table text thread → Passes names self.old self.new at text result }
-        ensures few { length self.new.schedule ≤ 1000000 }
+        ensures few { length self.new.schedule ≤ most_steps }
     {
         self.fits = goes_on_once(self.fits, &mut self.schedule, thread)?;
         self.filled = true;
@@ -400,9 +401,9 @@ impl Reader {
         requires some { 0 < length text.now }
         requires threads { length threads.now ≤ 65 }
         requires table { IsTable (map thread_name threads.now) table.now }
-        requires few { length self.old.schedule ≤ 1000000 }
+        requires few { length self.old.schedule ≤ most_steps }
         ensures passes { all.now ≡ range_with_len 1 (length threads.now - 1) → Passes (map thread_name threads.now) self.old self.new at text.now result }
-        ensures few { length self.new.schedule ≤ 1000000 }
+        ensures few { length self.new.schedule ≤ most_steps }
     {
         match short_item(table, text) {
             Some(thread) => self.pass_short(thread),

@@ -1,5 +1,6 @@
 // From a text to its schedule.
 
+ghost use Rattle.ls_events.specs.Limits.{most_steps};
 ghost use Rattle.ls_lexer.specs.Names.{is_name};
 ghost use Rattle.ls_schedule.specs.Answers.{Gives, Says, capped_schedule, capped_turns, more_steps, so_far, threads_of, view};
 ghost use Rattle.ls_items.specs.Items.{items};
@@ -187,10 +188,10 @@ fn star_at(item: &[u8]) -> Option<usize>
 
 // Appends the threads once.
 fn push_all(schedule: &mut Schedule, threads: &[u8]) -> Result<(), ScheduleFault>
-    requires { length schedule.old ≤ 1000000 }
+    requires { length schedule.old ≤ most_steps }
     ensures ok { OnOk result (schedule.new ≡ schedule.old ++ threads.now) }
-    ensures few { length schedule.new ≤ 1000000 }
-    ensures err { IsErrOf result TooManySteps → 1000000 < length (schedule.old ++ threads.now) }
+    ensures few { length schedule.new ≤ most_steps }
+    ensures err { IsErrOf result TooManySteps → most_steps < length (schedule.old ++ threads.now) }
     ensures only { IfErr result (λ e. (e ≡ Memory) ⊎ (e ≡ TooManySteps)) }
 {
     for thread in threads {
@@ -204,10 +205,10 @@ fn push_all(schedule: &mut Schedule, threads: &[u8]) -> Result<(), ScheduleFault
 
 // Appends the threads so many times.
 fn append(schedule: &mut Schedule, threads: &[u8], count: u64) -> Result<(), ScheduleFault>
-    requires { length schedule.old ≤ 1000000 }
+    requires { length schedule.old ≤ most_steps }
     ensures ok { OnOk result (schedule.new ≡ schedule.old ++ repeated count threads.now) }
-    ensures few { length schedule.new ≤ 1000000 }
-    ensures err { IsErrOf result TooManySteps → 1000000 < length (schedule.old ++ repeated count threads.now) }
+    ensures few { length schedule.new ≤ most_steps }
+    ensures err { IsErrOf result TooManySteps → most_steps < length (schedule.old ++ repeated count threads.now) }
     ensures only { IfErr result (λ e. (e ≡ Memory) ⊎ (e ≡ TooManySteps)) }
 {
     if threads.is_empty() {
@@ -233,9 +234,9 @@ pub fn all_threads(alloc: Global, threads: usize) -> Result<Vec<u8>, AllocError>
 
 // Appends the threads so many times, and tells whether the steps fit then.
 fn goes_on(schedule: &mut Schedule, threads: &[u8], count: u64) -> Result<bool, AllocError>
-    requires { length schedule.old ≤ 1000000 }
+    requires { length schedule.old ≤ most_steps }
     ensures more { IfOk result (λ fits. so_far fits schedule.new ≡ more_steps (Some schedule.old) threads.now count) }
-    ensures few { length schedule.new ≤ 1000000 }
+    ensures few { length schedule.new ≤ most_steps }
 {
     match append(schedule, threads, count) {
         Ok(()) => Ok(true),
@@ -247,9 +248,9 @@ fn goes_on(schedule: &mut Schedule, threads: &[u8], count: u64) -> Result<bool, 
 
 // Appends so many steps of a thread, and tells whether the steps fit then.
 fn goes_on_by(schedule: &mut Schedule, thread: u8, count: u64) -> Result<bool, AllocError>
-    requires { length schedule.old ≤ 1000000 }
+    requires { length schedule.old ≤ most_steps }
     ensures more { IfOk result (λ fits. so_far fits schedule.new ≡ more_steps (Some schedule.old) (thread ∷ []) count) }
-    ensures few { length schedule.new ≤ 1000000 }
+    ensures few { length schedule.new ≤ most_steps }
 {
     let room = MOST_STEPS - schedule.len();
     if count > room as u64 {
@@ -266,9 +267,9 @@ pub fn goes_on_with(
     said: Said,
     all: &[u8],
 ) -> Result<bool, AllocError>
-    requires { length schedule.old ≤ 1000000 }
+    requires { length schedule.old ≤ most_steps }
     ensures more { (names : ℕ) → all.now ≡ range_with_len 1 (names - 1) → IfOk result (λ now. so_far now schedule.new ≡ more_steps (so_far fits schedule.old) (threads_of names said.who) said.count) }
-    ensures few { length schedule.new ≤ 1000000 }
+    ensures few { length schedule.new ≤ most_steps }
 {
     if !fits {
         return Ok(false);

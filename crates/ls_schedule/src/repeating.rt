@@ -1,5 +1,6 @@
 // The last steps of a schedule once more.
 
+ghost use Rattle.ls_events.specs.Limits.{most_steps};
 ghost use Rattle.ls_schedule.specs.Answers.{more_steps, so_far};
 ghost use Rattle.ls_schedule.specs.Passing.{again};
 ghost use Rattle.ls_schedule.specs.Reading.{repeated};
@@ -27,11 +28,11 @@ use std::alloc::AllocError;
 
 // Appends so many steps, from a place on, once more.
 fn push_again(schedule: &mut Schedule, from: usize, len: usize) -> Result<(), ScheduleFault>
-    requires few { length schedule.old ≤ 1000000 }
+    requires few { length schedule.old ≤ most_steps }
     requires within { from + len ≤ length schedule.old }
     ensures ok { OnOk result (schedule.new ≡ schedule.old ++ take len (drop from schedule.old)) }
-    ensures few { length schedule.new ≤ 1000000 }
-    ensures err { IsErrOf result TooManySteps → 1000000 < length schedule.old + len }
+    ensures few { length schedule.new ≤ most_steps }
+    ensures err { IsErrOf result TooManySteps → most_steps < length schedule.old + len }
     ensures only { IfErr result (λ e. (e ≡ Memory) ⊎ (e ≡ TooManySteps)) }
 {
     for index in 0..len {
@@ -46,10 +47,10 @@ fn push_again(schedule: &mut Schedule, from: usize, len: usize) -> Result<(), Sc
 
 // Appends the steps from a place on so many times.
 fn append_again(schedule: &mut Schedule, from: usize, times: u64) -> Result<(), ScheduleFault>
-    requires { length schedule.old ≤ 1000000 }
+    requires { length schedule.old ≤ most_steps }
     ensures ok { OnOk result (schedule.new ≡ schedule.old ++ repeated times (drop from schedule.old)) }
-    ensures few { length schedule.new ≤ 1000000 }
-    ensures err { IsErrOf result TooManySteps → 1000000 < length (schedule.old ++ repeated times (drop from schedule.old)) }
+    ensures few { length schedule.new ≤ most_steps }
+    ensures err { IsErrOf result TooManySteps → most_steps < length (schedule.old ++ repeated times (drop from schedule.old)) }
     ensures only { IfErr result (λ e. (e ≡ Memory) ⊎ (e ≡ TooManySteps)) }
 {
     let len = schedule.len().saturating_sub(from);
@@ -64,9 +65,9 @@ fn append_again(schedule: &mut Schedule, from: usize, times: u64) -> Result<(), 
 
 // Appends them so many times, and tells whether the steps fit then.
 fn goes_over(schedule: &mut Schedule, from: usize, times: u64) -> Result<bool, AllocError>
-    requires { length schedule.old ≤ 1000000 }
+    requires { length schedule.old ≤ most_steps }
     ensures more { IfOk result (λ fits. so_far fits schedule.new ≡ more_steps (Some schedule.old) (drop from schedule.old) times) }
-    ensures few { length schedule.new ≤ 1000000 }
+    ensures few { length schedule.new ≤ most_steps }
 {
     match append_again(schedule, from, times) {
         Ok(()) => Ok(true),
@@ -83,9 +84,9 @@ pub fn goes_again(
     from: usize,
     count: u64,
 ) -> Result<bool, AllocError>
-    requires { length schedule.old ≤ 1000000 }
+    requires { length schedule.old ≤ most_steps }
     ensures more { IfOk result (λ now. so_far now schedule.new ≡ again (so_far fits schedule.old) from count) }
-    ensures few { length schedule.new ≤ 1000000 }
+    ensures few { length schedule.new ≤ most_steps }
 {
     if !fits {
         return Ok(false);

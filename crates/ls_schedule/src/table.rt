@@ -1,5 +1,6 @@
 // A table of the names of one byte, and the items that it reads.
 
+ghost use Rattle.ls_events.specs.Limits.{most_steps};
 ghost use Rattle.ls_schedule.specs.Answers.{capped_turns, more_steps, so_far};
 ghost use Rattle.ls_schedule.specs.Reading.{thread_name};
 ghost use Rattle.ls_schedule.specs.Table.{IsShort, IsTable};
@@ -93,9 +94,9 @@ pub fn short_item(table: &Table, text: &[u8]) -> Option<u8>
 // Appends one step if those so far fit, and tells whether they all do.
 #[inline(always)]
 pub fn goes_on_once(fits: bool, schedule: &mut Schedule, thread: u8) -> Result<bool, AllocError>
-    requires { length schedule.old ≤ 1000000 }
+    requires { length schedule.old ≤ most_steps }
     ensures more { IfOk result (λ now. so_far now schedule.new ≡ more_steps (so_far fits schedule.old) (thread ∷ []) 1) }
-    ensures few { length schedule.new ≤ 1000000 }
+    ensures few { length schedule.new ≤ most_steps }
 {
     if !fits {
         return Ok(false);

@@ -1,4 +1,5 @@
 -- Counts of seven and more digits, and the most steps that a schedule has.
+use Rattle.ls_events.specs.Limits.{most_steps}
 use Rattle.std.specs.Prelude.{◌≡◌, ◌<◌, ◌*◌, ℕ, List, [], ◌∷◌, length, codes, replicate, Some, Ok, Err}
 use Rattle.ls_schedule.specs.declared.fault.ScheduleFault.TheVariants.{BadItem, UnknownThread, TooManySteps}
 use Rattle.ls_schedule.specs.Pieces.{Piece}
@@ -15,7 +16,7 @@ LongCounts =
 
 -- 1,000,000 steps are a schedule
 abbrev pub MostSteps : Type 0
-MostSteps = (t : ℕ) → within (replicate 1000000 t) ≡ Ok (replicate 1000000 t)
+MostSteps = (t : ℕ) → within (replicate most_steps t) ≡ Ok (replicate most_steps t)
 
 abbrev pub OneStepTooMany : Type 0
 OneStepTooMany = (t : ℕ) → within (replicate 1000001 t) ≡ Err TooManySteps
@@ -26,12 +27,12 @@ LongGroupCounts = (times_of (codes "*7654321") ≡ Some 7654321) × (times_of (c
 
 -- counts of groups in one another multiply, however large the product is
 abbrev pub CountsInOneAnother : Type 0
-CountsInOneAnother = (m n : ℕ) (steps : List ℕ) → 1000000 < m * (n * length steps) → within (repeated m (repeated n steps)) ≡ Err TooManySteps
+CountsInOneAnother = (m n : ℕ) (steps : List ℕ) → most_steps < m * (n * length steps) → within (repeated m (repeated n steps)) ≡ Err TooManySteps
 
 -- the groups have at most 1,000,000 steps together
 abbrev pub GroupsPastTheLimit : Type 0
 GroupsPastTheLimit =
-    (ps : List Piece) (steps : List ℕ) → steps_in names [] nothing ps ≡ Ok steps → 1000000 < length steps → group_schedule names ps ≡ Err TooManySteps
+    (ps : List Piece) (steps : List ℕ) → steps_in names [] nothing ps ≡ Ok steps → most_steps < length steps → group_schedule names ps ≡ Err TooManySteps
 
 -- an item with a fault is reported before the length is
 abbrev pub FaultsBeforeTheLength : Type 0

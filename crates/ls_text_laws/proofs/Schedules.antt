@@ -1,4 +1,5 @@
 -- Schedules of a program that a text is.
+use Rattle.ls_events.specs.Limits.{most_steps}
 use Rattle.std.proofs.Common.{◌≡◌, ℕ, zero, suc, ◌+◌, ◌-◌, ◌<◌, ◌≤◌, refl, sym, ◌∙◌, subst, arith, Bool, true, false, List, [], ◌∷◌, ◌++◌, length, map, Option, Some, None, Result, Ok, Err, codes}
 use Rattle.std.specs.Prelude.{◌&&◌, All, slice_get, nat_lt, option_map, if◌then◌else◌}
 use Rattle.std.specs.List.{position, position_or_len, range_with_len}
@@ -118,20 +119,20 @@ module _ (names : List (List ℕ)) where
   steps_fit [] h = tt
   steps_fit (t ∷ ts) h = each_append n (repeated t.1 t.0) (steps_of ts) (each_repeated n t.1 t.0 h.0) (steps_fit ts h.1)
 
-  within_fits : (steps us : List ℕ) → within steps ≡ Ok us → (steps ≡ us) × (length us ≤ 1000000)
-  within_fits steps us = by_test (nat_lt 1000000 (length steps)) refl
+  within_fits : (steps us : List ℕ) → within steps ≡ Ok us → (steps ≡ us) × (length us ≤ most_steps)
+  within_fits steps us = by_test (nat_lt most_steps (length steps)) refl
     where
-      by_test : (b : Bool) → nat_lt 1000000 (length steps) ≡ b → (if b then Err fault.TooManySteps else Ok steps) ≡ Ok us → (steps ≡ us) × (length us ≤ 1000000)
+      by_test : (b : Bool) → nat_lt most_steps (length steps) ≡ b → (if b then Err fault.TooManySteps else Ok steps) ≡ Ok us → (steps ≡ us) × (length us ≤ most_steps)
       by_test true e is = let f : ⊥ = cc in absurd f
       by_test false e is =
           let same : steps ≡ us = cc in
-          let few : length steps ≤ 1000000 = grind (arith, nat_tests) in
-          (same, subst (λ (l : List ℕ). length l ≤ 1000000) same few)
+          let few : length steps ≤ most_steps = grind (arith, nat_tests) in
+          (same, subst (λ (l : List ℕ). length l ≤ most_steps) same few)
 
-  plain_fits : (said steps : List ℕ) → plain_schedule names said ≡ Ok steps → Each n steps × (length steps ≤ 1000000)
+  plain_fits : (said steps : List ℕ) → plain_schedule names said ≡ Ok steps → Each n steps × (length steps ≤ most_steps)
   plain_fits said steps = by_items (each (turns_of names) (items 0 said)) refl
     where
-      by_items : (x : Result (List Turns) ScheduleFault) → each (turns_of names) (items 0 said) ≡ x → (x >>= λ turns. within (steps_of turns)) ≡ Ok steps → Each n steps × (length steps ≤ 1000000)
+      by_items : (x : Result (List Turns) ScheduleFault) → each (turns_of names) (items 0 said) ≡ x → (x >>= λ turns. within (steps_of turns)) ≡ Ok steps → Each n steps × (length steps ≤ most_steps)
       by_items (Err f) read e = let g : ⊥ = cc in absurd g
       by_items (Ok ts) read e =
           let h = within_fits (steps_of ts) steps e in
@@ -187,17 +188,17 @@ module _ (names : List (List ℕ)) where
       let formed : Bool = nat_lt (length gs) 8 && c.filled in
       in_fits gs (closed g gs c times) ps h.1 (fit_joined g.before.steps (group_steps g.at formed times c.steps) h.0 (fit_group g.at formed times c.steps k))
 
-  group_fits : (ps : List Piece) (steps : List ℕ) → group_schedule names ps ≡ Ok steps → Each n steps × (length steps ≤ 1000000)
+  group_fits : (ps : List Piece) (steps : List ℕ) → group_schedule names ps ≡ Ok steps → Each n steps × (length steps ≤ most_steps)
   group_fits ps steps = by_read (steps_in names [] nothing ps) (in_fits [] nothing ps tt tt)
     where
-      by_read : (x : Result (List ℕ) ScheduleFault) → Fit x → (x >>= within) ≡ Ok steps → Each n steps × (length steps ≤ 1000000)
+      by_read : (x : Result (List ℕ) ScheduleFault) → Fit x → (x >>= within) ≡ Ok steps → Each n steps × (length steps ≤ most_steps)
       by_read (Err f) h e = let g : ⊥ = cc in absurd g
       by_read (Ok ts) h e = let w = within_fits ts steps e in (subst (Each n) w.0 h, w.1)
 
-  read_fits : (said steps : List ℕ) → schedule_of names said ≡ Ok steps → Each n steps × (length steps ≤ 1000000)
+  read_fits : (said steps : List ℕ) → schedule_of names said ≡ Ok steps → Each n steps × (length steps ≤ most_steps)
   read_fits said steps = by_case (second_version (pieces 0 said))
     where
-      by_case : (v : Option (List Piece)) → by_version names said v ≡ Ok steps → Each n steps × (length steps ≤ 1000000)
+      by_case : (v : Option (List Piece)) → by_version names said v ≡ Ok steps → Each n steps × (length steps ≤ most_steps)
       by_case None e = plain_fits said steps e
       by_case (Some ps) e = group_fits ps steps e
 

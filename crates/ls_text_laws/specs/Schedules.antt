@@ -1,4 +1,5 @@
 -- If a schedule of a program is printed and read, it is the same schedule.
+use Rattle.ls_events.specs.Limits.{most_steps}
 use Rattle.std.specs.Prelude.{◌≡◌, ◌<◌, ◌≤◌, ℕ, List, length, Ok, All}
 use Rattle.ls_checked.specs.PlainProgram.{plain_program}
 use Rattle.ls_checked.specs.declared.program.Program.{Program}
@@ -12,7 +13,7 @@ use Rattle.ls_schedule.specs.RoundTrip.{AreThreadNames}
 -- at most 1,000,000 steps, each of a thread that exists
 pub record IsScheduleOf (program : Program) (steps : List ℕ) : Type 0 where
   pub there : All (λ t. t < length (thread_names program)) steps
-  pub short : length steps ≤ 1000000
+  pub short : length steps ≤ most_steps
 
 -- the names of a program text
 abbrev pub NamesAreRead : Type 0

@@ -1,4 +1,5 @@
 -- The machine's steps for those of the source.
+use Rattle.ls_events.specs.Limits.{most_steps}
 use Rattle.std.proofs.Common.{◌≡◌, ℕ, ◌+◌, ◌<◌, ◌≤◌, Bool, true, false, List, [], ◌++◌, length, drop, get_or, refl, sym, ap, ◌∙◌, subst}
 use Rattle.std.specs.Prelude.{if◌then◌else◌}
 use Rattle.std.proofs.lemmas.List.{append-nil, drop_all, drop_more}
@@ -118,13 +119,13 @@ begins file program r q q' n m ts is first h =
 -- many steps, there are in the whole.
 pub record IsFollowed (r : Progress) (q whole : MachineRun) (n : ℕ) (ts : List ℕ) (is_long : Bool) : Type 0 where
   pub goes : is_long ≡ false → gone q (steps_of_rest r n q.machine ts) ≡ whole
-  pub long : is_long ≡ true → 1000000 < length whole.steps
+  pub long : is_long ≡ true → most_steps < length whole.steps
 
 pub is_begun : (file : File) (program : Program) (r : Progress) (q q' : MachineRun) (n : ℕ) (m : Machine) (b : Bool) (ts : List ℕ) →
     r ≡ begun file program →
     q ≡ no_steps m →
     (b ≡ false → q' ≡ gone q (steps_before r n q.machine)) →
-    (b ≡ true → 1000000 < length (q.steps ++ steps_before r n q.machine)) →
+    (b ≡ true → most_steps < length (q.steps ++ steps_before r n q.machine)) →
     IsFollowed r q' (gone (no_steps m) (steps_all file program n (start program) m ts)) n ts b
 is_begun file program r q q' n m b ts is first goes long =
     let whole : MachineRun = gone (no_steps m) (steps_all file program n (start program) m ts) in
@@ -143,17 +144,17 @@ pub is_followed : (r r' : Progress) (q q' whole : MachineRun) (n : ℕ) (ts : Li
     IsFollowed r q whole n (drop i ts) was →
     (b ≡ false → was ≡ false) →
     (b ≡ false → q' ≡ gone q (steps_after r' n q.machine (get_or ts i x) d)) →
-    (b ≡ true → was ≡ false → 1000000 < length (q.steps ++ steps_after r' n q.machine (get_or ts i x) d)) →
+    (b ≡ true → was ≡ false → most_steps < length (q.steps ++ steps_after r' n q.machine (get_or ts i x) d)) →
     IsFollowed r' q' whole n (drop (i + 1) ts) b
 is_followed r r' q q' whole n ts i x d was b within did on h short goes long =
     let t : ℕ = get_or ts i x in
     let one : steps_after r' n q.machine t d ≡ steps_of_one r n q.machine t = after_is r r' n q.machine t d did on in
     record {
       goes = λ e. follows r r' q q' whole n ts i x within on (goes e ∙ ap (gone q) one) (h.goes (short e));
-      long = λ e. longer r q whole n ts i x was within h (λ still. subst (λ l. 1000000 < length (q.steps ++ l)) one (long e still));
+      long = λ e. longer r q whole n ts i x was within h (λ still. subst (λ l. most_steps < length (q.steps ++ l)) one (long e still));
     }
   where
-    longer : (r : Progress) (q whole : MachineRun) (n : ℕ) (ts : List ℕ) (i x : ℕ) (was : Bool) → i < length ts → IsFollowed r q whole n (drop i ts) was → (was ≡ false → 1000000 < length (q.steps ++ steps_of_one r n q.machine (get_or ts i x))) → 1000000 < length whole.steps
+    longer : (r : Progress) (q whole : MachineRun) (n : ℕ) (ts : List ℕ) (i x : ℕ) (was : Bool) → i < length ts → IsFollowed r q whole n (drop i ts) was → (was ≡ false → most_steps < length (q.steps ++ steps_of_one r n q.machine (get_or ts i x))) → most_steps < length whole.steps
     longer r q whole n ts i x false within h more = follow_short r q whole n ts i x ResultTooLong within (h.goes refl) (more refl)
     longer r q whole n ts i x true within h more = h.long refl
 

@@ -2,7 +2,7 @@
 use Rattle.std.proofs.Common.{◌≡◌, ◌↔◌, ℕ, ◌<◌, ◌≤◌, ◌^◌, List, length, Result, Ok, Err, IfOk, OnOk, sym, ap, ◌∙◌, subst, arith, inl, inr}
 use Rattle.std.proofs.Math.Logic.{∥∥₁_elim}
 use Rattle.std.proofs.Props.{props}
-use Rattle.ls_code.specs.Limits.{most_cells}
+use Rattle.ls_code.specs.Limits.{most_cells, most_instructions}
 use Rattle.ls_events.specs.declared.event.Event.{Event}
 use Rattle.ls_checked.specs.CheckedTree.{File}
 use Rattle.ls_checked.specs.CheckedProgram.{Program}
@@ -27,7 +27,7 @@ are_cells code cells good = record {
 pub names_fit : (file : File) (program : Program) (code : Code) (cells : ℕ) → ∥ Runs file program code ∥₁ → IsCells code cells → length program.names ≤ cells
 names_fit file program code cells runs good = ∥∥₁_elim runs (hlevel props) (λ r. omega (arith, r.same.names, good.names))
 
-pub is_short : (file : File) (program : Program) (code : Code) → ∥ Runs file program code ∥₁ → length code.instructions ≤ 65536
+pub is_short : (file : File) (program : Program) (code : Code) → ∥ Runs file program code ∥₁ → length code.instructions ≤ most_instructions
 is_short file program code runs = ∥∥₁_elim runs (hlevel props) (λ r. r.short)
 
 no_err : {T E : Type 0} {x : T} {e : E} → Ok x ≡ Err e → ⊥

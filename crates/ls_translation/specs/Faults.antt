@@ -1,4 +1,5 @@
 -- What a refusal says.
+use Rattle.ls_events.specs.Limits.{most_steps}
 use Rattle.std.specs.Prelude.{ℕ, ◌<◌, List, length}
 use Rattle.ls_machine.specs.declared.fault.LoadFault.{LoadFault}
 use Rattle.ls_machine.specs.declared.fault.LoadFault.TheVariants as load
@@ -15,4 +16,4 @@ abbrev pub CutsShort : List ℕ → TranslationFault → Type 0
 CutsShort steps Memory = Unit {0}
 CutsShort steps BadCells = ⊥
 CutsShort steps (DoesNotFit step) = ⊥
-CutsShort steps ResultTooLong = 1000000 < length steps
+CutsShort steps ResultTooLong = most_steps < length steps

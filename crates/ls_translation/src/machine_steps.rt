@@ -1,5 +1,6 @@
 // From a schedule of the source to one of the machine.
 
+ghost use Rattle.ls_events.specs.Limits.{most_steps};
 ghost use Rattle.std.specs.Prelude.{◌≡◌, ℕ, ◌<◌, ◌≤◌, ◌↔◌, ◌++◌, ◌*◌, Err, IfErr, IfOk, IsErrOf, Ok, OnOk, false, length, true};
 ghost use Rattle.ls_code.specs.Machine.{machine_history};
 ghost use Rattle.ls_image.specs.Images.{code_of_image, program_of_image};
@@ -50,7 +51,7 @@ fn is_too_long(followed: Result<(), TranslationFault>) -> Result<bool, Translati
 /// The setup's steps to its end, if its source has ended. Answers whether they are too many.
 fn begin(source: &SourceRun<'_>, run: &mut MachineRun, most: u64) -> Result<bool, TranslationFault>
     ensures goes { IfOk result (λ b. b ≡ false → run.new ≡ gone run.old (steps_before (progress_of source.now) most run.old.machine)) }
-    ensures long { IfOk result (λ b. b ≡ true → 1000000 < length (run.old.steps ++ steps_before (progress_of source.now) most run.old.machine)) }
+    ensures long { IfOk result (λ b. b ≡ true → most_steps < length (run.old.steps ++ steps_before (progress_of source.now) most run.old.machine)) }
     ensures err { IfErr result (λ e. e ≡ Memory) }
 {
     is_too_long(run.finish_if(source.has_setup_ended()?, most))
@@ -82,7 +83,7 @@ fn follow(
 ) -> Result<bool, TranslationFault>
     ensures was_short { IfOk result (λ b. b ≡ false → was_long ≡ false) }
     ensures goes { IfOk result (λ b. b ≡ false → run.new ≡ gone run.old (steps_after (progress_of source.now) most run.old.machine thread did)) }
-    ensures long { IfOk result (λ b. b ≡ true → was_long ≡ false → 1000000 < length (run.old.steps ++ steps_after (progress_of source.now) most run.old.machine thread did)) }
+    ensures long { IfOk result (λ b. b ≡ true → was_long ≡ false → most_steps < length (run.old.steps ++ steps_after (progress_of source.now) most run.old.machine thread did)) }
     ensures err { IfErr result (λ e. e ≡ Memory) }
 {
     if was_long {
@@ -112,7 +113,7 @@ fn machine_steps(
 ) -> Result<Schedule, TranslationFault>
     requires { length (program_of_image image.now).names.items ≤ cells }
     ensures unfit { (step : ℕ) → IsErrOf result (DoesNotFit step) → IsFirstUnfit (file_of image.now) (program_of image.now) cells schedule.now step }
-    ensures long { IsErrOf result ResultTooLong → 1000000 < length (steps_all (file_of image.now) (program_of image.now) (most_silent (code_of_image image.now)) (start (program_of image.now)) machine schedule.now) }
+    ensures long { IsErrOf result ResultTooLong → most_steps < length (steps_all (file_of image.now) (program_of image.now) (most_silent (code_of_image image.now)) (start (program_of image.now)) machine schedule.now) }
     ensures long_fits { IsErrOf result ResultTooLong → Fits (file_of image.now) (program_of image.now) cells schedule.now }
     ensures bad { ¬ IsErrOf result BadCells }
     ensures fits { OnOk result (Fits (file_of image.now) (program_of image.now) cells schedule.now) }
@@ -155,7 +156,7 @@ pub fn to_machine(
 ) -> Result<Schedule, TranslationFault>
     ensures bad { IsErrOf result BadCells ↔ AreBadCells (code_of_image image.now).names cells }
     ensures unfit { (step : ℕ) → IsErrOf result (DoesNotFit step) → IsFirstUnfit (file_of image.now) (program_of image.now) cells schedule.now step }
-    ensures long { IsErrOf result ResultTooLong → 1000000 < length (to_machine (file_of image.now) (program_of image.now) (code_of_image image.now) cells schedule.now) }
+    ensures long { IsErrOf result ResultTooLong → most_steps < length (to_machine (file_of image.now) (program_of image.now) (code_of_image image.now) cells schedule.now) }
     ensures long_fits { IsErrOf result ResultTooLong → Fits (file_of image.now) (program_of image.now) cells schedule.now }
     ensures fits { OnOk result (Fits (file_of image.now) (program_of image.now) cells schedule.now) }
     ensures steps { IfOk result (λ steps. steps ≡ to_machine (file_of image.now) (program_of image.now) (code_of_image image.now) cells schedule.now) }

@@ -1,5 +1,6 @@
 // From a schedule of the machine to one of the source.
 
+ghost use Rattle.ls_events.specs.Limits.{most_steps};
 ghost use Rattle.std.specs.Prelude.{◌≡◌, ◌<◌, ◌≤◌, ◌++◌, ◌↔◌, IfErr, IfOk, IsErrOf, OnOk, length};
 ghost use Rattle.std.specs.Prelude.{◌⊎◌};
 ghost use Rattle.ls_code.specs.Machine.{machine_history, machine_step};
@@ -21,7 +22,7 @@ use std::alloc::{AllocError, Global};
 
 /// Takes a step, and adds its thread where it acts.
 fn take(machine: &mut Machine, acting: &mut Schedule, thread: u8) -> Result<(), AllocError>
-    requires { length acting.old < 1000000 }
+    requires { length acting.old < most_steps }
     ensures machine { OnOk result (machine.new ≡ (machine_step machine.old thread).machine) }
     ensures acting { OnOk result (acting.new ≡ acting.old ++ if_acts thread (machine_step machine.old thread).did) }
 {

@@ -15,6 +15,7 @@ pub struct TurnSeat {
 }
 
 impl Model for TurnSeat {
+    ghost use Rattle.ls_events.specs.Limits.{most_steps};
     ghost use Rattle.std.specs.Prelude.{◌≡◌, ◌≤◌, []};
     ghost use Rattle.ls_turnstile.specs.Turns.{SeatState, seat_state};
     ghost use Rattle.ls_turnstile.specs.Views.{seated};
@@ -23,7 +24,7 @@ impl Model for TurnSeat {
 
     ghost view = { λ s. seat_state s.seat.table_id s.seat.me.0.start s.seat.me.0.tape s.thread s.seen s.steps };
 
-    ghost invariant = { λ s. (s.seat.me ≡ (seated s.seat.me.0.start s.seat.me.0.tape s.thread s.seen s.steps, [])) × (s.steps ≤ s.seen) × (s.seen ≤ 1000000) };
+    ghost invariant = { λ s. (s.seat.me ≡ (seated s.seat.me.0.start s.seat.me.0.tape s.thread s.seen s.steps, [])) × (s.steps ≤ s.seen) × (s.seen ≤ most_steps) };
 }
 
 impl TurnSeat {

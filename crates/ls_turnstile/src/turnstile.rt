@@ -1,5 +1,6 @@
 // Turnstiles.
 
+ghost use Rattle.ls_events.specs.Limits.{most_steps};
 ghost use Rattle.ls_code.specs.Machine.{loaded, machine_run, machine_step};
 ghost use Rattle.ls_image.specs.Images.{RunsAsItsTexts, code_of_image};
 ghost use Rattle.ls_machine.specs.Room.{AreBadCells};
@@ -54,6 +55,7 @@ pub struct Turnstile {
 }
 
 impl Model for Turnstile {
+    ghost use Rattle.ls_events.specs.Limits.{most_steps};
     ghost use Rattle.std.specs.Prelude.{◌≡◌, ◌<◌, ◌≤◌, vec_len};
     ghost use Rattle.ls_turnstile.specs.Turns.{TurnstileState, turnstile_state};
 
@@ -61,7 +63,7 @@ impl Model for Turnstile {
 
     ghost view = { λ t. turnstile_state t.table.shared.table_id t.table.shared.key.code.value t.table.shared.key.cells t.table.shared.key.tape.value.items t.table.shared.key.seats };
 
-    ghost invariant = { λ t. (t.tape.items ≡ t.table.shared.key.tape.value.items) × (t.seats ≡ t.table.shared.key.seats) × (0 < t.seats) × (vec_len t.tape ≤ 1000000) × (t.table.shared.table_id.words ≡ 1) × (t.table.shared.table_id.slots ≡ 1) };
+    ghost invariant = { λ t. (t.tape.items ≡ t.table.shared.key.tape.value.items) × (t.seats ≡ t.table.shared.key.seats) × (0 < t.seats) × (vec_len t.tape ≤ most_steps) × (t.table.shared.table_id.words ≡ 1) × (t.table.shared.table_id.slots ≡ 1) };
 }
 
 impl Turnstile {
@@ -322,7 +324,7 @@ fn finish(table: MachineTable, all: Seat<Machine, View>, mut tape: Vec<u8>) -> R
     requires id { (all.table_id ≡ table.shared.table_id) × (table.shared.table_id.words ≡ 1) × (table.shared.table_id.slots ≡ 1) }
     requires all { (table.shared.key.seats ≤ all.me.0.parts) × (all.me.0.out ≡ 0) }
     requires tape { tape.items ≡ table.shared.key.tape.value.items }
-    requires most { length tape.items ≤ 1000000 }
+    requires most { length tape.items ≤ most_steps }
     ensures record { IsRecordOf table.shared.key.code.value table.shared.key.cells (take all.me.0.steps tape.items) result }
     ensures bounds { (all.me.0.steps ≤ length tape.items) × (all.me.0.seen ≤ all.me.0.steps) × (all.me.0.parts ≡ table.shared.key.seats) }
 {

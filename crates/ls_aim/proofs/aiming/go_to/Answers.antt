@@ -1,3 +1,4 @@
+use Rattle.ls_events.specs.Limits.{most_steps}
 use Rattle.std.proofs.Common.{◌≡◌, ◌∙◌, ◌<◌, ◌++◌, ◌∷◌, [], length, sym, ap, arith}
 use Rattle.std.proofs.lemmas.Grind.{common_steps}
 use Rattle.std.proofs.lemmas.List.{length-append}
@@ -37,7 +38,7 @@ walk-preserved c =
     let thread = c.args.target.thread in
     let e : sight names c.args.at r thread stop ≡ GoesOn still =
     ap (λ n. sight n c.args.at r thread stop) (sym c.walk.invariant.names) ∙ sym c.in_ok-sight.ensures.sight ∙ ap sight_of c.in-GoesOn.is in
-    let small : length c.walk.steps < 1000000 = grind (arith, common_steps) in
+    let small : length c.walk.steps < most_steps = grind (arith, common_steps) in
     let added = c.in_ok-push-in-GoesOn.ensures.added in
     let run : run_in c.sight.new.self ≡ after_step names r thread =
     c.in_ok-sight.ensures.run ∙ ap (λ n. after_step n r thread) c.walk.invariant.names in

@@ -1,3 +1,4 @@
+use Rattle.ls_code.specs.Limits.{most_instructions}
 use Rattle.std.proofs.Common.{◌≡◌, ◌+◌, ◌≤◌, ◌++◌, ap, sym, arith, subst}
 use Rattle.std.specs.Prelude.{OnOk}
 use Rattle.ls_lowered.specs.LoweredTree as lowered
@@ -16,7 +17,7 @@ emit_statement-emit_block-requires t c =
     let block : plain_statement c.args.s.now ≡ Block (statements_of c.deref.result.now) = block_plain c.args.s.now c.in-Block.statements c.deref.result.now c.deref.ensures.value c.in-Block.is in
     let same = ap statement_size block in
     let work = ap weight block in
-    let room : c.args.at.place + statements_size (statements_of c.deref.result.now) ≤ 65536 = omega (arith, same, c.requires.ends, c.requires.room) in
+    let room : c.args.at.place + statements_size (statements_of c.deref.result.now) ≤ most_instructions = omega (arith, same, c.requires.ends, c.requires.room) in
     let small : AreSmallStatements (statements_of c.deref.result.now) = subst IsSmallStatement block c.requires.small in
     let sized : AreAheadOfBlock (statements_of c.deref.result.now) c.args.out.now.sizes.now = subst (λ s. AreAhead s c.args.out.now.sizes.now) block c.requires.sized in
     (omega (arith, work, c.decreases), (room, (small, sized)))

@@ -1,3 +1,4 @@
+use Rattle.ls_code.specs.Limits.{most_instructions}
 use Rattle.std.proofs.Common.{rules, ◌≡◌, ◌+◌, ◌-◌, ◌<◌, ◌≤◌, length, ap, sym, subst, arith}
 use Rattle.std.specs.Prelude.{IfOk, OnOk, reverse}
 use Rattle.ls_lowered.specs.LoweredTree as lowered
@@ -57,7 +58,7 @@ put_block-overflow_add-count t c =
     let size = size_before xs i s some inside c.index-statements-i.is in
     let count = c.loop-i.invariant.0 in
     let own : c.in_ok-size.size ≡ statement_size (plain_statement s) = search rules in
-    let sum : c.loop-i.count + c.in_ok-size.size ≤ 65536 = omega (arith, size, count, own, c.requires) in
+    let sum : c.loop-i.count + c.in_ok-size.size ≤ most_instructions = omega (arith, size, count, own, c.requires) in
     omega (arith, sum)
 
 pub put_exits-put_ahead-requires : goal.put_exits-put_ahead-requires
@@ -80,7 +81,7 @@ put_exits-overflow_add-count t c =
     let inside : i ≤ length xs = search rules in
     let room = room_before xs i s some inside c.index-exits-i.is in
     let own : c.in_ok-size.size ≡ statement_size (plain_statement s) = search rules in
-    let sum : 1 + c.in_ok-size.size ≤ 65536 = omega (arith, room, own, c.requires) in
+    let sum : 1 + c.in_ok-size.size ≤ most_instructions = omega (arith, room, own, c.requires) in
     omega (arith, sum)
 
 pub put_exits-overflow_add-count-in-loop-i : goal.put_exits-overflow_add-count-in-loop-i
@@ -93,5 +94,5 @@ put_exits-overflow_add-count-in-loop-i t c =
     let room = room_before xs i s some inside c.index-exits-i.is in
     let count = c.loop-i.invariant.0 in
     let own : c.in_ok-size.size ≡ statement_size (plain_statement s) = search rules in
-    let sum : c.loop-i.count + (1 + c.in_ok-size.size) ≤ 65536 = omega (arith, room, count, own, c.requires) in
+    let sum : c.loop-i.count + (1 + c.in_ok-size.size) ≤ most_instructions = omega (arith, room, count, own, c.requires) in
     omega (arith, sum)

@@ -1,3 +1,4 @@
+use Rattle.ls_lowered.specs.Limits.{most_locals}
 use Rattle.std.proofs.Common.{◌≤◌, take}
 use Rattle.std.specs.Prelude.{All}
 use Rattle.ls_lowered.specs.Plain.{plain_method}
@@ -5,4 +6,4 @@ use Rattle.ls_finally.specs.Counts.{locals_of}
 use Rattle.ls_finally.proofs.counts.have_few_locals.Given as goal
 
 abbrev pub invariant-loop-method : goal.invariant-loop-method
-invariant-loop-method l = All (λ m. locals_of (plain_method m) ≤ 128) (take l.method-index l.methods)
+invariant-loop-method l = All (λ m. locals_of (plain_method m) ≤ most_locals) (take l.method-index l.methods)

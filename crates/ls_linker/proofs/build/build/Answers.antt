@@ -1,3 +1,4 @@
+use Rattle.ls_code.specs.Limits.{most_instructions}
 use Rattle.std.proofs.Common.{◌≤◌, length, sym, subst, ap, ◌∙◌, Err}
 use Rattle.std.proofs.Math.Logic.{∥∥₁_elim}
 use Rattle.std.proofs.Props.{props}
@@ -72,7 +73,7 @@ returns-clause-runs c =
     (subst (Runs file program) (sym code)
     (c.compiled_runs.ensures file program well reads
     (c.typed_is_placed.ensures file well) (c.ranged_is_emittable.ensures file well c.in_ok-refs.ensures.fits)
-    (subst (λ (x : Code). length x.instructions ≤ 65536) code c.in_ok-code.ensures.short)))
+    (subst (λ (x : Code). length x.instructions ≤ most_instructions) code c.in_ok-code.ensures.short)))
 
 pub returns-in_err-measure-clause-refused : goal.returns-in_err-measure-clause-refused
 returns-in_err-measure-clause-refused c =

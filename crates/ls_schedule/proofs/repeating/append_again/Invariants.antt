@@ -1,3 +1,4 @@
+use Rattle.ls_events.specs.Limits.{most_steps}
 use Rattle.std.proofs.Common.{◌≡◌, ◌++◌, ◌≤◌, length, drop}
 use Rattle.ls_schedule.specs.Reading.{repeated}
 use Rattle.ls_schedule.proofs.repeating.append_again.Given as goal
@@ -5,5 +6,5 @@ use Rattle.ls_schedule.proofs.repeating.append_again.Given as goal
 abbrev pub invariant-loop : goal.invariant-loop
 invariant-loop l = record {
   done : l.schedule ≡ l.fn.schedule ++ repeated l.counter (drop l.from l.fn.schedule);
-  few : length l.schedule ≤ 1000000;
+  few : length l.schedule ≤ most_steps;
 }
