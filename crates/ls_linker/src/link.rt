@@ -4,9 +4,9 @@ ghost use Rattle.ls_code.specs.Limits.{most_instructions};
 ghost use Rattle.std.specs.Prelude.{◌≡◌, ◌<◌, ◌≤◌, All, Err, IfOk, OnOk, length, map};
 ghost use Rattle.ls_checked.specs.Plain.{plain_class, plain_file};
 ghost use Rattle.ls_checked.specs.PlainProgram.{plain_program};
-ghost use Rattle.ls_linker_laws.specs.Linked.{linked, class_size as the_size};
+ghost use Rattle.ls_linker_laws.specs.Linked.{linked, class_size};
 ghost use Rattle.ls_linker_bounds.specs.Links.{ThreadLinks, Links};
-ghost use Rattle.ls_linker.specs.Added.{AddsThreads, first_parts as the_first};
+ghost use Rattle.ls_linker.specs.Added.{AddsThreads, first_parts};
 ghost use Rattle.ls_linker.specs.declared.fault.LinkFault.TheVariants as faults;
 
 use crate::fault::LinkFault;
@@ -23,13 +23,13 @@ pub const MOST_INSTRUCTIONS: usize = 65_536;
 
 /// The cells of an object: one for its monitor, and one for each field.
 fn class_size(class: &Class) -> usize
-    ensures { result ≡ the_size (plain_class class.now) }
+    ensures { result ≡ class_size (plain_class class.now) }
 {
     class.fields.len() + 1
 }
 
 fn sizes_of(alloc: Global, classes: &[Class]) -> Result<Vec<usize>, AllocError>
-    ensures { IfOk result (λ v. v.items ≡ map the_size (map plain_class classes.now)) }
+    ensures { IfOk result (λ v. v.items ≡ map class_size (map plain_class classes.now)) }
 {
     let mut sizes = Vec::new(alloc);
     for class in classes {
@@ -39,7 +39,7 @@ fn sizes_of(alloc: Global, classes: &[Class]) -> Result<Vec<usize>, AllocError>
 }
 
 fn first_parts(alloc: Global, file: &File, program: &Program) -> Result<Parts, AllocError>
-    ensures { IfOk result (λ parts. parts ≡ the_first (plain_file file.now) (plain_program program.now)) }
+    ensures { IfOk result (λ parts. parts ≡ first_parts (plain_file file.now) (plain_program program.now)) }
 {
     Ok(Parts {
         instructions: Vec::new(alloc),

@@ -3,10 +3,10 @@
 ghost use Rattle.std.specs.Prelude.{◌≡◌, ◌++◌, ◌+◌, ◌∷◌, [], ◌<◌, ◌≤◌, ◌^◌, All, IfOk, OnOk, length, map};
 ghost use Rattle.ls_checked.specs.Plain.{plain_class};
 ghost use Rattle.ls_checked.specs.PlainProgram.{plain_call, plain_thread};
-ghost use Rattle.ls_headline.specs.InWords.{word_of as the_word};
-ghost use Rattle.ls_headline.specs.Threads.{call_result as the_result, result_type as the_result_type};
-ghost use Rattle.ls_meaning.specs.Expressions.{constructor_of as the_constructor};
-ghost use Rattle.ls_linker_laws.specs.Threads.{pushes, result_code, call_code, calls_code, call_need as the_need, calls_need as the_needs};
+ghost use Rattle.ls_headline.specs.InWords.{word_of};
+ghost use Rattle.ls_headline.specs.Threads.{call_result, result_type};
+ghost use Rattle.ls_meaning.specs.Expressions.{constructor_of};
+ghost use Rattle.ls_linker_laws.specs.Threads.{pushes, result_code, call_code, calls_code, call_need, calls_need};
 ghost use Rattle.ls_code.specs.declared.instruction.Instruction.TheVariants as op;
 ghost use Rattle.ls_linker_bounds.specs.Links.{IsWritten, CallLinks, ThreadLinks};
 ghost use Rattle.ls_linker.specs.Added.{Adds, AddsThreads, PushesThread};
@@ -21,7 +21,7 @@ use std::alloc::{AllocError, Global};
 /// The word of an int or a boolean.
 fn word_of(value: Value) -> u32
     requires { IsWritten value }
-    ensures { result ≡ the_word value }
+    ensures { result ≡ word_of value }
 {
     match value {
         Value::Int(int) => int.cast_unsigned(),
@@ -31,7 +31,7 @@ fn word_of(value: Value) -> u32
 }
 
 fn constructor_of(classes: &[Class], class: usize) -> usize
-    ensures { result ≡ the_constructor (map plain_class classes.now) class }
+    ensures { result ≡ constructor_of (map plain_class classes.now) class }
 {
     match classes.get(class) {
         Some(class) => class.constructor,
@@ -40,7 +40,7 @@ fn constructor_of(classes: &[Class], class: usize) -> usize
 }
 
 fn result_type(answers: Option<ValueType>) -> CallResult
-    ensures { result ≡ the_result_type answers }
+    ensures { result ≡ result_type answers }
 {
     match answers {
         Some(ValueType::Int) => CallResult::Int,
@@ -50,7 +50,7 @@ fn result_type(answers: Option<ValueType>) -> CallResult
 }
 
 fn call_result(call: &ProgramCall) -> CallResult
-    ensures { result ≡ the_result (plain_call call.now) }
+    ensures { result ≡ call_result (plain_call call.now) }
 {
     match call {
         ProgramCall::Making { .. } => CallResult::Nothing,
@@ -193,7 +193,7 @@ fn push_calls(
 }
 
 fn call_need(call: &ProgramCall) -> usize
-    ensures { result ≡ the_need (plain_call call.now) }
+    ensures { result ≡ call_need (plain_call call.now) }
 {
     match call {
         ProgramCall::Making { values, .. } => 2 + values.len(),
@@ -202,7 +202,7 @@ fn call_need(call: &ProgramCall) -> usize
 }
 
 fn calls_need(calls: &[ProgramCall]) -> usize
-    ensures { result ≡ the_needs (map plain_call calls.now) }
+    ensures { result ≡ calls_need (map plain_call calls.now) }
 {
     match calls {
         [] => 1,
@@ -211,7 +211,7 @@ fn calls_need(calls: &[ProgramCall]) -> usize
 }
 
 fn call_results(alloc: Global, calls: &[ProgramCall]) -> Result<Vec<CallResult>, AllocError>
-    ensures { IfOk result (λ v. v.items ≡ map the_result (map plain_call calls.now)) }
+    ensures { IfOk result (λ v. v.items ≡ map call_result (map plain_call calls.now)) }
 {
     let mut results = Vec::new(alloc);
     for call in calls {

@@ -2,7 +2,7 @@
 
 ghost use Rattle.ls_code.specs.Limits.{most_instructions};
 ghost use Rattle.std.specs.Prelude.{◌≡◌, ◌++◌, ◌+◌, ◌*◌, ◌^◌, ◌≤◌, ◌∷◌, [], All, OnOk, length, map};
-ghost use Rattle.ls_emit_laws.specs.Units.{moved as the_moved, moved_row as the_moved_row};
+ghost use Rattle.ls_emit_laws.specs.Units.{moved, moved_row};
 ghost use Rattle.ls_linker_bounds.specs.Landing.{Lands, RowLands, UnitLands};
 ghost use Rattle.ls_linker.specs.Added.{AddsUnits};
 
@@ -15,7 +15,7 @@ use std::alloc::AllocError;
 fn moved(start: u32, instruction: Instruction) -> Instruction
     requires room { start ≤ 2 ^ 26 }
     requires lands { Lands most_instructions instruction }
-    ensures { result ≡ the_moved start instruction }
+    ensures { result ≡ moved start instruction }
 {
     match instruction {
         Instruction::Jump(place) => Instruction::Jump(start + place),
@@ -29,7 +29,7 @@ fn moved(start: u32, instruction: Instruction) -> Instruction
 fn moved_row(start: usize, row: HandlerRow) -> HandlerRow
     requires room { start ≤ 2 ^ 26 }
     requires lands { RowLands most_instructions row }
-    ensures { result ≡ the_moved_row start row }
+    ensures { result ≡ moved_row start row }
 {
     HandlerRow {
         from: start + row.from,
@@ -46,7 +46,7 @@ fn add_instructions(
 ) -> Result<(), AllocError>
     requires room { start ≤ 2 ^ 26 }
     requires lands { All (Lands most_instructions) instructions.now }
-    ensures { OnOk result (code.new.items ≡ code.old.items ++ map (the_moved start) instructions.now) }
+    ensures { OnOk result (code.new.items ≡ code.old.items ++ map (moved start) instructions.now) }
 {
     for instruction in instructions {
         code.push(moved(start, *instruction))?;
@@ -61,7 +61,7 @@ fn add_rows(
 ) -> Result<(), AllocError>
     requires room { start ≤ 2 ^ 26 }
     requires lands { All (RowLands most_instructions) rows.now }
-    ensures { OnOk result (handlers.new.items ≡ handlers.old.items ++ map (the_moved_row start) rows.now) }
+    ensures { OnOk result (handlers.new.items ≡ handlers.old.items ++ map (moved_row start) rows.now) }
 {
     for row in rows {
         handlers.push(moved_row(start, *row))?;

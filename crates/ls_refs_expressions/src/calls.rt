@@ -5,9 +5,9 @@ ghost use Rattle.ls_checked.specs.Plain.{plain_class};
 ghost use Rattle.ls_lowered.specs.Plain.{plain, all_plain};
 ghost use Rattle.ls_lowered.specs.LoweredTree.{Local, Unary, Hold, After, SetFirst, ReadPair, OnLock, AttemptMark};
 ghost use Rattle.ls_lowered.specs.declared.tree.UnaryOperator.TheVariants as unary;
-ghost use Rattle.ls_meaning.specs.Expressions.{constructor_of as the_constructor};
-ghost use Rattle.ls_refs_expressions.specs.ValueWords.{value_word as the_word};
-ghost use Rattle.ls_refs_expressions.specs.Calls.{lowered_operator as the_operator, own_temporaries as those_of, first_of, rest_of, second_of, pack as packed, compare_and_set as swapping, get_both as getting, lowered_call};
+ghost use Rattle.ls_meaning.specs.Expressions.{constructor_of};
+ghost use Rattle.ls_refs_expressions.specs.ValueWords.{value_word};
+ghost use Rattle.ls_refs_expressions.specs.Calls.{lowered_operator, own_temporaries as those_of, first_of, rest_of, second_of, pack as packed, compare_and_set as swapping, get_both as getting, lowered_call};
 
 use ls_checked::tree::{Called, Class, Operator};
 use ls_events::value::Value;
@@ -17,7 +17,7 @@ use std::alloc::{AllocError, Global};
 
 /// The word of a value.
 pub fn value_word(v: Value) -> u64
-    ensures { result ≡ the_word v }
+    ensures { result ≡ value_word v }
 {
     match v {
         Value::Int(int) => int.cast_unsigned() as u64,
@@ -29,7 +29,7 @@ pub fn value_word(v: Value) -> u64
 
 /// The operator on words for a checked operator.
 pub fn operator(op: Operator) -> BinaryOperator
-    ensures { result ≡ the_operator op }
+    ensures { result ≡ lowered_operator op }
 {
     match op {
         Operator::Add => BinaryOperator::Add,
@@ -48,7 +48,7 @@ pub fn operator(op: Operator) -> BinaryOperator
 
 /// The number of a class's constructor, or 0 if there is no such class.
 pub fn constructor_of(classes: &[Class], class: usize) -> usize
-    ensures { result ≡ the_constructor (map plain_class classes.now) class }
+    ensures { result ≡ constructor_of (map plain_class classes.now) class }
 {
     match classes.get(class) {
         Some(class) => class.constructor,

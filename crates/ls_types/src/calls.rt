@@ -5,7 +5,7 @@ ghost use Rattle.ls_checked.specs.PlainProgram.{plain_call};
 ghost use Rattle.ls_types_elaboration.specs.Known.{number_of};
 ghost use Rattle.ls_types_elaboration.specs.Tables.{method_sign_of};
 ghost use Rattle.ls_types.specs.CheckedFile.{outcome_of, names_of};
-ghost use Rattle.ls_types_programs.specs.ProgramCalls.{maker as the_maker, is_plain as the_plain, callable as the_callable, fits as the_fits, with_argument as the_with_argument, is_full as the_full, plain_number as the_plain_number, minus_number as the_minus_number, call_of as the_call_of};
+ghost use Rattle.ls_types_programs.specs.ProgramCalls.{maker, is_plain, callable, fits, with_argument, is_full, plain_number, minus_number, call_of};
 ghost use Rattle.ls_types_programs.specs.Stops.{Unknown, unmarked, callee_mark, fault_for, why_method, why_value};
 ghost use Rattle.ls_types.specs.ProgramViews.{callee_of, pending_of, Gives, Called};
 
@@ -69,7 +69,7 @@ pub fn maker<'a>(
     class_name: &'a str,
     at: usize,
 ) -> Result<Pending<'a>, ProgramFault>
-    ensures read { Gives pending_of result (the_maker (outcome_of checked.now) name.entry.now class_name.entry.now (number_of (names_of checked.now) class_name.entry.now)) }
+    ensures read { Gives pending_of result (maker (outcome_of checked.now) name.entry.now class_name.entry.now (number_of (names_of checked.now) class_name.entry.now)) }
     ensures place { Called at (Unknown at) result }
 {
     let Some(class) = class_number(checked.class_names(), class_name) else {
@@ -87,7 +87,7 @@ pub fn maker<'a>(
 }
 
 fn is_plain(answers: Option<ValueType>) -> bool
-    ensures { result ≡ the_plain answers }
+    ensures { result ≡ is_plain answers }
 {
     match answers {
         None => true,
@@ -110,7 +110,7 @@ pub fn called_on<'a>(
     name: &'a str,
     at: usize,
 ) -> Result<Pending<'a>, ProgramFault>
-    ensures read { Gives pending_of result (the_callable n name.entry.now (option_map (λ m. method_sign_of m.now) found.entry)) }
+    ensures read { Gives pending_of result (callable n name.entry.now (option_map (λ m. method_sign_of m.now) found.entry)) }
     ensures place { Called at (fault_for unmarked at (why_method (option_map (λ m. method_sign_of m.now) found.entry))) result }
 {
     let Some(m) = found else {
@@ -129,7 +129,7 @@ pub fn called_on<'a>(
 }
 
 fn fits(t: ValueType, v: Value) -> bool
-    ensures { result ≡ the_fits (Some t) v }
+    ensures { result ≡ fits (Some t) v }
 {
     match (t, v) {
         (ValueType::Int, Value::Int(_)) => true,
@@ -146,7 +146,7 @@ pub fn with_argument<'a>(
     v: Value,
     at: usize,
 ) -> Result<Pending<'a>, ProgramFault>
-    ensures read { Gives pending_of result (the_with_argument (pending_of p.entry) v) }
+    ensures read { Gives pending_of result (with_argument (pending_of p.entry) v) }
     ensures place { Called p.entry.at (fault_for (callee_mark p.entry.at) at (why_value (pending_of p.entry))) result }
 {
     let Some(t) = p.types.get(p.values.len()) else {
@@ -161,14 +161,14 @@ pub fn with_argument<'a>(
 
 /// Whether every parameter has its argument.
 pub fn is_full(p: &Pending) -> bool
-    ensures { result ≡ the_full (pending_of p.now) }
+    ensures { result ≡ is_full (pending_of p.now) }
 {
     p.values.len() == p.types.len()
 }
 
 /// A number without a minus, if it is below 2147483648.
 pub fn plain_number(text: &str) -> Option<Value>
-    ensures { result ≡ the_plain_number text.now }
+    ensures { result ≡ plain_number text.now }
 {
     let n = digits_of(text.as_bytes());
     if n < 2_147_483_648 {
@@ -180,7 +180,7 @@ pub fn plain_number(text: &str) -> Option<Value>
 
 /// A number after a minus.
 pub fn minus_number(text: &str) -> Value
-    ensures { result ≡ the_minus_number text.now }
+    ensures { result ≡ minus_number text.now }
 {
     let n = digits_of(text.as_bytes()) as i64;
     Value::Int((-n) as i32)
@@ -188,7 +188,7 @@ pub fn minus_number(text: &str) -> Value
 
 /// The call as the program keeps it. The only refusal is that memory ran out.
 pub fn call_of(alloc: Global, names: usize, p: Pending) -> Result<ProgramCall, AllocError>
-    ensures { IfOk result (λ c. plain_call c ≡ the_call_of names (pending_of p.entry)) }
+    ensures { IfOk result (λ c. plain_call c ≡ call_of names (pending_of p.entry)) }
 {
     let values = p.values;
     match p.callee {

@@ -3,7 +3,7 @@
 ghost use Rattle.std.specs.List.{position};
 ghost use Rattle.std.specs.Prelude.{◌≡◌, ◌<◌, IfSome, length, map, option_map, string_bytes};
 ghost use Rattle.std.specs.Str.{bytes_eq};
-ghost use Rattle.ls_types_elaboration.specs.Known.{local_named as the_local, number_of as the_number};
+ghost use Rattle.ls_types_elaboration.specs.Known.{local_named, number_of};
 ghost use Rattle.ls_types_elaboration.specs.Tables.{local_of, texts_of};
 
 use ls_events::value::ValueType;
@@ -62,7 +62,7 @@ fn name_at(names: &[String], name: &str) -> Option<usize>
 
 /// The number of the class that has the name: the index of the first such name, or none.
 pub fn number_of(names: &[String], name: &str) -> Option<usize>
-    ensures found { result ≡ the_number (texts_of names.now) name.now }
+    ensures found { result ≡ number_of (texts_of names.now) name.now }
     ensures small { IfSome result (λ n. n < length names.now) }
 {
     name_at(names, name)
@@ -70,7 +70,7 @@ pub fn number_of(names: &[String], name: &str) -> Option<usize>
 
 /// The first local that has the name, or none.
 pub fn local_named<'t>(locals: &[Local<'t>], name: &str) -> Option<Local<'t>>
-    ensures { option_map local_of result ≡ the_local (map local_of locals.now) name.now }
+    ensures { option_map local_of result ≡ local_named (map local_of locals.now) name.now }
 {
     match locals {
         [] => None,

@@ -2,7 +2,7 @@
 
 ghost use Rattle.std.specs.Prelude.{◌≡◌, Ok};
 ghost use Rattle.ls_checked.specs.Plain.{plain};
-ghost use Rattle.ls_types_elaboration.specs.StaticTypes.{fits as the_fits, same_type as the_same_type, is_reference as the_reference, comparable as the_comparable, typed_as as typing, as_type as the_as_type, as_value as the_as_value, is_void as the_void, is_array as the_array, as_array as the_as_array, result_type as the_result_type};
+ghost use Rattle.ls_types_elaboration.specs.StaticTypes.{fits, same_type, is_reference, comparable, typed_as as typing, as_type, as_value, is_void, is_array, as_array, result_type as the_result_type};
 ghost use Rattle.ls_types_elaboration.specs.Answers.{typed_of, seen_typed, seen_plain};
 
 use crate::rule::{Broken, Rule, broken_at};
@@ -27,7 +27,7 @@ pub struct Typed {
 }
 
 fn same_type(t: ValueType, u: ValueType) -> bool
-    ensures { result ≡ the_same_type t u }
+    ensures { result ≡ same_type t u }
 {
     match (t, u) {
         (ValueType::Int, ValueType::Int) => true,
@@ -41,7 +41,7 @@ fn same_type(t: ValueType, u: ValueType) -> bool
 }
 
 fn is_reference(t: ValueType) -> bool
-    ensures { result ≡ the_reference t }
+    ensures { result ≡ is_reference t }
 {
     match t {
         ValueType::Int => false,
@@ -51,7 +51,7 @@ fn is_reference(t: ValueType) -> bool
 }
 
 fn fits(t: ValueType, x: Static) -> bool
-    ensures { result ≡ the_fits t x }
+    ensures { result ≡ fits t x }
 {
     match x {
         Static::Of(u) => same_type(t, u),
@@ -62,7 +62,7 @@ fn fits(t: ValueType, x: Static) -> bool
 
 /// Whether `==` may compare two values.
 pub fn comparable(x: Static, y: Static) -> bool
-    ensures { result ≡ the_comparable x y }
+    ensures { result ≡ comparable x y }
 {
     match (x, y) {
         (Static::Of(t), y) => fits(t, y),
@@ -75,7 +75,7 @@ pub fn comparable(x: Static, y: Static) -> bool
 /// An expression where a value of a type is wanted. If its type doesn't fit, the rule `WrongType` is broken at the
 /// span.
 pub fn as_type(t: ValueType, span: Span, x: Typed) -> Result<Expression, Broken>
-    ensures { seen_plain result ≡ the_as_type t span (typed_of x) }
+    ensures { seen_plain result ≡ as_type t span (typed_of x) }
 {
     passing(
         x.expression,
@@ -85,7 +85,7 @@ pub fn as_type(t: ValueType, span: Span, x: Typed) -> Result<Expression, Broken>
 }
 
 fn is_void(x: Static) -> bool
-    ensures { result ≡ the_void x }
+    ensures { result ≡ is_void x }
 {
     match x {
         Static::Void => true,
@@ -95,14 +95,14 @@ fn is_void(x: Static) -> bool
 
 /// An expression where any value is wanted. If it has no value, the rule `WrongType` is broken at the span.
 pub fn as_value(span: Span, x: Typed) -> Result<Typed, Broken>
-    ensures { seen_typed result ≡ the_as_value span (typed_of x) }
+    ensures { seen_typed result ≡ as_value span (typed_of x) }
 {
     let value = !is_void(x.of);
     passing(x, value, broken_at(Rule::WrongType, span))
 }
 
 fn is_array(x: Static) -> bool
-    ensures { result ≡ the_array x }
+    ensures { result ≡ is_array x }
 {
     match x {
         Static::Of(ValueType::BooleanArray) => true,
@@ -112,7 +112,7 @@ fn is_array(x: Static) -> bool
 
 /// An expression where an array is wanted. If it is no array, the rule `WrongType` is broken at the span.
 pub fn as_array(span: Span, x: Typed) -> Result<Expression, Broken>
-    ensures { seen_plain result ≡ the_as_array span (typed_of x) }
+    ensures { seen_plain result ≡ as_array span (typed_of x) }
 {
     passing(
         x.expression,

@@ -2,7 +2,7 @@
 
 ghost use Rattle.std.specs.Prelude.{◌≡◌};
 ghost use Rattle.ls_checked.specs.Plain.{plain, plain_statement};
-ghost use Rattle.ls_types_elaboration.specs.TypedStatements.{variable as the_variable, assigned as the_assigned, assignment as the_assignment};
+ghost use Rattle.ls_types_elaboration.specs.TypedStatements.{variable, assigned, assignment};
 ghost use Rattle.ls_types_elaboration.specs.Placed.{placed};
 ghost use Rattle.ls_types_tables.specs.ByName.{known_of};
 ghost use Rattle.ls_types_expressions.specs.Views.{locals_of, place_of, seen_variable};
@@ -35,7 +35,7 @@ pub struct Variable {
 }
 
 fn left_side(span: Span, x: Typed) -> Result<Variable, Broken>
-    ensures { seen_variable result ≡ the_variable span (plain x.expression) x.of }
+    ensures { seen_variable result ≡ variable span (plain x.expression) x.of }
 {
     let Static::Of(value_type) = x.of else {
         return Err(broken_at(Rule::NotAssignable, span));
@@ -61,7 +61,7 @@ fn left_side(span: Span, x: Typed) -> Result<Variable, Broken>
 }
 
 fn assigned(place: Place, value: Expression) -> Statement
-    ensures { plain_statement result ≡ the_assigned (place_of place) (plain value) }
+    ensures { plain_statement result ≡ assigned (place_of place) (plain value) }
 {
     match place {
         Place::Slot(n) => Statement::SetSlot(n, value),
@@ -80,7 +80,7 @@ fn assigned(place: Place, value: Expression) -> Statement
 
 /// An assignment. Refused only by a broken rule, or if memory runs out.
 pub fn assignment(site: Site, target: &Expr, value: &Expr) -> Result<Statement, CheckFault>
-    ensures { Gives plain_statement result (the_assignment (known_of site.entry.known) (locals_of site.entry) (placed target.now) (placed value.now)) }
+    ensures { Gives plain_statement result (assignment (known_of site.entry.known) (locals_of site.entry) (placed target.now) (placed value.now)) }
 {
     let x = typed(site, target)?;
     let to = left_side(span_of(target), x)?;

@@ -5,7 +5,7 @@ ghost use Rattle.ls_checked.specs.Plain.{plain, all_plain};
 ghost use Rattle.ls_checked.specs.CheckedTree.{Expression as checked_expression, Field as checked_field};
 ghost use Rattle.ls_types_elaboration.specs.Elaborated.{with_ok};
 ghost use Rattle.ls_types_elaboration.specs.StaticTypes.{typed_as as typing};
-ghost use Rattle.ls_types_elaboration.specs.TypedExpressions.{typed as the_typed, passed as the_passed, name_of as the_name, field_at as the_field_at, is_integer as the_integer, integer_constant as the_constant, call_of as the_call, number as the_number, fitting as the_fitting};
+ghost use Rattle.ls_types_elaboration.specs.TypedExpressions.{typed, passed, name_of, field_at, is_integer, integer_constant, call_of, number, fitting};
 ghost use Rattle.ls_types_elaboration.specs.Trees.{Call as a_call, CallOn as a_call_on, New as a_new, NewMarkable as a_new_markable, Item as an_item, Binary as a_binary};
 ghost use Rattle.ls_types_elaboration.specs.Placed.{placed, placed_name, placed_all, placed_target, call_of as call_written};
 ghost use Rattle.ls_types_expressions.specs.Views.{locals_of};
@@ -33,7 +33,7 @@ use ls_types_tables::members::{maker_of, markable_maker, member_of, own_member};
 use std::alloc::{AllocError, Global};
 
 fn number(text: &str) -> Expression
-    ensures { plain result ≡ the_number text.now }
+    ensures { plain result ≡ number text.now }
 {
     let n = digits_of(text.as_bytes());
     let value = if n < 2_147_483_648 {
@@ -46,7 +46,7 @@ fn number(text: &str) -> Expression
 
 // A local, else a field of the class to which the code belongs.
 fn name_typed(site: Site, n: &Name) -> Result<Typed, CheckFault>
-    ensures { Gives typed_of result (the_name (known_of site.entry.known) (locals_of site.entry) (placed_name n.now)) }
+    ensures { Gives typed_of result (name_of (known_of site.entry.known) (locals_of site.entry) (placed_name n.now)) }
 {
     match local_named(site.locals, n.text.as_str()) {
         Some(l) => Ok(typed_as(l.value_type, Expression::Slot(l.slot))),
@@ -67,7 +67,7 @@ fn name_typed(site: Site, n: &Name) -> Result<Typed, CheckFault>
 
 // The class of an object, and its field of a name.
 fn field_in(known: Known, of: Static, n: &Name) -> Result<(usize, FoundField), Broken>
-    ensures { (e : checked_expression) → the_field_at (known_of known.entry) of e (placed_name n.now) ≡ with_ok result (λ p. typing p.1.value_type (checked_field e p.0 p.1.number)) }
+    ensures { (e : checked_expression) → field_at (known_of known.entry) of e (placed_name n.now) ≡ with_ok result (λ p. typing p.1.value_type (checked_field e p.0 p.1.number)) }
 {
     match of {
         Static::Of(ValueType::Class(class)) => match field_of(known, class, n.text.as_str()) {
@@ -80,7 +80,7 @@ fn field_in(known: Known, of: Static, n: &Name) -> Result<(usize, FoundField), B
 
 // A field of an object.
 fn field_at(alloc: Global, known: Known, x: Typed, n: &Name) -> Result<Typed, CheckFault>
-    ensures { Gives typed_of result (the_field_at (known_of known.entry) x.of (plain x.expression) (placed_name n.now)) }
+    ensures { Gives typed_of result (field_at (known_of known.entry) x.of (plain x.expression) (placed_name n.now)) }
 {
     let found = field_in(known, x.of, n);
     let (expression, (class, f)) = also(x.expression, found)?;
@@ -95,7 +95,7 @@ fn field_at(alloc: Global, known: Known, x: Typed, n: &Name) -> Result<Typed, Ch
 
 // Whether an expression is the name `Integer`, if no local or field in scope has that name.
 fn is_integer(site: Site, e: &Expr) -> bool
-    ensures { result ≡ the_integer (known_of site.entry.known) (locals_of site.entry) (placed e.now) }
+    ensures { result ≡ is_integer (known_of site.entry.known) (locals_of site.entry) (placed e.now) }
 {
     match e {
         Expr::Name(n) => {
@@ -109,7 +109,7 @@ fn is_integer(site: Site, e: &Expr) -> bool
 }
 
 fn integer_constant(n: &Name) -> Result<Typed, Broken>
-    ensures { seen_typed result ≡ the_constant (placed_name n.now) }
+    ensures { seen_typed result ≡ integer_constant (placed_name n.now) }
 {
     if n.text.as_str() == "MIN_VALUE" {
         let least = Expression::Literal(Value::Int(i32::MIN));
@@ -129,7 +129,7 @@ fn call_of(
     target: Expression,
     es: Expressions,
 ) -> Result<Typed, CheckFault>
-    ensures { Gives typed_of result (the_call (seen_member m) (plain target) (all_plain es)) }
+    ensures { Gives typed_of result (call_of (seen_member m) (plain target) (all_plain es)) }
 {
     let (target, es) = two(alloc, target, es)?;
     Ok(Typed {
@@ -141,7 +141,7 @@ fn call_of(
 /// An expression, with its type. Refused only by a broken rule, or if memory runs out.
 #[cycle(expressions)]
 pub fn typed(site: Site, e: &Expr) -> Result<Typed, CheckFault>
-    ensures { Gives typed_of result (the_typed (known_of site.entry.known) (locals_of site.entry) (placed e.now)) }
+    ensures { Gives typed_of result (typed (known_of site.entry.known) (locals_of site.entry) (placed e.now)) }
 {
     match e {
         Expr::Number { text, .. } => Ok(typed_as(ValueType::Int, number(text.as_str()))),
@@ -218,7 +218,7 @@ fn binary(
     right: &Expr,
     span: Span,
 ) -> Result<Typed, CheckFault>
-    ensures { Gives typed_of result (the_typed (known_of site.entry.known) (locals_of site.entry) (a_binary op (placed left.now) (placed right.now) span)) }
+    ensures { Gives typed_of result (typed (known_of site.entry.known) (locals_of site.entry) (a_binary op (placed left.now) (placed right.now) span)) }
 {
     let x = typed(site, left)?;
     let y = typed(site, right);
@@ -239,7 +239,7 @@ fn call(
     arguments: &[Expr],
     span: Span,
 ) -> Result<Typed, CheckFault>
-    ensures { Gives typed_of result (the_typed (known_of site.entry.known) (locals_of site.entry) (call_written (placed_target target.now) (placed_name n.now) (placed_all arguments.now) span)) }
+    ensures { Gives typed_of result (typed (known_of site.entry.known) (locals_of site.entry) (call_written (placed_target target.now) (placed_name n.now) (placed_all arguments.now) span)) }
 {
     match target {
         None => own_call(site, n, arguments, span),
@@ -250,7 +250,7 @@ fn call(
 // A method of the class to which the code belongs.
 #[cycle(expressions)]
 fn own_call(site: Site, n: &Name, arguments: &[Expr], span: Span) -> Result<Typed, CheckFault>
-    ensures { Gives typed_of result (the_typed (known_of site.entry.known) (locals_of site.entry) (a_call (placed_name n.now) (placed_all arguments.now) span)) }
+    ensures { Gives typed_of result (typed (known_of site.entry.known) (locals_of site.entry) (a_call (placed_name n.now) (placed_all arguments.now) span)) }
 {
     let m = own_member(site.alloc, site.known, n)?;
     let es = passed(site, &m.parameters, arguments, span);
@@ -267,7 +267,7 @@ fn call_on(
     arguments: &[Expr],
     span: Span,
 ) -> Result<Typed, CheckFault>
-    ensures { Gives typed_of result (the_typed (known_of site.entry.known) (locals_of site.entry) (a_call_on (placed target.now) (placed_name n.now) (placed_all arguments.now) span)) }
+    ensures { Gives typed_of result (typed (known_of site.entry.known) (locals_of site.entry) (a_call_on (placed target.now) (placed_name n.now) (placed_all arguments.now) span)) }
 {
     let x = typed(site, target)?;
     let m = member_of(site.alloc, site.known, x.of, n);
@@ -280,7 +280,7 @@ fn call_on(
 // An element of an array.
 #[cycle(expressions)]
 fn item(site: Site, array: &Expr, index: &Expr, span: Span) -> Result<Typed, CheckFault>
-    ensures { Gives typed_of result (the_typed (known_of site.entry.known) (locals_of site.entry) (an_item (placed array.now) (placed index.now) span)) }
+    ensures { Gives typed_of result (typed (known_of site.entry.known) (locals_of site.entry) (an_item (placed array.now) (placed index.now) span)) }
 {
     let x = typed(site, array)?;
     let a = as_array(span_of(array), x)?;
@@ -293,7 +293,7 @@ fn item(site: Site, array: &Expr, index: &Expr, span: Span) -> Result<Typed, Che
 // An object or a lock.
 #[cycle(expressions)]
 fn making(site: Site, class: &Name, arguments: &[Expr], span: Span) -> Result<Typed, CheckFault>
-    ensures { Gives typed_of result (the_typed (known_of site.entry.known) (locals_of site.entry) (a_new (placed_name class.now) (placed_all arguments.now) span)) }
+    ensures { Gives typed_of result (typed (known_of site.entry.known) (locals_of site.entry) (a_new (placed_name class.now) (placed_all arguments.now) span)) }
 {
     let m = maker_of(site.alloc, site.known, class)?;
     let es = passed(site, &m.parameters, arguments, span);
@@ -303,7 +303,7 @@ fn making(site: Site, class: &Name, arguments: &[Expr], span: Span) -> Result<Ty
 
 #[cycle(expressions)]
 fn markable(site: Site, class: &Name, arguments: &[Expr], span: Span) -> Result<Typed, CheckFault>
-    ensures { Gives typed_of result (the_typed (known_of site.entry.known) (locals_of site.entry) (a_new_markable (placed_name class.now) (placed_all arguments.now) span)) }
+    ensures { Gives typed_of result (typed (known_of site.entry.known) (locals_of site.entry) (a_new_markable (placed_name class.now) (placed_all arguments.now) span)) }
 {
     let m = markable_maker(site.alloc, site.known, class)?;
     let es = passed(site, &m.parameters, arguments, span);
@@ -319,7 +319,7 @@ fn passed(
     es: &[Expr],
     span: Span,
 ) -> Result<Expressions, CheckFault>
-    ensures { Gives all_plain result (the_passed (known_of site.entry.known) (locals_of site.entry) types.now (placed_all es.now) span) }
+    ensures { Gives all_plain result (passed (known_of site.entry.known) (locals_of site.entry) types.now (placed_all es.now) span) }
 {
     match (types, es) {
         ([], []) => Ok(Expressions::End),
@@ -338,7 +338,7 @@ fn passed(
 /// An expression where a value of a type is wanted. Refused only by a broken rule, or if memory runs out.
 #[cycle(expressions)]
 pub fn fitting(site: Site, t: ValueType, e: &Expr) -> Result<Expression, CheckFault>
-    ensures { Gives plain result (the_fitting (known_of site.entry.known) (locals_of site.entry) t (placed e.now)) }
+    ensures { Gives plain result (fitting (known_of site.entry.known) (locals_of site.entry) t (placed e.now)) }
 {
     let x = typed(site, e)?;
     Ok(as_type(t, span_of(e), x)?)

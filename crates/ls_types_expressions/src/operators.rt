@@ -2,8 +2,8 @@
 
 ghost use Rattle.std.specs.Prelude.{◌≡◌, if◌then◌else◌};
 ghost use Rattle.ls_tree.specs.declared.tree.BinaryOp.TheVariants.{And as and_written, Or as or_written};
-ghost use Rattle.ls_types_elaboration.specs.Operators.{unary_of as the_unary, binary_of as the_binary, computed as the_computed, compared as the_compared};
-ghost use Rattle.ls_types_elaboration.specs.StaticTypes.{comparable as the_comparable, Typed as the_typed};
+ghost use Rattle.ls_types_elaboration.specs.Operators.{unary_of, binary_of, computed, compared};
+ghost use Rattle.ls_types_elaboration.specs.StaticTypes.{comparable, Typed as the_typed};
 ghost use Rattle.ls_types_elaboration.specs.Elaborated.{Elaborated, broken};
 ghost use Rattle.ls_types_elaboration.specs.declared.rule.Rule.TheVariants.{WrongType};
 ghost use Rattle.ls_types_elaboration.specs.Answers.{Gives, typed_of, unless_refused};
@@ -35,7 +35,7 @@ impl Clone for Spans {
 /// A unary operator on an operand with this span. If the operand doesn't fit, the rule `WrongType` is broken. Else the
 /// only refusal is that memory ran out.
 pub fn unary_of(alloc: Global, op: UnaryOp, span: Span, x: Typed) -> Result<Typed, CheckFault>
-    ensures { Gives typed_of result (the_unary op span (typed_of x)) }
+    ensures { Gives typed_of result (unary_of op span (typed_of x)) }
 {
     match op {
         UnaryOp::Minus => {
@@ -58,7 +58,7 @@ fn computed(
     x: Typed,
     y: Typed,
 ) -> Result<Typed, CheckFault>
-    ensures { Gives typed_of result (the_computed t op spans.left spans.right (typed_of x) (typed_of y)) }
+    ensures { Gives typed_of result (computed t op spans.left spans.right (typed_of x) (typed_of y)) }
 {
     let (y, a) = also(y, as_type(ValueType::Int, spans.left, x))?;
     let (a, b) = also(a, as_type(ValueType::Int, spans.right, y))?;
@@ -67,7 +67,7 @@ fn computed(
 }
 
 fn may_compare(span: Span, x: Static, y: Static) -> Result<(), Broken>
-    ensures { (go : Elaborated the_typed) → (if the_comparable x y then go else broken WrongType span) ≡ unless_refused result go }
+    ensures { (go : Elaborated the_typed) → (if comparable x y then go else broken WrongType span) ≡ unless_refused result go }
 {
     if comparable(x, y) {
         Ok(())
@@ -84,7 +84,7 @@ fn compared(
     x: Typed,
     y: Typed,
 ) -> Result<Typed, CheckFault>
-    ensures { Gives typed_of result (the_compared op spans.whole spans.left spans.right (typed_of x) (typed_of y)) }
+    ensures { Gives typed_of result (compared op spans.whole spans.left spans.right (typed_of x) (typed_of y)) }
 {
     let (y, x) = also(y, as_value(spans.left, x))?;
     let (x, y) = also(x, as_value(spans.right, y))?;
@@ -96,7 +96,7 @@ fn compared(
 
 // Truth values on both sides of `&&` or `||`.
 fn decided(alloc: Global, and: bool, spans: Spans, x: Typed, y: Typed) -> Result<Typed, CheckFault>
-    ensures { Gives typed_of result (the_binary (if and then and_written else or_written) spans.whole spans.left spans.right (typed_of x) (typed_of y)) }
+    ensures { Gives typed_of result (binary_of (if and then and_written else or_written) spans.whole spans.left spans.right (typed_of x) (typed_of y)) }
 {
     let (y, a) = also(y, as_type(ValueType::Boolean, spans.left, x))?;
     let (a, b) = also(a, as_type(ValueType::Boolean, spans.right, y))?;
@@ -117,7 +117,7 @@ pub fn binary_of(
     x: Typed,
     y: Typed,
 ) -> Result<Typed, CheckFault>
-    ensures { Gives typed_of result (the_binary op spans.whole spans.left spans.right (typed_of x) (typed_of y)) }
+    ensures { Gives typed_of result (binary_of op spans.whole spans.left spans.right (typed_of x) (typed_of y)) }
 {
     match op {
         BinaryOp::Or => decided(alloc, false, spans, x, y),

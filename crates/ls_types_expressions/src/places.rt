@@ -1,7 +1,7 @@
 // The span of an expression.
 
 ghost use Rattle.std.specs.Prelude.{◌≡◌};
-ghost use Rattle.ls_types_elaboration.specs.Trees.{span_of as the_span};
+ghost use Rattle.ls_types_elaboration.specs.Trees.{span_of};
 ghost use Rattle.ls_types_elaboration.specs.Placed.{placed};
 
 use ls_lexer::token::Span;
@@ -9,7 +9,7 @@ use ls_tree::tree::Expr;
 
 /// The span of an expression in its text.
 pub fn span_of(e: &Expr) -> Span
-    ensures { result ≡ the_span (placed e.now) }
+    ensures { result ≡ span_of (placed e.now) }
 {
     match e {
         Expr::True(span) | Expr::False(span) | Expr::Null(span) | Expr::This(span) => *span,

@@ -5,9 +5,9 @@ ghost use Rattle.ls_checked.specs.CheckedTree as checked;
 ghost use Rattle.ls_checked.specs.declared.tree.Operator.TheVariants as operators;
 ghost use Rattle.ls_checked.specs.Plain.{plain, plain_statement};
 ghost use Rattle.ls_types_elaboration.specs.Elaborated.{with_ok, each};
-ghost use Rattle.ls_types_elaboration.specs.Trees.{span_of as the_span};
-ghost use Rattle.ls_types_elaboration.specs.TypedExpressions.{typed as the_typed};
-ghost use Rattle.ls_types_elaboration.specs.TypedStatements.{counter as the_counter, added as the_added, addition as the_addition, step as the_step, simple as the_simple, simples as the_simples, one_simple as the_one_simple};
+ghost use Rattle.ls_types_elaboration.specs.Trees.{span_of};
+ghost use Rattle.ls_types_elaboration.specs.TypedExpressions.{typed};
+ghost use Rattle.ls_types_elaboration.specs.TypedStatements.{counter, added, addition, step, simple, simples, one_simple};
 ghost use Rattle.ls_types_elaboration.specs.Placed.{placed};
 ghost use Rattle.ls_types_elaboration.specs.PlacedStatements.{placed_simple};
 ghost use Rattle.ls_types_tables.specs.ByName.{known_of};
@@ -36,7 +36,7 @@ pub enum Counter {
 }
 
 fn counter_at(span: Span, x: Typed) -> Result<Counter, Broken>
-    ensures { seen_counter result ≡ the_counter span (plain x.expression) x.of }
+    ensures { seen_counter result ≡ counter span (plain x.expression) x.of }
 {
     let Static::Of(value_type) = x.of else {
         return Err(broken_at(Rule::NotAssignable, span));
@@ -67,7 +67,7 @@ fn sum(alloc: Global, a: Expression, b: Expression) -> Result<Expression, AllocE
 }
 
 fn added(alloc: Global, to: Counter, v: Expression) -> Result<Statement, AllocError>
-    ensures { IfOk result (λ s. plain_statement s ≡ the_added (counter_of to) (plain v)) }
+    ensures { IfOk result (λ s. plain_statement s ≡ added (counter_of to) (plain v)) }
 {
     match to {
         Counter::Slot(n) => {
@@ -84,7 +84,7 @@ fn added(alloc: Global, to: Counter, v: Expression) -> Result<Statement, AllocEr
 
 // What `++` adds, or else what `--` adds.
 fn step(up: bool) -> Expression
-    ensures { plain result ≡ the_step up }
+    ensures { plain result ≡ step up }
 {
     if up {
         Expression::Literal(Value::Int(1))
@@ -95,7 +95,7 @@ fn step(up: bool) -> Expression
 
 // The variable to which a form adds.
 fn counted(site: Site, target: &Expr) -> Result<Counter, CheckFault>
-    ensures { Gives counter_of result (with_ok (the_typed (known_of site.entry.known) (locals_of site.entry) (placed target.now)) (λ x. the_counter (the_span (placed target.now)) x.expression x.static)) }
+    ensures { Gives counter_of result (with_ok (typed (known_of site.entry.known) (locals_of site.entry) (placed target.now)) (λ x. counter (span_of (placed target.now)) x.expression x.static)) }
 {
     let x = typed(site, target)?;
     let to = counter_at(span_of(target), x)?;
@@ -104,7 +104,7 @@ fn counted(site: Site, target: &Expr) -> Result<Counter, CheckFault>
 
 /// A simple form. Refused only by a broken rule, or if memory runs out.
 pub fn simple(site: Site, s: &Simple) -> Result<Statement, CheckFault>
-    ensures { Gives plain_statement result (the_simple (known_of site.entry.known) (locals_of site.entry) (placed_simple s.now)) }
+    ensures { Gives plain_statement result (simple (known_of site.entry.known) (locals_of site.entry) (placed_simple s.now)) }
 {
     match s {
         Simple::Assign { target, value } => assignment(site, target, value),
@@ -126,7 +126,7 @@ pub fn simple(site: Site, s: &Simple) -> Result<Statement, CheckFault>
 
 // One more simple form.
 fn one_simple(site: Site, front: &mut Vec<Statement>, s: &Simple) -> Result<(), CheckFault>
-    ensures { Gives (λ _. map plain_statement front.new.items) result (the_one_simple (known_of site.entry.known) (locals_of site.entry) (map plain_statement front.old.items) (placed_simple s.now)) }
+    ensures { Gives (λ _. map plain_statement front.new.items) result (one_simple (known_of site.entry.known) (locals_of site.entry) (map plain_statement front.old.items) (placed_simple s.now)) }
 {
     let s = simple(site, s)?;
     front.push(s)?;
@@ -135,7 +135,7 @@ fn one_simple(site: Site, front: &mut Vec<Statement>, s: &Simple) -> Result<(), 
 
 /// Simple forms, one after another. Refused only by a broken rule, or if memory runs out.
 pub fn simples(site: Site, ss: &[Simple]) -> Result<Vec<Statement>, CheckFault>
-    ensures { Gives (λ v. map plain_statement v.items) result (the_simples (known_of site.entry.known) (locals_of site.entry) (map placed_simple ss.now)) }
+    ensures { Gives (λ v. map plain_statement v.items) result (simples (known_of site.entry.known) (locals_of site.entry) (map placed_simple ss.now)) }
 {
     let mut front = Vec::new(site.alloc);
     for s in ss {

@@ -3,15 +3,15 @@
 ghost use Rattle.std.specs.Prelude.{◌≡◌, ◌++◌, [], IfOk, OnOk, if◌then◌else◌, map};
 ghost use Rattle.ls_checked.specs.Plain.{plain, plain_statement};
 ghost use Rattle.ls_types_elaboration.specs.TypedStatements.{sequence};
-ghost use Rattle.ls_types_files.specs.Left.{outward as the_outward, has as the_has, left as the_left, all_left as the_all_left};
-ghost use Rattle.ls_types_judgement.specs.Completion.{is_true as the_true, can_complete as the_can_complete, all_complete as the_all_complete};
+ghost use Rattle.ls_types_files.specs.Left.{outward, has, left as the_left, all_left};
+ghost use Rattle.ls_types_judgement.specs.Completion.{is_true, can_complete, all_complete};
 
 use ls_checked::tree::{Expression, Statement};
 use ls_events::value::Value;
 use std::alloc::{AllocError, Global};
 
 fn is_true(e: &Expression) -> bool
-    ensures { result ≡ the_true (plain e.now) }
+    ensures { result ≡ is_true (plain e.now) }
 {
     match e {
         Expression::Literal(Value::Boolean(b)) => *b,
@@ -21,7 +21,7 @@ fn is_true(e: &Expression) -> bool
 
 // Whether the innermost loop is among these.
 fn has_innermost(left: &[usize]) -> bool
-    ensures { result ≡ the_has 0 left.now }
+    ensures { result ≡ has 0 left.now }
 {
     for n in left {
         if *n == 0 {
@@ -34,7 +34,7 @@ fn has_innermost(left: &[usize]) -> bool
 // The same loops as counted from outside of the innermost loop, put after those in `left`.
 #[tactic(auto, using(crate::proofs::Left::goes_out, crate::proofs::Left::joined))]
 fn outward(inner: &[usize], left: &mut Vec<usize>) -> Result<(), AllocError>
-    ensures { OnOk result (left.new.items ≡ left.old.items ++ the_outward inner.now) }
+    ensures { OnOk result (left.new.items ≡ left.old.items ++ outward inner.now) }
 {
     for n in inner {
         if *n > 0 {
@@ -60,7 +60,7 @@ fn past(body: &[usize], finally: bool, left: &mut Vec<usize>) -> Result<(), Allo
 #[cycle(completion)]
 #[tactic(auto, using(ls_types_statements::proofs::Blocks::block_read, crate::proofs::Left::left_broken, crate::proofs::Left::joined))]
 fn can_complete(alloc: Global, s: &Statement, left: &mut Vec<usize>) -> Result<bool, AllocError>
-    ensures completes { IfOk result (λ b. b ≡ the_can_complete (plain_statement s.now)) }
+    ensures completes { IfOk result (λ b. b ≡ can_complete (plain_statement s.now)) }
     ensures left { OnOk result (left.new.items ≡ left.old.items ++ the_left (plain_statement s.now)) }
 {
     match s {
@@ -99,8 +99,8 @@ fn can_complete(alloc: Global, s: &Statement, left: &mut Vec<usize>) -> Result<b
 #[cycle(completion)]
 #[tactic(auto, using(crate::proofs::Left::joined))]
 fn all_ways(alloc: Global, ss: &[Statement], left: &mut Vec<usize>) -> Result<bool, AllocError>
-    ensures completes { IfOk result (λ b. b ≡ the_all_complete (sequence (map plain_statement ss.now))) }
-    ensures left { OnOk result (left.new.items ≡ left.old.items ++ the_all_left (sequence (map plain_statement ss.now))) }
+    ensures completes { IfOk result (λ b. b ≡ all_complete (sequence (map plain_statement ss.now))) }
+    ensures left { OnOk result (left.new.items ≡ left.old.items ++ all_left (sequence (map plain_statement ss.now))) }
 {
     let mut all = true;
     for s in ss {
@@ -112,7 +112,7 @@ fn all_ways(alloc: Global, ss: &[Statement], left: &mut Vec<usize>) -> Result<bo
 
 /// Whether statements, one after another, can complete normally. The only refusal is that memory ran out.
 pub fn all_complete(alloc: Global, ss: &[Statement]) -> Result<bool, AllocError>
-    ensures { IfOk result (λ r. r ≡ the_all_complete (sequence (map plain_statement ss.now))) }
+    ensures { IfOk result (λ r. r ≡ all_complete (sequence (map plain_statement ss.now))) }
 {
     let mut left = Vec::new(alloc);
     all_ways(alloc, ss, &mut left)

@@ -2,7 +2,7 @@
 
 ghost use Rattle.std.specs.Prelude.{◌≡◌, IfOk, length, map};
 ghost use Rattle.ls_checked.specs.Plain.{plain_method};
-ghost use Rattle.ls_types_elaboration.specs.Elaboration.{file_methods as the_file_methods, checked_class, elaborated};
+ghost use Rattle.ls_types_elaboration.specs.Elaboration.{file_methods, checked_class, elaborated};
 ghost use Rattle.ls_types_elaboration.specs.PlacedStatements.{placed_class, placed_file};
 ghost use Rattle.ls_types_elaboration.specs.Outcomes.{outcome_of};
 ghost use Rattle.ls_types_files.specs.FileViews.{bodies_of};
@@ -30,7 +30,7 @@ fn file_methods(
     tables: &[ClassTables],
     classes: &[tree::Class],
 ) -> Result<Vec<Method>, CheckFault>
-    ensures { Gives (bodies_of (length classes.now)) result (the_file_methods (keys_of names.now) (map class_entry_of tables.now) (map placed_class classes.now)) }
+    ensures { Gives (bodies_of (length classes.now)) result (file_methods (keys_of names.now) (map class_entry_of tables.now) (map placed_class classes.now)) }
 {
     let mut methods = Vec::new(alloc);
     for (own, c) in classes.iter().enumerate() {

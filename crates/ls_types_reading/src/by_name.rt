@@ -1,14 +1,14 @@
 // Values by name. Each name keeps the first value that it is given.
 
 ghost use Rattle.std.specs.Prelude.{◌≡◌, IfErr, IfOk};
-ghost use Rattle.ls_types_reading.specs.ByName.{entries_of, value_named as the_value, with_first};
+ghost use Rattle.ls_types_reading.specs.ByName.{entries_of, value_named, with_first};
 
 use indexmap::IndexMap;
 use std::alloc::{AllocError, Global};
 
 /// The value of a name, or none.
 pub fn value_named<V: Copy>(values: &IndexMap<String, V>, name: &str) -> Option<V>
-    ensures { result ≡ the_value (entries_of values.now) name.now }
+    ensures { result ≡ value_named (entries_of values.now) name.now }
 {
     values.get(name).copied()
 }

@@ -3,10 +3,10 @@
 ghost use Rattle.std.specs.Prelude.{◌≡◌, IfOk, map, option_map};
 ghost use Rattle.ls_checked.specs.PlainProgram.{plain_name};
 ghost use Rattle.ls_types.specs.CheckedFile.{outcome_of, signs_of};
-ghost use Rattle.ls_types_elaboration.specs.Known.{method_named as the_method};
+ghost use Rattle.ls_types_elaboration.specs.Known.{method_named};
 ghost use Rattle.ls_types_elaboration.specs.Trees.{Text};
 ghost use Rattle.ls_types_elaboration.specs.Tables.{class_sign_of, method_sign_of};
-ghost use Rattle.ls_types_programs.specs.ProgramCalls.{method_on as the_method_on};
+ghost use Rattle.ls_types_programs.specs.ProgramCalls.{method_on};
 ghost use Rattle.ls_types_reading.specs.MethodsByName.{declares, finds, Finds};
 
 use crate::by_name::{give, value_named};
@@ -20,7 +20,7 @@ fn by_name<'c>(
     alloc: Global,
     methods: &'c [MethodSign],
 ) -> Result<IndexMap<String, &'c MethodSign>, AllocError>
-    ensures { IfOk result (λ m. (name : Text) → finds m name ≡ the_method (map method_sign_of methods.now) name) }
+    ensures { IfOk result (λ m. (name : Text) → finds m name ≡ method_named (map method_sign_of methods.now) name) }
 {
     let mut all = IndexMap::new(alloc);
     for m in methods {
@@ -62,7 +62,7 @@ impl<'c> Methods<'c> {
 
     /// The method of a name, in the class of the object that a setup name holds, or none.
     pub fn method_on(&self, setup: Option<&SetupName>, name: &str) -> Option<&'c MethodSign>
-        ensures { option_map (λ m. method_sign_of m.now) result ≡ the_method_on (outcome_of self.now.checked.now) (option_map (λ s. plain_name s.now) setup.entry) name.now }
+        ensures { option_map (λ m. method_sign_of m.now) result ≡ method_on (outcome_of self.now.checked.now) (option_map (λ s. plain_name s.now) setup.entry) name.now }
     {
         match setup {
             None => None,

@@ -8,7 +8,7 @@ ghost use Rattle.ls_types_elaboration.specs.Elaboration.{Outcome, elaborated};
 ghost use Rattle.ls_checked.specs.PlainProgram.{plain_program};
 ghost use Rattle.ls_types_judgement.specs.WellTyped.{IsWellTypedProgram};
 ghost use Rattle.ls_types.specs.CheckedFile.{outcome_of};
-ghost use Rattle.ls_types_programs.specs.ThreadPrograms.{after, beginning as the_beginning, program_of, program_of_tokens};
+ghost use Rattle.ls_types_programs.specs.ThreadPrograms.{after, beginning, program_of, program_of_tokens};
 ghost use Rattle.ls_types_programs.specs.Programs.{IsTextOf};
 ghost use Rattle.ls_types_programs.specs.Stops.{stops, unmarked};
 ghost use Rattle.ls_types.specs.ProgramViews.{Gives, Refuses};
@@ -28,7 +28,7 @@ use ls_types_laws::reads_well_typed;
 use std::alloc::{AllocError, Global};
 
 fn beginning(alloc: Global) -> Result<Parts, AllocError>
-    ensures { IfOk result (λ parts. parts_of parts ≡ the_beginning.parts) }
+    ensures { IfOk result (λ parts. parts_of parts ≡ beginning.parts) }
 {
     Ok(Parts {
         names: SetupNames::new(alloc),
@@ -45,9 +45,9 @@ fn read_tokens<'a>(
     parts: &mut Parts,
     tokens: &[Token<'a>],
 ) -> Result<Stage<'a>, ProgramFault>
-    requires { parts_of parts.old ≡ the_beginning.parts }
-    ensures read { Gives (reading_of parts.new) result (after (outcome_of methods.now.checked.now) (Some the_beginning) (lexemes tokens.now)) }
-    ensures place { (end : ℕ) → StopsAt end (stops (outcome_of methods.now.checked.now) end unmarked the_beginning tokens.now) result }
+    requires { parts_of parts.old ≡ beginning.parts }
+    ensures read { Gives (reading_of parts.new) result (after (outcome_of methods.now.checked.now) (Some beginning) (lexemes tokens.now)) }
+    ensures place { (end : ℕ) → StopsAt end (stops (outcome_of methods.now.checked.now) end unmarked beginning tokens.now) result }
 {
     let mut stage = Stage::AtSetup;
     for token in tokens {
@@ -64,7 +64,7 @@ fn whole<'a>(
     end: usize,
 ) -> Result<Program, ProgramFault>
     ensures read { Gives plain_program result (program_of_tokens (outcome_of methods.now.checked.now) (Some (lexemes tokens.now))) }
-    ensures place { IfErr result (λ e. StopsWith e (stops (outcome_of methods.now.checked.now) end unmarked the_beginning tokens.now)) }
+    ensures place { IfErr result (λ e. StopsWith e (stops (outcome_of methods.now.checked.now) end unmarked beginning tokens.now)) }
 {
     let mut parts = beginning(alloc)?;
     let stage = read_tokens(alloc, methods, &mut parts, tokens)?;

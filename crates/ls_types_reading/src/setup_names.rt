@@ -6,7 +6,7 @@ ghost use Rattle.ls_checked.specs.PlainProgram.{plain_name};
 ghost use Rattle.ls_types.specs.ProgramViews.{callee_of};
 ghost use Rattle.ls_types_elaboration.specs.Trees.{Text};
 ghost use Rattle.ls_types_programs.specs.ProgramCalls.{setup_named, names_after};
-ghost use Rattle.ls_types_reading.specs.ByName.{entries_of, value_named as the_value};
+ghost use Rattle.ls_types_reading.specs.ByName.{entries_of, value_named};
 
 use crate::by_name::{give, value_named};
 use indexmap::IndexMap;
@@ -27,7 +27,7 @@ impl Model for SetupNames {
 
     ghost view = { λ s. map plain_name s.names.items };
 
-    ghost invariant = { λ s. (name : Text) → the_value (entries_of s.numbers) name ≡ setup_named (map plain_name s.names.items) name };
+    ghost invariant = { λ s. (name : Text) → value_named (entries_of s.numbers) name ≡ setup_named (map plain_name s.names.items) name };
 }
 
 impl SetupNames {

@@ -4,9 +4,9 @@ ghost use Rattle.std.specs.Prelude.{◌≡◌, IfErr, IfOk, map, option_copied};
 ghost use Rattle.ls_lexer.specs.Lexemes.{lexeme_of};
 ghost use Rattle.ls_checked.specs.PlainProgram.{plain_thread};
 ghost use Rattle.ls_types.specs.CheckedFile.{outcome_of};
-ghost use Rattle.ls_types_programs.specs.ThreadPrograms.{is_sign as the_sign, is_word as the_word, name_in as the_name_in, number_in as the_number_in, stepped as the_stepped, at_call as the_at_call, after_name as the_after_name, after_new as the_after_new, after_dot as the_after_dot, argument as the_argument, after_minus as the_after_minus, at_first as the_at_first, after_argument as the_after_argument, at_semicolon as the_at_semicolon, at_thread_name as the_at_thread_name, arguments_end as the_arguments_end, thread_named as the_thread_named, closed as the_closed, with_finished as the_with_finished, with_call as the_with_call, is_text as the_is_text, at_thread as the_at_thread};
+ghost use Rattle.ls_types_programs.specs.ThreadPrograms.{is_sign, is_word, name_in, number_in, stepped, at_call, after_name, after_new, after_dot, argument, after_minus, at_first, after_argument, at_semicolon, at_thread_name, arguments_end, thread_named, closed, with_finished, with_call, is_text, at_thread};
 ghost use Rattle.ls_types_programs.specs.ThreadPrograms.{AfterArgument as after_argument_stage};
-ghost use Rattle.ls_types_programs.specs.ProgramCalls.{with_argument as the_with_argument};
+ghost use Rattle.ls_types_programs.specs.ProgramCalls.{with_argument};
 ghost use Rattle.ls_types_programs.specs.Stops.{fault_for, Form, TooFew, unmarked, name_mark, callee_mark, minus_mark, why, why_name, why_new, why_dot, why_value, why_argument, why_minus, why_first, why_after, why_semicolon, why_thread, why_thread_name};
 ghost use Rattle.ls_types.specs.ProgramViews.{pending_of, fault_seen, Gives};
 ghost use Rattle.ls_types_reading.specs.ReadingViews.{parts_of, stage_of, reading_of, marks_of, Goes};
@@ -35,7 +35,7 @@ pub const MOST_THREADS: usize = 64;
 pub const MOST_CALLS: usize = 256;
 
 fn is_sign(sign: Sign, kind: TokenKind) -> bool
-    ensures { result ≡ the_sign sign (lexeme_of kind.entry) }
+    ensures { result ≡ is_sign sign (lexeme_of kind.entry) }
 {
     match kind {
         TokenKind::Name(_) => false,
@@ -46,7 +46,7 @@ fn is_sign(sign: Sign, kind: TokenKind) -> bool
 }
 
 fn is_word(word: Word, kind: TokenKind) -> bool
-    ensures { result ≡ the_word word (lexeme_of kind.entry) }
+    ensures { result ≡ is_word word (lexeme_of kind.entry) }
 {
     match kind {
         TokenKind::Name(_) => false,
@@ -57,7 +57,7 @@ fn is_word(word: Word, kind: TokenKind) -> bool
 }
 
 fn name_in<'a>(kind: TokenKind<'a>) -> Option<&'a str>
-    ensures { option_copied result ≡ the_name_in (lexeme_of kind.entry) }
+    ensures { option_copied result ≡ name_in (lexeme_of kind.entry) }
 {
     match kind {
         TokenKind::Name(text) => Some(text),
@@ -68,7 +68,7 @@ fn name_in<'a>(kind: TokenKind<'a>) -> Option<&'a str>
 }
 
 fn number_in<'a>(kind: TokenKind<'a>) -> Option<&'a str>
-    ensures { option_copied result ≡ the_number_in (lexeme_of kind.entry) }
+    ensures { option_copied result ≡ number_in (lexeme_of kind.entry) }
 {
     match kind {
         TokenKind::Name(_) => None,
@@ -79,7 +79,7 @@ fn number_in<'a>(kind: TokenKind<'a>) -> Option<&'a str>
 }
 
 fn thread_named(threads: &[ThreadProgram], name: &str) -> bool
-    ensures { result ≡ the_thread_named (map plain_thread threads.now) name.now }
+    ensures { result ≡ thread_named (map plain_thread threads.now) name.now }
 {
     match threads {
         [] => false,
@@ -88,7 +88,7 @@ fn thread_named(threads: &[ThreadProgram], name: &str) -> bool
 }
 
 fn is_text(text: &str, name: Option<&str>) -> bool
-    ensures { result ≡ the_is_text text.now (option_copied name.entry) }
+    ensures { result ≡ is_text text.now (option_copied name.entry) }
 {
     match name {
         None => false,
@@ -106,7 +106,7 @@ impl Parts {
         stage: Stage<'a>,
         token: Token<'a>,
     ) -> Result<Stage<'a>, ProgramFault>
-        ensures read { Gives (reading_of self.new) result (the_stepped (outcome_of methods.now.checked.now) (parts_of self.old) (stage_of stage.entry) (lexeme_of token.entry.kind)) }
+        ensures read { Gives (reading_of self.new) result (stepped (outcome_of methods.now.checked.now) (parts_of self.old) (stage_of stage.entry) (lexeme_of token.entry.kind)) }
         ensures place { Goes (marks_of stage.entry) token.entry.span.start (why (outcome_of methods.now.checked.now) (parts_of self.old) (stage_of stage.entry) (lexeme_of token.entry.kind)) result }
     {
         let kind = token.kind;
@@ -140,7 +140,7 @@ impl Parts {
 
     // The end of a block.
     fn close(&mut self, alloc: Global) -> Result<(), AllocError>
-        ensures { IfOk result (λ _. parts_of self.new ≡ the_closed (parts_of self.old)) }
+        ensures { IfOk result (λ _. parts_of self.new ≡ closed (parts_of self.old)) }
     {
         let name = mem::replace(&mut self.name, String::new(alloc));
         let calls = mem::replace(&mut self.calls, Vec::new(alloc));
@@ -149,7 +149,7 @@ impl Parts {
     }
 
     fn at_call<'a>(&mut self, alloc: Global, token: Token<'a>) -> Result<Stage<'a>, ProgramFault>
-        ensures read { Gives (reading_of self.new) result (the_at_call (parts_of self.old) (lexeme_of token.entry.kind) (the_name_in (lexeme_of token.entry.kind))) }
+        ensures read { Gives (reading_of self.new) result (at_call (parts_of self.old) (lexeme_of token.entry.kind) (name_in (lexeme_of token.entry.kind))) }
         ensures place { Goes unmarked token.entry.span.start Form result }
     {
         let at = token.span.start;
@@ -170,7 +170,7 @@ impl Parts {
         at: usize,
         token: Token<'a>,
     ) -> Result<Stage<'a>, ProgramFault>
-        ensures read { Gives (reading_of self.now) result (the_after_name (parts_of self.now) name.entry.now (lexeme_of token.entry.kind)) }
+        ensures read { Gives (reading_of self.now) result (after_name (parts_of self.now) name.entry.now (lexeme_of token.entry.kind)) }
         ensures place { Goes (name_mark at) token.entry.span.start (why_name (lexeme_of token.entry.kind)) result }
     {
         if is_sign(Sign::Assign, token.kind) {
@@ -197,8 +197,8 @@ impl Parts {
         name: &'a str,
         token: Token<'a>,
     ) -> Result<Stage<'a>, ProgramFault>
-        ensures read { Gives (reading_of self.now) result (the_after_new (outcome_of methods.now.checked.now) (parts_of self.now) name.entry.now (the_name_in (lexeme_of token.entry.kind))) }
-        ensures place { Goes unmarked token.entry.span.start (why_new (the_name_in (lexeme_of token.entry.kind))) result }
+        ensures read { Gives (reading_of self.now) result (after_new (outcome_of methods.now.checked.now) (parts_of self.now) name.entry.now (name_in (lexeme_of token.entry.kind))) }
+        ensures place { Goes unmarked token.entry.span.start (why_new (name_in (lexeme_of token.entry.kind))) result }
     {
         let at = token.span.start;
         match name_in(token.kind) {
@@ -214,8 +214,8 @@ impl Parts {
         n: usize,
         token: Token<'a>,
     ) -> Result<Stage<'a>, ProgramFault>
-        ensures read { Gives (reading_of self.now) result (the_after_dot (outcome_of methods.now.checked.now) (parts_of self.now) n (the_name_in (lexeme_of token.entry.kind))) }
-        ensures place { Goes unmarked token.entry.span.start (why_dot (outcome_of methods.now.checked.now) (parts_of self.now) n (the_name_in (lexeme_of token.entry.kind))) result }
+        ensures read { Gives (reading_of self.now) result (after_dot (outcome_of methods.now.checked.now) (parts_of self.now) n (name_in (lexeme_of token.entry.kind))) }
+        ensures place { Goes unmarked token.entry.span.start (why_dot (outcome_of methods.now.checked.now) (parts_of self.now) n (name_in (lexeme_of token.entry.kind))) result }
     {
         let at = token.span.start;
         match name_in(token.kind) {
@@ -230,15 +230,15 @@ impl Parts {
 
     // The value of an argument, which is at `at`.
     fn valued<'a>(&self, p: Pending<'a>, v: Value, at: usize) -> Result<Stage<'a>, ProgramFault>
-        ensures read { Gives (reading_of self.now) result (the_with_call (parts_of self.now) after_argument_stage (the_with_argument (pending_of p.entry) v)) }
+        ensures read { Gives (reading_of self.now) result (with_call (parts_of self.now) after_argument_stage (with_argument (pending_of p.entry) v)) }
         ensures place { Goes (callee_mark p.entry.at) at (why_value (pending_of p.entry)) result }
     {
         Ok(Stage::AfterArgument(with_argument(p, v, at)?))
     }
 
     fn argument<'a>(&self, p: Pending<'a>, token: Token<'a>) -> Result<Stage<'a>, ProgramFault>
-        ensures read { Gives (reading_of self.now) result (the_argument (parts_of self.now) (pending_of p.entry) (lexeme_of token.entry.kind) (the_number_in (lexeme_of token.entry.kind))) }
-        ensures place { Goes (callee_mark p.entry.at) token.entry.span.start (why_argument (pending_of p.entry) (lexeme_of token.entry.kind) (the_number_in (lexeme_of token.entry.kind))) result }
+        ensures read { Gives (reading_of self.now) result (argument (parts_of self.now) (pending_of p.entry) (lexeme_of token.entry.kind) (number_in (lexeme_of token.entry.kind))) }
+        ensures place { Goes (callee_mark p.entry.at) token.entry.span.start (why_argument (pending_of p.entry) (lexeme_of token.entry.kind) (number_in (lexeme_of token.entry.kind))) result }
     {
         let at = token.span.start;
         if let Some(digits) = number_in(token.kind) {
@@ -267,8 +267,8 @@ impl Parts {
         minus: usize,
         token: Token<'a>,
     ) -> Result<Stage<'a>, ProgramFault>
-        ensures read { Gives (reading_of self.now) result (the_after_minus (parts_of self.now) (pending_of p.entry) (the_number_in (lexeme_of token.entry.kind))) }
-        ensures place { Goes (minus_mark p.entry.at minus) token.entry.span.start (why_minus (pending_of p.entry) (the_number_in (lexeme_of token.entry.kind))) result }
+        ensures read { Gives (reading_of self.now) result (after_minus (parts_of self.now) (pending_of p.entry) (number_in (lexeme_of token.entry.kind))) }
+        ensures place { Goes (minus_mark p.entry.at minus) token.entry.span.start (why_minus (pending_of p.entry) (number_in (lexeme_of token.entry.kind))) result }
     {
         match number_in(token.kind) {
             None => Err(ProgramFault::BadProgram {
@@ -279,7 +279,7 @@ impl Parts {
     }
 
     fn arguments_end<'a>(&self, p: Pending<'a>) -> Result<Stage<'a>, ProgramFault>
-        ensures read { Gives (reading_of self.now) result (the_arguments_end (parts_of self.now) (pending_of p.entry)) }
+        ensures read { Gives (reading_of self.now) result (arguments_end (parts_of self.now) (pending_of p.entry)) }
         ensures stage { IfOk result (λ s. s ≡ at_semicolon_stage p.entry) }
         ensures place { IfErr result (λ e. e ≡ fault_seen (fault_for (callee_mark p.entry.at) 0 TooFew)) }
     {
@@ -289,7 +289,7 @@ impl Parts {
     }
 
     fn at_first<'a>(&self, p: Pending<'a>, token: Token<'a>) -> Result<Stage<'a>, ProgramFault>
-        ensures read { Gives (reading_of self.now) result (the_at_first (parts_of self.now) (pending_of p.entry) (lexeme_of token.entry.kind)) }
+        ensures read { Gives (reading_of self.now) result (at_first (parts_of self.now) (pending_of p.entry) (lexeme_of token.entry.kind)) }
         ensures place { Goes (callee_mark p.entry.at) token.entry.span.start (why_first (pending_of p.entry) (lexeme_of token.entry.kind)) result }
     {
         if is_sign(Sign::CloseParen, token.kind) {
@@ -304,7 +304,7 @@ impl Parts {
         p: Pending<'a>,
         token: Token<'a>,
     ) -> Result<Stage<'a>, ProgramFault>
-        ensures read { Gives (reading_of self.now) result (the_after_argument (parts_of self.now) (pending_of p.entry) (lexeme_of token.entry.kind)) }
+        ensures read { Gives (reading_of self.now) result (after_argument (parts_of self.now) (pending_of p.entry) (lexeme_of token.entry.kind)) }
         ensures place { Goes (callee_mark p.entry.at) token.entry.span.start (why_after (lexeme_of token.entry.kind)) result }
     {
         if is_sign(Sign::CloseParen, token.kind) {
@@ -322,7 +322,7 @@ impl Parts {
 
     // One more call.
     fn finish(&mut self, alloc: Global, p: Pending) -> Result<(), AllocError>
-        ensures { IfOk result (λ _. parts_of self.new ≡ the_with_finished (parts_of self.old) (pending_of p.entry)) }
+        ensures { IfOk result (λ _. parts_of self.new ≡ with_finished (parts_of self.old) (pending_of p.entry)) }
     {
         let callee = p.callee;
         let call = call_of(alloc, self.names.len(), p)?;
@@ -338,7 +338,7 @@ impl Parts {
         p: Pending<'a>,
         token: Token<'a>,
     ) -> Result<Stage<'a>, ProgramFault>
-        ensures read { Gives (reading_of self.new) result (the_at_semicolon (parts_of self.old) (pending_of p.entry) (lexeme_of token.entry.kind)) }
+        ensures read { Gives (reading_of self.new) result (at_semicolon (parts_of self.old) (pending_of p.entry) (lexeme_of token.entry.kind)) }
         ensures place { Goes (callee_mark p.entry.at) token.entry.span.start (why_semicolon (lexeme_of token.entry.kind)) result }
     {
         if !is_sign(Sign::Semicolon, token.kind) {
@@ -355,7 +355,7 @@ impl Parts {
 
     // Another thread, if there is room.
     fn at_thread<'a>(&self, token: Token<'a>) -> Result<Stage<'a>, ProgramFault>
-        ensures read { Gives (reading_of self.now) result (the_at_thread (parts_of self.now) (lexeme_of token.entry.kind)) }
+        ensures read { Gives (reading_of self.now) result (at_thread (parts_of self.now) (lexeme_of token.entry.kind)) }
         ensures place { Goes unmarked token.entry.span.start (why_thread (lexeme_of token.entry.kind)) result }
     {
         if !is_text("thread", name_in(token.kind)) {
@@ -374,8 +374,8 @@ impl Parts {
         alloc: Global,
         token: Token<'a>,
     ) -> Result<Stage<'a>, ProgramFault>
-        ensures read { Gives (reading_of self.new) result (the_at_thread_name (parts_of self.old) (the_name_in (lexeme_of token.entry.kind))) }
-        ensures place { Goes unmarked token.entry.span.start (why_thread_name (the_name_in (lexeme_of token.entry.kind))) result }
+        ensures read { Gives (reading_of self.new) result (at_thread_name (parts_of self.old) (name_in (lexeme_of token.entry.kind))) }
+        ensures place { Goes unmarked token.entry.span.start (why_thread_name (name_in (lexeme_of token.entry.kind))) result }
     {
         let at = token.span.start;
         let Some(name) = name_in(token.kind) else {

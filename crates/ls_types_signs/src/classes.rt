@@ -2,7 +2,7 @@
 
 ghost use Rattle.std.specs.Prelude.{◌≡◌, IfOk, map};
 ghost use Rattle.ls_checked.specs.Plain.{plain_class};
-ghost use Rattle.ls_types_elaboration.specs.Elaboration.{checked_class as the_class};
+ghost use Rattle.ls_types_elaboration.specs.Elaboration.{checked_class};
 ghost use Rattle.ls_types_elaboration.specs.Tables.{class_sign_of, field_sign_of};
 
 use ls_checked::tree::Class;
@@ -21,7 +21,7 @@ fn field_types(alloc: Global, fields: &[FieldSign]) -> Result<Vec<ValueType>, Al
 }
 
 fn checked_class(alloc: Global, c: &ClassSign) -> Result<Class, AllocError>
-    ensures { IfOk result (λ d. plain_class d ≡ the_class (class_sign_of c.now)) }
+    ensures { IfOk result (λ d. plain_class d ≡ checked_class (class_sign_of c.now)) }
 {
     Ok(Class {
         fields: field_types(alloc, &c.fields)?,
@@ -31,7 +31,7 @@ fn checked_class(alloc: Global, c: &ClassSign) -> Result<Class, AllocError>
 
 /// The classes as they are checked. The only refusal is that memory ran out.
 pub fn checked_classes(alloc: Global, signs: &[ClassSign]) -> Result<Vec<Class>, AllocError>
-    ensures { IfOk result (λ v. map plain_class v.items ≡ map the_class (map class_sign_of signs.now)) }
+    ensures { IfOk result (λ v. map plain_class v.items ≡ map checked_class (map class_sign_of signs.now)) }
 {
     let mut classes = Vec::new(alloc);
     for c in signs {

@@ -1,7 +1,7 @@
 // What the classes of a text declare.
 
 ghost use Rattle.std.specs.Prelude.{◌≡◌, map, string_bytes};
-ghost use Rattle.ls_types_elaboration.specs.Signs.{is_reserved as the_reserved, one_name as the_one_name, class_names as the_class_names, parameter_types as the_parameter_types, field_met as the_field_met, fields_met as the_fields_met, method_met as the_method_met, constructor_met as the_constructor_met, member_met as the_member_met, nothing_met as the_nothing_met, class_met as the_class_met, one_class as the_one_class, class_signs as the_class_signs};
+ghost use Rattle.ls_types_elaboration.specs.Signs.{is_reserved, one_name, class_names, parameter_types, field_met, fields_met, method_met, constructor_met, member_met, nothing_met, class_met, one_class, class_signs};
 ghost use Rattle.ls_types_elaboration.specs.Placed.{placed_name};
 ghost use Rattle.ls_types_elaboration.specs.PlacedStatements.{placed_parameter, placed_declarator, placed_member, placed_class, placed_declaration};
 ghost use Rattle.ls_types_tables.specs.ByName.{keys_of};
@@ -44,7 +44,7 @@ pub struct Classes {
 }
 
 fn is_reserved(name: &str) -> bool
-    ensures { result ≡ the_reserved name.now }
+    ensures { result ≡ is_reserved name.now }
 {
     name == "Integer"
         || name == "Lock"
@@ -54,7 +54,7 @@ fn is_reserved(name: &str) -> bool
 
 // One more class's name.
 fn one_name(alloc: Global, names: &mut IndexSet<String>, c: &Class) -> Result<(), CheckFault>
-    ensures { Gives (λ u. keys_of names.new) result (the_one_name (keys_of names.old) (placed_class c.now)) }
+    ensures { Gives (λ u. keys_of names.new) result (one_name (keys_of names.old) (placed_class c.now)) }
 {
     let name = c.name.text.as_str();
     if is_reserved(name) {
@@ -72,7 +72,7 @@ fn one_name(alloc: Global, names: &mut IndexSet<String>, c: &Class) -> Result<()
 
 /// The names of the classes, by their numbers. Refused only by a broken rule, or if memory runs out.
 pub fn class_names(alloc: Global, classes: &[Class]) -> Result<IndexSet<String>, CheckFault>
-    ensures { Gives keys_of result (the_class_names (map placed_class classes.now)) }
+    ensures { Gives keys_of result (class_names (map placed_class classes.now)) }
 {
     let mut names = IndexSet::new(alloc);
     for c in classes {
@@ -88,7 +88,7 @@ fn parameter_types(
     n: &Name,
     ps: &[Parameter],
 ) -> Result<Vec<ValueType>, CheckFault>
-    ensures { Gives (λ v. v.items) result (the_parameter_types (keys_of names.now) (placed_name n.now) (map placed_parameter ps.now)) }
+    ensures { Gives (λ v. v.items) result (parameter_types (keys_of names.now) (placed_name n.now) (map placed_parameter ps.now)) }
 {
     if ps.len() >= MOST_SLOTS {
         return Err(refused_at(Rule::Limit, n.span));
@@ -101,7 +101,7 @@ fn parameter_types(
 }
 
 fn field_met(alloc: Global, t: ValueType, met: &mut Met, d: &Declarator) -> Result<(), CheckFault>
-    ensures { Gives (λ u. met_of met.new) result (the_field_met t (met_of met.old) (placed_declarator d.now)) }
+    ensures { Gives (λ u. met_of met.new) result (field_met t (met_of met.old) (placed_declarator d.now)) }
 {
     let name = d.name.text.as_str();
     if met.fields.contains_key(name) {
@@ -121,7 +121,7 @@ fn method_met(
     types: Vec<ValueType>,
     answers: Option<ValueType>,
 ) -> Result<(), CheckFault>
-    ensures { Gives (λ u. met_of met.new) result (the_method_met (met_of met.old) (placed_name n.now) types.items answers) }
+    ensures { Gives (λ u. met_of met.new) result (method_met (met_of met.old) (placed_name n.now) types.items answers) }
 {
     let name = n.text.as_str();
     if met.methods.contains_key(name) {
@@ -147,7 +147,7 @@ fn constructor_met(
     n: &Name,
     types: Vec<ValueType>,
 ) -> Result<(), Broken>
-    ensures { seen (λ u. met_of met.new) result ≡ the_constructor_met (string_bytes class.now.text) (met_of met.old) (placed_name n.now) types.items }
+    ensures { seen (λ u. met_of met.new) result ≡ constructor_met (string_bytes class.now.text) (met_of met.old) (placed_name n.now) types.items }
 {
     if n.text.as_str() != class.text.as_str() {
         return Err(broken_at(Rule::UnknownType, n.span));
@@ -170,7 +170,7 @@ fn fields_met(
     met: &mut Met,
     d: &Declaration,
 ) -> Result<(), CheckFault>
-    ensures { Gives (λ u. met_of met.new) result (the_fields_met (keys_of names.now) (met_of met.old) (placed_declaration d.now)) }
+    ensures { Gives (λ u. met_of met.new) result (fields_met (keys_of names.now) (met_of met.old) (placed_declaration d.now)) }
 {
     let t = type_of(names, &d.type_name)?;
     field_met(alloc, t, met, &d.first)?;
@@ -187,7 +187,7 @@ fn member_met(
     met: &mut Met,
     m: &Member,
 ) -> Result<(), CheckFault>
-    ensures { Gives (λ u. met_of met.new) result (the_member_met (keys_of names.now) (string_bytes class.now.text) (met_of met.old) (placed_member m.now)) }
+    ensures { Gives (λ u. met_of met.new) result (member_met (keys_of names.now) (string_bytes class.now.text) (met_of met.old) (placed_member m.now)) }
 {
     match m {
         Member::Field(d) => fields_met(alloc, names, met, d),
@@ -206,7 +206,7 @@ fn member_met(
 
 // A class of which all is read, after those before it.
 fn class_met(alloc: Global, classes: &mut Classes, n: &Name, met: Met) -> Result<(), CheckFault>
-    ensures { Gives (λ u. classes_of classes.new) result (the_class_met (classes_of classes.old) (placed_name n.now) (met_of met) met.constructor) }
+    ensures { Gives (λ u. classes_of classes.new) result (class_met (classes_of classes.old) (placed_name n.now) (met_of met) met.constructor) }
 {
     let Met {
         fields,
@@ -243,7 +243,7 @@ fn class_met(alloc: Global, classes: &mut Classes, n: &Name, met: Met) -> Result
 }
 
 fn nothing_met(alloc: Global, next: usize) -> Met
-    ensures { met_of result ≡ the_nothing_met next }
+    ensures { met_of result ≡ nothing_met next }
 {
     Met {
         fields: IndexMap::new(alloc),
@@ -260,7 +260,7 @@ fn one_class(
     classes: &mut Classes,
     c: &Class,
 ) -> Result<(), CheckFault>
-    ensures { Gives (λ u. classes_of classes.new) result (the_one_class (keys_of names.now) (classes_of classes.old) (placed_class c.now)) }
+    ensures { Gives (λ u. classes_of classes.new) result (one_class (keys_of names.now) (classes_of classes.old) (placed_class c.now)) }
 {
     let mut met = nothing_met(alloc, classes.next);
     for m in &c.members {
@@ -275,7 +275,7 @@ pub fn class_tables(
     names: &IndexSet<String>,
     all: &[Class],
 ) -> Result<Classes, CheckFault>
-    ensures { Gives classes_of result (the_class_signs (keys_of names.now) (map placed_class all.now)) }
+    ensures { Gives classes_of result (class_signs (keys_of names.now) (map placed_class all.now)) }
 {
     let mut classes = Classes {
         tables: Vec::new(alloc),

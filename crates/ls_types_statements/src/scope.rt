@@ -4,7 +4,7 @@ ghost use Rattle.std.specs.Prelude.{◌≡◌, ◌<◌, ◌≤◌, OnOk, length,
 ghost use Rattle.ls_types_elaboration.specs.Elaborated.{Elaborated};
 ghost use Rattle.ls_checked.specs.CheckedTree.{Literal as literal, SetSlot as set_slot};
 ghost use Rattle.ls_types_elaboration.specs.Answers.{Gives, unless_refused};
-ghost use Rattle.ls_types_elaboration.specs.Scopes.{start_of as the_start, with_variable as the_variable, with_statement as the_with_statement, initialised as the_initialised, declared as the_declared, declaration as the_declaration, may_declare as the_may_declare, Scope as the_scope, Slots as the_slots, with_named as the_named, with_unnamed as the_unnamed};
+ghost use Rattle.ls_types_elaboration.specs.Scopes.{start_of, with_variable, with_statement, initialised, declared, declaration, may_declare, Scope as the_scope, Slots as the_slots, with_named, with_unnamed};
 ghost use Rattle.ls_types_elaboration.specs.PlacedStatements.{placed_declarator, placed_declaration};
 ghost use Rattle.ls_types_elaboration.specs.Placed.{placed, placed_name};
 ghost use Rattle.ls_types_tables.specs.ByName.{known_of};
@@ -56,7 +56,7 @@ pub struct Slots {
 // One more slot with a name.
 fn with_named(slots: &mut Slots, t: ValueType) -> Result<(), AllocError>
     requires { slots.old.named < 128 }
-    ensures grown { OnOk result (slots_of slots.new ≡ the_named (slots_of slots.old) t) }
+    ensures grown { OnOk result (slots_of slots.new ≡ with_named (slots_of slots.old) t) }
     ensures low { OnOk result (slots.new.named ≤ 128) }
 {
     slots.types.push(t)?;
@@ -66,7 +66,7 @@ fn with_named(slots: &mut Slots, t: ValueType) -> Result<(), AllocError>
 
 /// One more slot that no name finds. The only refusal is that memory ran out.
 pub fn with_unnamed(slots: &mut Slots, t: ValueType) -> Result<(), AllocError>
-    ensures grown { OnOk result (slots_of slots.new ≡ the_unnamed (slots_of slots.old) t) }
+    ensures grown { OnOk result (slots_of slots.new ≡ with_unnamed (slots_of slots.old) t) }
     ensures same { OnOk result (slots.new.named ≡ slots.old.named) }
 {
     slots.types.push(t)?;
@@ -75,7 +75,7 @@ pub fn with_unnamed(slots: &mut Slots, t: ValueType) -> Result<(), AllocError>
 
 /// The start value of a local.
 pub fn start_of(t: ValueType) -> Value
-    ensures { result ≡ the_start t }
+    ensures { result ≡ start_of t }
 {
     match t {
         ValueType::Int => Value::Int(0),
@@ -92,7 +92,7 @@ pub fn with_variable<'t>(
     t: ValueType,
 ) -> Result<(), AllocError>
     requires { slots.old.named < 128 }
-    ensures grown { OnOk result (scope_of scope.new (slots_of slots.new) ≡ the_variable (scope_of scope.old (slots_of slots.old)) name.entry.now t) }
+    ensures grown { OnOk result (scope_of scope.new (slots_of slots.new) ≡ with_variable (scope_of scope.old (slots_of slots.old)) name.entry.now t) }
     ensures low { OnOk result (slots.new.named ≤ 128) }
 {
     scope.locals.push(Local {
@@ -112,7 +112,7 @@ fn started<'t>(
     t: ValueType,
 ) -> Result<(), AllocError>
     requires { slots.old.named < 128 }
-    ensures grown { OnOk result (scope_of scope.new (slots_of slots.new) ≡ the_with_statement (the_variable (scope_of scope.old (slots_of slots.old)) name.entry.now t) (set_slot (length slots.old.types.items) (literal (the_start t)))) }
+    ensures grown { OnOk result (scope_of scope.new (slots_of slots.new) ≡ with_statement (with_variable (scope_of scope.old (slots_of slots.old)) name.entry.now t) (set_slot (length slots.old.types.items) (literal (start_of t)))) }
     ensures low { OnOk result (slots.new.named ≤ 128) }
 {
     let slot = slots.types.len();
@@ -124,7 +124,7 @@ fn started<'t>(
 
 /// A name may be declared if no variable in scope has it, and if there is room. Else the rule that it breaks.
 pub fn may_declare(method: Span, scope: &Scope, slots: &Slots, n: &Name) -> Result<(), Broken>
-    ensures may { (go : Elaborated (the_scope)) → the_may_declare method (scope_of scope.now (slots_of slots.now)) (placed_name n.now) go ≡ unless_refused result go }
+    ensures may { (go : Elaborated (the_scope)) → may_declare method (scope_of scope.now (slots_of slots.now)) (placed_name n.now) go ≡ unless_refused result go }
     ensures room { OnOk result (slots.now.named < 128) }
 {
     if local_named(&scope.locals, n.text.as_str()).is_some() {
@@ -144,7 +144,7 @@ fn initialised(
     scope: &mut Scope,
     value: &Option<Expr>,
 ) -> Result<(), CheckFault>
-    ensures { (slots : the_slots) → Gives (λ _. scope_of scope.new slots) result (the_initialised (known_of context.entry.known) t slot (scope_of scope.old slots) (option_map placed value.now)) }
+    ensures { (slots : the_slots) → Gives (λ _. scope_of scope.new slots) result (initialised (known_of context.entry.known) t slot (scope_of scope.old slots) (option_map placed value.now)) }
 {
     match value {
         None => Ok(()),
@@ -170,7 +170,7 @@ fn declared<'t>(
     d: &'t Declarator,
 ) -> Result<(), CheckFault>
     requires { slots.old.named ≤ 128 }
-    ensures found { Gives (λ _. scope_of scope.new (slots_of slots.new)) result (the_declared (body_of context.entry) t (scope_of scope.old (slots_of slots.old)) (placed_declarator d.entry.now)) }
+    ensures found { Gives (λ _. scope_of scope.new (slots_of slots.new)) result (declared (body_of context.entry) t (scope_of scope.old (slots_of slots.old)) (placed_declarator d.entry.now)) }
     ensures low { OnOk result (slots.new.named ≤ 128) }
 {
     may_declare(context.span, scope, slots, &d.name)?;
@@ -187,7 +187,7 @@ pub fn declaration<'t>(
     d: &'t Declaration,
 ) -> Result<(), CheckFault>
     requires { slots.old.named ≤ 128 }
-    ensures found { Gives (λ _. scope_of scope.new (slots_of slots.new)) result (the_declaration (body_of context.entry) (scope_of scope.old (slots_of slots.old)) (placed_declaration d.entry.now)) }
+    ensures found { Gives (λ _. scope_of scope.new (slots_of slots.new)) result (declaration (body_of context.entry) (scope_of scope.old (slots_of slots.old)) (placed_declaration d.entry.now)) }
     ensures low { OnOk result (slots.new.named ≤ 128) }
 {
     let t = type_of(context.known.names, &d.type_name)?;

@@ -5,9 +5,9 @@ ghost use Rattle.ls_events.specs.declared.value.ValueType.TheVariants.{Class as 
 ghost use Rattle.ls_checked.specs.Plain.{plain, plain_statement};
 ghost use Rattle.ls_checked.specs.CheckedTree.{Block as checked_block, If as checked_if, While as checked_while, Evaluate as evaluate, Call as call, Slot as slot_read, End as no_argument, Statement as checked_statement};
 ghost use Rattle.ls_types_elaboration.specs.Trees.{Items, While as while_written, For as for_written, Block as block_written, Try as try_written, Synchronized as synchronized_written};
-ghost use Rattle.ls_types_elaboration.specs.TypedStatements.{statement as the_statement, items as the_items, sequence, loop_named as the_loop, may_leave as the_may_leave, is_label as the_is_label, is_target as the_is_target, found_loop as the_found_loop, jump as the_jump, continued as the_continued, label_text, loop_of as the_loop_of, fresh_label as the_fresh_label, returned as the_returned, opening as the_opening, condition as the_condition, turn_once as the_turn_once, for_loop as the_for_loop, monitor as the_monitor, WithSlots};
-ghost use Rattle.ls_types_elaboration.specs.Scopes.{with_unnamed as the_unnamed};
-ghost use Rattle.ls_types_elaboration.specs.Monitors.{synchronized as the_synchronized};
+ghost use Rattle.ls_types_elaboration.specs.TypedStatements.{statement, items as the_items, sequence, loop_named, may_leave, is_label, is_target, found_loop, jump, continued, label_text, loop_of as the_loop_of, fresh_label, returned, opening as the_opening, condition as the_condition, turn_once, for_loop, monitor, WithSlots};
+ghost use Rattle.ls_types_elaboration.specs.Scopes.{with_unnamed};
+ghost use Rattle.ls_types_elaboration.specs.Monitors.{synchronized};
 ghost use Rattle.ls_types_elaboration.specs.Placed.{placed, placed_name};
 ghost use Rattle.ls_types_elaboration.specs.PlacedStatements.{placed_simple, placed_opening, placed_statement, placed_items, placed_before, placed_other, if_of};
 ghost use Rattle.ls_types_elaboration.specs.Tables.{local_of};
@@ -75,7 +75,7 @@ fn site_in<'r, 'l, 't>(round: Round<'r, 't>, locals: &'l [Local<'t>]) -> Site<'r
 
 // Whether a `break`, or else a `continue`, may belong to a loop.
 fn may_leave(breaking: bool, part: LoopPart) -> bool
-    ensures { result ≡ the_may_leave breaking part }
+    ensures { result ≡ may_leave breaking part }
 {
     match part {
         LoopPart::While => true,
@@ -86,7 +86,7 @@ fn may_leave(breaking: bool, part: LoopPart) -> bool
 
 // A jump without a label has the innermost loop as its target.
 fn is_label(name: Option<&str>, label: Option<&str>) -> bool
-    ensures { result ≡ the_is_label (option_copied name.entry) (option_copied label.entry) }
+    ensures { result ≡ is_label (option_copied name.entry) (option_copied label.entry) }
 {
     match (name, label) {
         (None, _) => true,
@@ -96,14 +96,14 @@ fn is_label(name: Option<&str>, label: Option<&str>) -> bool
 }
 
 fn is_target(breaking: bool, name: Option<&str>, l: Loop) -> bool
-    ensures { result ≡ the_is_target breaking (option_copied name.entry) (loop_of l.entry) }
+    ensures { result ≡ is_target breaking (option_copied name.entry) (loop_of l.entry) }
 {
     may_leave(breaking, l.part) && is_label(name, l.label)
 }
 
 // The loop to which a jump belongs, counted outward, and what it is.
 fn loop_named(breaking: bool, loops: &[Loop], name: Option<&str>) -> Option<(usize, LoopPart)>
-    ensures found { result ≡ the_loop breaking (map loop_of loops.now) (option_copied name.entry) }
+    ensures found { result ≡ loop_named breaking (map loop_of loops.now) (option_copied name.entry) }
     ensures small { IfSome result (λ w. w.0 < length loops.now) }
 {
     match loops {
@@ -125,7 +125,7 @@ fn found_loop(
     rule: Rule,
     span: Span,
 ) -> Result<(usize, LoopPart), Broken>
-    ensures { result ≡ the_found_loop found rule span }
+    ensures { result ≡ found_loop found rule span }
 {
     match found {
         None => Err(broken_at(rule, span)),
@@ -140,7 +140,7 @@ fn jump(
     label: &Option<Name>,
     span: Span,
 ) -> Result<(usize, LoopPart), Broken>
-    ensures { result ≡ the_jump breaking (map loop_of loops.now) (option_map placed_name label.now) span }
+    ensures { result ≡ jump breaking (map loop_of loops.now) (option_map placed_name label.now) span }
 {
     if loops.is_empty() {
         return Err(broken_at(Rule::NoLoop, span));
@@ -157,7 +157,7 @@ fn jump(
 
 // The checked form of a `continue`. If its loop is a turn of a `for`, it is a `break` out of that turn.
 fn continued(way: (usize, LoopPart)) -> Statement
-    ensures { plain_statement result ≡ the_continued way.1 way.0 }
+    ensures { plain_statement result ≡ continued way.1 way.0 }
 {
     let (n, part) = way;
     match part {
@@ -168,7 +168,7 @@ fn continued(way: (usize, LoopPart)) -> Statement
 
 // A loop's label isn't the label of a loop around it.
 fn fresh_label(loops: &[Loop], label: &Option<Name>) -> Result<(), Broken>
-    ensures { (go : Elaborated (WithSlots checked_statement)) → the_fresh_label (map loop_of loops.now) (option_map placed_name label.now) go ≡ unless_refused result go }
+    ensures { (go : Elaborated (WithSlots checked_statement)) → fresh_label (map loop_of loops.now) (option_map placed_name label.now) go ≡ unless_refused result go }
 {
     match label {
         None => Ok(()),
@@ -223,7 +223,7 @@ fn returned(
     value: &Option<Expr>,
     span: Span,
 ) -> Result<Statement, CheckFault>
-    ensures { Gives plain_statement result (the_returned (known_of site.entry.known) (locals_of site.entry) answers (option_map placed value.now) span) }
+    ensures { Gives plain_statement result (returned (known_of site.entry.known) (locals_of site.entry) answers (option_map placed value.now) span) }
 {
     match (answers, value) {
         (None, None) => Ok(Statement::ReturnNothing),
@@ -252,7 +252,7 @@ struct Monitor {
 
 // What has a monitor: an object of a class of the file.
 fn find_monitor(site: Site, e: &Expr) -> Result<Monitor, CheckFault>
-    ensures { Gives monitor_seen result (the_monitor (known_of site.entry.known) (locals_of site.entry) (placed e.now)) }
+    ensures { Gives monitor_seen result (monitor (known_of site.entry.known) (locals_of site.entry) (placed e.now)) }
 {
     let x = typed(site, e)?;
     match x.of {
@@ -291,7 +291,7 @@ pub fn synchronized_of(
     object: Expression,
     body: Statement,
 ) -> Result<Statement, CheckFault>
-    ensures { Gives plain_statement result (Ok (the_synchronized slot class (plain object) (plain_statement body))) }
+    ensures { Gives plain_statement result (Ok (synchronized slot class (plain object) (plain_statement body))) }
 {
     let ((object, body), free) = also(
         (object, body),
@@ -358,7 +358,7 @@ fn pair_of(alloc: Global, a: Statement, b: Statement) -> Result<Statement, Alloc
 
 // One turn of a `for`: a loop that never turns back.
 fn turn_once(alloc: Global, s: Statement) -> Result<Statement, AllocError>
-    ensures { IfOk result (λ t. plain_statement t ≡ the_turn_once (plain_statement s)) }
+    ensures { IfOk result (λ t. plain_statement t ≡ turn_once (plain_statement s)) }
 {
     let body = pair_of(alloc, s, Statement::Break(0))?;
     let body = Box::new(alloc, body)?;
@@ -380,7 +380,7 @@ fn for_of(
     s: Statement,
     updates: Vec<Statement>,
 ) -> Result<Statement, CheckFault>
-    ensures { Gives plain_statement result (Ok (the_for_loop (map plain_statement front.items) (plain e) (plain_statement s) (map plain_statement updates.items))) }
+    ensures { Gives plain_statement result (Ok (for_loop (map plain_statement front.items) (plain e) (plain_statement s) (map plain_statement updates.items))) }
 {
     let updates = block_of(updates);
     let turn = turn_once(alloc, s);
@@ -402,7 +402,7 @@ pub fn statement<'r, 't>(
     s: &'t tree::Statement,
 ) -> Result<Statement, CheckFault>
     requires { slots.old.named ≤ 128 }
-    ensures found { Gives (formed_of (slots_of slots.new)) result (the_statement (body_of round.entry.context) (loops_of round.entry) (map local_of locals.now) (slots_of slots.old) (placed_statement s.entry.now)) }
+    ensures found { Gives (formed_of (slots_of slots.new)) result (statement (body_of round.entry.context) (loops_of round.entry) (map local_of locals.now) (slots_of slots.old) (placed_statement s.entry.now)) }
     ensures low { OnOk result (slots.new.named ≤ 128) }
 {
     match s {
@@ -461,7 +461,7 @@ fn branches<'r, 't>(
     otherwise: &'t Option<Box<tree::Statement>>,
 ) -> Result<Statement, CheckFault>
     requires { slots.old.named ≤ 128 }
-    ensures found { Gives (formed_of (slots_of slots.new)) result (the_statement (body_of round.entry.context) (loops_of round.entry) (map local_of locals.now) (slots_of slots.old) (if_of (placed condition.entry.now) (placed_statement then.entry.now) (placed_other otherwise.entry.now))) }
+    ensures found { Gives (formed_of (slots_of slots.new)) result (statement (body_of round.entry.context) (loops_of round.entry) (map local_of locals.now) (slots_of slots.old) (if_of (placed condition.entry.now) (placed_statement then.entry.now) (placed_other otherwise.entry.now))) }
     ensures low { OnOk result (slots.new.named ≤ 128) }
 {
     let alloc = round.context.alloc;
@@ -486,7 +486,7 @@ fn while_loop<'r, 't>(
     body: &'t tree::Statement,
 ) -> Result<Statement, CheckFault>
     requires { slots.old.named ≤ 128 }
-    ensures found { Gives (formed_of (slots_of slots.new)) result (the_statement (body_of round.entry.context) (loops_of round.entry) (map local_of locals.now) (slots_of slots.old) (while_written (option_map placed_name label.entry.now) (placed condition.entry.now) (placed_statement body.entry.now))) }
+    ensures found { Gives (formed_of (slots_of slots.new)) result (statement (body_of round.entry.context) (loops_of round.entry) (map local_of locals.now) (slots_of slots.old) (while_written (option_map placed_name label.entry.now) (placed condition.entry.now) (placed_statement body.entry.now))) }
     ensures low { OnOk result (slots.new.named ≤ 128) }
 {
     fresh_label(round.loops, label)?;
@@ -510,7 +510,7 @@ fn looped<'r, 't>(
     body: &'t tree::Statement,
 ) -> Result<Statement, CheckFault>
     requires { slots.old.named ≤ 128 }
-    ensures found { Gives (formed_of (slots_of slots.new)) result (the_statement (body_of round.entry.context) (the_loop_of part (label_text (option_map placed_name label.entry.now)) ∷ loops_of round.entry) (map local_of locals.now) (slots_of slots.old) (placed_statement body.entry.now)) }
+    ensures found { Gives (formed_of (slots_of slots.new)) result (statement (body_of round.entry.context) (the_loop_of part (label_text (option_map placed_name label.entry.now)) ∷ loops_of round.entry) (map local_of locals.now) (slots_of slots.old) (placed_statement body.entry.now)) }
     ensures low { OnOk result (slots.new.named ≤ 128) }
 {
     let inner = within(round.context.alloc, round.loops, part, label)?;
@@ -531,7 +531,7 @@ fn turned<'r, 't>(
     body: &'t tree::Statement,
 ) -> Result<Statement, CheckFault>
     requires { slots.old.named ≤ 128 }
-    ensures found { Gives (formed_of (slots_of slots.new)) result (the_statement (body_of round.entry.context) (the_loop_of parts.Turn (label_text (option_map placed_name label.entry.now)) ∷ the_loop_of parts.For (label_text (option_map placed_name label.entry.now)) ∷ loops_of round.entry) (map local_of locals.now) (slots_of slots.old) (placed_statement body.entry.now)) }
+    ensures found { Gives (formed_of (slots_of slots.new)) result (statement (body_of round.entry.context) (the_loop_of parts.Turn (label_text (option_map placed_name label.entry.now)) ∷ the_loop_of parts.For (label_text (option_map placed_name label.entry.now)) ∷ loops_of round.entry) (map local_of locals.now) (slots_of slots.old) (placed_statement body.entry.now)) }
     ensures low { OnOk result (slots.new.named ≤ 128) }
 {
     let whole = within(round.context.alloc, round.loops, LoopPart::For, label)?;
@@ -554,7 +554,7 @@ fn for_loop<'r, 't>(
     body: &'t tree::Statement,
 ) -> Result<Statement, CheckFault>
     requires { slots.old.named ≤ 128 }
-    ensures found { Gives (formed_of (slots_of slots.new)) result (the_statement (body_of round.entry.context) (loops_of round.entry) (map local_of locals.now) (slots_of slots.old) (for_written (option_map placed_name label.entry.now) (placed_opening opening.entry.now) (option_map placed condition.entry.now) (map placed_simple updates.entry.now) (placed_statement body.entry.now))) }
+    ensures found { Gives (formed_of (slots_of slots.new)) result (statement (body_of round.entry.context) (loops_of round.entry) (map local_of locals.now) (slots_of slots.old) (for_written (option_map placed_name label.entry.now) (placed_opening opening.entry.now) (option_map placed condition.entry.now) (map placed_simple updates.entry.now) (placed_statement body.entry.now))) }
     ensures low { OnOk result (slots.new.named ≤ 128) }
 {
     fresh_label(round.loops, label)?;
@@ -577,7 +577,7 @@ fn try_finally<'r, 't>(
     finally: &'t [BlockItem],
 ) -> Result<Statement, CheckFault>
     requires { slots.old.named ≤ 128 }
-    ensures found { Gives (formed_of (slots_of slots.new)) result (the_statement (body_of round.entry.context) (loops_of round.entry) (map local_of locals.now) (slots_of slots.old) (try_written (placed_items body.entry.now) (placed_items finally.entry.now))) }
+    ensures found { Gives (formed_of (slots_of slots.new)) result (statement (body_of round.entry.context) (loops_of round.entry) (map local_of locals.now) (slots_of slots.old) (try_written (placed_items body.entry.now) (placed_items finally.entry.now))) }
     ensures low { OnOk result (slots.new.named ≤ 128) }
 {
     let b = block(round, locals, slots, body)?;
@@ -595,7 +595,7 @@ fn synchronized<'r, 't>(
     body: &'t [BlockItem],
 ) -> Result<Statement, CheckFault>
     requires { slots.old.named ≤ 128 }
-    ensures found { Gives (formed_of (slots_of slots.new)) result (the_statement (body_of round.entry.context) (loops_of round.entry) (map local_of locals.now) (slots_of slots.old) (synchronized_written (placed target.entry.now) (placed_items body.entry.now))) }
+    ensures found { Gives (formed_of (slots_of slots.new)) result (statement (body_of round.entry.context) (loops_of round.entry) (map local_of locals.now) (slots_of slots.old) (synchronized_written (placed target.entry.now) (placed_items body.entry.now))) }
     ensures low { OnOk result (slots.new.named ≤ 128) }
 {
     let m = find_monitor(site_in(round, locals), target)?;
@@ -615,7 +615,7 @@ fn kept_block<'r, 't>(
     items: &'t [BlockItem],
 ) -> Result<Statement, CheckFault>
     requires { slots.old.named ≤ 128 }
-    ensures found { Gives (formed_of (slots_of slots.new)) result (the_statement (body_of round.entry.context) (loops_of round.entry) (map local_of locals.now) (the_unnamed (slots_of slots.old) (class_type class)) (block_written (placed_items items.entry.now))) }
+    ensures found { Gives (formed_of (slots_of slots.new)) result (statement (body_of round.entry.context) (loops_of round.entry) (map local_of locals.now) (with_unnamed (slots_of slots.old) (class_type class)) (block_written (placed_items items.entry.now))) }
     ensures low { OnOk result (slots.new.named ≤ 128) }
 {
     with_unnamed(slots, ValueType::Class(class))?;
@@ -631,7 +631,7 @@ fn block<'r, 't>(
     items: &'t [BlockItem],
 ) -> Result<Statement, CheckFault>
     requires { slots.old.named ≤ 128 }
-    ensures found { Gives (formed_of (slots_of slots.new)) result (the_statement (body_of round.entry.context) (loops_of round.entry) (map local_of locals.now) (slots_of slots.old) (block_written (placed_items items.entry.now))) }
+    ensures found { Gives (formed_of (slots_of slots.new)) result (statement (body_of round.entry.context) (loops_of round.entry) (map local_of locals.now) (slots_of slots.old) (block_written (placed_items items.entry.now))) }
     ensures low { OnOk result (slots.new.named ≤ 128) }
 {
     let alloc = round.context.alloc;

@@ -3,7 +3,7 @@
 ghost use Rattle.std.specs.Prelude.{◌≡◌, ◌<◌, IfSome, map, option_map, slice_get};
 ghost use Rattle.indexmap.specs.IndexMap.{index_map_len};
 ghost use Rattle.indexmap.specs.IndexSet.{index_set_len};
-ghost use Rattle.ls_types_elaboration.specs.Known.{field_named as the_field, method_named as the_method, number_of as the_number, field_of as the_field_of, method_of as the_method_of};
+ghost use Rattle.ls_types_elaboration.specs.Known.{field_named, method_named, number_of, field_of, method_of};
 ghost use Rattle.ls_types_tables.specs.ByName.{keys_of, field_entries_of, method_entry, method_entries_of, class_entry_of, known_of};
 
 use crate::tables::{ClassTables, MethodEntry};
@@ -22,7 +22,7 @@ pub struct Known<'k> {
 
 /// The number of the class of a name: the index of the name, or none.
 pub fn number_of(names: &IndexSet<String>, name: &str) -> Option<usize>
-    ensures found { result ≡ the_number (keys_of names.now) name.now }
+    ensures found { result ≡ number_of (keys_of names.now) name.now }
     ensures small { IfSome result (λ n. n < index_set_len names.now) }
 {
     names.get_index_of(name)
@@ -30,7 +30,7 @@ pub fn number_of(names: &IndexSet<String>, name: &str) -> Option<usize>
 
 /// The field of a name among those of a class, or none.
 pub fn field_named(fields: &IndexMap<String, ValueType>, name: &str) -> Option<FoundField>
-    ensures found { result ≡ the_field (field_entries_of fields.now) name.now }
+    ensures found { result ≡ field_named (field_entries_of fields.now) name.now }
     ensures small { IfSome result (λ f. f.number < index_map_len fields.now) }
 {
     let (number, _, value_type) = fields.get_full(name)?;
@@ -45,7 +45,7 @@ pub fn method_named<'a>(
     methods: &'a IndexMap<String, MethodEntry>,
     name: &str,
 ) -> Option<&'a MethodEntry>
-    ensures { option_map (λ m. method_entry name.now m.now) result ≡ the_method (method_entries_of methods.now) name.now }
+    ensures { option_map (λ m. method_entry name.now m.now) result ≡ method_named (method_entries_of methods.now) name.now }
 {
     methods.get(name)
 }
@@ -59,7 +59,7 @@ pub fn class_at<'a>(known: Known<'a>, class: usize) -> Option<&'a ClassTables>
 
 /// The field of a name in the class of a number, or none.
 pub fn field_of(known: Known, class: usize, name: &str) -> Option<FoundField>
-    ensures { result ≡ the_field_of (known_of known.entry) class name.now }
+    ensures { result ≡ field_of (known_of known.entry) class name.now }
 {
     match class_at(known, class) {
         None => None,
@@ -69,7 +69,7 @@ pub fn field_of(known: Known, class: usize, name: &str) -> Option<FoundField>
 
 /// The method of a name in the class of a number, or none.
 pub fn method_of<'a>(known: Known<'a>, class: usize, name: &str) -> Option<&'a MethodEntry>
-    ensures { option_map (λ m. method_entry name.now m.now) result ≡ the_method_of (known_of known.entry) class name.now }
+    ensures { option_map (λ m. method_entry name.now m.now) result ≡ method_of (known_of known.entry) class name.now }
 {
     match class_at(known, class) {
         None => None,

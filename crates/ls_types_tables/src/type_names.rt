@@ -2,7 +2,7 @@
 
 ghost use Rattle.std.specs.Prelude.{◌≡◌, option_map};
 ghost use Rattle.ls_types_elaboration.specs.Trees.{Class as a_class};
-ghost use Rattle.ls_types_elaboration.specs.Known.{type_of as the_type, result_of as the_result};
+ghost use Rattle.ls_types_elaboration.specs.Known.{type_of, result_of};
 ghost use Rattle.ls_types_elaboration.specs.PlacedStatements.{placed_type};
 ghost use Rattle.ls_types_elaboration.specs.Placed.{placed_name};
 ghost use Rattle.ls_types_tables.specs.ByName.{keys_of};
@@ -15,7 +15,7 @@ use ls_types_elaboration::rule::{Broken, Rule, broken_at};
 
 /// The type that is written (JLS 4.2, 4.3, 10.1). If a name is no class, it is refused by `UnknownType` at the name.
 pub fn type_of(names: &IndexSet<String>, t: &Type) -> Result<ValueType, Broken>
-    ensures { result ≡ the_type (keys_of names.now) (placed_type t.now) }
+    ensures { result ≡ type_of (keys_of names.now) (placed_type t.now) }
 {
     match t {
         Type::Int => Ok(ValueType::Int),
@@ -30,7 +30,7 @@ pub fn type_of(names: &IndexSet<String>, t: &Type) -> Result<ValueType, Broken>
 }
 
 fn class_type(names: &IndexSet<String>, n: &Name) -> Result<ValueType, Broken>
-    ensures { result ≡ the_type (keys_of names.now) (a_class (placed_name n.now)) }
+    ensures { result ≡ type_of (keys_of names.now) (a_class (placed_name n.now)) }
 {
     if n.text.as_str() == "Lock" || n.text.as_str() == "ReentrantLock" {
         return Ok(ValueType::Lock);
@@ -43,7 +43,7 @@ fn class_type(names: &IndexSet<String>, n: &Name) -> Result<ValueType, Broken>
 
 /// What a method answers; `void` is nothing (JLS 8.4.5). It is refused as `type_of` is.
 pub fn result_of(names: &IndexSet<String>, t: &Option<Type>) -> Result<Option<ValueType>, Broken>
-    ensures { result ≡ the_result (keys_of names.now) (option_map placed_type t.now) }
+    ensures { result ≡ result_of (keys_of names.now) (option_map placed_type t.now) }
 {
     match t {
         None => Ok(None),
