@@ -9,7 +9,7 @@ use Rattle.ls_code.specs.Laws.{trace_events, HistoriesAreOfTraces, RunsGoOn}
 use Rattle.ls_code.specs.declared.step.Did.{Did}
 use Rattle.ls_code.specs.declared.step.Did.TheVariants as did
 
--- a step keeps the image, and adds its events
+-- a step keeps the code, and adds its events
 Keeps : Machine → ℕ → Stepped → Type 0
 Keeps m n s = (s.machine.code ≡ m.code) × (s.machine.history ≡ m.history ++ events_of m.code n s.did)
 

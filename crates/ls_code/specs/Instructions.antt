@@ -7,7 +7,7 @@ use Rattle.ls_code.specs.declared.instruction.Instruction.TheVariants as op
 unfoldable pub table : ℕ → List Instruction
 table x =
     op.Halt ∷ op.Push x ∷ op.Load x ∷ op.Store x ∷ op.Pop ∷ op.Dup
-    ∷ op.Add ∷ op.Sub ∷ op.Mul ∷ op.Div ∷ op.Rem ∷ op.Neg
+    ∷ op.Add ∷ op.Sub ∷ op.Mul ∷ op.Div ∷ op.Remainder ∷ op.Neg
     ∷ op.Lt ∷ op.Le ∷ op.Gt ∷ op.Ge ∷ op.Eq ∷ op.Ne ∷ op.Not
     ∷ op.Jump x ∷ op.JumpIfFalse x ∷ op.JumpIfTrue x ∷ op.Turn x
     ∷ op.GetField x ∷ op.PutField x ∷ op.GetItem ∷ op.PutItem ∷ op.GetName x ∷ op.PutName x
@@ -32,7 +32,7 @@ opcode_of op.Add = 6
 opcode_of op.Sub = 7
 opcode_of op.Mul = 8
 opcode_of op.Div = 9
-opcode_of op.Rem = 10
+opcode_of op.Remainder = 10
 opcode_of op.Neg = 11
 opcode_of op.Lt = 12
 opcode_of op.Le = 13
@@ -88,7 +88,7 @@ operand_of op.Add = 0
 operand_of op.Sub = 0
 operand_of op.Mul = 0
 operand_of op.Div = 0
-operand_of op.Rem = 0
+operand_of op.Remainder = 0
 operand_of op.Neg = 0
 operand_of op.Lt = 0
 operand_of op.Le = 0

@@ -10,7 +10,7 @@ abbrev pub trace_events : Code → List Entry → List Event
 trace_events p [] = []
 trace_events p (e ∷ es) = action_events p e.thread e.action ++ trace_events p es
 
--- a history is the events of its trace: equal traces of one image give equal histories
+-- a history is the events of its trace: equal traces of one code give equal histories
 abbrev pub HistoriesAreOfTraces : Type 0
 HistoriesAreOfTraces = (p : Code) (cells : ℕ) (ns : List ℕ) → machine_history p cells ns ≡ trace_events p (machine_trace (loaded p cells) ns)
 

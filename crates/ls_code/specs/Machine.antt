@@ -34,7 +34,7 @@ started s = record { top = empty_frame s.place s.need; below = []; mode = mode.R
 abbrev pub first_cells : ℕ → ℕ → List ℕ → Cells
 first_cells names limit sizes = record { words = replicate names 0; limit = limit; names = names; sizes = sizes }
 
--- the machine of an image, with this many cells, at its start
+-- the machine of code, with this many cells, at its start
 abbrev pub loaded : Code → ℕ → Machine
 loaded p cells = record { code = p; threads = map started p.starts; cells = first_cells p.names cells p.sizes; stopped = false; history = [] }
 

@@ -117,7 +117,7 @@ impl Start {
     }
 }
 
-/// The most threads of an image; the setup counts.
+/// The most threads of code; the setup counts.
 pub const MOST_THREADS: usize = 65;
 
 /// The most calls of a thread.
@@ -126,7 +126,7 @@ pub const MOST_CALLS: usize = 1_048_576;
 /// The most arguments of a method, and the most of its further locals.
 pub const MOST_LOCALS: usize = 1_048_576;
 
-/// The parts of an image. Nothing is known of them yet.
+/// The parts of code. Nothing is known of them yet.
 #[derive(Drop)]
 pub struct Parts {
     pub instructions: Vec<Instruction>,
@@ -165,7 +165,7 @@ impl Model for Code {
 impl Code {
     ghost use Rattle.std.specs.Prelude.{IsSome, IfSome};
 
-    /// The image of these parts, or none if a number is too large for a machine.
+    /// The code of these parts, or none if a number is too large for a machine.
     pub fn new(parts: Parts) -> Option<Code>
         ensures small { IsSome result ↔ IsSmall parts }
         ensures same { IfSome result (λ c. c ≡ parts) }

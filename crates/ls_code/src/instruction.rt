@@ -18,7 +18,7 @@ pub enum Instruction {
     Sub,
     Mul,
     Div,
-    Rem,
+    Remainder,
     Neg,
     Lt,
     Le,
@@ -93,7 +93,7 @@ impl Instruction {
             Instruction::Sub => 7,
             Instruction::Mul => 8,
             Instruction::Div => 9,
-            Instruction::Rem => 10,
+            Instruction::Remainder => 10,
             Instruction::Neg => 11,
             Instruction::Lt => 12,
             Instruction::Le => 13,
@@ -170,7 +170,7 @@ impl Instruction {
             | Instruction::Sub
             | Instruction::Mul
             | Instruction::Div
-            | Instruction::Rem
+            | Instruction::Remainder
             | Instruction::Neg
             | Instruction::Lt
             | Instruction::Le
@@ -257,7 +257,7 @@ fn table(x: u32) -> [Instruction; 54]
         Instruction::Sub,
         Instruction::Mul,
         Instruction::Div,
-        Instruction::Rem,
+        Instruction::Remainder,
         Instruction::Neg,
         Instruction::Lt,
         Instruction::Le,

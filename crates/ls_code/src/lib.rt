@@ -1,4 +1,4 @@
-//! The machine's code and its meaning: instructions and their words, images, threads, cells, runs, and threads that
+//! The machine's code and its meaning: instructions and their words, codes, threads, cells, runs, and threads that
 //! are fed their answers.
 #![tactic(auto)]
 

@@ -32,7 +32,7 @@ fn binary_instruction(op: BinaryOperator) -> Instruction
         BinaryOperator::Subtract => Instruction::Sub,
         BinaryOperator::Multiply => Instruction::Mul,
         BinaryOperator::Divide => Instruction::Div,
-        BinaryOperator::Remainder => Instruction::Rem,
+        BinaryOperator::Remainder => Instruction::Remainder,
         BinaryOperator::Less => Instruction::Lt,
         BinaryOperator::LessEqual => Instruction::Le,
         BinaryOperator::Greater => Instruction::Gt,

@@ -10,7 +10,7 @@ use Rattle.ls_code.specs.Moves.{Stuck as FrameStuck, Asks as FrameAsks}
 use Rattle.ls_lowered.specs.LoweredTree.{Expression, Word, Local, Unary, Binary, And, Or, Hold, Keep, After as Afterwards, Field, Item, SetFirst, ReadPair, SetPair, SwapPair, AttemptMark, OnLock, Call, MakeObject, MakeLock, MakeMarkable, MakeArray, Expressions, End, More}
 use Rattle.ls_lowered.specs.Words.{int_of, bool_of}
 use Rattle.ls_lowered.specs.Course.{Answers, Course, Ends, Outcome, Results, Throws, and_then, ask, perform, unless_null, returned}
-use Rattle.ls_lowered.specs.Expressions.{unary_word, operate, operate_lock, make_array, find, find_all}
+use Rattle.ls_lowered.specs.Expressions.{unary_word, operate, operate_lock, make_array, evaluate, evaluate_all}
 use Rattle.ls_locks.specs.LockCode.{lock_code, lock_size}
 use Rattle.ls_emit_laws.specs.Expressions.{unary_code, binary_code, size, all_size, code, all_code}
 use Rattle.ls_emit_laws.specs.Emittable.{count}
@@ -57,10 +57,10 @@ module _ (s : Setting) (enter : EnterRuns s) where
         let back = behind s a p _ has in
         let back2 = has_after s.code.instructions (c + 1) (size b) (code (c + 1) b) _ (size_is b (c + 1)) back.1 in
         let has_push = has_at s.code.instructions (c + 1 + size b + 1) to (op.Push 0 ∷ []) (omega arith) back2.1 in
-        first_run s a p _ (λ x ls q. if nat_eq x 0 then Ends (Results 0) ls q else find s.calls b ls q) ls stack q go h (runs a p) has fits.0 (omega arith) (omega arith) el (narrow s p (p + (size a + size b + 3)) p c q q h (omega arith) (omega arith) (omega arith) catches)
+        first_run s a p _ (λ x ls q. if nat_eq x 0 then Ends (Results 0) ls q else evaluate s.calls b ls q) ls stack q go h (runs a p) has fits.0 (omega arith) (omega arith) el (narrow s p (p + (size a + size b + 3)) p c q q h (omega arith) (omega arith) (omega arith) catches)
         (λ x ls1 q1 e1 l1.
         let takes1 = fewer s (p + (size a + size b + 3)) over stack q q1 go (omega arith) l1 takes in
-        branch_run s (λ y. out y go h) (Ends (Results 0) ls1 q1) (find s.calls b ls1 q1) c to x ls1 stack q1 back.0 (omega arith)
+        branch_run s (λ y. out y go h) (Ends (Results 0) ls1 q1) (evaluate s.calls b ls1 q1) c to x ls1 stack q1 back.0 (omega arith)
         (later s to (c + 1) (Some (here s to ls1 stack)) q1 (go 0 ls1 q1) (omega arith) (push_run s to 0 ls1 stack q1 (go 0 ls1 q1) has_push.0 (omega (arith, one_need a)) (omega arith) (fewer s over (to + 1) stack q1 q1 go (omega arith) (omega arith) takes1 0 ls1 q1 e1 (omega arith))))
         (runs b (c + 1) ls1 stack q1 go h (has_front s.code.instructions (c + 1) (code (c + 1) b) _ back.1) fits.1 (omega arith) (omega arith) e1
         (λ w ls2 q2 e2 l2. jump_run s (c + 1 + size b) over ls2 (w ∷ stack) q2 (go w ls2 q2) back2.0 (omega arith) (later s over (c + 1 + size b + 1) (Some (here s over ls2 (w ∷ stack))) q2 (go w ls2 q2) (omega arith) (takes1 w ls2 q2 e2 l2)))
@@ -71,11 +71,11 @@ module _ (s : Setting) (enter : EnterRuns s) where
         let over = p + size a + size b + 3 in
         let back = behind s a p _ has in
         let has_b = has_at s.code.instructions (c + 1 + 1 + 1) to (code to b) (omega arith) back.1.1.1 in
-        first_run s a p _ (λ x ls q. if nat_eq x 0 then find s.calls b ls q else Ends (Results 1) ls q) ls stack q go h (runs a p) has fits.0 (omega arith) (omega arith) el (narrow s p (p + (size a + size b + 3)) p c q q h (omega arith) (omega arith) (omega arith) catches)
+        first_run s a p _ (λ x ls q. if nat_eq x 0 then evaluate s.calls b ls q else Ends (Results 1) ls q) ls stack q go h (runs a p) has fits.0 (omega arith) (omega arith) el (narrow s p (p + (size a + size b + 3)) p c q q h (omega arith) (omega arith) (omega arith) catches)
         (λ x ls1 q1 e1 l1.
         let takes1 = fewer s (p + (size a + size b + 3)) over stack q q1 go (omega arith) l1 takes in
-        branch_run s (λ y. out y go h) (find s.calls b ls1 q1) (Ends (Results 1) ls1 q1) c to x ls1 stack q1 back.0 (omega arith)
-        (later s to (c + 1) (Some (here s to ls1 stack)) q1 (out (find s.calls b ls1 q1) go h) (omega arith)
+        branch_run s (λ y. out y go h) (evaluate s.calls b ls1 q1) (Ends (Results 1) ls1 q1) c to x ls1 stack q1 back.0 (omega arith)
+        (later s to (c + 1) (Some (here s to ls1 stack)) q1 (out (evaluate s.calls b ls1 q1) go h) (omega arith)
         (runs b to ls1 stack q1 go h has_b fits.1 (omega arith) (omega arith) e1 (fewer s over (to + size b) stack q1 q1 go (omega arith) (omega arith) takes1)
         (narrow s p (p + (size a + size b + 3)) to (to + size b) q q1 h (omega arith) (omega arith) l1 catches)))
         (push_run s (c + 1) 1 ls1 stack q1 (go 1 ls1 q1) back.1.0 (omega (arith, one_need a)) (omega arith)
@@ -89,14 +89,14 @@ module _ (s : Setting) (enter : EnterRuns s) where
     runs (Keep n a b) p ls stack q go h has fits room le el takes catches =
         let c = p + size a in
         let back = behind s a p _ has in
-        first_run s a p _ (λ x ls q. find s.calls b (slice_set ls n x) q) ls stack q go h (runs a p) has fits.0 (omega arith) (omega arith) el (narrow s p (p + (size a + size b + 1)) p c q q h (omega arith) (omega arith) (omega arith) catches)
+        first_run s a p _ (λ x ls q. evaluate s.calls b (slice_set ls n x) q) ls stack q go h (runs a p) has fits.0 (omega arith) (omega arith) el (narrow s p (p + (size a + size b + 1)) p c q q h (omega arith) (omega arith) (omega arith) catches)
         (λ x ls1 q1 e1 l1. store_run s c n x ls1 stack q1 _ back.0 fits.1 e1 (omega arith)
         (λ e2. runs b (c + 1) (slice_set ls1 n x) stack q1 go h back.1 fits.2 (omega arith) (omega arith) e2 (fewer s (p + (size a + size b + 1)) (c + 1 + size b) stack q q1 go (omega arith) l1 takes)
         (narrow s p (p + (size a + size b + 1)) (c + 1) (c + 1 + size b) q q1 h (omega arith) (omega arith) l1 catches)))
     runs (Afterwards a b) p ls stack q go h has fits room le el takes catches =
         let c = p + size a in
         let back = behind s a p _ has in
-        first_run s a p _ (λ x ls q. find s.calls b ls q) ls stack q go h (runs a p) has fits.0 (omega arith) (omega arith) el (narrow s p (p + (size a + size b + 1)) p c q q h (omega arith) (omega arith) (omega arith) catches)
+        first_run s a p _ (λ x ls q. evaluate s.calls b ls q) ls stack q go h (runs a p) has fits.0 (omega arith) (omega arith) el (narrow s p (p + (size a + size b + 1)) p c q q h (omega arith) (omega arith) (omega arith) catches)
         (λ x ls1 q1 e1 l1. pop_run s c x ls1 stack q1 _ back.0 (omega arith)
         (runs b (c + 1) ls1 stack q1 go h back.1 fits.1 (omega arith) (omega arith) e1 (fewer s (p + (size a + size b + 1)) (c + 1 + size b) stack q q1 go (omega arith) l1 takes)
         (narrow s p (p + (size a + size b + 1)) (c + 1) (c + 1 + size b) q q1 h (omega arith) (omega arith) l1 catches)))
@@ -115,7 +115,7 @@ module _ (s : Setting) (enter : EnterRuns s) where
         let d = c + 1 + size e in
         let back = behind s a p _ has in
         let back2 = behind s e (c + 1) (op.PutItem ∷ op.Push 0 ∷ []) back.1 in
-        first_run s a p _ (λ x ls q. and_then (find s.calls e ls q) (λ y ls q. unless_null x ls q (perform (act.WriteItem x (pos 0) y) ls q))) ls stack q go h (runs a p) has fits.0 (omega arith) (omega arith) el (narrow s p (p + (size a + size e + 3)) p c q q h (omega arith) (omega arith) (omega arith) catches)
+        first_run s a p _ (λ x ls q. and_then (evaluate s.calls e ls q) (λ y ls q. unless_null x ls q (perform (act.WriteItem x (pos 0) y) ls q))) ls stack q go h (runs a p) has fits.0 (omega arith) (omega arith) el (narrow s p (p + (size a + size e + 3)) p c q q h (omega arith) (omega arith) (omega arith) catches)
         (λ x ls1 q1 e1 l1. push_run s c 0 ls1 (x ∷ stack) q1 _ back.0 (omega (arith, one_need e)) (omega arith)
         (first_run s e (c + 1) _ (λ y ls q. unless_null x ls q (perform (act.WriteItem x (pos 0) y) ls q)) ls1 (0 ∷ x ∷ stack) q1 go h (runs e (c + 1)) back.1 fits.1 (omega arith) (omega arith) e1 (narrow s p (p + (size a + size e + 3)) (c + 1) d q q1 h (omega arith) (omega arith) l1 catches)
         (λ y ls2 q2 e2 l2. object_performs s (act.WriteItem x (pos 0) y) (then.Discard 3) d op.PutItem x ls2 (y ∷ 0 ∷ x ∷ stack) stack q2 go h back2.0 back2.1.0 refl (λ w. refl) (omega arith) (omega (arith, one_need a)) e2 (fewer s (p + (size a + size e + 3)) (d + 1 + 1) stack q q2 go (omega arith) (omega arith) takes) (narrow s p (p + (size a + size e + 3)) d (d + 1) q q2 h (omega arith) (omega arith) (omega arith) catches))))
@@ -133,14 +133,14 @@ module _ (s : Setting) (enter : EnterRuns s) where
         let has = has_three s.code.instructions p (code p e) (code (p + size e) a) (code (p + size e + size a) b) (op.SwapPair ∷ []) has0 in
         let c = p + size e + size a + size b in
         let back = behind s e p _ has in
-        first_run s e p _ (λ x ls q. and_then (find s.calls a ls q) (λ y ls q. and_then (find s.calls b ls q) (λ z ls q. unless_null x ls q (ask (act.SwapPair x y z) ls q)))) ls stack q go h (runs e p) has fits.0 (omega arith) (omega arith) el (narrow s p (p + (size e + size a + size b + 1)) p (p + size e) q q h (omega arith) (omega arith) (omega arith) catches)
+        first_run s e p _ (λ x ls q. and_then (evaluate s.calls a ls q) (λ y ls q. and_then (evaluate s.calls b ls q) (λ z ls q. unless_null x ls q (ask (act.SwapPair x y z) ls q)))) ls stack q go h (runs e p) has fits.0 (omega arith) (omega arith) el (narrow s p (p + (size e + size a + size b + 1)) p (p + size e) q q h (omega arith) (omega arith) (omega arith) catches)
         (λ x ls0 q0 e0 l0. two_run s a b (p + size e) (op.SwapPair ∷ []) (λ y z ls q. unless_null x ls q (ask (act.SwapPair x y z) ls q)) ls0 (x ∷ stack) q0 go h (runs a (p + size e)) (runs b (p + size e + size a)) back fits.1 fits.2 (omega arith) (omega arith) e0 (narrow s p (p + (size e + size a + size b + 1)) (p + size e) c q q0 h (omega arith) (omega arith) l0 catches)
         (λ y z ls1 q1 e1 l1. object_run s (act.SwapPair x y z) (then.Settle 3) c op.SwapPair x ls1 (z ∷ y ∷ x ∷ stack) stack q1 go h (behind_two s a b (p + size e) (op.SwapPair ∷ []) back).0 refl (λ w. refl) (omega arith) e1 (fewer s (p + (size e + size a + size b + 1)) (c + 1) stack q q1 go (omega arith) (omega arith) takes) (narrow s p (p + (size e + size a + size b + 1)) c (c + 1) q q1 h (omega arith) (omega arith) (omega arith) catches)))
     runs (AttemptMark e a b) p ls stack q go h has0 fits room le el takes catches =
         let has = has_three s.code.instructions p (code p e) (code (p + size e) a) (code (p + size e + size a) b) (op.AttemptMark ∷ []) has0 in
         let c = p + size e + size a + size b in
         let back = behind s e p _ has in
-        first_run s e p _ (λ x ls q. and_then (find s.calls a ls q) (λ y ls q. and_then (find s.calls b ls q) (λ z ls q. unless_null x ls q (ask (act.AttemptMark x y (bool_of z)) ls q)))) ls stack q go h (runs e p) has fits.0 (omega arith) (omega arith) el (narrow s p (p + (size e + size a + size b + 1)) p (p + size e) q q h (omega arith) (omega arith) (omega arith) catches)
+        first_run s e p _ (λ x ls q. and_then (evaluate s.calls a ls q) (λ y ls q. and_then (evaluate s.calls b ls q) (λ z ls q. unless_null x ls q (ask (act.AttemptMark x y (bool_of z)) ls q)))) ls stack q go h (runs e p) has fits.0 (omega arith) (omega arith) el (narrow s p (p + (size e + size a + size b + 1)) p (p + size e) q q h (omega arith) (omega arith) (omega arith) catches)
         (λ x ls0 q0 e0 l0. two_run s a b (p + size e) (op.AttemptMark ∷ []) (λ y z ls q. unless_null x ls q (ask (act.AttemptMark x y (bool_of z)) ls q)) ls0 (x ∷ stack) q0 go h (runs a (p + size e)) (runs b (p + size e + size a)) back fits.1 fits.2 (omega arith) (omega arith) e0 (narrow s p (p + (size e + size a + size b + 1)) (p + size e) c q q0 h (omega arith) (omega arith) l0 catches)
         (λ y z ls1 q1 e1 l1. object_run s (act.AttemptMark x y (bool_of z)) (then.Settle 3) c op.AttemptMark x ls1 (z ∷ y ∷ x ∷ stack) stack q1 go h (behind_two s a b (p + size e) (op.AttemptMark ∷ []) back).0 refl (λ w. refl) (omega arith) e1 (fewer s (p + (size e + size a + size b + 1)) (c + 1) stack q q1 go (omega arith) (omega arith) takes) (narrow s p (p + (size e + size a + size b + 1)) c (c + 1) q q1 h (omega arith) (omega arith) (omega arith) catches)))
     runs (OnLock o e) p ls stack q go h has fits room le el takes catches =
@@ -155,8 +155,8 @@ module _ (s : Setting) (enter : EnterRuns s) where
         let back = behind s e p (all_code d es ++ op.Enter m ∷ []) has in
         let at_enter = has_after s.code.instructions d (all_size es) (all_code d es) (op.Enter m ∷ []) (all_size_is es d) back in
         let calls = λ (x : ℕ) (ws ls : List ℕ) (q : Answers). unless_null x ls q (returned ls (s.calls m (x ∷ ws) q)) in
-        first_run s e p (all_code d es ++ op.Enter m ∷ []) (λ x ls q. and_then (find_all s.calls es ls q) (calls x)) ls stack q go h (runs e p) has fits.1 (omega arith) (omega arith) el (narrow s p whole p d q q h (omega arith) (omega arith) (omega arith) catches)
-        (λ x ls1 q1 e1 l1. renamed s d ls1 (x ∷ stack) q1 _ _ (sym (out_then (find_all s.calls es ls1 q1) (calls x) go h))
+        first_run s e p (all_code d es ++ op.Enter m ∷ []) (λ x ls q. and_then (evaluate_all s.calls es ls q) (calls x)) ls stack q go h (runs e p) has fits.1 (omega arith) (omega arith) el (narrow s p whole p d q q h (omega arith) (omega arith) (omega arith) catches)
+        (λ x ls1 q1 e1 l1. renamed s d ls1 (x ∷ stack) q1 _ _ (sym (out_then (evaluate_all s.calls es ls1 q1) (calls x) go h))
         (all_run es d ls1 (x ∷ stack) q1 (λ ws ls q. out (calls x ws ls q) go h) h (has_front s.code.instructions d (all_code d es) (op.Enter m ∷ []) back) fits.2 (omega arith) (omega arith) e1
         (λ ws ls2 q2 ew e2 l2. enters c m x ws ls2 stack q2 go h (takes_all (slice_get s.file m) x ws (count es) fits.0.1 ew) (omega arith) at_enter.0 (omega (arith, one_need e)) e2 (fewer s whole (c + 1) stack q q2 go (omega arith) (omega arith) takes) (narrow s p whole c (c + 1) q q2 h (omega arith) (omega arith) (omega arith) catches))
         (narrow s p whole d c q q1 h (omega arith) (omega arith) l1 catches)))
@@ -168,12 +168,12 @@ module _ (s : Setting) (enter : EnterRuns s) where
         let at_enter = has_after s.code.instructions d (all_size es) (all_code d es) (op.Enter m ∷ op.Pop ∷ []) (all_size_is es d) back in
         let made = λ (x : ℕ) (ls : List ℕ) (q : Answers). go x ls q in
         let calls = λ (x : ℕ) (ws ls : List ℕ) (q : Answers). unless_null x ls q (and_then (returned ls (s.calls m (x ∷ ws) q)) (λ w ls q. Ends (Results x) ls q)) in
-        renamed s p ls stack q _ _ (sym (out_then (ask (act.New class) ls q) (λ x ls q. and_then (find_all s.calls es ls q) (calls x)) go h))
-        (acts_on s (act.New class) then.Push (λ x. x ∷ stack) p (op.NewObject class) ls stack q (λ x ls q. out (and_then (find_all s.calls es ls q) (calls x)) go h) h has.0
+        renamed s p ls stack q _ _ (sym (out_then (ask (act.New class) ls q) (λ x ls q. and_then (evaluate_all s.calls es ls q) (calls x)) go h))
+        (acts_on s (act.New class) then.Push (λ x. x ∷ stack) p (op.NewObject class) ls stack q (λ x ls q. out (and_then (evaluate_all s.calls es ls q) (calls x)) go h) h has.0
         (ap (λ b. if b then FrameAsks (act.New class) then.Push else FrameStuck) (lt-ltb (length stack) s.base.top.need (omega arith))) (λ w. refl) el
         (λ x q1 l1. dup_run s (p + 1) x ls stack q1 _ has.1.0 (omega arith) (omega arith)
         (at_place s d (p + 1 + 1) ls (x ∷ x ∷ stack) q1 _ (omega arith)
-        (renamed s d ls (x ∷ x ∷ stack) q1 _ _ (sym (out_then (find_all s.calls es ls q1) (calls x) go h))
+        (renamed s d ls (x ∷ x ∷ stack) q1 _ _ (sym (out_then (evaluate_all s.calls es ls q1) (calls x) go h))
         (all_run es d ls (x ∷ x ∷ stack) q1 (λ ws ls q. out (calls x ws ls q) go h) h (has_front s.code.instructions d (all_code d es) (op.Enter m ∷ op.Pop ∷ []) back) fits.2 (omega arith) (omega arith) el
         (λ ws ls2 q2 ew e2 l2. renamed s c ls2 (reverse ws ++ (x ∷ x ∷ stack)) q2 _ _ (sym (null_then (nat_eq x 0) ls2 q2 (returned ls2 (s.calls m (x ∷ ws) q2)) (λ w ls q. Ends (Results x) ls q) go h))
         (enters c m x ws ls2 (x ∷ stack) q2 (λ w ls q. go x ls q) h (takes_all (slice_get s.file m) x ws (count es) fits.1.1 ew) (omega arith) at_enter.0 (omega arith) e2
@@ -201,8 +201,8 @@ module _ (s : Setting) (enter : EnterRuns s) where
         let d = p + size e in
         let c = p + size e + all_size es in
         let whole = p + (size e + all_size es) in
-        first_run s e p (all_code d es) (λ w ls q. and_then (find_all s.calls es ls q) (λ ws ls q. Ends (Results (w ∷ ws)) ls q)) ls stack q go h (runs e p) has fits.0 (omega arith) (omega arith) el (narrow s p whole p d q q h (omega arith) (omega arith) (omega arith) catches)
-        (λ w ls1 q1 e1 l1. renamed s d ls1 (w ∷ stack) q1 _ _ (sym (out_then (find_all s.calls es ls1 q1) (λ ws ls q. Ends (Results (w ∷ ws)) ls q) go h))
+        first_run s e p (all_code d es) (λ w ls q. and_then (evaluate_all s.calls es ls q) (λ ws ls q. Ends (Results (w ∷ ws)) ls q)) ls stack q go h (runs e p) has fits.0 (omega arith) (omega arith) el (narrow s p whole p d q q h (omega arith) (omega arith) (omega arith) catches)
+        (λ w ls1 q1 e1 l1. renamed s d ls1 (w ∷ stack) q1 _ _ (sym (out_then (evaluate_all s.calls es ls1 q1) (λ ws ls q. Ends (Results (w ∷ ws)) ls q) go h))
         (all_run es d ls1 (w ∷ stack) q1 (λ ws ls q. go (w ∷ ws) ls q) h (behind s e p (all_code d es) has) fits.1 (omega arith) (omega arith) e1
         (λ ws ls2 q2 ew e2 l2.
         subst (λ l. Reaches s c (Some (here s c ls2 l)) q2 (go (w ∷ ws) ls2 q2)) (sym (reversed w ws stack))

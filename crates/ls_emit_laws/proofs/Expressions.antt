@@ -14,7 +14,7 @@ use Rattle.ls_lowered.specs.declared.tree.LockOperation.TheVariants.{Lock, Unloc
 use Rattle.ls_lowered.specs.LoweredTree.{Expression, Word, Local, Unary, Binary, And, Or, Hold, Keep, After as Afterwards, Field, Item, SetFirst, ReadPair, SetPair, SwapPair, AttemptMark, OnLock, Call, MakeObject, MakeLock, MakeMarkable, MakeArray, Expressions}
 use Rattle.ls_lowered.specs.Words.{int_of}
 use Rattle.ls_lowered.specs.Course.{Answers, Course, Outcome, Ends, Throws, and_then, ask, perform, unless_null, returned}
-use Rattle.ls_lowered.specs.Expressions.{operate_lock, make_array, find, find_all}
+use Rattle.ls_lowered.specs.Expressions.{operate_lock, make_array, evaluate, evaluate_all}
 use Rattle.ls_locks.specs.LockCode.{lock_code, lock_size}
 use Rattle.ls_emit_laws.specs.Expressions.{size, all_size, code, all_code}
 use Rattle.ls_emit_laws.specs.Needs.{need, all_need}
@@ -82,22 +82,22 @@ module _ (s : Setting) where
 
   -- what an expression's code at p does
   abbrev pub Runs : Expression → ℕ → Type 0
-  Runs e p = (ls stack : List ℕ) (q : Answers) (go : After ℕ) (h : After Kind) → HasAt s.code.instructions p (code p e) → IsEmittable s.file s.wide e → length stack + need e ≤ s.base.top.need → p + size e ≤ s.budget → length ls ≡ s.wide → Takes s (p + size e) stack q go → Catches s p (p + size e) q h → Reaches s p (Some (here s p ls stack)) q (out (find s.calls e ls q) go h)
+  Runs e p = (ls stack : List ℕ) (q : Answers) (go : After ℕ) (h : After Kind) → HasAt s.code.instructions p (code p e) → IsEmittable s.file s.wide e → length stack + need e ≤ s.base.top.need → p + size e ≤ s.budget → length ls ≡ s.wide → Takes s (p + size e) stack q go → Catches s p (p + size e) q h → Reaches s p (Some (here s p ls stack)) q (out (evaluate s.calls e ls q) go h)
 
   -- what the code of arguments at p does
   abbrev pub AllRun : Expressions → ℕ → Type 0
-  AllRun es p = (ls stack : List ℕ) (q : Answers) (go : After (List ℕ)) (h : After Kind) → HasAt s.code.instructions p (all_code p es) → AreEmittable s.file s.wide es → length stack + all_need es ≤ s.base.top.need → p + all_size es ≤ s.budget → length ls ≡ s.wide → ((ws ls1 : List ℕ) (rest : Answers) → length ws ≡ count es → length ls1 ≡ s.wide → length rest ≤ length q → Reaches s (p + all_size es) (Some (here s (p + all_size es) ls1 (reverse ws ++ stack))) rest (go ws ls1 rest)) → Catches s p (p + all_size es) q h → Reaches s p (Some (here s p ls stack)) q (out (find_all s.calls es ls q) go h)
+  AllRun es p = (ls stack : List ℕ) (q : Answers) (go : After (List ℕ)) (h : After Kind) → HasAt s.code.instructions p (all_code p es) → AreEmittable s.file s.wide es → length stack + all_need es ≤ s.base.top.need → p + all_size es ≤ s.budget → length ls ≡ s.wide → ((ws ls1 : List ℕ) (rest : Answers) → length ws ≡ count es → length ls1 ≡ s.wide → length rest ≤ length q → Reaches s (p + all_size es) (Some (here s (p + all_size es) ls1 (reverse ws ++ stack))) rest (go ws ls1 rest)) → Catches s p (p + all_size es) q h → Reaches s p (Some (here s p ls stack)) q (out (evaluate_all s.calls es ls q) go h)
 
   -- an expression, and what is done with its word
-  pub first_run : {A : Type 0} (e : Expression) (p : ℕ) (is : List Instruction) (f : ℕ → List ℕ → Answers → Course (Outcome A)) (ls stack : List ℕ) (q : Answers) (go : After A) (h : After Kind) → Runs e p → HasAt s.code.instructions p (code p e ++ is) → IsEmittable s.file s.wide e → length stack + need e ≤ s.base.top.need → p + size e ≤ s.budget → length ls ≡ s.wide → Catches s p (p + size e) q h → ((x : ℕ) (ls1 : List ℕ) (rest : Answers) → length ls1 ≡ s.wide → length rest ≤ length q → Reaches s (p + size e) (Some (here s (p + size e) ls1 (x ∷ stack))) rest (out (f x ls1 rest) go h)) → Reaches s p (Some (here s p ls stack)) q (out (and_then (find s.calls e ls q) f) go h)
+  pub first_run : {A : Type 0} (e : Expression) (p : ℕ) (is : List Instruction) (f : ℕ → List ℕ → Answers → Course (Outcome A)) (ls stack : List ℕ) (q : Answers) (go : After A) (h : After Kind) → Runs e p → HasAt s.code.instructions p (code p e ++ is) → IsEmittable s.file s.wide e → length stack + need e ≤ s.base.top.need → p + size e ≤ s.budget → length ls ≡ s.wide → Catches s p (p + size e) q h → ((x : ℕ) (ls1 : List ℕ) (rest : Answers) → length ls1 ≡ s.wide → length rest ≤ length q → Reaches s (p + size e) (Some (here s (p + size e) ls1 (x ∷ stack))) rest (out (f x ls1 rest) go h)) → Reaches s p (Some (here s p ls stack)) q (out (and_then (evaluate s.calls e ls q) f) go h)
   first_run e p is f ls stack q go h runs has fits room le el catches r =
-      renamed s p ls stack q _ _ (sym (out_then (find s.calls e ls q) f go h))
+      renamed s p ls stack q _ _ (sym (out_then (evaluate s.calls e ls q) f go h))
       (runs ls stack q (λ w ls1 q1. out (f w ls1 q1) go h) h (has_front s.code.instructions p (code p e) is has) fits room le el r catches)
 
   -- two expressions
-  pub two_run : {A : Type 0} (a b : Expression) (p : ℕ) (is : List Instruction) (f : ℕ → ℕ → List ℕ → Answers → Course (Outcome A)) (ls stack : List ℕ) (q : Answers) (go : After A) (h : After Kind) → Runs a p → Runs b (p + size a) → HasAt s.code.instructions p (code p a ++ (code (p + size a) b ++ is)) → IsEmittable s.file s.wide a → IsEmittable s.file s.wide b → length stack + max (need a) (1 + need b) ≤ s.base.top.need → p + size a + size b ≤ s.budget → length ls ≡ s.wide → Catches s p (p + size a + size b) q h → ((x y : ℕ) (ls1 : List ℕ) (rest : Answers) → length ls1 ≡ s.wide → length rest ≤ length q → Reaches s (p + size a + size b) (Some (here s (p + size a + size b) ls1 (y ∷ x ∷ stack))) rest (out (f x y ls1 rest) go h)) → Reaches s p (Some (here s p ls stack)) q (out (and_then (find s.calls a ls q) (λ x ls q. and_then (find s.calls b ls q) (f x))) go h)
+  pub two_run : {A : Type 0} (a b : Expression) (p : ℕ) (is : List Instruction) (f : ℕ → ℕ → List ℕ → Answers → Course (Outcome A)) (ls stack : List ℕ) (q : Answers) (go : After A) (h : After Kind) → Runs a p → Runs b (p + size a) → HasAt s.code.instructions p (code p a ++ (code (p + size a) b ++ is)) → IsEmittable s.file s.wide a → IsEmittable s.file s.wide b → length stack + max (need a) (1 + need b) ≤ s.base.top.need → p + size a + size b ≤ s.budget → length ls ≡ s.wide → Catches s p (p + size a + size b) q h → ((x y : ℕ) (ls1 : List ℕ) (rest : Answers) → length ls1 ≡ s.wide → length rest ≤ length q → Reaches s (p + size a + size b) (Some (here s (p + size a + size b) ls1 (y ∷ x ∷ stack))) rest (out (f x y ls1 rest) go h)) → Reaches s p (Some (here s p ls stack)) q (out (and_then (evaluate s.calls a ls q) (λ x ls q. and_then (evaluate s.calls b ls q) (f x))) go h)
   two_run a b p is f ls stack q go h ra rb has fa fb room le el catches r =
-      first_run a p (code (p + size a) b ++ is) (λ x ls q. and_then (find s.calls b ls q) (f x)) ls stack q go h ra has fa (omega arith) (omega arith) el (narrow s p (p + size a + size b) p (p + size a) q q h (omega arith) (omega arith) (omega arith) catches)
+      first_run a p (code (p + size a) b ++ is) (λ x ls q. and_then (evaluate s.calls b ls q) (f x)) ls stack q go h ra has fa (omega arith) (omega arith) el (narrow s p (p + size a + size b) p (p + size a) q q h (omega arith) (omega arith) (omega arith) catches)
       (λ x ls1 q1 e1 l1. first_run b (p + size a) is (f x) ls1 (x ∷ stack) q1 go h rb (has_after s.code.instructions p (size a) (code p a) _ (size_is a p) has) fb (omega arith) (omega arith) e1 (narrow s p (p + size a + size b) (p + size a) (p + size a + size b) q q1 h (omega arith) (omega arith) l1 catches)
       (λ y ls2 q2 e2 l2. r x y ls2 q2 e2 (omega arith)))
 

@@ -122,7 +122,7 @@ module _ (s : Setting) where
   binary_run binary.Subtract c x y ls stack q go h has lt el takes catches = settle_run _ c op.Sub ls (y ∷ x ∷ stack) stack q go has refl lt el takes
   binary_run binary.Multiply c x y ls stack q go h has lt el takes catches = settle_run _ c op.Mul ls (y ∷ x ∷ stack) stack q go has refl lt el takes
   binary_run binary.Divide c x y ls stack q go h has lt el takes catches = divide_run binary.Divide op.Div c x y ls stack q go h has refl lt el takes catches
-  binary_run binary.Remainder c x y ls stack q go h has lt el takes catches = divide_run binary.Remainder op.Rem c x y ls stack q go h has refl lt el takes catches
+  binary_run binary.Remainder c x y ls stack q go h has lt el takes catches = divide_run binary.Remainder op.Remainder c x y ls stack q go h has refl lt el takes catches
   binary_run binary.Less c x y ls stack q go h has lt el takes catches = settle_run _ c op.Lt ls (y ∷ x ∷ stack) stack q go has refl lt el takes
   binary_run binary.LessEqual c x y ls stack q go h has lt el takes catches = settle_run _ c op.Le ls (y ∷ x ∷ stack) stack q go has refl lt el takes
   binary_run binary.Greater c x y ls stack q go h has lt el takes catches = settle_run _ c op.Gt ls (y ∷ x ∷ stack) stack q go has refl lt el takes

@@ -11,7 +11,7 @@ use Rattle.ls_lowered.specs.LoweredTree.{Expression, Statement, Block, SetLocal,
 use Rattle.ls_lowered.specs.Words.{int_of}
 use Rattle.ls_lowered.specs.declared.tree.BinaryOperator.TheVariants as binary
 use Rattle.ls_lowered.specs.Course.{Answers, Course, Asks, Ends, finish, and_then, ask, perform, unless_null}
-use Rattle.ls_lowered.specs.Expressions.{operate, find}
+use Rattle.ls_lowered.specs.Expressions.{operate, evaluate}
 use Rattle.ls_lowered.specs.Statements.{Completion, Normal, Returned, Threw, Left, on_body, turn_back, one_turn, turns, execute, execute_all, leave_to}
 use Rattle.ls_emit_laws.specs.Expressions.{size, code}
 use Rattle.ls_emit_laws.specs.Needs.{statement_need, statements_need}
@@ -53,7 +53,7 @@ module _ (s : Setting) where
 
   module _ (enter : EnterRuns s) where
     -- one turn of a loop, and what follows
-    one_run : (e : Expression) (a : Statement) (p : ℕ) (t : Targets) (again : List ℕ → Answers → Course Completion) (ls : List ℕ) (q : Answers) (g : Go) → Executes a t (p + size e + 1) → HasAt s.code.instructions p (statement_code t p (While e a)) → IsEmittableStatement s.file s.wide (length t) (While e a) → statement_need (While e a) ≤ s.base.top.need → p + statement_size (While e a) ≤ s.budget → Owns s p (p + statement_size (While e a)) (statement_rows (p + size e + 1) a) → length ls ≡ s.wide → Exits s p (p + statement_size (While e a)) (statement_rows (p + size e + 1) a) t q g → Again s p q again g → Reaches s p (Some (here s p ls [])) q (end (one_turn (find s.calls e) (execute s.calls a) again ls q) g)
+    one_run : (e : Expression) (a : Statement) (p : ℕ) (t : Targets) (again : List ℕ → Answers → Course Completion) (ls : List ℕ) (q : Answers) (g : Go) → Executes a t (p + size e + 1) → HasAt s.code.instructions p (statement_code t p (While e a)) → IsEmittableStatement s.file s.wide (length t) (While e a) → statement_need (While e a) ≤ s.base.top.need → p + statement_size (While e a) ≤ s.budget → Owns s p (p + statement_size (While e a)) (statement_rows (p + size e + 1) a) → length ls ≡ s.wide → Exits s p (p + statement_size (While e a)) (statement_rows (p + size e + 1) a) t q g → Again s p q again g → Reaches s p (Some (here s p ls [])) q (end (one_turn (evaluate s.calls e) (execute s.calls a) again ls q) g)
     one_run e a p t again ls q g body has0 fits room le owns el x more =
         let c = p + size e in
         let pb = c + 1 in
@@ -77,12 +77,12 @@ module _ (s : Setting) where
         (λ d m1 m2. owns d (omega arith) (omega arith)) e1
         (record { normal = turns_on; others = others_normal s pb end_b own t q1 g (λ ls q. end (turn_back again ls q) g) others1 }))))
 
-    loop_run : (e : Expression) (a : Statement) (p : ℕ) (t : Targets) → Executes a t (p + size e + 1) → (n : ℕ) (ls : List ℕ) (q : Answers) (g : Go) → length q ≤ n → HasAt s.code.instructions p (statement_code t p (While e a)) → IsEmittableStatement s.file s.wide (length t) (While e a) → statement_need (While e a) ≤ s.base.top.need → p + statement_size (While e a) ≤ s.budget → Owns s p (p + statement_size (While e a)) (statement_rows (p + size e + 1) a) → length ls ≡ s.wide → Exits s p (p + statement_size (While e a)) (statement_rows (p + size e + 1) a) t q g → Reaches s p (Some (here s p ls [])) q (end (turns n (find s.calls e) (execute s.calls a) ls q) g)
+    loop_run : (e : Expression) (a : Statement) (p : ℕ) (t : Targets) → Executes a t (p + size e + 1) → (n : ℕ) (ls : List ℕ) (q : Answers) (g : Go) → length q ≤ n → HasAt s.code.instructions p (statement_code t p (While e a)) → IsEmittableStatement s.file s.wide (length t) (While e a) → statement_need (While e a) ≤ s.base.top.need → p + statement_size (While e a) ≤ s.budget → Owns s p (p + statement_size (While e a)) (statement_rows (p + size e + 1) a) → length ls ≡ s.wide → Exits s p (p + statement_size (While e a)) (statement_rows (p + size e + 1) a) t q g → Reaches s p (Some (here s p ls [])) q (end (turns n (evaluate s.calls e) (execute s.calls a) ls q) g)
     loop_run e a p t body zero ls q g few has fits room le owns el x =
         one_run e a p t (λ ls q. Asks act.Turn) ls q g body has fits room le owns el x (λ ls1 rest e1 l1. absurd (let f : ⊥ = omega arith in f))
     loop_run e a p t body (suc n) ls q g few has fits room le owns el x =
         let p' = p + statement_size (While e a) in
-        one_run e a p t (turns n (find s.calls e) (execute s.calls a)) ls q g body has fits room le owns el x
+        one_run e a p t (turns n (evaluate s.calls e) (execute s.calls a)) ls q g body has fits room le owns el x
         (λ ls1 rest e1 l1. loop_run e a p t body n ls1 rest g (omega arith) has fits room le owns e1 (last p p' p p' _ _ t q rest g (omega arith) refl (omega arith) (λ c l2 l3 free. free) x))
 
     guarded_run : (a : Statement) (n : ℕ) (b : Statement) (p : ℕ) (t : Targets) → Executes a t p → Executes b t (p + statement_size a + 2) → Executes (Guarded a n b) t p
@@ -128,7 +128,7 @@ module _ (s : Setting) where
           let c = p + size e + size a in
           let p' = p + (size e + size a + 1) in
           let has = has_two s.code.instructions p (code p e) (code (p + size e) a) (op.PutField (f + 1) ∷ []) has0 in
-          renamed s p ls [] q _ _ (sym (end_word (and_then (find s.calls e ls q) (λ y ls q. and_then (find s.calls a ls q) (λ z ls q. unless_null y ls q (perform (act.WriteField y (f + 1) z) ls q)))) (λ w ls q. Ends Normal ls q) g))
+          renamed s p ls [] q _ _ (sym (end_word (and_then (evaluate s.calls e ls q) (λ y ls q. and_then (evaluate s.calls a ls q) (λ z ls q. unless_null y ls q (perform (act.WriteField y (f + 1) z) ls q)))) (λ w ls q. Ends Normal ls q) g))
           (two_run s e a p (op.PutField (f + 1) ∷ []) (λ y z ls q. unless_null y ls q (perform (act.WriteField y (f + 1) z) ls q)) ls [] q (λ w ls q. g Normal ls q) (λ kind ls q. g (Threw kind) ls q) (runs s enter e p) (runs s enter a (p + size e)) has fits.1 fits.2 (omega arith) (omega arith) el
           (catches_by s p p' p c [] t q q g (omega arith) (omega arith) (omega arith) (λ d l1 l2. tt) x.others)
           (λ y z ls1 q1 e1 l1. object_does s (act.WriteField y (f + 1) z) (then.Discard 2) c (op.PutField (f + 1)) y ls1 (z ∷ y ∷ []) q1 (λ w ls q. g Normal ls q) (λ kind ls q. g (Threw kind) ls q) (behind_two s e a p (op.PutField (f + 1) ∷ []) has).0 refl (λ w. refl) (omega arith) e1
@@ -147,9 +147,9 @@ module _ (s : Setting) where
           let h = λ (kind : Kind) (ls : List ℕ) (q : Answers). g (Threw kind) ls q in
           let written = λ (x w : ℕ) (ls : List ℕ) (q : Answers). unless_null x ls q (perform (act.WriteField x (f + 1) w) ls q) in
           let summed = λ (x y z : ℕ) (ls : List ℕ) (q : Answers). and_then (operate binary.Add y z ls q) (written x) in
-          let added = λ (x y : ℕ) (ls : List ℕ) (q : Answers). and_then (find s.calls a ls q) (summed x y) in
+          let added = λ (x y : ℕ) (ls : List ℕ) (q : Answers). and_then (evaluate s.calls a ls q) (summed x y) in
           let read = λ (x : ℕ) (ls : List ℕ) (q : Answers). and_then (unless_null x ls q (ask (act.ReadField x (f + 1)) ls q)) (added x) in
-          renamed s p ls [] q _ _ (sym (end_word (and_then (find s.calls e ls q) read) (λ w ls q. Ends Normal ls q) g))
+          renamed s p ls [] q _ _ (sym (end_word (and_then (evaluate s.calls e ls q) read) (λ w ls q. Ends Normal ls q) g))
           (first_run s e p (op.Dup ∷ op.GetField (f + 1) ∷ (code pa a ++ op.Add ∷ op.PutField (f + 1) ∷ [])) read ls [] q go h (runs s enter e p) has fits.1 (omega arith) (omega arith) el
           (catches_by s p p' p c [] t q q g (omega arith) (omega arith) (omega arith) (λ d l1 l2. tt) ex.others)
           (λ x ls1 q1 e1 l1. dup_run s c x ls1 [] q1 _ back.0 (omega arith) (omega arith)
@@ -172,8 +172,8 @@ module _ (s : Setting) where
           let back = behind s a p _ has in
           let go = λ (w : ℕ) (ls : List ℕ) (q : Answers). g Normal ls q in
           let h = λ (kind : Kind) (ls : List ℕ) (q : Answers). g (Threw kind) ls q in
-          renamed s p ls [] q _ _ (sym (end_word (and_then (find s.calls a ls q) (λ y ls q. and_then (find s.calls i ls q) (λ n ls q. and_then (find s.calls e ls q) (λ z ls q. unless_null y ls q (perform (act.WriteItem y (int_of n) z) ls q))))) (λ w ls q. Ends Normal ls q) g))
-          (first_run s a p _ (λ y ls q. and_then (find s.calls i ls q) (λ n ls q. and_then (find s.calls e ls q) (λ z ls q. unless_null y ls q (perform (act.WriteItem y (int_of n) z) ls q)))) ls [] q go h (runs s enter a p) has fits.0 (omega arith) (omega arith) el
+          renamed s p ls [] q _ _ (sym (end_word (and_then (evaluate s.calls a ls q) (λ y ls q. and_then (evaluate s.calls i ls q) (λ n ls q. and_then (evaluate s.calls e ls q) (λ z ls q. unless_null y ls q (perform (act.WriteItem y (int_of n) z) ls q))))) (λ w ls q. Ends Normal ls q) g))
+          (first_run s a p _ (λ y ls q. and_then (evaluate s.calls i ls q) (λ n ls q. and_then (evaluate s.calls e ls q) (λ z ls q. unless_null y ls q (perform (act.WriteItem y (int_of n) z) ls q)))) ls [] q go h (runs s enter a p) has fits.0 (omega arith) (omega arith) el
           (catches_by s p p' p (p + size a) [] t q q g (omega arith) (omega arith) (omega arith) (λ d l1 l2. tt) x.others)
           (λ y ls0 q0 e0 l0. two_run s i e (p + size a) (op.PutItem ∷ []) (λ n z ls q. unless_null y ls q (perform (act.WriteItem y (int_of n) z) ls q)) ls0 (y ∷ []) q0 go h (runs s enter i (p + size a)) (runs s enter e (p + size a + size i)) back fits.1 fits.2 (omega arith) (omega arith) e0
           (catches_by s p p' (p + size a) c [] t q q0 g (omega arith) (omega arith) l0 (λ d l1 l2. tt) x.others)

@@ -19,7 +19,7 @@ use Rattle.ls_code.specs.Reading.{carry, begins_early, read_move, quiet, resume}
 use Rattle.ls_lowered.specs.LoweredTree.{Expression}
 use Rattle.ls_lowered.specs.Words.{kind_of}
 use Rattle.ls_lowered.specs.Course.{Answers, Course, Ends, Results, finish, ask, perform, unless_null}
-use Rattle.ls_lowered.specs.Expressions.{find}
+use Rattle.ls_lowered.specs.Expressions.{evaluate}
 use Rattle.ls_lowered.specs.Statements.{Completion, Threw, on_word, turn_back, throw}
 use Rattle.ls_emit_laws.specs.Expressions.{size, code}
 use Rattle.ls_emit_laws.specs.Needs.{need}
@@ -43,9 +43,9 @@ end_turn again ls (Fails kind ∷ q) g = refl
 
 module _ (s : Setting) where
   -- an expression alone on the operands, and what is done with its word
-  pub word_run : (enter : EnterRuns s) (e : Expression) (p : ℕ) (is : List Instruction) (f : ℕ → List ℕ → Answers → Course Completion) (ls : List ℕ) (q : Answers) (p' : ℕ) (own : List HandlerRow) (t : Targets) (g : Go) → HasAt s.code.instructions p (code p e ++ is) → IsEmittable s.file s.wide e → need e ≤ s.base.top.need → p + size e ≤ s.budget → p + size e ≤ p' → ((c : ℕ) → p ≤ c → c < p + size e → NoRow c own) → length ls ≡ s.wide → Others s p p' own t q g → ((w : ℕ) (ls1 : List ℕ) (rest : Answers) → length ls1 ≡ s.wide → length rest ≤ length q → Reaches s (p + size e) (Some (here s (p + size e) ls1 (w ∷ []))) rest (end (f w ls1 rest) g)) → Reaches s p (Some (here s p ls [])) q (end (finish (find s.calls e ls q) (on_word f)) g)
+  pub word_run : (enter : EnterRuns s) (e : Expression) (p : ℕ) (is : List Instruction) (f : ℕ → List ℕ → Answers → Course Completion) (ls : List ℕ) (q : Answers) (p' : ℕ) (own : List HandlerRow) (t : Targets) (g : Go) → HasAt s.code.instructions p (code p e ++ is) → IsEmittable s.file s.wide e → need e ≤ s.base.top.need → p + size e ≤ s.budget → p + size e ≤ p' → ((c : ℕ) → p ≤ c → c < p + size e → NoRow c own) → length ls ≡ s.wide → Others s p p' own t q g → ((w : ℕ) (ls1 : List ℕ) (rest : Answers) → length ls1 ≡ s.wide → length rest ≤ length q → Reaches s (p + size e) (Some (here s (p + size e) ls1 (w ∷ []))) rest (end (f w ls1 rest) g)) → Reaches s p (Some (here s p ls [])) q (end (finish (evaluate s.calls e ls q) (on_word f)) g)
   word_run enter e p is f ls q p' own t g has fits room le lq free el x r =
-      renamed s p ls [] q _ _ (sym (end_word (find s.calls e ls q) f g))
+      renamed s p ls [] q _ _ (sym (end_word (evaluate s.calls e ls q) f g))
       (runs s enter e p ls [] q (λ w ls q. end (f w ls q) g) (λ kind ls q. g (Threw kind) ls q) (has_front s.code.instructions p (code p e) is has) fits (omega arith) le el r
       (catches_by s p p' p (p + size e) own t q q g (omega arith) lq (omega arith) free x))
 

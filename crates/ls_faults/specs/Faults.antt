@@ -37,8 +37,8 @@ use Rattle.ls_live.specs.declared.fault.LiveFault.TheVariants as opening
 use Rattle.ls_live.specs.declared.fault.PlayFault.{PlayFault as LiveFault}
 use Rattle.ls_live.specs.declared.fault.PlayFault.TheVariants as live
 use Rattle.ls_following.specs.declared.fault.FollowFault.TheVariants as follow
-use Rattle.ls_following.specs.declared.fault.PlayFault.{PlayFault as TurnsFault}
-use Rattle.ls_following.specs.declared.fault.PlayFault.TheVariants as turns
+use Rattle.ls_following.specs.declared.fault.TapeFault.{TapeFault as TurnsFault}
+use Rattle.ls_following.specs.declared.fault.TapeFault.TheVariants as turns
 use Rattle.ls_batch.specs.declared.fault.BatchFault.{BatchFault}
 use Rattle.ls_batch.specs.declared.fault.BatchFault.TheVariants as batch
 use Rattle.ls_explore_images.specs.declared.fault.ExploreFault.{ExploreFault}

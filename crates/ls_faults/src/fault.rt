@@ -9,7 +9,7 @@ use ls_batch::BatchFault;
 use ls_compiler::fault::CompileFault;
 use ls_emit::fault::EmitFault;
 use ls_explore_images::ExploreFault;
-use ls_following::{FollowFault, PlayFault as TurnsPlayFault};
+use ls_following::{FollowFault, TapeFault as TurnsPlayFault};
 use ls_lexer::fault::TextFault;
 use ls_linker::fault::{BuildFault, LinkFault};
 use ls_live::{LiveFault, PlayFault as LivePlayFault};

@@ -8,7 +8,7 @@ use ls_aim::fault::AimFault;
 use ls_batch::BatchFault;
 use ls_emit::fault::EmitFault;
 use ls_explore_images::ExploreFault;
-use ls_following::{FollowFault, PlayFault as TurnsPlayFault};
+use ls_following::{FollowFault, TapeFault as TurnsPlayFault};
 use ls_lexer::fault::TextFault;
 use ls_lexer::token::Span;
 use ls_linker::fault::{BuildFault, LinkFault};

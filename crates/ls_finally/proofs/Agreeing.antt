@@ -14,7 +14,7 @@ use Rattle.ls_lowered.specs.declared.tree.LockOperation.{LockOperation}
 use Rattle.ls_lowered.specs.declared.tree.LockOperation.TheVariants as lock
 use Rattle.ls_lowered.specs.Words.{int_of, bool_of}
 use Rattle.ls_lowered.specs.Course.{Answers, Course, Asks, Ends, Stuck, Outcome, Results, Throws, Calls, Told, Asked, Gave, Raised, Lost, finish, on_result, and_then, ask, perform, unless_null, returned}
-use Rattle.ls_lowered.specs.Expressions.{find, find_all, unary_word, binary_word, flag_word, divided, operate, operate_lock, make_array}
+use Rattle.ls_lowered.specs.Expressions.{evaluate, evaluate_all, unary_word, binary_word, flag_word, divided, operate, operate_lock, make_array}
 use Rattle.ls_lowered.specs.Statements.{Completion}
 use Rattle.ls_finally.specs.Agreement.{Agree, IsBelow, AreBelow}
 
@@ -152,30 +152,30 @@ array_alike k n = if_alike k (int_lt (int_of n) (pos 0)) (λ ls q. Ends (Throws 
 module _ (calls : Calls) (k : ℕ) where
   mutual
     -- each expression on locals below k goes on alike
-    pub found_alike : (e : Expression) → IsBelow k e → Alike k (λ ls q. find calls e ls q)
+    pub found_alike : (e : Expression) → IsBelow k e → Alike k (λ ls q. evaluate calls e ls q)
     found_alike (Word w) t = ends_alike k (Results w)
     found_alike (Local n) t = local_alike k n t
-    found_alike (Unary o e) t = then_alike k (find calls e) (λ x ls q. Ends (Results (unary_word o x)) ls q) (found_alike e t) (λ x. ends_alike k (Results (unary_word o x)))
-    found_alike (Binary o a b) t = then_alike k (find calls a) _ (found_alike a t.0) (λ x. then_alike k (find calls b) _ (found_alike b t.1) (λ y. operate_alike k o x y))
-    found_alike (And a b) t = then_alike k (find calls a) _ (found_alike a t.0) (λ x. if_alike k (nat_eq x 0) (λ ls q. Ends (Results 0) ls q) (find calls b) (ends_alike k (Results 0)) (found_alike b t.1))
-    found_alike (Or a b) t = then_alike k (find calls a) _ (found_alike a t.0) (λ x. if_alike k (nat_eq x 0) (find calls b) (λ ls q. Ends (Results 1) ls q) (found_alike b t.1) (ends_alike k (Results 1)))
-    found_alike (Hold a n b) t = then_alike k (find calls a) _ (found_alike a t.1) (λ x. then_alike k (find calls b) _ (found_alike b t.2) (λ y. set_alike k n y (λ ls q. Ends (Results x) ls q) t.0 (ends_alike k (Results x))))
-    found_alike (Keep n a b) t = then_alike k (find calls a) _ (found_alike a t.1) (λ x. set_alike k n x (find calls b) t.0 (found_alike b t.2))
-    found_alike (After a b) t = then_alike k (find calls a) _ (found_alike a t.0) (λ x. found_alike b t.1)
-    found_alike (Field e f) t = then_alike k (find calls e) _ (found_alike e t) (λ x. null_alike k x (λ ls q. ask (act.ReadField x (f + 1)) ls q) (ask_alike k (act.ReadField x (f + 1))))
-    found_alike (Item a i) t = then_alike k (find calls a) _ (found_alike a t.0) (λ x. then_alike k (find calls i) _ (found_alike i t.1) (λ n. null_alike k x (λ ls q. ask (act.ReadItem x (int_of n)) ls q) (ask_alike k (act.ReadItem x (int_of n)))))
-    found_alike (SetFirst a e) t = then_alike k (find calls a) _ (found_alike a t.0) (λ x. then_alike k (find calls e) _ (found_alike e t.1) (λ y. null_alike k x (λ ls q. perform (act.WriteItem x (pos 0) y) ls q) (perform_alike k (act.WriteItem x (pos 0) y))))
-    found_alike (ReadPair e) t = then_alike k (find calls e) _ (found_alike e t) (λ x. null_alike k x (λ ls q. ask (act.ReadPair x) ls q) (ask_alike k (act.ReadPair x)))
-    found_alike (SetPair e a) t = then_alike k (find calls e) _ (found_alike e t.0) (λ x. then_alike k (find calls a) _ (found_alike a t.1) (λ y. null_alike k x (λ ls q. perform (act.SetPair x y) ls q) (perform_alike k (act.SetPair x y))))
-    found_alike (SwapPair e a b) t = then_alike k (find calls e) _ (found_alike e t.0) (λ x. then_alike k (find calls a) _ (found_alike a t.1) (λ y. then_alike k (find calls b) _ (found_alike b t.2) (λ z. null_alike k x (λ ls q. ask (act.SwapPair x y z) ls q) (ask_alike k (act.SwapPair x y z)))))
-    found_alike (AttemptMark e a b) t = then_alike k (find calls e) _ (found_alike e t.0) (λ x. then_alike k (find calls a) _ (found_alike a t.1) (λ y. then_alike k (find calls b) _ (found_alike b t.2) (λ z. null_alike k x (λ ls q. ask (act.AttemptMark x y (bool_of z)) ls q) (ask_alike k (act.AttemptMark x y (bool_of z))))))
-    found_alike (OnLock o e) t = then_alike k (find calls e) _ (found_alike e t) (λ x. null_alike k x (λ ls q. operate_lock o x ls q) (lock_alike k o x))
-    found_alike (Call m e es) t = then_alike k (find calls e) _ (found_alike e t.0) (λ x. then_alike k (find_all calls es) _ (all_found_alike es t.1) (λ ws. null_alike k x (λ ls q. returned ls (calls m (x ∷ ws) q)) (returned_alike k (calls m (x ∷ ws)))))
-    found_alike (MakeObject c m es) t = then_alike k (λ ls q. ask (act.New c) ls q) _ (ask_alike k (act.New c)) (λ x. then_alike k (find_all calls es) _ (all_found_alike es t) (λ ws. null_alike k x (λ ls q. and_then (returned ls (calls m (x ∷ ws) q)) (λ w ls q. Ends (Results x) ls q)) (then_alike k (λ ls q. returned ls (calls m (x ∷ ws) q)) (λ w ls q. Ends (Results x) ls q) (returned_alike k (calls m (x ∷ ws))) (λ w. ends_alike k (Results x)))))
+    found_alike (Unary o e) t = then_alike k (evaluate calls e) (λ x ls q. Ends (Results (unary_word o x)) ls q) (found_alike e t) (λ x. ends_alike k (Results (unary_word o x)))
+    found_alike (Binary o a b) t = then_alike k (evaluate calls a) _ (found_alike a t.0) (λ x. then_alike k (evaluate calls b) _ (found_alike b t.1) (λ y. operate_alike k o x y))
+    found_alike (And a b) t = then_alike k (evaluate calls a) _ (found_alike a t.0) (λ x. if_alike k (nat_eq x 0) (λ ls q. Ends (Results 0) ls q) (evaluate calls b) (ends_alike k (Results 0)) (found_alike b t.1))
+    found_alike (Or a b) t = then_alike k (evaluate calls a) _ (found_alike a t.0) (λ x. if_alike k (nat_eq x 0) (evaluate calls b) (λ ls q. Ends (Results 1) ls q) (found_alike b t.1) (ends_alike k (Results 1)))
+    found_alike (Hold a n b) t = then_alike k (evaluate calls a) _ (found_alike a t.1) (λ x. then_alike k (evaluate calls b) _ (found_alike b t.2) (λ y. set_alike k n y (λ ls q. Ends (Results x) ls q) t.0 (ends_alike k (Results x))))
+    found_alike (Keep n a b) t = then_alike k (evaluate calls a) _ (found_alike a t.1) (λ x. set_alike k n x (evaluate calls b) t.0 (found_alike b t.2))
+    found_alike (After a b) t = then_alike k (evaluate calls a) _ (found_alike a t.0) (λ x. found_alike b t.1)
+    found_alike (Field e f) t = then_alike k (evaluate calls e) _ (found_alike e t) (λ x. null_alike k x (λ ls q. ask (act.ReadField x (f + 1)) ls q) (ask_alike k (act.ReadField x (f + 1))))
+    found_alike (Item a i) t = then_alike k (evaluate calls a) _ (found_alike a t.0) (λ x. then_alike k (evaluate calls i) _ (found_alike i t.1) (λ n. null_alike k x (λ ls q. ask (act.ReadItem x (int_of n)) ls q) (ask_alike k (act.ReadItem x (int_of n)))))
+    found_alike (SetFirst a e) t = then_alike k (evaluate calls a) _ (found_alike a t.0) (λ x. then_alike k (evaluate calls e) _ (found_alike e t.1) (λ y. null_alike k x (λ ls q. perform (act.WriteItem x (pos 0) y) ls q) (perform_alike k (act.WriteItem x (pos 0) y))))
+    found_alike (ReadPair e) t = then_alike k (evaluate calls e) _ (found_alike e t) (λ x. null_alike k x (λ ls q. ask (act.ReadPair x) ls q) (ask_alike k (act.ReadPair x)))
+    found_alike (SetPair e a) t = then_alike k (evaluate calls e) _ (found_alike e t.0) (λ x. then_alike k (evaluate calls a) _ (found_alike a t.1) (λ y. null_alike k x (λ ls q. perform (act.SetPair x y) ls q) (perform_alike k (act.SetPair x y))))
+    found_alike (SwapPair e a b) t = then_alike k (evaluate calls e) _ (found_alike e t.0) (λ x. then_alike k (evaluate calls a) _ (found_alike a t.1) (λ y. then_alike k (evaluate calls b) _ (found_alike b t.2) (λ z. null_alike k x (λ ls q. ask (act.SwapPair x y z) ls q) (ask_alike k (act.SwapPair x y z)))))
+    found_alike (AttemptMark e a b) t = then_alike k (evaluate calls e) _ (found_alike e t.0) (λ x. then_alike k (evaluate calls a) _ (found_alike a t.1) (λ y. then_alike k (evaluate calls b) _ (found_alike b t.2) (λ z. null_alike k x (λ ls q. ask (act.AttemptMark x y (bool_of z)) ls q) (ask_alike k (act.AttemptMark x y (bool_of z))))))
+    found_alike (OnLock o e) t = then_alike k (evaluate calls e) _ (found_alike e t) (λ x. null_alike k x (λ ls q. operate_lock o x ls q) (lock_alike k o x))
+    found_alike (Call m e es) t = then_alike k (evaluate calls e) _ (found_alike e t.0) (λ x. then_alike k (evaluate_all calls es) _ (all_found_alike es t.1) (λ ws. null_alike k x (λ ls q. returned ls (calls m (x ∷ ws) q)) (returned_alike k (calls m (x ∷ ws)))))
+    found_alike (MakeObject c m es) t = then_alike k (λ ls q. ask (act.New c) ls q) _ (ask_alike k (act.New c)) (λ x. then_alike k (evaluate_all calls es) _ (all_found_alike es t) (λ ws. null_alike k x (λ ls q. and_then (returned ls (calls m (x ∷ ws) q)) (λ w ls q. Ends (Results x) ls q)) (then_alike k (λ ls q. returned ls (calls m (x ∷ ws) q)) (λ w ls q. Ends (Results x) ls q) (returned_alike k (calls m (x ∷ ws))) (λ w. ends_alike k (Results x)))))
     found_alike MakeLock t = ask_alike k act.NewLock
-    found_alike (MakeMarkable e) t = then_alike k (find calls e) _ (found_alike e t) (λ x. ask_alike k (act.NewMarkable x))
-    found_alike (MakeArray e) t = then_alike k (find calls e) make_array (found_alike e t) (λ n. array_alike k n)
+    found_alike (MakeMarkable e) t = then_alike k (evaluate calls e) _ (found_alike e t) (λ x. ask_alike k (act.NewMarkable x))
+    found_alike (MakeArray e) t = then_alike k (evaluate calls e) make_array (found_alike e t) (λ n. array_alike k n)
 
-    pub all_found_alike : (es : Expressions) → AreBelow k es → Alike k (λ ls q. find_all calls es ls q)
+    pub all_found_alike : (es : Expressions) → AreBelow k es → Alike k (λ ls q. evaluate_all calls es ls q)
     all_found_alike End t = ends_alike k (Results [])
-    all_found_alike (More e es) t = then_alike k (find calls e) _ (found_alike e t.0) (λ w. then_alike k (find_all calls es) _ (all_found_alike es t.1) (λ ws. ends_alike k (Results (w ∷ ws))))
+    all_found_alike (More e es) t = then_alike k (evaluate calls e) _ (found_alike e t.0) (λ w. then_alike k (evaluate_all calls es) _ (all_found_alike es t.1) (λ ws. ends_alike k (Results (w ∷ ws))))

@@ -8,7 +8,7 @@ use Rattle.ls_lowered.specs.declared.tree.BinaryOperator.TheVariants as op
 use Rattle.ls_lowered.specs.Words.{int_of, kind_word, kind_of}
 use Rattle.ls_events.specs.declared.action.Answer.TheVariants as answers
 use Rattle.ls_lowered.specs.Course.{Answers, Course, Asks, Ends, Outcome, Results, Throws, Calls, finish, and_then, ask, perform, unless_null}
-use Rattle.ls_lowered.specs.Expressions.{operate, find}
+use Rattle.ls_lowered.specs.Expressions.{operate, evaluate}
 use Rattle.ls_lowered.specs.Statements.{Completion, Normal, Returned, Threw, Left, Go, on_word, on_normal, on_throw, on_leave, on_body, turn_back, one_turn, turns, throw, execute, execute_all, leave_to}
 use Rattle.ls_finally.specs.Agreement.{Agree, IsBelow, Fits, AllFit}
 use Rattle.ls_finally.proofs.Agreeing.{finish_finish, Above, above_set, agree_set, Alike, then_alike, ask_alike, operate_alike, perform_alike, null_alike, found_alike}
@@ -21,21 +21,21 @@ pub record Same (k : ℕ) (f : List ℕ → Answers → Course Completion) : Typ
   pub is : (old ls new : List ℕ) (q : Answers) (g g' : Go) → Agree k ls new → Above k old new → GoesOn k old g g' → finish (f new q) g' ≡ finish (f ls q) g
 
 -- the writes, as courses that give a word
-pub field_alike : (calls : Calls) (k : ℕ) (e a : Expression) (f : ℕ) → IsBelow k e → IsBelow k a → Alike k (λ ls q. and_then (find calls e ls q) (λ x ls q. and_then (find calls a ls q) (λ y ls q. unless_null x ls q (perform (act.WriteField x (f + 1) y) ls q))))
-field_alike calls k e a f t u = then_alike k (find calls e) _ (found_alike calls k e t) (λ x. then_alike k (find calls a) _ (found_alike calls k a u) (λ y. null_alike k x (λ ls q. perform (act.WriteField x (f + 1) y) ls q) (perform_alike k (act.WriteField x (f + 1) y))))
+pub field_alike : (calls : Calls) (k : ℕ) (e a : Expression) (f : ℕ) → IsBelow k e → IsBelow k a → Alike k (λ ls q. and_then (evaluate calls e ls q) (λ x ls q. and_then (evaluate calls a ls q) (λ y ls q. unless_null x ls q (perform (act.WriteField x (f + 1) y) ls q))))
+field_alike calls k e a f t u = then_alike k (evaluate calls e) _ (found_alike calls k e t) (λ x. then_alike k (evaluate calls a) _ (found_alike calls k a u) (λ y. null_alike k x (λ ls q. perform (act.WriteField x (f + 1) y) ls q) (perform_alike k (act.WriteField x (f + 1) y))))
 
 -- what is added to a field
-pub addition_alike : (calls : Calls) (k : ℕ) (e a : Expression) (f : ℕ) → IsBelow k e → IsBelow k a → Alike k (λ ls q. and_then (find calls e ls q) (λ x ls q. and_then (unless_null x ls q (ask (act.ReadField x (f + 1)) ls q)) (λ y ls q. and_then (find calls a ls q) (λ z ls q. and_then (operate op.Add y z ls q) (λ w ls q. unless_null x ls q (perform (act.WriteField x (f + 1) w) ls q))))))
+pub addition_alike : (calls : Calls) (k : ℕ) (e a : Expression) (f : ℕ) → IsBelow k e → IsBelow k a → Alike k (λ ls q. and_then (evaluate calls e ls q) (λ x ls q. and_then (unless_null x ls q (ask (act.ReadField x (f + 1)) ls q)) (λ y ls q. and_then (evaluate calls a ls q) (λ z ls q. and_then (operate op.Add y z ls q) (λ w ls q. unless_null x ls q (perform (act.WriteField x (f + 1) w) ls q))))))
 addition_alike calls k e a f t u =
-    then_alike k (find calls e) _ (found_alike calls k e t) (λ x.
+    then_alike k (evaluate calls e) _ (found_alike calls k e t) (λ x.
     then_alike k (λ ls q. unless_null x ls q (ask (act.ReadField x (f + 1)) ls q)) _ (null_alike k x (λ ls q. ask (act.ReadField x (f + 1)) ls q) (ask_alike k (act.ReadField x (f + 1)))) (λ y.
-    then_alike k (find calls a) _ (found_alike calls k a u) (λ z.
+    then_alike k (evaluate calls a) _ (found_alike calls k a u) (λ z.
     then_alike k (λ ls q. operate op.Add y z ls q) _ (operate_alike k op.Add y z) (λ w.
     null_alike k x (λ ls q. perform (act.WriteField x (f + 1) w) ls q) (perform_alike k (act.WriteField x (f + 1) w))))))
 
 -- the write of an item
-pub item_alike : (calls : Calls) (k : ℕ) (a i e : Expression) → IsBelow k a → IsBelow k i → IsBelow k e → Alike k (λ ls q. and_then (find calls a ls q) (λ x ls q. and_then (find calls i ls q) (λ n ls q. and_then (find calls e ls q) (λ y ls q. unless_null x ls q (perform (act.WriteItem x (int_of n) y) ls q)))))
-item_alike calls k a i e t u v = then_alike k (find calls a) _ (found_alike calls k a t) (λ x. then_alike k (find calls i) _ (found_alike calls k i u) (λ n. then_alike k (find calls e) _ (found_alike calls k e v) (λ y. null_alike k x (λ ls q. perform (act.WriteItem x (int_of n) y) ls q) (perform_alike k (act.WriteItem x (int_of n) y)))))
+pub item_alike : (calls : Calls) (k : ℕ) (a i e : Expression) → IsBelow k a → IsBelow k i → IsBelow k e → Alike k (λ ls q. and_then (evaluate calls a ls q) (λ x ls q. and_then (evaluate calls i ls q) (λ n ls q. and_then (evaluate calls e ls q) (λ y ls q. unless_null x ls q (perform (act.WriteItem x (int_of n) y) ls q)))))
+item_alike calls k a i e t u v = then_alike k (evaluate calls a) _ (found_alike calls k a t) (λ x. then_alike k (evaluate calls i) _ (found_alike calls k i u) (λ n. then_alike k (evaluate calls e) _ (found_alike calls k e v) (λ y. null_alike k x (λ ls q. perform (act.WriteItem x (int_of n) y) ls q) (perform_alike k (act.WriteItem x (int_of n) y)))))
 
 module _ (k : ℕ) where
   ends_same : (c : Completion) → Same k (λ ls q. Ends c ls q)
@@ -149,14 +149,14 @@ module _ (calls : Calls) (k : ℕ) where
     -- each statement on locals below k goes on alike
     pub same : (s : Statement) → Fits k s → Same k (execute calls s)
     same (Block ss) t = record { is = (all_same ss t).is }
-    same (SetLocal n e) t = word_same k (find calls e) _ (found_alike calls k e t.1) (λ w. set_same k n w (λ ls q. Ends Normal ls q) t.0 (ends_same k Normal))
+    same (SetLocal n e) t = word_same k (evaluate calls e) _ (found_alike calls k e t.1) (λ w. set_same k n w (λ ls q. Ends Normal ls q) t.0 (ends_same k Normal))
     same (SetField e f a) t = word_same k _ (λ w ls q. Ends Normal ls q) (field_alike calls k e a f t.0 t.1) (λ w. ends_same k Normal)
     same (AddField e f a) t = word_same k _ (λ w ls q. Ends Normal ls q) (addition_alike calls k e a f t.0 t.1) (λ w. ends_same k Normal)
     same (SetItem a i e) t = word_same k _ (λ w ls q. Ends Normal ls q) (item_alike calls k a i e t.0 t.1 t.2) (λ w. ends_same k Normal)
-    same (Evaluate e) t = word_same k (find calls e) (λ w ls q. Ends Normal ls q) (found_alike calls k e t) (λ w. ends_same k Normal)
-    same (If e a b) t = word_same k (find calls e) _ (found_alike calls k e t.0) (λ w. if_same k (nat_eq w 0) (execute calls b) (execute calls a) (same b t.2) (same a t.1))
-    same (While e s) t = record { is = λ old ls new q. (turns_same k (length q) (find calls e) (execute calls s) (found_alike calls k e t.0) (same s t.1)).is old ls new q }
-    same (Return e) t = word_same k (find calls e) (λ w ls q. Ends (Returned w) ls q) (found_alike calls k e t) (λ w. ends_same k (Returned w))
+    same (Evaluate e) t = word_same k (evaluate calls e) (λ w ls q. Ends Normal ls q) (found_alike calls k e t) (λ w. ends_same k Normal)
+    same (If e a b) t = word_same k (evaluate calls e) _ (found_alike calls k e t.0) (λ w. if_same k (nat_eq w 0) (execute calls b) (execute calls a) (same b t.2) (same a t.1))
+    same (While e s) t = record { is = λ old ls new q. (turns_same k (length q) (evaluate calls e) (execute calls s) (found_alike calls k e t.0) (same s t.1)).is old ls new q }
+    same (Return e) t = word_same k (evaluate calls e) (λ w ls q. Ends (Returned w) ls q) (found_alike calls k e t) (λ w. ends_same k (Returned w))
     same (Try b f) t = absurd t
     same (Guarded b n h) t = throw_same k (execute calls b) _ (same b t.1) (λ kind. set_same k n (kind_word kind) (execute calls h) t.0 (same h t.2))
     same (Throw n) t = record { is = λ old ls new q g g' a u s. ap (λ w. finish (throw (kind_of w) new q) g') (a.at n t) ∙ thrown_same k (kind_of (slice_index ls n)) old ls new q g g' a u s }

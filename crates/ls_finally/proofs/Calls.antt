@@ -7,7 +7,7 @@ use Rattle.ls_lowered.specs.LoweredTree.{Expression, Word, Local, Unary, Binary,
 use Rattle.ls_lowered.specs.declared.tree.BinaryOperator.TheVariants as op
 use Rattle.ls_lowered.specs.Words.{int_of, bool_of}
 use Rattle.ls_lowered.specs.Course.{Answers, Course, Ends, Outcome, Results, Throws, Calls, finish, on_result, and_then, ask, perform, unless_null, returned}
-use Rattle.ls_lowered.specs.Expressions.{find, find_all, unary_word, operate, operate_lock, make_array}
+use Rattle.ls_lowered.specs.Expressions.{evaluate, evaluate_all, unary_word, operate, operate_lock, make_array}
 use Rattle.ls_lowered.specs.Statements.{Completion, Normal, Returned, on_word, on_normal, on_any, on_leave, turns, and_normal, execute, execute_all, leave_to}
 use Rattle.ls_finally.specs.Placed.{count, Takes, CallsWell, AllCallWell, IsPlacedStatement, ArePlaced}
 use Rattle.ls_finally.proofs.Agreeing.{finish_finish}
@@ -23,20 +23,20 @@ Runs = List ℕ → Answers → Course Completion
 
 -- arguments are as many as their expressions
 module _ (calls : Calls) {A : Type 0} where
-  counted : (es : Expressions) (go go' : List ℕ → List ℕ → Answers → Course (Outcome A)) → ((ws ls : List ℕ) (q : Answers) → length ws ≡ count es → go' ws ls q ≡ go ws ls q) → (ls : List ℕ) (q : Answers) → and_then (find_all calls es ls q) go' ≡ and_then (find_all calls es ls q) go
+  counted : (es : Expressions) (go go' : List ℕ → List ℕ → Answers → Course (Outcome A)) → ((ws ls : List ℕ) (q : Answers) → length ws ≡ count es → go' ws ls q ≡ go ws ls q) → (ls : List ℕ) (q : Answers) → and_then (evaluate_all calls es ls q) go' ≡ and_then (evaluate_all calls es ls q) go
   counted End go go' h ls q = h [] ls q refl
   counted (More e es) go go' h ls q =
-      finish_finish (find calls e ls q) _ (on_result go')
-      ∙ ap (finish (find calls e ls q)) (fun_ext (λ o. fun_ext (λ ls. fun_ext (λ q. one (λ w ls q. counted es (λ ws ls q. go (w ∷ ws) ls q) (λ ws ls q. go' (w ∷ ws) ls q) (λ ws ls q e. h (w ∷ ws) ls q (ap suc e)) ls q) o ls q))))
-      ∙ sym (finish_finish (find calls e ls q) _ (on_result go))
+      finish_finish (evaluate calls e ls q) _ (on_result go')
+      ∙ ap (finish (evaluate calls e ls q)) (fun_ext (λ o. fun_ext (λ ls. fun_ext (λ q. one (λ w ls q. counted es (λ ws ls q. go (w ∷ ws) ls q) (λ ws ls q. go' (w ∷ ws) ls q) (λ ws ls q e. h (w ∷ ws) ls q (ap suc e)) ls q) o ls q))))
+      ∙ sym (finish_finish (evaluate calls e ls q) _ (on_result go))
     where
-      one : ((w : ℕ) (ls : List ℕ) (q : Answers) → and_then (find_all calls es ls q) (λ ws ls q. go' (w ∷ ws) ls q) ≡ and_then (find_all calls es ls q) (λ ws ls q. go (w ∷ ws) ls q)) → (o : Outcome ℕ) (ls : List ℕ) (q : Answers) → finish (on_result (λ w ls q. and_then (find_all calls es ls q) (λ ws ls q. Ends (Results (w ∷ ws)) ls q)) o ls q) (on_result go') ≡ finish (on_result (λ w ls q. and_then (find_all calls es ls q) (λ ws ls q. Ends (Results (w ∷ ws)) ls q)) o ls q) (on_result go)
+      one : ((w : ℕ) (ls : List ℕ) (q : Answers) → and_then (evaluate_all calls es ls q) (λ ws ls q. go' (w ∷ ws) ls q) ≡ and_then (evaluate_all calls es ls q) (λ ws ls q. go (w ∷ ws) ls q)) → (o : Outcome ℕ) (ls : List ℕ) (q : Answers) → finish (on_result (λ w ls q. and_then (evaluate_all calls es ls q) (λ ws ls q. Ends (Results (w ∷ ws)) ls q)) o ls q) (on_result go') ≡ finish (on_result (λ w ls q. and_then (evaluate_all calls es ls q) (λ ws ls q. Ends (Results (w ∷ ws)) ls q)) o ls q) (on_result go)
       one again (Results w) ls q =
-          finish_finish (find_all calls es ls q) _ (on_result go')
-          ∙ ap (finish (find_all calls es ls q)) (fun_ext (λ o. fun_ext (λ ls. fun_ext (λ q. inner go' o ls q))))
+          finish_finish (evaluate_all calls es ls q) _ (on_result go')
+          ∙ ap (finish (evaluate_all calls es ls q)) (fun_ext (λ o. fun_ext (λ ls. fun_ext (λ q. inner go' o ls q))))
           ∙ again w ls q
-          ∙ ap (finish (find_all calls es ls q)) (fun_ext (λ o. fun_ext (λ ls. fun_ext (λ q. sym (inner go o ls q)))))
-          ∙ sym (finish_finish (find_all calls es ls q) _ (on_result go))
+          ∙ ap (finish (evaluate_all calls es ls q)) (fun_ext (λ o. fun_ext (λ ls. fun_ext (λ q. sym (inner go o ls q)))))
+          ∙ sym (finish_finish (evaluate_all calls es ls q) _ (on_result go))
         where
           inner : (g : List ℕ → List ℕ → Answers → Course (Outcome A)) (o : Outcome (List ℕ)) (ls : List ℕ) (q : Answers) → finish (on_result (λ ws ls q. Ends (Results (w ∷ ws)) ls q) o ls q) (on_result g) ≡ on_result (λ ws ls q. g (w ∷ ws) ls q) o ls q
           inner g (Results ws) ls q = refl
@@ -48,7 +48,7 @@ module _ (ms : File) (calls calls' : Calls) (agree : (m : ℕ) (ws : List ℕ) (
   takes m n k e t = let P : ℕ → Type 0 = λ i. Takes ms m i in subst P (sym e) t
 
   mutual
-    found : (e : Expression) → CallsWell ms e → find calls' e ≡ find calls e
+    found : (e : Expression) → CallsWell ms e → evaluate calls' e ≡ evaluate calls e
     found (Word w) t = refl
     found (Local n) t = refl
     found (Unary o e) t = ap (λ (f : Finds). λ ls q. and_then (f ls q) (λ x ls q. Ends (Results (unary_word o x)) ls q)) (found e t)
@@ -64,15 +64,15 @@ module _ (ms : File) (calls calls' : Calls) (agree : (m : ℕ) (ws : List ℕ) (
     found (ReadPair e) t = ap (λ (f : Finds). λ ls q. and_then (f ls q) (λ x ls q. unless_null x ls q (ask (act.ReadPair x) ls q))) (found e t)
     found (SetPair e a) t = ap₂ (λ (f g : Finds). λ ls q. and_then (f ls q) (λ x ls q. and_then (g ls q) (λ y ls q. unless_null x ls q (perform (act.SetPair x y) ls q)))) (found e t.0) (found a t.1)
     found (SwapPair e a b) t =
-        ap₂ (λ (f g : Finds). λ ls q. and_then (f ls q) (λ x ls q. and_then (g ls q) (λ y ls q. and_then (find calls' b ls q) (λ z ls q. unless_null x ls q (ask (act.SwapPair x y z) ls q))))) (found e t.0) (found a t.1)
-        ∙ ap (λ (h : Finds). λ ls q. and_then (find calls e ls q) (λ x ls q. and_then (find calls a ls q) (λ y ls q. and_then (h ls q) (λ z ls q. unless_null x ls q (ask (act.SwapPair x y z) ls q))))) (found b t.2)
+        ap₂ (λ (f g : Finds). λ ls q. and_then (f ls q) (λ x ls q. and_then (g ls q) (λ y ls q. and_then (evaluate calls' b ls q) (λ z ls q. unless_null x ls q (ask (act.SwapPair x y z) ls q))))) (found e t.0) (found a t.1)
+        ∙ ap (λ (h : Finds). λ ls q. and_then (evaluate calls e ls q) (λ x ls q. and_then (evaluate calls a ls q) (λ y ls q. and_then (h ls q) (λ z ls q. unless_null x ls q (ask (act.SwapPair x y z) ls q))))) (found b t.2)
     found (AttemptMark e a b) t =
-        ap₂ (λ (f g : Finds). λ ls q. and_then (f ls q) (λ x ls q. and_then (g ls q) (λ y ls q. and_then (find calls' b ls q) (λ z ls q. unless_null x ls q (ask (act.AttemptMark x y (bool_of z)) ls q))))) (found e t.0) (found a t.1)
-        ∙ ap (λ (h : Finds). λ ls q. and_then (find calls e ls q) (λ x ls q. and_then (find calls a ls q) (λ y ls q. and_then (h ls q) (λ z ls q. unless_null x ls q (ask (act.AttemptMark x y (bool_of z)) ls q))))) (found b t.2)
+        ap₂ (λ (f g : Finds). λ ls q. and_then (f ls q) (λ x ls q. and_then (g ls q) (λ y ls q. and_then (evaluate calls' b ls q) (λ z ls q. unless_null x ls q (ask (act.AttemptMark x y (bool_of z)) ls q))))) (found e t.0) (found a t.1)
+        ∙ ap (λ (h : Finds). λ ls q. and_then (evaluate calls e ls q) (λ x ls q. and_then (evaluate calls a ls q) (λ y ls q. and_then (h ls q) (λ z ls q. unless_null x ls q (ask (act.AttemptMark x y (bool_of z)) ls q))))) (found b t.2)
     found (OnLock o e) t = ap (λ (f : Finds). λ ls q. and_then (f ls q) (λ x ls q. unless_null x ls q (operate_lock o x ls q))) (found e t)
     found (Call m e es) t =
         ap₂ (λ (f : Finds) (g : FindsAll). λ ls q. and_then (f ls q) (λ x ls q. and_then (g ls q) (λ ws ls q. unless_null x ls q (returned ls (calls' m (x ∷ ws) q))))) (found e t.1) (all_found es t.2)
-        ∙ ap (λ (h : ℕ → Finds). λ ls q. and_then (find calls e ls q) (λ x ls q. h x ls q)) (fun_ext (λ x. fun_ext (λ ls. fun_ext (λ q.
+        ∙ ap (λ (h : ℕ → Finds). λ ls q. and_then (evaluate calls e ls q) (λ x ls q. h x ls q)) (fun_ext (λ x. fun_ext (λ ls. fun_ext (λ q.
         counted calls es (λ ws ls q. unless_null x ls q (returned ls (calls m (x ∷ ws) q))) (λ ws ls q. unless_null x ls q (returned ls (calls' m (x ∷ ws) q)))
         (λ ws ls q n. ap (λ r. unless_null x ls q (returned ls r)) (agree m (x ∷ ws) q (takes m (suc (count es)) (suc (length ws)) (ap suc n) t.0))) ls q))))
     found (MakeObject c m es) t =
@@ -84,7 +84,7 @@ module _ (ms : File) (calls calls' : Calls) (agree : (m : ℕ) (ws : List ℕ) (
     found (MakeMarkable e) t = ap (λ (f : Finds). λ ls q. and_then (f ls q) (λ x ls q. ask (act.NewMarkable x) ls q)) (found e t)
     found (MakeArray e) t = ap (λ (f : Finds). λ ls q. and_then (f ls q) make_array) (found e t)
 
-    all_found : (es : Expressions) → AllCallWell ms es → find_all calls' es ≡ find_all calls es
+    all_found : (es : Expressions) → AllCallWell ms es → evaluate_all calls' es ≡ evaluate_all calls es
     all_found End t = refl
     all_found (More e es) t = ap₂ (λ (f : Finds) (g : FindsAll). λ ls q. and_then (f ls q) (λ w ls q. and_then (g ls q) (λ ws ls q. Ends (Results (w ∷ ws)) ls q))) (found e t.0) (all_found es t.1)
 
@@ -97,12 +97,12 @@ module _ (ms : File) (calls calls' : Calls) (agree : (m : ℕ) (ws : List ℕ) (
       runs (SetField e n a) t = ap₂ (λ (f g : Finds). λ ls q. and_normal (and_then (f ls q) (λ x ls q. and_then (g ls q) (λ y ls q. unless_null x ls q (perform (act.WriteField x (n + 1) y) ls q))))) (found e t.0.1) (found a t.1.1)
       runs (AddField e n a) t = ap₂ (λ (f g : Finds). λ ls q. and_normal (and_then (f ls q) (λ x ls q. and_then (unless_null x ls q (ask (act.ReadField x (n + 1)) ls q)) (λ y ls q. and_then (g ls q) (λ z ls q. and_then (operate op.Add y z ls q) (λ w ls q. unless_null x ls q (perform (act.WriteField x (n + 1) w) ls q))))))) (found e t.0.1) (found a t.1.1)
       runs (SetItem a i e) t =
-          ap₂ (λ (f g : Finds). λ ls q. and_normal (and_then (f ls q) (λ x ls q. and_then (g ls q) (λ n ls q. and_then (find calls' e ls q) (λ y ls q. unless_null x ls q (perform (act.WriteItem x (int_of n) y) ls q)))))) (found a t.0.1) (found i t.1.1)
-          ∙ ap (λ (h : Finds). λ ls q. and_normal (and_then (find calls a ls q) (λ x ls q. and_then (find calls i ls q) (λ n ls q. and_then (h ls q) (λ y ls q. unless_null x ls q (perform (act.WriteItem x (int_of n) y) ls q)))))) (found e t.2.1)
+          ap₂ (λ (f g : Finds). λ ls q. and_normal (and_then (f ls q) (λ x ls q. and_then (g ls q) (λ n ls q. and_then (evaluate calls' e ls q) (λ y ls q. unless_null x ls q (perform (act.WriteItem x (int_of n) y) ls q)))))) (found a t.0.1) (found i t.1.1)
+          ∙ ap (λ (h : Finds). λ ls q. and_normal (and_then (evaluate calls a ls q) (λ x ls q. and_then (evaluate calls i ls q) (λ n ls q. and_then (h ls q) (λ y ls q. unless_null x ls q (perform (act.WriteItem x (int_of n) y) ls q)))))) (found e t.2.1)
       runs (Evaluate e) t = ap (λ (f : Finds). λ ls q. and_normal (f ls q)) (found e t.1)
       runs (If e a b) t =
           ap (λ (f : Finds). λ ls q. finish (f ls q) (on_word (λ w ls q. if nat_eq w 0 then execute calls' b ls q else execute calls' a ls q))) (found e t.0.1)
-          ∙ ap₂ (λ (f g : Runs). λ ls q. finish (find calls e ls q) (on_word (λ w ls q. if nat_eq w 0 then g ls q else f ls q))) (runs a t.1) (runs b t.2)
+          ∙ ap₂ (λ (f g : Runs). λ ls q. finish (evaluate calls e ls q) (on_word (λ w ls q. if nat_eq w 0 then g ls q else f ls q))) (runs a t.1) (runs b t.2)
       runs (While e s) t = ap₂ (λ (f : Finds) (g : Runs). λ ls q. turns (length q) f g ls q) (found e t.0.1) (runs s t.1)
       runs (Return e) t = ap (λ (f : Finds). λ ls q. finish (f ls q) (on_word (λ w ls q. Ends (Returned w) ls q))) (found e t.1)
       runs (Try a b) t = ap₂ (λ (f g : Runs). λ ls q. finish (f ls q) (on_any g)) (runs a t.0) (runs b t.1)

@@ -5,7 +5,7 @@ use Rattle.std.proofs.lemmas.List.{length-set}
 use Rattle.ls_events.specs.declared.action.Action.TheVariants as act
 use Rattle.ls_lowered.specs.LoweredTree.{Statement, Block, SetLocal, SetField, AddField, SetItem, Evaluate, If, While, Return, Try, Guarded, Throw, Leavable, Leave, Statements, Done, Then, File}
 use Rattle.ls_lowered.specs.Course.{Answers, Course, Asks, Ends, Outcome, Calls, finish}
-use Rattle.ls_lowered.specs.Expressions.{find}
+use Rattle.ls_lowered.specs.Expressions.{evaluate}
 use Rattle.ls_lowered.specs.Statements.{Completion, Normal, Returned, Threw, Left, Go, on_normal, on_any, on_leave, on_body, one_turn, turns, execute, execute_all, leave_to}
 use Rattle.ls_finally.specs.Flat.{tries, all_tries, flat, all_flat}
 use Rattle.ls_finally.specs.Agreement.{Agree}
@@ -66,16 +66,16 @@ module _ (m room : ℕ) where
       -- the lowered form of a statement does what the statement does
       pub flat_ok : (s : Statement) (k : ℕ) (g g' : Go) → IsPlacedStatement ms m s → m ≤ k → k + 2 * tries s ≤ room → Onward g g' → Both m room (execute calls s) (execute calls (flat k s)) g g'
       flat_ok (Block ss) k g g' t le lt h = all_flat_ok ss k g g' t le lt h
-      flat_ok (SetLocal n e) k g g' t le lt h = word_both m room (find calls e) _ _ g g' (found_alike calls m e t.1.0) (λ w ls new q e2 a. h Normal (slice_set ls n w) (slice_set new n w) q (length-set new n w ∙ e2) (agree_set m n w ls new t.0 a)) (λ kind ls new q e a. h (Threw kind) ls new q e a)
+      flat_ok (SetLocal n e) k g g' t le lt h = word_both m room (evaluate calls e) _ _ g g' (found_alike calls m e t.1.0) (λ w ls new q e2 a. h Normal (slice_set ls n w) (slice_set new n w) q (length-set new n w ∙ e2) (agree_set m n w ls new t.0 a)) (λ kind ls new q e a. h (Threw kind) ls new q e a)
       flat_ok (SetField e f a) k g g' t le lt h = word_both m room _ _ _ g g' (field_alike calls m e a f t.0.0 t.1.0) (λ w ls new q e a. h Normal ls new q e a) (λ kind ls new q e a. h (Threw kind) ls new q e a)
       flat_ok (AddField e f a) k g g' t le lt h = word_both m room _ _ _ g g' (addition_alike calls m e a f t.0.0 t.1.0) (λ w ls new q e a. h Normal ls new q e a) (λ kind ls new q e a. h (Threw kind) ls new q e a)
       flat_ok (SetItem a i e) k g g' t le lt h = word_both m room _ _ _ g g' (item_alike calls m a i e t.0.0 t.1.0 t.2.0) (λ w ls new q e a. h Normal ls new q e a) (λ kind ls new q e a. h (Threw kind) ls new q e a)
-      flat_ok (Evaluate e) k g g' t le lt h = word_both m room (find calls e) _ _ g g' (found_alike calls m e t.0) (λ w ls new q e a. h Normal ls new q e a) (λ kind ls new q e a. h (Threw kind) ls new q e a)
-      flat_ok (If e a b) k g g' t le lt h = word_both m room (find calls e) _ _ g g' (found_alike calls m e t.0.0)
+      flat_ok (Evaluate e) k g g' t le lt h = word_both m room (evaluate calls e) _ _ g g' (found_alike calls m e t.0) (λ w ls new q e a. h Normal ls new q e a) (λ kind ls new q e a. h (Threw kind) ls new q e a)
+      flat_ok (If e a b) k g g' t le lt h = word_both m room (evaluate calls e) _ _ g g' (found_alike calls m e t.0.0)
           (λ w. if_both m room (nat_eq w 0) (execute calls b) (execute calls (flat (k + 2 * tries a) b)) (execute calls a) (execute calls (flat k a)) g g' (flat_ok b (k + 2 * tries a) g g' t.2 (omega arith) (omega arith) h) (flat_ok a k g g' t.1 le (omega arith) h))
           (λ kind ls new q e a. h (Threw kind) ls new q e a)
-      flat_ok (While e s) k g g' t le lt h = λ ls new q. turns_onward (find calls e) (found_alike calls m e t.0.0) (execute calls s) (execute calls (flat k s)) (λ G G' h. flat_ok s k G G' t.1 le lt h) g g' h (length q) ls new q
-      flat_ok (Return e) k g g' t le lt h = word_both m room (find calls e) _ _ g g' (found_alike calls m e t.0) (λ w ls new q e a. h (Returned w) ls new q e a) (λ kind ls new q e a. h (Threw kind) ls new q e a)
+      flat_ok (While e s) k g g' t le lt h = λ ls new q. turns_onward (evaluate calls e) (found_alike calls m e t.0.0) (execute calls s) (execute calls (flat k s)) (λ G G' h. flat_ok s k G G' t.1 le lt h) g g' h (length q) ls new q
+      flat_ok (Return e) k g g' t le lt h = word_both m room (evaluate calls e) _ _ g g' (found_alike calls m e t.0) (λ w ls new q e a. h (Returned w) ls new q e a) (λ kind ls new q e a. h (Threw kind) ls new q e a)
       flat_ok (Try b f) k g g' t le lt h = λ ls new q e a.
           copies_ok calls (k + 2 * tries b + 2 * tries f) room (flat k b) (flat (k + 2 * tries b) f)
           (fits_more (k + 2 * tries b) (k + 2 * tries b + 2 * tries f) (omega arith) (flat k b) (flat_fits ms m b k le t.0))

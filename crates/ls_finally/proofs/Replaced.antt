@@ -8,7 +8,7 @@ use Rattle.ls_lowered.specs.LoweredTree.{Expression, Statement, Block, SetLocal,
 use Rattle.ls_lowered.specs.Words.{kind_word, kind_of}
 use Rattle.ls_events.specs.declared.action.Answer.TheVariants as answers
 use Rattle.ls_lowered.specs.Course.{Answers, Course, Asks, Ends, Outcome, Results, Throws, Calls, finish}
-use Rattle.ls_lowered.specs.Expressions.{find}
+use Rattle.ls_lowered.specs.Expressions.{evaluate}
 use Rattle.ls_lowered.specs.Statements.{Completion, Normal, Returned, Threw, Left, Go, on_word, on_normal, on_throw, on_leave, on_body, turn_back, one_turn, turns, throw, execute, execute_all, leave_to}
 use Rattle.ls_finally_exits.specs.Exits.{outward, count, Exit, LeaveOut, ReturnOut, leave_exit, exits, all_exits, or_leave, replaced, all_replaced}
 use Rattle.ls_finally.specs.Agreement.{Agree, IsBelow, Fits, AllFit}
@@ -171,9 +171,9 @@ module _ (k r room : ℕ) (le : k ≤ r) (lt : r < room) where
     returned_case : (l j : ℕ) (x : Expression) (g g' : Go) → IsBelow k x → Goes k r room l j (ReturnOut ∷ []) g g' → Both k room (execute calls (Return x)) (execute calls (replaced r l j (Return x))) g g'
     returned_case l j x g g' t h ls new q e a =
         finish_finish (execute calls (SetLocal r x) new q) _ g'
-        ∙ finish_finish (find calls x new q) _ _
+        ∙ finish_finish (evaluate calls x new q) _ _
         ∙ (found_alike calls k x t).is new ls new q (λ o ls q. finish (on_word (λ w ls q. Ends (Returned w) ls q) o ls q) g) _ a (above_refl k new) (record { goes = goes })
-        ∙ sym (finish_finish (find calls x ls q) (on_word (λ w ls q. Ends (Returned w) ls q)) g)
+        ∙ sym (finish_finish (evaluate calls x ls q) (on_word (λ w ls q. Ends (Returned w) ls q)) g)
       where
         goes : (o : Outcome ℕ) (ls2 new2 : List ℕ) (q2 : Answers) → Agree k ls2 new2 → Above k new new2 → finish (on_word (λ w ls q. Ends Normal (slice_set ls r w) q) o new2 q2) (λ c ls q. finish (on_normal (execute_all calls (Then (Leave (l + j)) Done)) c ls q) g') ≡ finish (on_word (λ w ls q. Ends (Returned w) ls q) o ls2 q2) g
         goes (Results w) ls2 new2 q2 a2 u = h.out 0 (l + j) ReturnOut refl (omega arith) w ls2 (slice_set new2 r w) q2 (get_or-set_same new2 r w 0 (omega (arith, u.long, e))) (length-set new2 r w ∙ u.long ∙ e) (agree_slot k r w ls2 new2 le a2)
@@ -188,18 +188,18 @@ module _ (k r room : ℕ) (le : k ≤ r) (lt : r < room) where
       -- a statement with leaves to exits in place of its ways out does what the statement does
       pub replaced_ok : (s : Statement) (l j : ℕ) (g g' : Go) → Fits k s → Goes k r room l j (exits l s) g g' → Both k room (execute calls s) (execute calls (replaced r l j s)) g g'
       replaced_ok (Block ss) l j g g' t h = all_replaced_ok ss l j g g' t h
-      replaced_ok (SetLocal n e) l j g g' t h = word_both k room (find calls e) _ _ g g' (found_alike calls k e t.1)
+      replaced_ok (SetLocal n e) l j g g' t h = word_both k room (evaluate calls e) _ _ g g' (found_alike calls k e t.1)
           (λ w ls new q e2 a. h.normal (slice_set ls n w) (slice_set new n w) q (length-set new n w ∙ e2) (agree_set k n w ls new t.0 a)) h.threw
       replaced_ok (SetField e f a) l j g g' t h = word_both k room _ _ _ g g' (field_alike calls k e a f t.0 t.1) (λ w. h.normal) h.threw
       replaced_ok (AddField e f a) l j g g' t h = word_both k room _ _ _ g g' (addition_alike calls k e a f t.0 t.1) (λ w. h.normal) h.threw
       replaced_ok (SetItem a i e) l j g g' t h = word_both k room _ _ _ g g' (item_alike calls k a i e t.0 t.1 t.2) (λ w. h.normal) h.threw
-      replaced_ok (Evaluate e) l j g g' t h = word_both k room (find calls e) _ _ g g' (found_alike calls k e t) (λ w. h.normal) h.threw
-      replaced_ok (If e a b) l j g g' t h = word_both k room (find calls e) _ _ g g' (found_alike calls k e t.0)
+      replaced_ok (Evaluate e) l j g g' t h = word_both k room (evaluate calls e) _ _ g g' (found_alike calls k e t) (λ w. h.normal) h.threw
+      replaced_ok (If e a b) l j g g' t h = word_both k room (evaluate calls e) _ _ g g' (found_alike calls k e t.0)
           (λ w. if_both k room (nat_eq w 0) (execute calls b) (execute calls (replaced r l (j + length (exits l a)) b)) (execute calls a) (execute calls (replaced r l j a)) g g'
           (replaced_ok b l (j + length (exits l a)) g g' t.2 (later l j (exits l a) (exits l b) g g' h))
           (replaced_ok a l j g g' t.1 (first l j (exits l a) (exits l b) g g' h)))
           h.threw
-      replaced_ok (While e s) l j g g' t h = λ ls new q. turns_ok l j (exits l s) (find calls e) (found_alike calls k e t.0) (execute calls s) (execute calls (replaced r l j s)) (λ g g' h. replaced_ok s l j g g' t.1 h) g g' h (length q) ls new q
+      replaced_ok (While e s) l j g g' t h = λ ls new q. turns_ok l j (exits l s) (evaluate calls e) (found_alike calls k e t.0) (execute calls s) (execute calls (replaced r l j s)) (λ g g' h. replaced_ok s l j g g' t.1 h) g g' h (length q) ls new q
       replaced_ok (Return x) l j g g' t h = returned_case l j x g g' t h
       replaced_ok (Try b f) l j g g' t h = absurd t
       replaced_ok (Throw n) l j g g' t h = λ ls new q e a. ap (λ w. finish (throw (kind_of w) new q) g') (a.at n t) ∙ thrown_both k room (kind_of (slice_index ls n)) g g' h.threw ls new q e a

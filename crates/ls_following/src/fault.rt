@@ -1,6 +1,6 @@
 // Why a tape isn't followed to its end.
 
-ghost use Rattle.ls_following.specs.declared.fault.PlayFault.TheVariants.{Load, Follow};
+ghost use Rattle.ls_following.specs.declared.fault.TapeFault.TheVariants.{Load, Follow};
 ghost use Rattle.std.specs.Prelude.{◌≡◌};
 
 use ls_machine::LoadFault;
@@ -21,25 +21,25 @@ pub enum FollowFault {
 
 /// Why a tape isn't played.
 #[derive(Clone, Copy, Debug, Error, PartialEq, Eq)]
-pub enum PlayFault {
+pub enum TapeFault {
     #[error("the machine isn't loaded")]
     Load(LoadFault),
     #[error("the tape isn't followed to its end")]
     Follow(FollowFault),
 }
 
-impl From<LoadFault> for PlayFault {
+impl From<LoadFault> for TapeFault {
     ghost from_gives = { λ f e. e ≡ Load f };
 
-    fn from(fault: LoadFault) -> PlayFault {
-        PlayFault::Load(fault)
+    fn from(fault: LoadFault) -> TapeFault {
+        TapeFault::Load(fault)
     }
 }
 
-impl From<FollowFault> for PlayFault {
+impl From<FollowFault> for TapeFault {
     ghost from_gives = { λ f e. e ≡ Follow f };
 
-    fn from(fault: FollowFault) -> PlayFault {
-        PlayFault::Follow(fault)
+    fn from(fault: FollowFault) -> TapeFault {
+        TapeFault::Follow(fault)
     }
 }

@@ -5,7 +5,7 @@ mod fault;
 mod follow;
 mod playing;
 
-pub use fault::{FollowFault, PlayFault};
+pub use fault::{FollowFault, TapeFault};
 pub use follow::follow_tape;
 pub use ls_live_book::{Gate, OpenGate};
 pub use playing::play_turns;

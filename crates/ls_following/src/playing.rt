@@ -5,7 +5,7 @@ ghost use Rattle.ls_machine.specs.Room.{AreBadCells};
 ghost use Rattle.ls_schedule.specs.Records.{IsRecordOf};
 ghost use Rattle.std.specs.Prelude.{◌≡◌, ◌↔◌, ◌<◌, ℕ, IfOk, IsErrOf, length};
 
-use crate::fault::{FollowFault, PlayFault};
+use crate::fault::{FollowFault, TapeFault};
 use crate::follow::follow_tape;
 use ls_events::schedule::Schedule;
 use ls_image::image::Image;
@@ -29,9 +29,9 @@ pub fn play_turns<'x, G: Gate + Sync, R: Threads + Wait + Sync>(
     cells: usize,
     schedule: &Schedule,
     gate: &'x G,
-) -> Result<Record, PlayFault>
-    ensures bad { IsErrOf result (PlayFault.Load LoadFault.BadCells) ↔ AreBadCells (code_of_image image.now).names cells }
-    ensures spent { (place : ℕ) → IsErrOf result (PlayFault.Follow (FollowFault.TurnsSpent place)) → place < length schedule.now }
+) -> Result<Record, TapeFault>
+    ensures bad { IsErrOf result (TapeFault.Load LoadFault.BadCells) ↔ AreBadCells (code_of_image image.now).names cells }
+    ensures spent { (place : ℕ) → IsErrOf result (TapeFault.Follow (FollowFault.TurnsSpent place)) → place < length schedule.now }
     ensures record { IfOk result (IsRecordOf (code_of_image image.now) cells schedule.now) }
     ensures image { ∥ RunsAsItsTexts image.now ∥₁ }
 {
@@ -41,6 +41,6 @@ pub fn play_turns<'x, G: Gate + Sync, R: Threads + Wait + Sync>(
             Ok(record) => Ok(record),
             Err(_) => unreachable!(),
         },
-        Err((fault, _, _)) => Err(PlayFault::Follow(fault)),
+        Err((fault, _, _)) => Err(TapeFault::Follow(fault)),
     }
 }

@@ -1,4 +1,4 @@
--- What the image promises of its threads, by their own instructions.
+-- What the code promises of its threads, by their own instructions.
 use Rattle.std.proofs.Common.{◌≡◌, ◌≢◌, ℕ, ◌≤◌, List, [], ◌∷◌, length, map, refl, sym, ap, ◌∙◌, arith, slice_get, All}
 use Rattle.ls_events.specs.declared.action.Answer.{Answer}
 use Rattle.ls_checked.specs.CheckedTree.{File}

@@ -1,4 +1,4 @@
--- Threads that aren't over after their last event, in images that are the same as their texts.
+-- Threads that aren't over after their last event, in codes that are the same as their texts.
 use Rattle.std.proofs.Common.{◌≡◌, ℕ, zero, suc, ◌≤◌, ◌<◌, ◌^◌, List, [], ◌∷◌, length, refl, sym, ap, ◌∙◌, subst, arith, Bool, true, false, if◌then◌else◌}
 use Rattle.ls_meaning.specs.Runs.{start, idle, stepped, has_started, source_step, source_trace, history_of}
 use Rattle.ls_meaning.specs.Steps.{trace, traced, after, Same as Nothing}
@@ -6,7 +6,7 @@ use Rattle.ls_code.specs.Machine.{Machine, loaded, machine_step, machine_run, ma
 use Rattle.ls_headline.specs.InWords.{births, numbered, ArePlaces, Agree}
 use Rattle.ls_headline.specs.Same.{Same, Alike}
 use Rattle.ls_headline.specs.Translations.{to_machine}
-use Rattle.ls_headline.specs.WrongImages.{no_file, no_calls, starting_at, goes_round, stuck}
+use Rattle.ls_headline.specs.WrongCodes.{no_file, no_calls, starting_at, goes_round, stuck}
 
 quiet_if : (t : ℕ) (b : Bool) → stepped t (if b then idle (start no_calls) else idle (start no_calls)).did (if b then idle (start no_calls) else idle (start no_calls)).after ≡ Nothing
 quiet_if t true = refl
@@ -64,7 +64,7 @@ alike place cells a b h = record {
   histories = h.1 ∙ sym (ap history_of (source_none b));
 }
 
--- the image whose thread loops for ever is the same as its source
+-- the code whose thread loops for ever is the same as its source
 pub round_same : Same no_file no_calls goes_round
 round_same = record {
   threads = refl;
@@ -73,7 +73,7 @@ round_same = record {
   forth = λ cells c s f. alike 1 cells (to_machine no_file no_calls goes_round cells s) s (round_all cells (to_machine no_file no_calls goes_round cells s));
 }
 
--- the image whose thread is stuck is the same as its source
+-- the code whose thread is stuck is the same as its source
 pub stuck_same : Same no_file no_calls stuck
 stuck_same = record {
   threads = refl;

@@ -1,4 +1,4 @@
--- The example's image asks what its source asks.
+-- The example's code asks what its source asks.
 use Rattle.std.proofs.Common.{◌≡◌, ◌≢◌, ℕ, zero, suc, ◌<◌, ◌^◌, ◌==◌, Bool, true, false, List, [], ◌∷◌, length, map, Some, None, refl, sym, ap, ◌∙◌, subst, arith, slice_get, nat_lt, if◌then◌else◌, All}
 use Rattle.std.proofs.lemmas.Bool.Decides.{nat_tests}
 use Rattle.ls_events.specs.declared.kind.Kind.{Kind}
@@ -184,7 +184,7 @@ work_asks (x ∷ (Gives (Pair n m) ∷ rest)) h = absurd h.1.0
 work_asks (x ∷ (Done ∷ rest)) h = let e = h.1.0 in cc
 work_asks (x ∷ (Fails k ∷ rest)) h = absurd h.1.0
 
--- the parts of the image
+-- the parts of the code
 abbrev AllOf : {A : Type 0} → (A → Type 0) → List A → Type 0
 AllOf P [] = Unit {0}
 AllOf P (x ∷ xs) = P x × AllOf P xs
@@ -208,7 +208,7 @@ sizes_all : (c : ℕ) (class : Class) → slice_get file.classes c ≡ Some clas
 sizes_all zero class e = let e' : record { fields = []; constructor = 1 } ≡ class = cc in ap (λ z. Some (object_cells (length z.fields))) e'
 sizes_all (suc c) class e = cc
 
--- the image of the example asks what its source asks
+-- the code of the example asks what its source asks
 pub example_asks : Asks file program code
 example_asks = record {
   asks = asks_all;
@@ -217,6 +217,6 @@ example_asks = record {
   sizes = sizes_all;
 }
 
--- the image of the example takes locks by exchange alone
+-- the code of the example takes locks by exchange alone
 pub example_exchanged : All IsExchanged code.instructions
 example_exchanged = all_of IsExchanged code.instructions (tt, (tt, (tt, (tt, (tt, (tt, (tt, (tt, (tt, (tt, (tt, (tt, (tt, (tt, (tt, (tt, (tt, (tt, (tt, (tt, (tt, (tt, tt))))))))))))))))))))))

@@ -100,7 +100,7 @@ value_back ρ (Some (Calling n m t (Some type.Boolean) vs)) (Some (Reference r))
 value_back ρ (Some (Calling n m t (Some type.Boolean) vs)) (Some (Pair r b)) h = absurd h
 value_back ρ (Some (Calling n m t (Some _) vs)) (Some v) h = absurd h
 
--- the image's table has what the program's calls answer
+-- the code's table has what the program's calls answer
 get_result : (cs : List ProgramCall) (k : ℕ) → slice_get (map call_result cs) k ≡ map_option call_result (slice_get cs k)
 get_result [] k = refl
 get_result (c ∷ cs) zero = refl

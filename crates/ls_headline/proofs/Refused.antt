@@ -1,4 +1,4 @@
--- Each wrong image, refuted by a run.
+-- Each wrong code, refuted by a run.
 use Rattle.std.proofs.Common.{◌≡◌, ℕ, false, true, List, [], ◌∷◌, ◌++◌, length, ap, refl, arith, replicate}
 use Rattle.ls_meaning.specs.Methods.{invoke, depth_limit}
 use Rattle.ls_headline.specs.Example.{file, program}
@@ -6,13 +6,13 @@ use Rattle.ls_headline.specs.Same.{Same}
 use Rattle.ls_headline.specs.Threads.{Asks}
 use Rattle.ls_headline.specs.InTime.{EndsInTime}
 use Rattle.ls_headline.specs.Acting.{ActsInTime}
-use Rattle.ls_headline.specs.WrongImages.{no_file, no_calls, goes_round, stuck, still, fat, mute, two, swapped, fewer, locking_file, locking, gives_up, lost_race}
+use Rattle.ls_headline.specs.WrongCodes.{no_file, no_calls, goes_round, stuck, still, fat, mute, two, swapped, fewer, locking_file, locking, gives_up, lost_race}
 
 -- the setup's five actions, and T's six
 abbrev actions : List ℕ
 actions = replicate 5 0 ++ replicate 6 1
 
--- an image that stands still isn't the same
+-- code that stands still isn't the same
 pub still_not : Same file program still → ⊥
 unfolding invoke depth_limit
 still_not h = let e = (h.forth 9 (record { some = omega arith; most = omega arith; names = omega arith }) (0 ∷ []) (omega arith)).traces in cc
@@ -24,19 +24,19 @@ fat_not h =
     let e : ◌≡◌ {A = ℕ} 8 9 = ap length (h.forth 3 (record { some = omega arith; most = omega arith; names = omega arith }) (replicate 5 0 ++ replicate 4 1) (omega arith)).traces in
     absurd (omega arith)
 
--- an image that leaves out a return isn't the same
+-- code that leaves out a return isn't the same
 pub mute_not : Same file program mute → ⊥
 unfolding invoke depth_limit
 mute_not h =
     let e : ◌≡◌ {A = ℕ} 10 11 = ap length (h.forth 9 (record { some = omega arith; most = omega arith; names = omega arith }) actions (omega arith)).traces in
     absurd (omega arith)
 
--- an image with two threads in each other's place isn't the same
+-- code with two threads in each other's place isn't the same
 pub swapped_not : Same file two swapped → ⊥
 unfolding invoke depth_limit
 swapped_not h = let e = (h.forth 9 (record { some = omega arith; most = omega arith; names = omega arith }) (replicate 5 0 ++ 1 ∷ []) (omega arith)).traces in cc
 
--- an image with a thread too few isn't the same
+-- code with a thread too few isn't the same
 pub fewer_not : Same file two fewer → ⊥
 fewer_not h = let e = h.threads in absurd (omega arith)
 

@@ -225,7 +225,7 @@ module _ (file : File) (program : Program) (code : Code) (asks : Asks file progr
       let r = LiftForth.to_machine_right file program bound write InStep Later Live FitsNow forth_laws ts s0 m0 made.0 made.1 fits' in
       alike (to_machine file program code room ts) ts _ fits' refl r.0 (same_alive (run sd s0 ts) (trace sd s0 ts) r.1)
 
--- the theorem: an image that asks what its source asks is the same as its source
+-- the theorem: code that asks what its source asks is the same as its source
 pub same_right : (file : File) (program : Program) (code : Code) → Asks file program code → Means file program → Same file program code
 same_right file program code asks sound = record {
   threads = same_length code.starts program.threads asks.threads;

@@ -1,4 +1,4 @@
--- A thread of the image is fed, by its own instructions, with the words of locks and the outcomes of exchanges. The
+-- A thread of the code is fed, by its own instructions, with the words of locks and the outcomes of exchanges. The
 -- answers of its operations follow from these.
 use Rattle.std.specs.Prelude.{◌≡◌, ◌≢◌, ℕ, ◌≤◌, List, [], ◌∷◌, map, Option, Some, None, Bool, true, false, ◌==◌, if◌then◌else◌, slice_get}
 use Rattle.std.specs.List.{All}

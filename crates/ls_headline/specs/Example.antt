@@ -1,4 +1,4 @@
--- A small program and its image. They show that what is asked can be met.
+-- A small program and its code. They show that what is asked can be met.
 --
 --     class A { void work() { Lock l = new ReentrantLock(); l.lock(); } }
 --     setup { a = new A(); } thread T { a.work(); }

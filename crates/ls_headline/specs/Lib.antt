@@ -9,4 +9,4 @@ pub mod Rows
 pub mod ByWords
 pub mod InTime
 pub mod Acting
-pub mod WrongImages
+pub mod WrongCodes

@@ -1,4 +1,4 @@
--- An image is the same as its source.
+-- Code is the same as its source.
 use Rattle.std.specs.Prelude.{◌≡◌, ℕ, ◌+◌, ◌≤◌, List, [], ◌∷◌, length}
 use Rattle.ls_code.specs.Limits.{most_cells}
 use Rattle.ls_checked.specs.CheckedTree.{File}
@@ -26,7 +26,7 @@ total (o ∷ os) = size_of o + total os
 abbrev pub Fits : File → Program → ℕ → List ℕ → Type 0
 Fits file program cells schedule = length program.names + total (source_run file program schedule).store.things ≤ cells
 
--- a number of cells with which a machine can be made of an image
+-- a number of cells with which a machine can be made of code
 pub record IsCells (code : Code) (cells : ℕ) : Type 0 where
   pub some : 1 ≤ cells
   pub most : cells ≤ most_cells

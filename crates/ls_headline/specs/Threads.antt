@@ -1,4 +1,4 @@
--- What is asked of an image and of the meaning. If it is met, the image's runs are the source's.
+-- What is asked of code and of the meaning. If it is met, the code's runs are the source's.
 use Rattle.std.specs.Prelude.{◌≡◌, ℕ, ◌+◌, List, length, map, Option, Some, None, slice_get}
 use Rattle.ls_events.specs.declared.value.Value.{Value}
 use Rattle.ls_events.specs.declared.value.ValueType.{ValueType}
@@ -30,7 +30,7 @@ told Trapped = fed.Trapped
 abbrev pub object_cells : ℕ → ℕ
 object_cells fields = fields + 1
 
--- what a call answers, as the image's table of calls has it
+-- what a call answers, as the code's table of calls has it
 abbrev pub result_type : Option ValueType → CallResult
 result_type None = result.Nothing
 result_type (Some type.Int) = result.Int
@@ -46,7 +46,7 @@ calls_of None None = Unit {0}
 calls_of (Some s) (Some t) = s.calls ≡ map call_result t.calls
 calls_of _ _ = ⊥
 
--- what the image promises
+-- what the code promises
 pub record Asks (file : File) (program : Program) (code : Code) : Type 0 where
   -- If a thread gets answers in kind, it asks what the source asks next, and ends as the source ends. It is never
   -- stuck, nor silent for too long. Its waiting for a lock doesn't count.

@@ -18,8 +18,8 @@ ghost use Rattle.ls_headline.specs.Rows;
 
 use ls_meaning::laws::next_renames;
 
-/// Assume that the threads of an image ask what the source asks. Assume too that the source's constants name no
-/// object, and that its threads ask on things of the right types. Then the image is the same as its source, for each
+/// Assume that the threads of code ask what the source asks. Assume too that the source's constants name no
+/// object, and that its threads ask on things of the right types. Then the code is the same as its source, for each
 /// number of cells. Each schedule of instructions has a schedule of source steps with the same trace and history. Each
 /// schedule of source steps that fits has a schedule of instructions with the same trace and history.
 pub fn same_traces()
@@ -36,7 +36,7 @@ pub fn fed_by_words()
     ensures { FedByWords }
 {}
 
-/// So if the threads of an image ask what the source asks, they ask for it by their own instructions.
+/// So if the threads of code ask what the source asks, they ask for it by their own instructions.
 #[tactic(auto, using(crate::proofs::AskedByWords::asks_by_words))]
 pub fn asks_by_words()
     ensures { (file : File) (program : Program) (code : Code) → Asks file program code → All IsExchanged code.instructions → AsksByWords file program code }
@@ -54,8 +54,8 @@ pub fn fits_shorter()
     ensures { (file : File) (program : Program) (cells : ℕ) (first rest : List ℕ) → Fits file program cells (first ++ rest) → Fits file program cells first }
 {}
 
-/// What is asked of an image and of the meaning can be met. A program meets it whose setup makes an object and whose
-/// other thread takes a lock, with an image of that program.
+/// What is asked of code and of the meaning can be met. A program meets it whose setup makes an object and whose
+/// other thread takes a lock, with code of that program.
 pub fn example()
     ensures asks { Asks Example.file Example.program Example.code }
     ensures constants { FileHasConstants Example.file × ProgramHasConstants Example.program }

@@ -10,9 +10,9 @@ use Rattle.ls_refs_expressions.specs.Lowered.{lowered_file}
 use Rattle.ls_refs.specs.Refused.{AllFit}
 use Rattle.ls_finally.specs.Flat.{flat_file}
 use Rattle.ls_finally.specs.Counts.{FewLocals, FewCopies, Refused}
-use Rattle.ls_finally_counts.specs.declared.fault.CountFault.{CountFault}
-use Rattle.ls_finally_counts.specs.declared.fault.CountFault.TheVariants as counts
-use Rattle.ls_finally_counts.specs.Refused as counted
+use Rattle.ls_linker_counts.specs.declared.fault.CountFault.{CountFault}
+use Rattle.ls_linker_counts.specs.declared.fault.CountFault.TheVariants as counts
+use Rattle.ls_linker_counts.specs.Refused as counted
 use Rattle.ls_emit.specs.Short.{AllShort}
 use Rattle.ls_emit.specs.declared.fault.EmitFault.{EmitFault}
 use Rattle.ls_emit.specs.declared.fault.EmitFault.TheVariants as emit

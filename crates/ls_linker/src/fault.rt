@@ -6,7 +6,7 @@ ghost use Rattle.ls_linker.specs.declared.fault.BuildFault.TheVariants.{Lower, E
 ghost use Rattle.ls_linker.specs.Counted.{of_counts};
 
 use ls_emit::fault::EmitFault;
-use ls_finally_counts::fault::CountFault;
+use ls_linker_counts::fault::CountFault;
 use ls_lowered::fault::LowerFault;
 use std::alloc::AllocError;
 use thiserror::Error;

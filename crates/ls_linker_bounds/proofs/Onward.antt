@@ -122,7 +122,7 @@ module _ (n : ℕ) (B : ℕ → Type 0) where
   frame_on op.Sub f h = two_on f.counter (top_two f.operands) _ (λ a b. step f.counter h)
   frame_on op.Mul f h = two_on f.counter (top_two f.operands) _ (λ a b. step f.counter h)
   frame_on op.Div f h = two_on f.counter (top_two f.operands) _ (λ a b. if_on f.counter (b % 2 ^ 32 == 0) _ _ tt (step f.counter h))
-  frame_on op.Rem f h = two_on f.counter (top_two f.operands) _ (λ a b. if_on f.counter (b % 2 ^ 32 == 0) _ _ tt (step f.counter h))
+  frame_on op.Remainder f h = two_on f.counter (top_two f.operands) _ (λ a b. if_on f.counter (b % 2 ^ 32 == 0) _ _ tt (step f.counter h))
   frame_on op.Neg f h = one_on f.counter (top_one f.operands) _ (λ a. step f.counter h)
   frame_on op.Lt f h = two_on f.counter (top_two f.operands) _ (λ a b. step f.counter h)
   frame_on op.Le f h = two_on f.counter (top_two f.operands) _ (λ a b. step f.counter h)

@@ -155,7 +155,7 @@ module _ (c : Code) (t : Thread) (trap : ℕ) where
     by_own op.Sub own = absurd own
     by_own op.Mul own = absurd own
     by_own op.Div own = absurd own
-    by_own op.Rem own = absurd own
+    by_own op.Remainder own = absurd own
     by_own op.Neg own = absurd own
     by_own op.Lt own = absurd own
     by_own op.Le own = absurd own

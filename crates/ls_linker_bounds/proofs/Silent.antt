@@ -71,7 +71,7 @@ module _ (n : ℕ) where
   turned B C f p op.Sub h = h
   turned B C f p op.Mul h = h
   turned B C f p op.Div h = h
-  turned B C f p op.Rem h = h
+  turned B C f p op.Remainder h = h
   turned B C f p op.Neg h = h
   turned B C f p op.Lt h = h
   turned B C f p op.Le h = h

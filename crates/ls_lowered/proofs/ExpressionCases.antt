@@ -9,7 +9,7 @@ use Rattle.ls_lowered.specs.declared.tree.BinaryOperator.TheVariants as op
 use Rattle.ls_lowered.specs.declared.tree.LockOperation.TheVariants as lock
 use Rattle.ls_lowered.specs.LoweredTree.{Expression, Word, Local, Unary, Binary, And, Or, Hold, Keep, After, Field, Item, SetFirst, ReadPair, SetPair, SwapPair, AttemptMark, OnLock, Call, MakeObject, MakeLock, MakeMarkable, MakeArray, End, More}
 use Rattle.ls_lowered.specs.Course.{Answers, Course, Asks, Ends, Outcome, Results, Throws, Told, Gave, Raised}
-use Rattle.ls_lowered.specs.Expressions.{find}
+use Rattle.ls_lowered.specs.Expressions.{evaluate}
 
 -- a method answers the number of its arguments, 0 traps
 abbrev calls : ℕ → List ℕ → Answers → Told
@@ -18,7 +18,7 @@ calls m (x ∷ []) q = Gave (m + 1) q
 calls m (x ∷ y ∷ ws) q = Raised Arithmetic q
 
 abbrev at : Expression → Answers → Course (Outcome ℕ)
-at e q = find calls e (7 ∷ 0 ∷ 4 ∷ []) q
+at e q = evaluate calls e (7 ∷ 0 ∷ 4 ∷ []) q
 
 abbrev is : ℕ → Course (Outcome ℕ)
 is w = Ends (Results w) (7 ∷ 0 ∷ 4 ∷ []) []

@@ -62,48 +62,48 @@ make_array n locals rest =
     if int_lt (int_of n) (pos 0) then Ends (Throws NegativeArraySize) locals rest else ask (act.NewArray (int_of n)) locals rest
 
 abbrev mutual
-  pub find : Calls → Expression → List ℕ → Answers → Course (Outcome ℕ)
-  find calls (Word w) ls q = Ends (Results w) ls q
-  find calls (Local n) ls q = Ends (Results (slice_index ls n)) ls q
-  find calls (Unary o e) ls q = and_then (find calls e ls q) (λ x ls q. Ends (Results (unary_word o x)) ls q)
-  find calls (Binary o a b) ls q = and_then (find calls a ls q) (λ x ls q. and_then (find calls b ls q) (λ y ls q. operate o x y ls q))
-  find calls (And a b) ls q = and_then (find calls a ls q) (λ x ls q. if nat_eq x 0 then Ends (Results 0) ls q else find calls b ls q)
-  find calls (Or a b) ls q = and_then (find calls a ls q) (λ x ls q. if nat_eq x 0 then find calls b ls q else Ends (Results 1) ls q)
-  find calls (Hold a n b) ls q =
-      and_then (find calls a ls q) (λ x ls q. and_then (find calls b ls q) (λ y ls q. Ends (Results x) (slice_set ls n y) q))
-  find calls (Keep n a b) ls q = and_then (find calls a ls q) (λ x ls q. find calls b (slice_set ls n x) q)
-  find calls (After a b) ls q = and_then (find calls a ls q) (λ x ls q. find calls b ls q)
-  find calls (Field e f) ls q =
-      and_then (find calls e ls q) (λ x ls q. unless_null x ls q (ask (act.ReadField x (f + 1)) ls q))
-  find calls (Item a i) ls q =
-      and_then (find calls a ls q) (λ x ls q. and_then (find calls i ls q) (λ n ls q.
+  pub evaluate : Calls → Expression → List ℕ → Answers → Course (Outcome ℕ)
+  evaluate calls (Word w) ls q = Ends (Results w) ls q
+  evaluate calls (Local n) ls q = Ends (Results (slice_index ls n)) ls q
+  evaluate calls (Unary o e) ls q = and_then (evaluate calls e ls q) (λ x ls q. Ends (Results (unary_word o x)) ls q)
+  evaluate calls (Binary o a b) ls q = and_then (evaluate calls a ls q) (λ x ls q. and_then (evaluate calls b ls q) (λ y ls q. operate o x y ls q))
+  evaluate calls (And a b) ls q = and_then (evaluate calls a ls q) (λ x ls q. if nat_eq x 0 then Ends (Results 0) ls q else evaluate calls b ls q)
+  evaluate calls (Or a b) ls q = and_then (evaluate calls a ls q) (λ x ls q. if nat_eq x 0 then evaluate calls b ls q else Ends (Results 1) ls q)
+  evaluate calls (Hold a n b) ls q =
+      and_then (evaluate calls a ls q) (λ x ls q. and_then (evaluate calls b ls q) (λ y ls q. Ends (Results x) (slice_set ls n y) q))
+  evaluate calls (Keep n a b) ls q = and_then (evaluate calls a ls q) (λ x ls q. evaluate calls b (slice_set ls n x) q)
+  evaluate calls (After a b) ls q = and_then (evaluate calls a ls q) (λ x ls q. evaluate calls b ls q)
+  evaluate calls (Field e f) ls q =
+      and_then (evaluate calls e ls q) (λ x ls q. unless_null x ls q (ask (act.ReadField x (f + 1)) ls q))
+  evaluate calls (Item a i) ls q =
+      and_then (evaluate calls a ls q) (λ x ls q. and_then (evaluate calls i ls q) (λ n ls q.
       unless_null x ls q (ask (act.ReadItem x (int_of n)) ls q)))
-  find calls (SetFirst a e) ls q =
-      and_then (find calls a ls q) (λ x ls q. and_then (find calls e ls q) (λ y ls q.
+  evaluate calls (SetFirst a e) ls q =
+      and_then (evaluate calls a ls q) (λ x ls q. and_then (evaluate calls e ls q) (λ y ls q.
       unless_null x ls q (perform (act.WriteItem x (pos 0) y) ls q)))
-  find calls (ReadPair e) ls q = and_then (find calls e ls q) (λ x ls q. unless_null x ls q (ask (act.ReadPair x) ls q))
-  find calls (SetPair e a) ls q =
-      and_then (find calls e ls q) (λ x ls q. and_then (find calls a ls q) (λ y ls q.
+  evaluate calls (ReadPair e) ls q = and_then (evaluate calls e ls q) (λ x ls q. unless_null x ls q (ask (act.ReadPair x) ls q))
+  evaluate calls (SetPair e a) ls q =
+      and_then (evaluate calls e ls q) (λ x ls q. and_then (evaluate calls a ls q) (λ y ls q.
       unless_null x ls q (perform (act.SetPair x y) ls q)))
-  find calls (SwapPair e a b) ls q =
-      and_then (find calls e ls q) (λ x ls q. and_then (find calls a ls q) (λ y ls q. and_then (find calls b ls q) (λ z ls q.
+  evaluate calls (SwapPair e a b) ls q =
+      and_then (evaluate calls e ls q) (λ x ls q. and_then (evaluate calls a ls q) (λ y ls q. and_then (evaluate calls b ls q) (λ z ls q.
       unless_null x ls q (ask (act.SwapPair x y z) ls q))))
-  find calls (AttemptMark e a b) ls q =
-      and_then (find calls e ls q) (λ x ls q. and_then (find calls a ls q) (λ y ls q. and_then (find calls b ls q) (λ z ls q.
+  evaluate calls (AttemptMark e a b) ls q =
+      and_then (evaluate calls e ls q) (λ x ls q. and_then (evaluate calls a ls q) (λ y ls q. and_then (evaluate calls b ls q) (λ z ls q.
       unless_null x ls q (ask (act.AttemptMark x y (bool_of z)) ls q))))
-  find calls (OnLock o e) ls q = and_then (find calls e ls q) (λ x ls q. unless_null x ls q (operate_lock o x ls q))
-  find calls (Call m e es) ls q =
-      and_then (find calls e ls q) (λ x ls q. and_then (find_all calls es ls q) (λ ws ls q.
+  evaluate calls (OnLock o e) ls q = and_then (evaluate calls e ls q) (λ x ls q. unless_null x ls q (operate_lock o x ls q))
+  evaluate calls (Call m e es) ls q =
+      and_then (evaluate calls e ls q) (λ x ls q. and_then (evaluate_all calls es ls q) (λ ws ls q.
       unless_null x ls q (returned ls (calls m (x ∷ ws) q))))
-  find calls (MakeObject c m es) ls q =
-      and_then (ask (act.New c) ls q) (λ x ls q. and_then (find_all calls es ls q) (λ ws ls q.
+  evaluate calls (MakeObject c m es) ls q =
+      and_then (ask (act.New c) ls q) (λ x ls q. and_then (evaluate_all calls es ls q) (λ ws ls q.
       unless_null x ls q (and_then (returned ls (calls m (x ∷ ws) q)) (λ w ls q. Ends (Results x) ls q))))
-  find calls MakeLock ls q = ask act.NewLock ls q
-  find calls (MakeMarkable e) ls q = and_then (find calls e ls q) (λ x ls q. ask (act.NewMarkable x) ls q)
-  find calls (MakeArray e) ls q = and_then (find calls e ls q) make_array
+  evaluate calls MakeLock ls q = ask act.NewLock ls q
+  evaluate calls (MakeMarkable e) ls q = and_then (evaluate calls e ls q) (λ x ls q. ask (act.NewMarkable x) ls q)
+  evaluate calls (MakeArray e) ls q = and_then (evaluate calls e ls q) make_array
 
   -- arguments, from the left
-  pub find_all : Calls → Expressions → List ℕ → Answers → Course (Outcome (List ℕ))
-  find_all calls End ls q = Ends (Results []) ls q
-  find_all calls (More e es) ls q =
-      and_then (find calls e ls q) (λ w ls q. and_then (find_all calls es ls q) (λ ws ls q. Ends (Results (w ∷ ws)) ls q))
+  pub evaluate_all : Calls → Expressions → List ℕ → Answers → Course (Outcome (List ℕ))
+  evaluate_all calls End ls q = Ends (Results []) ls q
+  evaluate_all calls (More e es) ls q =
+      and_then (evaluate calls e ls q) (λ w ls q. and_then (evaluate_all calls es ls q) (λ ws ls q. Ends (Results (w ∷ ws)) ls q))

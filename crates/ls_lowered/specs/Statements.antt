@@ -7,7 +7,7 @@ use Rattle.ls_lowered.specs.LoweredTree.{Statement, Block, SetLocal, SetField, A
 use Rattle.ls_lowered.specs.Words.{int_of, kind_word, kind_of}
 use Rattle.ls_lowered.specs.Course.{Answers, Course, Asks, Ends, Stuck, Outcome, Results, Throws, Calls, finish, and_then, ask, perform, unless_null}
 use Rattle.ls_lowered.specs.declared.tree.BinaryOperator.TheVariants as op
-use Rattle.ls_lowered.specs.Expressions.{operate, find}
+use Rattle.ls_lowered.specs.Expressions.{operate, evaluate}
 
 -- how a statement completes; `Left n` goes on at exit n of the leavable statement around it, or further out
 pub data Completion : Type 0 where
@@ -86,22 +86,22 @@ and_normal x = finish x (on_word (λ w ls q. Ends Normal ls q))
 abbrev mutual
   pub execute : Calls → Statement → List ℕ → Answers → Course Completion
   execute calls (Block ss) ls q = execute_all calls ss ls q
-  execute calls (SetLocal n e) ls q = finish (find calls e ls q) (on_word (λ w ls q. Ends Normal (slice_set ls n w) q))
+  execute calls (SetLocal n e) ls q = finish (evaluate calls e ls q) (on_word (λ w ls q. Ends Normal (slice_set ls n w) q))
   execute calls (SetField e f e') ls q =
-      and_normal (and_then (find calls e ls q) (λ x ls q. and_then (find calls e' ls q) (λ y ls q.
+      and_normal (and_then (evaluate calls e ls q) (λ x ls q. and_then (evaluate calls e' ls q) (λ y ls q.
       unless_null x ls q (perform (act.WriteField x (f + 1) y) ls q))))
   execute calls (AddField e f e') ls q =
-      and_normal (and_then (find calls e ls q) (λ x ls q. and_then (unless_null x ls q (ask (act.ReadField x (f + 1)) ls q)) (λ y ls q.
-      and_then (find calls e' ls q) (λ z ls q. and_then (operate op.Add y z ls q) (λ w ls q.
+      and_normal (and_then (evaluate calls e ls q) (λ x ls q. and_then (unless_null x ls q (ask (act.ReadField x (f + 1)) ls q)) (λ y ls q.
+      and_then (evaluate calls e' ls q) (λ z ls q. and_then (operate op.Add y z ls q) (λ w ls q.
       unless_null x ls q (perform (act.WriteField x (f + 1) w) ls q))))))
   execute calls (SetItem a i e) ls q =
-      and_normal (and_then (find calls a ls q) (λ x ls q. and_then (find calls i ls q) (λ n ls q. and_then (find calls e ls q) (λ y ls q.
+      and_normal (and_then (evaluate calls a ls q) (λ x ls q. and_then (evaluate calls i ls q) (λ n ls q. and_then (evaluate calls e ls q) (λ y ls q.
       unless_null x ls q (perform (act.WriteItem x (int_of n) y) ls q)))))
-  execute calls (Evaluate e) ls q = and_normal (find calls e ls q)
+  execute calls (Evaluate e) ls q = and_normal (evaluate calls e ls q)
   execute calls (If e a b) ls q =
-      finish (find calls e ls q) (on_word (λ w ls q. if nat_eq w 0 then execute calls b ls q else execute calls a ls q))
-  execute calls (While e s) ls q = turns (length q) (find calls e) (execute calls s) ls q
-  execute calls (Return e) ls q = finish (find calls e ls q) (on_word (λ w ls q. Ends (Returned w) ls q))
+      finish (evaluate calls e ls q) (on_word (λ w ls q. if nat_eq w 0 then execute calls b ls q else execute calls a ls q))
+  execute calls (While e s) ls q = turns (length q) (evaluate calls e) (execute calls s) ls q
+  execute calls (Return e) ls q = finish (evaluate calls e ls q) (on_word (λ w ls q. Ends (Returned w) ls q))
   execute calls (Try b f) ls q = finish (execute calls b ls q) (on_any (execute calls f))
   execute calls (Guarded b n h) ls q =
       finish (execute calls b ls q) (on_throw (λ kind ls q. execute calls h (slice_set ls n (kind_word kind)) q))

@@ -1,4 +1,4 @@
-//! The parallel word machine: it runs an image, one instruction of one thread a step. A step takes no memory and always
+//! The parallel word machine: it runs code, one instruction of one thread a step. A step takes no memory and always
 //! succeeds.
 #![tactic(auto)]
 

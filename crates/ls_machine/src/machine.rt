@@ -30,7 +30,7 @@ pub mod saving;
 /// The most cells of a machine.
 pub const MOST_CELLS: usize = 4_194_304;
 
-/// A machine that runs an image, with all the memory that any run of it takes.
+/// A machine that runs code, with all the memory that any run of it takes.
 #[derive(Drop)]
 pub struct Machine {
     code: Code,
@@ -55,7 +55,7 @@ impl Model for Machine {
 }
 
 impl Machine {
-    /// The machine of an image, at its start, with so many cells, and with all the memory that any run of it takes.
+    /// The machine of code, at its start, with so many cells, and with all the memory that any run of it takes.
     pub fn load(alloc: Global, code: &Code, cells: usize) -> Result<Machine, LoadFault>
         ensures bad { IsErrOf result LoadFault.BadCells ↔ AreBadCells code.now.names cells }
         ensures loaded { IfOk result (λ m. m ≡ loaded code.now cells) }
@@ -213,7 +213,7 @@ impl Machine {
     }
 }
 
-/// The machine of an image at its start.
+/// The machine of code at its start.
 fn load_all(alloc: Global, code: &Code, cells: usize) -> Result<Machine, AllocError>
     requires names { code.now.names ≤ cells }
     requires few { cells ≤ most_cells }

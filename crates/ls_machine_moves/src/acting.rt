@@ -124,7 +124,7 @@ pub fn advance(frame: &Frame, instruction: Instruction) -> Flow
         | Instruction::Sub
         | Instruction::Mul
         | Instruction::Div
-        | Instruction::Rem
+        | Instruction::Remainder
         | Instruction::Neg
         | Instruction::Lt
         | Instruction::Le

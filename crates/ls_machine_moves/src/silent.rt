@@ -162,7 +162,7 @@ pub fn quick(frame: &mut Frame, instruction: Instruction) -> Quick
         Instruction::Sub => binary!(frame, a, b => words::difference(a, b)),
         Instruction::Mul => binary!(frame, a, b => words::product(a, b)),
         Instruction::Div => dividing!(frame, a, b => words::quotient(a, b)),
-        Instruction::Rem => dividing!(frame, a, b => words::remainder(a, b)),
+        Instruction::Remainder => dividing!(frame, a, b => words::remainder(a, b)),
         Instruction::Neg => unary!(frame, a => words::negative(a)),
         Instruction::Lt => binary!(frame, a, b => words::less(a, b)),
         Instruction::Le => binary!(frame, a, b => words::at_most(a, b)),

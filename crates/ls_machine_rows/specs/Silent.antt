@@ -37,11 +37,11 @@ abbrev pub Divisions : Type 0
 Divisions =
     (Goes op.Div (2 ∷ 7 ∷ []) 1 (3 ∷ []))
     × (Goes op.Div (2 ∷ 4294967289 ∷ []) 1 (4294967293 ∷ []))
-    × (Goes op.Rem (2 ∷ 7 ∷ []) 1 (1 ∷ []))
-    × (Goes op.Rem (2 ∷ 4294967289 ∷ []) 1 (4294967295 ∷ []))
-    × (Goes op.Rem (4294967294 ∷ 7 ∷ []) 1 (1 ∷ []))
+    × (Goes op.Remainder (2 ∷ 7 ∷ []) 1 (1 ∷ []))
+    × (Goes op.Remainder (2 ∷ 4294967289 ∷ []) 1 (4294967295 ∷ []))
+    × (Goes op.Remainder (4294967294 ∷ 7 ∷ []) 1 (1 ∷ []))
     × (Throws op.Div (0 ∷ 7 ∷ []) 1)
-    × (Throws op.Rem (0 ∷ 7 ∷ []) 1)
+    × (Throws op.Remainder (0 ∷ 7 ∷ []) 1)
 
 -- a b, signed
 abbrev pub Comparisons : Type 0

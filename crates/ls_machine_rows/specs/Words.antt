@@ -19,7 +19,7 @@ WithoutOperand =
     × HasWord op.Sub 7
     × HasWord op.Mul 8
     × HasWord op.Div 9
-    × HasWord op.Rem 10
+    × HasWord op.Remainder 10
     × HasWord op.Neg 11
     × HasWord op.Lt 12
     × HasWord op.Le 13

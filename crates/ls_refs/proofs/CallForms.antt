@@ -18,7 +18,7 @@ use Rattle.ls_meaning.specs.Expressions.{Calls, arguments}
 use Rattle.ls_lowered.specs.Words as words
 use Rattle.ls_lowered.specs.LoweredTree as trees
 use Rattle.ls_lowered.specs.Course as low
-use Rattle.ls_lowered.specs.Expressions.{find, flag_word}
+use Rattle.ls_lowered.specs.Expressions.{evaluate, flag_word}
 use Rattle.ls_refs_expressions.specs.ValueWords.{value_word}
 use Rattle.ls_types_judgement.specs.Sorts.{HasType, HasSort}
 use Rattle.ls_types_judgement.specs.Typing.{answer_sort, parameters_of}
@@ -123,7 +123,7 @@ module _ (P : ℕ → ValueType → Type 0) (small : (n : ℕ) (t : ValueType) �
   pub reference_agrees : (c : ℕ) (e : Expression) → Good P file calls calls' slots (ValueOf (types.Markable c)) e → Good P file calls calls' slots (ValueOf (types.Class c)) (Call e (GetReference c) End)
   reference_agrees c e a = record {
     good = λ base ls old h le room.
-        flat P _ _ base old _ (λ q. find calls' (lowered file.classes (base + 0) e) old q) (λ x l q. low.unless_null x l q (low.ask (act.ReadPair x) l q)) _ (
+        flat P _ _ base old _ (λ q. evaluate calls' (lowered file.classes (base + 0) e) old q) (λ x l q. low.unless_null x l q (low.ask (act.ReadPair x) l q)) _ (
         then_agrees P _ _ _ _ base (base + 0) base old _ _ _ _ (omega arith) (omega arith) (a.good (base + 0) ls old h (omega arith) (omega arith)) (λ o l ho k.
         null_and P _ _ base l _ _ _ _ _ (reference_word P o (types.Markable c) tt ho) (
         then_agrees P _ _ _ _ base base base l _ _ _ _ (omega arith) (omega arith) (ask_agrees P base l (act.ReadPair (reference_of o)) (PairOf c) (act.ReadPair (value_word o)) (ap act.ReadPair (reference_word P o (types.Markable c) tt ho))) (λ p l2 hp k2.
@@ -134,7 +134,7 @@ module _ (P : ℕ → ValueType → Type 0) (small : (n : ℕ) (t : ValueType) �
   pub marked_agrees : (c : ℕ) (e : Expression) → Good P file calls calls' slots (ValueOf (types.Markable c)) e → Good P file calls calls' slots (ValueOf types.Boolean) (Call e (IsMarked c) End)
   marked_agrees c e a = record {
     good = λ base ls old h le room.
-        flat P _ _ base old _ (λ q. find calls' (lowered file.classes (base + 0) e) old q) (λ x l q. low.unless_null x l q (low.ask (act.ReadPair x) l q)) _ (
+        flat P _ _ base old _ (λ q. evaluate calls' (lowered file.classes (base + 0) e) old q) (λ x l q. low.unless_null x l q (low.ask (act.ReadPair x) l q)) _ (
         then_agrees P _ _ _ _ base (base + 0) base old _ _ _ _ (omega arith) (omega arith) (a.good (base + 0) ls old h (omega arith) (omega arith)) (λ o l ho k.
         null_and P _ _ base l _ _ _ _ _ (reference_word P o (types.Markable c) tt ho) (
         then_agrees P _ _ _ _ base base base l _ _ _ _ (omega arith) (omega arith) (ask_agrees P base l (act.ReadPair (reference_of o)) (PairOf c) (act.ReadPair (value_word o)) (ap act.ReadPair (reference_word P o (types.Markable c) tt ho))) (λ p l2 hp k2.
@@ -157,10 +157,10 @@ module _ (P : ℕ → ValueType → Type 0) (small : (n : ℕ) (t : ValueType) �
   pack_outer low.Stuck b k' go h = refl
 
   pack_and : (H : Value → Type 0) (base : ℕ) (old : List ℕ) (x : Answers → Evaluated Value) (a b : trees.Expression) (k' : ℕ → List ℕ → low.Answers → low.Course (low.Outcome ℕ)) →
-      Agrees P H value_word base old x (λ q. low.and_then (find calls' a old q) (λ w l r. low.and_then (find calls' b l r) (λ y l r. k' (words.pair_word w y) l r))) →
-      Agrees P H value_word base old x (λ q. low.and_then (find calls' (pack a b) old q) k')
+      Agrees P H value_word base old x (λ q. low.and_then (evaluate calls' a old q) (λ w l r. low.and_then (evaluate calls' b l r) (λ y l r. k' (words.pair_word w y) l r))) →
+      Agrees P H value_word base old x (λ q. low.and_then (evaluate calls' (pack a b) old q) k')
   pack_and H base old x a b k' s = record {
-    sim = λ go h go' h' kg kh. sim_eq P _ _ _ _ (λ q. refl) (λ q. pack_outer (find calls' a old q) (λ l r. find calls' b l r) k' go' h') (s.sim go h go' h' kg kh);
+    sim = λ go h go' h' kg kh. sim_eq P _ _ _ _ (λ q. refl) (λ q. pack_outer (evaluate calls' a old q) (λ l r. evaluate calls' b l r) k' go' h') (s.sim go h go' h' kg kh);
   }
 
   -- a reference and a mark as arguments give the word of their pair
@@ -168,7 +168,7 @@ module _ (P : ℕ → ValueType → Type 0) (small : (n : ℕ) (t : ValueType) �
       (H : Value → Type 0) (base : ℕ) (ls : List Value) (old : List ℕ) (k : List Value → Answers → Evaluated Value) (k' : ℕ → List ℕ → low.Answers → low.Course (low.Outcome ℕ)) →
       Holds P slots ls old → length slots ≤ base → base + temporaries r + temporaries m ≤ length old →
       ((x y : Value) (l : List ℕ) → HasType P x (types.Class c) → HasType P y types.Boolean → Agrees P H value_word base l (λ q. k (x ∷ y ∷ []) q) (λ q. k' (value_word (pair_of x y)) l q)) →
-      Agrees P H value_word base old (λ q. with_value (arguments file.classes calls (More r (More m End)) ls q) k) (λ q. low.and_then (find calls' (pack (lowered file.classes base r) (lowered file.classes (base + temporaries r) m)) old q) k')
+      Agrees P H value_word base old (λ q. with_value (arguments file.classes calls (More r (More m End)) ls q) k) (λ q. low.and_then (evaluate calls' (pack (lowered file.classes base r) (lowered file.classes (base + temporaries r) m)) old q) k')
   pair_arguments c r m ar am H base ls old k k' h le room f =
       one_argument P file calls calls' H value_word base old r (More m End) ls k _ (pack_and H base old _ (lowered file.classes base r) (lowered file.classes (base + temporaries r) m) k' (
       then_agrees P _ _ _ _ base base base old _ _ _ _ (omega arith) (omega arith) (ar.good base ls old h le (omega arith)) (λ x l hx k1.

@@ -12,7 +12,7 @@ use Rattle.ls_meaning.specs.Values.{nothing}
 use Rattle.ls_meaning.specs.Course.{Answers, Evaluated, Asks, Results, Throws, with_value}
 use Rattle.ls_meaning.specs.Expressions.{Calls, evaluate, arguments}
 use Rattle.ls_lowered.specs.Course as low
-use Rattle.ls_lowered.specs.Expressions.{find, find_all}
+use Rattle.ls_lowered.specs.Expressions.{evaluate as find, evaluate_all}
 use Rattle.ls_refs_expressions.specs.ValueWords.{value_word}
 use Rattle.ls_types_judgement.specs.Sorts.{HasType, HasSort, HaveTypes}
 use Rattle.ls_types_judgement.specs.Typing.{answer_sort, parameters_of}
@@ -59,7 +59,7 @@ module _ (P : ℕ → ValueType → Type 0) (file : File) (calls : Calls) (calls
 
     -- then all arguments, one after another, do
     pub all_agree : (ts : List ValueType) (es : Expressions) (base : ℕ) (ls : List Value) (old : List ℕ) → Each ts es → Holds P slots ls old → length slots ≤ base → base + all_temporaries es ≤ length old →
-        Agrees P (HaveTypes P ts) (map value_word) base old (λ q. arguments file.classes calls es ls q) (λ q. find_all calls' (all_lowered file.classes base es) old q)
+        Agrees P (HaveTypes P ts) (map value_word) base old (λ q. arguments file.classes calls es ls q) (λ q. evaluate_all calls' (all_lowered file.classes base es) old q)
     all_agree [] End base ls old t h le room = gets_agrees P (HaveTypes P []) (map value_word) base old [] [] tt refl
     all_agree (t ∷ ts) (More e es) base ls old g h le room =
         then_agrees P _ _ _ _ base base (base + temporaries e) old _ _ _ _ (omega arith) (omega arith) (g.0.good base ls old h le (omega arith)) (λ v l hv k.

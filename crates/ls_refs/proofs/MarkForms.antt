@@ -17,7 +17,7 @@ use Rattle.ls_meaning.specs.Expressions.{Calls}
 use Rattle.ls_lowered.specs.Words as words
 use Rattle.ls_lowered.specs.LoweredTree as trees
 use Rattle.ls_lowered.specs.Course as low
-use Rattle.ls_lowered.specs.Expressions.{find}
+use Rattle.ls_lowered.specs.Expressions.{evaluate}
 use Rattle.ls_refs_expressions.specs.ValueWords.{value_word}
 use Rattle.ls_types_judgement.specs.Sorts.{HasType, HasSort}
 use Rattle.ls_refs_expressions.specs.Temporaries.{temporaries}
@@ -45,14 +45,14 @@ pair_of_slots P x m c i j e f hx hm = ap (λ n. words.pair_word n j) e ∙ ap (�
 module _ (P : ℕ → ValueType → Type 0) (small : (n : ℕ) (t : ValueType) → P n t → n < 2 ^ 32) (file : File) (calls : Calls) (calls' : low.Calls) (slots : List ValueType) where
   -- a word that is kept on the operands while a temporary is set
   held : (H : Value → Type 0) (base : ℕ) (old : List ℕ) (x : Answers → Evaluated Value) (a : trees.Expression) (i : ℕ) (b : trees.Expression) (k' : ℕ → List ℕ → low.Answers → low.Course (low.Outcome ℕ)) →
-      Agrees P H value_word base old x (λ q. low.and_then (find calls' a old q) (λ w l r. low.and_then (low.and_then (find calls' b l r) (λ y l2 r2. low.Ends (low.Results w) (slice_set l2 i y) r2)) k')) →
-      Agrees P H value_word base old x (λ q. low.and_then (find calls' (trees.Hold a i b) old q) k')
-  held H base old x a i b k' s = flat P H value_word base old x (λ q. find calls' a old q) (λ w l r. low.and_then (find calls' b l r) (λ y l2 r2. low.Ends (low.Results w) (slice_set l2 i y) r2)) k' s
+      Agrees P H value_word base old x (λ q. low.and_then (evaluate calls' a old q) (λ w l r. low.and_then (low.and_then (evaluate calls' b l r) (λ y l2 r2. low.Ends (low.Results w) (slice_set l2 i y) r2)) k')) →
+      Agrees P H value_word base old x (λ q. low.and_then (evaluate calls' (trees.Hold a i b) old q) k')
+  held H base old x a i b k' s = flat P H value_word base old x (λ q. evaluate calls' a old q) (λ w l r. low.and_then (evaluate calls' b l r) (λ y l2 r2. low.Ends (low.Results w) (slice_set l2 i y) r2)) k' s
 
   held_next : (H : Value → Type 0) (base : ℕ) (old : List ℕ) (x : Answers → Evaluated Value) (b : trees.Expression) (i w : ℕ) (k' : ℕ → List ℕ → low.Answers → low.Course (low.Outcome ℕ)) →
-      Agrees P H value_word base old x (λ q. low.and_then (find calls' b old q) (λ y l2 r2. k' w (slice_set l2 i y) r2)) →
-      Agrees P H value_word base old x (λ q. low.and_then (low.and_then (find calls' b old q) (λ y l2 r2. low.Ends (low.Results w) (slice_set l2 i y) r2)) k')
-  held_next H base old x b i w k' s = flat P H value_word base old x (λ q. find calls' b old q) (λ y l2 r2. low.Ends (low.Results w) (slice_set l2 i y) r2) k' s
+      Agrees P H value_word base old x (λ q. low.and_then (evaluate calls' b old q) (λ y l2 r2. k' w (slice_set l2 i y) r2)) →
+      Agrees P H value_word base old x (λ q. low.and_then (low.and_then (evaluate calls' b old q) (λ y l2 r2. low.Ends (low.Results w) (slice_set l2 i y) r2)) k')
+  held_next H base old x b i w k' s = flat P H value_word base old x (λ q. evaluate calls' b old q) (λ y l2 r2. low.Ends (low.Results w) (slice_set l2 i y) r2) k' s
 
   -- `get(array)` asks and ends as its words do
   pub both_agrees : (c : ℕ) (e a : Expression) → Good P file calls calls' slots (ValueOf (types.Markable c)) e → Good P file calls calls' slots (ValueOf types.BooleanArray) a →
@@ -63,7 +63,7 @@ module _ (P : ℕ → ValueType → Type 0) (small : (n : ℕ) (t : ValueType) �
         let H = HasSort P (ValueOf (types.Class c)) in
         let a0 = lowered file.classes (base + 2) e in
         let a1 = lowered file.classes (base + 2 + te) a in
-        flat P H value_word base old _ (λ q. find calls' (trees.Hold a0 base a1) old q) (λ x l q. low.unless_null x l q (low.ask (act.ReadPair x) l q)) _ (held H base old _ a0 base a1 _ (
+        flat P H value_word base old _ (λ q. evaluate calls' (trees.Hold a0 base a1) old q) (λ x l q. low.unless_null x l q (low.ask (act.ReadPair x) l q)) _ (held H base old _ a0 base a1 _ (
         then_agrees P _ _ _ _ base (base + 2) base old _ _ _ _ (omega arith) (omega arith) (ge.good (base + 2) ls old h (omega arith) (omega arith)) (λ o l1 ho k1.
         let c1 : Kept base old l1 = kept_less base (base + 2) old l1 (omega arith) k1 in
         held_next H base l1 _ a1 base (value_word o) _ (one_argument P file calls calls' H value_word base l1 a End ls _ _ (

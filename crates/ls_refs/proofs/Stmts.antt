@@ -24,7 +24,7 @@ use Rattle.ls_meaning.proofs.Followers.{Follower}
 use Rattle.ls_lowered.specs.LoweredTree as tree
 use Rattle.ls_lowered.specs.Words as words
 use Rattle.ls_lowered.specs.Course as low
-use Rattle.ls_lowered.specs.Expressions.{find}
+use Rattle.ls_lowered.specs.Expressions.{evaluate as find}
 use Rattle.ls_lowered.specs.Statements as does
 use Rattle.ls_lowered.specs.Methods.{told}
 use Rattle.ls_refs_expressions.specs.ValueWords.{value_word}

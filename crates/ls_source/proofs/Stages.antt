@@ -14,7 +14,7 @@ use Rattle.ls_meaning.specs.Effect.{Effect}
 use Rattle.ls_meaning.specs.Runs.{State, answers_of, performed}
 use Rattle.ls_source_store.specs.declared.thing.Effect.{Effect as Outcome}
 use Rattle.ls_source_store.specs.declared.thing.Effect.TheVariants.{Waits as HasToWait, Does as HasDone}
-use Rattle.ls_source_store.specs.SeenStore.{seen_effect}
+use Rattle.ls_source_store.specs.SeenStore.{plain_effect}
 use Rattle.ls_source.specs.SeenRun.{lists_of}
 
 -- the answers of a thread, as they are kept
@@ -38,10 +38,10 @@ grown xs i v v' w answer within is same h =
     ∙ ap (slice_set (lists_of xs) i) (h ∙ ap (λ l. l ++ answer ∷ []) (same ∙ ap (λ u. u.items) is ∙ sym (get_or-map (λ u. u.items) xs i v [] within)))
 
 -- an action that is performed, and one that waits
-pub acts : (st : State) (thread : ℕ) (action : Action Value) (e : Effect) (s' : Store) (r : Outcome) (answer : Answer Value) (xs : List Answers) → seen_effect s' r ≡ e → r ≡ HasDone answer → xs ≡ slice_set st.answers thread (answers_of st thread ++ answer ∷ []) → state s' xs ≡ (performed st thread action e).after
+pub acts : (st : State) (thread : ℕ) (action : Action Value) (e : Effect) (s' : Store) (r : Outcome) (answer : Answer Value) (xs : List Answers) → plain_effect s' r ≡ e → r ≡ HasDone answer → xs ≡ slice_set st.answers thread (answers_of st thread ++ answer ∷ []) → state s' xs ≡ (performed st thread action e).after
 acts st thread action e s' r answer xs h is g =
-    ap (state s') g ∙ ap (λ q. (performed st thread action q).after) (ap (seen_effect s') (sym is) ∙ h)
+    ap (state s') g ∙ ap (λ q. (performed st thread action q).after) (ap (plain_effect s') (sym is) ∙ h)
 
 -- an action that has to wait
-pub waits : (st : State) (thread : ℕ) (action : Action Value) (e : Effect) (s' : Store) (r : Outcome) → seen_effect s' r ≡ e → r ≡ HasToWait → st ≡ (performed st thread action e).after
-waits st thread action e s' r h is = ap (λ q. (performed st thread action q).after) (ap (seen_effect s') (sym is) ∙ h)
+pub waits : (st : State) (thread : ℕ) (action : Action Value) (e : Effect) (s' : Store) (r : Outcome) → plain_effect s' r ≡ e → r ≡ HasToWait → st ≡ (performed st thread action e).after
+waits st thread action e s' r h is = ap (λ q. (performed st thread action q).after) (ap (plain_effect s') (sym is) ∙ h)

@@ -15,10 +15,10 @@ use Rattle.ls_source.specs.declared.thread.Phase.{Phase}
 use Rattle.ls_source.specs.declared.thread.Phase.TheVariants as phases
 use Rattle.ls_source.specs.declared.thread.Thread.{Thread}
 
-abbrev pub seen_next : Outcome → Next
-seen_next (DoesGo action sort) = Goes action sort
-seen_next HasEnded = Ended
-seen_next HasTrapped = Trapped
+abbrev pub plain_next : Outcome → Next
+plain_next (DoesGo action sort) = Goes action sort
+plain_next HasEnded = Ended
+plain_next HasTrapped = Trapped
 
 abbrev pub bottom_of : Bottom → calls.Bottom
 bottom_of (bottoms.Making name o) = calls.OfMaking name o

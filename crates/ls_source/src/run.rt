@@ -72,7 +72,7 @@ impl<'a> SourceRun<'a> {
     ghost use Rattle.ls_source.specs.Calls.{asked_by};
     ghost use Rattle.ls_source.specs.Ends.{has_trapped};
     ghost use Rattle.ls_source_store.specs.SeenThing.{thing_of};
-    ghost use Rattle.ls_source.specs.SeenThread.{seen_next};
+    ghost use Rattle.ls_source.specs.SeenThread.{plain_next};
     ghost use Rattle.ls_source.specs.Progress.{begun, gone_on};
     ghost use Rattle.ls_source.specs.GoneBy.{gone_by};
     ghost use Rattle.ls_source.specs.Kept.{asked_at, action_in};
@@ -100,8 +100,8 @@ impl<'a> SourceRun<'a> {
     // here.
     #[inline(always)]
     fn next_of_thread(&self, thread: usize) -> Result<Next, AllocError>
-        ensures asked { IfOk result (λ r. asked_at (progress_of self.now).program (slice_get (map thread_of self.now.threads.items) thread) ≡ Some (seen_next r)) }
-        ensures next { IfOk result (λ r. seen_next r ≡ next (progress_of self.now).file (progress_of self.now).program thread (answers_of (progress_of self.now).state thread)) }
+        ensures asked { IfOk result (λ r. asked_at (progress_of self.now).program (slice_get (map thread_of self.now.threads.items) thread) ≡ Some (plain_next r)) }
+        ensures next { IfOk result (λ r. plain_next r ≡ next (progress_of self.now).file (progress_of self.now).program thread (answers_of (progress_of self.now).state thread)) }
     {
         match self.threads.get(thread) {
             None => Ok(Next::Ended),
@@ -130,8 +130,8 @@ impl<'a> SourceRun<'a> {
     // copied in parts.
     #[inline(never)]
     fn next_outside(&self, thread: usize) -> Result<Next, AllocError>
-        ensures asked { IfOk result (λ r. asked_at (progress_of self.now).program (slice_get (map thread_of self.now.threads.items) thread) ≡ Some (seen_next r)) }
-        ensures next { IfOk result (λ r. seen_next r ≡ next (progress_of self.now).file (progress_of self.now).program thread (answers_of (progress_of self.now).state thread)) }
+        ensures asked { IfOk result (λ r. asked_at (progress_of self.now).program (slice_get (map thread_of self.now.threads.items) thread) ≡ Some (plain_next r)) }
+        ensures next { IfOk result (λ r. plain_next r ≡ next (progress_of self.now).file (progress_of self.now).program thread (answers_of (progress_of self.now).state thread)) }
     {
         self.next_of_thread(thread)
     }
@@ -139,8 +139,8 @@ impl<'a> SourceRun<'a> {
     // What a thread does next. It is found fastest if the thread is in a body.
     #[inline(always)]
     fn next_at_once(&self, thread: usize) -> Result<Next, AllocError>
-        ensures asked { IfOk result (λ r. asked_at (progress_of self.now).program (slice_get (map thread_of self.now.threads.items) thread) ≡ Some (seen_next r)) }
-        ensures next { IfOk result (λ r. seen_next r ≡ next (progress_of self.now).file (progress_of self.now).program thread (answers_of (progress_of self.now).state thread)) }
+        ensures asked { IfOk result (λ r. asked_at (progress_of self.now).program (slice_get (map thread_of self.now.threads.items) thread) ≡ Some (plain_next r)) }
+        ensures next { IfOk result (λ r. plain_next r ≡ next (progress_of self.now).file (progress_of self.now).program thread (answers_of (progress_of self.now).state thread)) }
     {
         match self.control_at(thread) {
             Some(Control::Asks(action, sort)) => Ok(Next::Goes(*action, *sort)),

@@ -7,7 +7,7 @@ ghost use Rattle.ls_meaning.specs.Methods.{depth_limit};
 ghost use Rattle.ls_meaning.specs.Threads.{result_of, named};
 ghost use Rattle.ls_source_pending.specs.Seen.{control_of};
 ghost use Rattle.ls_source.specs.Calls.{asked_by};
-ghost use Rattle.ls_source.specs.SeenThread.{seen_next};
+ghost use Rattle.ls_source.specs.SeenThread.{plain_next};
 
 use crate::next::Next;
 use ls_checked::program::{Program, ProgramCall};
@@ -101,7 +101,7 @@ fn named(program: &Program, n: usize) -> Sort
 // What work asks for.
 #[inline(always)]
 fn asked_by<'a>(control: &Control<'a>) -> Option<Next>
-    ensures { option_map seen_next result ≡ asked_by (control_of control.now) }
+    ensures { option_map plain_next result ≡ asked_by (control_of control.now) }
 {
     match control {
         Control::Asks(action, sort) => Some(Next::Goes(*action, *sort)),
@@ -326,7 +326,7 @@ impl<'a> Thread<'a> {
     #[tactic(auto, using(crate::proofs::Lefts::one_left, crate::proofs::Lefts::none_left))]
     #[inline(always)]
     pub fn asked(&self, program: &Program) -> Option<Next>
-        ensures { option_map seen_next result ≡ asked_now (plain_program program.now) (thread_of self.now) }
+        ensures { option_map plain_next result ≡ asked_now (plain_program program.now) (thread_of self.now) }
     {
         let n = self.begun;
         let asked = match self.phase {

@@ -13,20 +13,20 @@ use Rattle.ls_source_store.specs.declared.thing.Thing.{Thing as KeptThing}
 use Rattle.ls_source_store.specs.declared.thing.Effect.{Effect as Outcome}
 use Rattle.ls_source_store.specs.declared.thing.Effect.TheVariants.{Waits as HasToWait, Does as HasDone}
 use Rattle.ls_source_store.specs.declared.store.Store.{Store as KeptStore}
-use Rattle.ls_source_store.specs.SeenThing.{thing_of, seen_change}
-use Rattle.ls_source_store.specs.SeenStore.{store_of, seen_effect}
+use Rattle.ls_source_store.specs.SeenThing.{thing_of, plain_change}
+use Rattle.ls_source_store.specs.SeenStore.{store_of, plain_effect}
 
 thing_is : (s : Store) (o : ℕ) (x : Option Thing) → o ≢ 0 → slice_get s.things (o - 1) ≡ x → thing_at s o ≡ x
 thing_is s o x h e = let f : nat_eq o 0 ≡ false = grind (arith, nat_tests) in rw f e
 
 -- a changed thing is put back into its place
-put_back_is : (s : KeptStore) (o : ℕ) (t : KeptThing) (r : Outcome) → seen_effect (record { things = map thing_of (slice_set s.things.items (o - 1) t); names = s.names.items }) r ≡ put_back (store_of s) o (seen_change (thing_of t) r)
+put_back_is : (s : KeptStore) (o : ℕ) (t : KeptThing) (r : Outcome) → plain_effect (record { things = map thing_of (slice_set s.things.items (o - 1) t); names = s.names.items }) r ≡ put_back (store_of s) o (plain_change (thing_of t) r)
 put_back_is s o t HasToWait = refl
 put_back_is s o t (HasDone answer) =
     ap (λ things. Does (record { things = things; names = s.names.items }) answer) (map-set thing_of s.things.items (o - 1) t)
 
 -- an action on a thing that is there
-pub acted_within : (s : KeptStore) (o thread : ℕ) (a : Action Value) (t t' : KeptThing) (r : Outcome) → o ≢ 0 → o - 1 < length s.things.items → t ≡ get_or s.things.items (o - 1) t → seen_change (thing_of t') r ≡ change thread a (thing_of t) → seen_effect (record { things = map thing_of (slice_set s.things.items (o - 1) t'); names = s.names.items }) r ≡ on_thing (store_of s) o thread a
+pub acted_within : (s : KeptStore) (o thread : ℕ) (a : Action Value) (t t' : KeptThing) (r : Outcome) → o ≢ 0 → o - 1 < length s.things.items → t ≡ get_or s.things.items (o - 1) t → plain_change (thing_of t') r ≡ change thread a (thing_of t) → plain_effect (record { things = map thing_of (slice_set s.things.items (o - 1) t'); names = s.names.items }) r ≡ on_thing (store_of s) o thread a
 acted_within s o thread a t t' r h within is e =
     let g = slice_get-map thing_of s.things.items (o - 1) ∙ ap (option_map thing_of) (slice_get-get_or s.things.items (o - 1) t within ∙ ap Some (sym is)) in
     put_back_is s o t' r

@@ -11,6 +11,6 @@ abbrev pub store_of : KeptStore → Store
 store_of s = record { things = map thing_of s.things.items; names = s.names.items }
 
 -- an outcome, with the store that it leaves
-abbrev pub seen_effect : Store → Outcome → Effect
-seen_effect s HasToWait = Waits
-seen_effect s (HasDone answer) = Does s answer
+abbrev pub plain_effect : Store → Outcome → Effect
+plain_effect s HasToWait = Waits
+plain_effect s (HasDone answer) = Does s answer

@@ -29,11 +29,11 @@ thing_of (KeptMarkable p) = Markable p
 thing_of (KeptArray size items) = Array size (items_of items)
 
 -- an outcome, with the hold that it leaves
-abbrev pub seen_holding : Hold → Outcome → Holding
-seen_holding h HasToWait = Awaits
-seen_holding h (HasDone answer) = Becomes h answer
+abbrev pub plain_holding : Hold → Outcome → Holding
+plain_holding h HasToWait = Awaits
+plain_holding h (HasDone answer) = Becomes h answer
 
 -- an outcome, with the thing that it leaves
-abbrev pub seen_change : Thing → Outcome → Change
-seen_change t HasToWait = Stays
-seen_change t (HasDone answer) = Leaves t answer
+abbrev pub plain_change : Thing → Outcome → Change
+plain_change t HasToWait = Stays
+plain_change t (HasDone answer) = Leaves t answer

@@ -5,7 +5,7 @@ ghost use Rattle.ls_checked.specs.Plain.{plain_class};
 ghost use Rattle.ls_meaning.specs.Store.{Array as MadeArray, name_at, with_name};
 ghost use Rattle.ls_meaning.specs.Effect.{Does, effect, making, on_thing, fields_in, size_of};
 ghost use Rattle.ls_source_store.specs.SeenThing.{thing_of};
-ghost use Rattle.ls_source_store.specs.SeenStore.{store_of, seen_effect};
+ghost use Rattle.ls_source_store.specs.SeenStore.{store_of, plain_effect};
 
 use crate::thing::{Effect, Hold, Thing, change, done, gives};
 use ls_checked::tree::Class;
@@ -52,7 +52,7 @@ fn new_array(alloc: Global, length: i32) -> Thing
 impl Store {
     // A new thing answers its number.
     fn make(&mut self, thing: Thing) -> Result<Effect, AllocError>
-        ensures made { IfOk result (λ r. seen_effect (store_of self.new) r ≡ making (store_of self.old) (thing_of thing)) }
+        ensures made { IfOk result (λ r. plain_effect (store_of self.new) r ≡ making (store_of self.old) (thing_of thing)) }
         ensures acts { IfOk result (λ r. r ≡ Effect.Waits → ⊥) }
         ensures err { OnErr result (store_of self.new ≡ store_of self.old) }
     {
@@ -67,7 +67,7 @@ impl Store {
         thread: usize,
         action: &Action<Value>,
     ) -> Result<Effect, AllocError>
-        ensures effect { IfOk result (λ r. seen_effect (store_of self.new) r ≡ on_thing (store_of self.old) o thread action.now) }
+        ensures effect { IfOk result (λ r. plain_effect (store_of self.new) r ≡ on_thing (store_of self.old) o thread action.now) }
         ensures waits { IfOk result (λ r. r ≡ Effect.Waits → store_of self.new ≡ store_of self.old) }
         ensures err { OnErr result (store_of self.new ≡ store_of self.old) }
     {
@@ -93,7 +93,7 @@ impl Store {
     }
 
     fn write_name(&mut self, n: usize, v: Value) -> Effect
-        ensures named { seen_effect (store_of self.new) result ≡ Does (with_name (store_of self.old) n v) Answer.Done }
+        ensures named { plain_effect (store_of self.new) result ≡ Does (with_name (store_of self.old) n v) Answer.Done }
         ensures acts { result ≡ Effect.Waits → ⊥ }
     {
         if n < self.names.len() {
@@ -110,7 +110,7 @@ impl Store {
         thread: usize,
         action: &Action<Value>,
     ) -> Result<Effect, AllocError>
-        ensures effect { IfOk result (λ r. seen_effect (store_of self.new) r ≡ effect (map plain_class classes.now) (store_of self.old) thread action.now) }
+        ensures effect { IfOk result (λ r. plain_effect (store_of self.new) r ≡ effect (map plain_class classes.now) (store_of self.old) thread action.now) }
         ensures waits { IfOk result (λ r. r ≡ Effect.Waits → store_of self.new ≡ store_of self.old) }
         ensures err { OnErr result (store_of self.new ≡ store_of self.old) }
     {

@@ -2,7 +2,7 @@
 
 ghost use Rattle.std.specs.Prelude.{◌≡◌, IfOk, OnErr};
 ghost use Rattle.ls_meaning.specs.Effect.{change, in_range, reading_field, writing_field, reading_item, writing_item, locking, trying, unlocking, asking_held, on_lock, on_monitor, reading_pair, setting_pair, swapping, attempting};
-ghost use Rattle.ls_source_store.specs.SeenThing.{items_of, hold_of, thing_of, seen_holding, seen_change};
+ghost use Rattle.ls_source_store.specs.SeenThing.{items_of, hold_of, thing_of, plain_holding, plain_change};
 
 use ls_events::action::{Action, Answer};
 use ls_events::kind::Kind;
@@ -106,7 +106,7 @@ pub fn item_at(items: &BTreeMap<u32, Value>, index: u32) -> Value
 }
 
 fn read_field(thing: &Thing, f: usize) -> Effect
-    ensures { seen_change (thing_of thing.now) result ≡ reading_field f (thing_of thing.now) }
+    ensures { plain_change (thing_of thing.now) result ≡ reading_field f (thing_of thing.now) }
 {
     match thing {
         Thing::Object { fields, .. } => match fields.get(f) {
@@ -118,7 +118,7 @@ fn read_field(thing: &Thing, f: usize) -> Effect
 }
 
 fn write_field(thing: &mut Thing, f: usize, v: Value) -> Effect
-    ensures change { seen_change (thing_of thing.new) result ≡ writing_field f v (thing_of thing.old) }
+    ensures change { plain_change (thing_of thing.new) result ≡ writing_field f v (thing_of thing.old) }
     ensures waits { result ≡ Effect.Waits → thing_of thing.new ≡ thing_of thing.old }
 {
     match thing {
@@ -133,7 +133,7 @@ fn write_field(thing: &mut Thing, f: usize, v: Value) -> Effect
 }
 
 fn read_item(thing: &Thing, i: i32) -> Effect
-    ensures { seen_change (thing_of thing.now) result ≡ reading_item i (thing_of thing.now) }
+    ensures { plain_change (thing_of thing.now) result ≡ reading_item i (thing_of thing.now) }
 {
     match thing {
         Thing::Array { size, items } => {
@@ -148,7 +148,7 @@ fn read_item(thing: &Thing, i: i32) -> Effect
 }
 
 fn write_item(thing: &mut Thing, i: i32, v: Value) -> Result<Effect, AllocError>
-    ensures change { IfOk result (λ r. seen_change (thing_of thing.new) r ≡ writing_item i v (thing_of thing.old)) }
+    ensures change { IfOk result (λ r. plain_change (thing_of thing.new) r ≡ writing_item i v (thing_of thing.old)) }
     ensures waits { IfOk result (λ r. r ≡ Effect.Waits → thing_of thing.new ≡ thing_of thing.old) }
     ensures err { OnErr result (thing_of thing.new ≡ thing_of thing.old) }
 {
@@ -166,7 +166,7 @@ fn write_item(thing: &mut Thing, i: i32, v: Value) -> Result<Effect, AllocError>
 }
 
 fn take(hold: &mut Hold, thread: usize) -> Effect
-    ensures change { seen_holding (hold_of hold.new) result ≡ locking thread (hold_of hold.old) }
+    ensures change { plain_holding (hold_of hold.new) result ≡ locking thread (hold_of hold.old) }
     ensures waits { result ≡ Effect.Waits → hold_of hold.new ≡ hold_of hold.old }
 {
     match hold {
@@ -191,7 +191,7 @@ fn take(hold: &mut Hold, thread: usize) -> Effect
 }
 
 fn try_take(hold: &mut Hold, thread: usize) -> Effect
-    ensures change { seen_holding (hold_of hold.new) result ≡ trying thread (hold_of hold.old) }
+    ensures change { plain_holding (hold_of hold.new) result ≡ trying thread (hold_of hold.old) }
     ensures waits { result ≡ Effect.Waits → hold_of hold.new ≡ hold_of hold.old }
 {
     match hold {
@@ -216,7 +216,7 @@ fn try_take(hold: &mut Hold, thread: usize) -> Effect
 }
 
 fn leave(hold: &mut Hold, thread: usize) -> Effect
-    ensures change { seen_holding (hold_of hold.new) result ≡ unlocking thread (hold_of hold.old) }
+    ensures change { plain_holding (hold_of hold.new) result ≡ unlocking thread (hold_of hold.old) }
     ensures waits { result ≡ Effect.Waits → hold_of hold.new ≡ hold_of hold.old }
 {
     match hold {
@@ -236,7 +236,7 @@ fn leave(hold: &mut Hold, thread: usize) -> Effect
 }
 
 fn is_held(hold: &Hold, thread: usize) -> Effect
-    ensures { seen_holding (hold_of hold.now) result ≡ asking_held thread (hold_of hold.now) }
+    ensures { plain_holding (hold_of hold.now) result ≡ asking_held thread (hold_of hold.now) }
 {
     match hold {
         Hold::Free => truth(false),
@@ -245,7 +245,7 @@ fn is_held(hold: &Hold, thread: usize) -> Effect
 }
 
 fn lock(thing: &mut Thing, thread: usize) -> Effect
-    ensures change { seen_change (thing_of thing.new) result ≡ on_lock (locking thread) (thing_of thing.old) }
+    ensures change { plain_change (thing_of thing.new) result ≡ on_lock (locking thread) (thing_of thing.old) }
     ensures waits { result ≡ Effect.Waits → thing_of thing.new ≡ thing_of thing.old }
 {
     match thing {
@@ -255,7 +255,7 @@ fn lock(thing: &mut Thing, thread: usize) -> Effect
 }
 
 fn try_lock(thing: &mut Thing, thread: usize) -> Effect
-    ensures change { seen_change (thing_of thing.new) result ≡ on_lock (trying thread) (thing_of thing.old) }
+    ensures change { plain_change (thing_of thing.new) result ≡ on_lock (trying thread) (thing_of thing.old) }
     ensures waits { result ≡ Effect.Waits → thing_of thing.new ≡ thing_of thing.old }
 {
     match thing {
@@ -265,7 +265,7 @@ fn try_lock(thing: &mut Thing, thread: usize) -> Effect
 }
 
 fn unlock(thing: &mut Thing, thread: usize) -> Effect
-    ensures change { seen_change (thing_of thing.new) result ≡ on_lock (unlocking thread) (thing_of thing.old) }
+    ensures change { plain_change (thing_of thing.new) result ≡ on_lock (unlocking thread) (thing_of thing.old) }
     ensures waits { result ≡ Effect.Waits → thing_of thing.new ≡ thing_of thing.old }
 {
     match thing {
@@ -275,7 +275,7 @@ fn unlock(thing: &mut Thing, thread: usize) -> Effect
 }
 
 fn is_lock_held(thing: &Thing, thread: usize) -> Effect
-    ensures { seen_change (thing_of thing.now) result ≡ on_lock (asking_held thread) (thing_of thing.now) }
+    ensures { plain_change (thing_of thing.now) result ≡ on_lock (asking_held thread) (thing_of thing.now) }
 {
     match thing {
         Thing::Lock(hold) => is_held(hold, thread),
@@ -284,7 +284,7 @@ fn is_lock_held(thing: &Thing, thread: usize) -> Effect
 }
 
 fn lock_monitor(thing: &mut Thing, thread: usize) -> Effect
-    ensures change { seen_change (thing_of thing.new) result ≡ on_monitor (locking thread) (thing_of thing.old) }
+    ensures change { plain_change (thing_of thing.new) result ≡ on_monitor (locking thread) (thing_of thing.old) }
     ensures waits { result ≡ Effect.Waits → thing_of thing.new ≡ thing_of thing.old }
 {
     match thing {
@@ -294,7 +294,7 @@ fn lock_monitor(thing: &mut Thing, thread: usize) -> Effect
 }
 
 fn unlock_monitor(thing: &mut Thing, thread: usize) -> Effect
-    ensures change { seen_change (thing_of thing.new) result ≡ on_monitor (unlocking thread) (thing_of thing.old) }
+    ensures change { plain_change (thing_of thing.new) result ≡ on_monitor (unlocking thread) (thing_of thing.old) }
     ensures waits { result ≡ Effect.Waits → thing_of thing.new ≡ thing_of thing.old }
 {
     match thing {
@@ -304,7 +304,7 @@ fn unlock_monitor(thing: &mut Thing, thread: usize) -> Effect
 }
 
 fn read_pair(thing: &Thing) -> Effect
-    ensures { seen_change (thing_of thing.now) result ≡ reading_pair (thing_of thing.now) }
+    ensures { plain_change (thing_of thing.now) result ≡ reading_pair (thing_of thing.now) }
 {
     match thing {
         Thing::Markable(p) => gives(*p),
@@ -313,7 +313,7 @@ fn read_pair(thing: &Thing) -> Effect
 }
 
 fn set_pair(thing: &mut Thing, v: Value) -> Effect
-    ensures change { seen_change (thing_of thing.new) result ≡ setting_pair v (thing_of thing.old) }
+    ensures change { plain_change (thing_of thing.new) result ≡ setting_pair v (thing_of thing.old) }
     ensures waits { result ≡ Effect.Waits → thing_of thing.new ≡ thing_of thing.old }
 {
     match thing {
@@ -326,7 +326,7 @@ fn set_pair(thing: &mut Thing, v: Value) -> Effect
 }
 
 fn swap_pair(thing: &mut Thing, expected: Value, new: Value) -> Effect
-    ensures change { seen_change (thing_of thing.new) result ≡ swapping expected new (thing_of thing.old) }
+    ensures change { plain_change (thing_of thing.new) result ≡ swapping expected new (thing_of thing.old) }
     ensures waits { result ≡ Effect.Waits → thing_of thing.new ≡ thing_of thing.old }
 {
     match thing {
@@ -343,7 +343,7 @@ fn swap_pair(thing: &mut Thing, expected: Value, new: Value) -> Effect
 }
 
 fn attempt_mark(thing: &mut Thing, reference: u64, mark: bool) -> Effect
-    ensures change { seen_change (thing_of thing.new) result ≡ attempting reference mark (thing_of thing.old) }
+    ensures change { plain_change (thing_of thing.new) result ≡ attempting reference mark (thing_of thing.old) }
     ensures waits { result ≡ Effect.Waits → thing_of thing.new ≡ thing_of thing.old }
 {
     match thing {
@@ -365,7 +365,7 @@ pub fn change(
     thread: usize,
     action: &Action<Value>,
 ) -> Result<Effect, AllocError>
-    ensures change { IfOk result (λ r. seen_change (thing_of thing.new) r ≡ change thread action.now (thing_of thing.old)) }
+    ensures change { IfOk result (λ r. plain_change (thing_of thing.new) r ≡ change thread action.now (thing_of thing.old)) }
     ensures waits { IfOk result (λ r. r ≡ Effect.Waits → thing_of thing.new ≡ thing_of thing.old) }
     ensures err { OnErr result (thing_of thing.new ≡ thing_of thing.old) }
 {

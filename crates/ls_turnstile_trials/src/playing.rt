@@ -2,7 +2,7 @@
 
 use crate::gate::AtMeeting;
 use crate::texts::{STEPPER, TWO_ADD, TWO_STEP};
-use ls_following::{FollowFault, Gate, OpenGate, PlayFault, play_turns};
+use ls_following::{FollowFault, Gate, OpenGate, TapeFault, play_turns};
 use ls_image::image::Image;
 use ls_lent_images::{Meeting, with_image};
 use ls_schedule::{Record, read_schedule};
@@ -22,7 +22,7 @@ struct Turns<'p> {
 }
 
 // How many steps and events a record has, or why there is no record.
-fn counts(played: Result<Record, PlayFault>) -> (Option<PlayFault>, usize, usize) {
+fn counts(played: Result<Record, TapeFault>) -> (Option<TapeFault>, usize, usize) {
     match played {
         Ok(record) => (None, record.schedule().len(), record.history().len()),
         Err(fault) => (Some(fault), 0, 0),
@@ -35,7 +35,7 @@ fn played<R: Threads + Wait + Sync, G: Gate + Sync>(
     image: &Image,
     turns: &Turns,
     gate: &G,
-) -> Result<(Option<PlayFault>, usize, usize), Fail> {
+) -> Result<(Option<TapeFault>, usize, usize), Fail> {
     let mut tape = read_schedule(alloc, turns.entries, image.program())?;
     if turns.has_nobody && !tape.is_full() {
         tape.push(9)?;
@@ -54,7 +54,7 @@ fn an_entry_of_nobody(rt: HostRuntime) -> Result<(), Fail> {
     let found = with_image(alloc, STEPPER, TWO_STEP, |image| {
         played(&rt, alloc, image, &turns, &OpenGate)
     })?;
-    let wanted = PlayFault::Follow(FollowFault::TurnsSpent { place: 2 });
+    let wanted = TapeFault::Follow(FollowFault::TurnsSpent { place: 2 });
     assert_eq!(rt; found, (Some(wanted), 0, 0));
     Ok(())
 }

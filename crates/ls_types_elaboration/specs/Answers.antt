@@ -30,11 +30,11 @@ seen view (Err e) = Err e
 abbrev pub typed_of : Typed → statics.Typed
 typed_of x = record { expression = plain x.expression; static = x.of }
 
-abbrev pub seen_typed : Result Typed Broken → Elaborated statics.Typed
-seen_typed r = seen typed_of r
+abbrev pub plain_typed : Result Typed Broken → Elaborated statics.Typed
+plain_typed r = seen typed_of r
 
-abbrev pub seen_plain : Result Expression Broken → Elaborated checked.Expression
-seen_plain r = seen plain r
+abbrev pub plain_expression : Result Expression Broken → Elaborated checked.Expression
+plain_expression r = seen plain r
 
 abbrev pub member_of : Member → members.Member
 member_of m = record { called = m.called; parameters = m.parameters.items; result = m.result }

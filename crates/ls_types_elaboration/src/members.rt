@@ -3,7 +3,7 @@
 ghost use Rattle.std.specs.Prelude.{◌≡◌, IfOk, option_map};
 ghost use Rattle.ls_checked.specs.Plain.{plain, all_plain};
 ghost use Rattle.ls_types_elaboration.specs.Members.{member, lock_member, markable_member, made};
-ghost use Rattle.ls_types_elaboration.specs.Answers.{member_of as seen_member};
+ghost use Rattle.ls_types_elaboration.specs.Answers.{member_of as known_member};
 
 use ls_checked::tree::{Called, Expression, Expressions};
 use ls_events::value::ValueType;
@@ -41,7 +41,7 @@ pub fn member_with(
     parameters: &[ValueType],
     answers: Option<ValueType>,
 ) -> Result<Option<Member>, AllocError>
-    ensures { IfOk result (λ o. option_map seen_member o ≡ member called parameters.now answers) }
+    ensures { IfOk result (λ o. option_map known_member o ≡ member called parameters.now answers) }
 {
     Ok(Some(Member {
         called,
@@ -52,7 +52,7 @@ pub fn member_with(
 
 /// The operation of a lock that has the name, or none. The only refusal is that memory ran out.
 pub fn lock_member(alloc: Global, name: &str) -> Result<Option<Member>, AllocError>
-    ensures { IfOk result (λ o. option_map seen_member o ≡ lock_member name.now) }
+    ensures { IfOk result (λ o. option_map known_member o ≡ lock_member name.now) }
 {
     if name == "lock" {
         member_with(alloc, Called::LockIt, &[], None)
@@ -73,7 +73,7 @@ pub fn markable_member(
     class: usize,
     name: &str,
 ) -> Result<Option<Member>, AllocError>
-    ensures { IfOk result (λ o. option_map seen_member o ≡ markable_member class name.now) }
+    ensures { IfOk result (λ o. option_map known_member o ≡ markable_member class name.now) }
 {
     let of = ValueType::Class(class);
     let mark = ValueType::Boolean;

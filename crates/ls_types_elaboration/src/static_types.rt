@@ -3,7 +3,7 @@
 ghost use Rattle.std.specs.Prelude.{◌≡◌, Ok};
 ghost use Rattle.ls_checked.specs.Plain.{plain};
 ghost use Rattle.ls_types_elaboration.specs.StaticTypes.{fits, same_type, is_reference, comparable, typed_as as typing, as_type, as_value, is_void, is_array, as_array, result_type as the_result_type};
-ghost use Rattle.ls_types_elaboration.specs.Answers.{typed_of, seen_typed, seen_plain};
+ghost use Rattle.ls_types_elaboration.specs.Answers.{typed_of, plain_typed, plain_expression};
 
 use crate::rule::{Broken, Rule, broken_at};
 use crate::together::passing;
@@ -75,7 +75,7 @@ pub fn comparable(x: Static, y: Static) -> bool
 /// An expression where a value of a type is wanted. If its type doesn't fit, the rule `WrongType` is broken at the
 /// span.
 pub fn as_type(t: ValueType, span: Span, x: Typed) -> Result<Expression, Broken>
-    ensures { seen_plain result ≡ as_type t span (typed_of x) }
+    ensures { plain_expression result ≡ as_type t span (typed_of x) }
 {
     passing(
         x.expression,
@@ -95,7 +95,7 @@ fn is_void(x: Static) -> bool
 
 /// An expression where any value is wanted. If it has no value, the rule `WrongType` is broken at the span.
 pub fn as_value(span: Span, x: Typed) -> Result<Typed, Broken>
-    ensures { seen_typed result ≡ as_value span (typed_of x) }
+    ensures { plain_typed result ≡ as_value span (typed_of x) }
 {
     let value = !is_void(x.of);
     passing(x, value, broken_at(Rule::WrongType, span))
@@ -112,7 +112,7 @@ fn is_array(x: Static) -> bool
 
 /// An expression where an array is wanted. If it is no array, the rule `WrongType` is broken at the span.
 pub fn as_array(span: Span, x: Typed) -> Result<Expression, Broken>
-    ensures { seen_plain result ≡ as_array span (typed_of x) }
+    ensures { plain_expression result ≡ as_array span (typed_of x) }
 {
     passing(
         x.expression,

@@ -26,12 +26,12 @@ place_of (places.Item a i) = typing.AtItem (plain a) (plain i)
 abbrev pub variable_of : Variable → typing.Variable
 variable_of v = record { place = place_of v.place; type = v.value_type }
 
-abbrev pub seen_variable : Result Variable Broken → Elaborated typing.Variable
-seen_variable r = seen variable_of r
+abbrev pub plain_variable : Result Variable Broken → Elaborated typing.Variable
+plain_variable r = seen variable_of r
 
 abbrev pub counter_of : Counter → typing.Counter
 counter_of (counters.Slot n) = typing.OfSlot n
 counter_of (counters.Field target field) = typing.OfField (plain target) field
 
-abbrev pub seen_counter : Result Counter Broken → Elaborated typing.Counter
-seen_counter r = seen counter_of r
+abbrev pub plain_counter : Result Counter Broken → Elaborated typing.Counter
+plain_counter r = seen counter_of r

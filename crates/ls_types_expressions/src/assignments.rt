@@ -5,7 +5,7 @@ ghost use Rattle.ls_checked.specs.Plain.{plain, plain_statement};
 ghost use Rattle.ls_types_elaboration.specs.TypedStatements.{variable, assigned, assignment};
 ghost use Rattle.ls_types_elaboration.specs.Placed.{placed};
 ghost use Rattle.ls_types_tables.specs.ByName.{known_of};
-ghost use Rattle.ls_types_expressions.specs.Views.{locals_of, place_of, seen_variable};
+ghost use Rattle.ls_types_expressions.specs.Views.{locals_of, place_of, plain_variable};
 ghost use Rattle.ls_types_elaboration.specs.Answers.{Gives};
 
 use crate::expressions::{fitting, typed};
@@ -35,7 +35,7 @@ pub struct Variable {
 }
 
 fn left_side(span: Span, x: Typed) -> Result<Variable, Broken>
-    ensures { seen_variable result ≡ variable span (plain x.expression) x.of }
+    ensures { plain_variable result ≡ variable span (plain x.expression) x.of }
 {
     let Static::Of(value_type) = x.of else {
         return Err(broken_at(Rule::NotAssignable, span));

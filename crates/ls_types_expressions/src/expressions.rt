@@ -9,7 +9,7 @@ ghost use Rattle.ls_types_elaboration.specs.TypedExpressions.{typed, passed, nam
 ghost use Rattle.ls_types_elaboration.specs.Trees.{Call as a_call, CallOn as a_call_on, New as a_new, NewMarkable as a_new_markable, Item as an_item, Binary as a_binary};
 ghost use Rattle.ls_types_elaboration.specs.Placed.{placed, placed_name, placed_all, placed_target, call_of as call_written};
 ghost use Rattle.ls_types_expressions.specs.Views.{locals_of};
-ghost use Rattle.ls_types_elaboration.specs.Answers.{Gives, typed_of, member_of as seen_member, seen_typed};
+ghost use Rattle.ls_types_elaboration.specs.Answers.{Gives, typed_of, member_of as known_member, plain_typed};
 ghost use Rattle.ls_types_tables.specs.ByName.{known_of};
 
 use crate::places::span_of;
@@ -109,7 +109,7 @@ fn is_integer(site: Site, e: &Expr) -> bool
 }
 
 fn integer_constant(n: &Name) -> Result<Typed, Broken>
-    ensures { seen_typed result ≡ integer_constant (placed_name n.now) }
+    ensures { plain_typed result ≡ integer_constant (placed_name n.now) }
 {
     if n.text.as_str() == "MIN_VALUE" {
         let least = Expression::Literal(Value::Int(i32::MIN));
@@ -129,7 +129,7 @@ fn call_of(
     target: Expression,
     es: Expressions,
 ) -> Result<Typed, CheckFault>
-    ensures { Gives typed_of result (call_of (seen_member m) (plain target) (all_plain es)) }
+    ensures { Gives typed_of result (call_of (known_member m) (plain target) (all_plain es)) }
 {
     let (target, es) = two(alloc, target, es)?;
     Ok(Typed {

@@ -11,7 +11,7 @@ ghost use Rattle.ls_types_elaboration.specs.TypedStatements.{counter, added, add
 ghost use Rattle.ls_types_elaboration.specs.Placed.{placed};
 ghost use Rattle.ls_types_elaboration.specs.PlacedStatements.{placed_simple};
 ghost use Rattle.ls_types_tables.specs.ByName.{known_of};
-ghost use Rattle.ls_types_expressions.specs.Views.{locals_of, counter_of, seen_counter};
+ghost use Rattle.ls_types_expressions.specs.Views.{locals_of, counter_of, plain_counter};
 ghost use Rattle.ls_types_elaboration.specs.Answers.{Gives};
 
 use crate::assignments::assignment;
@@ -36,7 +36,7 @@ pub enum Counter {
 }
 
 fn counter_at(span: Span, x: Typed) -> Result<Counter, Broken>
-    ensures { seen_counter result ≡ counter span (plain x.expression) x.of }
+    ensures { plain_counter result ≡ counter span (plain x.expression) x.of }
 {
     let Static::Of(value_type) = x.of else {
         return Err(broken_at(Rule::NotAssignable, span));

@@ -37,11 +37,11 @@ bad_number o text at h = NoToken (texts.BadNumber at) h.0 h.1
 pub too_long : (o : Outcome) (text : Text) → 262144 < length text → PassesLimit o text
 too_long o text h = Bytes h
 
-seen_stands : (o : Outcome) (text : Text) (f : Fault) → Shown o text f → Stands o text (fault_seen f)
-seen_stands o text (Bad at) h = h
-seen_stands o text (Unknown at) h = h
-seen_stands o text (References at) h = h
-seen_stands o text Past h = h
+plain_stands : (o : Outcome) (text : Text) (f : Fault) → Shown o text f → Stands o text (fault_seen f)
+plain_stands o text (Bad at) h = h
+plain_stands o text (Unknown at) h = h
+plain_stands o text (References at) h = h
+plain_stands o text Past h = h
 
 -- a program that is read is spelled by the text
 pub program_spelled : (o : Outcome) (text : Text) (p : Program) → program_of o text ≡ Some p → IsTextOf o p text
@@ -54,7 +54,7 @@ program_stands o text ts e lexed spans is = by (stops o (length text) unmarked b
   where
     by : (x : Option Fault) → ((f : Fault) → tokens_of text ≡ Some (lexemes ts) → InOrder text 0 ts (length text) → x ≡ Some f → Shown o text f) → option_map fault_seen x ≡ Some e → Stands o text e
     by None h is = absurd (some_none e is)
-    by (Some f) h is = subst (Stands o text) (same_some (fault_seen f) e is) (seen_stands o text f (h f lexed spans refl))
+    by (Some f) h is = subst (Stands o text) (same_some (fault_seen f) e is) (plain_stands o text f (h f lexed spans refl))
 
 -- what isn't read is spelled by no program of the file
 none_spelled : (o : Outcome) (text : Text) → program_of o text ≡ None → (p : Program) → IsTextOf o p text → ⊥

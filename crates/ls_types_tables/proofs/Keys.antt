@@ -156,6 +156,6 @@ any_method es name = some_seen (lookup (has name) es) ∙ ap is_some (table_meth
     some_seen (Some m) = refl
 
 -- a method that is found, seen
-pub seen_method : {M X : Type 0} (view : M → X) (m : Option (Bor M)) → option_map (λ m. view m.now) m ≡ option_map view (option_copied m)
-seen_method view None = refl
-seen_method view (Some m) = refl
+pub plain_method : {M X : Type 0} (view : M → X) (m : Option (Bor M)) → option_map (λ m. view m.now) m ≡ option_map view (option_copied m)
+plain_method view None = refl
+plain_method view (Some m) = refl

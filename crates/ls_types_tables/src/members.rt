@@ -4,7 +4,7 @@ ghost use Rattle.std.specs.Prelude.{◌≡◌, IfOk, Ok, option_map, string_byte
 ghost use Rattle.ls_types_elaboration.specs.Members.{found, method_member, member_of, maker_of, markable_maker};
 ghost use Rattle.ls_types_elaboration.specs.Known.{number_of, method_of};
 ghost use Rattle.ls_types_elaboration.specs.Placed.{placed_name};
-ghost use Rattle.ls_types_elaboration.specs.Answers.{Gives, member_of as seen_member, maker_of as seen_maker};
+ghost use Rattle.ls_types_elaboration.specs.Answers.{Gives, member_of as known_member, maker_of as plain_maker};
 ghost use Rattle.ls_types_tables.specs.ByName.{keys_of, known_of};
 
 use crate::known::{Known, class_at, method_of, number_of};
@@ -25,7 +25,7 @@ fn method_member(
     class: usize,
     name: &str,
 ) -> Result<Option<Member>, AllocError>
-    ensures { IfOk result (λ o. option_map seen_member o ≡ method_member (method_of (known_of known.entry) class name.now)) }
+    ensures { IfOk result (λ o. option_map known_member o ≡ method_member (method_of (known_of known.entry) class name.now)) }
 {
     match method_of(known, class, name) {
         None => Ok(None),
@@ -39,7 +39,7 @@ fn member_in(
     target: Static,
     name: &str,
 ) -> Result<Option<Member>, AllocError>
-    ensures { IfOk result (λ o. option_map seen_member o ≡ member_of (known_of known.entry) target name.now) }
+    ensures { IfOk result (λ o. option_map known_member o ≡ member_of (known_of known.entry) target name.now) }
 {
     match target {
         Static::Of(ValueType::Class(class)) => method_member(alloc, known, class, name),
@@ -52,7 +52,7 @@ fn member_in(
 /// A method of the class to which the code belongs (JLS 15.12.1). If that class has no method of the name, it is
 /// refused by `UnknownName` at the name. Else the only refusal is that memory ran out.
 pub fn own_member(alloc: Global, known: Known, n: &Name) -> Result<Member, CheckFault>
-    ensures { Gives seen_member result (found (method_member (method_of (known_of known.entry) known.entry.own (string_bytes n.now.text))) n.now.span) }
+    ensures { Gives known_member result (found (method_member (method_of (known_of known.entry) known.entry.own (string_bytes n.now.text))) n.now.span) }
 {
     match method_member(alloc, known, known.own, n.text.as_str())? {
         None => Err(refused_at(Rule::UnknownName, n.span)),
@@ -68,7 +68,7 @@ pub fn member_of(
     target: Static,
     n: &Name,
 ) -> Result<Member, CheckFault>
-    ensures { Gives seen_member result (found (member_of (known_of known.entry) target (string_bytes n.now.text)) n.now.span) }
+    ensures { Gives known_member result (found (member_of (known_of known.entry) target (string_bytes n.now.text)) n.now.span) }
 {
     match member_in(alloc, known, target, n.text.as_str())? {
         None => Err(refused_at(Rule::UnknownName, n.span)),
@@ -82,7 +82,7 @@ fn maker_with(
     parameters: &[ValueType],
     value_type: ValueType,
 ) -> Result<Maker, CheckFault>
-    ensures { Gives seen_maker result (Ok (record { makes = makes; parameters = parameters.now; type = value_type })) }
+    ensures { Gives plain_maker result (Ok (record { makes = makes; parameters = parameters.now; type = value_type })) }
 {
     Ok(Maker {
         makes,
@@ -94,7 +94,7 @@ fn maker_with(
 /// What `new` makes of a class's name (JLS 15.9.1). If there is no such class, it is refused by `UnknownType` at the
 /// name. Else the only refusal is that memory ran out.
 pub fn maker_of(alloc: Global, known: Known, n: &Name) -> Result<Maker, CheckFault>
-    ensures { Gives seen_maker result (maker_of (known_of known.entry) (placed_name n.now)) }
+    ensures { Gives plain_maker result (maker_of (known_of known.entry) (placed_name n.now)) }
 {
     if n.text.as_str() == "ReentrantLock" {
         return maker_with(alloc, Makes::ALock, &[], ValueType::Lock);
@@ -116,7 +116,7 @@ pub fn maker_of(alloc: Global, known: Known, n: &Name) -> Result<Maker, CheckFau
 /// What `new AtomicMarkableReference` makes, for references to objects of a class. If there is no such class, it is
 /// refused by `UnknownType` at the name. Else the only refusal is that memory ran out.
 pub fn markable_maker(alloc: Global, known: Known, n: &Name) -> Result<Maker, CheckFault>
-    ensures { Gives seen_maker result (markable_maker (number_of (keys_of known.entry.names.now) (string_bytes n.now.text)) n.now.span) }
+    ensures { Gives plain_maker result (markable_maker (number_of (keys_of known.entry.names.now) (string_bytes n.now.text)) n.now.span) }
 {
     match number_of(known.names, n.text.as_str()) {
         None => Err(refused_at(Rule::UnknownType, n.span)),

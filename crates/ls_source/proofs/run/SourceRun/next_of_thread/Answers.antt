@@ -4,7 +4,7 @@ use Rattle.std.specs.Prelude.{is_some, slice_get, map, option_map}
 use Rattle.ls_checked.specs.Plain.{plain_file}
 use Rattle.ls_checked.specs.PlainProgram.{plain_program}
 use Rattle.ls_source.specs.Kept.{asked_at}
-use Rattle.ls_source.specs.SeenThread.{thread_of, seen_next}
+use Rattle.ls_source.specs.SeenThread.{thread_of, plain_next}
 use Rattle.ls_source.specs.SeenRun.{lists_of}
 use Rattle.ls_source.proofs.Kept.{now_is, thread_at}
 use Rattle.ls_source.proofs.run.SourceRun.next_of_thread.Goals as goal
@@ -19,6 +19,6 @@ returns-in-Some-asked-clause-next c =
     let ts = r.threads.items in
     let within : i < length ts = subst (λ l. i < length l) c.deref.ensures.value (ltb-true i (length c.deref.result.now) (sym c.get.ensures.lookup.0 ∙ ap is_some c.in-Some.is)) in
     let is : v ≡ get_or ts i v = c.in-Some.ensures.lookup.1 ∙ ap (λ l. get_or l i v) c.deref.ensures.value in
-    let asks : asked_at program (slice_get (map thread_of ts) i) ≡ Some (seen_next c.in-Some-asked.next) =
-    ap (asked_at program) (thread_at file program ts i v within is) ∙ sym c.asked.ensures ∙ ap (option_map seen_next) c.in-Some-asked.is in
-    now_is file program (map thread_of ts) (lists_of r.stage.answers.items) i (seen_next c.in-Some-asked.next) r.kept asks
+    let asks : asked_at program (slice_get (map thread_of ts) i) ≡ Some (plain_next c.in-Some-asked.next) =
+    ap (asked_at program) (thread_at file program ts i v within is) ∙ sym c.asked.ensures ∙ ap (option_map plain_next) c.in-Some-asked.is in
+    now_is file program (map thread_of ts) (lists_of r.stage.answers.items) i (plain_next c.in-Some-asked.next) r.kept asks

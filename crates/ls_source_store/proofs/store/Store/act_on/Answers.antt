@@ -1,7 +1,7 @@
 use Rattle.std.proofs.Common.{arith, ◌<◌, ◌≤◌, ◌-◌, length, ap, ◌∙◌}
 use Rattle.std.proofs.Math.Seq.{map-set_same}
 use Rattle.ls_source_store.specs.SeenThing.{thing_of}
-use Rattle.ls_source_store.specs.SeenStore.{store_of, seen_effect}
+use Rattle.ls_source_store.specs.SeenStore.{store_of, plain_effect}
 use Rattle.ls_source_store.proofs.Stores.{acted_within, acted_past, on_err}
 use Rattle.ls_source_store.proofs.store.Store.act_on.Goals as goal
 
@@ -13,7 +13,7 @@ returns-in_ok-effect-clause-effect c =
 pub returns-else-place-len-clause-effect : goal.returns-else-place-len-clause-effect
 returns-else-place-len-clause-effect c =
     let past : length c.args.self.now.things.items ≤ c.args.o - 1 = omega (arith, c.args.self.now.things.ok.0) in
-    ap (seen_effect (store_of c.args.self.now)) c.done-else-place-len.ensures ∙ acted_past c.args.self.now c.args.o c.args.thread c.args.action.now c.if-o-eq0.false past
+    ap (plain_effect (store_of c.args.self.now)) c.done-else-place-len.ensures ∙ acted_past c.args.self.now c.args.o c.args.thread c.args.action.now c.if-o-eq0.false past
 
 pub returns-in_err-effect-clause-err : goal.returns-in_err-effect-clause-err
 returns-in_err-effect-clause-err c = on_err c.from_residual.result (
