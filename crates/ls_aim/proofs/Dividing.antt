@@ -1,11 +1,13 @@
 -- The items of a text, one after the other.
-use Rattle.std.proofs.Common.{◌≡◌, ◌≢◌, ◌∙◌, ◌+◌, ◌-◌, ◌<◌, ◌≤◌, ℕ, zero, suc, Bool, true, false, not, cond, List, [], ◌∷◌, length, get_or, take, drop, refl, sym, ap, arith}
+use Rattle.std.proofs.Common.{◌≡◌, ◌≢◌, ◌∙◌, ◌+◌, ◌-◌, ◌<◌, ◌≤◌, ℕ, zero, suc, Bool, true, false, not, cond, List, []}
+use Rattle.std.proofs.Common.{◌∷◌, length, get_or, take, drop, refl, sym, ap, arith}
 use Rattle.std.specs.Prelude.{◌==◌, ◌&&◌, codes, if◌then◌else◌}
 use Rattle.std.specs.List.{prefix_len}
 use Rattle.std.specs.Str.{bytes_eq}
 use Rattle.std.proofs.lemmas.List.{drop-drop, drop_all, drop_more}
 use Rattle.ls_items.specs.Items.{Item, is_gap}
-use Rattle.ls_aim.specs.Texts.{group_len, item_len, items, items_of, depth_after, opens_group, without_version, word_len}
+use Rattle.ls_aim.specs.Texts.{group_len, item_len, items, items_of, depth_after, opens_group, without_version}
+use Rattle.ls_aim.specs.Texts.{word_len}
 
 -- ---- lengths
 
@@ -63,7 +65,10 @@ pub after_item : (at : ℕ) (text : List ℕ) → item_len text ≢ 0 → items 
 after_item at [] h = absurd (h refl)
 after_item at (b ∷ bs) h = by_gap (is_gap b) refl
   where
-    by_len : (n : ℕ) → is_gap b ≡ false → item_len (b ∷ bs) ≡ n → items at 0 (b ∷ bs) ≡ first at (b ∷ bs) ∷ others at (b ∷ bs)
+    by_len : (n : ℕ) →
+        is_gap b ≡ false →
+        item_len (b ∷ bs) ≡ n →
+        items at 0 (b ∷ bs) ≡ first at (b ∷ bs) ∷ others at (b ∷ bs)
     by_len zero g e = absurd (h e)
     by_len (suc n) g e = item_first at b bs n g e
 
@@ -71,7 +76,11 @@ after_item at (b ∷ bs) h = by_gap (is_gap b) refl
     by_gap true g = absurd (h (not_group b bs g))
     by_gap false g = by_len (item_len (b ∷ bs)) g refl
 
-pub items_split : (at len : ℕ) (text front back : List ℕ) → len ≡ item_len text → (len ≡ 0 → ⊥) → front ≡ take len text → back ≡ drop len text
+pub items_split : (at len : ℕ) (text front back : List ℕ) →
+    len ≡ item_len text →
+    (len ≡ 0 → ⊥) →
+    front ≡ take len text →
+    back ≡ drop len text
     → items at 0 text ≡ (at, front) ∷ items (at + len) 0 back
 items_split at len text front back e some f b = rw (f, b, e) (after_item at text (λ z. some (e ∙ z)))
 
@@ -90,21 +99,25 @@ at_item at b bs g =
     ap without_version is
     ∙ ap (λ all. cond (is_version (take (item_len (b ∷ bs)) (b ∷ bs))) (others at (b ∷ bs)) all) (sym is)
 
-gaps_first : (at : ℕ) (text : List ℕ) → without_version (items at 0 text) ≡ begun (at + prefix_len is_gap text) (drop (prefix_len is_gap text) text)
+gaps_first : (at : ℕ) (text : List ℕ) →
+    without_version (items at 0 text) ≡ begun (at + prefix_len is_gap text) (drop (prefix_len is_gap text) text)
 gaps_first at [] = refl
 gaps_first at (b ∷ bs) = by_gap (is_gap b) refl (gaps_first (at + 1) bs)
   where
     Claim : Type 0
-    Claim = without_version (items at 0 (b ∷ bs)) ≡ begun (at + prefix_len is_gap (b ∷ bs)) (drop (prefix_len is_gap (b ∷ bs)) (b ∷ bs))
+    Claim = without_version (items at 0 (b ∷ bs)) ≡ begun (at + prefix_len is_gap (b ∷ bs))
+        (drop (prefix_len is_gap (b ∷ bs)) (b ∷ bs))
 
     by_gap : (g : Bool) → is_gap b ≡ g
         → without_version (items (at + 1) 0 bs) ≡ begun (at + 1 + prefix_len is_gap bs) (drop (prefix_len is_gap bs) bs)
-        → without_version (items at 0 (b ∷ bs)) ≡ begun (at + prefix_len is_gap (b ∷ bs)) (drop (prefix_len is_gap (b ∷ bs)) (b ∷ bs))
+        → without_version (items at 0 (b ∷ bs)) ≡ begun (at + prefix_len is_gap (b ∷ bs))
+        (drop (prefix_len is_gap (b ∷ bs)) (b ∷ bs))
     by_gap true g next =
         let k : ℕ = prefix_len is_gap bs in
         let len : prefix_len is_gap (b ∷ bs) ≡ suc k = ap (λ t. cond t (1 + k) 0) g ∙ omega arith in
         let place : at + 1 + k ≡ at + suc k = omega arith in
-        ap (λ t. without_version (cond t (items (at + 1) 0 bs) (first at (b ∷ bs) ∷ items (at + 1) (item_len (b ∷ bs) - 1) bs))) g
+        ap (λ t. without_version (cond t (items (at + 1) 0 bs)
+        (first at (b ∷ bs) ∷ items (at + 1) (item_len (b ∷ bs) - 1) bs))) g
         ∙ next ∙ ap (λ a. begun a (drop k bs)) place ∙ ap (λ n. begun (at + n) (drop n (b ∷ bs))) (sym len)
     by_gap false g next =
         let len : prefix_len is_gap (b ∷ bs) ≡ 0 = ap (λ t. cond t (1 + prefix_len is_gap bs) 0) g in
@@ -115,21 +128,33 @@ gaps_first at (b ∷ bs) = by_gap (is_gap b) refl (gaps_first (at + 1) bs)
 pub started : (text : List ℕ) (gaps : ℕ) → gaps ≡ prefix_len is_gap text → items_of text ≡ begun gaps (drop gaps text)
 started text gaps e =
     let place : 0 + prefix_len is_gap text ≡ gaps = omega (arith, e) in
-    gaps_first 0 text ∙ ap (λ n. begun n (drop (prefix_len is_gap text) text)) place ∙ ap (λ n. begun gaps (drop n text)) (sym e)
+    gaps_first 0 text ∙ ap (λ n. begun n (drop (prefix_len is_gap text) text)) place ∙
+    ap (λ n. begun gaps (drop n text)) (sym e)
 
 -- after a first item `@2`
-pub after_version : (text rest item : List ℕ) (gaps len : ℕ) → gaps ≡ prefix_len is_gap text → rest ≡ drop gaps text → len ≡ item_len rest → item ≡ take len rest
+pub after_version : (text rest item : List ℕ) (gaps len : ℕ) →
+    gaps ≡ prefix_len is_gap text →
+    rest ≡ drop gaps text →
+    len ≡ item_len rest →
+    item ≡ take len rest
     → is_version item ≡ true → items (gaps + len) 0 (drop (gaps + len) text) ≡ items_of text
 after_version text rest item gaps len g r l i v =
-    let is : is_version (take (item_len rest) rest) ≡ true = ap (λ n. is_version (take n rest)) (sym l) ∙ ap is_version (sym i) ∙ v in
-    ap (λ bs. items (gaps + len) 0 bs) (sym (drop-drop len gaps text)) ∙ ap (λ bs. items (gaps + len) 0 (drop len bs)) (sym r)
+    let is : is_version (take (item_len rest) rest) ≡ true = ap (λ n. is_version (take n rest)) (sym l) ∙
+    ap is_version (sym i) ∙ v in
+    ap (λ bs. items (gaps + len) 0 bs) (sym (drop-drop len gaps text)) ∙
+    ap (λ bs. items (gaps + len) 0 (drop len bs)) (sym r)
     ∙ ap (λ n. items (gaps + n) 0 (drop n rest)) l ∙ sym (ap (λ t. cond t (others gaps rest) (items gaps 0 rest)) is)
     ∙ ap (begun gaps) r ∙ sym (started text gaps g)
 
 -- without it
-pub no_version : (text rest item : List ℕ) (gaps len : ℕ) → gaps ≡ prefix_len is_gap text → rest ≡ drop gaps text → len ≡ item_len rest → item ≡ take len rest
+pub no_version : (text rest item : List ℕ) (gaps len : ℕ) →
+    gaps ≡ prefix_len is_gap text →
+    rest ≡ drop gaps text →
+    len ≡ item_len rest →
+    item ≡ take len rest
     → is_version item ≡ false → items gaps 0 (drop gaps text) ≡ items_of text
 no_version text rest item gaps len g r l i v =
-    let is : is_version (take (item_len rest) rest) ≡ false = ap (λ n. is_version (take n rest)) (sym l) ∙ ap is_version (sym i) ∙ v in
+    let is : is_version (take (item_len rest) rest) ≡ false = ap (λ n. is_version (take n rest)) (sym l) ∙
+    ap is_version (sym i) ∙ v in
     ap (λ bs. items gaps 0 bs) (sym r) ∙ sym (ap (λ t. cond t (others gaps rest) (items gaps 0 rest)) is)
     ∙ ap (begun gaps) r ∙ sym (started text gaps g)

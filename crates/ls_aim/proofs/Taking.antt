@@ -1,5 +1,6 @@
 -- Items that are taken, and what is answered of one that isn't.
-use Rattle.std.proofs.Common.{◌≡◌, ◌∙◌, ℕ, List, [], ◌∷◌, ◌++◌, map, refl, sym, ap, subst, Option, Some, None, Result, Ok, Err}
+use Rattle.std.proofs.Common.{◌≡◌, ◌∙◌, ℕ, List, [], ◌∷◌, ◌++◌, map, refl, sym, ap, subst, Option, Some, None, Result}
+use Rattle.std.proofs.Common.{Ok, Err}
 use Rattle.ls_checked.specs.PlainProgram.{plain_thread}
 use Rattle.ls_checked.specs.declared.program.ThreadProgram.{ThreadProgram}
 use Rattle.ls_items.specs.Items.{Item}
@@ -45,13 +46,20 @@ unsaid schedule.TooManySteps read go_on h = ap (λ r. on_read r go_on) h
 
 module _ (names : Names) (steps : List ℕ) (at : ℕ) (item : Text) (texts : List Text) where
   -- an item with a mark
-  pub no_target : (mark : ℕ) (f : ScheduleFault) → texts ≡ thread_names_of names → Some mark ≡ mark_of item → target_said texts at item mark ≡ Err f
+  pub no_target : (mark : ℕ) (f : ScheduleFault) →
+      texts ≡ thread_names_of names →
+      Some mark ≡ mark_of item →
+      target_said texts at item mark ≡ Err f
       → Fails (lifted f) (taken names steps (at, item))
   no_target mark f same marked h =
       subst (λ m. Fails (lifted f) (taken_by names steps (at, item) m)) marked
-      (unsaid f (target_said (thread_names_of names) at item mark) (λ t. gone names at steps t) (ap (λ ns. target_said ns at item mark) (sym same) ∙ h))
+      (unsaid f (target_said (thread_names_of names) at item mark) (λ t. gone names at steps t)
+      (ap (λ ns. target_said ns at item mark) (sym same) ∙ h))
 
-  pub a_target : (mark : ℕ) (t : Target) → texts ≡ thread_names_of names → Some mark ≡ mark_of item → target_said texts at item mark ≡ Ok t
+  pub a_target : (mark : ℕ) (t : Target) →
+      texts ≡ thread_names_of names →
+      Some mark ≡ mark_of item →
+      target_said texts at item mark ≡ Ok t
       → gone names at steps t ≡ taken names steps (at, item)
   a_target mark t same marked h =
       ap (λ read. on_read read (λ u. gone names at steps u)) (sym h)
@@ -59,14 +67,20 @@ module _ (names : Names) (steps : List ℕ) (at : ℕ) (item : Text) (texts : Li
       ∙ ap (λ m. taken_by names steps (at, item) m) marked
 
   -- one without
-  pub no_steps : (f : ScheduleFault) → texts ≡ thread_names_of names → None ≡ mark_of item → schedules.Fails f (schedule_said texts at item)
+  pub no_steps : (f : ScheduleFault) →
+      texts ≡ thread_names_of names →
+      None ≡ mark_of item →
+      schedules.Fails f (schedule_said texts at item)
       → Fails (lifted f) (taken names steps (at, item))
   no_steps f same marked h =
       subst (λ m. Fails (lifted f) (taken_by names steps (at, item) m)) marked
       (subst (λ ns. Fails (lifted f) (on_read (schedule_said ns at item) (λ more. followed steps more))) same
       (unread f (schedule_said texts at item) (λ more. followed steps more) h))
 
-  pub some_steps : (more : List ℕ) → texts ≡ thread_names_of names → None ≡ mark_of item → schedule_said texts at item ≡ Ok more
+  pub some_steps : (more : List ℕ) →
+      texts ≡ thread_names_of names →
+      None ≡ mark_of item →
+      schedule_said texts at item ≡ Ok more
       → followed steps more ≡ taken names steps (at, item)
   some_steps more same marked h =
       ap (λ read. on_read read (λ m. followed steps m)) (sym h)

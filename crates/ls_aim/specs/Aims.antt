@@ -1,6 +1,7 @@
 -- The steps that targets take.
 use Rattle.ls_events.specs.Limits.{most_steps}
-use Rattle.std.specs.Prelude.{◌==◌, ◌-◌, ℕ, zero, suc, Bool, List, [], ◌∷◌, ◌++◌, length, map, nat_lt, Option, Some, None, Result, Ok, Err, if◌then◌else◌}
+use Rattle.std.specs.Prelude.{◌==◌, ◌-◌, ℕ, zero, suc, Bool, List, [], ◌∷◌, ◌++◌, length, map, nat_lt, Option, Some}
+use Rattle.std.specs.Prelude.{None, Result, Ok, Err, if◌then◌else◌}
 use Rattle.ls_events.specs.declared.value.Value.{Value}
 use Rattle.ls_meaning.specs.declared.step.Asked.{Asked}
 use Rattle.ls_meaning.specs.declared.step.Asked.TheVariants.{Asks, Ended, NotStarted}
@@ -48,7 +49,8 @@ at_rest at stop Ended = halted at stop
 
 -- by what a step would do; the run is the one after it
 abbrev pub seen : Names → ℕ → Run → ℕ → Stop → Did → Sight
-seen names at r thread stop (Acted action answer) = before_step stop (performed_text names r.labels thread action answer)
+seen names at r thread stop (Acted action answer) = before_step stop
+    (performed_text names r.labels thread action answer)
 seen names at r thread stop Waits = at_rest at stop (asked names.file names.program r.state thread)
 seen names at r thread stop Idle = at_rest at stop (asked names.file names.program r.state thread)
 
@@ -63,7 +65,8 @@ by_sight (Missed f) steps go_on = Err f
 
 -- These steps, and those of the thread until it stops: at most so many. The run is the one after the steps.
 abbrev pub gone_to : Names → ℕ → ℕ → Run → Stop → List ℕ → ℕ → Result (List ℕ) AimFault
-gone_to names at thread r stop steps zero = by_sight (sight names at r thread stop) steps (λ still. Err (fault.TooFar at))
+gone_to names at thread r stop steps zero = by_sight (sight names at r thread stop) steps
+    (λ still. Err (fault.TooFar at))
 gone_to names at thread r stop steps (suc room) =
     by_sight (sight names at r thread stop) steps
     (λ still. gone_to names at thread (after_step names r thread) still (steps ++ thread ∷ []) room)
@@ -77,7 +80,8 @@ gone names at steps t = gone_to names at t.thread (run_of names steps) t.stop st
 
 -- these steps, and then those
 abbrev pub followed : List ℕ → List ℕ → Result (List ℕ) AimFault
-followed steps more = if nat_lt most_steps (length (steps ++ more)) then Err (fault.Schedule schedule.TooManySteps) else Ok (steps ++ more)
+followed steps more = if nat_lt most_steps (length (steps ++ more)) then Err (fault.Schedule schedule.TooManySteps) else
+    Ok (steps ++ more)
 
 abbrev pub on_read : {A : Type 0} → Result A ScheduleFault → (A → Result (List ℕ) AimFault) → Result (List ℕ) AimFault
 on_read (Ok x) go_on = go_on x
@@ -89,7 +93,8 @@ thread_names_of names = map (λ t. t.name) names.program.threads
 -- the steps after an item, by the place of its mark: without one it is an item or a group of schedules
 abbrev pub taken_by : Names → List ℕ → Item → Option ℕ → Result (List ℕ) AimFault
 taken_by names steps i None = on_read (schedule_said (thread_names_of names) i.0 i.1) (λ more. followed steps more)
-taken_by names steps i (Some mark) = on_read (target_said (thread_names_of names) i.0 i.1 mark) (λ t. gone names i.0 steps t)
+taken_by names steps i (Some mark) = on_read (target_said (thread_names_of names) i.0 i.1 mark)
+    (λ t. gone names i.0 steps t)
 
 abbrev pub taken : Names → List ℕ → Item → Result (List ℕ) AimFault
 taken names steps i = taken_by names steps i (mark_of i.1)

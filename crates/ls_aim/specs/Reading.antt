@@ -1,5 +1,6 @@
 -- What an item says.
-use Rattle.std.specs.Prelude.{◌==◌, ◌&&◌, ◌||◌, ◌+◌, ◌-◌, ℕ, nat_lt, Bool, true, false, not, codes, List, [], ◌∷◌, ◌++◌, length, take, drop, min, Option, Some, None, Result, Ok, Err, if◌then◌else◌, option_map}
+use Rattle.std.specs.Prelude.{◌==◌, ◌&&◌, ◌||◌, ◌+◌, ◌-◌, ℕ, nat_lt, Bool, true, false, not, codes, List, [], ◌∷◌, ◌++◌}
+use Rattle.std.specs.Prelude.{length, take, drop, min, Option, Some, None, Result, Ok, Err, if◌then◌else◌, option_map}
 use Rattle.std.specs.List.{position}
 use Rattle.std.specs.Str.{bytes_eq}
 use Rattle.std.specs.Str.Lossy.{utf8_valid_len}
@@ -53,7 +54,8 @@ bare text (Some i) = None
 -- a text of one byte or more, in double quotes or without any
 abbrev pub text_said : List ℕ → Option (List ℕ)
 text_said [] = None
-text_said (b ∷ bs) = if is_quote b then closed_at bs (position is_quote bs) else bare (b ∷ bs) (position is_quote (b ∷ bs))
+text_said (b ∷ bs) = if is_quote b then closed_at bs (position is_quote bs) else
+    bare (b ∷ bs) (position is_quote (b ∷ bs))
 
 abbrev pub before : ℕ → List ℕ → Option Stop
 before passing said = option_map (λ t. Before passing t) (text_said said)

@@ -41,16 +41,19 @@ Moves names thread r (suc n) = (rests names thread r ≡ false) × Moves names t
 -- how many of them have the text in their label
 abbrev pub shown : Names → Text → ℕ → Run → ℕ → ℕ
 shown names text thread r zero = 0
-shown names text thread r (suc n) = (if shows names text thread r then 1 else 0) + shown names text thread (after_step names r thread) n
+shown names text thread r (suc n) = (if shows names text thread r then 1 else 0) + shown names text thread
+    (after_step names r thread) n
 
 -- After n steps, and after no fewer: the thread rests; or its next step has the text, as so many have before.
 abbrev pub IsMetAfter : Names → ℕ → Run → Stop → ℕ → Type 0
 IsMetAfter names thread r Rest n = Moves names thread r n × (rests names thread (later names thread r n) ≡ true)
 IsMetAfter names thread r (Before passing text) n =
-    Moves names thread r n × (shown names text thread r n ≡ passing) × (shows names text thread (later names thread r n) ≡ true)
+    Moves names thread r n × (shown names text thread r n ≡ passing) ×
+    (shows names text thread (later names thread r n) ≡ true)
 
 -- the steps that a target takes are so many of its thread
 abbrev pub TargetsAreMet : Type 0
 TargetsAreMet =
-    (names : Names) (at thread room : ℕ) (r : Run) (stop : Stop) (steps all : List ℕ) → gone_to names at thread r stop steps room ≡ Ok all
+    (names : Names) (at thread room : ℕ) (r : Run) (stop : Stop) (steps all : List ℕ) →
+    gone_to names at thread r stop steps room ≡ Ok all
     → (n : ℕ) × (n ≤ room) × (all ≡ steps ++ replicate n thread) × IsMetAfter names thread r stop n

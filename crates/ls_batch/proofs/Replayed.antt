@@ -1,5 +1,6 @@
 -- The setup's steps as a schedule.
-use Rattle.std.proofs.Common.{◌≡◌, ℕ, ◌+◌, ◌<◌, ◌≤◌, length, subst, zero, suc, List, [], ◌∷◌, ◌++◌, refl, ap, sym, ◌∙◌, arith, Bool, true, false}
+use Rattle.std.proofs.Common.{◌≡◌, ℕ, ◌+◌, ◌<◌, ◌≤◌, length, subst, zero, suc, List, [], ◌∷◌, ◌++◌, refl, ap, sym, ◌∙◌}
+use Rattle.std.proofs.Common.{arith, Bool, true, false}
 use Rattle.std.specs.Prelude.{All, replicate}
 use Rattle.std.proofs.lemmas.List.{length-append, length-replicate}
 use Rattle.std.proofs.lemmas.List.Elements.{All-append, All-replicate}
@@ -21,7 +22,11 @@ record Settles (n : ℕ) (m : Machine) : Type 0 where
   few : settling n m ≤ n
   same : settled n m ≡ machine_run m (replicate (settling n m) 0)
 
-settles_more : (n : ℕ) (m : Machine) → Settles n (machine_step m 0).machine → (b : Bool) → goes_on (machine_state m 0) ≡ b → Settles (suc n) m
+settles_more : (n : ℕ) (m : Machine) →
+    Settles n (machine_step m 0).machine →
+    (b : Bool) →
+    goes_on (machine_state m 0) ≡ b →
+    Settles (suc n) m
 settles_more n m rest true e =
     let more = settling_on n m e in
     let few = rest.few in
@@ -45,12 +50,16 @@ settles zero m =
     }
 settles (suc n) m = settles_more n m (settles n (machine_step m 0).machine) (goes_on (machine_state m 0)) refl
 
-played_is : (m : Machine) (threads seed : ℕ) (d : Drawing) → played m threads seed d ≡ machine_run (settled 100000 m) (sample_of seed threads d)
+played_is : (m : Machine) (threads seed : ℕ) (d : Drawing) →
+    played m threads seed d ≡ machine_run (settled 100000 m) (sample_of seed threads d)
 unfolding played
 played_is m threads seed d = refl
 
 -- a schedule of so many steps of the setup and a sample
-seed_count : (taken steps : ℕ) (sample : List ℕ) → taken ≤ 100000 → length sample ≤ steps → length (replicate taken 0 ++ sample) ≤ 100000 + steps
+seed_count : (taken steps : ℕ) (sample : List ℕ) →
+    taken ≤ 100000 →
+    length sample ≤ steps →
+    length (replicate taken 0 ++ sample) ≤ 100000 + steps
 seed_count taken steps sample few short =
     let both = length-append (replicate taken 0) sample in
     let zeros = length-replicate {A = ℕ} taken 0 in
@@ -69,11 +78,14 @@ seeds_replay code cells seed d =
       count = seed_count (settling 100000 m) d.steps sample s.few (sample_count seed (threads_of code) d);
       history = ap (λ (z : Machine). z.history)
           (played_is m (threads_of code) seed d
-          ∙ (ap (λ (z : Machine). machine_run z sample) s.same ∙ sym (run_append m (replicate (settling 100000 m) 0) sample)));
+          ∙ (ap (λ (z : Machine). machine_run z sample) s.same ∙
+          sym (run_append m (replicate (settling 100000 m) 0) sample)));
     }
 
 -- a seed's run from its start keeps the code and the number of cells
-pub played_keeps : (m : Machine) (threads seed : ℕ) (d : Drawing) → RunsKeep → ((played m threads seed d).code ≡ m.code) × ((played m threads seed d).cells.limit ≡ m.cells.limit)
+pub played_keeps : (m : Machine) (threads seed : ℕ) (d : Drawing) →
+    RunsKeep →
+    ((played m threads seed d).code ≡ m.code) × ((played m threads seed d).cells.limit ≡ m.cells.limit)
 played_keeps m threads seed d keep =
     let s = settles 100000 m in
     let first = keep m (replicate (settling 100000 m) 0) in

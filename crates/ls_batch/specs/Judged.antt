@@ -19,7 +19,8 @@ AreVerdicts p rows verdicts = AllZip (λ r v. IsVerdict p r.history v) rows verd
 
 -- as `seed 7 count 3 illegal`, with its line feed
 abbrev pub judged_head_text : Row → Verdict → Text
-judged_head_text r v = codes "seed " ++ (decimal r.seed ++ (codes " count " ++ (decimal r.count ++ (32 ∷ (verdict_text v ++ 10 ∷ [])))))
+judged_head_text r v = codes "seed " ++
+    (decimal r.seed ++ (codes " count " ++ (decimal r.count ++ (32 ∷ (verdict_text v ++ 10 ∷ [])))))
 
 -- the line with the least seed, the count and the verdict, the history's lines, an empty line
 abbrev pub judged_entry_text : Program → Row → Verdict → Text

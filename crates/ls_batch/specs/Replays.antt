@@ -5,7 +5,8 @@ use Rattle.ls_code.specs.Machine.{loaded, machine_history}
 use Rattle.ls_batch.specs.Samples.{history_of, seed_schedule, settling}
 use Rattle.ls_batch.specs.declared.samples.Drawing.{Drawing}
 
--- The setup takes at most 100,000 steps, the machine's history of the seed's schedule is that of its run, and the schedule's
+-- The setup takes at most 100,000 steps, the machine's history of the seed's schedule is that of its run, and the
+-- schedule's
 -- steps are of threads that are there.
 pub record Replays (code : Code) (cells seed : ℕ) (d : Drawing) : Type 0 where
   pub few : settling 100000 (loaded code cells) ≤ 100000

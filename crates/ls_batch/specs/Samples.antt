@@ -1,5 +1,6 @@
 -- The schedule that a seed gives, and the run of one seed.
-use Rattle.std.specs.Prelude.{◌≡◌, ℕ, zero, suc, ◌+◌, ◌-◌, ◌/◌, ◌%◌, ◌^◌, ◌<◌, ◌⊎◌, ◌||◌, ◌==◌, List, [], ◌∷◌, ◌++◌, length, map, replicate, if◌then◌else◌, Bool, true, false}
+use Rattle.std.specs.Prelude.{◌≡◌, ℕ, zero, suc, ◌+◌, ◌-◌, ◌/◌, ◌%◌, ◌^◌, ◌<◌, ◌⊎◌, ◌||◌, ◌==◌, List, [], ◌∷◌, ◌++◌}
+use Rattle.std.specs.Prelude.{length, map, replicate, if◌then◌else◌, Bool, true, false}
 use Rattle.std.specs.List.{range_with_len}
 use Rattle.rand_xoshiro.specs.SplitMix64.{mix_u64}
 use Rattle.ls_code.specs.Code.{Code}
@@ -58,7 +59,8 @@ history_of code cells seed d = (played (loaded code cells) (threads_of code) see
 
 -- the schedule of a seed's run on so many cells: the setup's steps, then the seed's sample
 abbrev pub seed_schedule : Code → ℕ → ℕ → Drawing → List ℕ
-seed_schedule code cells seed d = replicate (settling 100000 (loaded code cells)) 0 ++ sample_of seed (threads_of code) d
+seed_schedule code cells seed d = replicate (settling 100000 (loaded code cells)) 0 ++
+    sample_of seed (threads_of code) d
 
 -- the histories of so many seeds from the first on
 abbrev pub histories_of : Code → ℕ → ℕ → ℕ → Drawing → List (List Event)

@@ -77,10 +77,7 @@ fn run_parts(
 }
 
 /// The counts of all parts together, where none was refused memory.
-fn all_counts(
-    alloc: Global,
-    parts: Vec<Result<Counts, AllocError>>,
-) -> Result<Counts, AllocError>
+fn all_counts(alloc: Global, parts: Vec<Result<Counts, AllocError>>) -> Result<Counts, AllocError>
     ensures { (groups : List (List Run)) → AllZip (λ group part. IfOk part (AreCounts group)) groups parts.items → IfOk result (AreCounts (flat_map (λ group. group) groups)) }
 {
     let mut all = Counts::new(alloc);

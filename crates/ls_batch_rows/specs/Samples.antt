@@ -21,7 +21,8 @@ FewDrawn =
 
 -- the greatest seed, and the rarest chance
 abbrev pub AtTheEnds : Type 0
-AtTheEnds = Gives 18446744073709551615 3 12 1 (3 ∷ 1 ∷ 2 ∷ 1 ∷ 1 ∷ 2 ∷ 2 ∷ 3 ∷ 1 ∷ 2 ∷ 2 ∷ 2 ∷ []) × Gives 9 64 6 900000 (replicate 6 8)
+AtTheEnds = Gives 18446744073709551615 3 12 1 (3 ∷ 1 ∷ 2 ∷ 1 ∷ 1 ∷ 2 ∷ 2 ∷ 3 ∷ 1 ∷ 2 ∷ 2 ∷ 2 ∷ []) ×
+    Gives 9 64 6 900000 (replicate 6 8)
 
 -- one thread takes each step
 abbrev pub OneThread : Type 0

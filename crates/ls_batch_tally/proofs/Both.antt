@@ -1,5 +1,6 @@
 -- Counts put together.
-use Rattle.std.proofs.Common.{◌≡◌, ◌∙◌, ℕ, ◌+◌, ◌≤◌, ◌^◌, ◌-◌, min, Bool, true, false, cond, List, [], ◌∷◌, ◌++◌, length, Option, Some, None, refl, sym, ap, arith}
+use Rattle.std.proofs.Common.{◌≡◌, ◌∙◌, ℕ, ◌+◌, ◌≤◌, ◌^◌, ◌-◌, min, Bool, true, false, cond, List, [], ◌∷◌, ◌++◌}
+use Rattle.std.proofs.Common.{length, Option, Some, None, refl, sym, ap, arith}
 use Rattle.ls_batch_tally.specs.declared.counting.Count.{Count}
 use Rattle.ls_batch_tally.specs.Numbers.{Key, key_of}
 use Rattle.ls_batch_tally.specs.Counted.{are_same, both, counted, one_of, Run}
@@ -25,7 +26,8 @@ both_assoc None p q = refl
 both_assoc (Some o) None q = refl
 both_assoc (Some o) (Some p) None = refl
 both_assoc (Some o) (Some p) (Some q) =
-    let sum : min (min (o.count + p.count) (2 ^ 64 - 1) + q.count) (2 ^ 64 - 1) ≡ min (o.count + min (p.count + q.count) (2 ^ 64 - 1)) (2 ^ 64 - 1) = omega arith in
+    let sum : min (min (o.count + p.count) (2 ^ 64 - 1) + q.count) (2 ^ 64 - 1) ≡ min
+    (o.count + min (p.count + q.count) (2 ^ 64 - 1)) (2 ^ 64 - 1) = omega arith in
     let least : min (min o.seed p.seed) q.seed ≡ min o.seed (min p.seed q.seed) = omega arith in
     λ i. count_of (sum i) (least i)
 
@@ -35,9 +37,11 @@ one_run r ks = cond (are_same ks (key_of r.history)) (one_of r.seed) None
 
 pub counted_append : (rs ms : List Run) (ks : Key) → counted (rs ++ ms) ks ≡ both (counted rs ks) (counted ms ks)
 counted_append [] ms ks = refl
-counted_append (r ∷ rs) ms ks = ap (both (one_run r ks)) (counted_append rs ms ks) ∙ sym (both_assoc (one_run r ks) (counted rs ks) (counted ms ks))
+counted_append (r ∷ rs) ms ks = ap (both (one_run r ks)) (counted_append rs ms ks) ∙
+    sym (both_assoc (one_run r ks) (counted rs ks) (counted ms ks))
 
-pub counted_more : (rs : List Run) (r : Run) (ks : Key) → counted (rs ++ r ∷ []) ks ≡ both (counted rs ks) (one_run r ks)
+pub counted_more : (rs : List Run) (r : Run) (ks : Key) →
+    counted (rs ++ r ∷ []) ks ≡ both (counted rs ks) (one_run r ks)
 counted_more rs r ks = counted_append rs (r ∷ []) ks ∙ ap (both (counted rs ks)) (both_none (one_run r ks))
 
 -- how many

@@ -1,5 +1,6 @@
 -- Keys tell events apart, and lists of keys histories.
-use Rattle.std.proofs.Common.{◌≡◌, ◌≢◌, ℕ, List, [], ◌∷◌, ◌∙◌, map, refl, ap, ap₂, sym, Bool, true, false, true≢false, Ordering, Less, Equal, Greater}
+use Rattle.std.proofs.Common.{◌≡◌, ◌≢◌, ℕ, List, [], ◌∷◌, ◌∙◌, map, refl, ap, ap₂, sym, Bool, true, false, true≢false}
+use Rattle.std.proofs.Common.{Ordering, Less, Equal, Greater}
 use Rattle.std.specs.Prelude.{Some, None}
 use Rattle.std.specs.Cmp.Lexicographic.{slice_cmp}
 use Rattle.std.specs.Ordering.{ordering_reverse, ordering_then, int_cmp, nat_cmp, is_eq}
@@ -91,8 +92,11 @@ exact_truth false false e = refl
 exact_truth true false e = absurd (cc)
 exact_truth false true e = absurd (cc)
 
-exact_pair : (r s : ℕ) (b c : Bool) → (outcome_ord.ghosts).cmp (outcome.Pair r b) (outcome.Pair s c) ≡ Equal → outcome.Pair r b ≡ outcome.Pair s c
-exact_pair r s b c e = let k = both_equal (nat_cmp r s) _ e in λ i. outcome.Pair (exact_unsigned r s k.0 i) (exact_truth b c k.1 i)
+exact_pair : (r s : ℕ) (b c : Bool) →
+    (outcome_ord.ghosts).cmp (outcome.Pair r b) (outcome.Pair s c) ≡ Equal →
+    outcome.Pair r b ≡ outcome.Pair s c
+exact_pair r s b c e = let k = both_equal (nat_cmp r s) _ e in
+    λ i. outcome.Pair (exact_unsigned r s k.0 i) (exact_truth b c k.1 i)
 
 exact_outcome : CmpEqualImpliesEq outcome_cmp
 exact_outcome (outcome.Int m) (outcome.Int n) e = ap (λ z. outcome.Int z) (exact_signed m n e)
@@ -123,7 +127,8 @@ exact_list : {K : Type 0} (R : K → K → Ordering) → CmpEqualImpliesEq R →
 exact_list R h [] [] e = refl
 exact_list R h [] (y ∷ ys) e = absurd (cc)
 exact_list R h (x ∷ xs) [] e = absurd (cc)
-exact_list R h (x ∷ xs) (y ∷ ys) e = let k = both_equal (R x y) (slice_cmp R xs ys) e in λ i. h x y k.0 i ∷ exact_list R h xs ys k.1 i
+exact_list R h (x ∷ xs) (y ∷ ys) e = let k = both_equal (R x y) (slice_cmp R xs ys) e in λ i. h x y k.0 i ∷
+    exact_list R h xs ys k.1 i
 
 pub exact_history : (xs ys : List EventKey) → slice_cmp event_cmp xs ys ≡ Equal → xs ≡ ys
 exact_history xs ys e = exact_list event_cmp exact_event xs ys e
@@ -170,7 +175,8 @@ outcome_itself outcome.Error = refl
 event_itself : (k : EventKey) → event_cmp k k ≡ Equal
 event_itself k =
     then_equal (nat_cmp k.thread k.thread) _ (itself nat_cmp nat_cmp_total k.thread)
-    (then_equal (nat_cmp k.call k.call) (outcome_cmp k.happening k.happening) (itself nat_cmp nat_cmp_total k.call) (outcome_itself k.happening))
+    (then_equal (nat_cmp k.call k.call) (outcome_cmp k.happening k.happening) (itself nat_cmp nat_cmp_total k.call)
+    (outcome_itself k.happening))
 
 list_itself : (ks : List EventKey) → slice_cmp event_cmp ks ks ≡ Equal
 list_itself [] = refl
@@ -186,7 +192,8 @@ same_keys k l e =
     λ i. record { number = number i; events = events i }
 
 pub are_itself : (k : Key) → are_same k k ≡ true
-are_itself k = ap is_eq (then_equal (nat_cmp k.number k.number) (slice_cmp event_cmp k.events k.events) (itself nat_cmp nat_cmp_total k.number) (list_itself k.events))
+are_itself k = ap is_eq (then_equal (nat_cmp k.number k.number) (slice_cmp event_cmp k.events k.events)
+    (itself nat_cmp nat_cmp_total k.number) (list_itself k.events))
 
 pub are_apart : (k l : Key) → are_same k l ≡ false → k ≢ l
 are_apart k l e = λ same. true≢false (sym (are_itself k) ∙ ap (are_same k) same ∙ e)

@@ -16,7 +16,9 @@ stands_still h g hs n other (Here gs m s) = Here (gs ++ g ∷ []) m (stands_stil
 stands_still h g hs n other (Elsewhere f gs m d s) = Elsewhere f (gs ++ g ∷ []) m d (stands_still h g gs m other s)
 
 -- it stands nowhere
-pub stands_nowhere : (h : History) (hs : List History) → ((i : ℕ) (g : History) → slice_get hs i ≡ Some g → g ≢ h) → Stands h hs 0
+pub stands_nowhere : (h : History) (hs : List History) →
+    ((i : ℕ) (g : History) → slice_get hs i ≡ Some g → g ≢ h) →
+    Stands h hs 0
 stands_nowhere h [] none = Nowhere
 stands_nowhere h (g ∷ hs) none = Elsewhere g hs 0 (none 0 g refl) (stands_nowhere h hs (λ i f e. none (suc i) f e))
 

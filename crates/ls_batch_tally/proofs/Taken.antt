@@ -1,5 +1,7 @@
 -- One entry more, and entries in order.
-use Rattle.std.proofs.Common.{◌≡◌, ◌∙◌, ℕ, ◌+◌, ◌<◌, ◌≤◌, zero, suc, Bool, true, false, true≢false, cond, List, [], ◌∷◌, ◌++◌, length, get_or, Option, Some, None, Ordering, Less, refl, sym, ap, ap₂, arith, inl, inr}
+use Rattle.std.proofs.Common.{◌≡◌, ◌∙◌, ℕ, ◌+◌, ◌<◌, ◌≤◌, zero, suc, Bool, true, false, true≢false, cond, List, [], ◌∷◌}
+use Rattle.std.proofs.Common.{◌++◌, length, get_or, Option, Some, None, Ordering, Less, refl, sym, ap, ap₂, arith, inl}
+use Rattle.std.proofs.Common.{inr}
 use Rattle.std.specs.Prelude.{slice_get, All, sum_by}
 use Rattle.std.specs.Cmp.{nat_cmp_is}
 use Rattle.std.specs.Ordering.{is_lt, nat_cmp, ordering_then}
@@ -25,10 +27,13 @@ none_taken all = record { says = All-nil (Says all); each = λ ks. omega arith; 
 
 all_snoc : (P : Entry → Type 0) (es : List Entry) (e : Entry) → All P es → P e → All P (es ++ e ∷ [])
 all_snoc P [] e all last = All-cons P e [] last (All-nil P)
-all_snoc P (x ∷ es) e all last = All-cons P x (es ++ e ∷ []) (All-head P x es all) (all_snoc P es e (All-tail P x es all) last)
+all_snoc P (x ∷ es) e all last = All-cons P x (es ++ e ∷ []) (All-head P x es all)
+    (all_snoc P es e (All-tail P x es all) last)
 
 -- one entry more is taken
-pub one_taken : (all rest next : Key → Option Count) (es : List Entry) (e : Entry) → AreTaken all rest es → rest (plain_key e.key) ≡ count_of e.count e.seed
+pub one_taken : (all rest next : Key → Option Count) (es : List Entry) (e : Entry) →
+    AreTaken all rest es →
+    rest (plain_key e.key) ≡ count_of e.count e.seed
     → ((ks : Key) → next ks ≡ cond (are_same ks (plain_key e.key)) None (rest ks)) → AreTaken all next (es ++ e ∷ [])
 one_taken all rest next es e t its others = record {
   says = all_snoc (Says all) es e t.says (t.within (plain_key e.key) _ its);
@@ -36,7 +41,9 @@ one_taken all rest next es e t its others = record {
   within = λ ks c h. within ks c (are_same ks (plain_key e.key)) (sym (others ks) ∙ h);
 }
   where
-    each : (ks : Key) (b : Bool) → are_same ks (plain_key e.key) ≡ b → times ks (es ++ e ∷ []) + there (next ks) ≡ there (all ks)
+    each : (ks : Key) (b : Bool) →
+        are_same ks (plain_key e.key) ≡ b →
+        times ks (es ++ e ∷ []) + there (next ks) ≡ there (all ks)
     each ks true p =
         let sum = sum_by-append (one_time ks) es (e ∷ []) in
         let one : one_time ks e ≡ 1 = ap (λ b. cond b 1 0) p in
@@ -103,7 +110,8 @@ ascends es steps j (suc k) e f lt a b = elim (cases_lt j k) [
       let here : j ≡ k = omega (arith, lt, past) in
       let first = got es j e e a in
       let step = steps k e (omega arith) in
-      let at_start : (get_or es k e).seed ≡ e.seed = ap (λ (n : ℕ). (get_or es n e).seed) (sym here) ∙ ap (λ (x : Entry). x.seed) first.1 in
+      let at_start : (get_or es k e).seed ≡ e.seed = ap (λ (n : ℕ). (get_or es n e).seed) (sym here) ∙
+      ap (λ (x : Entry). x.seed) first.1 in
       let at_end = ap (λ (x : Entry). x.seed) last.1 in
       omega (arith, step, at_start, at_end)
 ]

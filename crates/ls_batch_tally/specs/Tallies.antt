@@ -20,7 +20,8 @@ pub data Stands (h : History) : List History → ℕ → Type 0 where
   Here : (hs : List History) (n : ℕ) → Stands h hs n → Stands h (h ∷ hs) (n + 1)
   Elsewhere : (g : History) (hs : List History) (n : ℕ) → g ≢ h → Stands h hs n → Stands h (g ∷ hs) n
 
--- The row's seed is the least that gave its history, and its count is how many did. The histories are those of the seeds from
+-- The row's seed is the least that gave its history, and its count is how many did. The histories are those of the
+-- seeds from
 -- `first` on.
 pub record Tells (hs : List History) (first : ℕ) (r : Row) : Type 0 where
   pub at : ℕ
@@ -36,7 +37,8 @@ pub record Has (rows : List Row) (h : History) : Type 0 where
   pub there : slice_get rows at ≡ Some row
   pub same : row.history ≡ h
 
--- Each row tells of a history that a seed gave, each such history has a row, and the rows stand in order of seed: so each
+-- Each row tells of a history that a seed gave, each such history has a row, and the rows stand in order of seed: so
+-- each
 -- distinct history is there once.
 pub record IsTally (hs : List History) (first : ℕ) (rows : List Row) : Type 0 where
   pub tells : (j : ℕ) (r : Row) → slice_get rows j ≡ Some r → Tells hs first r

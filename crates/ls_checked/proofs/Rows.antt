@@ -2,15 +2,19 @@
 use Rattle.std.proofs.Common.{◌≡◌, refl, ap, ◌∙◌}
 use Rattle.std.specs.Global.{Vec}
 use Rattle.ls_checked.specs.CheckedTree.{Block, Then}
-use Rattle.ls_checked.specs.declared.tree.Statement.{Statement, Row_of-Statement, end_of-Statement, more_of-Statement, items-the_row-Statement, items_hidden-the_row-Statement-0}
+use Rattle.ls_checked.specs.declared.tree.Statement.{Statement, Row_of-Statement, end_of-Statement, more_of-Statement}
+use Rattle.ls_checked.specs.declared.tree.Statement.{items-the_row-Statement, items_hidden-the_row-Statement-0}
 use Rattle.ls_checked.specs.declared.tree.Statement.TheBlock.{hidden-the_row-Statement-0}
 use Rattle.ls_checked.specs.Plain.{plain_statement, row_statements, statements_of}
 
 -- the statements of a row are those of its list
-pub row_is_list : (n : _) (row : Row_of-Statement n) → row_statements row ≡ statements_of (items-the_row-Statement n row)
+pub row_is_list : (n : _) (row : Row_of-Statement n) →
+    row_statements row ≡ statements_of (items-the_row-Statement n row)
 row_is_list n end_of-Statement = refl
 row_is_list n (more_of-Statement s rest) = ap (Then (plain_statement s)) (row_is_list _ rest)
 
 -- a block that is made, and one that is read
-pub block_made : (v : Vec Statement) → Block (row_statements (hidden-the_row-Statement-0 v)) ≡ Block (statements_of v.items)
-block_made v = ap Block (row_is_list _ (hidden-the_row-Statement-0 v) ∙ ap statements_of (items_hidden-the_row-Statement-0 v))
+pub block_made : (v : Vec Statement) →
+    Block (row_statements (hidden-the_row-Statement-0 v)) ≡ Block (statements_of v.items)
+block_made v = ap Block (row_is_list _ (hidden-the_row-Statement-0 v) ∙
+    ap statements_of (items_hidden-the_row-Statement-0 v))

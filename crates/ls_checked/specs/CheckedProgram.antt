@@ -11,7 +11,11 @@ pub record SetupName : Type 0 where
 -- `name = new C(values)`, or `name.method(values)`, with the texts of the class or method
 pub data ProgramCall : Type 0 where
   Making : (name class : ℕ) → (class_name : List ℕ) → (values : List Value) → ProgramCall
-  Calling : (name method : ℕ) → (method_name : List ℕ) → (result : Option ValueType) → (values : List Value) → ProgramCall
+  Calling : (name method : ℕ) →
+      (method_name : List ℕ) →
+      (result : Option ValueType) →
+      (values : List Value) →
+      ProgramCall
 
 pub record ThreadProgram : Type 0 where
   pub name : List ℕ

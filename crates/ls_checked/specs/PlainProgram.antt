@@ -11,7 +11,8 @@ abbrev pub plain_name : SetupName → checked.SetupName
 plain_name n = record { name = string_bytes n.name; class = n.class }
 
 abbrev pub plain_call : ProgramCall → checked.ProgramCall
-plain_call (calls.Making name class class_name values) = checked.Making name class (string_bytes class_name) values.items
+plain_call (calls.Making name class class_name values) = checked.Making name class (string_bytes class_name)
+    values.items
 plain_call (calls.Calling name method method_name result values) =
     checked.Calling name method (string_bytes method_name) result values.items
 

@@ -1,10 +1,12 @@
 -- What each step keeps, and so each run.
-use Rattle.std.proofs.Common.{◌≡◌, ℕ, List, [], ◌∷◌, ◌++◌, Option, Some, None, Bool, true, false, slice_get, refl, sym, ap, ◌∙◌}
+use Rattle.std.proofs.Common.{◌≡◌, ℕ, List, [], ◌∷◌, ◌++◌, Option, Some, None, Bool, true, false, slice_get, refl, sym}
+use Rattle.std.proofs.Common.{ap, ◌∙◌}
 use Rattle.std.proofs.lemmas.List.{append-nil, append_assoc}
 use Rattle.ls_code.specs.Code.{Code}
 use Rattle.ls_code.specs.Thread.{Thread}
 use Rattle.ls_code.specs.Events.{events_of}
-use Rattle.ls_code.specs.Machine.{Machine, Entry, Stepped, due_step, open_step, step_of, is_due, machine_step, machine_run, machine_trace, traced, loaded}
+use Rattle.ls_code.specs.Machine.{Machine, Entry, Stepped, due_step, open_step, step_of, is_due, machine_step}
+use Rattle.ls_code.specs.Machine.{machine_run, machine_trace, traced, loaded}
 use Rattle.ls_code.specs.Laws.{trace_events, HistoriesAreOfTraces, RunsGoOn}
 use Rattle.ls_code.specs.declared.step.Did.{Did}
 use Rattle.ls_code.specs.declared.step.Did.TheVariants as did
@@ -28,14 +30,16 @@ unfolding Keeps
 step_keeps m n None = (refl, sym (append-nil m.history))
 step_keeps m n (Some t) = open_keeps m n t m.stopped
 
-traced_events : (p : Code) (n : ℕ) (d : Did) (rest : List Entry) → trace_events p (traced n d rest) ≡ events_of p n d ++ trace_events p rest
+traced_events : (p : Code) (n : ℕ) (d : Did) (rest : List Entry) →
+    trace_events p (traced n d rest) ≡ events_of p n d ++ trace_events p rest
 traced_events p n (did.Acted action answer) rest = refl
 traced_events p n did.Silent rest = refl
 traced_events p n did.Waits rest = refl
 traced_events p n did.Idle rest = refl
 traced_events p n did.Stopped rest = refl
 
-run_history : (m : Machine) (ns : List ℕ) → (machine_run m ns).history ≡ m.history ++ trace_events m.code (machine_trace m ns)
+run_history : (m : Machine) (ns : List ℕ) →
+    (machine_run m ns).history ≡ m.history ++ trace_events m.code (machine_trace m ns)
 unfolding Keeps
 run_history m [] = sym (append-nil m.history)
 run_history m (n ∷ ns) =
@@ -43,7 +47,9 @@ run_history m (n ∷ ns) =
     let next : Machine = (machine_step m n).machine in
     let later : List Entry = machine_trace next ns in
     let e = run_history next ns in
-    let a : next.history ++ trace_events next.code later ≡ (m.history ++ events_of m.code n (machine_step m n).did) ++ trace_events m.code later = ap (λ h. h ++ trace_events next.code later) k.1 ∙ ap (λ (p : Code). (m.history ++ events_of m.code n (machine_step m n).did) ++ trace_events p later) k.0 in
+    let a : next.history ++ trace_events next.code later ≡ (m.history ++ events_of m.code n (machine_step m n).did) ++
+    trace_events m.code later = ap (λ h. h ++ trace_events next.code later) k.1 ∙
+    ap (λ (p : Code). (m.history ++ events_of m.code n (machine_step m n).did) ++ trace_events p later) k.0 in
     let b = append_assoc m.history (events_of m.code n (machine_step m n).did) (trace_events m.code later) in
     let d = ap (λ es. m.history ++ es) (sym (traced_events m.code n (machine_step m n).did later)) in
     e ∙ (a ∙ (b ∙ d))
@@ -63,5 +69,8 @@ traced_more n did.Stopped xs ys = refl
 pub go_on : RunsGoOn
 go_on m [] ms = (refl, refl)
 go_on m (n ∷ ns) ms =
-    let e = go_on (machine_step m n).machine ns ms in
-    (e.0, ap (traced n (machine_step m n).did) e.1 ∙ traced_more n (machine_step m n).did (machine_trace (machine_step m n).machine ns) (machine_trace (machine_run (machine_step m n).machine ns) ms))
+    let e = go_on (machine_step m n).machine ns ms in (
+      e.0,
+      ap (traced n (machine_step m n).did) e.1 ∙ traced_more n (machine_step m n).did
+          (machine_trace (machine_step m n).machine ns) (machine_trace (machine_run (machine_step m n).machine ns) ms),
+    )

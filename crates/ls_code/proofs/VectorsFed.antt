@@ -13,8 +13,10 @@ use Rattle.ls_events.specs.declared.action.Action.TheVariants as act
 -- a call of a method that reads field 0 of null in a guarded region whose handler returns 7
 code : Code
 code = record {
-  instructions = op.Call 1 ∷ op.GetName 0 ∷ op.Enter 0 ∷ op.Result 1 ∷ op.Halt ∷ op.Trap ∷ op.Push 0 ∷ op.GetField 0 ∷ op.LeaveWith ∷ op.Pop ∷ op.Push 7 ∷ op.LeaveWith ∷ [];
-  handlers = record { from = 6; to = 9; handler = 9; depth = 0 } ∷ record { from = 0; to = 4; handler = 5; depth = 0 } ∷ [];
+  instructions = op.Call 1 ∷ op.GetName 0 ∷ op.Enter 0 ∷ op.Result 1 ∷ op.Halt ∷ op.Trap ∷ op.Push 0 ∷ op.GetField 0 ∷
+      op.LeaveWith ∷ op.Pop ∷ op.Push 7 ∷ op.LeaveWith ∷ [];
+  handlers = record { from = 6; to = 9; handler = 9; depth = 0 } ∷ record { from = 0; to = 4; handler = 5; depth = 0 } ∷
+      [];
   methods = record { start = 6; arguments = 1; more = 0; need = 1 } ∷ [];
   sizes = [];
   starts = [];
@@ -61,18 +63,23 @@ is_stuck = refl
 
 -- lock() and unlock() of the lock under the only setup name, by load and exchange
 locking : Code
-locking = record code { instructions = op.GetName 0 ∷ op.See 1 ∷ op.Take 1 ∷ op.JumpIfFalse 1 ∷ op.See 3 ∷ op.DropLock 0 ∷ op.Push 9 ∷ op.PutName 0 ∷ op.Halt ∷ [] }
+locking = record code {
+  instructions = op.GetName 0 ∷ op.See 1 ∷ op.Take 1 ∷ op.JumpIfFalse 1 ∷ op.See 3 ∷
+      op.DropLock 0 ∷ op.Push 9 ∷ op.PutName 0 ∷ op.Halt ∷ [];
+}
 
 locker : Thread
 locker = started (record { place = 0; need = 2; calls = [] })
 
 -- SEE asks for its operation, and so does TAKE
-asks_lock : (fed locking 1 5 5 locker (Gives 3 ∷ []) ≡ Asked (act.Lock 3)) × (fed locking 1 5 5 locker (Gives 3 ∷ Gives 0 ∷ []) ≡ Asked (act.Lock 3))
+asks_lock : (fed locking 1 5 5 locker (Gives 3 ∷ []) ≡ Asked (act.Lock 3)) ×
+    (fed locking 1 5 5 locker (Gives 3 ∷ Gives 0 ∷ []) ≡ Asked (act.Lock 3))
 unfolding locking code locker
 asks_lock = (refl, refl)
 
 -- if another thread owns the lock, or if the exchange is lost, the thread looks again
-asks_again : (fed locking 1 5 5 locker (Gives 3 ∷ Gives 12884901889 ∷ []) ≡ Asked (act.Lock 3)) × (fed locking 1 5 5 locker (Gives 3 ∷ Gives 0 ∷ Gives 0 ∷ []) ≡ Asked (act.Lock 3))
+asks_again : (fed locking 1 5 5 locker (Gives 3 ∷ Gives 12884901889 ∷ []) ≡ Asked (act.Lock 3)) ×
+    (fed locking 1 5 5 locker (Gives 3 ∷ Gives 0 ∷ Gives 0 ∷ []) ≡ Asked (act.Lock 3))
 unfolding locking code locker
 asks_again = (refl, refl)
 
@@ -92,13 +99,20 @@ throws_unlock = refl
 
 -- the same of the monitor of the object under the only setup name
 monitoring : Code
-monitoring = record code { instructions = op.GetName 0 ∷ op.See 4 ∷ op.Take 4 ∷ op.JumpIfFalse 1 ∷ op.See 5 ∷ op.DropLock 1 ∷ op.Push 9 ∷ op.PutName 0 ∷ op.Halt ∷ [] }
+monitoring = record code {
+  instructions = op.GetName 0 ∷ op.See 4 ∷ op.Take 4 ∷ op.JumpIfFalse 1 ∷ op.See 5 ∷
+      op.DropLock 1 ∷ op.Push 9 ∷ op.PutName 0 ∷ op.Halt ∷ [];
+}
 
-asks_monitor : (fed monitoring 1 5 5 locker (Gives 3 ∷ []) ≡ Asked (act.LockMonitor 3)) × (fed monitoring 1 5 5 locker (Gives 3 ∷ Gives 12884901889 ∷ []) ≡ Asked (act.LockMonitor 3)) × (fed monitoring 1 5 5 locker (Gives 3 ∷ Gives 0 ∷ Gives 0 ∷ []) ≡ Asked (act.LockMonitor 3))
+asks_monitor : (fed monitoring 1 5 5 locker (Gives 3 ∷ []) ≡ Asked (act.LockMonitor 3)) ×
+    (fed monitoring 1 5 5 locker (Gives 3 ∷ Gives 12884901889 ∷ []) ≡ Asked (act.LockMonitor 3)) ×
+    (fed monitoring 1 5 5 locker (Gives 3 ∷ Gives 0 ∷ Gives 0 ∷ []) ≡ Asked (act.LockMonitor 3))
 unfolding monitoring code locker
 asks_monitor = (refl, refl, refl)
 
-leaves_monitor : (fed monitoring 1 5 5 locker (Gives 3 ∷ Gives 0 ∷ Gives 1 ∷ []) ≡ Asked (act.UnlockMonitor 3)) × (fed monitoring 1 5 5 locker (Gives 3 ∷ Gives 0 ∷ Gives 1 ∷ Gives 8589934593 ∷ []) ≡ Asked (act.WriteName 0 9)) × (fed monitoring 1 5 5 locker (Gives 3 ∷ Gives 0 ∷ Gives 1 ∷ Gives 12884901889 ∷ []) ≡ Lost)
+leaves_monitor : (fed monitoring 1 5 5 locker (Gives 3 ∷ Gives 0 ∷ Gives 1 ∷ []) ≡ Asked (act.UnlockMonitor 3)) ×
+    (fed monitoring 1 5 5 locker (Gives 3 ∷ Gives 0 ∷ Gives 1 ∷ Gives 8589934593 ∷ []) ≡ Asked (act.WriteName 0 9)) ×
+    (fed monitoring 1 5 5 locker (Gives 3 ∷ Gives 0 ∷ Gives 1 ∷ Gives 12884901889 ∷ []) ≡ Lost)
 unfolding monitoring code locker
 leaves_monitor = (refl, refl, refl)
 

@@ -37,20 +37,30 @@ entry : ℕ → Action ℕ → Answer ℕ → Entry
 entry n action answer = record { thread = n; action = action; answer = answer }
 
 -- thread 1 isn't due before the setup has ended
-setup_first : machine_trace (loaded code 9) (1 ∷ 0 ∷ 1 ∷ 0 ∷ 0 ∷ 0 ∷ []) ≡ entry 0 (act.Call 1) Done ∷ entry 0 (act.New 0) (Gives 2) ∷ entry 0 (act.WriteName 0 2) Done ∷ entry 0 (act.Return 1 None) Done ∷ []
+setup_first : machine_trace (loaded code 9) (1 ∷ 0 ∷ 1 ∷ 0 ∷ 0 ∷ 0 ∷ []) ≡ entry 0 (act.Call 1) Done ∷
+    entry 0 (act.New 0) (Gives 2) ∷ entry 0 (act.WriteName 0 2) Done ∷ entry 0 (act.Return 1 None) Done ∷ []
 unfolding code entry
 setup_first = refl
 
-states : (machine_state (machine_run (loaded code 9) (0 ∷ [])) 0 ≡ state.Running) × (machine_state (machine_run (loaded code 9) (0 ∷ [])) 1 ≡ state.NotStarted) × (machine_state (machine_run (loaded code 9) (0 ∷ [])) 3 ≡ state.Ended) × (machine_state (machine_run (loaded code 9) (0 ∷ 0 ∷ 0 ∷ 0 ∷ 0 ∷ [])) 0 ≡ state.Ended) × (machine_state (machine_run (loaded code 9) (0 ∷ 0 ∷ 0 ∷ 0 ∷ 0 ∷ [])) 1 ≡ state.Running)
+states : (machine_state (machine_run (loaded code 9) (0 ∷ [])) 0 ≡ state.Running) ×
+    (machine_state (machine_run (loaded code 9) (0 ∷ [])) 1 ≡ state.NotStarted) ×
+    (machine_state (machine_run (loaded code 9) (0 ∷ [])) 3 ≡ state.Ended) ×
+    (machine_state (machine_run (loaded code 9) (0 ∷ 0 ∷ 0 ∷ 0 ∷ 0 ∷ [])) 0 ≡ state.Ended) ×
+    (machine_state (machine_run (loaded code 9) (0 ∷ 0 ∷ 0 ∷ 0 ∷ 0 ∷ [])) 1 ≡ state.Running)
 unfolding code
 states = (refl, refl, refl, refl, refl)
 
 -- an int is read from its word; a throw in the call leads to the trap
-history : machine_history code 9 (0 ∷ 0 ∷ 0 ∷ 0 ∷ 0 ∷ 1 ∷ 2 ∷ 1 ∷ 2 ∷ 1 ∷ 2 ∷ 1 ∷ 1 ∷ 2 ∷ 1 ∷ 1 ∷ 1 ∷ 2 ∷ 2 ∷ []) ≡ event_of 0 1 Called ∷ event_of 0 1 (Returned None) ∷ event_of 1 1 Called ∷ event_of 2 1 Called ∷ event_of 1 1 (Returned (Some (value.Int (negsuc 0)))) ∷ event_of 2 1 (Trapped NullPointer) ∷ []
+history : machine_history code 9 (0 ∷ 0 ∷ 0 ∷ 0 ∷ 0 ∷ 1 ∷ 2 ∷ 1 ∷ 2 ∷ 1 ∷ 2 ∷ 1 ∷ 1 ∷ 2 ∷ 1 ∷ 1 ∷ 1 ∷ 2 ∷ 2 ∷ []) ≡
+    event_of 0 1 Called ∷ event_of 0 1 (Returned None) ∷ event_of 1 1 Called ∷ event_of 2 1 Called ∷
+    event_of 1 1 (Returned (Some (value.Int (negsuc 0)))) ∷ event_of 2 1 (Trapped NullPointer) ∷ []
 unfolding code
 history = refl
 
 -- with two cells the making of thread 2 stops the machine, and all other threads with it
-stopped : (machine_history code 2 (0 ∷ 0 ∷ 0 ∷ 0 ∷ 0 ∷ 2 ∷ 2 ∷ 1 ∷ 1 ∷ []) ≡ event_of 0 1 Called ∷ event_of 0 1 (Returned None) ∷ event_of 2 1 Called ∷ []) × (machine_state (machine_run (loaded code 2) (0 ∷ 0 ∷ 0 ∷ 0 ∷ 0 ∷ 2 ∷ 2 ∷ [])) 1 ≡ state.Stopped) × (machine_state (machine_run (loaded code 2) (0 ∷ 0 ∷ 0 ∷ 0 ∷ 0 ∷ 2 ∷ 2 ∷ [])) 3 ≡ state.Ended)
+stopped : (machine_history code 2 (0 ∷ 0 ∷ 0 ∷ 0 ∷ 0 ∷ 2 ∷ 2 ∷ 1 ∷ 1 ∷ []) ≡ event_of 0 1 Called ∷
+    event_of 0 1 (Returned None) ∷ event_of 2 1 Called ∷ []) ×
+    (machine_state (machine_run (loaded code 2) (0 ∷ 0 ∷ 0 ∷ 0 ∷ 0 ∷ 2 ∷ 2 ∷ [])) 1 ≡ state.Stopped) ×
+    (machine_state (machine_run (loaded code 2) (0 ∷ 0 ∷ 0 ∷ 0 ∷ 0 ∷ 2 ∷ 2 ∷ [])) 3 ≡ state.Ended)
 unfolding code
 stopped = (refl, refl, refl)

@@ -1,5 +1,6 @@
 -- What the instructions do that concern more than one frame.
-use Rattle.std.specs.Prelude.{ℕ, ◌+◌, ◌-◌, List, [], ◌∷◌, ◌++◌, take, drop, length, reverse, replicate, Option, Some, None, true, false, nat_lt, ◌==◌, if◌then◌else◌, slice_get}
+use Rattle.std.specs.Prelude.{ℕ, ◌+◌, ◌-◌, List, [], ◌∷◌, ◌++◌, take, drop, length, reverse, replicate, Option, Some}
+use Rattle.std.specs.Prelude.{None, true, false, nat_lt, ◌==◌, if◌then◌else◌, slice_get}
 use Rattle.ls_code.specs.Frame.{Frame, onward}
 use Rattle.ls_code.specs.Thread.{Thread, with_frames}
 use Rattle.ls_code.specs.Moves.{discarded, pushed}
@@ -15,7 +16,8 @@ left_frame t (f ∷ below) = Some (with_frames t (onward f f.operands) below)
 
 abbrev pub left_with : Thread → List Frame → ℕ → Option Thread
 left_with t [] word = None
-left_with t (f ∷ below) word = if nat_lt (length f.operands) f.need then Some (with_frames t (pushed f word) below) else None
+left_with t (f ∷ below) word = if nat_lt (length f.operands) f.need then Some (with_frames t (pushed f word) below) else
+    None
 
 -- a method's frame: its arguments, pushed in order, are its first locals, and the others are 0
 abbrev pub locals_of : Method → List ℕ → List ℕ
@@ -52,4 +54,8 @@ pub data CallMove : Type 0 where
 
 abbrev pub enter_move : Method → Thread → CallMove
 enter_move m t =
-    elim (slice_get t.top.operands (m.arguments - 1)) as (λ _. CallMove) [ None ↦ CallStuck | Some this ↦ if this == 0 then CallThrows NullPointer else (if nat_lt (length t.below) 64 then Calls (with_callee m t) else CallThrows StackOverflow) ]
+    elim (slice_get t.top.operands (m.arguments - 1)) as (λ _. CallMove) [
+      | None ↦ CallStuck
+      | Some this ↦ if this == 0 then CallThrows NullPointer else
+          (if nat_lt (length t.below) 64 then Calls (with_callee m t) else CallThrows StackOverflow)
+    ]

@@ -39,7 +39,8 @@ event_of thread call happening = record { thread = thread; call = call; happenin
 -- the events of an action
 abbrev pub action_events : Code → ℕ → Action ℕ → List Event
 action_events p thread (act.Call n) = event_of thread n Called ∷ []
-action_events p thread (act.Return n word) = event_of thread n (Returned (result_value (result_of p thread n) word)) ∷ []
+action_events p thread (act.Return n word) = event_of thread n (Returned (result_value (result_of p thread n) word)) ∷
+    []
 action_events p thread (act.Trap n kind) = event_of thread n (Trapped kind) ∷ []
 action_events p thread other = []
 

@@ -47,13 +47,17 @@ throwing p t kind = thrown_to t (thrown p.handlers kind (t.top ∷ t.below))
 -- TAKE: 1 lock, 2 tryLock, 4 lock of a monitor. Of DROP: 0 unlock, 1 unlock of a monitor.
 abbrev pub seeing_action : ℕ → ℕ → Option (Action ℕ)
 seeing_action x lock =
-    if x == 1 then Some (act.Lock lock) else (if x == 2 then Some (act.TryLock lock) else (if x == 3 then Some (act.Unlock lock) else (if x == 4 then Some (act.LockMonitor lock) else (if x == 5 then Some (act.UnlockMonitor lock) else None))))
+    if x == 1 then Some (act.Lock lock) else (if x == 2 then Some (act.TryLock lock) else
+    (if x == 3 then Some (act.Unlock lock) else (if x == 4 then Some (act.LockMonitor lock) else
+    (if x == 5 then Some (act.UnlockMonitor lock) else None))))
 
 abbrev pub taking_action : ℕ → ℕ → Option (Action ℕ)
-taking_action x lock = if x == 1 then Some (act.Lock lock) else (if x == 2 then Some (act.TryLock lock) else (if x == 4 then Some (act.LockMonitor lock) else None))
+taking_action x lock = if x == 1 then Some (act.Lock lock) else
+    (if x == 2 then Some (act.TryLock lock) else (if x == 4 then Some (act.LockMonitor lock) else None))
 
 abbrev pub dropping_action : ℕ → ℕ → Option (Action ℕ)
-dropping_action x lock = if x == 0 then Some (act.Unlock lock) else (if x == 1 then Some (act.UnlockMonitor lock) else None)
+dropping_action x lock = if x == 0 then Some (act.Unlock lock) else
+    (if x == 1 then Some (act.UnlockMonitor lock) else None)
 
 abbrev pub taking_answer : ℕ → Answer ℕ
 taking_answer x = if x == 2 then Gives 1 else Done
@@ -65,12 +69,22 @@ with_word t word = Some (with_top t (pushed t.top word))
 -- thread doesn't own it.
 abbrev pub saw : Code → Thread → ℕ → ℕ → Action ℕ → ℕ → Seen
 saw p t n x operation word =
-    if x == 2 then (elim (taken_of word n) as (λ _. Seen) [ taken.Other ↦ Reports operation (Gives 0) (with_word t word) | taken.Taken next ↦ Quietly (with_word t word) | taken.TooMany ↦ Quietly (with_word t word) ]) else (if x == 3 || x == 5 then (if is_own word n then Quietly (with_word t word) else Reports operation (Fails IllegalMonitorState) (throwing p t IllegalMonitorState)) else Quietly (with_word t word))
+    if x == 2 then
+    (elim (taken_of word n) as (λ _. Seen) [
+      | taken.Other ↦ Reports operation (Gives 0) (with_word t word)
+      | taken.Taken next ↦ Quietly (with_word t word)
+      | taken.TooMany ↦ Quietly (with_word t word)
+    ]) else
+    (if x == 3 || x == 5 then (if is_own word n then Quietly (with_word t word) else
+    Reports operation (Fails IllegalMonitorState) (throwing p t IllegalMonitorState)) else
+    Quietly (with_word t word))
 
 abbrev pub see_named : Code → Thread → ℕ → ℕ → ℕ → Option (Action ℕ) → Plan
 see_named p t n x lock None = stuck
 see_named p t n x lock (Some operation) =
-    if lock == 0 then Says (Quietly (throwing p t NullPointer)) else (if nat_lt (length t.top.operands) t.top.need then Touches operation (act.ReadPair lock) (saw p t n x operation) else stuck)
+    if lock == 0 then Says (Quietly (throwing p t NullPointer)) else
+    (if nat_lt (length t.top.operands) t.top.need then Touches operation (act.ReadPair lock) (saw p t n x operation)
+    else stuck)
 
 abbrev pub see_at : Code → Thread → ℕ → ℕ → Option ℕ → Plan
 see_at p t n x None = stuck
@@ -81,12 +95,14 @@ abbrev pub replaced : Thread → ℕ → Option Thread
 replaced t word = Some (with_top t (settled t.top 1 word))
 
 abbrev pub took : Thread → ℕ → Action ℕ → ℕ → Seen
-took t x operation won = if won == 1 then Reports operation (taking_answer x) (replaced t 1) else (if x == 2 then Reports operation (Gives 0) (replaced t 0) else Quietly (replaced t 0))
+took t x operation won = if won == 1 then Reports operation (taking_answer x) (replaced t 1) else
+    (if x == 2 then Reports operation (Gives 0) (replaced t 0) else Quietly (replaced t 0))
 
 abbrev pub take_from : Code → Thread → ℕ → Action ℕ → ℕ → ℕ → Taken → Plan
 take_from p t x operation lock word taken.Other = Says (Quietly (replaced t 0))
 take_from p t x operation lock word taken.TooMany = Says (Reports operation (Fails Error) (throwing p t Error))
-take_from p t x operation lock word (taken.Taken next) = Touches operation (act.SwapPair lock word next) (took t x operation)
+take_from p t x operation lock word (taken.Taken next) = Touches operation (act.SwapPair lock word next)
+    (took t x operation)
 
 abbrev pub take_named : Code → Thread → ℕ → ℕ → ℕ → ℕ → Option (Action ℕ) → Plan
 take_named p t n x lock word None = stuck
@@ -99,7 +115,8 @@ take_at p t n x (Some r) = take_named p t n x r.0 r.1 (taking_action x r.0)
 -- DROP: the word after one unlock is stored
 abbrev pub drop_to : Thread → Action ℕ → ℕ → Left → Plan
 drop_to t operation lock left.NotOwner = stuck
-drop_to t operation lock (left.Left next) = Stores (act.SetPair lock next) (Reports operation Done (Some (with_top t (discarded t.top 2))))
+drop_to t operation lock (left.Left next) = Stores (act.SetPair lock next)
+    (Reports operation Done (Some (with_top t (discarded t.top 2))))
 
 abbrev pub drop_named : Thread → ℕ → ℕ → ℕ → Option (Action ℕ) → Plan
 drop_named t n lock word None = stuck

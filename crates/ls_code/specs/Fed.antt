@@ -90,7 +90,8 @@ passed p number bound TooLong = TooLong
 -- there is at most one action on a lock's word.
 abbrev pub resume : Code → ℕ → ℕ → List (Answer ℕ) → Pause → Fed
 resume p number bound [] (Paused action go) = Asked action
-resume p number bound (x ∷ rest) (Paused action go) = resume p number bound rest (passed p number bound (quiet_from p number bound (go x)))
+resume p number bound (x ∷ rest) (Paused action go) = resume p number bound rest
+    (passed p number bound (quiet_from p number bound (go x)))
 resume p number bound answers (Passes t) = Lost
 resume p number bound answers (IsOver m) = ending m
 resume p number bound answers IsStuck = Lost

@@ -12,8 +12,10 @@ trace_events p (e ∷ es) = action_events p e.thread e.action ++ trace_events p 
 
 -- a history is the events of its trace: equal traces of one code give equal histories
 abbrev pub HistoriesAreOfTraces : Type 0
-HistoriesAreOfTraces = (p : Code) (cells : ℕ) (ns : List ℕ) → machine_history p cells ns ≡ trace_events p (machine_trace (loaded p cells) ns)
+HistoriesAreOfTraces = (p : Code) (cells : ℕ) (ns : List ℕ) →
+    machine_history p cells ns ≡ trace_events p (machine_trace (loaded p cells) ns)
 
 -- a run goes on from the machine that another run has reached
 abbrev pub RunsGoOn : Type 0
-RunsGoOn = (m : Machine) (ns ms : List ℕ) → (machine_run m (ns ++ ms) ≡ machine_run (machine_run m ns) ms) × (machine_trace m (ns ++ ms) ≡ machine_trace m ns ++ machine_trace (machine_run m ns) ms)
+RunsGoOn = (m : Machine) (ns ms : List ℕ) → (machine_run m (ns ++ ms) ≡ machine_run (machine_run m ns) ms) ×
+    (machine_trace m (ns ++ ms) ≡ machine_trace m ns ++ machine_trace (machine_run m ns) ms)

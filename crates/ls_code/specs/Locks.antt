@@ -30,7 +30,8 @@ pub data LockResult : Type 0 where
 
 abbrev pub lock_by : ℕ → LockState → LockResult
 lock_by thread Free = Holds (Held thread 1)
-lock_by thread (Held owner holds) = if owner == thread then (if holds == 2147483647 then OverHeld else Holds (Held owner (holds + 1))) else AnotherOwns
+lock_by thread (Held owner holds) = if owner == thread then (if holds == 2147483647 then OverHeld else
+    Holds (Held owner (holds + 1))) else AnotherOwns
 
 -- what `unlock()` by a thread does: one hold less, or nothing if it isn't the owner
 pub data UnlockResult : Type 0 where
@@ -39,7 +40,8 @@ pub data UnlockResult : Type 0 where
 
 abbrev pub unlock_by : ℕ → LockState → UnlockResult
 unlock_by thread Free = NotOwned
-unlock_by thread (Held owner holds) = if owner == thread then Leaves (if holds == 1 then Free else Held owner (holds - 1)) else NotOwned
+unlock_by thread (Held owner holds) = if owner == thread then
+    Leaves (if holds == 1 then Free else Held owner (holds - 1)) else NotOwned
 
 -- what `lock()` and `unlock()` do, as words
 abbrev pub taken_in_words : LockResult → Taken
@@ -56,7 +58,10 @@ abbrev pub is_own : ℕ → ℕ → Bool
 is_own word thread = word / 2 ^ 32 == thread + 1
 
 abbrev pub taken_of : ℕ → ℕ → Taken
-taken_of word thread = if word == 0 then taken.Taken ((thread + 1) * 2 ^ 32 + 1) else (if is_own word thread then (if nat_le 2147483647 (word % 2 ^ 32) then taken.TooMany else taken.Taken (word + 1)) else taken.Other)
+taken_of word thread = if word == 0 then taken.Taken ((thread + 1) * 2 ^ 32 + 1) else
+    (if is_own word thread then (if nat_le 2147483647 (word % 2 ^ 32) then taken.TooMany else taken.Taken (word + 1))
+    else taken.Other)
 
 abbrev pub left_of : ℕ → ℕ → Left
-left_of word thread = if is_own word thread then left.Left (if nat_le (word % 2 ^ 32) 1 then 0 else word - 1) else left.NotOwner
+left_of word thread = if is_own word thread then left.Left (if nat_le (word % 2 ^ 32) 1 then 0 else word - 1) else
+    left.NotOwner

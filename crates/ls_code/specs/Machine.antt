@@ -1,5 +1,6 @@
 -- The whole machine: its steps, runs, traces and histories.
-use Rattle.std.specs.Prelude.{ℕ, List, [], ◌∷◌, ◌++◌, map, replicate, Option, Some, None, Bool, true, false, ◌&&◌, ◌||◌, ◌==◌, if◌then◌else◌, slice_get, slice_set}
+use Rattle.std.specs.Prelude.{ℕ, List, [], ◌∷◌, ◌++◌, map, replicate, Option, Some, None, Bool, true, false, ◌&&◌, ◌||◌}
+use Rattle.std.specs.Prelude.{◌==◌, if◌then◌else◌, slice_get, slice_set}
 use Rattle.ls_code.specs.Code.{Code, Start}
 use Rattle.ls_code.specs.Frame.{Frame}
 use Rattle.ls_code.specs.Thread.{Thread}
@@ -28,7 +29,14 @@ abbrev pub empty_frame : ℕ → ℕ → Frame
 empty_frame place need = record { counter = place; locals = []; operands = []; need = need }
 
 abbrev pub started : Start → Thread
-started s = record { top = empty_frame s.place s.need; below = []; mode = mode.Running; calls = s.calls; ended = 0; pending = false }
+started s = record {
+  top = empty_frame s.place s.need;
+  below = [];
+  mode = mode.Running;
+  calls = s.calls;
+  ended = 0;
+  pending = false;
+}
 
 -- the setup names have the first cells
 abbrev pub first_cells : ℕ → ℕ → List ℕ → Cells
@@ -36,7 +44,13 @@ first_cells names limit sizes = record { words = replicate names 0; limit = limi
 
 -- the machine of code, with this many cells, at its start
 abbrev pub loaded : Code → ℕ → Machine
-loaded p cells = record { code = p; threads = map started p.starts; cells = first_cells p.names cells p.sizes; stopped = false; history = [] }
+loaded p cells = record {
+  code = p;
+  threads = map started p.starts;
+  cells = first_cells p.names cells p.sizes;
+  stopped = false;
+  history = [];
+}
 
 abbrev pub is_running : Mode → Bool
 is_running mode.Running = true
@@ -66,7 +80,12 @@ stops did.Idle = false
 
 -- the machine after an outcome of its thread n
 abbrev pub after : Machine → ℕ → Outcome → Machine
-after m n o = record m { threads = slice_set m.threads n o.thread; cells = o.cells; stopped = stops o.did; history = m.history ++ events_of m.code n o.did }
+after m n o = record m {
+  threads = slice_set m.threads n o.thread;
+  cells = o.cells;
+  stopped = stops o.did;
+  history = m.history ++ events_of m.code n o.did;
+}
 
 pub record Stepped : Type 0 where
   pub machine : Machine

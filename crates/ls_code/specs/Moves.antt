@@ -1,7 +1,9 @@
 -- What one instruction does to its frame, or asks for, before the cells answer.
-use Rattle.std.specs.Prelude.{ℕ, ◌/◌, ◌%◌, ◌^◌, ◌∷◌, drop, length, Option, Some, None, nat_lt, ◌==◌, if◌then◌else◌, slice_get, slice_set, pos}
+use Rattle.std.specs.Prelude.{ℕ, ◌/◌, ◌%◌, ◌^◌, ◌∷◌, drop, length, Option, Some, None, nat_lt, ◌==◌, if◌then◌else◌}
+use Rattle.std.specs.Prelude.{slice_get, slice_set, pos}
 use Rattle.std.specs.Int.RustNames.{int_lt}
-use Rattle.ls_code.specs.Words.{sum_word, difference_word, product_word, quotient_word, remainder_word, negative_word, less_word, at_most_word, same_word, not_word, other_word, pair_word, int_of, bool_of}
+use Rattle.ls_code.specs.Words.{sum_word, difference_word, product_word, quotient_word, remainder_word, negative_word}
+use Rattle.ls_code.specs.Words.{less_word, at_most_word, same_word, not_word, other_word, pair_word, int_of, bool_of}
 use Rattle.ls_code.specs.Frame.{Frame, onward, led_to, top_one, top_two, top_three}
 use Rattle.ls_events.specs.declared.kind.Kind.{Kind}
 use Rattle.ls_events.specs.declared.kind.Kind.TheVariants.{Arithmetic, NullPointer, NegativeArraySize}
@@ -66,7 +68,8 @@ binary g f = on_two (top_two f.operands) (λ a b. Next (settled f 2 (g a b)))
 
 -- an operator that divides
 abbrev pub dividing : (ℕ → ℕ → ℕ) → Frame → FrameMove
-dividing g f = on_two (top_two f.operands) (λ a b. if b % 2 ^ 32 == 0 then Throws Arithmetic else Next (settled f 2 (g a b)))
+dividing g f = on_two (top_two f.operands) (λ a b. if b % 2 ^ 32 == 0 then Throws Arithmetic else
+    Next (settled f 2 (g a b)))
 
 -- at address 0 it throws
 abbrev pub at_object : ℕ → FrameMove → FrameMove
@@ -82,11 +85,13 @@ abbrev pub stored : Frame → ℕ → ℕ → Frame
 stored f x word = record (discarded_one f) { locals = slice_set f.locals x word }
 
 abbrev pub store_move : ℕ → Frame → FrameMove
-store_move x f = on_one (top_one f.operands) (λ word. if nat_lt x (length f.locals) then Next (stored f x word) else Stuck)
+store_move x f = on_one (top_one f.operands) (λ word. if nat_lt x (length f.locals) then Next (stored f x word) else
+    Stuck)
 
 -- a jump if the popped word is this word
 abbrev pub jump_move : ℕ → ℕ → Frame → FrameMove
-jump_move word x f = on_one (top_one f.operands) (λ a. if a == word then Next (led_to f x (drop 1 f.operands)) else Next (discarded f 1))
+jump_move word x f = on_one (top_one f.operands) (λ a. if a == word then Next (led_to f x (drop 1 f.operands)) else
+    Next (discarded f 1))
 
 -- the table of instructions
 abbrev pub frame_move : Instruction → Frame → FrameMove
@@ -113,15 +118,19 @@ frame_move (op.JumpIfFalse x) f = jump_move 0 x f
 frame_move (op.JumpIfTrue x) f = jump_move 1 x f
 frame_move (op.Turn x) f = Asks act.Turn (then.Lead x)
 frame_move (op.GetField x) f = on_one (top_one f.operands) (λ a. at_object a (Asks (act.ReadField a x) (then.Settle 1)))
-frame_move (op.PutField x) f = on_two (top_two f.operands) (λ a v. at_object a (Asks (act.WriteField a x v) (then.Discard 2)))
-frame_move op.GetItem f = on_two (top_two f.operands) (λ a i. at_object a (Asks (act.ReadItem a (int_of i)) (then.Settle 2)))
-frame_move op.PutItem f = on_three (top_three f.operands) (λ a i v. at_object a (Asks (act.WriteItem a (int_of i) v) (then.Discard 3)))
+frame_move (op.PutField x) f = on_two (top_two f.operands) (λ a v.
+    at_object a (Asks (act.WriteField a x v) (then.Discard 2)))
+frame_move op.GetItem f = on_two (top_two f.operands) (λ a i.
+    at_object a (Asks (act.ReadItem a (int_of i)) (then.Settle 2)))
+frame_move op.PutItem f = on_three (top_three f.operands) (λ a i v.
+    at_object a (Asks (act.WriteItem a (int_of i) v) (then.Discard 3)))
 frame_move (op.GetName x) f = with_room f (Asks (act.ReadName x) then.Push)
 frame_move (op.PutName x) f = on_one (top_one f.operands) (λ v. Asks (act.WriteName x v) (then.Discard 1))
 frame_move (op.NewObject x) f = with_room f (Asks (act.New x) then.Push)
 frame_move op.NewLock f = with_room f (Asks act.NewLock then.Push)
 frame_move op.NewMarkable f = on_one (top_one f.operands) (λ w. Asks (act.NewMarkable w) (then.Settle 1))
-frame_move op.NewArray f = on_one (top_one f.operands) (λ n. if int_lt (int_of n) (pos 0) then Throws NegativeArraySize else Asks (act.NewArray (int_of n)) (then.Settle 1))
+frame_move op.NewArray f = on_one (top_one f.operands) (λ n. if int_lt (int_of n) (pos 0) then
+    Throws NegativeArraySize else Asks (act.NewArray (int_of n)) (then.Settle 1))
 frame_move op.Lock f = on_one (top_one f.operands) (λ a. at_object a (Asks (act.Lock a) (then.Discard 1)))
 frame_move op.Unlock f = on_one (top_one f.operands) (λ a. at_object a (Asks (act.Unlock a) (then.Discard 1)))
 frame_move op.TryLock f = on_one (top_one f.operands) (λ a. at_object a (Asks (act.TryLock a) (then.Settle 1)))
@@ -131,8 +140,10 @@ frame_move op.ReferenceOf f = unary (λ w. w / 2) f
 frame_move op.MarkOf f = unary (λ w. w % 2) f
 frame_move op.Pack f = binary pair_word f
 frame_move op.SetPair f = on_two (top_two f.operands) (λ a w. at_object a (Asks (act.SetPair a w) (then.Discard 2)))
-frame_move op.SwapPair f = on_three (top_three f.operands) (λ a e n. at_object a (Asks (act.SwapPair a e n) (then.Settle 3)))
-frame_move op.AttemptMark f = on_three (top_three f.operands) (λ a r m. at_object a (Asks (act.AttemptMark a r (bool_of m)) (then.Settle 3)))
+frame_move op.SwapPair f = on_three (top_three f.operands) (λ a e n.
+    at_object a (Asks (act.SwapPair a e n) (then.Settle 3)))
+frame_move op.AttemptMark f = on_three (top_three f.operands)
+    (λ a r m. at_object a (Asks (act.AttemptMark a r (bool_of m)) (then.Settle 3)))
 frame_move op.Halt f = Beyond wide.Halt
 frame_move (op.See p) f = Beyond (wide.See p)
 frame_move (op.Take p) f = Beyond (wide.Take p)

@@ -1,12 +1,14 @@
 -- One step of one thread: what the thread asks for, and what the cells answer.
-use Rattle.std.specs.Prelude.{ℕ, ◌+◌, List, ◌∷◌, length, Option, Some, None, ◌&&◌, ◌==◌, not, nat_le, if◌then◌else◌, slice_get}
+use Rattle.std.specs.Prelude.{ℕ, ◌+◌, List, ◌∷◌, length, Option, Some, None, ◌&&◌, ◌==◌, not, nat_le, if◌then◌else◌}
+use Rattle.std.specs.Prelude.{slice_get}
 use Rattle.ls_code.specs.Frame.{Frame, top_one, top_two}
 use Rattle.ls_code.specs.Exchanges.{Seen, Quietly, Reports, Plan, Says, Touches, Stores, see_at, take_at, drop_at}
 use Rattle.ls_code.specs.Moves.{FrameMove, Next, Throws, Stuck, Asks as FrameAsks, Beyond, frame_move, resumed}
 use Rattle.ls_code.specs.Throws.{thrown}
 use Rattle.ls_code.specs.Kinds.{kind_of}
 use Rattle.ls_code.specs.Thread.{Thread, with_top, with_frames}
-use Rattle.ls_code.specs.Calls.{CallMove, Calls, CallThrows, CallStuck, enter_move, left_frame, left_with, halted, call_begun, call_ended, call_trapped}
+use Rattle.ls_code.specs.Calls.{CallMove, Calls, CallThrows, CallStuck, enter_move, left_frame, left_with, halted}
+use Rattle.ls_code.specs.Calls.{call_begun, call_ended, call_trapped}
 use Rattle.ls_code.specs.Cells.{Cells, Effect, Answers, Waits, Stops, Unfit, effect}
 use Rattle.ls_code.specs.Code.{Code}
 use Rattle.ls_code.specs.declared.code.Method.{Method}
@@ -66,10 +68,12 @@ on_kind (Some kind) go = go kind
 -- The call that is due begins. Or the pending call gives its value, if it has one. Or it traps. A thread's calls are
 -- numbered from 1.
 abbrev pub begin_move : Thread → ℕ → Move
-begin_move t x = if not t.pending && (x == t.ended + 1) && nat_le x (length t.calls) then Asks (act.Call x) (λ answer. Some (call_begun t)) else Still
+begin_move t x = if not t.pending && (x == t.ended + 1) && nat_le x (length t.calls) then
+    Asks (act.Call x) (λ answer. Some (call_begun t)) else Still
 
 abbrev pub gives_move : Thread → ℕ → Move
-gives_move t x = on_top (top_one t.top.operands) (λ word. Asks (act.Return x (Some word)) (λ answer. Some (call_ended 1 t)))
+gives_move t x = on_top (top_one t.top.operands) (λ word. Asks (act.Return x (Some word))
+    (λ answer. Some (call_ended 1 t)))
 
 abbrev pub value_move : Thread → ℕ → Option CallResult → Move
 value_move t x None = Still
@@ -81,7 +85,9 @@ abbrev pub result_move : Thread → ℕ → Move
 result_move t x = if t.pending && (x == t.ended + 1) then value_move t x (slice_get t.calls t.ended) else Still
 
 abbrev pub trap_move : Thread → Move
-trap_move t = if t.pending then on_top (top_one t.top.operands) (λ word. on_kind (kind_of word) (λ kind. Asks (act.Trap (t.ended + 1) kind) (λ answer. Some (call_trapped t)))) else Still
+trap_move t = if t.pending then on_top (top_one t.top.operands)
+    (λ word. on_kind (kind_of word) (λ kind. Asks (act.Trap (t.ended + 1) kind) (λ answer. Some (call_trapped t)))) else
+    Still
 
 abbrev pub found_move : Code → Thread → ℕ → Option Method → Move
 found_move p t x None = Still

@@ -1,8 +1,10 @@
 -- Throws, and the rows that catch them.
-use Rattle.std.specs.Prelude.{ℕ, ◌-◌, List, [], ◌∷◌, drop, length, Option, Some, None, ◌&&◌, nat_lt, nat_le, if◌then◌else◌}
+use Rattle.std.specs.Prelude.{ℕ, ◌-◌, List, [], ◌∷◌, drop, length, Option, Some, None, ◌&&◌, nat_lt, nat_le}
+use Rattle.std.specs.Prelude.{if◌then◌else◌}
 use Rattle.ls_code.specs.Frame.{Frame, led_to}
 use Rattle.ls_events.specs.declared.kind.Kind.{Kind}
-use Rattle.ls_events.specs.declared.kind.Kind.TheVariants.{Arithmetic, NullPointer, ArrayIndexOutOfBounds, NegativeArraySize, IllegalMonitorState, StackOverflow, Error}
+use Rattle.ls_events.specs.declared.kind.Kind.TheVariants.{Arithmetic, NullPointer, ArrayIndexOutOfBounds}
+use Rattle.ls_events.specs.declared.kind.Kind.TheVariants.{NegativeArraySize, IllegalMonitorState, StackOverflow, Error}
 use Rattle.ls_code.specs.declared.code.HandlerRow.{HandlerRow}
 
 abbrev pub kind_word : Kind → ℕ
@@ -24,7 +26,8 @@ abbrev pub cut_to : ℕ → List ℕ → List ℕ
 cut_to depth operands = drop (length operands - depth) operands
 
 abbrev pub caught : HandlerRow → Kind → Frame → Option Frame
-caught row kind f = if nat_lt (length (cut_to row.depth f.operands)) f.need then Some (led_to f row.handler (kind_word kind ∷ cut_to row.depth f.operands)) else None
+caught row kind f = if nat_lt (length (cut_to row.depth f.operands)) f.need then
+    Some (led_to f row.handler (kind_word kind ∷ cut_to row.depth f.operands)) else None
 
 abbrev pub onto : Option Frame → List Frame → Option (Frame × List Frame)
 onto None below = None
@@ -34,4 +37,5 @@ onto (Some f) below = Some (f, below)
 abbrev pub thrown : List HandlerRow → Kind → List Frame → Option (Frame × List Frame)
 thrown rows kind [] = None
 thrown rows kind (f ∷ below) =
-    elim (find_row rows f.counter) as (λ _. Option (Frame × List Frame)) [ Some row ↦ onto (caught row kind f) below | None ↦ thrown rows kind below ]
+    elim (find_row rows f.counter) as (λ _. Option (Frame × List Frame))
+    [ Some row ↦ onto (caught row kind f) below | None ↦ thrown rows kind below ]

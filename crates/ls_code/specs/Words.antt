@@ -1,6 +1,7 @@
 -- Machine words read as ints, booleans and pairs.
 use Rattle.std.specs.Prelude.{ℕ, ◌+◌, ◌*◌, ◌%◌, ◌^◌, Bool, true, false, ◌==◌, ℤ}
-use Rattle.std.specs.Int.{w32, cast_signed, cast_unsigned, int_wrapping_add, int_wrapping_sub, int_wrapping_mul, int_wrapping_neg, int_wrapping_div}
+use Rattle.std.specs.Int.{w32, cast_signed, cast_unsigned, int_wrapping_add, int_wrapping_sub, int_wrapping_mul}
+use Rattle.std.specs.Int.{int_wrapping_neg, int_wrapping_div}
 use Rattle.std.specs.Int.RustNames.{int_lt, int_le, int_rem}
 
 -- the int of a word: its last 32 bits, signed

@@ -14,13 +14,17 @@ use Rattle.ls_commands.specs.Compiled.{AnswersOn, NotCompiled, OnImage}
 use Rattle.ls_faults.proofs.Answering.{Failed, fails, wider}
 
 -- where the texts aren't compiled, and where they are
-pub not_compiled : (classes program : Text) (May : Image → Result Text ToolFault → Type 0) (f : CompileFault) → CompilesTo classes program (Err f) →
+pub not_compiled : (classes program : Text) (May : Image → Result Text ToolFault → Type 0) (f : CompileFault) →
+    CompilesTo classes program (Err f) →
     Gives (AnswersOn classes program May) (Failed (lifted_compile f))
 not_compiled classes program May f h = fails (AnswersOn classes program May) (lifted_compile f) (NotCompiled f h)
 
-pub on_image : (classes program : Text) (May : Image → Result Text ToolFault → Type 0) (image : Image) (r : Result (String Global) ToolFault) →
-    Compiles classes program image → IsWithinLimits image → Gives (May image) r → Gives (AnswersOn classes program May) r
-on_image classes program May image r compiles limits given = wider (May image) (AnswersOn classes program May) r (λ a h. OnImage image a compiles limits h) given
+pub on_image : (classes program : Text) (May : Image → Result Text ToolFault → Type 0) (image : Image)
+    (r : Result (String Global) ToolFault) →
+    Compiles classes program image → IsWithinLimits image → Gives (May image) r →
+    Gives (AnswersOn classes program May) r
+on_image classes program May image r compiles limits given = wider (May image) (AnswersOn classes program May) r
+    (λ a h. OnImage image a compiles limits h) given
 
 abbrev is_answer : {A E : Type 0} → Result A E → Type 0
 is_answer (Ok x) = Unit {0}

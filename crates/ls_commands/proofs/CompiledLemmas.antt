@@ -34,14 +34,21 @@ abbrev Failed : ToolFault → Result (String Global) ToolFault
 Failed f = Err f
 
 -- no machine has so many cells, or so few
-pub cells_fail : (i : Image) (cells : ℕ) (read : Result (List ℕ) ScheduleFault) (steps : List ℕ) (f : LoadFault) → read ≡ Ok steps →
-    (IsErrOf (Refused f) load.BadCells ↔ AreBadCells (code_of_image i).names cells) → Gives (Replayed i cells read) (Failed (lifted_cells f))
+pub cells_fail : (i : Image) (cells : ℕ) (read : Result (List ℕ) ScheduleFault) (steps : List ℕ) (f : LoadFault) →
+    read ≡ Ok steps →
+    (IsErrOf (Refused f) load.BadCells ↔ AreBadCells (code_of_image i).names cells) →
+    Gives (Replayed i cells read) (Failed (lifted_cells f))
 cells_fail i cells read steps load.Memory e h = tt
 cells_fail i cells read steps load.BadCells e h = rw e (NoCells steps (h.0 refl))
 
-pub schedule_runs : (i : Image) (cells : ℕ) (read : Result (List ℕ) ScheduleFault) (steps : List ℕ) (r : Record) (t : Text) → read ≡ Ok steps →
-    (IsErrOf (Recorded r) load.BadCells ↔ AreBadCells (code_of_image i).names cells) → IsRecordOf (code_of_image i) cells steps r →
+pub schedule_runs : (i : Image) (cells : ℕ) (read : Result (List ℕ) ScheduleFault) (steps : List ℕ) (r : Record)
+    (t : Text) →
+    read ≡ Ok steps →
+    (IsErrOf (Recorded r) load.BadCells ↔ AreBadCells (code_of_image i).names cells) →
+    IsRecordOf (code_of_image i) cells steps r →
     t ≡ run_text (plain_program (program_of_image i)) (happened r) → Replayed i cells read (Ok t)
 schedule_runs i cells read steps r t e h is said =
-    let text : t ≡ run_text (plain_program (program_of_image i)) (machine_history (code_of_image i) cells steps) = said ∙ ap (run_text (plain_program (program_of_image i))) is.history in
-    rw e (subst (λ x. Replayed i cells (Ok steps) (Ok x)) (sym text) (Runs steps (not_refused r load.BadCells (AreBadCells (code_of_image i).names cells) h)))
+    let text : t ≡ run_text (plain_program (program_of_image i)) (machine_history (code_of_image i) cells steps) = said
+    ∙ ap (run_text (plain_program (program_of_image i))) is.history in
+    rw e (subst (λ x. Replayed i cells (Ok steps) (Ok x)) (sym text)
+    (Runs steps (not_refused r load.BadCells (AreBadCells (code_of_image i).names cells) h)))

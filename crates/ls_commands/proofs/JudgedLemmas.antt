@@ -1,5 +1,6 @@
 -- What `batch` may answer with verdicts.
-use Rattle.std.proofs.Common.{◌≡◌, ◌↔◌, ◌<◌, ℕ, zero, suc, ◌+◌, List, [], ◌∷◌, length, Some, Result, Ok, Err, refl, sym, subst, arith}
+use Rattle.std.proofs.Common.{◌≡◌, ◌↔◌, ◌<◌, ℕ, zero, suc, ◌+◌, List, [], ◌∷◌, length, Some, Result, Ok, Err, refl, sym}
+use Rattle.std.proofs.Common.{subst, arith}
 use Rattle.std.specs.Prelude.{IsErrOf, map, slice_get, slice_index_or}
 use Rattle.std.specs.List.{range_with_len}
 use Rattle.ls_code.specs.Machine.{machine_history}
@@ -27,7 +28,9 @@ use Rattle.ls_commands.specs.Readable.{RunsAreReadable}
 use Rattle.ls_commands.specs.declared.tallying.Sampling.{Sampling}
 
 -- an item of what f makes is made of one
-of_one : {A B : Type 0} (f : A → B) (xs : List A) (k : ℕ) (y : B) → slice_get (map f xs) k ≡ Some y → (x : A) × (y ≡ f x)
+of_one : {A B : Type 0} (f : A → B) (xs : List A) (k : ℕ) (y : B) →
+    slice_get (map f xs) k ≡ Some y →
+    (x : A) × (y ≡ f x)
 of_one f [] k y e = let h : ⊥ = cc in absurd h
 of_one f (x ∷ xs) zero y e = let same : y ≡ f x = cc in (x, same)
 of_one f (x ∷ xs) (suc k) y e = of_one f xs k y e
@@ -54,30 +57,55 @@ module _ (i : Image) (cells : ℕ) (s : Sampling) where
   AreRows rows = IsTally (histories_of (code_of_image i) cells s.first s.count s.drawing) s.first rows
 
   -- each row's history is that of a machine's run
-  seed_named : RunsAreReadable i → SeedsReplay → ¬ Bad → (seed : ℕ) → IsHistoryOf (plain_program_of i) (history_of (code_of_image i) cells seed s.drawing)
+  seed_named : RunsAreReadable i →
+      SeedsReplay →
+      ¬ Bad →
+      (seed : ℕ) →
+      IsHistoryOf (plain_program_of i) (history_of (code_of_image i) cells seed s.drawing)
   seed_named readable replay good seed =
       let code = code_of_image i in
       let r = replay code cells seed s.drawing in
       let steps = seed_schedule code cells seed s.drawing in
       subst (IsHistoryOf (plain_program_of i)) (sym r.history)
-      (readable_named (plain_program_of i) (machine_history code cells steps) (readable cells (are_cells code cells good) steps))
+      (readable_named (plain_program_of i) (machine_history code cells steps)
+      (readable cells (are_cells code cells good) steps))
 
-  row_named : RunsAreReadable i → SeedsReplay → ¬ Bad → (rows : List Row) → AreRows rows → (k : ℕ) (r : Row) → slice_get rows k ≡ Some r → IsHistoryOf (plain_program_of i) r.history
+  row_named : RunsAreReadable i →
+      SeedsReplay →
+      ¬ Bad →
+      (rows : List Row) →
+      AreRows rows →
+      (k : ℕ) (r : Row) →
+      slice_get rows k ≡ Some r →
+      IsHistoryOf (plain_program_of i) r.history
   row_named readable replay good rows is k r e =
       let t = is.tells k r e in
-      let from = of_one (λ n. history_of (code_of_image i) cells (s.first + n) s.drawing) (range_with_len 0 s.count) t.at r.history t.there in
+      let from = of_one (λ n. history_of (code_of_image i) cells (s.first + n) s.drawing) (range_with_len 0 s.count)
+      t.at r.history t.there in
       subst (IsHistoryOf (plain_program_of i)) (sym from.1) (seed_named readable replay good (s.first + from.0))
 
-  pub rows_named : RunsAreReadable i → SeedsReplay → (rows : List Row) → (IsErrOf {E = BatchFault} (Ok rows) batch.BadCells ↔ Bad) → AreRows rows → AreHistoriesOf (plain_program_of i) rows
+  pub rows_named : RunsAreReadable i →
+      SeedsReplay →
+      (rows : List Row) →
+      (IsErrOf {E = BatchFault} (Ok rows) batch.BadCells ↔ Bad) →
+      AreRows rows →
+      AreHistoriesOf (plain_program_of i) rows
   rows_named readable replay rows bad is =
-      λ k d within. row_named readable replay (not_refused rows batch.BadCells Bad bad) rows is k (slice_index_or rows k d) (get_within rows k d within)
+      λ k d within. row_named readable replay (not_refused rows batch.BadCells Bad bad) rows is k
+      (slice_index_or rows k d) (get_within rows k d within)
 
-  pub judging_fails : (f : BatchFault) → (IsErrOf (Refused f) batch.BadCells ↔ Bad) → (IsErrOf (Refused f) batch.BadCount ↔ (¬ Bad × Many)) → Gives (Judged i cells s) (Err (lifted_batch f))
+  pub judging_fails : (f : BatchFault) →
+      (IsErrOf (Refused f) batch.BadCells ↔ Bad) →
+      (IsErrOf (Refused f) batch.BadCount ↔ (¬ Bad × Many)) →
+      Gives (Judged i cells s) (Err (lifted_batch f))
   judging_fails batch.Memory bad many = tt
   judging_fails batch.BadCells bad many = NoCells (bad.0 refl)
   judging_fails batch.BadCount bad many = BadCount (many.0 refl).0 (many.0 refl).1
 
-  pub judging_tells : (rows : List Row) (t : Text) (p : Program) → p ≡ plain_program_of i → (IsErrOf {E = BatchFault} (Ok rows) batch.BadCells ↔ Bad) → (IsErrOf {E = BatchFault} (Ok rows) batch.BadCount ↔ (¬ Bad × Many)) →
+  pub judging_tells : (rows : List Row) (t : Text) (p : Program) →
+      p ≡ plain_program_of i →
+      (IsErrOf {E = BatchFault} (Ok rows) batch.BadCells ↔ Bad) →
+      (IsErrOf {E = BatchFault} (Ok rows) batch.BadCount ↔ (¬ Bad × Many)) →
       AreRows rows → IsJudged p rows t → Judged i cells s (Ok t)
   judging_tells rows t p e bad many is told =
       let said : IsJudged (plain_program_of i) rows t = subst (λ q. IsJudged q rows t) e told in

@@ -1,6 +1,7 @@
 -- What the commands that run live threads may answer.
 use Rattle.ls_events.specs.Limits.{most_steps}
-use Rattle.std.proofs.Common.{◌≡◌, ◌↔◌, ◌⊎◌, ◌<◌, ◌≤◌, ◌∙◌, ◌++◌, ℕ, List, length, Result, Ok, Err, refl, sym, subst, ap, arith}
+use Rattle.std.proofs.Common.{◌≡◌, ◌↔◌, ◌⊎◌, ◌<◌, ◌≤◌, ◌∙◌, ◌++◌, ℕ, List, length, Result, Ok, Err, refl, sym, subst}
+use Rattle.std.proofs.Common.{ap, arith}
 use Rattle.std.specs.Prelude.{IsErrOf}
 use Rattle.ls_code.specs.Machine.{machine_history}
 use Rattle.ls_machine.specs.Room.{AreBadCells}
@@ -23,7 +24,8 @@ use Rattle.ls_faults.specs.Faults.{lifted_live, lifted_turns}
 use Rattle.ls_faults.specs.Given.{Gives}
 use Rattle.ls_commands.proofs.Answering.{not_refused}
 use Rattle.ls_commands.specs.Compiled.{names_of_image, NoCells as TooFewOrMany, plain_program_of, Replayed, Runs}
-use Rattle.ls_commands.specs.Lived.{AreLived, AsReplayed, BadLimit, Disagree, Lived, Lives, NoCells, NoMore, NotFollowed, NoThread, ReplayedLive, lived_history, lived_schedule}
+use Rattle.ls_commands.specs.Lived.{AreLived, AsReplayed, BadLimit, Disagree, Lived, Lives, NoCells, NoMore}
+use Rattle.ls_commands.specs.Lived.{NotFollowed, NoThread, ReplayedLive, lived_history, lived_schedule}
 
 module _ (i : Image) (cells : ℕ) where
   abbrev Bad : Type 0
@@ -36,7 +38,9 @@ module _ (i : Image) (cells : ℕ) where
     abbrev Unlived : LiveFault → Result Record LiveFault
     Unlived f = Err f
 
-    pub live_fails : (f : LiveFault) → (IsErrOf (Unlived f) (live.Open opening.BadCells) ↔ Bad) → (IsErrOf (Unlived f) (live.Open opening.BadLimit) ↔ (¬ Bad × (most_steps < limit))) →
+    pub live_fails : (f : LiveFault) →
+        (IsErrOf (Unlived f) (live.Open opening.BadCells) ↔ Bad) →
+        (IsErrOf (Unlived f) (live.Open opening.BadLimit) ↔ (¬ Bad × (most_steps < limit))) →
         Gives (Lived i cells limit NoMore) (Err (lifted_live f))
     live_fails (live.Open opening.Memory) bad large = tt
     live_fails (live.Open opening.BadCells) bad large = NoCells (bad.0 refl)
@@ -44,33 +48,50 @@ module _ (i : Image) (cells : ℕ) where
     live_fails live.NoThread bad large = NoThread
     live_fails live.Disagree bad large = Disagree
 
-    within : (r : Record) → ¬ Bad → (IsErrOf {E = LiveFault} (Ok r) (live.Open opening.BadLimit) ↔ (¬ Bad × (most_steps < limit))) → limit ≤ most_steps
+    within : (r : Record) →
+        ¬ Bad →
+        (IsErrOf {E = LiveFault} (Ok r) (live.Open opening.BadLimit) ↔ (¬ Bad × (most_steps < limit))) →
+        limit ≤ most_steps
     within r good large =
-        let no : ¬ (most_steps < limit) = λ h. not_refused r (live.Open opening.BadLimit) (¬ Bad × (most_steps < limit)) large (good, h) in
+        let no : ¬ (most_steps < limit) = λ h. not_refused r (live.Open opening.BadLimit) (¬ Bad × (most_steps < limit))
+        large (good, h) in
         omega (arith, no)
 
     pub live_runs : (r : Record) (t : Text) → (IsErrOf {E = LiveFault} (Ok r) (live.Open opening.BadCells) ↔ Bad) →
-        (IsErrOf {E = LiveFault} (Ok r) (live.Open opening.BadLimit) ↔ (¬ Bad × (most_steps < limit))) → IsRecordOf (code_of_image i) cells (scheduled r) r →
-        AreLived (code_of_image i) cells limit (scheduled r) → t ≡ schedule_text (names_of_image i) (scheduled r) ++ lines r → Lived i cells limit NoMore (Ok t)
+        (IsErrOf {E = LiveFault} (Ok r) (live.Open opening.BadLimit) ↔ (¬ Bad × (most_steps < limit))) →
+        IsRecordOf (code_of_image i) cells (scheduled r) r →
+        AreLived (code_of_image i) cells limit (scheduled r) →
+        t ≡ schedule_text (names_of_image i) (scheduled r) ++ lines r → Lived i cells limit NoMore (Ok t)
     live_runs r t bad large is lived said =
         let good : ¬ Bad = not_refused r (live.Open opening.BadCells) Bad bad in
         let text : t ≡ lived_schedule i (scheduled r) ++ lived_history i cells (scheduled r) =
-        said ∙ ap (λ es. schedule_text (names_of_image i) (scheduled r) ++ run_text (plain_program_of i) es) is.history in
-        subst (λ x. Lived i cells limit NoMore (Ok x)) (sym text) (Lives (scheduled r) good (within r good large) lived tt)
+        said ∙ ap (λ es. schedule_text (names_of_image i) (scheduled r) ++ run_text (plain_program_of i) es) is.history
+        in
+        subst (λ x. Lived i cells limit NoMore (Ok x)) (sym text)
+        (Lives (scheduled r) good (within r good large) lived tt)
 
   module _ (read : Result (List ℕ) ScheduleFault) (steps : List ℕ) (reads : read ≡ Ok steps) where
     abbrev Unfollowed : TurnsFault → Result Record TurnsFault
     Unfollowed f = Err f
 
     pub turns_fail : (f : TurnsFault) → (IsErrOf (Unfollowed f) (turns.Load load.BadCells) ↔ Bad) →
-        ((place : ℕ) → IsErrOf (Unfollowed f) (turns.Follow (follow.TurnsSpent place)) → place < length steps) → Gives (ReplayedLive i cells read) (Err (lifted_turns f))
+        ((place : ℕ) → IsErrOf (Unfollowed f) (turns.Follow (follow.TurnsSpent place)) → place < length steps) →
+        Gives (ReplayedLive i cells read) (Err (lifted_turns f))
     turns_fail (turns.Load load.Memory) bad spent = tt
     turns_fail (turns.Load load.BadCells) bad spent = AsReplayed _ (rw reads (TooFewOrMany steps (bad.0 refl)))
     turns_fail (turns.Follow follow.Memory) bad spent = tt
     turns_fail (turns.Follow follow.NoThread) bad spent = NotFollowed steps follow.NoThread reads tt
-    turns_fail (turns.Follow (follow.TurnsSpent place)) bad spent = NotFollowed steps (follow.TurnsSpent place) reads (spent place refl)
+    turns_fail (turns.Follow (follow.TurnsSpent place)) bad spent = NotFollowed steps (follow.TurnsSpent place) reads
+        (spent place refl)
 
-    pub turns_run : (r : Record) (t : Text) → (IsErrOf {E = TurnsFault} (Ok r) (turns.Load load.BadCells) ↔ Bad) → IsRecordOf (code_of_image i) cells steps r → t ≡ lines r → ReplayedLive i cells read (Ok t)
+    pub turns_run : (r : Record) (t : Text) →
+        (IsErrOf {E = TurnsFault} (Ok r) (turns.Load load.BadCells) ↔ Bad) →
+        IsRecordOf (code_of_image i) cells steps r →
+        t ≡ lines r →
+        ReplayedLive i cells read (Ok t)
     turns_run r t bad is said =
-        let text : t ≡ run_text (plain_program_of i) (machine_history (code_of_image i) cells steps) = said ∙ ap (run_text (plain_program_of i)) is.history in
-        AsReplayed (Ok t) (rw reads (subst (λ x. Replayed i cells (Ok steps) (Ok x)) (sym text) (Runs steps (not_refused r (turns.Load load.BadCells) Bad bad))))
+        let text : t ≡ run_text (plain_program_of i) (machine_history (code_of_image i) cells steps) = said ∙
+        ap (run_text (plain_program_of i)) is.history in
+        AsReplayed (Ok t)
+        (rw reads (subst (λ x. Replayed i cells (Ok steps) (Ok x)) (sym text)
+        (Runs steps (not_refused r (turns.Load load.BadCells) Bad bad))))

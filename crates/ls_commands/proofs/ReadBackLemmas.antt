@@ -20,8 +20,11 @@ use Rattle.ls_report.specs.Printing.{run_text}
 use Rattle.ls_text_laws.specs.Histories.{CompiledIsReadable}
 use Rattle.ls_text_laws.specs.Schedules.{SchedulesReadBack}
 use Rattle.ls_faults.proofs.Answering.{wider}
-use Rattle.ls_commands.specs.Compiled.{names_of_image, NoCells, NoSchedule, plain_program_of, Replayed, ReplayedOf, Runs}
-use Rattle.ls_commands.specs.Lived.{AreLived, AsReplayed, BadLimit, Disagree, Lived, LivedOf, Lives, NoCells as TooFewOrMany, NoMore, NotFollowed, NoThread, ReadsBackAs, ReplayedLive, ReplayedLiveOf, lived_history, lived_schedule}
+use Rattle.ls_commands.specs.Compiled.{names_of_image, NoCells, NoSchedule, plain_program_of, Replayed, ReplayedOf}
+use Rattle.ls_commands.specs.Compiled.{Runs}
+use Rattle.ls_commands.specs.Lived.{AreLived, AsReplayed, BadLimit, Disagree, Lived, LivedOf, Lives}
+use Rattle.ls_commands.specs.Lived.{NoCells as TooFewOrMany, NoMore, NotFollowed, NoThread, ReadsBackAs, ReplayedLive}
+use Rattle.ls_commands.specs.Lived.{ReplayedLiveOf, lived_history, lived_schedule}
 use Rattle.ls_faults.specs.ReadBack.{IsHistoryText, ReadsBack}
 use Rattle.ls_faults.specs.Given.{Gives}
 use Rattle.ls_faults.specs.declared.fault.ToolFault.{ToolFault}
@@ -34,41 +37,67 @@ are_cells code cells good = record {
 }
 
 -- as many names as threads that run
-pub names_count : (classes program : Text) (i : Image) → Compiles classes program i → length (names_of_image i) ≡ length (code_of_image i).starts
+pub names_count : (classes program : Text) (i : Image) →
+    Compiles classes program i →
+    length (names_of_image i) ≡ length (code_of_image i).starts
 names_count classes program i compiles =
     length-map (program_of_image i).threads.items thread_name
     ∙ sym (length-map (program_of_image i).threads.items plain_thread)
     ∙ sym compiles.runs.same.threads
 
-module _ (readable : CompiledIsReadable) (classes program : Text) (i : Image) (compiles : Compiles classes program i) (cells : ℕ) where
-  printed : (steps : List ℕ) → ¬ AreBadCells (code_of_image i).names cells → IsHistoryText (run_text (plain_program_of i) (machine_history (code_of_image i) cells steps))
+module _ (readable : CompiledIsReadable) (classes program : Text) (i : Image) (compiles : Compiles classes program i)
+    (cells : ℕ) where
+  printed : (steps : List ℕ) →
+      ¬ AreBadCells (code_of_image i).names cells →
+      IsHistoryText (run_text (plain_program_of i) (machine_history (code_of_image i) cells steps))
   printed steps good =
       let r = readable classes program i compiles cells (are_cells (code_of_image i) cells good) steps in
       (r.events, r.says)
 
-  replayed_back : {read : Result (List ℕ) ScheduleFault} {a : Result Text ToolFault} → Replayed i cells read a → ReadsBack a
+  replayed_back : {read : Result (List ℕ) ScheduleFault} {a : Result Text ToolFault} →
+      Replayed i cells read a →
+      ReadsBack a
   replayed_back (Runs steps good) = printed steps good
   replayed_back (NoCells steps bad) = tt
   replayed_back (NoSchedule f) = tt
 
-  replayed_live_back : {read : Result (List ℕ) ScheduleFault} {a : Result Text ToolFault} → ReplayedLive i cells read a → ReadsBack a
+  replayed_live_back : {read : Result (List ℕ) ScheduleFault} {a : Result Text ToolFault} →
+      ReplayedLive i cells read a →
+      ReadsBack a
   replayed_live_back (AsReplayed answer h) = replayed_back h
   replayed_live_back (NotFollowed steps f e h) = tt
 
-  pub replayed_of : (s : Text) (r : Result (String Global) ToolFault) → Gives (Replayed i cells (schedule_of (names_of_image i) s)) r → Gives (ReplayedOf cells s i) r
-  replayed_of s r g = wider (Replayed i cells (schedule_of (names_of_image i) s)) (ReplayedOf cells s i) r (λ a h. (h, replayed_back h)) g
+  pub replayed_of : (s : Text) (r : Result (String Global) ToolFault) →
+      Gives (Replayed i cells (schedule_of (names_of_image i) s)) r →
+      Gives (ReplayedOf cells s i) r
+  replayed_of s r g = wider (Replayed i cells (schedule_of (names_of_image i) s)) (ReplayedOf cells s i) r
+      (λ a h. (h, replayed_back h)) g
 
-  pub replayed_live_of : (s : Text) (r : Result (String Global) ToolFault) → Gives (ReplayedLive i cells (schedule_of (names_of_image i) s)) r → Gives (ReplayedLiveOf cells s i) r
-  replayed_live_of s r g = wider (ReplayedLive i cells (schedule_of (names_of_image i) s)) (ReplayedLiveOf cells s i) r (λ a h. (h, replayed_live_back h)) g
+  pub replayed_live_of : (s : Text) (r : Result (String Global) ToolFault) →
+      Gives (ReplayedLive i cells (schedule_of (names_of_image i) s)) r →
+      Gives (ReplayedLiveOf cells s i) r
+  replayed_live_of s r g = wider (ReplayedLive i cells (schedule_of (names_of_image i) s)) (ReplayedLiveOf cells s i) r
+      (λ a h. (h, replayed_live_back h)) g
 
   module _ (prints : SchedulesReadBack) (limit : ℕ) where
-    read_again : (steps : List ℕ) → limit ≤ most_steps → AreLived (code_of_image i) cells limit steps → schedule_of (names_of_image i) (lived_schedule i steps) ≡ Ok steps
+    read_again : (steps : List ℕ) →
+        limit ≤ most_steps →
+        AreLived (code_of_image i) cells limit steps →
+        schedule_of (names_of_image i) (lived_schedule i steps) ≡ Ok steps
     read_again steps most lived =
         let few = lived.few in
         prints (outcome_of (checked_of i)) program (program_of_image i) steps compiles.reads
-        (record { there = subst (λ n. All (λ t. t < n) steps) (sym (names_count classes program i compiles)) lived.there; short = omega arith })
+        (record {
+          there = subst (λ n. All (λ t. t < n) steps) (sym (names_count classes program i compiles))
+              lived.there;
+          short = omega arith;
+        })
 
-    reads_back_as : (steps : List ℕ) → ¬ AreBadCells (code_of_image i).names cells → limit ≤ most_steps → AreLived (code_of_image i) cells limit steps → ReadsBackAs i cells steps
+    reads_back_as : (steps : List ℕ) →
+        ¬ AreBadCells (code_of_image i).names cells →
+        limit ≤ most_steps →
+        AreLived (code_of_image i) cells limit steps →
+        ReadsBackAs i cells steps
     reads_back_as steps good most lived =
         let again = read_again steps most lived in
         record {
@@ -84,5 +113,7 @@ module _ (readable : CompiledIsReadable) (classes program : Text) (i : Image) (c
     lived_back NoThread = NoThread
     lived_back Disagree = Disagree
 
-    pub lived_of : (r : Result (String Global) ToolFault) → Gives (Lived i cells limit NoMore) r → Gives (LivedOf cells limit i) r
+    pub lived_of : (r : Result (String Global) ToolFault) →
+        Gives (Lived i cells limit NoMore) r →
+        Gives (LivedOf cells limit i) r
     lived_of r g = wider (Lived i cells limit NoMore) (LivedOf cells limit i) r (λ a h. lived_back h) g

@@ -1,5 +1,6 @@
 -- What `sample` may answer.
-use Rattle.std.proofs.Common.{◌≡◌, ◌↔◌, ◌<◌, ◌≤◌, ◌∙◌, ℕ, List, length, Result, Ok, Err, refl, sym, subst, ap, arith, inl, inr, ⊎_elim}
+use Rattle.std.proofs.Common.{◌≡◌, ◌↔◌, ◌<◌, ◌≤◌, ◌∙◌, ℕ, List, length, Result, Ok, Err, refl, sym, subst, ap, arith}
+use Rattle.std.proofs.Common.{inl, inr, ⊎_elim}
 use Rattle.std.specs.Prelude.{All, IsErrOf, String}
 use Rattle.std.proofs.lemmas.Bool.{cases_lt}
 use Rattle.std.specs.Global.{Global}
@@ -37,7 +38,9 @@ module _ (i : Image) (cells seed : ℕ) (d : Drawing) where
   abbrev Refused : BatchFault → Result (List ℕ) BatchFault
   Refused f = Err f
 
-  pub sample_fails : (f : BatchFault) → (IsErrOf (Refused f) batch.BadCells ↔ Bad) → (IsErrOf (Refused f) batch.BadCount ↔ (¬ Bad × Many))
+  pub sample_fails : (f : BatchFault) →
+      (IsErrOf (Refused f) batch.BadCells ↔ Bad) →
+      (IsErrOf (Refused f) batch.BadCount ↔ (¬ Bad × Many))
       → Gives (Sampled i cells seed d (Unit {0})) (Err (lifted_batch f))
   sample_fails batch.Memory bad many = tt
   sample_fails batch.BadCells bad many = NoCells (bad.0 refl)
@@ -53,7 +56,8 @@ module _ (i : Image) (cells seed : ℕ) (d : Drawing) where
       let few : ¬ Many = λ h. not_refused taken batch.BadCount (¬ Bad × Many) many (good, h) in
       subst (λ x. Sampled i cells seed d (Unit {0}) (Ok x)) (sym said) (Samples good few tt)
 
-  module _ (classes program : Text) (compiles : Compiles classes program i) (prints : SchedulesReadBack) (replay : SeedsReplay) where
+  module _ (classes program : Text) (compiles : Compiles classes program i) (prints : SchedulesReadBack)
+      (replay : SeedsReplay) where
     -- the setup is a thread
     some_thread : 0 < length (code_of_image i).starts
     some_thread =
@@ -64,13 +68,16 @@ module _ (i : Image) (cells seed : ℕ) (d : Drawing) where
     few_steps : ¬ Many → d.steps ≤ 900000
     few_steps few = ⊎_elim (λ lt. absurd (few (inr (inr (inr (inl lt)))))) (λ le. le) (cases_lt 900000 d.steps)
 
-    read_again : d.steps ≤ 900000 → schedule_of (names_of_image i) (sample_text i cells seed d) ≡ Ok (seed_schedule (code_of_image i) cells seed d)
+    read_again : d.steps ≤ 900000 →
+        schedule_of (names_of_image i) (sample_text i cells seed d) ≡ Ok (seed_schedule (code_of_image i) cells seed d)
     read_again few =
         let r = replay (code_of_image i) cells seed d in
         let count = r.count in
-        prints (outcome_of (checked_of i)) program (program_of_image i) (seed_schedule (code_of_image i) cells seed d) compiles.reads
+        prints (outcome_of (checked_of i)) program (program_of_image i) (seed_schedule (code_of_image i) cells seed d)
+        compiles.reads
         (record {
-          there = subst (λ n. All (λ t. t < n) (seed_schedule (code_of_image i) cells seed d)) (sym (names_count classes program i compiles)) (r.there some_thread);
+          there = subst (λ n. All (λ t. t < n) (seed_schedule (code_of_image i) cells seed d))
+              (sym (names_count classes program i compiles)) (r.there some_thread);
           short = omega arith;
         })
 
@@ -80,8 +87,11 @@ module _ (i : Image) (cells seed : ℕ) (d : Drawing) where
         let r = replay (code_of_image i) cells seed d in
         record {
           schedule = again;
-          replays = subst (λ read. Replayed i cells read (Ok (run_text (plain_program_of i) (history_of (code_of_image i) cells seed d)))) (sym again)
-              (subst (λ events. Replayed i cells (Ok (seed_schedule (code_of_image i) cells seed d)) (Ok (run_text (plain_program_of i) events)))
+          replays = subst
+              (λ read. Replayed i cells read
+              (Ok (run_text (plain_program_of i) (history_of (code_of_image i) cells seed d)))) (sym again)
+              (subst (λ events. Replayed i cells (Ok (seed_schedule (code_of_image i) cells seed d))
+              (Ok (run_text (plain_program_of i) events)))
               (sym r.history) (Runs (seed_schedule (code_of_image i) cells seed d) good));
         }
 
@@ -90,5 +100,7 @@ module _ (i : Image) (cells seed : ℕ) (d : Drawing) where
     sampled_back (NoCells bad) = NoCells bad
     sampled_back (BadCount good many) = BadCount good many
 
-    pub sampled_of : (r : Result (String Global) ToolFault) → Gives (Sampled i cells seed d (Unit {0})) r → Gives (SampledOf cells seed d i) r
+    pub sampled_of : (r : Result (String Global) ToolFault) →
+        Gives (Sampled i cells seed d (Unit {0})) r →
+        Gives (SampledOf cells seed d i) r
     sampled_of r g = wider (Sampled i cells seed d (Unit {0})) (SampledOf cells seed d i) r (λ a h. sampled_back h) g

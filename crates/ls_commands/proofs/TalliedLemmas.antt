@@ -27,13 +27,20 @@ module _ (i : Image) (cells : ℕ) (s : Sampling) where
   abbrev Refused : BatchFault → Result (List Row) BatchFault
   Refused f = Err f
 
-  pub batch_fails : (f : BatchFault) → (IsErrOf (Refused f) batch.BadCells ↔ Bad) → (IsErrOf (Refused f) batch.BadCount ↔ (¬ Bad × Many)) → Gives (Tallied i cells s) (Err (lifted_batch f))
+  pub batch_fails : (f : BatchFault) →
+      (IsErrOf (Refused f) batch.BadCells ↔ Bad) →
+      (IsErrOf (Refused f) batch.BadCount ↔ (¬ Bad × Many)) →
+      Gives (Tallied i cells s) (Err (lifted_batch f))
   batch_fails batch.Memory bad many = tt
   batch_fails batch.BadCells bad many = NoCells (bad.0 refl)
   batch_fails batch.BadCount bad many = BadCount (many.0 refl).0 (many.0 refl).1
 
-  pub batch_tells : (rows : List Row) (t : Text) → (IsErrOf {E = BatchFault} (Ok rows) batch.BadCells ↔ Bad) → (IsErrOf {E = BatchFault} (Ok rows) batch.BadCount ↔ (¬ Bad × Many)) →
-      IsTally (histories_of (code_of_image i) cells s.first s.count s.drawing) s.first rows → t ≡ tally_text (plain_program_of i) rows → Tallied i cells s (Ok t)
+  pub batch_tells : (rows : List Row) (t : Text) →
+      (IsErrOf {E = BatchFault} (Ok rows) batch.BadCells ↔ Bad) →
+      (IsErrOf {E = BatchFault} (Ok rows) batch.BadCount ↔ (¬ Bad × Many)) →
+      IsTally (histories_of (code_of_image i) cells s.first s.count s.drawing) s.first rows →
+      t ≡ tally_text (plain_program_of i) rows → Tallied i cells s (Ok t)
   batch_tells rows t bad many is said =
       let good : ¬ Bad = not_refused rows batch.BadCells Bad bad in
-      subst (λ x. Tallied i cells s (Ok x)) (sym said) (Tallies rows good (λ m. not_refused rows batch.BadCount (¬ Bad × Many) many (good, m)) is)
+      subst (λ x. Tallied i cells s (Ok x)) (sym said) (Tallies rows good
+      (λ m. not_refused rows batch.BadCount (¬ Bad × Many) many (good, m)) is)

@@ -31,9 +31,16 @@ names_of_image i = thread_names (program_of_image i)
 
 -- The two texts are compiled to an image that runs as both, and the answer is one that may be given on it; or they are
 -- refused, and the answer is their fault.
-pub data AnswersOn (classes program : Text) (May : Image → Result Text ToolFault → Type 0) : Result Text ToolFault → Type 0 where
-  OnImage : (image : Image) (answer : Result Text ToolFault) → Compiles classes program image → IsWithinLimits image → May image answer → AnswersOn classes program May answer
-  NotCompiled : (f : CompileFault) → CompilesTo classes program (Err f) → AnswersOn classes program May (Err (lifted_compile f))
+pub data AnswersOn (classes program : Text) (May : Image → Result Text ToolFault → Type 0) : Result Text ToolFault →
+    Type 0 where
+  OnImage : (image : Image) (answer : Result Text ToolFault) →
+      Compiles classes program image →
+      IsWithinLimits image →
+      May image answer →
+      AnswersOn classes program May answer
+  NotCompiled : (f : CompileFault) →
+      CompilesTo classes program (Err f) →
+      AnswersOn classes program May (Err (lifted_compile f))
 
 -- constructors count as methods, and the setup, which stands first, as no thread
 abbrev pub counts_text : File → Program → Text
@@ -48,16 +55,20 @@ Counted image answer = answer ≡ Ok (counts_text (file_of_image image) (plain_p
 abbrev pub CountsTo : Text → Text → Result Text ToolFault → Type 0
 CountsTo classes program answer = AnswersOn classes program Counted answer
 
--- the history of a machine that takes the steps, with so many cells; or the schedule's fault; or the cells are too few or too many
+-- the history of a machine that takes the steps, with so many cells; or the schedule's fault; or the cells are too few
+-- or too many
 pub data Replayed (i : Image) (cells : ℕ) : Result (List ℕ) ScheduleFault → Result Text ToolFault → Type 0 where
   Runs : (steps : List ℕ) → ¬ AreBadCells (code_of_image i).names cells →
       Replayed i cells (Ok steps) (Ok (run_text (plain_program_of i) (machine_history (code_of_image i) cells steps)))
-  NoCells : (steps : List ℕ) → AreBadCells (code_of_image i).names cells → Replayed i cells (Ok steps) (Err faults.BadCells)
+  NoCells : (steps : List ℕ) →
+      AreBadCells (code_of_image i).names cells →
+      Replayed i cells (Ok steps) (Err faults.BadCells)
   NoSchedule : (f : ScheduleFault) → Replayed i cells (Err f) (Err (lifted_schedule f))
 
 -- and a history that is printed reads back
 abbrev pub ReplayedOf : ℕ → Text → Image → Result Text ToolFault → Type 0
-ReplayedOf cells schedule i answer = Replayed i cells (schedule_of (names_of_image i) schedule) answer × ReadsBack answer
+ReplayedOf cells schedule i answer = Replayed i cells (schedule_of (names_of_image i) schedule) answer ×
+    ReadsBack answer
 
 abbrev pub ReplaysTo : ℕ → Text → Text → Text → Result Text ToolFault → Type 0
 ReplaysTo cells classes program schedule answer = AnswersOn classes program (ReplayedOf cells schedule) answer

@@ -14,13 +14,19 @@ use Rattle.ls_faults.specs.declared.fault.ToolFault.TheVariants as faults
 use Rattle.ls_commands.specs.declared.tallying.Sampling.{Sampling}
 use Rattle.ls_commands.specs.Compiled.{AnswersOn, plain_program_of}
 
--- the tally of the seeds' histories, with a verdict on each; or the cells are too few or too many, or the seeds or the drawing are bad
+-- the tally of the seeds' histories, with a verdict on each; or the cells are too few or too many, or the seeds or the
+-- drawing are bad
 pub data Judged (i : Image) (cells : ℕ) (s : Sampling) : Result Text ToolFault → Type 0 where
-  Judges : (rows : List Row) (verdicts : List Verdict) → ¬ AreBadCells (code_of_image i).names cells → ¬ IsBadCount s.first s.count s.drawing →
-      IsTally (histories_of (code_of_image i) cells s.first s.count s.drawing) s.first rows → AreVerdicts (plain_program_of i) rows verdicts →
+  Judges : (rows : List Row) (verdicts : List Verdict) →
+      ¬ AreBadCells (code_of_image i).names cells →
+      ¬ IsBadCount s.first s.count s.drawing →
+      IsTally (histories_of (code_of_image i) cells s.first s.count s.drawing) s.first rows →
+      AreVerdicts (plain_program_of i) rows verdicts →
       Judged i cells s (Ok (judged_text (plain_program_of i) rows verdicts))
   NoCells : AreBadCells (code_of_image i).names cells → Judged i cells s (Err faults.BadCells)
-  BadCount : ¬ AreBadCells (code_of_image i).names cells → IsBadCount s.first s.count s.drawing → Judged i cells s (Err (faults.Batch batch.BadCount))
+  BadCount : ¬ AreBadCells (code_of_image i).names cells →
+      IsBadCount s.first s.count s.drawing →
+      Judged i cells s (Err (faults.Batch batch.BadCount))
 
 abbrev pub JudgesTo : ℕ → Sampling → Text → Text → Result Text ToolFault → Type 0
 JudgesTo cells s classes program answer = AnswersOn classes program (λ i. Judged i cells s) answer

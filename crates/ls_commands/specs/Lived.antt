@@ -26,9 +26,11 @@ use Rattle.ls_faults.specs.ReadBack.{IsHistoryText, ReadsBack}
 -- each thread is over after the steps, or they are as many as may be recorded
 abbrev pub AreDone : Code → ℕ → ℕ → List ℕ → Type 0
 AreDone code cells limit steps =
-    ((t : ℕ) → t < length code.starts → is_over (machine_run (loaded code cells) steps) t ≡ true) ⊎ (length steps ≡ limit)
+    ((t : ℕ) → t < length code.starts → is_over (machine_run (loaded code cells) steps) t ≡ true) ⊎
+    (length steps ≡ limit)
 
--- the steps of a live run: at most so many, each of a thread that is there and due then, so that none is idle, up to the ends of
+-- the steps of a live run: at most so many, each of a thread that is there and due then, so that none is idle, up to
+-- the ends of
 -- all threads or to the limit
 pub record AreLived (code : Code) (cells limit : ℕ) (steps : List ℕ) : Type 0 where
   pub few : length steps ≤ limit
@@ -42,13 +44,20 @@ lived_schedule i steps = schedule_text (names_of_image i) steps
 abbrev pub lived_history : Image → ℕ → List ℕ → Text
 lived_history i cells steps = run_text (plain_program_of i) (machine_history (code_of_image i) cells steps)
 
--- The schedule of a live run, and the history of the machine's run of it, of which more is said. Or the cells are too few or too
+-- The schedule of a live run, and the history of the machine's run of it, of which more is said. Or the cells are too
+-- few or too
 -- many, or else the limit is too large; or a thread couldn't be started.
 pub data Lived (i : Image) (cells limit : ℕ) (More : List ℕ → Type 0) : Result Text ToolFault → Type 0 where
-  Lives : (steps : List ℕ) → ¬ AreBadCells (code_of_image i).names cells → limit ≤ most_steps → AreLived (code_of_image i) cells limit steps → More steps →
+  Lives : (steps : List ℕ) →
+      ¬ AreBadCells (code_of_image i).names cells →
+      limit ≤ most_steps →
+      AreLived (code_of_image i) cells limit steps →
+      More steps →
       Lived i cells limit More (Ok (lived_schedule i steps ++ lived_history i cells steps))
   NoCells : AreBadCells (code_of_image i).names cells → Lived i cells limit More (Err faults.BadCells)
-  BadLimit : ¬ AreBadCells (code_of_image i).names cells → most_steps < limit → Lived i cells limit More (Err (faults.Live (live.Open opening.BadLimit)))
+  BadLimit : ¬ AreBadCells (code_of_image i).names cells →
+      most_steps < limit →
+      Lived i cells limit More (Err (faults.Live (live.Open opening.BadLimit)))
   NoThread : Lived i cells limit More (Err (faults.Live live.NoThread))
   Disagree : Lived i cells limit More (Err (faults.Live live.Disagree))
 
@@ -56,10 +65,12 @@ pub data Lived (i : Image) (cells limit : ℕ) (More : List ℕ → Type 0) : Re
 abbrev pub NoMore : List ℕ → Type 0
 NoMore steps = Unit {0}
 
--- what is printed of the steps reads back: the schedule as these steps, so that `replay` of it prints the history, and the history too
+-- what is printed of the steps reads back: the schedule as these steps, so that `replay` of it prints the history, and
+-- the history too
 pub record ReadsBackAs (i : Image) (cells : ℕ) (steps : List ℕ) : Type 0 where
   pub schedule : schedule_of (names_of_image i) (lived_schedule i steps) ≡ Ok steps
-  pub replays : Replayed i cells (schedule_of (names_of_image i) (lived_schedule i steps)) (Ok (lived_history i cells steps))
+  pub replays : Replayed i cells (schedule_of (names_of_image i) (lived_schedule i steps))
+      (Ok (lived_history i cells steps))
   pub history : IsHistoryText (lived_history i cells steps)
 
 abbrev pub LivedOf : ℕ → ℕ → Image → Result Text ToolFault → Type 0
@@ -75,13 +86,18 @@ BreaksOff steps follow.NoThread = Unit {0}
 BreaksOff steps (follow.TurnsSpent place) = place < steps
 
 -- what a replay says, or live threads don't come to the end of the schedule
-pub data ReplayedLive (i : Image) (cells : ℕ) (read : Result (List ℕ) ScheduleFault) : Result Text ToolFault → Type 0 where
+pub data ReplayedLive (i : Image) (cells : ℕ) (read : Result (List ℕ) ScheduleFault) : Result Text ToolFault →
+    Type 0 where
   AsReplayed : (answer : Result Text ToolFault) → Replayed i cells read answer → ReplayedLive i cells read answer
-  NotFollowed : (steps : List ℕ) (f : FollowFault) → read ≡ Ok steps → BreaksOff (length steps) f → ReplayedLive i cells read (Err (faults.Turns (turns.Follow f)))
+  NotFollowed : (steps : List ℕ) (f : FollowFault) →
+      read ≡ Ok steps →
+      BreaksOff (length steps) f →
+      ReplayedLive i cells read (Err (faults.Turns (turns.Follow f)))
 
 -- and a history that is printed reads back
 abbrev pub ReplayedLiveOf : ℕ → Text → Image → Result Text ToolFault → Type 0
-ReplayedLiveOf cells schedule i answer = ReplayedLive i cells (schedule_of (names_of_image i) schedule) answer × ReadsBack answer
+ReplayedLiveOf cells schedule i answer = ReplayedLive i cells (schedule_of (names_of_image i) schedule) answer ×
+    ReadsBack answer
 
 abbrev pub ReplaysLiveTo : ℕ → Text → Text → Text → Result Text ToolFault → Type 0
 ReplaysLiveTo cells classes program schedule answer = AnswersOn classes program (ReplayedLiveOf cells schedule) answer

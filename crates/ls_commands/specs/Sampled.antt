@@ -18,17 +18,24 @@ use Rattle.ls_commands.specs.Compiled.{AnswersOn, names_of_image, plain_program_
 abbrev pub sample_text : Image → ℕ → ℕ → Drawing → Text
 sample_text i cells seed d = schedule_text (names_of_image i) (seed_schedule (code_of_image i) cells seed d)
 
--- What is printed reads back as the seed's schedule, and `replay` of it prints the history that `batch` counts for the seed.
+-- What is printed reads back as the seed's schedule, and `replay` of it prints the history that `batch` counts for the
+-- seed.
 pub record ReplaysAsSeed (i : Image) (cells seed : ℕ) (d : Drawing) : Type 0 where
-  pub schedule : schedule_of (names_of_image i) (sample_text i cells seed d) ≡ Ok (seed_schedule (code_of_image i) cells seed d)
+  pub schedule : schedule_of (names_of_image i) (sample_text i cells seed d) ≡ Ok
+      (seed_schedule (code_of_image i) cells seed d)
   pub replays : Replayed i cells (schedule_of (names_of_image i) (sample_text i cells seed d))
       (Ok (run_text (plain_program_of i) (history_of (code_of_image i) cells seed d)))
 
 -- The schedule of the seed, of which more is said; or the cells are too few or too many, or the drawing is bad.
 pub data Sampled (i : Image) (cells seed : ℕ) (d : Drawing) (More : Type 0) : Result Text ToolFault → Type 0 where
-  Samples : ¬ AreBadCells (code_of_image i).names cells → ¬ IsBadCount seed 1 d → More → Sampled i cells seed d More (Ok (sample_text i cells seed d))
+  Samples : ¬ AreBadCells (code_of_image i).names cells →
+      ¬ IsBadCount seed 1 d →
+      More →
+      Sampled i cells seed d More (Ok (sample_text i cells seed d))
   NoCells : AreBadCells (code_of_image i).names cells → Sampled i cells seed d More (Err faults.BadCells)
-  BadCount : ¬ AreBadCells (code_of_image i).names cells → IsBadCount seed 1 d → Sampled i cells seed d More (Err (faults.Batch batch.BadCount))
+  BadCount : ¬ AreBadCells (code_of_image i).names cells →
+      IsBadCount seed 1 d →
+      Sampled i cells seed d More (Err (faults.Batch batch.BadCount))
 
 abbrev pub SampledOf : ℕ → ℕ → Drawing → Image → Result Text ToolFault → Type 0
 SampledOf cells seed d i answer = Sampled i cells seed d (ReplaysAsSeed i cells seed d) answer

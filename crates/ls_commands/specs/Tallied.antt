@@ -23,9 +23,12 @@ sampling first count d = record { first = first; count = count; drawing = d }
 -- the tally of the seeds' histories; or the cells are too few or too many, or the seeds or the drawing are bad
 pub data Tallied (i : Image) (cells : ℕ) (s : Sampling) : Result Text ToolFault → Type 0 where
   Tallies : (rows : List Row) → ¬ AreBadCells (code_of_image i).names cells → ¬ IsBadCount s.first s.count s.drawing →
-      IsTally (histories_of (code_of_image i) cells s.first s.count s.drawing) s.first rows → Tallied i cells s (Ok (tally_text (plain_program_of i) rows))
+      IsTally (histories_of (code_of_image i) cells s.first s.count s.drawing) s.first rows →
+      Tallied i cells s (Ok (tally_text (plain_program_of i) rows))
   NoCells : AreBadCells (code_of_image i).names cells → Tallied i cells s (Err faults.BadCells)
-  BadCount : ¬ AreBadCells (code_of_image i).names cells → IsBadCount s.first s.count s.drawing → Tallied i cells s (Err (faults.Batch batch.BadCount))
+  BadCount : ¬ AreBadCells (code_of_image i).names cells →
+      IsBadCount s.first s.count s.drawing →
+      Tallied i cells s (Err (faults.Batch batch.BadCount))
 
 abbrev pub TalliesTo : ℕ → Sampling → Text → Text → Result Text ToolFault → Type 0
 TalliesTo cells s classes program answer = AnswersOn classes program (λ i. Tallied i cells s) answer

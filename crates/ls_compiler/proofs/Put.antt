@@ -27,10 +27,12 @@ pub err_of : {T : Type 0} (f : TextFault) → IsErrOf {T = T} (Err f) text.TooLo
 err_of f e = cc
 
 -- the image is compiled from these texts, if each part is
-pub compiled : (classes text : Text) (file : File) (checked : Checked) (program : Program) (source : Source) (code : Code) (image : Image) →
+pub compiled : (classes text : Text) (file : File) (checked : Checked) (program : Program) (source : Source)
+    (code : Code) (image : Image) →
     source_of image ≡ source → code_of_image image ≡ code → checked_of source ≡ checked → program_of source ≡ program →
     IsFileOf classes file → elaborated file ≡ Ok (outcome_of checked) →
-    IsTextOf (outcome_of checked) (plain_program program) text → Runs (source_file source) (source_program source) code →
+    IsTextOf (outcome_of checked) (plain_program program) text →
+    Runs (source_file source) (source_program source) code →
     Compiles classes text image
 compiled classes text file checked program source code image s d c p spelled elaborates reads runs = record {
   file = file;
@@ -43,8 +45,10 @@ compiled classes text file checked program source code image s d c p spelled ela
 }
 
 -- the code has a thread, since the program has a setup
-pub has_setup : (checked : Checked) (program : Program) (source : Source) (code : Code) (text : Text) → program_of source ≡ program →
-    IsTextOf (outcome_of checked) (plain_program program) text → Runs (source_file source) (source_program source) code → 0 < length code.starts
+pub has_setup : (checked : Checked) (program : Program) (source : Source) (code : Code) (text : Text) →
+    program_of source ≡ program →
+    IsTextOf (outcome_of checked) (plain_program program) text →
+    Runs (source_file source) (source_program source) code → 0 < length code.starts
 has_setup checked program source code text p reads runs =
     let many = runs.same.threads in
     let same = ap (λ x. length (plain_program x).threads) p in
@@ -52,7 +56,10 @@ has_setup checked program source code text p reads runs =
     omega (arith, many, same, parts)
 
 -- the image has the code of its source, and keeps the limits that its source keeps
-pub limited : (source : Source) (code : Code) (image : Image) → source_of image ≡ source → code_of_image image ≡ code → code ≡ code_of (source_file source) (source_program source) →
+pub limited : (source : Source) (code : Code) (image : Image) →
+    source_of image ≡ source →
+    code_of_image image ≡ code →
+    code ≡ code_of (source_file source) (source_program source) →
     KeepsLimits (source_file source) (source_program source) → IsWithinLimits image
 limited source code image s d made within = record {
   made = d ∙ (made ∙ ap (λ x. code_of (source_file x) (source_program x)) (sym s));
@@ -60,7 +67,11 @@ limited source code image s d made within = record {
 }
 
 -- a source that goes past a limit does so with the parts that it was made of
-pub past : (checked : Checked) (program : Program) (source : Source) (f : BuildFault) → checked_of source ≡ checked → program_of source ≡ program →
-    GoesPast (source_file source) (source_program source) f → GoesPast (outcome_of checked).file (plain_program program) f
+pub past : (checked : Checked) (program : Program) (source : Source) (f : BuildFault) →
+    checked_of source ≡ checked →
+    program_of source ≡ program →
+    GoesPast (source_file source) (source_program source) f →
+    GoesPast (outcome_of checked).file (plain_program program) f
 past checked program source f c p goes =
-    subst (λ x. GoesPast (outcome_of x).file (plain_program program) f) c (subst (λ y. GoesPast (source_file source) (plain_program y) f) p goes)
+    subst (λ x. GoesPast (outcome_of x).file (plain_program program) f) c
+    (subst (λ y. GoesPast (source_file source) (plain_program y) f) p goes)

@@ -24,7 +24,8 @@ use Rattle.ls_compiler.specs.declared.fault.CompileFault.TheVariants as faults
 use Rattle.ls_image.specs.Images.{Compiles, checked_of, code_of_image, program_of_image}
 use Rattle.ls_image.specs.declared.image.Image.{Image}
 
--- An image has the code that is made of its file and its program, so that one code runs wherever two texts are compiled; and it keeps each limit
+-- An image has the code that is made of its file and its program, so that one code runs wherever two texts are
+-- compiled; and it keeps each limit
 -- of the code.
 pub record IsWithinLimits (image : Image) : Type 0 where
   pub made : code_of_image image ≡ code_of (outcome_of (checked_of image)).file (plain_program (program_of_image image))
@@ -35,7 +36,10 @@ pub record IsWithinLimits (image : Image) : Type 0 where
 -- that file. Or the code goes past the limit that is named. "Out of memory" says nothing.
 pub data CompilesTo (classes program : Text) : Result Image CompileFault → Type 0 where
   Compiled : (image : Image) → Compiles classes program image → CompilesTo classes program (Ok image)
-  NoFile : (f : TextFault) → Refuses f ((file : ParsedFile) → TextSpells file classes → ⊥) → Comes classes f → CompilesTo classes program (Err (faults.Text f))
+  NoFile : (f : TextFault) →
+      Refuses f ((file : ParsedFile) → TextSpells file classes → ⊥) →
+      Comes classes f →
+      CompilesTo classes program (Err (faults.Text f))
   Breaks : (file : File) (f : CheckFault) →
       IsFileOf classes file → Fails f (elaborated file) →
       CompilesTo classes program (Err (faults.Check f))

@@ -1,8 +1,13 @@
 -- The numbers of an emittable tree are operands.
 use Rattle.ls_code.specs.Limits.{most_instructions}
 use Rattle.std.proofs.Common.{ℕ, suc, ◌+◌, ◌<◌, ◌≤◌, ◌^◌, arith}
-use Rattle.ls_lowered.specs.LoweredTree.{Expression, Word, Local, Unary, Binary, And, Or, Hold, Keep, After, Field, Item, SetFirst, ReadPair, SetPair, SwapPair, AttemptMark, OnLock, Call, MakeObject, MakeLock, MakeMarkable, MakeArray, Expressions, End, More, Statement, Block, SetLocal, SetField, AddField, SetItem, Evaluate, If, While, Return, Try, Guarded, Throw, Leavable, Leave, Statements, Done, Then, File}
-use Rattle.ls_emit_laws.specs.Emittable.{statement_count, IsEmittable, AreEmittable, IsEmittableStatement, AreEmittableStatements}
+use Rattle.ls_lowered.specs.LoweredTree.{Expression, Word, Local, Unary, Binary, And, Or, Hold, Keep, After, Field}
+use Rattle.ls_lowered.specs.LoweredTree.{Item, SetFirst, ReadPair, SetPair, SwapPair, AttemptMark, OnLock, Call}
+use Rattle.ls_lowered.specs.LoweredTree.{MakeObject, MakeLock, MakeMarkable, MakeArray, Expressions, End, More}
+use Rattle.ls_lowered.specs.LoweredTree.{Statement, Block, SetLocal, SetField, AddField, SetItem, Evaluate, If, While}
+use Rattle.ls_lowered.specs.LoweredTree.{Return, Try, Guarded, Throw, Leavable, Leave, Statements, Done, Then, File}
+use Rattle.ls_emit_laws.specs.Emittable.{statement_count, IsEmittable, AreEmittable, IsEmittableStatement}
+use Rattle.ls_emit_laws.specs.Emittable.{AreEmittableStatements}
 use Rattle.ls_emit.specs.Small.{IsSmall, AreSmall, IsSmallStatement, AreSmallStatements}
 
 below : (k n : ℕ) → k ≤ most_instructions → n < k → n < 2 ^ 32
@@ -51,11 +56,20 @@ module _ (ms : File) (k : ℕ) (few : k ≤ most_instructions) where
     small_statement (While e s) exits h = (small e h.0, small_statement s exits h.1)
     small_statement (Return e) exits h = small e h
     small_statement (Try b f) exits h = tt
-    small_statement (Guarded b n x) exits h = (below k n few h.0, small_statement b exits h.1, small_statement x exits h.2)
+    small_statement (Guarded b n x) exits h = (
+      below k n few h.0,
+      small_statement b exits h.1,
+      small_statement x exits h.2,
+    )
     small_statement (Throw n) exits h = below k n few h
-    small_statement (Leavable b xs) exits h = (small_statement b (suc (statement_count xs) + exits) h.0, all_small_statements xs exits h.1)
+    small_statement (Leavable b xs) exits h = (
+      small_statement b (suc (statement_count xs) + exits) h.0,
+      all_small_statements xs exits h.1,
+    )
     small_statement (Leave n) exits h = tt
 
-    pub all_small_statements : (ss : Statements) (exits : ℕ) → AreEmittableStatements ms k exits ss → AreSmallStatements ss
+    pub all_small_statements : (ss : Statements) (exits : ℕ) →
+        AreEmittableStatements ms k exits ss →
+        AreSmallStatements ss
     all_small_statements Done exits h = tt
     all_small_statements (Then s ss) exits h = (small_statement s exits h.0, all_small_statements ss exits h.1)

@@ -1,5 +1,6 @@
 -- Arguments on the operands: they lie in reverse.
-use Rattle.std.proofs.Common.{◌≡◌, ℕ, ◌-◌, List, [], ◌∷◌, ◌++◌, length, reverse, take, drop, Some, refl, sym, ap, ◌∙◌, subst, arith, slice_get, append_assoc}
+use Rattle.std.proofs.Common.{◌≡◌, ℕ, ◌-◌, List, [], ◌∷◌, ◌++◌, length, reverse, take, drop, Some, refl, sym, ap, ◌∙◌}
+use Rattle.std.proofs.Common.{subst, arith, slice_get, append_assoc}
 use Rattle.std.proofs.lemmas.List.{reverse-reverse, length-reverse}
 use mathlib.Core.List.{reverse-cons}
 
@@ -12,7 +13,9 @@ at_seam [] y ys = refl
 at_seam (x ∷ xs) y ys = at_seam xs y ys
 
 -- the deepest of n arguments is `this`
-pub this_at : (this : ℕ) (values stack : List ℕ) (n : ℕ) → length (this ∷ values) ≡ n → slice_get (reverse (this ∷ values) ++ stack) (n - 1) ≡ Some this
+pub this_at : (this : ℕ) (values stack : List ℕ) (n : ℕ) →
+    length (this ∷ values) ≡ n →
+    slice_get (reverse (this ∷ values) ++ stack) (n - 1) ≡ Some this
 this_at this values stack n e =
     let k : length (reverse values) ≡ n - 1 = omega (arith, length-reverse values, e) in
     ap (λ l. slice_get l (n - 1)) (sym (reversed this values stack))
@@ -27,10 +30,13 @@ drop_front [] ys = refl
 drop_front (x ∷ xs) ys = drop_front xs ys
 
 -- the arguments of a call, from its operands
-pub arguments_are : (values stack : List ℕ) (n : ℕ) → length values ≡ n → reverse (take n (reverse values ++ stack)) ≡ values
+pub arguments_are : (values stack : List ℕ) (n : ℕ) →
+    length values ≡ n →
+    reverse (take n (reverse values ++ stack)) ≡ values
 arguments_are values stack n e =
     let k : length (reverse values) ≡ n = omega (arith, length-reverse values, e) in
-    ap reverse (subst (λ m. take m (reverse values ++ stack) ≡ reverse values) k (take_front (reverse values) stack)) ∙ reverse-reverse values
+    ap reverse (subst (λ m. take m (reverse values ++ stack) ≡ reverse values) k (take_front (reverse values) stack)) ∙
+    reverse-reverse values
 
 -- the operands below the arguments of a call
 pub without_arguments : (values stack : List ℕ) (n : ℕ) → length values ≡ n → drop n (reverse values ++ stack) ≡ stack

@@ -1,6 +1,11 @@
 -- The trees that have code: each number in a tree names something, and no `try` is left.
 use Rattle.std.specs.Prelude.{◌≡◌, ◌<◌, ◌≤◌, ℕ, suc, ◌+◌, ◌^◌, List, [], ◌∷◌, Option, Some, None, slice_get}
-use Rattle.ls_lowered.specs.LoweredTree.{Expression, Word, Local, Unary, Binary, And, Or, Hold, Keep, After, Field, Item, SetFirst, ReadPair, SetPair, SwapPair, AttemptMark, OnLock, Call, MakeObject, MakeLock, MakeMarkable, MakeArray, Expressions, End, More, Statement, Block, SetLocal, SetField, AddField, SetItem, Evaluate, If, While, Return, Try, Guarded, Throw, Leavable, Leave, Statements, Done, Then, Method, File}
+use Rattle.ls_lowered.specs.LoweredTree.{Expression, Word, Local, Unary, Binary, And, Or, Hold, Keep, After, Field}
+use Rattle.ls_lowered.specs.LoweredTree.{Item, SetFirst, ReadPair, SetPair, SwapPair, AttemptMark, OnLock, Call}
+use Rattle.ls_lowered.specs.LoweredTree.{MakeObject, MakeLock, MakeMarkable, MakeArray, Expressions, End, More}
+use Rattle.ls_lowered.specs.LoweredTree.{Statement, Block, SetLocal, SetField, AddField, SetItem, Evaluate, If, While}
+use Rattle.ls_lowered.specs.LoweredTree.{Return, Try, Guarded, Throw, Leavable, Leave, Statements, Done, Then, Method}
+use Rattle.ls_lowered.specs.LoweredTree.{File}
 
 abbrev pub count : Expressions → ℕ
 count End = 0
@@ -57,18 +62,22 @@ abbrev mutual
   IsEmittableStatement ms k exits (AddField e f a) = (f + 1 < 2 ^ 32) × IsEmittable ms k e × IsEmittable ms k a
   IsEmittableStatement ms k exits (SetItem a i e) = IsEmittable ms k a × IsEmittable ms k i × IsEmittable ms k e
   IsEmittableStatement ms k exits (Evaluate e) = IsEmittable ms k e
-  IsEmittableStatement ms k exits (If e a b) = IsEmittable ms k e × IsEmittableStatement ms k exits a × IsEmittableStatement ms k exits b
+  IsEmittableStatement ms k exits (If e a b) = IsEmittable ms k e × IsEmittableStatement ms k exits a ×
+      IsEmittableStatement ms k exits b
   IsEmittableStatement ms k exits (While e s) = IsEmittable ms k e × IsEmittableStatement ms k exits s
   IsEmittableStatement ms k exits (Return e) = IsEmittable ms k e
   IsEmittableStatement ms k exits (Try b f) = ⊥
-  IsEmittableStatement ms k exits (Guarded b n h) = (n < k) × IsEmittableStatement ms k exits b × IsEmittableStatement ms k exits h
+  IsEmittableStatement ms k exits (Guarded b n h) = (n < k) × IsEmittableStatement ms k exits b ×
+      IsEmittableStatement ms k exits h
   IsEmittableStatement ms k exits (Throw n) = n < k
-  IsEmittableStatement ms k exits (Leavable b xs) = IsEmittableStatement ms k (suc (statement_count xs) + exits) b × AreEmittableStatements ms k exits xs
+  IsEmittableStatement ms k exits (Leavable b xs) = IsEmittableStatement ms k (suc (statement_count xs) + exits) b ×
+      AreEmittableStatements ms k exits xs
   IsEmittableStatement ms k exits (Leave n) = n < exits
 
   pub AreEmittableStatements : File → ℕ → ℕ → Statements → Type 0
   AreEmittableStatements ms k exits Done = Unit {0}
-  AreEmittableStatements ms k exits (Then s ss) = IsEmittableStatement ms k exits s × AreEmittableStatements ms k exits ss
+  AreEmittableStatements ms k exits (Then s ss) = IsEmittableStatement ms k exits s ×
+      AreEmittableStatements ms k exits ss
 
 -- each method has at least its `this`, at most 2 ^ 16 locals, and a body that has code
 pub record IsEmittableMethod (ms : File) (m : Method) : Type 0 where

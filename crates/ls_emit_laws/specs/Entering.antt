@@ -1,7 +1,8 @@
 -- What the code of a file owes its threads. If a thread enters a method by an instruction, at any depth, it asks what
 -- the method's course asks. After the method's value or throw it goes on as its caller does. It is never stuck. Nor is
 -- it silent for longer than the words of the frames that there may be.
-use Rattle.std.specs.Prelude.{◌≡◌, ◌≢◌, ◌≤◌, ◌<◌, ℕ, ◌+◌, ◌*◌, List, ◌∷◌, ◌++◌, length, reverse, Option, Some, None, slice_get}
+use Rattle.std.specs.Prelude.{◌≡◌, ◌≢◌, ◌≤◌, ◌<◌, ℕ, ◌+◌, ◌*◌, List, ◌∷◌, ◌++◌, length, reverse, Option, Some, None}
+use Rattle.std.specs.Prelude.{slice_get}
 use Rattle.ls_events.specs.declared.kind.Kind.{Kind}
 use Rattle.ls_code.specs.Code.{Code}
 use Rattle.ls_code.specs.Thread.{Thread, with_top}
@@ -39,7 +40,8 @@ thrown_in c t operands kind = thrown_thread t (thrown c.handlers kind (record t.
 
 -- A thread at an instruction that enters method m. `this` and the arguments are on top of these operands. `depth` more
 -- methods may be entered, one in the other.
-pub record IsEntering (file : File) (c : Code) (m : ℕ) (this : ℕ) (values stack : List ℕ) (depth : ℕ) (t : Thread) : Type 0 where
+pub record IsEntering (file : File) (c : Code) (m : ℕ) (this : ℕ) (values stack : List ℕ) (depth : ℕ) (t : Thread) :
+    Type 0 where
   pub running : t.mode ≡ mode.Running
   pub enters : slice_get c.instructions t.top.counter ≡ Some (op.Enter m)
   pub operands : t.top.operands ≡ reverse (this ∷ values) ++ stack
@@ -53,11 +55,16 @@ TakesAll (Some g) values = length values ≡ g.arguments
 
 abbrev pub EntersAs : File → Code → ℕ → Type 0
 EntersAs file c words =
-    (number bound depth spare m this : ℕ) (values stack : List ℕ) (t : Thread) (answers : Answers) (go : ℕ → Answers → Fed) (h : Kind → Answers → Fed) →
-    IsEntering file c m this values stack depth t → TakesAll (slice_get file m) (this ∷ values) → spare + depth * (words + 1) ≤ bound →
-    ((n word : ℕ) (rest : Answers) → length rest ≤ length answers → spare ≤ n → fed c number bound n (given_back t stack word) rest ≡ go word rest) →
-    ((n : ℕ) (operands : List ℕ) (kind : Kind) (rest : Answers) → length rest ≤ length answers → spare ≤ n → fed_from c number bound n (thrown_in c t operands kind) rest ≡ h kind rest) →
-    (n : ℕ) → spare + 1 ≤ n → fed c number bound n t answers ≡ told_by (invoke file depth m (this ∷ values) answers) go h
+    (number bound depth spare m this : ℕ) (values stack : List ℕ) (t : Thread) (answers : Answers)
+    (go : ℕ → Answers → Fed) (h : Kind → Answers → Fed) →
+    IsEntering file c m this values stack depth t → TakesAll (slice_get file m) (this ∷ values) →
+    spare + depth * (words + 1) ≤ bound →
+    ((n word : ℕ) (rest : Answers) → length rest ≤ length answers → spare ≤ n →
+    fed c number bound n (given_back t stack word) rest ≡ go word rest) →
+    ((n : ℕ) (operands : List ℕ) (kind : Kind) (rest : Answers) → length rest ≤ length answers → spare ≤ n →
+    fed_from c number bound n (thrown_in c t operands kind) rest ≡ h kind rest) →
+    (n : ℕ) → spare + 1 ≤ n → fed c number bound n t answers ≡ told_by (invoke file depth m (this ∷ values) answers) go
+    h
 
 -- the units of a file, in whatever code they lie
 abbrev pub UnitsAsk : File → List CodeUnit → Type 0

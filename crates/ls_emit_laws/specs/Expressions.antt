@@ -7,7 +7,9 @@ use Rattle.ls_lowered.specs.declared.tree.UnaryOperator.{UnaryOperator}
 use Rattle.ls_lowered.specs.declared.tree.UnaryOperator.TheVariants.{Negate, Not, ReferenceOf, MarkOf}
 use Rattle.ls_lowered.specs.declared.tree.BinaryOperator.{BinaryOperator}
 use Rattle.ls_lowered.specs.declared.tree.BinaryOperator.TheVariants as binary
-use Rattle.ls_lowered.specs.LoweredTree.{Expression, Word, Local, Unary, Binary, And, Or, Hold, Keep, After, Field, Item, SetFirst, ReadPair, SetPair, SwapPair, AttemptMark, OnLock, Call, MakeObject, MakeLock, MakeMarkable, MakeArray, Expressions, End, More}
+use Rattle.ls_lowered.specs.LoweredTree.{Expression, Word, Local, Unary, Binary, And, Or, Hold, Keep, After, Field}
+use Rattle.ls_lowered.specs.LoweredTree.{Item, SetFirst, ReadPair, SetPair, SwapPair, AttemptMark, OnLock, Call}
+use Rattle.ls_lowered.specs.LoweredTree.{MakeObject, MakeLock, MakeMarkable, MakeArray, Expressions, End, More}
 use Rattle.ls_locks.specs.LockCode.{lock_code, lock_size}
 
 abbrev pub unary_code : UnaryOperator → Instruction
@@ -71,7 +73,8 @@ abbrev mutual
       code p a ++ op.JumpIfFalse (p + size a + size b + 2) ∷ code (p + size a + 1) b
       ++ op.Jump (p + size a + size b + 3) ∷ op.Push 0 ∷ []
   code p (Or a b) =
-      code p a ++ op.JumpIfFalse (p + size a + 3) ∷ op.Push 1 ∷ op.Jump (p + size a + size b + 3) ∷ code (p + size a + 3) b
+      code p a ++ op.JumpIfFalse (p + size a + 3) ∷ op.Push 1 ∷ op.Jump (p + size a + size b + 3) ∷
+      code (p + size a + 3) b
   code p (Hold a n b) = code p a ++ code (p + size a) b ++ op.Store n ∷ []
   code p (Keep n a b) = code p a ++ op.Store n ∷ code (p + size a + 1) b
   code p (After a b) = code p a ++ op.Pop ∷ code (p + size a + 1) b

@@ -3,7 +3,8 @@ use Rattle.std.specs.Prelude.{ℕ, ◌+◌, List, [], ◌∷◌, ◌++◌, Optio
 use Rattle.ls_code.specs.declared.instruction.Instruction.{Instruction}
 use Rattle.ls_code.specs.declared.instruction.Instruction.TheVariants as op
 use Rattle.ls_code.specs.declared.code.HandlerRow.{HandlerRow}
-use Rattle.ls_lowered.specs.LoweredTree.{Statement, Block, SetLocal, SetField, AddField, SetItem, Evaluate, If, While, Return, Try, Guarded, Throw, Leavable, Leave, Statements, Done, Then}
+use Rattle.ls_lowered.specs.LoweredTree.{Statement, Block, SetLocal, SetField, AddField, SetItem, Evaluate, If, While}
+use Rattle.ls_lowered.specs.LoweredTree.{Return, Try, Guarded, Throw, Leavable, Leave, Statements, Done, Then}
 use Rattle.ls_emit_laws.specs.Expressions.{size, code}
 
 -- where leaves out of a statement lead, by their numbers
@@ -57,13 +58,16 @@ abbrev mutual
   statement_code t p (SetField e f a) = code p e ++ code (p + size e) a ++ op.PutField (f + 1) ∷ []
   statement_code t p (AddField e f a) =
       code p e ++ op.Dup ∷ op.GetField (f + 1) ∷ code (p + size e + 2) a ++ op.Add ∷ op.PutField (f + 1) ∷ []
-  statement_code t p (SetItem a i e) = code p a ++ code (p + size a) i ++ code (p + size a + size i) e ++ op.PutItem ∷ []
+  statement_code t p (SetItem a i e) = code p a ++ code (p + size a) i ++ code (p + size a + size i) e ++ op.PutItem ∷
+      []
   statement_code t p (Evaluate e) = code p e ++ op.Pop ∷ []
   statement_code t p (If e a b) =
       code p e ++ op.JumpIfFalse (p + size e + statement_size a + 2) ∷ statement_code t (p + size e + 1) a
-      ++ op.Jump (p + size e + statement_size a + statement_size b + 2) ∷ statement_code t (p + size e + statement_size a + 2) b
+      ++ op.Jump (p + size e + statement_size a + statement_size b + 2) ∷
+      statement_code t (p + size e + statement_size a + 2) b
   statement_code t p (While e s) =
-      code p e ++ op.JumpIfFalse (p + size e + statement_size s + 2) ∷ statement_code t (p + size e + 1) s ++ op.Turn p ∷ []
+      code p e ++ op.JumpIfFalse (p + size e + statement_size s + 2) ∷ statement_code t (p + size e + 1) s ++
+      op.Turn p ∷ []
   statement_code t p (Return e) = code p e ++ op.LeaveWith ∷ []
   statement_code t p (Try b f) = []
   statement_code t p (Guarded b n h) =
@@ -71,7 +75,8 @@ abbrev mutual
       ∷ statement_code t (p + statement_size b + 2) h
   statement_code t p (Throw n) = op.Load n ∷ op.Throw ∷ []
   statement_code t p (Leavable b xs) =
-      statement_code (places (p + statement_size b) xs ++ t) p b ++ exits_code t (p + statement_size b + exits_size xs) (p + statement_size b) xs
+      statement_code (places (p + statement_size b) xs ++ t) p b ++
+      exits_code t (p + statement_size b + exits_size xs) (p + statement_size b) xs
   statement_code t p (Leave n) = op.Jump (target_of t n) ∷ []
 
   pub statements_code : Targets → ℕ → Statements → List Instruction
@@ -81,7 +86,8 @@ abbrev mutual
   -- the code of exits that begins at a place; the statement ends at `end`
   pub exits_code : Targets → (end p : ℕ) → Statements → List Instruction
   exits_code t end p Done = []
-  exits_code t end p (Then x xs) = op.Jump end ∷ statement_code t (p + 1) x ++ exits_code t end (p + 1 + statement_size x) xs
+  exits_code t end p (Then x xs) = op.Jump end ∷ statement_code t (p + 1) x ++
+      exits_code t end (p + 1 + statement_size x) xs
 
 -- a throw from the body goes on after the jump over the handler
 abbrev pub row_of : ℕ → ℕ → HandlerRow
@@ -96,11 +102,13 @@ abbrev mutual
   statement_rows p (AddField e f a) = []
   statement_rows p (SetItem a i e) = []
   statement_rows p (Evaluate e) = []
-  statement_rows p (If e a b) = statement_rows (p + size e + 1) a ++ statement_rows (p + size e + statement_size a + 2) b
+  statement_rows p (If e a b) = statement_rows (p + size e + 1) a ++
+      statement_rows (p + size e + statement_size a + 2) b
   statement_rows p (While e s) = statement_rows (p + size e + 1) s
   statement_rows p (Return e) = []
   statement_rows p (Try b f) = []
-  statement_rows p (Guarded b n h) = statement_rows p b ++ row_of p (statement_size b) ∷ statement_rows (p + statement_size b + 2) h
+  statement_rows p (Guarded b n h) = statement_rows p b ++ row_of p (statement_size b) ∷
+      statement_rows (p + statement_size b + 2) h
   statement_rows p (Throw n) = []
   statement_rows p (Leavable b xs) = statement_rows p b ++ exits_rows (p + statement_size b) xs
   statement_rows p (Leave n) = []

@@ -36,7 +36,13 @@ abbrev pub method_need : Method → ℕ
 method_need m = max 1 (statement_need m.body)
 
 abbrev pub unit_of : Method → CodeUnit
-unit_of m = record { instructions = method_code 0 m; handlers = method_rows 0 m; arguments = m.arguments; more = m.locals; need = method_need m }
+unit_of m = record {
+  instructions = method_code 0 m;
+  handlers = method_rows 0 m;
+  arguments = m.arguments;
+  more = m.locals;
+  need = method_need m;
+}
 
 abbrev pub units_of : File → List CodeUnit
 units_of methods = map unit_of methods
@@ -50,16 +56,31 @@ moved start (op.Turn x) = op.Turn (start + x)
 moved start i = i
 
 abbrev pub moved_row : ℕ → HandlerRow → HandlerRow
-moved_row start row = record { from = start + row.from; to = start + row.to; handler = start + row.handler; depth = row.depth }
+moved_row start row = record {
+  from = start + row.from;
+  to = start + row.to;
+  handler = start + row.handler;
+  depth = row.depth;
+}
 
 -- A unit that begins at a place of the whole code. Its instructions are there. At its places, the rows of the unit are
 -- the ones that count.
 pub record LiesAt (c : Code) (start : ℕ) (u : CodeUnit) : Type 0 where
-  pub stands : (place : ℕ) (i : Instruction) → slice_get u.instructions place ≡ Some i → slice_get c.instructions (start + place) ≡ Some (moved start i)
-  pub guards : (place : ℕ) → place < length u.instructions → find_row c.handlers (start + place) ≡ find_row (map (moved_row start) u.handlers) (start + place)
+  pub stands : (place : ℕ) (i : Instruction) →
+      slice_get u.instructions place ≡ Some i →
+      slice_get c.instructions (start + place) ≡ Some (moved start i)
+  pub guards : (place : ℕ) →
+      place < length u.instructions →
+      find_row c.handlers (start + place) ≡ find_row (map (moved_row start) u.handlers) (start + place)
 
 -- each unit lies in the first `words` instructions of the whole code, and is the method of its number
 pub record LieIn (c : Code) (words : ℕ) (units : List CodeUnit) : Type 0 where
   pub at : (m : ℕ) (u : CodeUnit) → slice_get units m ≡ Some u →
-      (start : ℕ) × (slice_get c.methods m ≡ Some (record { start = start; arguments = u.arguments; more = u.more; need = u.need }))
+      (start : ℕ) ×
+      (slice_get c.methods m ≡ Some (record {
+        start = start;
+        arguments = u.arguments;
+        more = u.more;
+        need = u.need;
+      }))
       × (start + length u.instructions ≤ words) × LiesAt c start u

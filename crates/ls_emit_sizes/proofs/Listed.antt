@@ -2,8 +2,10 @@
 use Rattle.std.proofs.Common.{◌≡◌, ◌∙◌, ℕ, ◌≤◌, ◌++◌, List, [], ◌∷◌, drop, take, length, refl, ap, sym, subst, arith}
 use Rattle.std.specs.Prelude.{reverse}
 use Rattle.std.proofs.lemmas.List.{reverse-append}
-use Rattle.ls_lowered.specs.LoweredTree.{Statement, Block, SetLocal, SetField, AddField, SetItem, Evaluate, If, While, Return, Try, Guarded, Throw, Leavable, Leave, Statements, Done, Then}
-use Rattle.ls_emit_sizes.specs.Ahead.{exit_sizes, exit_count, sizes_ahead, block_ahead, exits_ahead, left_by, left_by_block, left_by_exits, AreAhead, AreAheadOfBlock, AreAheadOfExits}
+use Rattle.ls_lowered.specs.LoweredTree.{Statement, Block, SetLocal, SetField, AddField, SetItem, Evaluate, If, While}
+use Rattle.ls_lowered.specs.LoweredTree.{Return, Try, Guarded, Throw, Leavable, Leave, Statements, Done, Then}
+use Rattle.ls_emit_sizes.specs.Ahead.{exit_sizes, exit_count, sizes_ahead, block_ahead, exits_ahead, left_by}
+use Rattle.ls_emit_sizes.specs.Ahead.{left_by_block, left_by_exits, AreAhead, AreAheadOfBlock, AreAheadOfExits}
 
 -- sizes on others, the last first
 pub reversed_all : (xs ys : List ℕ) → reverse (xs ++ ys) ≡ reverse ys ++ reverse xs
@@ -62,13 +64,19 @@ mutual
   listed_ahead (AddField e f a) r = tt
   listed_ahead (SetItem a i e) r = tt
   listed_ahead (Evaluate e) r = tt
-  listed_ahead (If e a b) r =
-      ((omega arith, refl), listed_ahead a (sizes_ahead b r), subst (AreAhead b) (sym (others_left a (sizes_ahead b r))) (listed_ahead b r))
+  listed_ahead (If e a b) r = (
+    (omega arith, refl),
+    listed_ahead a (sizes_ahead b r),
+    subst (AreAhead b) (sym (others_left a (sizes_ahead b r))) (listed_ahead b r),
+  )
   listed_ahead (While e s) r = listed_ahead s r
   listed_ahead (Return e) r = tt
   listed_ahead (Try b f) r = tt
-  listed_ahead (Guarded b n h) r =
-      ((omega arith, refl), listed_ahead b (sizes_ahead h r), subst (AreAhead h) (sym (others_left b (sizes_ahead h r))) (listed_ahead h r))
+  listed_ahead (Guarded b n h) r = (
+    (omega arith, refl),
+    listed_ahead b (sizes_ahead h r),
+    subst (AreAhead h) (sym (others_left b (sizes_ahead h r))) (listed_ahead h r),
+  )
   listed_ahead (Throw n) r = tt
   listed_ahead (Leavable b xs) r =
       let rest = sizes_ahead b (exits_ahead xs r) in
@@ -82,10 +90,16 @@ mutual
 
   listed_block : (ss : Statements) (r : List ℕ) → AreAheadOfBlock ss (block_ahead ss r)
   listed_block Done r = tt
-  listed_block (Then s ss) r =
-      ((omega arith, refl), listed_ahead s (block_ahead ss r), subst (AreAheadOfBlock ss) (sym (others_left s (block_ahead ss r))) (listed_block ss r))
+  listed_block (Then s ss) r = (
+    (omega arith, refl),
+    listed_ahead s (block_ahead ss r),
+    subst (AreAheadOfBlock ss) (sym (others_left s (block_ahead ss r))) (listed_block ss r),
+  )
 
   listed_exits : (xs : Statements) (r : List ℕ) → AreAheadOfExits xs (exits_ahead xs r)
   listed_exits Done r = tt
-  listed_exits (Then x xs) r =
-      (listed_ahead x (exits_ahead xs r), subst (AreAheadOfExits xs) (sym (others_left x (exits_ahead xs r))) (listed_exits xs r))
+  listed_exits (Then x xs) r = (
+    listed_ahead x (exits_ahead xs r),
+    subst (AreAheadOfExits xs) (sym (others_left x (exits_ahead xs r)))
+        (listed_exits xs r),
+  )

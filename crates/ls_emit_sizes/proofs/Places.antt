@@ -7,12 +7,14 @@ use Rattle.ls_emit_sizes.specs.Places.{room, places_by}
 use Rattle.ls_emit_sizes.specs.Ahead.{exit_sizes, exit_count}
 
 -- the room for exits
-pub room_is : (xs : List Statement) → room (map (λ s. statement_size (plain_statement s)) xs) ≡ exits_size (statements_of xs)
+pub room_is : (xs : List Statement) →
+    room (map (λ s. statement_size (plain_statement s)) xs) ≡ exits_size (statements_of xs)
 room_is [] = refl
 room_is (x ∷ xs) = ap (λ n. 1 + statement_size (plain_statement x) + n) (room_is xs)
 
 -- where the exits are
-pub places_are : (p : ℕ) (xs : List Statement) → places_by p (map (λ s. statement_size (plain_statement s)) xs) ≡ places p (statements_of xs)
+pub places_are : (p : ℕ) (xs : List Statement) →
+    places_by p (map (λ s. statement_size (plain_statement s)) xs) ≡ places p (statements_of xs)
 places_are p [] = refl
 places_are p (x ∷ xs) = ap (λ l. (p + 1) ∷ l) (places_are (p + 1 + statement_size (plain_statement x)) xs)
 

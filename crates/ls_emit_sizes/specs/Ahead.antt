@@ -1,7 +1,9 @@
--- The sizes that are known ahead while code is made: those of the statements of a block, of second branches, of handlers
+-- The sizes that are known ahead while code is made: those of the statements of a block, of second branches, of
+-- handlers
 -- and of exits. They stand in the order in which the code needs them.
 use Rattle.std.specs.Prelude.{◌≡◌, ◌≤◌, ℕ, List, [], ◌∷◌, ◌++◌, drop, take, length, slice_index_or}
-use Rattle.ls_lowered.specs.LoweredTree.{Statement, Block, SetLocal, SetField, AddField, SetItem, Evaluate, If, While, Return, Try, Guarded, Throw, Leavable, Leave, Statements, Done, Then}
+use Rattle.ls_lowered.specs.LoweredTree.{Statement, Block, SetLocal, SetField, AddField, SetItem, Evaluate, If, While}
+use Rattle.ls_lowered.specs.LoweredTree.{Return, Try, Guarded, Throw, Leavable, Leave, Statements, Done, Then}
 use Rattle.ls_emit_laws.specs.Statements.{statement_size}
 
 -- the size of each exit

@@ -1,5 +1,6 @@
 -- What is said after the line of a fault.
-use Rattle.std.specs.Prelude.{ℕ, nat_lt, ◌+◌, ◌-◌, ◌==◌, ◌&&◌, max, Bool, true, false, List, [], ◌∷◌, ◌++◌, length, take, Option, Some, None, replicate, slice_get, codes, if◌then◌else◌}
+use Rattle.std.specs.Prelude.{ℕ, nat_lt, ◌+◌, ◌-◌, ◌==◌, ◌&&◌, max, Bool, true, false, List, [], ◌∷◌, ◌++◌, length}
+use Rattle.std.specs.Prelude.{take, Option, Some, None, replicate, slice_get, codes, if◌then◌else◌}
 use Rattle.std.specs.Fmt.{decimal}
 use Rattle.std.specs.List.{flat_map, list_any}
 use Rattle.std.specs.Option.{option_map_or}
@@ -47,7 +48,9 @@ heading part text at =
 -- the line of the place, and a mark under the place
 abbrev pub shown : Bytes → Span → Bytes
 shown text span =
-    before text span.start ++ (from_on text span.start ++ (10 ∷ (flat_map space_below (before text span.start) ++ (marks text span ++ 10 ∷ []))))
+    before text span.start ++
+    (from_on text span.start ++
+    (10 ∷ (flat_map space_below (before text span.start) ++ (marks text span ++ 10 ∷ []))))
 
 abbrev pub explanation : Place → Bytes → Bytes
 explanation place text = heading place.part text place.span.start ++ shown text place.span

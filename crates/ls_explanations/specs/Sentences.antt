@@ -66,14 +66,16 @@ program_sentence (program.ReferenceResult at) =
 abbrev pub schedule_sentence : ScheduleFault → Bytes
 schedule_sentence schedule.Memory = []
 schedule_sentence schedule.TooManySteps = []
-schedule_sentence (schedule.BadItem at) = codes "an item is a name, or a name with * and a count from 1 on, as A*5; after @2 also a group, as (A*2 B)*3\n"
+schedule_sentence (schedule.BadItem at) = codes
+    "an item is a name, or a name with * and a count from 1 on, as A*5; after @2 also a group, as (A*2 B)*3\n"
 schedule_sentence (schedule.UnknownThread at) =
     codes "no thread of the program is named so. Items name its threads, setup, or all\n"
 
 abbrev pub aim_sentence : AimFault → Bytes
 aim_sentence aim.Memory = []
 aim_sentence (aim.Schedule f) = schedule_sentence f
-aim_sentence (aim.NotStarted at) = codes "this thread hasn't started: before it the setup has to end, as setup! lets it\n"
+aim_sentence (aim.NotStarted at) = codes
+    "this thread hasn't started: before it the setup has to end, as setup! lets it\n"
 aim_sentence (aim.NotMet at) =
     codes "this thread ends or waits before a step with this text. trace shows the text of each step\n"
 aim_sentence (aim.TooFar at) = codes "this thread goes on without it until the schedule has 1,000,000 steps\n"
@@ -88,5 +90,6 @@ sentence (faults.Aim f) classes = aim_sentence f
 sentence (faults.History (history.BadHistory at)) classes =
     codes "no history goes on so: a thread's calls are numbered 1, 2 .., and an answer follows its call\n"
 sentence (faults.Order (order.BadOrder at)) classes = codes "an item of an order is a call, as A.1\n"
-sentence (faults.Tally (tally.BadTally at)) classes = codes "here begins no line as seed 7 count 3 with a history after it and an empty line at its end\n"
+sentence (faults.Tally (tally.BadTally at)) classes = codes
+    "here begins no line as seed 7 count 3 with a history after it and an empty line at its end\n"
 sentence _ classes = []

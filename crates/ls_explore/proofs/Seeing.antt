@@ -1,5 +1,6 @@
 -- What is seen after a path, thread by thread.
-use Rattle.std.proofs.Common.{◌≡◌, ◌⊎◌, inl, inr, ℕ, ◌+◌, ◌<◌, ◌≤◌, ◌||◌, Bool, true, false, None, Some, refl, sym, ◌∙◌, subst, arith}
+use Rattle.std.proofs.Common.{◌≡◌, ◌⊎◌, inl, inr, ℕ, ◌+◌, ◌<◌, ◌≤◌, ◌||◌, Bool, true, false, None, Some, refl, sym, ◌∙◌}
+use Rattle.std.proofs.Common.{subst, arith}
 use Rattle.std.proofs.lemmas.Bool.{cases_lt}
 use Rattle.ls_code.specs.Machine.{Machine, stops}
 use Rattle.ls_code.specs.declared.step.Did.{Did}
@@ -44,7 +45,8 @@ seen_of_none n m s acts stops = record {
 
 -- one thread more
 module _ (n t : ℕ) (m : Machine) (s : Seen) (d : Did) (is : d ≡ first_did n m t) (h : IsSeen n t m s) where
-  acting_more : (s.acts ≡ true) ⊎ (has_acted d ≡ true) → (u : ℕ) × (u < t + 1) × ((m' : Machine) × (burst n m u ≡ Some m'))
+  acting_more : (s.acts ≡ true) ⊎ (has_acted d ≡ true) →
+      (u : ℕ) × (u < t + 1) × ((m' : Machine) × (burst n m u ≡ Some m'))
   acting_more (inl e) = let a = h.acting e in (a.0, omega (arith, a.1), a.2)
   acting_more (inr e) = (t, omega arith, burst_first n m t d is e)
 
@@ -58,7 +60,12 @@ module _ (n t : ℕ) (m : Machine) (s : Seen) (d : Did) (is : d ≡ first_did n 
       let same : t ≡ u = omega arith in
       subst (λ v. burst n m v ≡ None) same (none_first n m t d is e.1)
 
-  roomy_more : (s.stops ≡ false) × (stops d ≡ false) → (u : ℕ) → u < t + 1 → (u < t) ⊎ (t ≤ u) → first_did n m u ≡ did.Stopped → ⊥
+  roomy_more : (s.stops ≡ false) × (stops d ≡ false) →
+      (u : ℕ) →
+      u < t + 1 →
+      (u < t) ⊎ (t ≤ u) →
+      first_did n m u ≡ did.Stopped →
+      ⊥
   roomy_more e u lt (inl less) = h.roomy e.0 u less
   roomy_more e u lt (inr more) =
       let same : t ≡ u = omega arith in

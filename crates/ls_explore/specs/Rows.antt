@@ -1,5 +1,6 @@
 -- Histories with paths that lead to them.
-use Rattle.std.specs.Prelude.{◌≡◌, ◌≢◌, ℕ, ◌+◌, ◌<◌, ◌++◌, AllPairs, Bool, true, false, List, Option, length, map, replicate, Contains, None, Some, slice_get}
+use Rattle.std.specs.Prelude.{◌≡◌, ◌≢◌, ℕ, ◌+◌, ◌<◌, ◌++◌, AllPairs, Bool, true, false, List, Option, length, map}
+use Rattle.std.specs.Prelude.{replicate, Contains, None, Some, slice_get}
 use Rattle.std.specs.declared.cmp.Ordering.{Ordering}
 use Rattle.std.specs.Ordering.{nat_cmp, ordering_then}
 use Rattle.std.specs.Cmp.Lexicographic.{slice_cmp}
@@ -34,7 +35,8 @@ row_order r s = ordering_then (nat_cmp (length r.path) (length s.path)) (slice_c
 abbrev pub AreApart : List Told → Type 0
 AreApart rows = AllPairs (λ (r s : Told). r.history ≢ s.history) rows
 
--- what so many threads do after a machine: all are quiet; or none acts, and one would stop the machine for want of cells; or one acts
+-- what so many threads do after a machine: all are quiet; or none acts, and one would stop the machine for want of
+-- cells; or one acts
 abbrev pub EndsAs : ℕ → ℕ → Machine → Ending → Type 0
 EndsAs n threads m ending.Over = AreQuiet n threads m
 EndsAs n threads m ending.OutOfCells =
@@ -72,7 +74,8 @@ AllEnd rows = (r : Told) → Contains rows r → IsEnd r.ending
 
 -- the path leads to a machine, each of its threads acting in turn, that has this history and ends so
 abbrev pub IsTold : ℕ → ℕ → Machine → Told → Type 0
-IsTold n threads root r = (m : Machine) × ActsAlong n root r.path m × (r.history ≡ m.history) × EndsAs n threads m r.ending
+IsTold n threads root r = (m : Machine) × ActsAlong n root r.path m × (r.history ≡ m.history) ×
+    EndsAs n threads m r.ending
 
 -- one of the rows has this history
 pub record HasRow (rows : List Told) (history : List Event) : Type 0 where
@@ -96,30 +99,37 @@ pub record IsToldBy (rows : List Told) (history : List Event) : Type 0 where
 -- each path before this place that was seen to end has a row that ends
 abbrev pub HaveEnds : ℕ → Machine → List (List ℕ) → List Seen → ℕ → List Told → Type 0
 HaveEnds n root paths seen i rows =
-    (j : ℕ) (path : List ℕ) (s : Seen) → j < i → slice_get paths j ≡ Some path → slice_get seen j ≡ Some s → s.acts ≡ false →
+    (j : ℕ) (path : List ℕ) (s : Seen) → j < i → slice_get paths j ≡ Some path → slice_get seen j ≡ Some s →
+    s.acts ≡ false →
     HasEnd rows (walked n root path).history
 
 -- the history of each of the last so many paths is the beginning of a row's
 abbrev pub HaveBegun : ℕ → Machine → List (List ℕ) → ℕ → List Told → Type 0
 HaveBegun n root paths i rows =
-    (j : ℕ) (path : List ℕ) → length paths < j + i + 1 → slice_get paths j ≡ Some path → IsToldBy rows (walked n root path).history
+    (j : ℕ) (path : List ℕ) → length paths < j + i + 1 → slice_get paths j ≡ Some path →
+    IsToldBy rows (walked n root path).history
 
--- So many paths, no two the same: after the setup's steps one step of each thread of a path acts, and the history of these steps is the beginning of a
+-- So many paths, no two the same: after the setup's steps one step of each thread of a path acts, and the history of
+-- these steps is the beginning of a
 -- row's.
 pub record TellStates (file : File) (program : Program) (k : ℕ) (rows : List Told) (states : ℕ) : Type 0 where
   pub paths : List (List ℕ)
   pub many : length paths ≡ states
   pub apart : AllPairs (λ (p q : List ℕ). p ≢ q) paths
-  pub acts : (path : List ℕ) → Contains paths path → map (λ e. e.thread) (source_trace file program (replicate k 0 ++ path)) ≡ replicate k 0 ++ path
+  pub acts : (path : List ℕ) →
+      Contains paths path →
+      map (λ e. e.thread) (source_trace file program (replicate k 0 ++ path)) ≡ replicate k 0 ++ path
   pub told : (path : List ℕ) → Contains paths path → IsToldBy rows (source_history file program (replicate k 0 ++ path))
 
 -- For each file and program that the code runs as, and whose setup these steps are: so it is of so many states.
 abbrev pub TellsStates : Code → ℕ → List ℕ → List Told → ℕ → Type 0
 TellsStates code cells setup rows states =
-    (file : File) (program : Program) (k : ℕ) → HasHistories file program code cells → HasSteps file program code cells →
+    (file : File) (program : Program) (k : ℕ) → HasHistories file program code cells →
+    HasSteps file program code cells →
     IsSetUp file program code cells k (machine_run (loaded code cells) setup) → TellStates file program k rows states
 
--- Each row's history is that of a schedule of source steps: those of the setup, and then one of each thread of its path; for each file and
+-- Each row's history is that of a schedule of source steps: those of the setup, and then one of each thread of its
+-- path; for each file and
 -- program that the code runs as, and whose setup these steps are.
 abbrev pub TellsTruth : Code → ℕ → List ℕ → List Told → Type 0
 TellsTruth code cells setup rows =
@@ -131,21 +141,26 @@ TellsTruth code cells setup rows =
 abbrev pub TellsOver : Code → ℕ → List ℕ → ℕ → List Told → Type 0
 TellsOver code cells setup threads rows =
     (file : File) (program : Program) (k : ℕ) → IsCells code cells → ActsInTime file program code →
-    IsSetUp file program code cells k (machine_run (loaded code cells) setup) → length program.threads ≡ threads → (r : Told) →
+    IsSetUp file program code cells k (machine_run (loaded code cells) setup) → length program.threads ≡ threads →
+    (r : Told) →
     Contains rows r → r.ending ≡ ending.Over → IsOver file program (source_run file program (replicate k 0 ++ r.path))
 
--- For each file and program that the code runs as, and whose setup these steps are: the history of each schedule of source steps that fits
+-- For each file and program that the code runs as, and whose setup these steps are: the history of each schedule of
+-- source steps that fits
 -- the cells, of any length, is the beginning of a row's.
 abbrev pub TellsAll : Code → ℕ → List ℕ → ℕ → List Told → Type 0
 TellsAll code cells setup threads rows =
-    (file : File) (program : Program) (k : ℕ) → IsCells code cells → ActsInTime file program code → HasHistories file program code cells →
-    IsSetUp file program code cells k (machine_run (loaded code cells) setup) → length program.threads ≡ threads → (schedule : List ℕ) →
+    (file : File) (program : Program) (k : ℕ) → IsCells code cells → ActsInTime file program code →
+    HasHistories file program code cells →
+    IsSetUp file program code cells k (machine_run (loaded code cells) setup) → length program.threads ≡ threads →
+    (schedule : List ℕ) →
     Fits file program cells schedule → IsToldBy rows (source_history file program schedule)
 
 -- So too: the history of each such schedule after which no thread acts is that of a row that ends.
 abbrev pub TellsEnds : Code → ℕ → List ℕ → ℕ → List Told → Type 0
 TellsEnds code cells setup threads rows =
-    (file : File) (program : Program) (k : ℕ) → IsCells code cells → ActsInTime file program code → HasHistories file program code cells →
+    (file : File) (program : Program) (k : ℕ) → IsCells code cells → ActsInTime file program code →
+    HasHistories file program code cells →
     HasSteps file program code cells → IsSetUp file program code cells k (machine_run (loaded code cells) setup) →
     length program.threads ≡ threads → (schedule : List ℕ) → Fits file program cells schedule →
     IsOver file program (source_run file program schedule) → HasEnd rows (source_history file program schedule)
@@ -153,7 +168,8 @@ TellsEnds code cells setup threads rows =
 -- Where no schedule runs out of cells: so it is of each schedule, whether it fits the cells or not.
 abbrev pub TellsWhole : Code → ℕ → List ℕ → ℕ → List Told → Type 0
 TellsWhole code cells setup threads rows =
-    (file : File) (program : Program) (k : ℕ) → IsCells code cells → ActsInTime file program code → HasHistories file program code cells →
+    (file : File) (program : Program) (k : ℕ) → IsCells code cells → ActsInTime file program code →
+    HasHistories file program code cells →
     HasSteps file program code cells → IsSetUp file program code cells k (machine_run (loaded code cells) setup) →
     length program.threads ≡ threads → (schedule : List ℕ) → IsToldBy rows (source_history file program schedule)
     × (IsOver file program (source_run file program schedule) → HasEnd rows (source_history file program schedule))

@@ -1,5 +1,6 @@
 -- How far a list of paths is closed.
-use Rattle.std.specs.Prelude.{◌≡◌, ℕ, ◌<◌, ◌≤◌, ◌⊎◌, ◌||◌, true, false, List, [], ◌∷◌, ◌++◌, length, map, None, Some, slice_get, Contains}
+use Rattle.std.specs.Prelude.{◌≡◌, ℕ, ◌<◌, ◌≤◌, ◌⊎◌, ◌||◌, true, false, List, [], ◌∷◌, ◌++◌, length, map, None, Some}
+use Rattle.std.specs.Prelude.{slice_get, Contains}
 use Rattle.std.specs.Global.{Vec}
 use Rattle.ls_code.specs.Machine.{Machine, stops}
 use Rattle.ls_code.specs.declared.step.Did.{Did}
@@ -20,7 +21,11 @@ Leads n root paths path t = (m : Machine) → burst n (walked n root path) t ≡
 
 -- So it is for the paths before the one at i with each of so many threads, and for that one with each thread before t.
 pub record IsClosedTo (n threads : ℕ) (root : Machine) (paths : List (List ℕ)) (i t : ℕ) : Type 0 where
-  pub before : (j u : ℕ) (path : List ℕ) → j < i → u < threads → slice_get paths j ≡ Some path → Leads n root paths path u
+  pub before : (j u : ℕ) (path : List ℕ) →
+      j < i →
+      u < threads →
+      slice_get paths j ≡ Some path →
+      Leads n root paths path u
   pub here : (u : ℕ) (path : List ℕ) → u < t → slice_get paths i ≡ Some path → Leads n root paths path u
 
 -- the same paths, or one more after them
@@ -29,7 +34,8 @@ Grows old new = (new ≡ old) ⊎ ((path : List ℕ) × (new ≡ old ++ path ∷
 
 -- each of these paths has its threads act in turn
 abbrev pub AllAct : ℕ → Machine → List (List ℕ) → Type 0
-AllAct n root paths = (j : ℕ) (path : List ℕ) → slice_get paths j ≡ Some path → ActsAlong n root path (walked n root path)
+AllAct n root paths = (j : ℕ) (path : List ℕ) → slice_get paths j ≡ Some path →
+    ActsAlong n root path (walked n root path)
 
 -- what is seen with one more thread
 abbrev pub seen_with : Seen → Did → Seen
@@ -42,12 +48,16 @@ pub record IsSeen (n threads : ℕ) (m : Machine) (seen : Seen) : Type 0 where
   pub full : seen.stops ≡ true → (t : ℕ) × (t < threads) × (first_did n m t ≡ did.Stopped)
   pub roomy : seen.stops ≡ false → (t : ℕ) → t < threads → first_did n m t ≡ did.Stopped → ⊥
 
--- The empty path is the first; each path has its threads act in turn; and of the first of them it is known what was seen.
+-- The empty path is the first; each path has its threads act in turn; and of the first of them it is known what was
+-- seen.
 pub record IsSound (n threads : ℕ) (root : Machine) (paths : List (List ℕ)) (seen : List Seen) : Type 0 where
   pub first : slice_get paths 0 ≡ Some []
   pub acts : AllAct n root paths
   pub few : length seen ≤ length paths
-  pub known : (j : ℕ) (path : List ℕ) (s : Seen) → slice_get paths j ≡ Some path → slice_get seen j ≡ Some s → IsSeen n threads (walked n root path) s
+  pub known : (j : ℕ) (path : List ℕ) (s : Seen) →
+      slice_get paths j ≡ Some path →
+      slice_get seen j ≡ Some s →
+      IsSeen n threads (walked n root path) s
 
 -- what was saved at each of these paths is how the machine stands to which it leads
 abbrev pub AreSaved : ℕ → Machine → List (List ℕ) → List Standing → Type 0

@@ -1,5 +1,6 @@
 -- What `explore` may answer.
-use Rattle.std.proofs.Common.{◌≡◌, ◌↔◌, ◌<◌, ◌≤◌, ◌∙◌, ◌⊎◌, inl, inr, ℕ, zero, suc, Bool, true, false, List, [], ◌∷◌, Result, Ok, Err, refl, sym, ap, subst, arith}
+use Rattle.std.proofs.Common.{◌≡◌, ◌↔◌, ◌<◌, ◌≤◌, ◌∙◌, ◌⊎◌, inl, inr, ℕ, zero, suc, Bool, true, false, List, [], ◌∷◌}
+use Rattle.std.proofs.Common.{Result, Ok, Err, refl, sym, ap, subst, arith}
 use Rattle.std.specs.Prelude.{All, IsErrOf, IsSorted, slice_index_or, length}
 use Rattle.ls_machine.specs.Room.{AreBadCells}
 use Rattle.ls_meaning.specs.Runs.{source_history}
@@ -23,15 +24,24 @@ use Rattle.ls_faults.specs.Faults.{lifted_explore, lifted_translation}
 use Rattle.ls_faults.specs.Given.{Gives}
 use Rattle.ls_commands.specs.Compiled.{names_of_image}
 use Rattle.ls_explore_reports.specs.declared.printing.Exploring.{Exploring}
-use Rattle.ls_explore_commands.specs.Explored.{Explored, Endless, IsExploration, NoCells, NoStates, NotTranslated, RowTooLong, Tells, names_in}
+use Rattle.ls_explore_commands.specs.Explored.{Explored, Endless, IsExploration, NoCells, NoStates, NotTranslated}
+use Rattle.ls_explore_commands.specs.Explored.{RowTooLong, Tells, names_in}
 use Rattle.ls_explore_reports.specs.Judged.{AreHistories, IsJudged, Judged, rows_of}
 use Rattle.ls_explore_reports.specs.Long.{HasLong}
 use Rattle.ls_explore_reports.specs.Printing.{explored_text}
 use Rattle.ls_explore_commands.specs.Readable.{SourceRunsAreReadable}
 
 -- what the rows tell, with the verdicts on them
-pub judged_so : (i : Image) (cells limit k : ℕ) (rows : List Told) (judged : List Judged) (kept : ℕ) (complete roomy : Bool) → rows_of judged ≡ rows → TellTruth (file_of i) (program_of i) k rows → TellStates (file_of i) (program_of i) k rows kept → (complete ≡ false → limit ≤ kept) → (complete ≡ true → TellAll (file_of i) (program_of i) cells rows) →
-    (complete ≡ true → roomy ≡ true → TellWhole (file_of i) (program_of i) rows) → AreApart rows → IsSorted row_order rows → All (IsJudged (program_of i)) judged → IsExploration i cells limit k judged kept complete roomy
+pub judged_so : (i : Image) (cells limit k : ℕ) (rows : List Told) (judged : List Judged) (kept : ℕ)
+    (complete roomy : Bool) →
+    rows_of judged ≡ rows →
+    TellTruth (file_of i) (program_of i) k rows →
+    TellStates (file_of i) (program_of i) k rows kept →
+    (complete ≡ false → limit ≤ kept) →
+    (complete ≡ true → TellAll (file_of i) (program_of i) cells rows) →
+    (complete ≡ true → roomy ≡ true → TellWhole (file_of i) (program_of i) rows) → AreApart rows →
+    IsSorted row_order rows → All (IsJudged (program_of i)) judged →
+    IsExploration i cells limit k judged kept complete roomy
 judged_so i cells limit k rows judged kept complete roomy e truth states cut all whole apart order verdicts = record {
   truth = subst (TellTruth (file_of i) (program_of i) k) (sym e) truth;
   states = subst (λ rs. TellStates (file_of i) (program_of i) k rs kept) (sym e) states;
@@ -49,19 +59,29 @@ any_default (x ∷ xs) zero d e h = refl
 any_default (x ∷ xs) (suc n) d e h = any_default xs n d e (omega arith)
 
 -- each row's history is that of a schedule, so it is read as it is printed
-pub rows_named : (i : Image) (k : ℕ) (rows : List Told) → SourceRunsAreReadable i → TellTruth (file_of i) (program_of i) k rows → AreHistories (program_of i) rows
+pub rows_named : (i : Image) (k : ℕ) (rows : List Told) →
+    SourceRunsAreReadable i →
+    TellTruth (file_of i) (program_of i) k rows →
+    AreHistories (program_of i) rows
 rows_named i k rows readable truth = λ n d lt.
     let r : Told = slice_index_or rows n d in
-    let is : IsReadable (program_of i) (source_history (file_of i) (program_of i) (schedule_of k r)) = readable (schedule_of k r) in
-    let of_run : IsHistoryOf (program_of i) (source_history (file_of i) (program_of i) (schedule_of k r)) = (is.events, record { is_named = is.is_named; history = is.says.history }) in
+    let is : IsReadable (program_of i) (source_history (file_of i) (program_of i) (schedule_of k r)) = readable
+    (schedule_of k r) in
+    let of_run : IsHistoryOf (program_of i) (source_history (file_of i) (program_of i) (schedule_of k r)) =
+    (is.events, record { is_named = is.is_named; history = is.says.history }) in
     subst (IsHistoryOf (program_of i)) (sym (truth.told r (n, lt, any_default rows n r d lt))) of_run
 
 module _ (i : Image) (e : Exploring) where
   abbrev Refused : ExploreFault → Result ImageExploration ExploreFault
   Refused f = Err f
 
-  pub explore_fails : (f : ExploreFault) → (IsErrOf (Refused f) explore.BadStates ↔ ((e.states ≡ 0) ⊎ (16777216 < e.states))) → (IsErrOf (Refused f) explore.BadCells → AreBadCells (code_of_image i).names e.cells) →
-      IsErrOf (Refused f) explore.Memory ⊎ (IsErrOf (Refused f) explore.SetupEndless ↔ IsEndless (file_of i) (program_of i) (code_of_image i) e.cells e.states) → IsOfSetup (file_of i) (program_of i) (code_of_image i) e.cells f → Gives (Explored i e) (Err (lifted_explore f))
+  pub explore_fails : (f : ExploreFault) →
+      (IsErrOf (Refused f) explore.BadStates ↔ ((e.states ≡ 0) ⊎ (16777216 < e.states))) →
+      (IsErrOf (Refused f) explore.BadCells → AreBadCells (code_of_image i).names e.cells) →
+      IsErrOf (Refused f) explore.Memory ⊎ (IsErrOf (Refused f) explore.SetupEndless ↔
+      IsEndless (file_of i) (program_of i) (code_of_image i) e.cells e.states) →
+      IsOfSetup (file_of i) (program_of i) (code_of_image i) e.cells f →
+      Gives (Explored i e) (Err (lifted_explore f))
   explore_fails explore.Memory many bad endless setup = tt
   explore_fails explore.BadCells many bad endless setup = NoCells (bad refl)
   explore_fails explore.BadStates many bad endless setup = NoStates (many.0 refl)
@@ -70,17 +90,25 @@ module _ (i : Image) (e : Exploring) where
   explore_fails (explore.Setup f) many bad endless setup = NotTranslated setup.0 f setup.1 setup.2
 
   -- a text isn't made where memory runs out, or a row's schedule is too long
-  pub long_fails : {T : Type 0} (f : TranslationFault) (k kept : ℕ) (judged slice : List Judged) (complete roomy : Bool) → (f ≡ translation.Memory) ⊎ (f ≡ translation.ResultTooLong) →
-      (AreBadCells (code_of_image i).names e.cells → ⊥) → IsExploration i e.cells e.states k judged kept complete roomy → slice ≡ judged →
-      (IsErrOf {T = T} (Err f) translation.ResultTooLong → HasLong k (rows_of slice)) → Gives (Explored i e) (Err (lifted_translation f))
+  pub long_fails : {T : Type 0} (f : TranslationFault) (k kept : ℕ) (judged slice : List Judged) (complete roomy : Bool)
+      →
+      (f ≡ translation.Memory) ⊎ (f ≡ translation.ResultTooLong) →
+      (AreBadCells (code_of_image i).names e.cells → ⊥) → IsExploration i e.cells e.states k judged kept complete roomy
+      → slice ≡ judged →
+      (IsErrOf {T = T} (Err f) translation.ResultTooLong → HasLong k (rows_of slice)) →
+      Gives (Explored i e) (Err (lifted_translation f))
   long_fails translation.Memory k kept judged slice complete roomy only good so is long = tt
   long_fails translation.BadCells k kept judged slice complete roomy (inl wrong) good so is long = absurd cc
   long_fails translation.BadCells k kept judged slice complete roomy (inr wrong) good so is long = absurd cc
   long_fails (translation.DoesNotFit step) k kept judged slice complete roomy (inl wrong) good so is long = absurd cc
   long_fails (translation.DoesNotFit step) k kept judged slice complete roomy (inr wrong) good so is long = absurd cc
   long_fails translation.ResultTooLong k kept judged slice complete roomy only good so is long =
-      RowTooLong k judged kept complete roomy good so (subst (λ (js : List Judged). HasLong k (rows_of js)) is (long refl))
+      RowTooLong k judged kept complete roomy good so (subst (λ (js : List Judged). HasLong k (rows_of js)) is
+      (long refl))
 
-  pub explore_tells : (k : ℕ) (judged : List Judged) (kept : ℕ) (complete roomy : Bool) (t : Text) → (AreBadCells (code_of_image i).names e.cells → ⊥) → IsExploration i e.cells e.states k judged kept complete roomy →
+  pub explore_tells : (k : ℕ) (judged : List Judged) (kept : ℕ) (complete roomy : Bool) (t : Text) →
+      (AreBadCells (code_of_image i).names e.cells → ⊥) →
+      IsExploration i e.cells e.states k judged kept complete roomy →
       t ≡ explored_text (names_in i) (names_of_image i) k judged kept complete roomy e → Explored i e (Ok t)
-  explore_tells k judged kept complete roomy t good is said = subst (λ x. Explored i e (Ok x)) (sym said) (Tells k judged kept complete roomy good is)
+  explore_tells k judged kept complete roomy t good is said = subst (λ x. Explored i e (Ok x)) (sym said)
+      (Tells k judged kept complete roomy good is)

@@ -24,12 +24,20 @@ use Rattle.ls_explore_reports.specs.Printing.{explored_text}
 
 -- the names of an image's classes and of what they declare, its file and its program
 abbrev pub names_in : Image → Names
-names_in i = record { classes = (outcome_of (checked_of i)).names; signs = (outcome_of (checked_of i)).signs; file = file_of i; program = program_of i }
+names_in i = record {
+  classes = (outcome_of (checked_of i)).names;
+  signs = (outcome_of (checked_of i)).signs;
+  file = file_of i;
+  program = program_of i;
+}
 
--- Rows that tell the truth, the shortest schedule first, no two with one history, each with its verdict. Each of so many states has a row. Where
--- they are complete they tell of all schedules that fit the cells; and where no schedule runs out of cells, of all. Where they are cut, so many states
+-- Rows that tell the truth, the shortest schedule first, no two with one history, each with its verdict. Each of so
+-- many states has a row. Where
+-- they are complete they tell of all schedules that fit the cells; and where no schedule runs out of cells, of all.
+-- Where they are cut, so many states
 -- were kept as may be.
-pub record IsExploration (i : Image) (cells limit k : ℕ) (judged : List Judged) (kept : ℕ) (complete roomy : Bool) : Type 0 where
+pub record IsExploration (i : Image) (cells limit k : ℕ) (judged : List Judged) (kept : ℕ) (complete roomy : Bool) :
+    Type 0 where
   pub truth : TellTruth (file_of i) (program_of i) k (rows_of judged)
   pub states : TellStates (file_of i) (program_of i) k (rows_of judged) kept
   pub cut : complete ≡ false → limit ≤ kept
@@ -41,18 +49,23 @@ pub record IsExploration (i : Image) (cells limit k : ℕ) (judged : List Judged
 
 -- the text of an exploration; or why there is none
 pub data Explored (i : Image) (e : Exploring) : Result Text ToolFault → Type 0 where
-  Tells : (k : ℕ) (judged : List Judged) (kept : ℕ) (complete roomy : Bool) → ¬ AreBadCells (code_of_image i).names e.cells →
+  Tells : (k : ℕ) (judged : List Judged) (kept : ℕ) (complete roomy : Bool) →
+      ¬ AreBadCells (code_of_image i).names e.cells →
       IsExploration i e.cells e.states k judged kept complete roomy →
       Explored i e (Ok (explored_text (names_in i) (names_of_image i) k judged kept complete roomy e))
   NoStates : ((e.states ≡ 0) ⊎ (16777216 < e.states)) → Explored i e (Err (faults.Explore explore.BadStates))
   NoCells : AreBadCells (code_of_image i).names e.cells → Explored i e (Err faults.BadCells)
   Endless : GoesOnFor (file_of i) (program_of i) 100001 → Explored i e (Err (faults.Explore explore.SetupEndless))
   -- what the setup makes has no room, or its instructions are more than a schedule may have
-  NotTranslated : (k : ℕ) (f : TranslationFault) → EndsAt (file_of i) (program_of i) k → StaysSource (file_of i) (program_of i) (code_of_image i) e.cells k f →
+  NotTranslated : (k : ℕ) (f : TranslationFault) →
+      EndsAt (file_of i) (program_of i) k →
+      StaysSource (file_of i) (program_of i) (code_of_image i) e.cells k f →
       Explored i e (Err (faults.Translation f))
   -- so are the steps of a row
-  RowTooLong : (k : ℕ) (judged : List Judged) (kept : ℕ) (complete roomy : Bool) → ¬ AreBadCells (code_of_image i).names e.cells →
-      IsExploration i e.cells e.states k judged kept complete roomy → HasLong k (rows_of judged) → Explored i e (Err (faults.Translation translation.ResultTooLong))
+  RowTooLong : (k : ℕ) (judged : List Judged) (kept : ℕ) (complete roomy : Bool) →
+      ¬ AreBadCells (code_of_image i).names e.cells →
+      IsExploration i e.cells e.states k judged kept complete roomy → HasLong k (rows_of judged) →
+      Explored i e (Err (faults.Translation translation.ResultTooLong))
 
 abbrev pub ExploresTo : Exploring → Text → Text → Result Text ToolFault → Type 0
 ExploresTo e classes program answer = AnswersOn classes program (λ i. Explored i e) answer

@@ -1,6 +1,7 @@
 -- Refusals that come late.
 use Rattle.ls_events.specs.Limits.{most_steps}
-use Rattle.std.proofs.Common.{◌≡◌, ◌↔◌, ◌<◌, ◌≤◌, ◌⊎◌, inl, inr, ℕ, List, Result, Ok, Err, refl, subst, arith, length, replicate}
+use Rattle.std.proofs.Common.{◌≡◌, ◌↔◌, ◌<◌, ◌≤◌, ◌⊎◌, inl, inr, ℕ, List, Result, Ok, Err, refl, subst, arith, length}
+use Rattle.std.proofs.Common.{replicate}
 use Rattle.std.specs.Prelude.{IfErr, IsErrOf}
 use Rattle.ls_checked.specs.CheckedTree.{File}
 use Rattle.ls_checked.specs.CheckedProgram.{Program}
@@ -19,17 +20,24 @@ module _ (file : File) (program : Program) (code : Code) (cells k : ℕ) where
   -- a setup of these steps that isn't translated
   pub late_translation : {T : Type 0} (f : TranslationFault) (source : List ℕ) → source ≡ replicate k 0
       → (IsErrOf {T = T} (Err f) translation.BadCells ↔ AreBadCells code.names cells)
-      → ((step : ℕ) → IsErrOf {T = T} (Err f) (translation.DoesNotFit step) → IsFirstUnfit file program cells source step)
-      → (IsErrOf {T = T} (Err f) translation.ResultTooLong → most_steps < length (to_machine file program code cells source))
+      → ((step : ℕ) → IsErrOf {T = T} (Err f) (translation.DoesNotFit step) →
+      IsFirstUnfit file program cells source step)
+      → (IsErrOf {T = T} (Err f) translation.ResultTooLong →
+      most_steps < length (to_machine file program code cells source))
       → IsLate file program code cells k (fault_of_translation f)
   late_translation translation.Memory source e bad unfit long = tt
   late_translation translation.BadCells source e bad unfit long = bad.0 refl
-  late_translation (translation.DoesNotFit step) source e bad unfit long = subst (λ s. IsFirstUnfit file program cells s step) e (unfit step refl)
-  late_translation translation.ResultTooLong source e bad unfit long = subst (λ s. most_steps < length (to_machine file program code cells s)) e (long refl)
+  late_translation (translation.DoesNotFit step) source e bad unfit long = subst
+      (λ s. IsFirstUnfit file program cells s step) e (unfit step refl)
+  late_translation translation.ResultTooLong source e bad unfit long = subst
+      (λ s. most_steps < length (to_machine file program code cells s)) e (long refl)
 
   -- what a late refusal is, and what it isn't
   module _ {T : Type 0} (states : ℕ) where
-    pub late_states : (r : Result T ExploreFault) → IfErr r (IsLate file program code cells k) → ((states ≡ 0) ⊎ (16777216 < states) → ⊥) → IsErrOf r explore.BadStates ↔ ((states ≡ 0) ⊎ (16777216 < states))
+    pub late_states : (r : Result T ExploreFault) →
+        IfErr r (IsLate file program code cells k) →
+        ((states ≡ 0) ⊎ (16777216 < states) → ⊥) →
+        IsErrOf r explore.BadStates ↔ ((states ≡ 0) ⊎ (16777216 < states))
     late_states (Ok x) late good = (λ e. absurd cc, λ many. absurd (good many))
     late_states (Err explore.BadStates) late good = absurd late
     late_states (Err explore.Memory) late good = (λ e. absurd cc, λ many. absurd (good many))
@@ -37,7 +45,10 @@ module _ (file : File) (program : Program) (code : Code) (cells k : ℕ) where
     late_states (Err explore.SetupEndless) late good = absurd late
     late_states (Err (explore.Setup f)) late good = (λ e. absurd cc, λ many. absurd (good many))
 
-    pub late_cells : (r : Result T ExploreFault) → IfErr r (IsLate file program code cells k) → IsErrOf r explore.BadCells → AreBadCells code.names cells
+    pub late_cells : (r : Result T ExploreFault) →
+        IfErr r (IsLate file program code cells k) →
+        IsErrOf r explore.BadCells →
+        AreBadCells code.names cells
     late_cells (Err explore.BadCells) late e = late
     late_cells (Ok x) late e = absurd cc
     late_cells (Err explore.BadStates) late e = absurd late
@@ -45,7 +56,10 @@ module _ (file : File) (program : Program) (code : Code) (cells k : ℕ) where
     late_cells (Err explore.SetupEndless) late e = absurd late
     late_cells (Err (explore.Setup f)) late e = absurd cc
 
-  pub late_setup : {T : Type 0} (r : Result T ExploreFault) → EndsAt file program k → IfErr r (IsLate file program code cells k) → IfErr r (IsOfSetup file program code cells)
+  pub late_setup : {T : Type 0} (r : Result T ExploreFault) →
+      EndsAt file program k →
+      IfErr r (IsLate file program code cells k) →
+      IfErr r (IsOfSetup file program code cells)
   late_setup (Ok x) ends late = tt
   late_setup (Err explore.Memory) ends late = tt
   late_setup (Err explore.BadCells) ends late = tt
@@ -62,7 +76,8 @@ not_many states some few (inr many) = omega arith
 
 -- exactly where it goes on, but where memory runs out
 abbrev pub EndlessOnly : {T : Type 0} → File → Program → Code → ℕ → ℕ → Result T ExploreFault → Type 0
-EndlessOnly file program code cells states r = IsErrOf r explore.Memory ⊎ (IsErrOf r explore.SetupEndless ↔ IsEndless file program code cells states)
+EndlessOnly file program code cells states r = IsErrOf r explore.Memory ⊎
+    (IsErrOf r explore.SetupEndless ↔ IsEndless file program code cells states)
 
 module _ {T : Type 0} (file : File) (program : Program) (code : Code) (cells states : ℕ) where
   abbrev Only : Result T ExploreFault → Type 0
@@ -74,7 +89,10 @@ module _ {T : Type 0} (file : File) (program : Program) (code : Code) (cells sta
   pub endless_cells : AreBadCells code.names cells → Only (Err explore.BadCells)
   endless_cells bad = inr (λ e. absurd cc, λ h. absurd (h.cells bad))
 
-  pub endless_goes : ((states ≡ 0) ⊎ (16777216 < states) → ⊥) → (AreBadCells code.names cells → ⊥) → GoesOnFor file program 100001 → Only (Err explore.SetupEndless)
+  pub endless_goes : ((states ≡ 0) ⊎ (16777216 < states) → ⊥) →
+      (AreBadCells code.names cells → ⊥) →
+      GoesOnFor file program 100001 →
+      Only (Err explore.SetupEndless)
   endless_goes some good goes = inr (λ e. record { states = some; cells = good; goes = goes }, λ h. refl)
 
   pub endless_memory : Only (Err explore.Memory)
@@ -83,7 +101,10 @@ module _ {T : Type 0} (file : File) (program : Program) (code : Code) (cells sta
   pub endless_not : (x : T) → (GoesOnFor file program 100001 → ⊥) → Only (Ok x)
   endless_not x ends = inr (λ e. absurd cc, λ h. absurd (ends h.goes))
 
-  pub endless_late : (k : ℕ) (r : Result T ExploreFault) → IfErr r (IsLate file program code cells k) → (GoesOnFor file program 100001 → ⊥) → Only r
+  pub endless_late : (k : ℕ) (r : Result T ExploreFault) →
+      IfErr r (IsLate file program code cells k) →
+      (GoesOnFor file program 100001 → ⊥) →
+      Only r
   endless_late k (Ok x) late ends = endless_not x ends
   endless_late k (Err explore.Memory) late ends = inl refl
   endless_late k (Err explore.BadCells) late ends = inr (λ e. absurd cc, λ h. absurd (ends h.goes))

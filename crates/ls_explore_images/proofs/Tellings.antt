@@ -1,5 +1,6 @@
 -- What the rows tell of the file and the program of an image.
-use Rattle.std.proofs.Common.{◌≡◌, ℕ, List, [], ◌∷◌, ◌++◌, length, map, replicate, refl, sym, ap, ◌∙◌, subst, arith, append-nil, slice_get, zero, suc, true, false}
+use Rattle.std.proofs.Common.{◌≡◌, ℕ, List, [], ◌∷◌, ◌++◌, length, map, replicate, refl, sym, ap, ◌∙◌, subst, arith}
+use Rattle.std.proofs.Common.{append-nil, slice_get, zero, suc, true, false}
 use Rattle.std.specs.Prelude.{Contains, IsSorted}
 use Rattle.std.proofs.Math.Logic.{∥∥₁_elim}
 use Rattle.std.proofs.Props.{props}
@@ -21,33 +22,47 @@ use Rattle.ls_explore_laws.specs.Ends.{HasSteps, IsOver}
 use Rattle.ls_explore_laws.specs.Explored.{HasHistories, IsSetUp}
 use Rattle.ls_explore_laws.specs.Stuck.{IsAllOf}
 use Rattle.ls_explore.specs.declared.rows.Ending.TheVariants as ending
-use Rattle.ls_explore.specs.Rows.{AreApart, IsEnd, IsToldBy, TellStates, TellsAll, TellsEnds, TellsOver, TellsStates, TellsTruth, TellsWhole, Told, row_order}
+use Rattle.ls_explore.specs.Rows.{AreApart, IsEnd, IsToldBy, TellStates, TellsAll, TellsEnds, TellsOver, TellsStates}
+use Rattle.ls_explore.specs.Rows.{TellsTruth, TellsWhole, Told, row_order}
 use Rattle.ls_explore_images.specs.Settings.{EndsAt}
 use Rattle.ls_explore_images.specs.Tellings.{TellAll, TellTruth, TellWhole}
 
-pub same_threads : (file : File) (program : Program) (code : Code) → ∥ Runs file program code ∥₁ → length code.starts ≡ length program.threads
+pub same_threads : (file : File) (program : Program) (code : Code) →
+    ∥ Runs file program code ∥₁ →
+    length code.starts ≡ length program.threads
 same_threads file program code runs = ∥∥₁_elim runs (hlevel props) (λ r. r.same.threads)
 
 -- each schedule of the machine has the threads of its source's trace
-entry_threads : (ρ : ℕ → ℕ) (es : List (Entry Value)) → map (λ (f : MachineEntry). f.thread) (map (in_words ρ) es) ≡ map (λ (e : Entry Value). e.thread) es
+entry_threads : (ρ : ℕ → ℕ) (es : List (Entry Value)) →
+    map (λ (f : MachineEntry). f.thread) (map (in_words ρ) es) ≡ map (λ (e : Entry Value). e.thread) es
 entry_threads ρ [] = refl
 entry_threads ρ (e ∷ es) = ap (λ l. e.thread ∷ l) (entry_threads ρ es)
 
 steps_prop : (xs ys : List ℕ) → IsProp (xs ≡ ys)
 steps_prop xs ys = hlevel props
 
-pub has_steps : (file : File) (program : Program) (code : Code) (cells : ℕ) → ∥ Runs file program code ∥₁ → IsCells code cells → HasSteps file program code cells
+pub has_steps : (file : File) (program : Program) (code : Code) (cells : ℕ) →
+    ∥ Runs file program code ∥₁ →
+    IsCells code cells →
+    HasSteps file program code cells
 has_steps file program code cells runs good steps =
     ∥∥₁_elim runs (steps_prop _ _)
     (λ r. ap (map (λ (f : MachineEntry). f.thread)) (r.same.back cells good steps).traces
-    ∙ entry_threads (numbered (births (machine_trace (loaded code cells) steps))) (source_trace file program (to_source code cells steps)))
+    ∙ entry_threads (numbered (births (machine_trace (loaded code cells) steps)))
+    (source_trace file program (to_source code cells steps)))
 
-module _ (file : File) (program : Program) (code : Code) (cells : ℕ) (runs : ∥ Runs file program code ∥₁) (good : IsCells code cells) where
+module _ (file : File) (program : Program) (code : Code) (cells : ℕ) (runs : ∥ Runs file program code ∥₁)
+    (good : IsCells code cells) where
   has_histories : HasHistories file program code cells
   has_histories steps = sym (back_history file program code cells runs good steps (to_source code cells steps) refl)
 
   -- a machine that has been set up by steps of the same acts
-  pub is_set_up : (k : ℕ) (steps : List ℕ) → EndsAt file program k → to_source code cells steps ≡ acting_steps file program (replicate k 0) → (machine_run (loaded code cells) steps).stopped ≡ false → setup_ended (slice_get (machine_run (loaded code cells) steps).threads 0) ≡ true → IsSetUp file program code cells k (machine_run (loaded code cells) steps)
+  pub is_set_up : (k : ℕ) (steps : List ℕ) →
+      EndsAt file program k →
+      to_source code cells steps ≡ acting_steps file program (replicate k 0) →
+      (machine_run (loaded code cells) steps).stopped ≡ false →
+      setup_ended (slice_get (machine_run (loaded code cells) steps).threads 0) ≡ true →
+      IsSetUp file program code cells k (machine_run (loaded code cells) steps)
   is_set_up k steps ends acting goes ready = record {
     steps = steps;
     reached = refl;
@@ -58,8 +73,12 @@ module _ (file : File) (program : Program) (code : Code) (cells : ℕ) (runs : �
     before = ends.before;
   }
 
-  module _ (setup : List ℕ) (k threads : ℕ) (rows : List Told) (acts : ActsInTime file program code) (up : IsSetUp file program code cells k (machine_run (loaded code cells) setup)) (count : length program.threads ≡ threads) where
-    pub tell_truth : TellsTruth code cells setup rows → TellsOver code cells setup threads rows → TellTruth file program k rows
+  module _ (setup : List ℕ) (k threads : ℕ) (rows : List Told) (acts : ActsInTime file program code)
+      (up : IsSetUp file program code cells k (machine_run (loaded code cells) setup))
+      (count : length program.threads ≡ threads) where
+    pub tell_truth : TellsTruth code cells setup rows →
+        TellsOver code cells setup threads rows →
+        TellTruth file program k rows
     tell_truth told over = record {
       told = λ r there. told file program k has_histories up r there;
       over = λ r there is. over file program k good acts up count r there is;
@@ -68,16 +87,21 @@ module _ (file : File) (program : Program) (code : Code) (cells : ℕ) (runs : �
     pub tell_states : (states : ℕ) → TellsStates code cells setup rows states → TellStates file program k rows states
     tell_states states tells = tells file program k has_histories (has_steps file program code cells runs good) up
 
-    pub tell_all : TellsAll code cells setup threads rows → TellsEnds code cells setup threads rows → TellAll file program cells rows
+    pub tell_all : TellsAll code cells setup threads rows →
+        TellsEnds code cells setup threads rows →
+        TellAll file program cells rows
     tell_all tells ends = record {
       begun = λ schedule fits. tells file program k good acts has_histories up count schedule fits;
-      ended = λ schedule fits over. ends file program k good acts has_histories (has_steps file program code cells runs good) up count schedule fits over;
+      ended = λ schedule fits over. ends file program k good acts has_histories
+          (has_steps file program code cells runs good) up count schedule fits over;
     }
 
     pub tell_whole : TellsWhole code cells setup threads rows → TellWhole file program rows
     tell_whole tells = record {
-      begun = λ schedule. (tells file program k good acts has_histories (has_steps file program code cells runs good) up count schedule).0;
-      ended = λ schedule over. (tells file program k good acts has_histories (has_steps file program code cells runs good) up count schedule).1 over;
+      begun = λ schedule. (tells file program k good acts has_histories (has_steps file program code cells runs good) up
+          count schedule).0;
+      ended = λ schedule over. (tells file program k good acts has_histories
+          (has_steps file program code cells runs good) up count schedule).1 over;
     }
 
 -- ---- the one row of a setup that is stuck
@@ -89,33 +113,54 @@ one_there x y (suc k, lt, e) = absurd (omega arith)
 is_there : {A : Type 0} (x : A) → Contains (x ∷ []) x
 is_there x = (0, omega arith, refl)
 
-module _ (file : File) (program : Program) (k : ℕ) (all : IsAllOf file program k) (row : Told) (no_path : row.path ≡ []) (has : row.history ≡ source_history file program (replicate k 0)) (over : row.ending ≡ ending.Over) where
+module _ (file : File) (program : Program) (k : ℕ) (all : IsAllOf file program k) (row : Told) (no_path : row.path ≡ [])
+    (has : row.history ≡ source_history file program (replicate k 0)) (over : row.ending ≡ ending.Over) where
   of_row : (r : Told) → Contains (row ∷ []) r → replicate k 0 ++ r.path ≡ replicate k 0
-  of_row r there = ap (λ (z : Told). replicate k 0 ++ z.path) (sym (one_there row r there)) ∙ ap (λ p. replicate k 0 ++ p) no_path ∙ append-nil (replicate k 0)
+  of_row r there = ap (λ (z : Told). replicate k 0 ++ z.path) (sym (one_there row r there)) ∙
+      ap (λ p. replicate k 0 ++ p) no_path ∙ append-nil (replicate k 0)
 
   pub stuck_truth : TellTruth file program k (row ∷ [])
   stuck_truth = record {
-    told = λ r there. ap (λ (z : Told). z.history) (sym (one_there row r there)) ∙ has ∙ ap (source_history file program) (sym (of_row r there));
+    told = λ r there. ap (λ (z : Told). z.history) (sym (one_there row r there)) ∙ has ∙
+        ap (source_history file program) (sym (of_row r there));
     over = λ r there is. subst (λ ts. IsOver file program (source_run file program ts)) (sym (of_row r there)) all.over;
   }
 
-  pub stuck_states : map (λ (e : Entry Value). e.thread) (source_trace file program (replicate k 0)) ≡ replicate k 0 → TellStates file program k (row ∷ []) 1
+  pub stuck_states : map (λ (e : Entry Value). e.thread) (source_trace file program (replicate k 0)) ≡ replicate k 0 →
+      TellStates file program k (row ∷ []) 1
   stuck_states acts = record {
     paths = [] ∷ [];
     many = refl;
     apart = λ i j d less within. absurd (omega arith);
     acts = λ path there.
-        subst (λ (p : List ℕ). map (λ (e : Entry Value). e.thread) (source_trace file program (replicate k 0 ++ p)) ≡ replicate k 0 ++ p) (one_there [] path there)
-        (ap (λ ts. map (λ (e : Entry Value). e.thread) (source_trace file program ts)) (append-nil (replicate k 0)) ∙ acts ∙ sym (append-nil (replicate k 0)));
+        subst (λ (p : List ℕ). map (λ (e : Entry Value). e.thread) (source_trace file program (replicate k 0 ++ p)) ≡
+        replicate k 0 ++ p) (one_there [] path there)
+        (ap (λ ts. map (λ (e : Entry Value). e.thread) (source_trace file program ts)) (append-nil (replicate k 0)) ∙
+        acts ∙ sym (append-nil (replicate k 0)));
     told = λ path there.
-        subst (λ (p : List ℕ). IsToldBy (row ∷ []) (source_history file program (replicate k 0 ++ p))) (one_there [] path there)
-        (record { row = row; there = is_there row; begins = ([], append-nil (source_history file program (replicate k 0 ++ [])) ∙ ap (source_history file program) (append-nil (replicate k 0)) ∙ sym has) });
+        subst (λ (p : List ℕ). IsToldBy (row ∷ []) (source_history file program (replicate k 0 ++ p)))
+        (one_there [] path there)
+        (record {
+          row = row;
+          there = is_there row;
+          begins = (
+            [],
+            append-nil (source_history file program (replicate k 0 ++ [])) ∙
+                ap (source_history file program) (append-nil (replicate k 0)) ∙ sym has,
+          );
+        });
   }
 
   pub stuck_whole : TellWhole file program (row ∷ [])
   stuck_whole = record {
-    begun = λ schedule. let b = all.begins schedule in record { row = row; there = is_there row; begins = (b.0, b.1 ∙ sym has) };
-    ended = λ schedule ends. record { row = row; there = is_there row; same = has ∙ sym (all.whole schedule ends); ends = subst IsEnd (sym over) tt };
+    begun = λ schedule. let b = all.begins schedule in record
+        { row = row; there = is_there row; begins = (b.0, b.1 ∙ sym has) };
+    ended = λ schedule ends. record {
+      row = row;
+      there = is_there row;
+      same = has ∙ sym (all.whole schedule ends);
+      ends = subst IsEnd (sym over) tt;
+    };
   }
 
   pub stuck_all : (cells : ℕ) → TellAll file program cells (row ∷ [])

@@ -13,7 +13,8 @@ use Rattle.ls_translation.specs.declared.fault.TranslationFault.{TranslationFaul
 use Rattle.ls_translation.specs.declared.fault.TranslationFault.TheVariants as translation
 use Rattle.ls_explore_images.specs.Settings.{EndsAt, GoesOnFor}
 use Rattle.ls_explore_images.specs.declared.fault.ExploreFault.{ExploreFault}
-use Rattle.ls_explore_images.specs.declared.fault.ExploreFault.TheVariants.{Memory, BadCells, BadStates, SetupEndless, Setup}
+use Rattle.ls_explore_images.specs.declared.fault.ExploreFault.TheVariants.{Memory, BadCells, BadStates, SetupEndless}
+use Rattle.ls_explore_images.specs.declared.fault.ExploreFault.TheVariants.{Setup}
 
 -- the same refusal, of a machine that isn't loaded
 abbrev pub fault_of_load : LoadFault → ExploreFault
@@ -27,12 +28,15 @@ fault_of_translation translation.BadCells = BadCells
 fault_of_translation (translation.DoesNotFit step) = Setup (translation.DoesNotFit step)
 fault_of_translation translation.ResultTooLong = Setup translation.ResultTooLong
 
--- Why so many source steps of the setup aren't translated: what one of them makes has no room, or the machine would take too many.
+-- Why so many source steps of the setup aren't translated: what one of them makes has no room, or the machine would
+-- take too many.
 abbrev pub StaysSource : File → Program → Code → ℕ → ℕ → TranslationFault → Type 0
 StaysSource file program code cells k translation.Memory = ⊥
 StaysSource file program code cells k translation.BadCells = ⊥
-StaysSource file program code cells k (translation.DoesNotFit step) = IsFirstUnfit file program cells (replicate k 0) step
-StaysSource file program code cells k translation.ResultTooLong = most_steps < length (to_machine file program code cells (replicate k 0))
+StaysSource file program code cells k (translation.DoesNotFit step) = IsFirstUnfit file program cells (replicate k 0)
+    step
+StaysSource file program code cells k translation.ResultTooLong = most_steps < length
+    (to_machine file program code cells (replicate k 0))
 
 -- a refusal that comes after the numbers have been looked at, and the setup's source, which ends with so many steps
 abbrev pub IsLate : File → Program → Code → ℕ → ℕ → ExploreFault → Type 0
@@ -42,7 +46,8 @@ IsLate file program code cells k BadCells = AreBadCells code.names cells
 IsLate file program code cells k BadStates = ⊥
 IsLate file program code cells k SetupEndless = ⊥
 
--- A fault of the setup's run on the machine comes only where the setup's source ends and its run goes so; of other faults more is said elsewhere.
+-- A fault of the setup's run on the machine comes only where the setup's source ends and its run goes so; of other
+-- faults more is said elsewhere.
 abbrev pub IsOfSetup : File → Program → Code → ℕ → ExploreFault → Type 0
 IsOfSetup file program code cells Memory = Unit {0}
 IsOfSetup file program code cells (Setup f) = (k : ℕ) × EndsAt file program k × StaysSource file program code cells k f

@@ -16,7 +16,8 @@ pub record EndsAt (file : File) (program : Program) (k : ℕ) : Type 0 where
 
 -- it has not ended with fewer steps
 abbrev pub GoesOnAfter : File → Program → ℕ → Type 0
-GoesOnAfter file program k = (j : ℕ) → j < k → has_setup_ended file program (source_run file program (replicate j 0)) ≡ false
+GoesOnAfter file program k = (j : ℕ) → j < k → has_setup_ended file program (source_run file program (replicate j 0)) ≡
+    false
 
 -- it has not ended with fewer steps than these, each of which acts
 pub record GoesOnFor (file : File) (program : Program) (k : ℕ) : Type 0 where

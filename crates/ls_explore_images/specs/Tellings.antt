@@ -15,16 +15,26 @@ schedule_of k r = replicate k 0 ++ r.path
 -- Each row's history is that of its schedule; and after the schedule of a row that is over no thread acts.
 pub record TellTruth (file : File) (program : Program) (k : ℕ) (rows : List Told) : Type 0 where
   pub told : (r : Told) → Contains rows r → r.history ≡ source_history file program (schedule_of k r)
-  pub over : (r : Told) → Contains rows r → r.ending ≡ Over → IsOver file program (source_run file program (schedule_of k r))
+  pub over : (r : Told) →
+      Contains rows r →
+      r.ending ≡ Over →
+      IsOver file program (source_run file program (schedule_of k r))
 
--- The history of each schedule of source steps that fits the cells, of any length, is the beginning of a row's; and that of one after which no thread
+-- The history of each schedule of source steps that fits the cells, of any length, is the beginning of a row's; and
+-- that of one after which no thread
 -- acts is that of a row that ends.
 pub record TellAll (file : File) (program : Program) (cells : ℕ) (rows : List Told) : Type 0 where
-  pub begun : (schedule : List ℕ) → Fits file program cells schedule → IsToldBy rows (source_history file program schedule)
-  pub ended : (schedule : List ℕ) → Fits file program cells schedule → IsOver file program (source_run file program schedule) →
+  pub begun : (schedule : List ℕ) →
+      Fits file program cells schedule →
+      IsToldBy rows (source_history file program schedule)
+  pub ended : (schedule : List ℕ) →
+      Fits file program cells schedule →
+      IsOver file program (source_run file program schedule) →
       HasEnd rows (source_history file program schedule)
 
 -- The same of each schedule of source steps, whether it fits the cells or not.
 pub record TellWhole (file : File) (program : Program) (rows : List Told) : Type 0 where
   pub begun : (schedule : List ℕ) → IsToldBy rows (source_history file program schedule)
-  pub ended : (schedule : List ℕ) → IsOver file program (source_run file program schedule) → HasEnd rows (source_history file program schedule)
+  pub ended : (schedule : List ℕ) →
+      IsOver file program (source_run file program schedule) →
+      HasEnd rows (source_history file program schedule)

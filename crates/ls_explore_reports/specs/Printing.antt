@@ -38,7 +38,8 @@ verdict_part verdicts.NotOneSet = []
 abbrev pub row_text : Names → List Text → ℕ → Judged → Text
 row_text names threads k j =
     ending_text j.row.ending (waiting names (scene_of names (schedule_of k j.row)) 0 threads)
-    ++ (verdict_part j.verdict ++ (10 ∷ (schedule_text threads (schedule_of k j.row) ++ (run_text names.program j.row.history ++ 10 ∷ []))))
+    ++ (verdict_part j.verdict ++
+    (10 ∷ (schedule_text threads (schedule_of k j.row) ++ (run_text names.program j.row.history ++ 10 ∷ []))))
 
 -- with `--illegal` the rows without a legal order alone
 abbrev pub is_shown : Bool → Verdict → Bool
@@ -70,7 +71,8 @@ end_text false roomy = codes " cut\n"
 -- as `states 402 histories 6 illegal 0 complete`
 abbrev pub last_text : ℕ → List Judged → Bool → Bool → Text
 last_text states judged complete roomy =
-    counts_text states (length judged) ++ (illegal_text (are_decided judged) (count_illegal judged) ++ end_text complete roomy)
+    counts_text states (length judged) ++ (illegal_text (are_decided judged) (count_illegal judged) ++
+    end_text complete roomy)
 
 abbrev pub rows_text : Names → List Text → ℕ → List Judged → Text
 rows_text names threads k judged = flat_map (row_text names threads k) judged

@@ -19,9 +19,13 @@ module _ (program : Program) where
       let whole : map (named program) h ++ map (named program) begins.0 ≡ map (named program) g =
       sym (map-append (named program) h begins.0) ∙ ap (map (named program)) begins.1 in (
         take n legal.0,
-        sym (take-append_seam (map (named program) h) (map (named program) begins.0)) ∙ ap (take n) (whole ∙ legal.1) ∙ take-map Some n legal.0,
+        sym (take-append_seam (map (named program) h) (map (named program) begins.0)) ∙ ap (take n) (whole ∙ legal.1) ∙
+            take-map Some n legal.0,
         beginning legal.0 n legal.2,
       )
 
-  pub told_legal : (rows : List Told) (h : List RunEvent) → RowsAreLegal program rows → IsToldBy rows h → HasLegalOrder program h
+  pub told_legal : (rows : List Told) (h : List RunEvent) →
+      RowsAreLegal program rows →
+      IsToldBy rows h →
+      HasLegalOrder program h
   told_legal rows h legal told = first_legal h told.row.history told.begins (legal told.row told.there)

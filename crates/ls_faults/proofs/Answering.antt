@@ -42,7 +42,9 @@ fails May fault.ReadFailed h = h
 fails May fault.WriteFailed h = h
 
 -- the same of steps
-pub fails_steps : (May : Result (List ℕ) ToolFault → Type 0) (f : ToolFault) → May (Err f) → GivesSeen (λ steps. steps) May (FailedSteps f)
+pub fails_steps : (May : Result (List ℕ) ToolFault → Type 0) (f : ToolFault) →
+    May (Err f) →
+    GivesSeen (λ steps. steps) May (FailedSteps f)
 fails_steps May fault.Memory h = tt
 fails_steps May (fault.Text f) h = h
 fails_steps May (fault.Check f) h = h
@@ -66,7 +68,8 @@ fails_steps May fault.ReadFailed h = h
 fails_steps May fault.WriteFailed h = h
 
 -- a fault that is given for steps is one that may be given for a text
-pub passed_on : (May : Result (List ℕ) ToolFault → Type 0) (May' : Result Text ToolFault → Type 0) (f : ToolFault) → (May (Err f) → May' (Err f)) →
+pub passed_on : (May : Result (List ℕ) ToolFault → Type 0) (May' : Result Text ToolFault → Type 0) (f : ToolFault) →
+    (May (Err f) → May' (Err f)) →
     GivesSeen (λ steps. steps) May (FailedSteps f) → Gives May' (Failed f)
 passed_on May May' fault.Memory g h = tt
 passed_on May May' (fault.Text f) g h = g h
@@ -91,7 +94,10 @@ passed_on May May' fault.ReadFailed g h = g h
 passed_on May May' fault.WriteFailed g h = g h
 
 -- an answer that may be given may be given under a wider claim
-pub wider : (May May' : Result Text ToolFault → Type 0) (r : Result (String Global) ToolFault) → ((a : Result Text ToolFault) → May a → May' a) → Gives May r → Gives May' r
+pub wider : (May May' : Result Text ToolFault → Type 0) (r : Result (String Global) ToolFault) →
+    ((a : Result Text ToolFault) → May a → May' a) →
+    Gives May r →
+    Gives May' r
 wider May May' (Ok t) h g = h (Ok (string_bytes t)) g
 wider May May' (Err fault.Memory) h g = tt
 wider May May' (Err (fault.Text f)) h g = h (Err (fault.Text f)) g
@@ -116,8 +122,10 @@ wider May May' (Err fault.ReadFailed) h g = h (Err fault.ReadFailed) g
 wider May May' (Err fault.WriteFailed) h g = h (Err fault.WriteFailed) g
 
 -- where the schedule isn't read
-pub unread : (May : Result (List ℕ) ScheduleFault → Result Text ToolFault → Type 0) → ((f : ScheduleFault) → May (Err f) (Err (lifted_schedule f))) →
-    (read : Result (List ℕ) ScheduleFault) (f : ScheduleFault) → Fails f read → Gives (May read) (Failed (lifted_schedule f))
+pub unread : (May : Result (List ℕ) ScheduleFault → Result Text ToolFault → Type 0) →
+    ((f : ScheduleFault) → May (Err f) (Err (lifted_schedule f))) →
+    (read : Result (List ℕ) ScheduleFault) (f : ScheduleFault) → Fails f read →
+    Gives (May read) (Failed (lifted_schedule f))
 unread May may read schedule.Memory r = tt
 unread May may read (schedule.BadItem at) r = rw r (may (schedule.BadItem at))
 unread May may read (schedule.UnknownThread at) r = rw r (may (schedule.UnknownThread at))

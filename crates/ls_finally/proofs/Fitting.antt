@@ -1,7 +1,12 @@
 -- The lowered tree speaks of its locals alone.
 use Rattle.std.proofs.Common.{ℕ, suc, ◌+◌, ◌*◌, ◌<◌, ◌≤◌, List, [], ◌∷◌, length, Option, Some, None, arith}
-use Rattle.ls_lowered.specs.LoweredTree.{Expression, Word, Local, Unary, Binary, And, Or, Hold, Keep, After, Field, Item, SetFirst, ReadPair, SetPair, SwapPair, AttemptMark, OnLock, Call, MakeObject, MakeLock, MakeMarkable, MakeArray, Expressions, End, More, Statement, Block, SetLocal, SetField, AddField, SetItem, Evaluate, If, While, Return, Try, Guarded, Throw, Leavable, Leave, Statements, Done, Then, File}
-use Rattle.ls_finally_exits.specs.Exits.{outward, count, Exit, LeaveOut, ReturnOut, exits, or_leave, replaced, all_replaced, exit_of, ways, finally_of}
+use Rattle.ls_lowered.specs.LoweredTree.{Expression, Word, Local, Unary, Binary, And, Or, Hold, Keep, After, Field}
+use Rattle.ls_lowered.specs.LoweredTree.{Item, SetFirst, ReadPair, SetPair, SwapPair, AttemptMark, OnLock, Call}
+use Rattle.ls_lowered.specs.LoweredTree.{MakeObject, MakeLock, MakeMarkable, MakeArray, Expressions, End, More}
+use Rattle.ls_lowered.specs.LoweredTree.{Statement, Block, SetLocal, SetField, AddField, SetItem, Evaluate, If, While}
+use Rattle.ls_lowered.specs.LoweredTree.{Return, Try, Guarded, Throw, Leavable, Leave, Statements, Done, Then, File}
+use Rattle.ls_finally_exits.specs.Exits.{outward, count, Exit, LeaveOut, ReturnOut, exits, or_leave, replaced}
+use Rattle.ls_finally_exits.specs.Exits.{all_replaced, exit_of, ways, finally_of}
 use Rattle.ls_finally.specs.Flat.{tries, all_tries, flat, all_flat}
 use Rattle.ls_finally.specs.Agreement.{IsBelow, AreBelow, Fits, AllFit}
 use Rattle.ls_finally.specs.Placed.{IsPlacedStatement, ArePlaced}
@@ -71,13 +76,24 @@ module _ (r k m : ℕ) (le : k ≤ m) (lt : r < m) where
     replaced_fits (AddField x f a) l j t = fits_more k m le (AddField x f a) t
     replaced_fits (SetItem a i x) l j t = fits_more k m le (SetItem a i x) t
     replaced_fits (Evaluate x) l j t = fits_more k m le (Evaluate x) t
-    replaced_fits (If x a b) l j t = (below_more k m le x t.0, replaced_fits a l j t.1, replaced_fits b l (j + length (exits l a)) t.2)
+    replaced_fits (If x a b) l j t = (
+      below_more k m le x t.0,
+      replaced_fits a l j t.1,
+      replaced_fits b l (j + length (exits l a)) t.2,
+    )
     replaced_fits (While x s) l j t = (below_more k m le x t.0, replaced_fits s l j t.1)
     replaced_fits (Return x) l j t = ((lt, below_more k m le x t), (tt, tt))
     replaced_fits (Try b f) l j t = absurd t
-    replaced_fits (Guarded b i x) l j t = (omega (arith, t.0), replaced_fits b l j t.1, replaced_fits x l (j + length (exits l b)) t.2)
+    replaced_fits (Guarded b i x) l j t = (
+      omega (arith, t.0),
+      replaced_fits b l j t.1,
+      replaced_fits x l (j + length (exits l b)) t.2,
+    )
     replaced_fits (Throw i) l j t = omega arith
-    replaced_fits (Leavable b xs) l j t = (replaced_fits b (suc (count xs) + l) j t.0, all_replaced_fit xs l (j + length (exits (suc (count xs) + l) b)) t.1)
+    replaced_fits (Leavable b xs) l j t = (
+      replaced_fits b (suc (count xs) + l) j t.0,
+      all_replaced_fit xs l (j + length (exits (suc (count xs) + l) b)) t.1,
+    )
     replaced_fits (Leave i) l j t = leave_fits (outward l i) i (l + j)
 
     all_replaced_fit : (ss : Statements) (l j : ℕ) → AllFit k ss → AllFit m (all_replaced r l j ss)
@@ -106,19 +122,31 @@ module _ (ms : File) (m : ℕ) where
     pub flat_fits : (s : Statement) (k : ℕ) → m ≤ k → IsPlacedStatement ms m s → Fits (k + 2 * tries s) (flat k s)
     flat_fits (Block ss) k h t = all_flat_fit ss k h t
     flat_fits (SetLocal n e) k h t = (omega (arith, t.0), below_more m (k + 2 * 0) (omega arith) e t.1.0)
-    flat_fits (SetField e f a) k h t = (below_more m (k + 2 * 0) (omega arith) e t.0.0, below_more m (k + 2 * 0) (omega arith) a t.1.0)
-    flat_fits (AddField e f a) k h t = (below_more m (k + 2 * 0) (omega arith) e t.0.0, below_more m (k + 2 * 0) (omega arith) a t.1.0)
-    flat_fits (SetItem a i e) k h t = (below_more m (k + 2 * 0) (omega arith) a t.0.0, below_more m (k + 2 * 0) (omega arith) i t.1.0, below_more m (k + 2 * 0) (omega arith) e t.2.0)
+    flat_fits (SetField e f a) k h t = (
+      below_more m (k + 2 * 0) (omega arith) e t.0.0,
+      below_more m (k + 2 * 0) (omega arith) a t.1.0,
+    )
+    flat_fits (AddField e f a) k h t = (
+      below_more m (k + 2 * 0) (omega arith) e t.0.0,
+      below_more m (k + 2 * 0) (omega arith) a t.1.0,
+    )
+    flat_fits (SetItem a i e) k h t = (
+      below_more m (k + 2 * 0) (omega arith) a t.0.0,
+      below_more m (k + 2 * 0) (omega arith) i t.1.0,
+      below_more m (k + 2 * 0) (omega arith) e t.2.0,
+    )
     flat_fits (Evaluate e) k h t = below_more m (k + 2 * 0) (omega arith) e t.0
     flat_fits (If e a b) k h t = (
       below_more m (k + 2 * (tries a + tries b)) (omega arith) e t.0.0,
       fits_more (k + 2 * tries a) (k + 2 * (tries a + tries b)) (omega arith) (flat k a) (flat_fits a k h t.1),
-      fits_more (k + 2 * tries a + 2 * tries b) (k + 2 * (tries a + tries b)) (omega arith) (flat (k + 2 * tries a) b) (flat_fits b (k + 2 * tries a) (omega arith) t.2),
+      fits_more (k + 2 * tries a + 2 * tries b) (k + 2 * (tries a + tries b)) (omega arith) (flat (k + 2 * tries a) b)
+          (flat_fits b (k + 2 * tries a) (omega arith) t.2),
     )
     flat_fits (While e s) k h t = (below_more m (k + 2 * tries s) (omega arith) e t.0.0, flat_fits s k h t.1)
     flat_fits (Return e) k h t = below_more m (k + 2 * 0) (omega arith) e t.0
     flat_fits (Try b f) k h t =
-        fits_more (k + 2 * tries b + 2 * tries f + 2) (k + 2 * (tries b + tries f + 1)) (omega arith) (finally_of (k + 2 * tries b + 2 * tries f) (flat k b) (flat (k + 2 * tries b) f))
+        fits_more (k + 2 * tries b + 2 * tries f + 2) (k + 2 * (tries b + tries f + 1)) (omega arith)
+        (finally_of (k + 2 * tries b + 2 * tries f) (flat k b) (flat (k + 2 * tries b) f))
         (finally_fits (k + 2 * tries b + 2 * tries f) (flat k b) (flat (k + 2 * tries b) f)
         (fits_more (k + 2 * tries b) (k + 2 * tries b + 2 * tries f) (omega arith) (flat k b) (flat_fits b k h t.0))
         (flat_fits f (k + 2 * tries b) (omega arith) t.1))
@@ -126,7 +154,8 @@ module _ (ms : File) (m : ℕ) where
     flat_fits (Throw n) k h t = absurd t
     flat_fits (Leavable b xs) k h t = (
       fits_more (k + 2 * tries b) (k + 2 * (tries b + all_tries xs)) (omega arith) (flat k b) (flat_fits b k h t.0),
-      all_fit_more (k + 2 * tries b + 2 * all_tries xs) (k + 2 * (tries b + all_tries xs)) (omega arith) (all_flat (k + 2 * tries b) xs) (all_flat_fit xs (k + 2 * tries b) (omega arith) t.1),
+      all_fit_more (k + 2 * tries b + 2 * all_tries xs) (k + 2 * (tries b + all_tries xs)) (omega arith)
+          (all_flat (k + 2 * tries b) xs) (all_flat_fit xs (k + 2 * tries b) (omega arith) t.1),
     )
     flat_fits (Leave n) k h t = tt
 
@@ -134,5 +163,6 @@ module _ (ms : File) (m : ℕ) where
     all_flat_fit Done k h t = tt
     all_flat_fit (Then s ss) k h t = (
       fits_more (k + 2 * tries s) (k + 2 * (tries s + all_tries ss)) (omega arith) (flat k s) (flat_fits s k h t.0),
-      all_fit_more (k + 2 * tries s + 2 * all_tries ss) (k + 2 * (tries s + all_tries ss)) (omega arith) (all_flat (k + 2 * tries s) ss) (all_flat_fit ss (k + 2 * tries s) (omega arith) t.1),
+      all_fit_more (k + 2 * tries s + 2 * all_tries ss) (k + 2 * (tries s + all_tries ss)) (omega arith)
+          (all_flat (k + 2 * tries s) ss) (all_flat_fit ss (k + 2 * tries s) (omega arith) t.1),
     )

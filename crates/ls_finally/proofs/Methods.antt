@@ -1,5 +1,6 @@
 -- Methods without `try` ask for the same, at every depth.
-use Rattle.std.proofs.Common.{◌≡◌, ℕ, zero, suc, ◌+◌, ◌*◌, List, [], ◌∷◌, ◌++◌, length, length-append, replicate, Option, Some, None, refl, sym, ap, ◌∙◌, arith}
+use Rattle.std.proofs.Common.{◌≡◌, ℕ, zero, suc, ◌+◌, ◌*◌, List, [], ◌∷◌, ◌++◌, length, length-append, replicate}
+use Rattle.std.proofs.Common.{Option, Some, None, refl, sym, ap, ◌∙◌, arith}
 use Rattle.std.proofs.Math.Path.{fun_ext}
 use Rattle.std.proofs.lemmas.List.{length-replicate}
 use Rattle.std.specs.Prelude.{slice_index, slice_get}
@@ -25,7 +26,8 @@ padded (w ∷ ws) n zero = refl
 padded (w ∷ ws) n (suc i) = padded ws n i
 
 -- the locals at the end don't matter
-forgets : (x : Course Completion) → told (finish x (λ c ls q. Ends c [] q)) (λ c ls q. given c q) ≡ told x (λ c ls q. given c q)
+forgets : (x : Course Completion) →
+    told (finish x (λ c ls q. Ends c [] q)) (λ c ls q. given c q) ≡ told x (λ c ls q. given c q)
 forgets (Asks a) = refl
 forgets (Ends c ls q) = refl
 forgets Stuck = refl
@@ -48,26 +50,48 @@ placed_at methods [] m t = tt
 placed_at methods (x ∷ xs) zero t = t.0
 placed_at methods (x ∷ xs) (suc m) t = placed_at methods xs m t.1
 
-module _ (methods : File) (calls calls' : Calls) (agree : (m : ℕ) (ws : List ℕ) (q : Answers) → Takes methods m (length ws) → calls' m ws q ≡ calls m ws q) where
-  body_ok : (o : Option Method) (ws : List ℕ) (q : Answers) → PlacedIn methods o → TakesIn o (length ws) → run_body calls' (flat_option o) ws q ≡ run_body calls o ws q
+module _ (methods : File) (calls calls' : Calls) (agree : (m : ℕ) (ws : List ℕ) (q : Answers) →
+    Takes methods m (length ws) → calls' m ws q ≡ calls m ws q) where
+  body_ok : (o : Option Method) (ws : List ℕ) (q : Answers) →
+      PlacedIn methods o →
+      TakesIn o (length ws) →
+      run_body calls' (flat_option o) ws q ≡ run_body calls o ws q
   body_ok None ws q t n = absurd n
   body_ok (Some g) ws q t n =
       let k : ℕ = g.arguments + g.locals in
-      let short : length (ws ++ replicate g.locals 0) ≡ length ws + g.locals = length-append ws (replicate g.locals 0) ∙ ap (λ i. length ws + i) (length-replicate g.locals 0) in
-      let long : length (ws ++ replicate (g.locals + 2 * tries g.body) 0) ≡ length ws + (g.locals + 2 * tries g.body) = length-append ws (replicate (g.locals + 2 * tries g.body) 0) ∙ ap (λ i. length ws + i) (length-replicate (g.locals + 2 * tries g.body) 0) in
-      sym (forgets (execute calls' (flat (g.arguments + g.locals) g.body) (ws ++ replicate (g.locals + 2 * tries g.body) 0) q))
-      ∙ ap (λ x. told x (λ c ls q. given c q)) (flat_ok (g.arguments + g.locals) (g.arguments + g.locals + 2 * tries g.body) calls' methods g.body (g.arguments + g.locals) (λ c ls q. Ends c [] q) (λ c ls q. Ends c [] q) t (omega arith) (omega arith) (λ c ls new q e a. refl)
+      let short : length (ws ++ replicate g.locals 0) ≡ length ws + g.locals = length-append ws (replicate g.locals 0) ∙
+      ap (λ i. length ws + i) (length-replicate g.locals 0) in
+      let long : length (ws ++ replicate (g.locals + 2 * tries g.body) 0) ≡ length ws + (g.locals + 2 * tries g.body) =
+      length-append ws (replicate (g.locals + 2 * tries g.body) 0) ∙
+      ap (λ i. length ws + i) (length-replicate (g.locals + 2 * tries g.body) 0) in
+      sym (forgets (execute calls' (flat (g.arguments + g.locals) g.body)
+      (ws ++ replicate (g.locals + 2 * tries g.body) 0) q))
+      ∙ ap (λ x. told x (λ c ls q. given c q)) (flat_ok (g.arguments + g.locals)
+      (g.arguments + g.locals + 2 * tries g.body) calls' methods g.body (g.arguments + g.locals)
+      (λ c ls q. Ends c [] q) (λ c ls q. Ends c [] q) t (omega arith) (omega arith) (λ c ls new q e a. refl)
       (ws ++ replicate g.locals 0) (ws ++ replicate (g.locals + 2 * tries g.body) 0) q (omega (arith, long, n))
-      (record { short = omega (arith, short, n); long = omega (arith, long, n); at = λ i l. padded ws (g.locals + 2 * tries g.body) i ∙ sym (padded ws g.locals i) }))
+      (record {
+        short = omega (arith, short, n);
+        long = omega (arith, long, n);
+        at = λ i l. padded ws (g.locals + 2 * tries g.body) i ∙ sym (padded ws g.locals i);
+      }))
       ∙ forgets (execute calls' g.body (ws ++ replicate g.locals 0) q)
-      ∙ ap (λ (f : List ℕ → Answers → Course Completion). told (f (ws ++ replicate g.locals 0) q) (λ c ls q. given c q)) (runs methods calls calls' agree (g.arguments + g.locals) g.body t)
+      ∙ ap (λ (f : List ℕ → Answers → Course Completion). told (f (ws ++ replicate g.locals 0) q) (λ c ls q. given c q))
+      (runs methods calls calls' agree (g.arguments + g.locals) g.body t)
 
-invoke_ok : (methods : File) → AllPlaced methods methods → (depth m : ℕ) (ws : List ℕ) (q : Answers) → Takes methods m (length ws) → invoke (flat_file methods) depth m ws q ≡ invoke methods depth m ws q
+invoke_ok : (methods : File) →
+    AllPlaced methods methods →
+    (depth m : ℕ) (ws : List ℕ) (q : Answers) →
+    Takes methods m (length ws) →
+    invoke (flat_file methods) depth m ws q ≡ invoke methods depth m ws q
 unfolding invoke
 invoke_ok methods t zero m ws q n = refl
 invoke_ok methods t (suc d) m ws q n =
-    ap (λ (o : Option Method). enter (Enter m) q (run_body (invoke (flat_file methods) d) o ws)) (slice_get-flat methods m)
-    ∙ ap (enter (Enter m) q) (fun_ext (λ q. body_ok methods (invoke methods d) (invoke (flat_file methods) d) (invoke_ok methods t d) (slice_get methods m) ws q (placed_at methods methods m t) n))
+    ap (λ (o : Option Method). enter (Enter m) q (run_body (invoke (flat_file methods) d) o ws))
+    (slice_get-flat methods m)
+    ∙ ap (enter (Enter m) q)
+    (fun_ext (λ q. body_ok methods (invoke methods d) (invoke (flat_file methods) d) (invoke_ok methods t d)
+    (slice_get methods m) ws q (placed_at methods methods m t) n))
 
 -- the law: the lowered tree keeps the courses of methods
 pub keeps : KeepsCourses

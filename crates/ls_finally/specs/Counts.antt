@@ -3,7 +3,8 @@ use Rattle.ls_lowered.specs.Limits.{most_locals}
 use Rattle.std.specs.Prelude.{ℕ, ◌+◌, ◌*◌, ◌≤◌, length, All}
 use Rattle.ls_lowered.specs.declared.fault.LowerFault.{LowerFault}
 use Rattle.ls_lowered.specs.declared.fault.LowerFault.TheVariants.{Memory, TooManyLocals, TooManyCopies}
-use Rattle.ls_lowered.specs.LoweredTree.{Statement, Block, If, While, Try, Guarded, Leavable, Statements, Done, Then, Method, File}
+use Rattle.ls_lowered.specs.LoweredTree.{Statement, Block, If, While, Try, Guarded, Leavable, Statements, Done, Then}
+use Rattle.ls_lowered.specs.LoweredTree.{Method, File}
 use Rattle.ls_finally_exits.specs.Exits.{exits, count}
 use Rattle.ls_finally.specs.Flat.{tries, flat}
 

@@ -1,6 +1,8 @@
 -- The tree without `try`. Inner statements are lowered first.
 use Rattle.std.specs.Prelude.{ℕ, ◌+◌, ◌*◌, map}
-use Rattle.ls_lowered.specs.LoweredTree.{Statement, Block, SetLocal, SetField, AddField, SetItem, Evaluate, If, While, Return, Try, Guarded, Throw, Leavable, Leave, Statements, Done, Then, Method, File}
+use Rattle.ls_lowered.specs.LoweredTree.{Statement, Block, SetLocal, SetField, AddField, SetItem, Evaluate, If, While}
+use Rattle.ls_lowered.specs.LoweredTree.{Return, Try, Guarded, Throw, Leavable, Leave, Statements, Done, Then, Method}
+use Rattle.ls_lowered.specs.LoweredTree.{File}
 use Rattle.ls_finally_exits.specs.Exits.{finally_of}
 
 -- the try statements

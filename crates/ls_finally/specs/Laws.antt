@@ -9,4 +9,5 @@ use Rattle.ls_finally.specs.Placed.{Takes, AllPlaced}
 
 abbrev pub KeepsCourses : Type 0
 KeepsCourses = (methods : File) → AllPlaced methods methods → (depth m : ℕ) (arguments : List ℕ) (answers : Answers) →
-    Takes methods m (length arguments) → invoke (flat_file methods) depth m arguments answers ≡ invoke methods depth m arguments answers
+    Takes methods m (length arguments) → invoke (flat_file methods) depth m arguments answers ≡ invoke methods depth m
+    arguments answers

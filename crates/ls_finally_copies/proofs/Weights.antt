@@ -2,7 +2,10 @@
 use Rattle.std.proofs.Common.{◌≡◌, ℕ, zero, suc, ◌+◌, ◌≤◌, List, [], ◌∷◌, drop, ap, arith}
 use Rattle.ls_lowered.specs.declared.tree.Statement as code
 use Rattle.ls_lowered.specs.Plain.{plain_statement, statements_of}
-use Rattle.ls_lowered.specs.LoweredTree.{Expression, Word, Local, Unary, Binary, And, Or, Hold, Keep, After, Field, Item, SetFirst, ReadPair, SetPair, SwapPair, AttemptMark, OnLock, Call, MakeObject, MakeLock, MakeMarkable, MakeArray, Expressions, End, More, Statement, Block, If, While, Try, Guarded, Leavable, Statements, Done, Then}
+use Rattle.ls_lowered.specs.LoweredTree.{Expression, Word, Local, Unary, Binary, And, Or, Hold, Keep, After, Field}
+use Rattle.ls_lowered.specs.LoweredTree.{Item, SetFirst, ReadPair, SetPair, SwapPair, AttemptMark, OnLock, Call}
+use Rattle.ls_lowered.specs.LoweredTree.{MakeObject, MakeLock, MakeMarkable, MakeArray, Expressions, End, More}
+use Rattle.ls_lowered.specs.LoweredTree.{Statement, Block, If, While, Try, Guarded, Leavable, Statements, Done, Then}
 
 abbrev mutual
   -- how much there is to do at an expression
@@ -58,8 +61,11 @@ sizes_drop (x ∷ xs) zero = omega arith
 sizes_drop (x ∷ xs) (suc i) = let l = sizes_drop xs i in omega (arith, l)
 
 -- a statement of a block is no larger
-pub size_at : (xs : List code.Statement) (i : ℕ) (s : code.Statement) → drop i xs ≡ s ∷ drop (i + 1) xs → size (plain_statement s) ≤ sizes (statements_of xs)
+pub size_at : (xs : List code.Statement) (i : ℕ) (s : code.Statement) →
+    drop i xs ≡ s ∷ drop (i + 1) xs →
+    size (plain_statement s) ≤ sizes (statements_of xs)
 size_at xs i s split =
-    let e : sizes (statements_of (drop i xs)) ≡ size (plain_statement s) + sizes (statements_of (drop (i + 1) xs)) = ap (λ (ys : List code.Statement). sizes (statements_of ys)) split in
+    let e : sizes (statements_of (drop i xs)) ≡ size (plain_statement s) + sizes (statements_of (drop (i + 1) xs)) = ap
+    (λ (ys : List code.Statement). sizes (statements_of ys)) split in
     let l = sizes_drop xs i in
     omega (arith, e, l)

@@ -14,20 +14,27 @@ pub record Going (r l first : ℕ) (whole done : List Statement) (next : ℕ) (r
 
 -- the exits of a block are those of its first statement and the others'
 exits_split : (l : ℕ) (items rest : List Statement) (s : Statement) → items ≡ s ∷ rest →
-    length (all_exits l (statements_of items)) ≡ length (exits l (plain_statement s)) + length (all_exits l (statements_of rest))
+    length (all_exits l (statements_of items)) ≡ length (exits l (plain_statement s)) + length
+    (all_exits l (statements_of rest))
 exits_split l items rest s split =
-    ap (λ (xs : List Statement). length (all_exits l (statements_of xs))) split ∙ length-append (exits l (plain_statement s)) (all_exits l (statements_of rest))
+    ap (λ (xs : List Statement). length (all_exits l (statements_of xs))) split ∙
+    length-append (exits l (plain_statement s)) (all_exits l (statements_of rest))
 
-pub goes_on : (r l first : ℕ) (whole done new : List Statement) (next after : ℕ) (items rest : List Statement) (s t : Statement) → items ≡ s ∷ rest →
-    new ≡ done ++ t ∷ [] → plain_statement t ≡ replaced r l next (plain_statement s) → after ≡ next + length (exits l (plain_statement s)) →
+pub goes_on : (r l first : ℕ) (whole done new : List Statement) (next after : ℕ) (items rest : List Statement)
+    (s t : Statement) →
+    items ≡ s ∷ rest →
+    new ≡ done ++ t ∷ [] → plain_statement t ≡ replaced r l next (plain_statement s) →
+    after ≡ next + length (exits l (plain_statement s)) →
     Going r l first whole done next items → Going r l first whole new after rest
 goes_on r l first whole done new next after items rest s t split pushed is ends g =
     let e = exits_split l items rest s split in
     let c = g.count in
     let h = g.room in record {
       tree =
-          one_made done new t (replaced r l next (plain_statement s)) (all_replaced r l after (statements_of rest)) pushed is
-          ∙ ap (λ n. in_front done (Then (replaced r l next (plain_statement s)) (all_replaced r l n (statements_of rest)))) ends
+          one_made done new t (replaced r l next (plain_statement s)) (all_replaced r l after (statements_of rest))
+          pushed is
+          ∙ ap (λ n. in_front done (Then (replaced r l next (plain_statement s))
+          (all_replaced r l n (statements_of rest)))) ends
           ∙ ap (λ (xs : List Statement). in_front done (all_replaced r l next (statements_of xs))) (sym split)
           ∙ g.tree;
       count = omega (arith, e, c, ends);
@@ -35,7 +42,9 @@ goes_on r l first whole done new next after items rest s t split pushed is ends 
     }
 
 -- a statement of a block has room
-pub one_fits : (r l first : ℕ) (whole done : List Statement) (next : ℕ) (items rest : List Statement) (s : Statement) → items ≡ s ∷ rest → Going r l first whole done next items →
+pub one_fits : (r l first : ℕ) (whole done : List Statement) (next : ℕ) (items rest : List Statement) (s : Statement) →
+    items ≡ s ∷ rest →
+    Going r l first whole done next items →
     next + length (exits l (plain_statement s)) ≤ 10000
 one_fits r l first whole done next items rest s split g =
     let e = exits_split l items rest s split in

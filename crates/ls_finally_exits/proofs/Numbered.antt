@@ -11,8 +11,11 @@ numbers_drop (x ∷ xs) zero = omega arith
 numbers_drop (x ∷ xs) (suc i) = let l = numbers_drop xs i in omega (arith, l)
 
 -- a statement of a block has no more
-pub numbers_at : (xs : List Statement) (i : ℕ) (s : Statement) → drop i xs ≡ s ∷ drop (i + 1) xs → numbers (plain_statement s) ≤ all_numbers (statements_of xs)
+pub numbers_at : (xs : List Statement) (i : ℕ) (s : Statement) →
+    drop i xs ≡ s ∷ drop (i + 1) xs →
+    numbers (plain_statement s) ≤ all_numbers (statements_of xs)
 numbers_at xs i s split =
-    let e : all_numbers (statements_of (drop i xs)) ≡ numbers (plain_statement s) + all_numbers (statements_of (drop (i + 1) xs)) = ap (λ (ys : List Statement). all_numbers (statements_of ys)) split in
+    let e : all_numbers (statements_of (drop i xs)) ≡ numbers (plain_statement s) + all_numbers
+    (statements_of (drop (i + 1) xs)) = ap (λ (ys : List Statement). all_numbers (statements_of ys)) split in
     let l = numbers_drop xs i in
     omega (arith, e, l)

@@ -10,4 +10,5 @@ is_inside (suc l) (suc n) h = is_inside l n (omega arith)
 pub is_beyond : (l n : ℕ) → l ≤ n → outward l n ≡ Some (n - l)
 is_beyond zero n h = let e : n ≡ n - 0 = omega arith in ap (λ (m : ℕ). Some m) e
 is_beyond (suc l) zero h = absurd (let z : ⊥ = omega arith in z)
-is_beyond (suc l) (suc n) h = let e : n - l ≡ suc n - suc l = omega arith in is_beyond l n (omega arith) ∙ ap (λ (m : ℕ). Some m) e
+is_beyond (suc l) (suc n) h = let e : n - l ≡ suc n - suc l = omega arith in is_beyond l n (omega arith) ∙
+    ap (λ (m : ℕ). Some m) e

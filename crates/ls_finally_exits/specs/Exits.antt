@@ -1,8 +1,10 @@
--- `try b finally f` by copies of f, where b and f have no `try` left (JLS 14.20.2). Each exit of b gets its own copy, and
+-- `try b finally f` by copies of f, where b and f have no `try` left (JLS 14.20.2). Each exit of b gets its own copy,
+-- and
 -- none of them lies in the region that is guarded.
 use Rattle.std.specs.Prelude.{ℕ, zero, suc, ◌+◌, List, [], ◌∷◌, ◌++◌, length, Option, Some, None}
 use Rattle.ls_finally_copies.specs.Ways.{both, guarded, first_ways}
-use Rattle.ls_lowered.specs.LoweredTree.{Statement, Block, SetLocal, SetField, AddField, SetItem, Evaluate, If, While, Return, Try, Guarded, Throw, Leavable, Leave, Statements, Done, Then, Local}
+use Rattle.ls_lowered.specs.LoweredTree.{Statement, Block, SetLocal, SetField, AddField, SetItem, Evaluate, If, While}
+use Rattle.ls_lowered.specs.LoweredTree.{Return, Try, Guarded, Throw, Leavable, Leave, Statements, Done, Then, Local}
 
 -- how far a leave goes beyond so many numbers
 abbrev pub outward : (inside n : ℕ) → Option ℕ
@@ -50,7 +52,8 @@ abbrev pub or_leave : Option ℕ → ℕ → ℕ → Statement
 or_leave None n j = Leave n
 or_leave (Some beyond) n j = Leave j
 
--- a statement inside so many numbers, with each of its exits as a leave of its own, numbered from j on beyond these; a value that
+-- a statement inside so many numbers, with each of its exits as a leave of its own, numbered from j on beyond these; a
+-- value that
 -- is returned is kept in local r
 abbrev mutual
   pub replaced : ℕ → ℕ → ℕ → Statement → Statement
@@ -84,7 +87,8 @@ abbrev pub ways : ℕ → Statement → List Exit → Statements
 ways r f [] = Done
 ways r f (x ∷ xs) = Then (both f (exit_of r x)) (ways r f xs)
 
--- Locals k and k + 1 keep the kind of a throw and a value that is returned while f runs. Exit 0 is where b completes normally,
+-- Locals k and k + 1 keep the kind of a throw and a value that is returned while f runs. Exit 0 is where b completes
+-- normally,
 -- exit 1 where it throws, and the others are the exits of b.
 abbrev pub finally_of : ℕ → Statement → Statement → Statement
 finally_of k b f =

@@ -1,5 +1,6 @@
 -- Without the instructions that exchange a lock's word, no thread has a plan for one.
-use Rattle.std.proofs.Common.{◌≡◌, ℕ, ◌+◌, Bool, true, false, not, ◌&&◌, ◌==◌, ◌%◌, ◌^◌, nat_le, nat_lt, List, length, Option, Some, None, slice_get, subst, refl, ap, arith, if◌then◌else◌, pos, All}
+use Rattle.std.proofs.Common.{◌≡◌, ℕ, ◌+◌, Bool, true, false, not, ◌&&◌, ◌==◌, ◌%◌, ◌^◌, nat_le, nat_lt, List, length}
+use Rattle.std.proofs.Common.{Option, Some, None, slice_get, subst, refl, ap, arith, if◌then◌else◌, pos, All}
 use Rattle.ls_events.specs.declared.kind.Kind.{Kind}
 use Rattle.ls_events.specs.declared.kind.Kind.TheVariants.{NegativeArraySize}
 use Rattle.ls_events.specs.declared.action.Action.TheVariants.{NewArray, Call}
@@ -10,9 +11,11 @@ use Rattle.ls_code.specs.Code.{Code}
 use Rattle.ls_code.specs.Frame.{Frame, top_one, top_two, top_three}
 use Rattle.ls_code.specs.Thread.{Thread}
 use Rattle.ls_code.specs.Kinds.{kind_of}
-use Rattle.ls_code.specs.Moves.{FrameMove, Next, Throws, Stuck, Asks as FrameAsks, Beyond, frame_move, with_room, on_one, on_two, on_three, at_object}
+use Rattle.ls_code.specs.Moves.{FrameMove, Next, Throws, Stuck, Asks as FrameAsks, Beyond, frame_move, with_room}
+use Rattle.ls_code.specs.Moves.{on_one, on_two, on_three, at_object}
 use Rattle.ls_code.specs.Calls.{CallMove, Calls, CallThrows, CallStuck, enter_move, call_begun}
-use Rattle.ls_code.specs.Steps.{Move, Still, Asks, Plans, silent_or_still, call_move, on_top, on_kind, value_move, found_move, of_frame}
+use Rattle.ls_code.specs.Steps.{Move, Still, Asks, Plans, silent_or_still, call_move, on_top, on_kind, value_move}
+use Rattle.ls_code.specs.Steps.{found_move, of_frame}
 use Rattle.ls_code.specs.declared.code.Method.{Method}
 use Rattle.ls_code.specs.declared.code.CallResult.{CallResult}
 use Rattle.ls_code.specs.declared.code.CallResult.TheVariants as result
@@ -48,7 +51,9 @@ two_plain : (o : Option (ℕ × ℕ)) (go : ℕ → ℕ → FrameMove) → ((a b
 two_plain None go h = tt
 two_plain (Some p) go h = h p.0 p.1
 
-three_plain : (o : Option (ℕ × ℕ × ℕ)) (go : ℕ → ℕ → ℕ → FrameMove) → ((a b c : ℕ) → IsPlain (go a b c)) → IsPlain (on_three o go)
+three_plain : (o : Option (ℕ × ℕ × ℕ)) (go : ℕ → ℕ → ℕ → FrameMove) →
+    ((a b c : ℕ) → IsPlain (go a b c)) →
+    IsPlain (on_three o go)
 three_plain None go h = tt
 three_plain (Some p) go h = h p.0 p.1 p.2
 
@@ -94,7 +99,9 @@ frame_plain (op.PutName x) f h = one_plain (top_one f.operands) _ (λ a. tt)
 frame_plain (op.NewObject x) f h = room_plain f _ tt
 frame_plain op.NewLock f h = room_plain f _ tt
 frame_plain op.NewMarkable f h = one_plain (top_one f.operands) _ (λ a. tt)
-frame_plain op.NewArray f h = one_plain (top_one f.operands) _ (λ a. if_plain (int_lt (int_of a) (pos 0)) (Throws NegativeArraySize) (FrameAsks (NewArray (int_of a)) (Settle 1)) tt tt)
+frame_plain op.NewArray f h = one_plain (top_one f.operands) _
+    (λ a. if_plain (int_lt (int_of a) (pos 0)) (Throws NegativeArraySize) (FrameAsks (NewArray (int_of a)) (Settle 1))
+    tt tt)
 frame_plain op.Lock f h = one_plain (top_one f.operands) _ (λ a. object_plain a _ tt)
 frame_plain op.Unlock f h = one_plain (top_one f.operands) _ (λ a. object_plain a _ tt)
 frame_plain op.TryLock f h = one_plain (top_one f.operands) _ (λ a. object_plain a _ tt)
@@ -163,10 +170,14 @@ of_none p t (Beyond wide.Halt) h = tt
 of_none p t (Beyond (wide.Enter x)) h = found_none p t x (slice_get p.methods x)
 of_none p t (Beyond wide.Leave) h = silent_none _
 of_none p t (Beyond wide.LeaveWith) h = top_none (top_one t.top.operands) _ (λ w. silent_none _)
-of_none p t (Beyond wide.Throw) h = top_none (top_one t.top.operands) _ (λ w. kind_none (kind_of w) _ (λ k. silent_none _))
-of_none p t (Beyond (wide.Call x)) h = if_none (not t.pending && (x == t.ended + 1) && nat_le x (length t.calls)) (Asks (Call x) (λ answer. Some (call_begun t))) Still tt tt
-of_none p t (Beyond (wide.Result x)) h = if_none (t.pending && (x == t.ended + 1)) (value_move t x (slice_get t.calls t.ended)) Still (value_none t x (slice_get t.calls t.ended)) tt
-of_none p t (Beyond wide.Trap) h = if_none t.pending _ _ (top_none (top_one t.top.operands) _ (λ w. kind_none (kind_of w) _ (λ k. tt))) tt
+of_none p t (Beyond wide.Throw) h = top_none (top_one t.top.operands) _
+    (λ w. kind_none (kind_of w) _ (λ k. silent_none _))
+of_none p t (Beyond (wide.Call x)) h = if_none (not t.pending && (x == t.ended + 1) && nat_le x (length t.calls))
+    (Asks (Call x) (λ answer. Some (call_begun t))) Still tt tt
+of_none p t (Beyond (wide.Result x)) h = if_none (t.pending && (x == t.ended + 1))
+    (value_move t x (slice_get t.calls t.ended)) Still (value_none t x (slice_get t.calls t.ended)) tt
+of_none p t (Beyond wide.Trap) h = if_none t.pending _ _ (top_none (top_one t.top.operands) _
+    (λ w. kind_none (kind_of w) _ (λ k. tt))) tt
 of_none p t (Beyond (wide.See x)) h = absurd h
 of_none p t (Beyond (wide.Take x)) h = absurd h
 of_none p t (Beyond (wide.DropLock x)) h = absurd h
@@ -320,7 +331,8 @@ back_there x (Some op.Eq) e = cc
 back_there x (Some op.Ne) e = cc
 back_there x (Some op.Not) e = cc
 back_there x (Some (op.Jump y)) e = cc
-back_there x (Some (op.JumpIfFalse y)) e = (let s : y ≡ x = grind (arith, nat_tests) in ap (λ z. Some (op.JumpIfFalse z)) s)
+back_there x (Some (op.JumpIfFalse y)) e = (let s : y ≡ x = grind (arith, nat_tests) in
+    ap (λ z. Some (op.JumpIfFalse z)) s)
 back_there x (Some (op.JumpIfTrue y)) e = cc
 back_there x (Some (op.Turn y)) e = cc
 back_there x (Some (op.GetField y)) e = cc

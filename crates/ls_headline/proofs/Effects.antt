@@ -1,5 +1,6 @@
 -- What it means that an action does to the cells what it does to the store.
-use Rattle.std.proofs.Common.{◌≡◌, ℕ, zero, suc, ◌+◌, ◌<◌, ◌≤◌, List, [], ◌∷◌, ◌++◌, length, Some, refl, ap, ◌∙◌, subst, slice_get, slice_set}
+use Rattle.std.proofs.Common.{◌≡◌, ℕ, zero, suc, ◌+◌, ◌<◌, ◌≤◌, List, [], ◌∷◌, ◌++◌, length, Some, refl, ap, ◌∙◌, subst}
+use Rattle.std.proofs.Common.{slice_get, slice_set}
 use Rattle.ls_events.specs.declared.value.Value.{Value}
 use Rattle.ls_events.specs.declared.value.Value.TheVariants.{Int, Boolean, Reference, Pair}
 use Rattle.ls_events.specs.declared.value.ValueType.{ValueType}
@@ -33,7 +34,8 @@ IsHold (HeldBy owner holds) = (1 ≤ holds) × (holds ≤ 2147483647)
 
 -- a thing of a type: its parts have the types that they should have
 abbrev pub ThingHas : List Class → List ValueType → Thing → ValueType → Type 0
-ThingHas classes σ (Object monitor vs) (type.Class c) = (c < length classes) × HaveTypes σ vs (fields_of classes c) × IsHold monitor
+ThingHas classes σ (Object monitor vs) (type.Class c) = (c < length classes) × HaveTypes σ vs (fields_of classes c) ×
+    IsHold monitor
 ThingHas classes σ (LockOf hold) type.Lock = IsHold hold
 ThingHas classes σ (Markable v) (type.Markable c) = HasSortBy (Refers σ) v (PairOf c)
 ThingHas classes σ (Array size items) type.BooleanArray = (i : ℕ) → i < size → HasType σ (items i) type.Boolean
@@ -49,7 +51,11 @@ ThingsHave classes σ _ _ = ⊥
 abbrev pub Extends : List ValueType → List ValueType → Type 0
 Extends σ σ' = (n : ℕ) (s : ValueType) → slice_get σ n ≡ Some s → slice_get σ' n ≡ Some s
 
-pub type_more : (P Q : ℕ → ValueType → Type 0) → ((n : ℕ) (s : ValueType) → P n s → Q n s) → (v : Value) (s : ValueType) → HasTypeBy P v s → HasTypeBy Q v s
+pub type_more : (P Q : ℕ → ValueType → Type 0) →
+    ((n : ℕ) (s : ValueType) → P n s → Q n s) →
+    (v : Value) (s : ValueType) →
+    HasTypeBy P v s →
+    HasTypeBy Q v s
 type_more P Q f (Int z) type.Int h = h
 type_more P Q f (Boolean b) type.Boolean h = tt
 type_more P Q f (Reference n) type.BooleanArray h = f n type.BooleanArray h
@@ -59,7 +65,11 @@ type_more P Q f (Reference n) (type.Markable c) h = f n (type.Markable c) h
 type_more P Q f _ _ h = absurd h
 
 -- a value keeps its sort if less is asked of a reference
-pub sort_more : (P Q : ℕ → ValueType → Type 0) → ((n : ℕ) (s : ValueType) → P n s → Q n s) → (v : Value) (s : Sort) → HasSortBy P v s → HasSortBy Q v s
+pub sort_more : (P Q : ℕ → ValueType → Type 0) →
+    ((n : ℕ) (s : ValueType) → P n s → Q n s) →
+    (v : Value) (s : Sort) →
+    HasSortBy P v s →
+    HasSortBy Q v s
 sort_more P Q f v (ValueOf t) h = type_more P Q f v t h
 sort_more P Q f (Reference n) (NewOf t) h = (h.0, f n t h.1)
 sort_more P Q f (Pair n m) (PairOf c) h = f n (type.Class c) h
@@ -71,14 +81,23 @@ refers_more σ σ' e zero s h = tt
 refers_more σ σ' e (suc n) s h = e n s h
 
 -- values keep their types if there are more things
-pub many_more : (σ σ' : List ValueType) → Extends σ σ' → (vs : List Value) (ss : List ValueType) → HaveTypes σ vs ss → HaveTypes σ' vs ss
+pub many_more : (σ σ' : List ValueType) →
+    Extends σ σ' →
+    (vs : List Value) (ss : List ValueType) →
+    HaveTypes σ vs ss →
+    HaveTypes σ' vs ss
 many_more σ σ' e [] [] h = tt
 many_more σ σ' e [] (s ∷ ss) h = absurd h
 many_more σ σ' e (v ∷ vs) [] h = absurd h
-many_more σ σ' e (v ∷ vs) (s ∷ ss) h = (type_more (Refers σ) (Refers σ') (refers_more σ σ' e) v s h.0, many_more σ σ' e vs ss h.1)
+many_more σ σ' e (v ∷ vs) (s ∷ ss) h = (
+  type_more (Refers σ) (Refers σ') (refers_more σ σ' e) v s h.0,
+  many_more σ σ' e vs ss h.1,
+)
 
 -- there are as many values as types
-pub many_length : (σ : List ValueType) (vs : List Value) (ss : List ValueType) → HaveTypes σ vs ss → length vs ≡ length ss
+pub many_length : (σ : List ValueType) (vs : List Value) (ss : List ValueType) →
+    HaveTypes σ vs ss →
+    length vs ≡ length ss
 many_length σ [] [] h = refl
 many_length σ [] (s ∷ ss) h = absurd h
 many_length σ (v ∷ vs) [] h = absurd h
@@ -86,29 +105,46 @@ many_length σ (v ∷ vs) (s ∷ ss) h = ap suc (many_length σ vs ss h.1)
 
 module _ (classes : List Class) where
   -- a thing keeps its type if there are more things
-  pub thing_more : (σ σ' : List ValueType) → Extends σ σ' → (o : Thing) (s : ValueType) → ThingHas classes σ o s → ThingHas classes σ' o s
+  pub thing_more : (σ σ' : List ValueType) →
+      Extends σ σ' →
+      (o : Thing) (s : ValueType) →
+      ThingHas classes σ o s →
+      ThingHas classes σ' o s
   thing_more σ σ' e (Object monitor vs) (type.Class c) h = (h.0, many_more σ σ' e vs (fields_of classes c) h.1, h.2)
   thing_more σ σ' e (LockOf hold) type.Lock h = h
-  thing_more σ σ' e (Markable v) (type.Markable c) h = sort_more (Refers σ) (Refers σ') (refers_more σ σ' e) v (PairOf c) h
-  thing_more σ σ' e (Array n items) type.BooleanArray h = λ i l. type_more (Refers σ) (Refers σ') (refers_more σ σ' e) (items i) type.Boolean (h i l)
+  thing_more σ σ' e (Markable v) (type.Markable c) h = sort_more (Refers σ) (Refers σ') (refers_more σ σ' e) v
+      (PairOf c) h
+  thing_more σ σ' e (Array n items) type.BooleanArray h = λ i l.
+      type_more (Refers σ) (Refers σ') (refers_more σ σ' e) (items i) type.Boolean (h i l)
   thing_more σ σ' e _ _ h = absurd h
 
   -- things keep their types if there are more things
-  pub things_more : (σ σ' : List ValueType) → Extends σ σ' → (os : List Thing) (ss : List ValueType) → ThingsHave classes σ os ss → ThingsHave classes σ' os ss
+  pub things_more : (σ σ' : List ValueType) →
+      Extends σ σ' →
+      (os : List Thing) (ss : List ValueType) →
+      ThingsHave classes σ os ss →
+      ThingsHave classes σ' os ss
   things_more σ σ' e [] [] h = tt
   things_more σ σ' e [] (s ∷ ss) h = absurd h
   things_more σ σ' e (o ∷ os) [] h = absurd h
   things_more σ σ' e (o ∷ os) (s ∷ ss) h = (thing_more σ σ' e o s h.0, things_more σ σ' e os ss h.1)
 
   -- one more thing of its type
-  pub things_end : (σ : List ValueType) (os : List Thing) (ss : List ValueType) (o : Thing) (s : ValueType) → ThingsHave classes σ os ss → ThingHas classes σ o s → ThingsHave classes σ (os ++ o ∷ []) (ss ++ s ∷ [])
+  pub things_end : (σ : List ValueType) (os : List Thing) (ss : List ValueType) (o : Thing) (s : ValueType) →
+      ThingsHave classes σ os ss →
+      ThingHas classes σ o s →
+      ThingsHave classes σ (os ++ o ∷ []) (ss ++ s ∷ [])
   things_end σ [] [] o s h g = (g, tt)
   things_end σ [] (r ∷ ss) o s h g = absurd h
   things_end σ (p ∷ os) [] o s h g = absurd h
   things_end σ (p ∷ os) (r ∷ ss) o s h g = (h.0, things_end σ os ss o s h.1 g)
 
   -- a thing is replaced by one of the same type
-  pub things_set : (σ : List ValueType) (os : List Thing) (ss : List ValueType) (n : ℕ) (o : Thing) (s : ValueType) → ThingsHave classes σ os ss → slice_get ss n ≡ Some s → ThingHas classes σ o s → ThingsHave classes σ (slice_set os n o) ss
+  pub things_set : (σ : List ValueType) (os : List Thing) (ss : List ValueType) (n : ℕ) (o : Thing) (s : ValueType) →
+      ThingsHave classes σ os ss →
+      slice_get ss n ≡ Some s →
+      ThingHas classes σ o s →
+      ThingsHave classes σ (slice_set os n o) ss
   things_set σ [] [] n o s h e g = tt
   things_set σ [] (r ∷ ss) n o s h e g = absurd h
   things_set σ (p ∷ os) [] n o s h e g = absurd h
@@ -116,22 +152,31 @@ module _ (classes : List Class) where
   things_set σ (p ∷ os) (r ∷ ss) (suc n) o s h e g = (h.0, things_set σ os ss n o s h.1 e g)
 
   -- there are as many things as types
-  pub things_length : (σ : List ValueType) (os : List Thing) (ss : List ValueType) → ThingsHave classes σ os ss → length ss ≡ length os
+  pub things_length : (σ : List ValueType) (os : List Thing) (ss : List ValueType) →
+      ThingsHave classes σ os ss →
+      length ss ≡ length os
   things_length σ [] [] h = refl
   things_length σ [] (s ∷ ss) h = absurd h
   things_length σ (o ∷ os) [] h = absurd h
   things_length σ (o ∷ os) (s ∷ ss) h = ap suc (things_length σ os ss h.1)
 
   -- the thing that a reference names
-  pub thing_there : (σ : List ValueType) (os : List Thing) (ss : List ValueType) (n : ℕ) (s : ValueType) → ThingsHave classes σ os ss → slice_get ss n ≡ Some s → (o : Thing) × (slice_get os n ≡ Some o) × ThingHas classes σ o s
+  pub thing_there : (σ : List ValueType) (os : List Thing) (ss : List ValueType) (n : ℕ) (s : ValueType) →
+      ThingsHave classes σ os ss →
+      slice_get ss n ≡ Some s →
+      (o : Thing) × (slice_get os n ≡ Some o) × ThingHas classes σ o s
   thing_there σ [] [] n s h e = cc
   thing_there σ [] (r ∷ ss) n s h e = absurd h
   thing_there σ (o ∷ os) [] n s h e = absurd h
-  thing_there σ (o ∷ os) (r ∷ ss) zero s h e = let e1 : r ≡ s = cc in (o, refl, subst (λ z. ThingHas classes σ o z) e1 h.0)
+  thing_there σ (o ∷ os) (r ∷ ss) zero s h e = let e1 : r ≡ s = cc in
+      (o, refl, subst (λ z. ThingHas classes σ o z) e1 h.0)
   thing_there σ (o ∷ os) (r ∷ ss) (suc n) s h e = thing_there σ os ss n s h.1 e
 
 -- the value of a type in the list exists
-pub value_there : (σ : List ValueType) (vs : List Value) (ss : List ValueType) (f : ℕ) (s : ValueType) → HaveTypes σ vs ss → slice_get ss f ≡ Some s → (v : Value) × (slice_get vs f ≡ Some v) × HasType σ v s
+pub value_there : (σ : List ValueType) (vs : List Value) (ss : List ValueType) (f : ℕ) (s : ValueType) →
+    HaveTypes σ vs ss →
+    slice_get ss f ≡ Some s →
+    (v : Value) × (slice_get vs f ≡ Some v) × HasType σ v s
 value_there σ [] [] f s h e = cc
 value_there σ [] (r ∷ ss) f s h e = absurd h
 value_there σ (v ∷ vs) [] f s h e = absurd h
@@ -139,7 +184,11 @@ value_there σ (v ∷ vs) (r ∷ ss) zero s h e = let e1 : r ≡ s = cc in (v, r
 value_there σ (v ∷ vs) (r ∷ ss) (suc f) s h e = value_there σ vs ss f s h.1 e
 
 -- a value is replaced by one of the same type
-pub values_set : (σ : List ValueType) (vs : List Value) (ss : List ValueType) (f : ℕ) (v : Value) (s : ValueType) → HaveTypes σ vs ss → slice_get ss f ≡ Some s → HasType σ v s → HaveTypes σ (slice_set vs f v) ss
+pub values_set : (σ : List ValueType) (vs : List Value) (ss : List ValueType) (f : ℕ) (v : Value) (s : ValueType) →
+    HaveTypes σ vs ss →
+    slice_get ss f ≡ Some s →
+    HasType σ v s →
+    HaveTypes σ (slice_set vs f v) ss
 values_set σ [] [] f v s h e g = tt
 values_set σ [] (r ∷ ss) f v s h e g = absurd h
 values_set σ (p ∷ vs) [] f v s h e g = absurd h
@@ -155,7 +204,8 @@ abbrev pub renaming : ℕ → Store → ℕ → ℕ
 renaming names st = address names (sizes_of st.things)
 
 -- The cells hold the store, whose things and names have these types.
-pub record Holds (classes : List Class) (named : List ValueType) (sizes : List ℕ) (room : ℕ) (σ : List ValueType) (st : Store) (c : Cells) : Type 0 where
+pub record Holds (classes : List Class) (named : List ValueType) (sizes : List ℕ) (room : ℕ) (σ : List ValueType)
+    (st : Store) (c : Cells) : Type 0 where
   pub words : c.words ≡ all_cells (renaming (length named) st) st.names st.things
   pub limit : c.limit ≡ room
   pub count : c.names ≡ length named
@@ -171,18 +221,31 @@ pub record Grows (names : ℕ) (st st' : Store) : Type 0 where
   pub cells : total st.things ≤ total st'.things
 
 -- both did the same
-pub record Done (classes : List Class) (named : List ValueType) (sizes : List ℕ) (room : ℕ) (σ : List ValueType) (st : Store) (a : Action Value) (s : Sort) (st' : Store) (x : Answer Value) (c' : Cells) (w : Answer ℕ) : Type 0 where
-  pub sorts : List ValueType
-  pub extends : Extends σ sorts
-  pub holds : Holds classes named sizes room sorts st' c'
-  pub suits : Suits (Refers sorts) (Goes a s) x
-  pub word : w ≡ map_answer (written (renaming (length named) st')) x
-  pub grows : Grows (length named) st st'
+pub record Done (classes : List Class) (named : List ValueType) (sizes : List ℕ) (room : ℕ) (σ : List ValueType)
+    (st : Store) (a : Action Value) (s : Sort) (st' : Store) (x : Answer Value) (c' : Cells) (w : Answer ℕ) : Type 0
+  where
+    pub sorts : List ValueType
+    pub extends : Extends σ sorts
+    pub holds : Holds classes named sizes room sorts st' c'
+    pub suits : Suits (Refers sorts) (Goes a s) x
+    pub word : w ≡ map_answer (written (renaming (length named) st')) x
+    pub grows : Grows (length named) st st'
 
 -- What an action does on both sides agrees. Both wait, or both answer and the cells hold the new store; or the machine
 -- stops, since there is no room.
-abbrev pub Agrees : List Class → List ValueType → List ℕ → ℕ → List ValueType → Store → Action Value → Sort → Effect → machine.Effect → Type 0
+abbrev pub Agrees : List Class →
+    List ValueType →
+    List ℕ →
+    ℕ →
+    List ValueType →
+    Store →
+    Action Value →
+    Sort →
+    Effect →
+    machine.Effect →
+    Type 0
 Agrees classes named sizes room σ st a s Waits machine.Waits = Unit {0}
-Agrees classes named sizes room σ st a s (Does st' x) (machine.Answers c' w) = Done classes named sizes room σ st a s st' x c' w
+Agrees classes named sizes room σ st a s (Does st' x) (machine.Answers c' w) = Done classes named sizes room σ st a s
+    st' x c' w
 Agrees classes named sizes room σ st a s (Does st' x) machine.Stops = room < length named + total st'.things
 Agrees classes named sizes room σ st a s _ _ = ⊥

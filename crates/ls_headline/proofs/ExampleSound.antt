@@ -51,14 +51,21 @@ module _ (σ : List ValueType) where
   suits_at : (d e : Next) (x : Answer Value) → d ≡ e → Suits (Refers σ) d x → Suits (Refers σ) e x
   suits_at d e x p h = subst (λ z. Suits (Refers σ) z x) p h
 
-  lock_holds : (x y : Answer Value) (n k : ℕ) (rest : Answers) → Refers σ (suc k) type.Lock → HoldsAt σ 1 (next file program 1 (x ∷ (Gives (Reference (suc n)) ∷ (y ∷ (Gives (Reference (suc k)) ∷ rest)))))
+  lock_holds : (x y : Answer Value) (n k : ℕ) (rest : Answers) →
+      Refers σ (suc k) type.Lock →
+      HoldsAt σ 1 (next file program 1 (x ∷ (Gives (Reference (suc n)) ∷ (y ∷ (Gives (Reference (suc k)) ∷ rest)))))
   lock_holds x y n k [] g = at 1 _ _ (next_further x y (suc n) (suc k) [] (some n) (some k)) (g, refl)
   lock_holds x y n k (Did ∷ []) g = at 1 _ _ (next_further x y (suc n) (suc k) (Did ∷ []) (some n) (some k)) (tt, refl)
-  lock_holds x y n k (Did ∷ (w ∷ rest)) g = at 1 _ _ (next_further x y (suc n) (suc k) (Did ∷ (w ∷ rest)) (some n) (some k)) tt
-  lock_holds x y n k (Gives v ∷ []) g = at 1 _ _ (next_further x y (suc n) (suc k) (Gives v ∷ []) (some n) (some k)) (tt, refl)
-  lock_holds x y n k (Gives v ∷ (w ∷ rest)) g = at 1 _ _ (next_further x y (suc n) (suc k) (Gives v ∷ (w ∷ rest)) (some n) (some k)) tt
-  lock_holds x y n k (Fails e ∷ []) g = at 1 _ _ (next_further x y (suc n) (suc k) (Fails e ∷ []) (some n) (some k)) refl
-  lock_holds x y n k (Fails e ∷ (w ∷ rest)) g = at 1 _ _ (next_further x y (suc n) (suc k) (Fails e ∷ (w ∷ rest)) (some n) (some k)) tt
+  lock_holds x y n k (Did ∷ (w ∷ rest)) g = at 1 _ _ (next_further x y (suc n) (suc k) (Did ∷ (w ∷ rest)) (some n)
+      (some k)) tt
+  lock_holds x y n k (Gives v ∷ []) g = at 1 _ _ (next_further x y (suc n) (suc k) (Gives v ∷ []) (some n) (some k))
+      (tt, refl)
+  lock_holds x y n k (Gives v ∷ (w ∷ rest)) g = at 1 _ _ (next_further x y (suc n) (suc k) (Gives v ∷ (w ∷ rest))
+      (some n) (some k)) tt
+  lock_holds x y n k (Fails e ∷ []) g = at 1 _ _ (next_further x y (suc n) (suc k) (Fails e ∷ []) (some n) (some k))
+      refl
+  lock_holds x y n k (Fails e ∷ (w ∷ rest)) g = at 1 _ _ (next_further x y (suc n) (suc k) (Fails e ∷ (w ∷ rest))
+      (some n) (some k)) tt
 
   work_holds : (had : Answers) → Known file program σ 1 had → HoldsAt σ 1 (next file program 1 had)
   unfolding invoke depth_limit
@@ -68,24 +75,34 @@ module _ (σ : List ValueType) where
   work_holds (x ∷ (Gives (Reference zero) ∷ (y ∷ rest))) h = tt
   work_holds (x ∷ (Gives (Reference (suc n)) ∷ [])) h = at 1 _ _ (next_on x (suc n) [] (some n)) refl
   work_holds (x ∷ (Gives (Reference (suc n)) ∷ (y ∷ []))) h = at 1 _ _ (next_on x (suc n) (y ∷ []) (some n)) refl
-  work_holds (x ∷ (Gives (Reference (suc n)) ∷ (y ∷ (Gives (Reference zero) ∷ rest)))) h = absurd ((suits_at _ _ (Gives (Reference zero)) (next_on x (suc n) (y ∷ []) (some n)) h.1.1.1.0).0 refl)
+  work_holds (x ∷ (Gives (Reference (suc n)) ∷ (y ∷ (Gives (Reference zero) ∷ rest)))) h = absurd
+      ((suits_at _ _ (Gives (Reference zero)) (next_on x (suc n) (y ∷ []) (some n)) h.1.1.1.0).0 refl)
   work_holds (x ∷ (Gives (Reference (suc n)) ∷ (y ∷ (Gives (Reference (suc k)) ∷ rest)))) h =
-      lock_holds x y n k rest (suits_at _ _ (Gives (Reference (suc k))) (next_on x (suc n) (y ∷ []) (some n)) h.1.1.1.0).1
-  work_holds (x ∷ (Gives (Reference (suc n)) ∷ (y ∷ (Gives (Int z) ∷ rest)))) h = absurd (suits_at _ _ (Gives (Int z)) (next_on x (suc n) (y ∷ []) (some n)) h.1.1.1.0)
-  work_holds (x ∷ (Gives (Reference (suc n)) ∷ (y ∷ (Gives (Boolean b) ∷ rest)))) h = absurd (suits_at _ _ (Gives (Boolean b)) (next_on x (suc n) (y ∷ []) (some n)) h.1.1.1.0)
-  work_holds (x ∷ (Gives (Reference (suc n)) ∷ (y ∷ (Gives (Pair m b) ∷ rest)))) h = absurd (suits_at _ _ (Gives (Pair m b)) (next_on x (suc n) (y ∷ []) (some n)) h.1.1.1.0)
-  work_holds (x ∷ (Gives (Reference (suc n)) ∷ (y ∷ (Did ∷ rest)))) h = absurd (lock_answer (suits_at _ _ Did (next_on x (suc n) (y ∷ []) (some n)) h.1.1.1.0))
+      lock_holds x y n k rest (suits_at _ _ (Gives (Reference (suc k))) (next_on x (suc n) (y ∷ []) (some n))
+      h.1.1.1.0).1
+  work_holds (x ∷ (Gives (Reference (suc n)) ∷ (y ∷ (Gives (Int z) ∷ rest)))) h = absurd
+      (suits_at _ _ (Gives (Int z)) (next_on x (suc n) (y ∷ []) (some n)) h.1.1.1.0)
+  work_holds (x ∷ (Gives (Reference (suc n)) ∷ (y ∷ (Gives (Boolean b) ∷ rest)))) h = absurd
+      (suits_at _ _ (Gives (Boolean b)) (next_on x (suc n) (y ∷ []) (some n)) h.1.1.1.0)
+  work_holds (x ∷ (Gives (Reference (suc n)) ∷ (y ∷ (Gives (Pair m b) ∷ rest)))) h = absurd
+      (suits_at _ _ (Gives (Pair m b)) (next_on x (suc n) (y ∷ []) (some n)) h.1.1.1.0)
+  work_holds (x ∷ (Gives (Reference (suc n)) ∷ (y ∷ (Did ∷ rest)))) h = absurd
+      (lock_answer (suits_at _ _ Did (next_on x (suc n) (y ∷ []) (some n)) h.1.1.1.0))
     where
       lock_answer : NewOf type.Lock ≡ NoValue → ⊥
       lock_answer e = cc
-  work_holds (x ∷ (Gives (Reference (suc n)) ∷ (y ∷ (Fails k ∷ rest)))) h = absurd (suits_at _ _ (Fails k) (next_on x (suc n) (y ∷ []) (some n)) h.1.1.1.0)
+  work_holds (x ∷ (Gives (Reference (suc n)) ∷ (y ∷ (Fails k ∷ rest)))) h = absurd
+      (suits_at _ _ (Fails k) (next_on x (suc n) (y ∷ []) (some n)) h.1.1.1.0)
   work_holds (x ∷ (Gives (Int z) ∷ rest)) h = absurd h.1.0
   work_holds (x ∷ (Gives (Boolean b) ∷ rest)) h = absurd h.1.0
   work_holds (x ∷ (Gives (Pair n m) ∷ rest)) h = absurd h.1.0
   work_holds (x ∷ (Did ∷ rest)) h = let e = h.1.0 in absurd (cc)
   work_holds (x ∷ (Fails k ∷ rest)) h = absurd h.1.0
 
-sound_all : (σ : List ValueType) (t : ℕ) (had : Answers) (a : Action Value) (s : Sort) → Known file program σ t had → next file program t had ≡ Goes a s → ActionHas file program σ t a s
+sound_all : (σ : List ValueType) (t : ℕ) (had : Answers) (a : Action Value) (s : Sort) →
+    Known file program σ t had →
+    next file program t had ≡ Goes a s →
+    ActionHas file program σ t a s
 sound_all σ zero had a s h e = subst (HoldsAt σ 0) e (setup_holds σ had h)
 sound_all σ (suc zero) had a s h e = subst (HoldsAt σ 1) e (work_holds σ had h)
 sound_all σ (suc (suc t)) had a s h e = cc

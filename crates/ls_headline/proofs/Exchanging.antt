@@ -1,5 +1,6 @@
 -- Without the instructions that are a whole operation on a lock, no thread asks for one by one instruction.
-use Rattle.std.proofs.Common.{◌≡◌, ℕ, ◌+◌, Bool, true, false, not, ◌&&◌, ◌==◌, ◌%◌, ◌^◌, nat_le, nat_lt, length, Option, Some, None, slice_get, subst, refl, if◌then◌else◌, pos, All}
+use Rattle.std.proofs.Common.{◌≡◌, ℕ, ◌+◌, Bool, true, false, not, ◌&&◌, ◌==◌, ◌%◌, ◌^◌, nat_le, nat_lt, length, Option}
+use Rattle.std.proofs.Common.{Some, None, slice_get, subst, refl, if◌then◌else◌, pos, All}
 use Rattle.ls_events.specs.declared.kind.Kind.{Kind}
 use Rattle.ls_events.specs.declared.kind.Kind.TheVariants.{NegativeArraySize}
 use Rattle.ls_events.specs.declared.action.Action.{Action}
@@ -12,9 +13,11 @@ use Rattle.ls_code.specs.Code.{Code}
 use Rattle.ls_code.specs.Frame.{Frame, top_one, top_two, top_three}
 use Rattle.ls_code.specs.Thread.{Thread}
 use Rattle.ls_code.specs.Kinds.{kind_of}
-use Rattle.ls_code.specs.Moves.{FrameMove, Next, Throws, Stuck, Asks as FrameAsks, Beyond, frame_move, with_room, on_one, on_two, on_three, at_object}
+use Rattle.ls_code.specs.Moves.{FrameMove, Next, Throws, Stuck, Asks as FrameAsks, Beyond, frame_move, with_room}
+use Rattle.ls_code.specs.Moves.{on_one, on_two, on_three, at_object}
 use Rattle.ls_code.specs.Calls.{CallMove, Calls, CallThrows, CallStuck, enter_move, call_begun}
-use Rattle.ls_code.specs.Steps.{Move, Silent, Still, Asks, Plans, silent_or_still, call_move, on_top, on_kind, value_move, found_move, of_frame, fetched_move, thread_move}
+use Rattle.ls_code.specs.Steps.{Move, Silent, Still, Asks, Plans, silent_or_still, call_move, on_top, on_kind}
+use Rattle.ls_code.specs.Steps.{value_move, found_move, of_frame, fetched_move, thread_move}
 use Rattle.ls_code.specs.declared.code.Method.{Method}
 use Rattle.ls_code.specs.declared.code.CallResult.{CallResult}
 use Rattle.ls_code.specs.declared.code.CallResult.TheVariants as result
@@ -40,7 +43,9 @@ two_plain : (o : Option (ℕ × ℕ)) (go : ℕ → ℕ → FrameMove) → ((a b
 two_plain None go h = tt
 two_plain (Some p) go h = h p.0 p.1
 
-three_plain : (o : Option (ℕ × ℕ × ℕ)) (go : ℕ → ℕ → ℕ → FrameMove) → ((a b c : ℕ) → IsPlain (go a b c)) → IsPlain (on_three o go)
+three_plain : (o : Option (ℕ × ℕ × ℕ)) (go : ℕ → ℕ → ℕ → FrameMove) →
+    ((a b c : ℕ) → IsPlain (go a b c)) →
+    IsPlain (on_three o go)
 three_plain None go h = tt
 three_plain (Some p) go h = h p.0 p.1 p.2
 
@@ -86,7 +91,9 @@ frame_plain (op.PutName x) f h = one_plain (top_one f.operands) _ (λ a. refl)
 frame_plain (op.NewObject x) f h = room_plain f _ refl
 frame_plain op.NewLock f h = room_plain f _ refl
 frame_plain op.NewMarkable f h = one_plain (top_one f.operands) _ (λ a. refl)
-frame_plain op.NewArray f h = one_plain (top_one f.operands) _ (λ a. if_plain (int_lt (int_of a) (pos 0)) (Throws NegativeArraySize) (FrameAsks (NewArray (int_of a)) (Settle 1)) tt refl)
+frame_plain op.NewArray f h = one_plain (top_one f.operands) _
+    (λ a. if_plain (int_lt (int_of a) (pos 0)) (Throws NegativeArraySize) (FrameAsks (NewArray (int_of a)) (Settle 1))
+    tt refl)
 frame_plain op.Lock f h = absurd h
 frame_plain op.Unlock f h = absurd h
 frame_plain op.TryLock f h = absurd h
@@ -157,19 +164,29 @@ of_none p t (Beyond wide.Halt) h = tt
 of_none p t (Beyond (wide.Enter x)) h = found_none p t x (slice_get p.methods x)
 of_none p t (Beyond wide.Leave) h = silent_none _
 of_none p t (Beyond wide.LeaveWith) h = top_none (top_one t.top.operands) _ (λ w. silent_none _)
-of_none p t (Beyond wide.Throw) h = top_none (top_one t.top.operands) _ (λ w. kind_none (kind_of w) _ (λ k. silent_none _))
-of_none p t (Beyond (wide.Call x)) h = if_none (not t.pending && (x == t.ended + 1) && nat_le x (length t.calls)) (Asks (Call x) (λ answer. Some (call_begun t))) Still refl tt
-of_none p t (Beyond (wide.Result x)) h = if_none (t.pending && (x == t.ended + 1)) (value_move t x (slice_get t.calls t.ended)) Still (value_none t x (slice_get t.calls t.ended)) tt
-of_none p t (Beyond wide.Trap) h = if_none t.pending _ _ (top_none (top_one t.top.operands) _ (λ w. kind_none (kind_of w) _ (λ k. refl))) tt
+of_none p t (Beyond wide.Throw) h = top_none (top_one t.top.operands) _
+    (λ w. kind_none (kind_of w) _ (λ k. silent_none _))
+of_none p t (Beyond (wide.Call x)) h = if_none (not t.pending && (x == t.ended + 1) && nat_le x (length t.calls))
+    (Asks (Call x) (λ answer. Some (call_begun t))) Still refl tt
+of_none p t (Beyond (wide.Result x)) h = if_none (t.pending && (x == t.ended + 1))
+    (value_move t x (slice_get t.calls t.ended)) Still (value_none t x (slice_get t.calls t.ended)) tt
+of_none p t (Beyond wide.Trap) h = if_none t.pending _ _ (top_none (top_one t.top.operands) _
+    (λ w. kind_none (kind_of w) _ (λ k. refl))) tt
 of_none p t (Beyond (wide.See x)) h = tt
 of_none p t (Beyond (wide.Take x)) h = tt
 of_none p t (Beyond (wide.DropLock x)) h = tt
 
-fetched_none : (p : Code) (t : Thread) (o : Option Instruction) → ((i : Instruction) → o ≡ Some i → IsExchanged i) → AsksPlainly (fetched_move p t o)
+fetched_none : (p : Code) (t : Thread) (o : Option Instruction) →
+    ((i : Instruction) → o ≡ Some i → IsExchanged i) →
+    AsksPlainly (fetched_move p t o)
 fetched_none p t None h = tt
 fetched_none p t (Some i) h = of_none p t (frame_move i t.top) (frame_plain i t.top (h i refl))
 
 -- an action that such code asks for plainly is on no lock
-pub asks_plainly : (p : Code) (t : Thread) (a : Action ℕ) (go : Answer ℕ → Option Thread) → All IsExchanged p.instructions → thread_move p t ≡ Asks a go → is_on_lock a ≡ false
+pub asks_plainly : (p : Code) (t : Thread) (a : Action ℕ) (go : Answer ℕ → Option Thread) →
+    All IsExchanged p.instructions →
+    thread_move p t ≡ Asks a go →
+    is_on_lock a ≡ false
 asks_plainly p t a go h e =
-    subst AsksPlainly e (fetched_none p t (slice_get p.instructions t.top.counter) (λ i is. all_get IsExchanged p.instructions t.top.counter i h is))
+    subst AsksPlainly e (fetched_none p t (slice_get p.instructions t.top.counter)
+    (λ i is. all_get IsExchanged p.instructions t.top.counter i h is))

@@ -1,5 +1,6 @@
 -- A thread of the machine between two acting instructions, and a thread that is fed.
-use Rattle.std.proofs.Common.{◌≡◌, ℕ, zero, suc, Bool, true, false, List, [], ◌∷◌, ◌++◌, Option, Some, None, refl, sym, ap, ◌∙◌, subst, ◌⊎◌, inl, inr, if◌then◌else◌}
+use Rattle.std.proofs.Common.{◌≡◌, ℕ, zero, suc, Bool, true, false, List, [], ◌∷◌, ◌++◌, Option, Some, None, refl, sym}
+use Rattle.std.proofs.Common.{ap, ◌∙◌, subst, ◌⊎◌, inl, inr, if◌then◌else◌}
 use Rattle.ls_events.specs.declared.action.Action.{Action}
 use Rattle.ls_events.specs.declared.action.Action.TheVariants as act
 use Rattle.ls_events.specs.declared.action.Answer.{Answer}
@@ -7,12 +8,14 @@ use Rattle.ls_code.specs.Code.{Code}
 use Rattle.ls_code.specs.Thread.{Thread}
 use Rattle.ls_code.specs.Cells.{Cells}
 use Rattle.ls_code.specs.Exchanges.{Quietly, Reports, Plan, Says, Touches, Stores}
-use Rattle.ls_code.specs.Steps.{Move, Silent, Still, Asks, Plans, silent_or_still, thread_move, outcome_of, ended_so, planned, performed}
+use Rattle.ls_code.specs.Steps.{Move, Silent, Still, Asks, Plans, silent_or_still, thread_move, outcome_of, ended_so}
+use Rattle.ls_code.specs.Steps.{planned, performed}
 use Rattle.ls_code.specs.declared.step.Did.TheVariants as did
 use Rattle.ls_code.specs.Fed.{Pause, Paused, Passes, IsOver, IsStuck, TooLong}
 use Rattle.ls_code.specs.declared.step.Mode.{Mode}
 use Rattle.ls_code.specs.declared.step.Mode.TheVariants as mode
-use Rattle.ls_code.specs.Reading.{is_locking, is_trying, is_unlocking, operation, planned_move, read_move, whole_move, begins_early, carry, advance, quiet, quiet_from, resume}
+use Rattle.ls_code.specs.Reading.{is_locking, is_trying, is_unlocking, operation, planned_move, read_move, whole_move}
+use Rattle.ls_code.specs.Reading.{begins_early, carry, advance, quiet, quiet_from, resume}
 use Rattle.ls_headline.specs.Parts.{IsPlanned}
 
 -- a pause that isn't for too long a silence
@@ -28,7 +31,11 @@ module _ (p : Code) (number : ℕ) where
   abbrev Later : (Thread → Pause) → (Thread → Pause) → Type 0
   Later f g = (y : Thread) → IsLoud (f y) → g y ≡ f y
 
-  stay_move : (m m' e : Bool) (d : Move) (f g : Thread → Pause) → (m ≡ true → m' ≡ true) → Later f g → IsLoud (carry m e d f) → carry m' e d g ≡ carry m e d f
+  stay_move : (m m' e : Bool) (d : Move) (f g : Thread → Pause) →
+      (m ≡ true → m' ≡ true) →
+      Later f g →
+      IsLoud (carry m e d f) →
+      carry m' e d g ≡ carry m e d f
   stay_move m m' e (Silent t) f g up ih l = ih t l
   stay_move m m' e Still f g up ih l = refl
   stay_move true m' true (Asks a go) f g up ih l = ap (λ b. if b then Paused a go else TooLong) (up refl)
@@ -36,32 +43,50 @@ module _ (p : Code) (number : ℕ) where
   stay_move m m' false (Asks a go) f g up ih l = refl
   stay_move m m' e (Plans go) f g up ih l = refl
 
-  stay_mode : (m m' : Bool) (z : Mode) (t : Thread) (f g : Thread → Pause) → (m ≡ true → m' ≡ true) → Later f g → IsLoud (advance p number m z t f) → advance p number m' z t g ≡ advance p number m z t f
-  stay_mode m m' mode.Running t f g up ih l = stay_move m m' (begins_early (thread_move p t)) (whole_move p number t) f g up ih l
+  stay_mode : (m m' : Bool) (z : Mode) (t : Thread) (f g : Thread → Pause) →
+      (m ≡ true → m' ≡ true) →
+      Later f g →
+      IsLoud (advance p number m z t f) →
+      advance p number m' z t g ≡ advance p number m z t f
+  stay_mode m m' mode.Running t f g up ih l = stay_move m m' (begins_early (thread_move p t)) (whole_move p number t) f
+      g up ih l
   stay_mode m m' mode.Ended t f g up ih l = refl
   stay_mode m m' mode.Trapped t f g up ih l = refl
 
   stay : (n : ℕ) (x : Thread) → IsLoud (quiet p number n x) → quiet p number (suc n) x ≡ quiet p number n x
   stay zero x l = stay_mode false true x.mode x (λ s. TooLong) (quiet p number zero) (λ e. refl) (λ y h. absurd h) l
-  stay (suc n) x l = stay_mode true true x.mode x (quiet p number n) (quiet p number (suc n)) (λ e. refl) (λ y h. stay n y h) l
+  stay (suc n) x l = stay_mode true true x.mode x (quiet p number n) (quiet p number (suc n)) (λ e. refl)
+      (λ y h. stay n y h) l
 
   -- with no silent step left; one silent step, and the rest
-  pub at_end : (x : Thread) → x.mode ≡ mode.Running → quiet p number zero x ≡ carry false (begins_early (thread_move p x)) (whole_move p number x) (λ s. TooLong)
+  pub at_end : (x : Thread) →
+      x.mode ≡ mode.Running →
+      quiet p number zero x ≡ carry false (begins_early (thread_move p x)) (whole_move p number x) (λ s. TooLong)
   at_end x r = ap (λ m. advance p number false m x (λ s. TooLong)) r
 
   -- one instruction of a running thread
-  pub more : (n : ℕ) (x : Thread) → x.mode ≡ mode.Running → quiet p number (suc n) x ≡ carry true (begins_early (thread_move p x)) (whole_move p number x) (quiet p number n)
+  pub more : (n : ℕ) (x : Thread) →
+      x.mode ≡ mode.Running →
+      quiet p number (suc n) x ≡ carry true (begins_early (thread_move p x)) (whole_move p number x) (quiet p number n)
   more n x r = ap (λ m. advance p number true m x (quiet p number n)) r
 
   -- a silent step stays on the way
-  pub silent_keeps : (n : ℕ) (x x' : Thread) → x.mode ≡ mode.Running → whole_move p number x ≡ Silent x' → IsLoud (quiet p number n x) → quiet p number n x' ≡ quiet p number n x
+  pub silent_keeps : (n : ℕ) (x x' : Thread) →
+      x.mode ≡ mode.Running →
+      whole_move p number x ≡ Silent x' →
+      IsLoud (quiet p number n x) →
+      quiet p number n x' ≡ quiet p number n x
   silent_keeps n x x' r e l =
       sym (ap (λ d. carry true (begins_early (thread_move p x)) d (quiet p number n)) e) ∙ sym (more n x r) ∙ stay n x l
 
   -- a thread that asks for an action by one instruction, or is over
-  pub asking : (n : ℕ) (x : Thread) (a : Action ℕ) (go : Answer ℕ → Option Thread) → x.mode ≡ mode.Running → thread_move p x ≡ Asks a go → quiet p number n x ≡ Paused a go
+  pub asking : (n : ℕ) (x : Thread) (a : Action ℕ) (go : Answer ℕ → Option Thread) →
+      x.mode ≡ mode.Running →
+      thread_move p x ≡ Asks a go →
+      quiet p number n x ≡ Paused a go
   asking zero x a go r e = at_end x r ∙ ap (λ d. carry false (begins_early d) (read_move p number x d) (λ s. TooLong)) e
-  asking (suc n) x a go r e = more n x r ∙ ap (λ d. carry true (begins_early d) (read_move p number x d) (quiet p number n)) e
+  asking (suc n) x a go r e = more n x r ∙ ap (λ d. carry true (begins_early d) (read_move p number x d)
+      (quiet p number n)) e
 
   -- a thread that has ended pauses as over
   pub ended : (n : ℕ) (x : Thread) → x.mode ≡ mode.Ended → quiet p number n x ≡ IsOver mode.Ended
@@ -74,23 +99,34 @@ module _ (p : Code) (number : ℕ) where
   trapped (suc n) x r = ap (λ m. advance p number true m x (quiet p number n)) r
 
   -- a thread without a move is stuck
-  pub still : (n : ℕ) (x : Thread) → x.mode ≡ mode.Running → whole_move p number x ≡ Still → quiet p number n x ≡ IsStuck
+  pub still : (n : ℕ) (x : Thread) →
+      x.mode ≡ mode.Running →
+      whole_move p number x ≡ Still →
+      quiet p number n x ≡ IsStuck
   still zero x r e = at_end x r ∙ ap (λ d. carry false (begins_early (thread_move p x)) d (λ s. TooLong)) e
   still (suc n) x r e = more n x r ∙ ap (λ d. carry true (begins_early (thread_move p x)) d (quiet p number n)) e
 
   -- a thread that asks for an action, by one instruction or by several
-  asked_loud : (b e : Bool) (a : Action ℕ) (go : Answer ℕ → Option Thread) (f : Thread → Pause) → IsLoud (carry b e (Asks a go) f) → carry b e (Asks a go) f ≡ Paused a go
+  asked_loud : (b e : Bool) (a : Action ℕ) (go : Answer ℕ → Option Thread) (f : Thread → Pause) →
+      IsLoud (carry b e (Asks a go) f) →
+      carry b e (Asks a go) f ≡ Paused a go
   asked_loud true true a go f l = refl
   asked_loud false true a go f l = absurd l
   asked_loud b false a go f l = refl
 
   -- a thread at an operation pauses there
-  pub beginning : (n : ℕ) (x : Thread) (a : Action ℕ) (go : Answer ℕ → Option Thread) → x.mode ≡ mode.Running → whole_move p number x ≡ Asks a go → IsLoud (quiet p number n x) → quiet p number n x ≡ Paused a go
+  pub beginning : (n : ℕ) (x : Thread) (a : Action ℕ) (go : Answer ℕ → Option Thread) →
+      x.mode ≡ mode.Running →
+      whole_move p number x ≡ Asks a go →
+      IsLoud (quiet p number n x) →
+      quiet p number n x ≡ Paused a go
   beginning zero x a go r e l =
-      let is : quiet p number zero x ≡ carry false (begins_early (thread_move p x)) (Asks a go) (λ s. TooLong) = at_end x r ∙ ap (λ d. carry false (begins_early (thread_move p x)) d (λ s. TooLong)) e in
+      let is : quiet p number zero x ≡ carry false (begins_early (thread_move p x)) (Asks a go) (λ s. TooLong) = at_end
+      x r ∙ ap (λ d. carry false (begins_early (thread_move p x)) d (λ s. TooLong)) e in
       is ∙ asked_loud false (begins_early (thread_move p x)) a go (λ s. TooLong) (subst IsLoud is l)
   beginning (suc n) x a go r e l =
-      let is : quiet p number (suc n) x ≡ carry true (begins_early (thread_move p x)) (Asks a go) (quiet p number n) = more n x r ∙ ap (λ d. carry true (begins_early (thread_move p x)) d (quiet p number n)) e in
+      let is : quiet p number (suc n) x ≡ carry true (begins_early (thread_move p x)) (Asks a go) (quiet p number n) =
+      more n x r ∙ ap (λ d. carry true (begins_early (thread_move p x)) d (quiet p number n)) e in
       is ∙ asked_loud true (begins_early (thread_move p x)) a go (quiet p number n) (subst IsLoud is l)
 
   -- what the reading calls silent, is silent
@@ -100,7 +136,8 @@ module _ (p : Code) (number : ℕ) where
   Tells x d (Asks a go) = Unit {0}
   Tells x d (Plans go) = Unit {0}
 
-  if_tells : (x : Thread) (d : Move) (b : Bool) (a : Action ℕ) (go : Answer ℕ → Option Thread) → Tells x d (if b then Asks a go else Still)
+  if_tells : (x : Thread) (d : Move) (b : Bool) (a : Action ℕ) (go : Answer ℕ → Option Thread) →
+      Tells x d (if b then Asks a go else Still)
   if_tells x d true a go = tt
   if_tells x d false a go = tt
 
@@ -131,11 +168,15 @@ module _ (p : Code) (number : ℕ) where
   operation_tells x d (act.Return o v) = tt
   operation_tells x d (act.Trap o v) = tt
 
-  says_tells : (x : Thread) (d : Move) (o : Option Thread) → ((c : Cells) → performed c number x d ≡ ended_so c x o did.Silent) → Tells x d (silent_or_still o)
+  says_tells : (x : Thread) (d : Move) (o : Option Thread) →
+      ((c : Cells) → performed c number x d ≡ ended_so c x o did.Silent) →
+      Tells x d (silent_or_still o)
   says_tells x d None f = tt
   says_tells x d (Some x') f = f
 
-  plan_tells : (x : Thread) (d : Move) (q : Plan) → ((c : Cells) → performed c number x d ≡ planned c number x q) → Tells x d (planned_move p number x q)
+  plan_tells : (x : Thread) (d : Move) (q : Plan) →
+      ((c : Cells) → performed c number x d ≡ planned c number x q) →
+      Tells x d (planned_move p number x q)
   plan_tells x d (Says (Quietly s)) f = says_tells x d s f
   plan_tells x d (Says (Reports a y s)) f = tt
   plan_tells x d (Stores touch s) f = tt
@@ -172,11 +213,15 @@ module _ (p : Code) (number : ℕ) where
   move_tells x (Plans go) = plan_tells x (Plans go) (go number) (λ c. refl)
 
   -- what the reading calls silent, is silent on the machine
-  pub silent_is : (x x' : Thread) (c : Cells) → whole_move p number x ≡ Silent x' → performed c number x (thread_move p x) ≡ outcome_of x' c did.Silent
+  pub silent_is : (x x' : Thread) (c : Cells) →
+      whole_move p number x ≡ Silent x' →
+      performed c number x (thread_move p x) ≡ outcome_of x' c did.Silent
   silent_is x x' c e = (subst (Tells x (thread_move p x)) e (move_tells x (thread_move p x))) c
 
   -- an instruction that asks by itself, or that begins an operation
-  pub asked_by : (x : Thread) (b : Action ℕ) (go : Answer ℕ → Option Thread) (d : Move) → read_move p number x d ≡ Asks b go → (d ≡ Asks b go) ⊎ IsPlanned d
+  pub asked_by : (x : Thread) (b : Action ℕ) (go : Answer ℕ → Option Thread) (d : Move) →
+      read_move p number x d ≡ Asks b go →
+      (d ≡ Asks b go) ⊎ IsPlanned d
   asked_by x b go (Silent x') e = cc
   asked_by x b go Still e = cc
   asked_by x b go (Asks a g) e = inl e
@@ -291,7 +336,8 @@ module _ (p : Code) (number : ℕ) where
     passes_stays (w ∷ ws) t = passes_stays ws t
 
     -- how a fed thread goes on
-    pub resumed : (ws : List (Answer ℕ)) (q : Pause) → resume p number bound ws q ≡ resume p number bound [] (stand ws q)
+    pub resumed : (ws : List (Answer ℕ)) (q : Pause) →
+        resume p number bound ws q ≡ resume p number bound [] (stand ws q)
     resumed [] q = refl
     resumed (w ∷ ws) (Paused a go) = resumed ws (quiet_from p number bound (go w))
     resumed (w ∷ ws) (Passes t) = sym (ap (resume p number bound []) (passes_stays ws t))
@@ -300,7 +346,8 @@ module _ (p : Code) (number : ℕ) where
     resumed (w ∷ ws) TooLong = sym (ap (resume p number bound []) (long_stays ws))
 
     -- one more answer is told at the end
-    pub stand-append : (ws : List (Answer ℕ)) (w : Answer ℕ) (q : Pause) → stand (ws ++ w ∷ []) q ≡ told_one (stand ws q) w
+    pub stand-append : (ws : List (Answer ℕ)) (w : Answer ℕ) (q : Pause) →
+        stand (ws ++ w ∷ []) q ≡ told_one (stand ws q) w
     stand-append [] w q = refl
     stand-append (v ∷ ws) w q = stand-append ws w (told_one q v)
 

@@ -1,5 +1,7 @@
 -- Equal traces give equal histories.
-use Rattle.std.proofs.Common.{◌≡◌, ℕ, zero, suc, ◌-◌, ◌%◌, ◌^◌, Bool, true, false, ℤ, List, [], ◌∷◌, ◌++◌, map, Option, Some, None, refl, sym, ap, ◌∙◌, arith, append_assoc, append-nil, slice_get, FitsSigned, Fits}
+use Rattle.std.proofs.Common.{◌≡◌, ℕ, zero, suc, ◌-◌, ◌%◌, ◌^◌, Bool, true, false, ℤ, List, [], ◌∷◌, ◌++◌, map, Option}
+use Rattle.std.proofs.Common.{Some, None, refl, sym, ap, ◌∙◌, arith, append_assoc, append-nil, slice_get, FitsSigned}
+use Rattle.std.proofs.Common.{Fits}
 use Rattle.std.specs.List.{cons_option}
 use Rattle.std.proofs.lemmas.Int.{to_z-of_z}
 use Rattle.std.proofs.Math.Facts.{Fits-of_z}
@@ -10,7 +12,11 @@ use Rattle.ls_events.specs.declared.value.Value.{Value}
 use Rattle.ls_events.specs.declared.value.Value.TheVariants.{Int, Boolean, Reference, Pair}
 use Rattle.ls_events.specs.declared.value.ValueType.TheVariants as type
 use Rattle.ls_events.specs.declared.action.Action.{Action}
-use Rattle.ls_events.specs.declared.action.Action.TheVariants.{ReadField, WriteField, ReadItem, WriteItem, ReadName, WriteName, New, NewLock, NewMarkable, NewArray, Lock, Unlock, TryLock, IsHeld, LockMonitor, UnlockMonitor, ReadPair, SetPair, SwapPair, AttemptMark, Turn, Enter, Call, Return, Trap}
+use Rattle.ls_events.specs.declared.action.Action.TheVariants.{ReadField, WriteField, ReadItem, WriteItem, ReadName}
+use Rattle.ls_events.specs.declared.action.Action.TheVariants.{WriteName, New, NewLock, NewMarkable, NewArray, Lock}
+use Rattle.ls_events.specs.declared.action.Action.TheVariants.{Unlock, TryLock, IsHeld, LockMonitor, UnlockMonitor}
+use Rattle.ls_events.specs.declared.action.Action.TheVariants.{ReadPair, SetPair, SwapPair, AttemptMark, Turn, Enter}
+use Rattle.ls_events.specs.declared.action.Action.TheVariants.{Call, Return, Trap}
 use Rattle.ls_checked.specs.CheckedProgram.{Program, ThreadProgram, ProgramCall, Making, Calling}
 use Rattle.ls_meaning.specs.Threads.{calls_in}
 use Rattle.ls_meaning.specs.Steps as source
@@ -19,7 +25,8 @@ use Rattle.ls_code.specs.Words.{int_of, bool_of, word_of as int_word, bool_word}
 use Rattle.ls_code.specs.Code.{Code, Start}
 use Rattle.ls_code.specs.Thread.{Thread}
 use Rattle.ls_code.specs.Events.{result_in, result_value, action_events, events_of}
-use Rattle.ls_code.specs.Machine.{Machine, Entry, loaded, is_due, due_step, open_step, step_of, machine_step, machine_run, machine_trace}
+use Rattle.ls_code.specs.Machine.{Machine, Entry, loaded, is_due, due_step, open_step, step_of, machine_step}
+use Rattle.ls_code.specs.Machine.{machine_run, machine_trace}
 use Rattle.ls_code.specs.Machine as machine
 use Rattle.ls_code.specs.declared.step.Did.{Did}
 use Rattle.ls_code.specs.declared.step.Did.TheVariants as did
@@ -55,7 +62,8 @@ adds_at m t (Some x) = adds_open m t x m.stopped
 adds : (m : Machine) (t : ℕ) → Adds m t (machine_step m t)
 adds m t = adds_at m t (slice_get m.threads t)
 
-events_traced : (code : Code) (t : ℕ) (d : Did) (rest : List Entry) → events_of code t d ++ events_in code rest ≡ events_in code (machine.traced t d rest)
+events_traced : (code : Code) (t : ℕ) (d : Did) (rest : List Entry) →
+    events_of code t d ++ events_in code rest ≡ events_in code (machine.traced t d rest)
 events_traced code t (did.Acted a x) rest = refl
 events_traced code t did.Silent rest = refl
 events_traced code t did.Waits rest = refl
@@ -63,7 +71,9 @@ events_traced code t did.Idle rest = refl
 events_traced code t did.Stopped rest = refl
 
 -- the history of the machine is the events of its trace
-pub history_is : (code : Code) (ts : List ℕ) (m : Machine) → m.code ≡ code → (machine_run m ts).history ≡ m.history ++ events_in code (machine_trace m ts)
+pub history_is : (code : Code) (ts : List ℕ) (m : Machine) →
+    m.code ≡ code →
+    (machine_run m ts).history ≡ m.history ++ events_in code (machine_trace m ts)
 unfolding Adds
 history_is code [] m e = sym (append-nil m.history)
 history_is code (t ∷ ts) m e =
@@ -85,7 +95,9 @@ bool_back : (b : Bool) → bool_of (bool_word b) ≡ b
 bool_back true = refl
 bool_back false = refl
 
-value_back : (ρ : ℕ → ℕ) (c : Option ProgramCall) (v : Option Value) → Returns c v → result_value (map_option call_result c) (map_option (written ρ) v) ≡ v
+value_back : (ρ : ℕ → ℕ) (c : Option ProgramCall) (v : Option Value) →
+    Returns c v →
+    result_value (map_option call_result c) (map_option (written ρ) v) ≡ v
 value_back ρ c None h = refl
 value_back ρ None (Some v) h = absurd h
 value_back ρ (Some (Making n c t vs)) (Some v) h = absurd h
@@ -94,19 +106,23 @@ value_back ρ (Some (Calling n m t (Some type.Int) vs)) (Some (Int z)) h = ap (�
 value_back ρ (Some (Calling n m t (Some type.Int) vs)) (Some (Boolean b)) h = absurd h
 value_back ρ (Some (Calling n m t (Some type.Int) vs)) (Some (Reference r)) h = absurd h
 value_back ρ (Some (Calling n m t (Some type.Int) vs)) (Some (Pair r b)) h = absurd h
-value_back ρ (Some (Calling n m t (Some type.Boolean) vs)) (Some (Boolean b)) h = ap (λ y. Some (Boolean y)) (bool_back b)
+value_back ρ (Some (Calling n m t (Some type.Boolean) vs)) (Some (Boolean b)) h = ap (λ y. Some (Boolean y))
+    (bool_back b)
 value_back ρ (Some (Calling n m t (Some type.Boolean) vs)) (Some (Int z)) h = absurd h
 value_back ρ (Some (Calling n m t (Some type.Boolean) vs)) (Some (Reference r)) h = absurd h
 value_back ρ (Some (Calling n m t (Some type.Boolean) vs)) (Some (Pair r b)) h = absurd h
 value_back ρ (Some (Calling n m t (Some _) vs)) (Some v) h = absurd h
 
 -- the code's table has what the program's calls answer
-get_result : (cs : List ProgramCall) (k : ℕ) → slice_get (map call_result cs) k ≡ map_option call_result (slice_get cs k)
+get_result : (cs : List ProgramCall) (k : ℕ) →
+    slice_get (map call_result cs) k ≡ map_option call_result (slice_get cs k)
 get_result [] k = refl
 get_result (c ∷ cs) zero = refl
 get_result (c ∷ cs) (suc k) = get_result cs k
 
-result_is : (o : Option Start) (p : Option ThreadProgram) (n : ℕ) → calls_of o p → result_in o n ≡ map_option call_result (slice_get (calls_in p) (n - 1))
+result_is : (o : Option Start) (p : Option ThreadProgram) (n : ℕ) →
+    calls_of o p →
+    result_in o n ≡ map_option call_result (slice_get (calls_in p) (n - 1))
 result_is None None n h = refl
 result_is None (Some p) n h = absurd h
 result_is (Some s) None n h = absurd h
@@ -116,11 +132,16 @@ option_list : {A : Type 0} → Option A → List A
 option_list None = []
 option_list (Some x) = x ∷ []
 
-module _ (program : Program) (code : Code) (calls : (t : ℕ) → calls_of (slice_get code.starts t) (slice_get program.threads t)) (ρ : ℕ → ℕ) where
-  event_back : (t : ℕ) (a : Action Value) → Says program t a → action_events code t (map_action ρ (written ρ) a) ≡ option_list (event_of t a)
+module _ (program : Program) (code : Code) (calls : (t : ℕ) →
+    calls_of (slice_get code.starts t) (slice_get program.threads t)) (ρ : ℕ → ℕ) where
+  event_back : (t : ℕ) (a : Action Value) →
+      Says program t a →
+      action_events code t (map_action ρ (written ρ) a) ≡ option_list (event_of t a)
   unfolding option_list
   event_back t (Return n v) h =
-      ap (λ w. machine_event t n w ∷ []) (ap (λ r. result_value r (map_option (written ρ) v)) (result_is (slice_get code.starts t) (slice_get program.threads t) n (calls t)) ∙ value_back ρ (call_at program t n) v h)
+      ap (λ w. machine_event t n w ∷ []) (ap (λ r. result_value r (map_option (written ρ) v))
+      (result_is (slice_get code.starts t) (slice_get program.threads t) n (calls t)) ∙
+      value_back ρ (call_at program t n) v h)
     where
       machine_event : ℕ → ℕ → Option Value → Event
       machine_event t n w = record { thread = t; call = n; happening = Returned w }
@@ -149,7 +170,8 @@ module _ (program : Program) (code : Code) (calls : (t : ℕ) → calls_of (slic
   event_back t Turn h = refl
   event_back t (Enter m) h = refl
 
-  filter_more : (x : source.Entry Value) (o : Option Event) (rest : List Event) → option_list o ++ rest ≡ cons_option o rest
+  filter_more : (x : source.Entry Value) (o : Option Event) (rest : List Event) →
+      option_list o ++ rest ≡ cons_option o rest
   unfolding option_list
   filter_more x None rest = refl
   filter_more x (Some y) rest = refl

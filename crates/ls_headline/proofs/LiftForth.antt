@@ -10,7 +10,9 @@ use Rattle.ls_code.specs.Machine.{Machine, Entry, machine_run, machine_trace}
 use Rattle.ls_headline.specs.Translations.{has_setup_ended, setup_end, steps_for, steps_from, steps_all}
 use Rattle.ls_headline.proofs.Runs.{trace-append}
 
-module _ (file : File) (program : Program) (bound : ℕ) (write : State → source.Entry Value → Entry) (RJ : State → Machine → Type 0) (Grows : State → State → Type 0) (Live : State → source.Entry Value → Type 0) (Fits : State → Type 0) where
+module _ (file : File) (program : Program) (bound : ℕ) (write : State → source.Entry Value → Entry)
+    (RJ : State → Machine → Type 0) (Grows : State → State → Type 0) (Live : State → source.Entry Value → Type 0)
+    (Fits : State → Type 0) where
   abbrev sd : State → ℕ → Stepped State (source.Entry Value)
   sd = source_step file program
 
@@ -19,7 +21,8 @@ module _ (file : File) (program : Program) (bound : ℕ) (write : State → sour
   Forth s m t Same = Unit {0}
   Forth s m t (Moved s') = ⊥
   Forth s m t (Acted s' e) =
-      Fits s' → Live s' e × Grows s s' × (machine_trace m (steps_for file program bound m t (Acted s' e)) ≡ write s' e ∷ []) × RJ s' (machine_run m (steps_for file program bound m t (Acted s' e)))
+      Fits s' → Live s' e × Grows s s' × (machine_trace m (steps_for file program bound m t (Acted s' e)) ≡ write s' e ∷
+      []) × RJ s' (machine_run m (steps_for file program bound m t (Acted s' e)))
 
   -- each entry is kept as it is
   abbrev pub Alive : State → List (source.Entry Value) → Type 0
@@ -44,7 +47,15 @@ module _ (file : File) (program : Program) (bound : ℕ) (write : State → sour
     Right s s' es m us = (machine_trace m us ≡ map (write s') es) × Grows s s' × Alive s' es
 
     -- one step d, then the rest
-    one_more : (s : State) (m : Machine) (t : ℕ) (ts : List ℕ) (d : Stepped State (source.Entry Value)) → RJ s m → Forth s m t d → Fits (after s d) → ((m1 : Machine) → RJ (after s d) m1 → Right (after s d) (run sd (after s d) ts) (trace sd (after s d) ts) m1 (steps_from file program bound (after s d) m1 ts)) → Right s (run sd (after s d) ts) (traced d (trace sd (after s d) ts)) m (steps_for file program bound m t d ++ steps_from file program bound (after s d) (machine_run m (steps_for file program bound m t d)) ts)
+    one_more : (s : State) (m : Machine) (t : ℕ) (ts : List ℕ) (d : Stepped State (source.Entry Value)) →
+        RJ s m →
+        Forth s m t d →
+        Fits (after s d) →
+        ((m1 : Machine) → RJ (after s d) m1 → Right (after s d) (run sd (after s d) ts) (trace sd (after s d) ts) m1
+        (steps_from file program bound (after s d) m1 ts)) →
+        Right s (run sd (after s d) ts) (traced d (trace sd (after s d) ts)) m
+        (steps_for file program bound m t d ++ steps_from file program bound (after s d)
+        (machine_run m (steps_for file program bound m t d)) ts)
     one_more s m t ts Same h f fits rest = rest m h
     one_more s m t ts (Moved s') h f fits rest = absurd f
     one_more s m t ts (Acted s' e) h f fits rest =
@@ -52,20 +63,33 @@ module _ (file : File) (program : Program) (bound : ℕ) (write : State → sour
         let g = f fits in
         let r = rest (machine_run m b) g.3 in (
           trace-append m b _
-              ∙ ap (λ xs. xs ++ machine_trace (machine_run m b) (steps_from file program bound s' (machine_run m b) ts)) (g.2 ∙ ap (λ x. x ∷ []) (laws.stable s' _ e g.0 r.1))
+              ∙ ap (λ xs. xs ++ machine_trace (machine_run m b) (steps_from file program bound s' (machine_run m b) ts))
+              (g.2 ∙ ap (λ x. x ∷ []) (laws.stable s' _ e g.0 r.1))
               ∙ ap (λ xs. write (run sd s' ts) e ∷ xs) r.0,
           laws.grows_trans s s' _ g.1 r.1,
           (laws.lives s' _ e g.0 r.1, r.2),
         )
 
     -- for each schedule of the source that fits, the machine's schedule
-    pub from_right : (ts : List ℕ) (s : State) (m : Machine) → RJ s m → Fits (run sd s ts) → Right s (run sd s ts) (trace sd s ts) m (steps_from file program bound s m ts)
+    pub from_right : (ts : List ℕ) (s : State) (m : Machine) →
+        RJ s m →
+        Fits (run sd s ts) →
+        Right s (run sd s ts) (trace sd s ts) m (steps_from file program bound s m ts)
     from_right [] s m h fits = (refl, laws.grows_refl s, tt)
-    from_right (t ∷ ts) s m h fits = one_more s m t ts (sd s t) h (laws.step s m t h) (fits_before ts (after s (sd s t)) fits) (λ m1 h1. from_right ts (after s (sd s t)) m1 h1 fits)
+    from_right (t ∷ ts) s m h fits = one_more s m t ts (sd s t) h (laws.step s m t h)
+        (fits_before ts (after s (sd s t)) fits) (λ m1 h1. from_right ts (after s (sd s t)) m1 h1 fits)
 
     -- the lift: for each schedule of the source that fits, the machine's schedule has the same trace
-    pub to_machine_right : (ts : List ℕ) (s : State) (m : Machine) → machine_trace m (setup_end bound m (has_setup_ended file program s)) ≡ [] → RJ s (machine_run m (setup_end bound m (has_setup_ended file program s))) → Fits (run sd s ts) → (machine_trace m (steps_all file program bound s m ts) ≡ map (write (run sd s ts)) (trace sd s ts)) × Alive (run sd s ts) (trace sd s ts)
+    pub to_machine_right : (ts : List ℕ) (s : State) (m : Machine) →
+        machine_trace m (setup_end bound m (has_setup_ended file program s)) ≡ [] →
+        RJ s (machine_run m (setup_end bound m (has_setup_ended file program s))) →
+        Fits (run sd s ts) →
+        (machine_trace m (steps_all file program bound s m ts) ≡ map (write (run sd s ts)) (trace sd s ts)) ×
+        Alive (run sd s ts) (trace sd s ts)
     to_machine_right ts s m quiet h fits =
         let us = setup_end bound m (has_setup_ended file program s) in
-        let r = from_right ts s (machine_run m us) h fits in
-        (trace-append m us _ ∙ ap (λ xs. xs ++ machine_trace (machine_run m us) (steps_from file program bound s (machine_run m us) ts)) quiet ∙ r.0, r.2)
+        let r = from_right ts s (machine_run m us) h fits in (
+          trace-append m us _ ∙ ap (λ xs. xs ++ machine_trace (machine_run m us)
+              (steps_from file program bound s (machine_run m us) ts)) quiet ∙ r.0,
+          r.2,
+        )

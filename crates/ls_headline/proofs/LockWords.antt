@@ -1,5 +1,6 @@
 -- A lock's word that a thread saw, and what it says of the word that is there now.
-use Rattle.std.proofs.Common.{◌≡◌, ◌≢◌, ℕ, ◌+◌, ◌-◌, ◌*◌, ◌/◌, ◌%◌, ◌<◌, ◌≤◌, ◌^◌, ◌==◌, Bool, true, false, refl, sym, ap, ◌∙◌, arith, nat_le, if◌then◌else◌}
+use Rattle.std.proofs.Common.{◌≡◌, ◌≢◌, ℕ, ◌+◌, ◌-◌, ◌*◌, ◌/◌, ◌%◌, ◌<◌, ◌≤◌, ◌^◌, ◌==◌, Bool, true, false, refl, sym}
+use Rattle.std.proofs.Common.{ap, ◌∙◌, arith, nat_le, if◌then◌else◌}
 use Rattle.std.proofs.lemmas.Bool.Decides.{nat_tests}
 use Rattle.ls_code.specs.Locks.{taken_of, left_of, is_own}
 use Rattle.ls_code.specs.declared.lock_word.Taken.TheVariants as taken
@@ -35,11 +36,20 @@ pub data TakenBy (w t : ℕ) : Type 0 where
   IsFull : w ≢ 0 → is_own w t ≡ true → 2147483647 ≤ w % 2 ^ 32 → taken_of w t ≡ taken.TooMany → TakenBy w t
   IsOthers : w ≢ 0 → is_own w t ≡ false → taken_of w t ≡ taken.Other → TakenBy w t
 
-taken_test : (w t : ℕ) (a b d : Bool) → (w == 0) ≡ a → is_own w t ≡ b → nat_le 2147483647 (w % 2 ^ 32) ≡ d → taken_of w t ≡ (if a then taken.Taken ((t + 1) * 2 ^ 32 + 1) else (if b then (if d then taken.TooMany else taken.Taken (w + 1)) else taken.Other))
+taken_test : (w t : ℕ) (a b d : Bool) →
+    (w == 0) ≡ a →
+    is_own w t ≡ b →
+    nat_le 2147483647 (w % 2 ^ 32) ≡ d →
+    taken_of w t ≡ (if a then taken.Taken ((t + 1) * 2 ^ 32 + 1) else
+    (if b then (if d then taken.TooMany else taken.Taken (w + 1)) else taken.Other))
 taken_test w t a b d ea eb ed =
-    ap (λ z. if z then taken.Taken ((t + 1) * 2 ^ 32 + 1) else (if is_own w t then (if nat_le 2147483647 (w % 2 ^ 32) then taken.TooMany else taken.Taken (w + 1)) else taken.Other)) ea
-    ∙ ap (λ z. if a then taken.Taken ((t + 1) * 2 ^ 32 + 1) else (if z then (if nat_le 2147483647 (w % 2 ^ 32) then taken.TooMany else taken.Taken (w + 1)) else taken.Other)) eb
-    ∙ ap (λ z. if a then taken.Taken ((t + 1) * 2 ^ 32 + 1) else (if b then (if z then taken.TooMany else taken.Taken (w + 1)) else taken.Other)) ed
+    ap (λ z. if z then taken.Taken ((t + 1) * 2 ^ 32 + 1) else
+    (if is_own w t then (if nat_le 2147483647 (w % 2 ^ 32) then taken.TooMany else taken.Taken (w + 1)) else
+    taken.Other)) ea
+    ∙ ap (λ z. if a then taken.Taken ((t + 1) * 2 ^ 32 + 1) else
+    (if z then (if nat_le 2147483647 (w % 2 ^ 32) then taken.TooMany else taken.Taken (w + 1)) else taken.Other)) eb
+    ∙ ap (λ z. if a then taken.Taken ((t + 1) * 2 ^ 32 + 1) else
+    (if b then (if z then taken.TooMany else taken.Taken (w + 1)) else taken.Other)) ed
 
 -- what `lock()` makes of a word, case by case
 pub taken_by : (w t : ℕ) → TakenBy w t
@@ -47,12 +57,18 @@ taken_by w t = by_cases (w == 0) (is_own w t) (nat_le 2147483647 (w % 2 ^ 32)) r
   where
     by_cases : (a b d : Bool) → (w == 0) ≡ a → is_own w t ≡ b → nat_le 2147483647 (w % 2 ^ 32) ≡ d → TakenBy w t
     by_cases true b d ea eb ed = IsFree (grind (arith, nat_tests)) (taken_test w t true b d ea eb ed)
-    by_cases false true false ea eb ed = IsOwn (grind (arith, nat_tests)) eb (grind (arith, nat_tests)) (taken_test w t false true false ea eb ed)
-    by_cases false true true ea eb ed = IsFull (grind (arith, nat_tests)) eb (grind (arith, nat_tests)) (taken_test w t false true true ea eb ed)
+    by_cases false true false ea eb ed = IsOwn (grind (arith, nat_tests)) eb (grind (arith, nat_tests))
+        (taken_test w t false true false ea eb ed)
+    by_cases false true true ea eb ed = IsFull (grind (arith, nat_tests)) eb (grind (arith, nat_tests))
+        (taken_test w t false true true ea eb ed)
     by_cases false false d ea eb ed = IsOthers (grind (arith, nat_tests)) eb (taken_test w t false false d ea eb ed)
 
 -- a lost exchange of a word that could be taken: another owns the lock
-pub lost_other : (t seen now next : ℕ) → Fresh t seen now → taken_of seen t ≡ taken.Taken next → now ≢ seen → taken_of now t ≡ taken.Other
+pub lost_other : (t seen now next : ℕ) →
+    Fresh t seen now →
+    taken_of seen t ≡ taken.Taken next →
+    now ≢ seen →
+    taken_of now t ≡ taken.Other
 lost_other t seen now next fresh et differ = from_seen (taken_by seen t)
   where
     from_now : seen ≡ 0 → TakenBy now t → taken_of now t ≡ taken.Other
@@ -84,7 +100,10 @@ pub one_owner : (w t u : ℕ) → u ≢ t → is_own w u ≡ true → is_own w t
 one_owner w t u d h = not_own_so w t (let e = own_is w u h in omega arith)
 
 -- what another thread takes
-pub taken_apart : (w t u next : ℕ) → u ≢ t → taken_of w u ≡ taken.Taken next → (is_own w t ≡ false) × (is_own next t ≡ false)
+pub taken_apart : (w t u next : ℕ) →
+    u ≢ t →
+    taken_of w u ≡ taken.Taken next →
+    (is_own w t ≡ false) × (is_own next t ≡ false)
 taken_apart w t u next d e = by_word (taken_by w u)
   where
     by_word : TakenBy w u → (is_own w t ≡ false) × (is_own next t ≡ false)
@@ -99,13 +118,22 @@ taken_apart w t u next d e = by_word (taken_by w u)
     by_word (IsOthers nz o x) = cc
 
 -- what another thread leaves
-pub left_apart : (w t u next : ℕ) → u ≢ t → left_of w u ≡ left.Left next → (is_own w t ≡ false) × (is_own next t ≡ false)
+pub left_apart : (w t u next : ℕ) →
+    u ≢ t →
+    left_of w u ≡ left.Left next →
+    (is_own w t ≡ false) × (is_own next t ≡ false)
 left_apart w t u next d e = by_owner (is_own w u) refl
   where
-    to : (b : Bool) → is_own w u ≡ b → left_of w u ≡ (if b then left.Left (if nat_le (w % 2 ^ 32) 1 then 0 else w - 1) else left.NotOwner)
+    to : (b : Bool) →
+        is_own w u ≡ b →
+        left_of w u ≡ (if b then left.Left (if nat_le (w % 2 ^ 32) 1 then 0 else w - 1) else left.NotOwner)
     to b eb = ap (λ z. if z then left.Left (if nat_le (w % 2 ^ 32) 1 then 0 else w - 1) else left.NotOwner) eb
 
-    by_holds : (b : Bool) → is_own w u ≡ true → nat_le (w % 2 ^ 32) 1 ≡ b → next ≡ (if b then 0 else w - 1) → is_own next t ≡ false
+    by_holds : (b : Bool) →
+        is_own w u ≡ true →
+        nat_le (w % 2 ^ 32) 1 ≡ b →
+        next ≡ (if b then 0 else w - 1) →
+        is_own next t ≡ false
     by_holds true o eb n = ap (λ v. is_own v t) n ∙ zero_not_own t
     by_holds false o eb n =
         let h : w / 2 ^ 32 ≡ u + 1 = own_is w u o in
@@ -120,8 +148,15 @@ left_apart w t u next d e = by_owner (is_own w u) refl
         (one_owner w t u d eb, by_holds (nat_le (w % 2 ^ 32) 1) eb refl n)
 
 -- what a word left by another says to the thread that saw
-pub fresh_apart : (t seen now next : ℕ) → Fresh t seen now → (is_own now t ≡ false) × (is_own next t ≡ false) → Fresh t seen next
-fresh_apart t seen now next fresh h = (λ o. (let e : now ≡ seen = fresh.0 o in let x : is_own now t ≡ true = ap (λ v. is_own v t) e ∙ o in cc), λ o. h.1)
+pub fresh_apart : (t seen now next : ℕ) →
+    Fresh t seen now →
+    (is_own now t ≡ false) × (is_own next t ≡ false) →
+    Fresh t seen next
+fresh_apart t seen now next fresh h = (
+  λ o. (let e : now ≡ seen = fresh.0 o in
+      let x : is_own now t ≡ true = ap (λ v. is_own v t) e ∙ o in cc),
+  λ o. h.1,
+)
 
 -- an unlock by the owner
 pub own_left : (w t : ℕ) → is_own w t ≡ true → left_of w t ≡ left.Left (if nat_le (w % 2 ^ 32) 1 then 0 else w - 1)

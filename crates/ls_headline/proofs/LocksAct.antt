@@ -1,5 +1,6 @@
 -- An operation of a lock, from each place within it: if the action doesn't wait, the thread acts.
-use Rattle.std.proofs.Common.{◌≡◌, ◌≢◌, ◌⊎◌, inl, inr, ℕ, ◌==◌, Bool, true, false, Option, Some, refl, sym, ap, ◌∙◌, subst}
+use Rattle.std.proofs.Common.{◌≡◌, ◌≢◌, ◌⊎◌, inl, inr, ℕ, ◌==◌, Bool, true, false, Option, Some, refl, sym, ap, ◌∙◌}
+use Rattle.std.proofs.Common.{subst}
 use Rattle.std.proofs.lemmas.Bool.Decides.{eqb_tells}
 use Rattle.ls_events.specs.declared.kind.Kind.{Kind}
 use Rattle.ls_events.specs.declared.kind.Kind.TheVariants.{IllegalMonitorState, Error}
@@ -35,31 +36,53 @@ module _ (room : Bool) (code : Code) (t : ℕ) (c : Cells) where
   acts_by : (x : Thread) (o : Outcome) → one code t c x ≡ o → Acting room o.did → Acting room (one code t c x).did
   acts_by x o e acts = ap (λ (z : Outcome). acts_or_stops room z.did) e ∙ acts
 
-  acts_thrown : (x x' z : Thread) (b : Action ℕ) (kind : Kind) → one code t c x ≡ ended_so c x (throwing code z kind) (did.Acted b (Fails kind)) → throwing code z kind ≡ Some x' → Acting room (one code t c x).did
-  acts_thrown x x' z b kind e thrown = acts_by x (outcome_of x' c (did.Acted b (Fails kind))) (e ∙ ap (λ o. ended_so c x o (did.Acted b (Fails kind))) thrown) refl
+  acts_thrown : (x x' z : Thread) (b : Action ℕ) (kind : Kind) →
+      one code t c x ≡ ended_so c x (throwing code z kind) (did.Acted b (Fails kind)) →
+      throwing code z kind ≡ Some x' →
+      Acting room (one code t c x).did
+  acts_thrown x x' z b kind e thrown = acts_by x (outcome_of x' c (did.Acted b (Fails kind)))
+      (e ∙ ap (λ o. ended_so c x o (did.Acted b (Fails kind))) thrown) refl
 
-  module _ (y : Thread) (runs : y.mode ≡ mode.Running) (a : ℕ) (now : ℕ) (ec : cell_at c a 0 ≡ Some now) (most : taken_of now t ≡ taken.TooMany → now ≡ full_word t) where
-    module _ (b : Action ℕ) (locks : Locking a b) (parts : LockParts code t y a b) (replies : Replies room c t b (after_lock code t y)) where
+  module _ (y : Thread) (runs : y.mode ≡ mode.Running) (a : ℕ) (now : ℕ) (ec : cell_at c a 0 ≡ Some now)
+      (most : taken_of now t ≡ taken.TooMany → now ≡ full_word t) where
+    module _ (b : Action ℕ) (locks : Locking a b) (parts : LockParts code t y a b)
+        (replies : Replies room c t b (after_lock code t y)) where
       lock_free : taken_of now t ≢ taken.Other
-      lock_free e = waits_not room c t b (after_lock code t y) (locks.does c t ∙ lock_is c a t now taken.Other Done Waits ec e) replies
+      lock_free e = waits_not room c t b (after_lock code t y)
+          (locks.does c t ∙ lock_is c a t now taken.Other Done Waits ec e) replies
 
-      take_lock : (w : ℕ) → Fresh t w now → (k : Taken) → taken_of w t ≡ k → k ≢ taken.Other → Acting room (one code t c (seen y w)).did
+      take_lock : (w : ℕ) →
+          Fresh t w now →
+          (k : Taken) →
+          taken_of w t ≡ k →
+          k ≢ taken.Other →
+          Acting room (one code t c (seen y w)).did
       take_lock w fresh taken.Other ek other = absurd (other refl)
       take_lock w fresh taken.TooMany ek other =
           let same : now ≡ w = full_now t w now fresh ek in
           let en : taken_of now t ≡ taken.TooMany = ap (λ z. taken_of z t) same ∙ ek in
-          let on = goes_on room c t b (after_lock code t y) c (Fails Error) (locks.does c t ∙ lock_is c a t now taken.TooMany Done Waits ec en) replies in
-          acts_thrown (seen y w) on.0 (seen y w) b Error (parts.full c w ek) (ap (λ z. throwing code (seen y z) Error) (sym same ∙ most en) ∙ on.1)
+          let on = goes_on room c t b (after_lock code t y) c (Fails Error)
+          (locks.does c t ∙ lock_is c a t now taken.TooMany Done Waits ec en) replies in
+          acts_thrown (seen y w) on.0 (seen y w) b Error (parts.full c w ek)
+          (ap (λ z. throwing code (seen y z) Error) (sym same ∙ most en) ∙ on.1)
       take_lock w fresh (taken.Taken v) ek other = by_test (eqb_tells now w)
         where
-          by_test : (((now == w) ≡ true) × (now ≡ w)) ⊎ (((now == w) ≡ false) × (now ≢ w)) → Acting room (one code t c (seen y w)).did
+          by_test : (((now == w) ≡ true) × (now ≡ w)) ⊎ (((now == w) ≡ false) × (now ≢ w)) →
+              Acting room (one code t c (seen y w)).did
           by_test (inl (bt, same)) =
               let st = store_is c a v w (ec ∙ ap Some same) in
               acts_by (seen y w) _ (parts.won c st.0 w v ek (won_is c st.0 a t w v (ec ∙ ap Some same) st.1)) refl
           by_test (inr (bt, apart)) = absurd (lock_free (lost_other t w now v fresh ek apart))
 
       lock_acts : Comes room code t c 2 y
-      lock_acts = (runs, inr (seen y now, parts.see c now ec, (runs, inl (take_lock now (fresh_now t now) (taken_of now t) refl lock_free))))
+      lock_acts = (
+        runs,
+        inr (
+          seen y now,
+          parts.see c now ec,
+          (runs, inl (take_lock now (fresh_now t now) (taken_of now t) refl lock_free)),
+        ),
+      )
 
       -- back from a lost exchange or from another's word
       pub lock_back : Comes room code t c 3 (exchanged y 0)
@@ -71,16 +94,24 @@ module _ (room : Bool) (code : Code) (t : ℕ) (c : Cells) where
       lock_saw w fresh (taken.Taken v) ek = (runs, inl (take_lock w fresh (taken.Taken v) ek (λ e. absurd (cc))))
 
     module _ (parts : TryParts code t y a) (replies : Replies room c t (act.TryLock a) (after_try code t y)) where
-      take_try : (w : ℕ) → Fresh t w now → (k : Taken) → taken_of w t ≡ k → k ≢ taken.Other → Acting room (one code t c (seen y w)).did
+      take_try : (w : ℕ) →
+          Fresh t w now →
+          (k : Taken) →
+          taken_of w t ≡ k →
+          k ≢ taken.Other →
+          Acting room (one code t c (seen y w)).did
       take_try w fresh taken.Other ek other = absurd (other refl)
       take_try w fresh taken.TooMany ek other =
           let same : now ≡ w = full_now t w now fresh ek in
           let en : taken_of now t ≡ taken.TooMany = ap (λ z. taken_of z t) same ∙ ek in
-          let on = goes_on room c t (act.TryLock a) (after_try code t y) c (Fails Error) (lock_is c a t now taken.TooMany (Gives 1) (Answers c (Gives 0)) ec en) replies in
-          acts_thrown (seen y w) on.0 (seen y w) (act.TryLock a) Error (parts.full c w ek) (ap (λ z. throwing code (seen y z) Error) (sym same ∙ most en) ∙ on.1)
+          let on = goes_on room c t (act.TryLock a) (after_try code t y) c (Fails Error)
+          (lock_is c a t now taken.TooMany (Gives 1) (Answers c (Gives 0)) ec en) replies in
+          acts_thrown (seen y w) on.0 (seen y w) (act.TryLock a) Error (parts.full c w ek)
+          (ap (λ z. throwing code (seen y z) Error) (sym same ∙ most en) ∙ on.1)
       take_try w fresh (taken.Taken v) ek other = by_test (eqb_tells now w)
         where
-          by_test : (((now == w) ≡ true) × (now ≡ w)) ⊎ (((now == w) ≡ false) × (now ≢ w)) → Acting room (one code t c (seen y w)).did
+          by_test : (((now == w) ≡ true) × (now ≡ w)) ⊎ (((now == w) ≡ false) × (now ≢ w)) →
+              Acting room (one code t c (seen y w)).did
           by_test (inl (bt, same)) =
               let st = store_is c a v w (ec ∙ ap Some same) in
               acts_by (seen y w) _ (parts.won c st.0 w v ek (won_is c st.0 a t w v (ec ∙ ap Some same) st.1)) refl
@@ -88,34 +119,71 @@ module _ (room : Bool) (code : Code) (t : ℕ) (c : Cells) where
 
       try_acts : (k : Taken) → taken_of now t ≡ k → Comes room code t c 2 y
       try_acts taken.Other ek = (runs, inl (acts_by y _ (parts.see_other c now ec ek) refl))
-      try_acts taken.TooMany ek = (runs, inr (seen y now, parts.see_full c now ec ek, (runs, inl (take_try now (fresh_now t now) taken.TooMany ek (λ e. absurd (cc))))))
-      try_acts (taken.Taken v) ek = (runs, inr (seen y now, parts.see c now v ec ek, (runs, inl (take_try now (fresh_now t now) (taken.Taken v) ek (λ e. absurd (cc))))))
+      try_acts taken.TooMany ek = (
+        runs,
+        inr (
+          seen y now,
+          parts.see_full c now ec ek,
+          (runs, inl (take_try now (fresh_now t now) taken.TooMany ek (λ e. absurd (cc)))),
+        ),
+      )
+      try_acts (taken.Taken v) ek = (
+        runs,
+        inr (
+          seen y now,
+          parts.see c now v ec ek,
+          (runs, inl (take_try now (fresh_now t now) (taken.Taken v) ek (λ e. absurd (cc)))),
+        ),
+      )
 
-    module _ (b : Action ℕ) (unlocks : Unlocking a b) (parts : UnlockParts code t y a b) (replies : Replies room c t b (after_unlock code y)) where
-      drop_acts : (w : ℕ) → Fresh t w now → is_own w t ≡ true → (next : ℕ) → left_of w t ≡ left.Left next → Acting room (one code t c (seen y w)).did
+    module _ (b : Action ℕ) (unlocks : Unlocking a b) (parts : UnlockParts code t y a b)
+        (replies : Replies room c t b (after_unlock code y)) where
+      drop_acts : (w : ℕ) →
+          Fresh t w now →
+          is_own w t ≡ true →
+          (next : ℕ) →
+          left_of w t ≡ left.Left next →
+          Acting room (one code t c (seen y w)).did
       drop_acts w fresh own next ek =
           let st = store_is c a next now ec in
           acts_by (seen y w) _ (parts.drop c st.0 w next ek (st.1 Done) _ refl) refl
 
       unlock_acts : (b : Bool) → is_own now t ≡ b → Comes room code t c 2 y
-      unlock_acts true own = (runs, inr (seen y now, parts.see c now _ ec (own_left now t own), (runs, inl (drop_acts now (fresh_now t now) own _ (own_left now t own)))))
+      unlock_acts true own = (
+        runs,
+        inr (
+          seen y now,
+          parts.see c now _ ec (own_left now t own),
+          (runs, inl (drop_acts now (fresh_now t now) own _ (own_left now t own))),
+        ),
+      )
       unlock_acts false own =
-          let on = goes_on room c t b (after_unlock code y) c (Fails IllegalMonitorState) (unlocks.does c t ∙ unlock_is c a t now left.NotOwner ec (not_left now t own)) replies in
+          let on = goes_on room c t b (after_unlock code y) c (Fails IllegalMonitorState)
+          (unlocks.does c t ∙ unlock_is c a t now left.NotOwner ec (not_left now t own)) replies in
           (runs, inl (acts_thrown y on.0 y b IllegalMonitorState (parts.see_other c now ec (not_left now t own)) on.1))
 
   module _ (y : Thread) (runs : y.mode ≡ mode.Running) where
     -- at the beginning of the operation
-    pub begins : (b : Action ℕ) (go : Answer ℕ → Option Thread) → Parts code t y b go → Replies room c t b go → ((lock : ℕ) → lock_on b ≡ Some lock → Word c t lock) → Comes room code t c 2 y
+    pub begins : (b : Action ℕ) (go : Answer ℕ → Option Thread) →
+        Parts code t y b go →
+        Replies room c t b go →
+        ((lock : ℕ) → lock_on b ≡ Some lock → Word c t lock) →
+        Comes room code t c 2 y
     begins (act.Lock a) go parts replies word =
-        let r = word a refl in lock_acts y runs a r.0 r.1 r.2 (act.Lock a) (of_lock a) parts.0 (subst (Replies room c t (act.Lock a)) parts.1 replies)
+        let r = word a refl in lock_acts y runs a r.0 r.1 r.2 (act.Lock a) (of_lock a) parts.0
+        (subst (Replies room c t (act.Lock a)) parts.1 replies)
     begins (act.LockMonitor a) go parts replies word =
-        let r = word a refl in lock_acts y runs a r.0 r.1 r.2 (act.LockMonitor a) (of_monitor a) parts.0 (subst (Replies room c t (act.LockMonitor a)) parts.1 replies)
+        let r = word a refl in lock_acts y runs a r.0 r.1 r.2 (act.LockMonitor a) (of_monitor a) parts.0
+        (subst (Replies room c t (act.LockMonitor a)) parts.1 replies)
     begins (act.TryLock a) go parts replies word =
-        let r = word a refl in try_acts y runs a r.0 r.1 r.2 parts.0 (subst (Replies room c t (act.TryLock a)) parts.1 replies) (taken_of r.0 t) refl
+        let r = word a refl in try_acts y runs a r.0 r.1 r.2 parts.0
+        (subst (Replies room c t (act.TryLock a)) parts.1 replies) (taken_of r.0 t) refl
     begins (act.Unlock a) go parts replies word =
-        let r = word a refl in unlock_acts y runs a r.0 r.1 r.2 (act.Unlock a) (off_lock a) parts.0 (subst (Replies room c t (act.Unlock a)) parts.1 replies) (is_own r.0 t) refl
+        let r = word a refl in unlock_acts y runs a r.0 r.1 r.2 (act.Unlock a) (off_lock a) parts.0
+        (subst (Replies room c t (act.Unlock a)) parts.1 replies) (is_own r.0 t) refl
     begins (act.UnlockMonitor a) go parts replies word =
-        let r = word a refl in unlock_acts y runs a r.0 r.1 r.2 (act.UnlockMonitor a) (off_monitor a) parts.0 (subst (Replies room c t (act.UnlockMonitor a)) parts.1 replies) (is_own r.0 t) refl
+        let r = word a refl in unlock_acts y runs a r.0 r.1 r.2 (act.UnlockMonitor a) (off_monitor a) parts.0
+        (subst (Replies room c t (act.UnlockMonitor a)) parts.1 replies) (is_own r.0 t) refl
     begins _ go parts replies word = absurd parts
 
     fresh_for : (a lock w : ℕ) → Some a ≡ Some lock → Sees c t lock w → (r : Word c t a) → Fresh t w r.0
@@ -126,20 +194,42 @@ module _ (room : Bool) (code : Code) (t : ℕ) (c : Cells) where
         subst (Fresh t w) word fresh
 
     -- with a word that it has seen
-    pub has_seen : (b : Action ℕ) (go : Answer ℕ → Option Thread) → Parts code t y b go → Replies room c t b go → ((lock : ℕ) → lock_on b ≡ Some lock → Word c t lock) → (lock w : ℕ) → lock_on b ≡ Some lock → Sees c t lock w → OwnFor t w b → Comes room code t c 4 (seen y w)
+    pub has_seen : (b : Action ℕ) (go : Answer ℕ → Option Thread) →
+        Parts code t y b go →
+        Replies room c t b go →
+        ((lock : ℕ) → lock_on b ≡ Some lock → Word c t lock) →
+        (lock w : ℕ) →
+        lock_on b ≡ Some lock →
+        Sees c t lock w →
+        OwnFor t w b →
+        Comes room code t c 4 (seen y w)
     has_seen (act.Lock a) go parts replies word lock w on sees own =
         let r = word a refl in
-        lock_saw y runs a r.0 r.1 r.2 (act.Lock a) (of_lock a) parts.0 (subst (Replies room c t (act.Lock a)) parts.1 replies) w (fresh_for a lock w on sees r) (taken_of w t) refl
+        lock_saw y runs a r.0 r.1 r.2 (act.Lock a) (of_lock a) parts.0
+        (subst (Replies room c t (act.Lock a)) parts.1 replies) w (fresh_for a lock w on sees r) (taken_of w t) refl
     has_seen (act.LockMonitor a) go parts replies word lock w on sees own =
         let r = word a refl in
-        lock_saw y runs a r.0 r.1 r.2 (act.LockMonitor a) (of_monitor a) parts.0 (subst (Replies room c t (act.LockMonitor a)) parts.1 replies) w (fresh_for a lock w on sees r) (taken_of w t) refl
+        lock_saw y runs a r.0 r.1 r.2 (act.LockMonitor a) (of_monitor a) parts.0
+        (subst (Replies room c t (act.LockMonitor a)) parts.1 replies) w (fresh_for a lock w on sees r)
+        (taken_of w t) refl
     has_seen (act.TryLock a) go parts replies word lock w on sees own =
-        let r = word a refl in
-        (runs, inl (take_try y runs a r.0 r.1 r.2 parts.0 (subst (Replies room c t (act.TryLock a)) parts.1 replies) w (fresh_for a lock w on sees r) (taken_of w t) refl own))
+        let r = word a refl in (
+          runs,
+          inl (take_try y runs a r.0 r.1 r.2 parts.0 (subst (Replies room c t (act.TryLock a)) parts.1 replies) w
+              (fresh_for a lock w on sees r) (taken_of w t) refl own),
+        )
     has_seen (act.Unlock a) go parts replies word lock w on sees own =
-        let r = word a refl in
-        (runs, inl (drop_acts y runs a r.0 r.1 r.2 (act.Unlock a) (off_lock a) parts.0 (subst (Replies room c t (act.Unlock a)) parts.1 replies) w (fresh_for a lock w on sees r) own _ (own_left w t own)))
+        let r = word a refl in (
+          runs,
+          inl (drop_acts y runs a r.0 r.1 r.2 (act.Unlock a) (off_lock a) parts.0
+              (subst (Replies room c t (act.Unlock a)) parts.1 replies) w (fresh_for a lock w on sees r) own _
+              (own_left w t own)),
+        )
     has_seen (act.UnlockMonitor a) go parts replies word lock w on sees own =
-        let r = word a refl in
-        (runs, inl (drop_acts y runs a r.0 r.1 r.2 (act.UnlockMonitor a) (off_monitor a) parts.0 (subst (Replies room c t (act.UnlockMonitor a)) parts.1 replies) w (fresh_for a lock w on sees r) own _ (own_left w t own)))
+        let r = word a refl in (
+          runs,
+          inl (drop_acts y runs a r.0 r.1 r.2 (act.UnlockMonitor a) (off_monitor a) parts.0
+              (subst (Replies room c t (act.UnlockMonitor a)) parts.1 replies) w (fresh_for a lock w on sees r) own _
+              (own_left w t own)),
+        )
     has_seen _ go parts replies word lock w on sees own = absurd parts

@@ -13,6 +13,9 @@ use Rattle.ls_headline.specs.Sorts.{ActionHas, Known}
 
 -- What the meaning owes: it commutes with renamings, and asks on things of the right types.
 pub record Means (file : File) (program : Program) : Type 0 where
-  pub renames : (ρ : ℕ → ℕ) → IsRenaming ρ → (t : ℕ) (had : Answers) → next file program t (renamed_answers ρ had) ≡ renamed_next ρ (next file program t had)
+  pub renames : (ρ : ℕ → ℕ) →
+      IsRenaming ρ →
+      (t : ℕ) (had : Answers) →
+      next file program t (renamed_answers ρ had) ≡ renamed_next ρ (next file program t had)
   pub sound : (things : List ValueType) (t : ℕ) (had : Answers) (a : Action Value) (s : Sort) →
       Known file program things t had → next file program t had ≡ Goes a s → ActionHas file program things t a s

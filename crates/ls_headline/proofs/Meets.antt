@@ -1,5 +1,6 @@
 -- The pauses to which a thread is read, and the pauses of its own instructions.
-use Rattle.std.proofs.Common.{◌≡◌, ℕ, zero, suc, ◌≤◌, Bool, true, false, List, [], ◌∷◌, Option, Some, None, refl, sym, ap, ◌∙◌, subst, arith, ◌⊎◌, inl, inr, if◌then◌else◌, All}
+use Rattle.std.proofs.Common.{◌≡◌, ℕ, zero, suc, ◌≤◌, Bool, true, false, List, [], ◌∷◌, Option, Some, None, refl, sym}
+use Rattle.std.proofs.Common.{ap, ◌∙◌, subst, arith, ◌⊎◌, inl, inr, if◌then◌else◌, All}
 use Rattle.ls_events.specs.declared.action.Action.{Action}
 use Rattle.ls_events.specs.declared.action.Action.TheVariants as act
 use Rattle.ls_events.specs.declared.action.Answer.{Answer}
@@ -11,10 +12,12 @@ use Rattle.ls_code.specs.Fed.{Pause, Paused, Passes, IsOver, IsStuck, TooLong, L
 use Rattle.ls_code.specs.Fed as own
 use Rattle.ls_code.specs.declared.step.Mode.{Mode}
 use Rattle.ls_code.specs.declared.step.Mode.TheVariants as mode
-use Rattle.ls_code.specs.Reading.{is_locking, is_trying, is_unlocking, operation, planned_move, read_move, whole_move, begins_early, after_lock, after_try, after_unlock, carry, quiet, resume}
+use Rattle.ls_code.specs.Reading.{is_locking, is_trying, is_unlocking, operation, planned_move, read_move, whole_move}
+use Rattle.ls_code.specs.Reading.{begins_early, after_lock, after_try, after_unlock, carry, quiet, resume}
 use Rattle.ls_headline.specs.Parts.{IsPlanned}
 use Rattle.ls_headline.specs.ByWords.{IsExchanged, is_on_lock}
-use Rattle.ls_headline.proofs.Feeding.{IsLoud, NoPlan, none, asked_by, asking, ended, trapped, still, beginning, at_end, more}
+use Rattle.ls_headline.proofs.Feeding.{IsLoud, NoPlan, none, asked_by, asking, ended, trapped, still, beginning, at_end}
+use Rattle.ls_headline.proofs.Feeding.{more}
 use Rattle.ls_headline.proofs.PartsThere.{Begins, Beginning, there}
 use Rattle.ls_headline.proofs.Exchanging.{asks_plainly}
 use Rattle.ls_headline.proofs.OwnParts.{rest, at}
@@ -23,12 +26,41 @@ use Rattle.ls_headline.proofs.OwnParts.{rest, at}
 -- for the same. Or the reading begins an operation, and the instructions begin it too. Or the reading is lost.
 pub data Meets (p : Code) (n bound : ℕ) (r o : Pause) : Type 0 where
   BothOver : (m : Mode) → r ≡ IsOver m → o ≡ IsOver m → Meets p n bound r o
-  BothAct : (a : Action ℕ) (go : Answer ℕ → Option Thread) → is_on_lock a ≡ false → r ≡ Paused a go → o ≡ Paused a go → Meets p n bound r o
-  LockBegins : (y : Thread) (a j : ℕ) → y.mode ≡ mode.Running → Begins p n y 1 a (act.Lock a) (is_locking p 1 y.top.counter) → r ≡ Paused (act.Lock a) (after_lock p n y) → o ≡ own.quiet p n j y → Meets p n bound r o
-  TryBegins : (y : Thread) (a j : ℕ) → y.mode ≡ mode.Running → Begins p n y 2 a (act.TryLock a) (is_trying p y.top.counter) → r ≡ Paused (act.TryLock a) (after_try p n y) → o ≡ own.quiet p n j y → Meets p n bound r o
-  UnlockBegins : (y : Thread) (a j : ℕ) → y.mode ≡ mode.Running → Begins p n y 3 a (act.Unlock a) (is_unlocking p 0 y.top.counter) → r ≡ Paused (act.Unlock a) (after_unlock p y) → o ≡ own.quiet p n j y → Meets p n bound r o
-  MonitorBegins : (y : Thread) (a j : ℕ) → y.mode ≡ mode.Running → Begins p n y 4 a (act.LockMonitor a) (is_locking p 4 y.top.counter) → r ≡ Paused (act.LockMonitor a) (after_lock p n y) → o ≡ own.quiet p n j y → Meets p n bound r o
-  LeaveBegins : (y : Thread) (a j : ℕ) → y.mode ≡ mode.Running → Begins p n y 5 a (act.UnlockMonitor a) (is_unlocking p 1 y.top.counter) → r ≡ Paused (act.UnlockMonitor a) (after_unlock p y) → o ≡ own.quiet p n j y → Meets p n bound r o
+  BothAct : (a : Action ℕ) (go : Answer ℕ → Option Thread) →
+      is_on_lock a ≡ false →
+      r ≡ Paused a go →
+      o ≡ Paused a go →
+      Meets p n bound r o
+  LockBegins : (y : Thread) (a j : ℕ) →
+      y.mode ≡ mode.Running →
+      Begins p n y 1 a (act.Lock a) (is_locking p 1 y.top.counter) →
+      r ≡ Paused (act.Lock a) (after_lock p n y) →
+      o ≡ own.quiet p n j y →
+      Meets p n bound r o
+  TryBegins : (y : Thread) (a j : ℕ) →
+      y.mode ≡ mode.Running →
+      Begins p n y 2 a (act.TryLock a) (is_trying p y.top.counter) →
+      r ≡ Paused (act.TryLock a) (after_try p n y) →
+      o ≡ own.quiet p n j y →
+      Meets p n bound r o
+  UnlockBegins : (y : Thread) (a j : ℕ) →
+      y.mode ≡ mode.Running →
+      Begins p n y 3 a (act.Unlock a) (is_unlocking p 0 y.top.counter) →
+      r ≡ Paused (act.Unlock a) (after_unlock p y) →
+      o ≡ own.quiet p n j y →
+      Meets p n bound r o
+  MonitorBegins : (y : Thread) (a j : ℕ) →
+      y.mode ≡ mode.Running →
+      Begins p n y 4 a (act.LockMonitor a) (is_locking p 4 y.top.counter) →
+      r ≡ Paused (act.LockMonitor a) (after_lock p n y) →
+      o ≡ own.quiet p n j y →
+      Meets p n bound r o
+  LeaveBegins : (y : Thread) (a j : ℕ) →
+      y.mode ≡ mode.Running →
+      Begins p n y 5 a (act.UnlockMonitor a) (is_unlocking p 1 y.top.counter) →
+      r ≡ Paused (act.UnlockMonitor a) (after_unlock p y) →
+      o ≡ own.quiet p n j y →
+      Meets p n bound r o
   Loses : ((xs : List (Answer ℕ)) → resume p n bound xs r ≡ Lost) → Meets p n bound r o
 
 module _ (p : Code) (number : ℕ) where
@@ -39,7 +71,8 @@ module _ (p : Code) (number : ℕ) where
   Tells x d (Asks a go) = Unit {0}
   Tells x d (Plans go) = Unit {0}
 
-  if_tells : (x : Thread) (d : Move) (b : Bool) (a : Action ℕ) (go : Answer ℕ → Option Thread) → Tells x d (if b then Asks a go else Still)
+  if_tells : (x : Thread) (d : Move) (b : Bool) (a : Action ℕ) (go : Answer ℕ → Option Thread) →
+      Tells x d (if b then Asks a go else Still)
   if_tells x d true a go = tt
   if_tells x d false a go = tt
 
@@ -70,11 +103,15 @@ module _ (p : Code) (number : ℕ) where
   operation_tells x d (act.Return o v) = tt
   operation_tells x d (act.Trap o v) = tt
 
-  says_tells : (x : Thread) (d : Move) (o : Option Thread) → ((g : Thread → Pause) → own.carry number d g ≡ carry_on o g) → Tells x d (silent_or_still o)
+  says_tells : (x : Thread) (d : Move) (o : Option Thread) →
+      ((g : Thread → Pause) → own.carry number d g ≡ carry_on o g) →
+      Tells x d (silent_or_still o)
   says_tells x d None f = tt
   says_tells x d (Some u) f = f
 
-  plan_tells : (x : Thread) (d : Move) (q : Plan) → ((g : Thread → Pause) → own.carry number d g ≡ carry_plan q g) → Tells x d (planned_move p number x q)
+  plan_tells : (x : Thread) (d : Move) (q : Plan) →
+      ((g : Thread → Pause) → own.carry number d g ≡ carry_plan q g) →
+      Tells x d (planned_move p number x q)
   plan_tells x d (Says (Quietly s)) f = says_tells x d s f
   plan_tells x d (Says (Reports a y s)) f = tt
   plan_tells x d (Stores touch s) f = tt
@@ -110,7 +147,10 @@ module _ (p : Code) (number : ℕ) where
   move_tells x (Asks a go) = tt
   move_tells x (Plans go) = plan_tells x (Plans go) (go number) (λ g. refl)
 
-  silent_own : (x u : Thread) → whole_move p number x ≡ Silent u → (g : Thread → Pause) → own.carry number (thread_move p x) g ≡ g u
+  silent_own : (x u : Thread) →
+      whole_move p number x ≡ Silent u →
+      (g : Thread → Pause) →
+      own.carry number (thread_move p x) g ≡ g u
   silent_own x u e = subst (Tells x (thread_move p x)) e (move_tells x (thread_move p x))
 
 module _ (p : Code) (n bound : ℕ) where
@@ -126,12 +166,19 @@ module _ (p : Code) (n bound : ℕ) where
   abbrev pub MeetsSo : Pause → Pause → Type 0
   MeetsSo r o = Meets p n bound r o
 
-  begun : (y : Thread) (a : Action ℕ) (go : Answer ℕ → Option Thread) (j : ℕ) (r o : Pause) → y.mode ≡ mode.Running → Beginning p n y a go → r ≡ Paused a go → o ≡ own.quiet p n j y → MeetsSo r o
+  begun : (y : Thread) (a : Action ℕ) (go : Answer ℕ → Option Thread) (j : ℕ) (r o : Pause) →
+      y.mode ≡ mode.Running →
+      Beginning p n y a go →
+      r ≡ Paused a go →
+      o ≡ own.quiet p n j y →
+      MeetsSo r o
   begun y (act.Lock a) go j r o run b er eo = LockBegins y a j run b.0 (er ∙ ap (Paused (act.Lock a)) b.1) eo
   begun y (act.TryLock a) go j r o run b er eo = TryBegins y a j run b.0 (er ∙ ap (Paused (act.TryLock a)) b.1) eo
   begun y (act.Unlock a) go j r o run b er eo = UnlockBegins y a j run b.0 (er ∙ ap (Paused (act.Unlock a)) b.1) eo
-  begun y (act.LockMonitor a) go j r o run b er eo = MonitorBegins y a j run b.0 (er ∙ ap (Paused (act.LockMonitor a)) b.1) eo
-  begun y (act.UnlockMonitor a) go j r o run b er eo = LeaveBegins y a j run b.0 (er ∙ ap (Paused (act.UnlockMonitor a)) b.1) eo
+  begun y (act.LockMonitor a) go j r o run b er eo = MonitorBegins y a j run b.0
+      (er ∙ ap (Paused (act.LockMonitor a)) b.1) eo
+  begun y (act.UnlockMonitor a) go j r o run b er eo = LeaveBegins y a j run b.0
+      (er ∙ ap (Paused (act.UnlockMonitor a)) b.1) eo
   begun y (act.ReadField o i) go j q z run b er eo = absurd b
   begun y (act.WriteField o i v) go j q z run b er eo = absurd b
   begun y (act.ReadItem o i) go j q z run b er eo = absurd b
@@ -153,21 +200,41 @@ module _ (p : Code) (n bound : ℕ) where
   begun y (act.Return o v) go j q z run b er eo = absurd b
   begun y (act.Trap o v) go j q z run b er eo = absurd b
 
-  own_over : (k : ℕ) (t : Thread) (m : Mode) → t.mode ≡ m → ((f : Thread → Pause) → own.advance p n m t f ≡ IsOver m) → own.quiet p n k t ≡ IsOver m
+  own_over : (k : ℕ) (t : Thread) (m : Mode) →
+      t.mode ≡ m →
+      ((f : Thread → Pause) → own.advance p n m t f ≡ IsOver m) →
+      own.quiet p n k t ≡ IsOver m
   own_over zero t m e h = ap (λ m. own.advance p n m t (λ s. TooLong)) e ∙ h (λ s. TooLong)
   own_over (suc k) t m e h = ap (λ m. own.advance p n m t (own.quiet p n k)) e ∙ h (own.quiet p n k)
 
-  module _ (exchanged : All IsExchanged p.instructions) (k j : ℕ) (t : Thread) (silent : (u : Thread) → t.mode ≡ mode.Running → whole_move p n t ≡ Silent u → MeetsSo (quiet p n k t) (own.quiet p n j t)) where
-    by_pause : (a : Action ℕ) (go : Answer ℕ → Option Thread) → t.mode ≡ mode.Running → whole_move p n t ≡ Asks a go → Beginning p n t a go → (q : Pause) → quiet p n k t ≡ q → MeetsSo (quiet p n k t) (own.quiet p n j t)
-    by_pause a go run e b (Paused c g) is = begun t a go j _ _ run b (beginning p n k t a go run e (subst IsLoud (sym is) tt)) refl
-    by_pause a go run e b (Passes s) is = begun t a go j _ _ run b (beginning p n k t a go run e (subst IsLoud (sym is) tt)) refl
-    by_pause a go run e b (IsOver m) is = begun t a go j _ _ run b (beginning p n k t a go run e (subst IsLoud (sym is) tt)) refl
-    by_pause a go run e b IsStuck is = begun t a go j _ _ run b (beginning p n k t a go run e (subst IsLoud (sym is) tt)) refl
+  module _ (exchanged : All IsExchanged p.instructions) (k j : ℕ) (t : Thread)
+      (silent : (u : Thread) → t.mode ≡ mode.Running → whole_move p n t ≡ Silent u →
+      MeetsSo (quiet p n k t) (own.quiet p n j t)) where
+    by_pause : (a : Action ℕ) (go : Answer ℕ → Option Thread) →
+        t.mode ≡ mode.Running →
+        whole_move p n t ≡ Asks a go →
+        Beginning p n t a go →
+        (q : Pause) →
+        quiet p n k t ≡ q →
+        MeetsSo (quiet p n k t) (own.quiet p n j t)
+    by_pause a go run e b (Paused c g) is = begun t a go j _ _ run b
+        (beginning p n k t a go run e (subst IsLoud (sym is) tt)) refl
+    by_pause a go run e b (Passes s) is = begun t a go j _ _ run b
+        (beginning p n k t a go run e (subst IsLoud (sym is) tt)) refl
+    by_pause a go run e b (IsOver m) is = begun t a go j _ _ run b
+        (beginning p n k t a go run e (subst IsLoud (sym is) tt)) refl
+    by_pause a go run e b IsStuck is = begun t a go j _ _ run b
+        (beginning p n k t a go run e (subst IsLoud (sym is) tt)) refl
     by_pause a go run e b TooLong is = Loses (λ xs. ap (resume p n bound xs) is ∙ long_lost xs)
 
-    by_asking : (a : Action ℕ) (go : Answer ℕ → Option Thread) → t.mode ≡ mode.Running → whole_move p n t ≡ Asks a go → (thread_move p t ≡ Asks a go) ⊎ IsPlanned (thread_move p t) → MeetsSo (quiet p n k t) (own.quiet p n j t)
+    by_asking : (a : Action ℕ) (go : Answer ℕ → Option Thread) →
+        t.mode ≡ mode.Running →
+        whole_move p n t ≡ Asks a go →
+        (thread_move p t ≡ Asks a go) ⊎ IsPlanned (thread_move p t) →
+        MeetsSo (quiet p n k t) (own.quiet p n j t)
     by_asking a go run e (inl is) =
-        BothAct a go (asks_plainly p t a go exchanged is) (asking p n k t a go run is) (at p n j t run ∙ ap (λ d. own.carry n d (rest p n j)) is)
+        BothAct a go (asks_plainly p t a go exchanged is) (asking p n k t a go run is)
+        (at p n j t run ∙ ap (λ d. own.carry n d (rest p n j)) is)
     by_asking a go run e (inr planned) = by_pause a go run e (there p n t a go planned e) (quiet p n k t) refl
 
     by_whole : t.mode ≡ mode.Running → (w : Move) → whole_move p n t ≡ w → MeetsSo (quiet p n k t) (own.quiet p n j t)
@@ -182,13 +249,19 @@ module _ (p : Code) (n bound : ℕ) where
     by_mode mode.Trapped e = BothOver mode.Trapped (trapped p n k t e) (own_over j t mode.Trapped e (λ f. refl))
 
   -- a thread's pauses by the reading and by its own instructions belong together
-  pub meets : All IsExchanged p.instructions → (k j : ℕ) (t : Thread) → k ≤ j → MeetsSo (quiet p n k t) (own.quiet p n j t)
+  pub meets : All IsExchanged p.instructions →
+      (k j : ℕ) (t : Thread) →
+      k ≤ j →
+      MeetsSo (quiet p n k t) (own.quiet p n j t)
   meets exchanged zero j t le =
       by_mode exchanged zero j t (λ u run e. Loses (λ xs.
-      ap (resume p n bound xs) (at_end p n t run ∙ ap (λ w. carry false (begins_early (thread_move p t)) w (λ s. TooLong)) e) ∙ long_lost xs)) t.mode refl
+      ap (resume p n bound xs)
+      (at_end p n t run ∙ ap (λ w. carry false (begins_early (thread_move p t)) w (λ s. TooLong)) e) ∙
+      long_lost xs)) t.mode refl
   meets exchanged (suc k) zero t le = absurd (omega arith)
   meets exchanged (suc k) (suc j) t le =
       by_mode exchanged (suc k) (suc j) t (λ u run e.
-      subst (λ r. MeetsSo r (own.quiet p n (suc j) t)) (sym (more p n k t run ∙ ap (λ w. carry true (begins_early (thread_move p t)) w (quiet p n k)) e))
+      subst (λ r. MeetsSo r (own.quiet p n (suc j) t)) (sym (more p n k t run ∙
+      ap (λ w. carry true (begins_early (thread_move p t)) w (quiet p n k)) e))
       (subst (MeetsSo (quiet p n k u)) (sym (at p n (suc j) t run ∙ silent_own p n t u e (own.quiet p n j)))
       (meets exchanged k j u (omega arith)))) t.mode refl

@@ -27,7 +27,9 @@ pub record Locking (a : ℕ) (b : Action ℕ) : Type 0 where
   pub on : lock_on b ≡ Some a
   pub does : (c : Cells) (t : ℕ) → effect c t b ≡ lock_effect c a t Done Waits
   pub own : (t w : ℕ) → OwnFor t w b
-  pub parts : (p : Code) (t : ℕ) (y : Thread) (go : Answer ℕ → Option Thread) → Parts p t y b go → LockParts p t y a b × (go ≡ after_lock p t y)
+  pub parts : (p : Code) (t : ℕ) (y : Thread) (go : Answer ℕ → Option Thread) →
+      Parts p t y b go →
+      LockParts p t y a b × (go ≡ after_lock p t y)
 
 -- `lock()` is such an operation
 pub of_lock : (a : ℕ) → Locking a (act.Lock a)
@@ -56,9 +58,30 @@ off_monitor a = record { on = refl; does = λ c t. refl; own = λ t w h. h }
 -- failed, and its TAKE is still to come.
 pub data Middle (p : Code) (c : Cells) (t : ℕ) (y x : Thread) : Type 0 where
   Here : x ≡ y → Middle p c t y x
-  Saw : y.mode ≡ mode.Running → (b : Action ℕ) (go : Answer ℕ → Option Thread) (lock w : ℕ) → whole_move p t y ≡ Asks b go → IsPlanned (thread_move p y) → lock_on b ≡ Some lock → x ≡ seen y w → Sees c t lock w → OwnFor t w b → Middle p c t y x
-  Lost : y.mode ≡ mode.Running → (a : ℕ) (b : Action ℕ) → Locking a b → (go : Answer ℕ → Option Thread) → whole_move p t y ≡ Asks b go → IsPlanned (thread_move p y) → x ≡ exchanged y 0 → Middle p c t y x
-  Told : y.mode ≡ mode.Running → (z : Thread) (a w : ℕ) → TryParts p t z a → y ≡ seen z (word_of_another t) → x ≡ seen z w → taken_of w t ≡ taken.Other → Middle p c t y x
+  Saw : y.mode ≡ mode.Running →
+      (b : Action ℕ) (go : Answer ℕ → Option Thread) (lock w : ℕ) →
+      whole_move p t y ≡ Asks b go →
+      IsPlanned (thread_move p y) →
+      lock_on b ≡ Some lock →
+      x ≡ seen y w →
+      Sees c t lock w →
+      OwnFor t w b →
+      Middle p c t y x
+  Lost : y.mode ≡ mode.Running →
+      (a : ℕ) (b : Action ℕ) →
+      Locking a b →
+      (go : Answer ℕ → Option Thread) →
+      whole_move p t y ≡ Asks b go →
+      IsPlanned (thread_move p y) →
+      x ≡ exchanged y 0 →
+      Middle p c t y x
+  Told : y.mode ≡ mode.Running →
+      (z : Thread) (a w : ℕ) →
+      TryParts p t z a →
+      y ≡ seen z (word_of_another t) →
+      x ≡ seen z w →
+      taken_of w t ≡ taken.Other →
+      Middle p c t y x
 
 module _ (p : Code) (c : Cells) (t : ℕ) (y x : Thread) where
   -- in the midst of an operation the mode stays
@@ -69,7 +92,11 @@ module _ (p : Code) (c : Cells) (t : ℕ) (y x : Thread) where
   same_mode (Told r z a w h ey ex k) = ap (λ z. z.mode) ex ∙ sym (ap (λ z. z.mode) ey)
 
   -- a thread stays in the midst of an operation if the word that it saw stays true
-  pub middle_kept : (d : Cells) → (y.mode ≡ mode.Running → (b : Action ℕ) (go : Answer ℕ → Option Thread) (lock w : ℕ) → whole_move p t y ≡ Asks b go → lock_on b ≡ Some lock → Sees c t lock w → Sees d t lock w) → Middle p c t y x → Middle p d t y x
+  pub middle_kept : (d : Cells) →
+      (y.mode ≡ mode.Running → (b : Action ℕ) (go : Answer ℕ → Option Thread) (lock w : ℕ) →
+      whole_move p t y ≡ Asks b go → lock_on b ≡ Some lock → Sees c t lock w → Sees d t lock w) →
+      Middle p c t y x →
+      Middle p d t y x
   middle_kept d f (Here e) = Here e
   middle_kept d f (Saw r b go lock w m h l e s o) = Saw r b go lock w m h l e (f r b go lock w m l s) o
   middle_kept d f (Lost r a b l go m h e) = Lost r a b l go m h e

@@ -1,5 +1,7 @@
 -- What the others leave of a lock that a thread has seen.
-use Rattle.std.proofs.Common.{◌≡◌, ◌≢◌, ◌⊎◌, inl, inr, ℕ, zero, suc, ◌+◌, ◌-◌, ◌==◌, Bool, true, false, List, [], ◌∷◌, length, Option, Some, None, refl, sym, ap, ◌∙◌, subst, arith, slice_get, slice_set, nat_eq, nat_lt, if◌then◌else◌}
+use Rattle.std.proofs.Common.{◌≡◌, ◌≢◌, ◌⊎◌, inl, inr, ℕ, zero, suc, ◌+◌, ◌-◌, ◌==◌, Bool, true, false, List, [], ◌∷◌}
+use Rattle.std.proofs.Common.{length, Option, Some, None, refl, sym, ap, ◌∙◌, subst, arith, slice_get, slice_set}
+use Rattle.std.proofs.Common.{nat_eq, nat_lt, if◌then◌else◌}
 use Rattle.std.proofs.lemmas.Bool.Decides.{eqb_tells, nat_tests}
 use Rattle.ls_events.specs.declared.value.Value.{Value}
 use Rattle.ls_events.specs.declared.value.ValueType.{ValueType}
@@ -12,8 +14,10 @@ use Rattle.ls_events.specs.declared.action.Answer.TheVariants.{Done, Fails}
 use Rattle.ls_checked.specs.CheckedTree.{Class, File}
 use Rattle.ls_checked.specs.CheckedProgram.{Program}
 use Rattle.ls_meaning.specs.declared.sort.Sort.{Sort}
-use Rattle.ls_meaning.specs.Store.{Hold, Free, HeldBy, Thing, Object, LockOf, Markable, Array, Store, thing_at, with_thing, with_new}
-use Rattle.ls_meaning.specs.Effect.{Does, Change, Stays, Leaves, Holding, Awaits, Becomes, with_hold, locking, trying, unlocking, asking_held, change, put_back, at_thing, on_thing, effect}
+use Rattle.ls_meaning.specs.Store.{Hold, Free, HeldBy, Thing, Object, LockOf, Markable, Array, Store, thing_at}
+use Rattle.ls_meaning.specs.Store.{with_thing, with_new}
+use Rattle.ls_meaning.specs.Effect.{Does, Change, Stays, Leaves, Holding, Awaits, Becomes, with_hold, locking, trying}
+use Rattle.ls_meaning.specs.Effect.{unlocking, asking_held, change, put_back, at_thing, on_thing, effect}
 use Rattle.ls_code.specs.Locks.{is_own}
 use Rattle.ls_code.specs.Cells.{Cells, cell_at}
 use Rattle.ls_headline.specs.InWords.{map_action}
@@ -58,11 +62,19 @@ HoldApartIn t g Awaits = Unit {0}
 HoldApartIn t g (Becomes g' x) = HoldApart t g g'
 
 module _ (t u : ℕ) (d : u ≢ t) where
-  own_if : (owner holds : ℕ) (b : Bool) → nat_eq owner u ≡ b → (mine away : Holding) → (owner ≡ u → HoldApartIn t (HeldBy owner holds) mine) → HoldApartIn t (HeldBy owner holds) away → HoldApartIn t (HeldBy owner holds) (if b then mine else away)
+  own_if : (owner holds : ℕ) (b : Bool) →
+      nat_eq owner u ≡ b →
+      (mine away : Holding) →
+      (owner ≡ u → HoldApartIn t (HeldBy owner holds) mine) →
+      HoldApartIn t (HeldBy owner holds) away →
+      HoldApartIn t (HeldBy owner holds) (if b then mine else away)
   own_if owner holds true e mine away f g = f (grind (arith, nat_tests))
   own_if owner holds false e mine away f g = g
 
-  more_apart : (owner holds : ℕ) (x : Answer Value) (b : Bool) → owner ≡ u → HoldApartIn t (HeldBy owner holds) (if b then Becomes (HeldBy u (holds + 1)) x else Becomes (HeldBy u holds) (Fails Error))
+  more_apart : (owner holds : ℕ) (x : Answer Value) (b : Bool) →
+      owner ≡ u →
+      HoldApartIn t (HeldBy owner holds) (if b then Becomes (HeldBy u (holds + 1)) x else
+      Becomes (HeldBy u holds) (Fails Error))
   more_apart owner holds x true e = inr (λ z. d (sym e ∙ z), d)
   more_apart owner holds x false e = inr (λ z. d (sym e ∙ z), d)
 
@@ -72,15 +84,18 @@ module _ (t u : ℕ) (d : u ≢ t) where
 
   lock_holds : (g : Hold) → HoldApartIn t g (locking u g)
   lock_holds Free = inr (tt, d)
-  lock_holds (HeldBy owner holds) = own_if owner holds (nat_eq owner u) refl _ _ (λ e. more_apart owner holds _ (nat_lt holds 2147483647) e) tt
+  lock_holds (HeldBy owner holds) = own_if owner holds (nat_eq owner u) refl _ _
+      (λ e. more_apart owner holds _ (nat_lt holds 2147483647) e) tt
 
   try_holds : (g : Hold) → HoldApartIn t g (trying u g)
   try_holds Free = inr (tt, d)
-  try_holds (HeldBy owner holds) = own_if owner holds (nat_eq owner u) refl _ _ (λ e. more_apart owner holds _ (nat_lt holds 2147483647) e) (inl refl)
+  try_holds (HeldBy owner holds) = own_if owner holds (nat_eq owner u) refl _ _
+      (λ e. more_apart owner holds _ (nat_lt holds 2147483647) e) (inl refl)
 
   unlock_holds : (g : Hold) → HoldApartIn t g (unlocking u g)
   unlock_holds Free = inl refl
-  unlock_holds (HeldBy owner holds) = own_if owner holds (nat_eq owner u) refl _ _ (λ e. inr (λ z. d (sym e ∙ z), less_apart holds (nat_lt 1 holds))) (inl refl)
+  unlock_holds (HeldBy owner holds) = own_if owner holds (nat_eq owner u) refl _ _
+      (λ e. inr (λ z. d (sym e ∙ z), less_apart holds (nat_lt 1 holds))) (inl refl)
 
   ask_holds : (g : Hold) → HoldApartIn t g (asking_held u g)
   ask_holds Free = inl refl
@@ -90,7 +105,9 @@ module _ (t u : ℕ) (d : u ≢ t) where
   in_lock g Awaits h = tt
   in_lock g (Becomes g' y) h = h
 
-  in_object : (vs : List Value) (g : Hold) (x : Holding) → HoldApartIn t g x → ApartIn t (Object g vs) (with_hold (λ h. Object h vs) x)
+  in_object : (vs : List Value) (g : Hold) (x : Holding) →
+      HoldApartIn t g x →
+      ApartIn t (Object g vs) (with_hold (λ h. Object h vs) x)
   in_object vs g Awaits h = tt
   in_object vs g (Becomes g' y) h = h
 
@@ -148,37 +165,66 @@ module _ (t u : ℕ) (d : u ≢ t) where
   change_apart (act.Trap o v) (LockOf g) h = inl refl
   change_apart (act.Trap o v) (Object g vs) h = inl refl
 
-  module _ (classes : List Class) (st st' : Store) (y : Answer Value) (k : ℕ) (o : Thing) (at : slice_get st.things k ≡ Some o) (lock : CanBeHeld o) where
+  module _ (classes : List Class) (st st' : Store) (y : Answer Value) (k : ℕ) (o : Thing)
+      (at : slice_get st.things k ≡ Some o) (lock : CanBeHeld o) where
     abbrev After : Type 0
     After = (o' : Thing) × (slice_get st'.things k ≡ Some o') × Apart t o o'
 
     stays : (s1 : Store) → s1.things ≡ st.things → (x : Answer Value) → Does s1 x ≡ Does st' y → After
-    stays s1 es x e = (let same : s1 ≡ st' = cc in (o, ap (λ z. slice_get z.things k) (sym same) ∙ ap (λ l. slice_get l k) es ∙ at, inl refl))
+    stays s1 es x e = (let same : s1 ≡ st' = cc in (
+      o,
+      ap (λ z. slice_get z.things k) (sym same) ∙
+          ap (λ l. slice_get l k) es ∙ at,
+      inl refl,
+    ))
 
     makes : (o1 : Thing) (x : Answer Value) → Does (with_new st o1) x ≡ Does st' y → After
     makes o1 x e =
-        let same : with_new st o1 ≡ st' = cc in
-        (o, ap (λ z. slice_get z.things k) (sym same) ∙ get_left st.things (o1 ∷ []) k (get_within st.things k o at) ∙ at, inl refl)
+        let same : with_new st o1 ≡ st' = cc in (
+          o,
+          ap (λ z. slice_get z.things k) (sym same) ∙ get_left st.things (o1 ∷ []) k (get_within st.things k o at) ∙
+              at,
+          inl refl,
+        )
 
-    puts : (j : ℕ) (c : Change) (p : Thing) → slice_get st.things j ≡ Some p → (j ≡ k → ApartIn t o c) → put_back st (suc j) c ≡ Does st' y → After
+    puts : (j : ℕ) (c : Change) (p : Thing) →
+        slice_get st.things j ≡ Some p →
+        (j ≡ k → ApartIn t o c) →
+        put_back st (suc j) c ≡ Does st' y →
+        After
     puts j Stays p there f e = cc
     puts j (Leaves o1 x) p there f e =
         let same : with_thing st (suc j) o1 ≡ st' = cc in
-        let things : st'.things ≡ slice_set st.things j o1 = ap (λ z. z.things) (sym same) ∙ ap (λ z. z.things) (put_is st j o1) in
+        let things : st'.things ≡ slice_set st.things j o1 = ap (λ z. z.things) (sym same) ∙
+        ap (λ z. z.things) (put_is st j o1) in
         at_place things (eqb_tells k j)
       where
-        at_place : st'.things ≡ slice_set st.things j o1 → (((k == j) ≡ true) × (k ≡ j)) ⊎ (((k == j) ≡ false) × (k ≢ j)) → After
-        at_place things (inl q) = (o1, ap (λ l. slice_get l k) things ∙ ap (slice_get (slice_set st.things j o1)) q.1 ∙ set_same st.things j p o1 there, f (sym q.1))
+        at_place : st'.things ≡ slice_set st.things j o1 →
+            (((k == j) ≡ true) × (k ≡ j)) ⊎ (((k == j) ≡ false) × (k ≢ j)) →
+            After
+        at_place things (inl q) = (
+          o1,
+          ap (λ l. slice_get l k) things ∙ ap (slice_get (slice_set st.things j o1)) q.1 ∙
+              set_same st.things j p o1 there,
+          f (sym q.1),
+        )
         at_place things (inr q) = (o, ap (λ l. slice_get l k) things ∙ set_other st.things j k o1 q.1 ∙ at, inl refl)
 
-    on_place : (j : ℕ) (a : Action Value) (q : Option Thing) → slice_get st.things j ≡ q → at_thing st (suc j) q (change u a) ≡ Does st' y → After
+    on_place : (j : ℕ) (a : Action Value) (q : Option Thing) →
+        slice_get st.things j ≡ q →
+        at_thing st (suc j) q (change u a) ≡ Does st' y →
+        After
     on_place j a None eq e = stays st refl Done e
     on_place j a (Some p) eq e =
-        puts j (change u a p) p eq (λ same. (let both : p ≡ o = (let z : Some p ≡ Some o = sym eq ∙ ap (slice_get st.things) same ∙ at in cc) in subst (λ z. ApartIn t o (change u a z)) (sym both) (change_apart a o lock))) e
+        puts j (change u a p) p eq
+        (λ same. (let both : p ≡ o = (let z : Some p ≡ Some o = sym eq ∙ ap (slice_get st.things) same ∙ at in cc)
+        in subst (λ z. ApartIn t o (change u a z)) (sym both) (change_apart a o lock))) e
 
     on_apart : (n : ℕ) (a : Action Value) → on_thing st n u a ≡ Does st' y → After
-    on_apart zero a e = (let none : thing_at st zero ≡ None = refl in stays st refl Done (sym (ap (λ q. at_thing st zero q (change u a)) none) ∙ e))
-    on_apart (suc j) a e = on_place j a (slice_get st.things j) refl (sym (ap (λ q. at_thing st (suc j) q (change u a)) (thing_is st j)) ∙ e)
+    on_apart zero a e = (let none : thing_at st zero ≡ None = refl in
+        stays st refl Done (sym (ap (λ q. at_thing st zero q (change u a)) none) ∙ e))
+    on_apart (suc j) a e = on_place j a (slice_get st.things j) refl
+        (sym (ap (λ q. at_thing st (suc j) q (change u a)) (thing_is st j)) ∙ e)
 
     -- what another thread's action leaves of a lock or of a monitor
     pub lock_apart : (a : Action Value) → effect classes st u a ≡ Does st' y → After
@@ -218,7 +264,10 @@ IsHeldType (type.Class c) = Unit {0}
 IsHeldType type.Lock = Unit {0}
 IsHeldType _ = ⊥
 
-can_be_held : (classes : List Class) (σ : List ValueType) (o : Thing) (s : ValueType) → IsHeldType s → ThingHas classes σ o s → CanBeHeld o
+can_be_held : (classes : List Class) (σ : List ValueType) (o : Thing) (s : ValueType) →
+    IsHeldType s →
+    ThingHas classes σ o s →
+    CanBeHeld o
 can_be_held classes σ (LockOf g) s i h = tt
 can_be_held classes σ (Object g vs) s i h = tt
 can_be_held classes σ (Markable v) (type.Markable c) i h = absurd i
@@ -226,7 +275,9 @@ can_be_held classes σ (Array size items) type.BooleanArray i h = absurd i
 can_be_held classes σ _ _ i h = absurd h
 
 -- the hold of a thing of a type is one that may be
-pub hold_has : (classes : List Class) (σ : List ValueType) (o : Thing) (s : ValueType) → ThingHas classes σ o s → IsHold (hold_in o)
+pub hold_has : (classes : List Class) (σ : List ValueType) (o : Thing) (s : ValueType) →
+    ThingHas classes σ o s →
+    IsHold (hold_in o)
 hold_has classes σ (LockOf g) type.Lock h = h
 hold_has classes σ (Object g vs) (type.Class c) h = h.2
 hold_has classes σ (Markable v) s h = tt
@@ -235,7 +286,8 @@ hold_has classes σ _ _ h = absurd h
 
 not_own : (t : ℕ) (g : Hold) → IsHold g → NotHeldBy t g → is_own (hold_word g) t ≡ false
 not_own t Free h n = zero_not_own t
-not_own t (HeldBy owner holds) h n = (let e : nat_eq owner t ≡ false = grind (arith, nat_tests) in held_own owner holds t h.1 ∙ e)
+not_own t (HeldBy owner holds) h n = (let e : nat_eq owner t ≡ false = grind (arith, nat_tests) in
+    held_own owner holds t h.1 ∙ e)
 
 -- a thread has seen a lock's word, and this holds of the word that is there now
 abbrev pub Sees : Cells → ℕ → ℕ → ℕ → Type 0
@@ -243,15 +295,37 @@ Sees c t lock seen = (now : ℕ) × (cell_at c lock 0 ≡ Some now) × Fresh t s
 
 module _ (classes : List Class) (named : List ValueType) (sizes : List ℕ) (room : ℕ) where
   -- the word of a lock is in the first cell of its thing
-  pub word_there : (σ : List ValueType) (st : Store) (c : Cells) → Holds classes named sizes room σ st c → (k : ℕ) (o : Thing) (s : ValueType) → slice_get st.things k ≡ Some o → IsHeldType s → ThingHas classes σ o s → cell_at c (renaming (length named) st (suc k)) 0 ≡ Some (lock_word o)
-  word_there σ st c holds k (LockOf g) s at i h = cell_is classes named sizes room σ st c holds k 0 (hold_word g) (LockOf g) at (omega arith) refl
-  word_there σ st c holds k (Object g vs) s at i h = cell_is classes named sizes room σ st c holds k 0 (hold_word g) (Object g vs) at (omega arith) refl
+  pub word_there : (σ : List ValueType) (st : Store) (c : Cells) →
+      Holds classes named sizes room σ st c →
+      (k : ℕ) (o : Thing) (s : ValueType) →
+      slice_get st.things k ≡ Some o →
+      IsHeldType s →
+      ThingHas classes σ o s →
+      cell_at c (renaming (length named) st (suc k)) 0 ≡ Some (lock_word o)
+  word_there σ st c holds k (LockOf g) s at i h = cell_is classes named sizes room σ st c holds k 0 (hold_word g)
+      (LockOf g) at (omega arith) refl
+  word_there σ st c holds k (Object g vs) s at i h = cell_is classes named sizes room σ st c holds k 0 (hold_word g)
+      (Object g vs) at (omega arith) refl
   word_there σ st c holds k (Markable v) (type.Markable n) at i h = absurd i
   word_there σ st c holds k (Array size items) type.BooleanArray at i h = absurd i
   word_there σ st c holds k _ _ at i h = absurd h
 
   -- it stays so, whatever another thread does
-  pub sees_kept : (σ σ' : List ValueType) (st st' : Store) (c c' : Cells) → Holds classes named sizes room σ st c → Holds classes named sizes room σ' st' c' → (t u : ℕ) → u ≢ t → (a : Action Value) (y : Answer Value) → effect classes st u a ≡ Does st' y → (n : ℕ) (s : ValueType) → IsHeldType s → Names σ n s → Names σ' n s → renaming (length named) st n ≡ renaming (length named) st' n → (w : ℕ) → Sees c t (renaming (length named) st n) w → Sees c' t (renaming (length named) st n) w
+  pub sees_kept : (σ σ' : List ValueType) (st st' : Store) (c c' : Cells) →
+      Holds classes named sizes room σ st c →
+      Holds classes named sizes room σ' st' c' →
+      (t u : ℕ) →
+      u ≢ t →
+      (a : Action Value) (y : Answer Value) →
+      effect classes st u a ≡ Does st' y →
+      (n : ℕ) (s : ValueType) →
+      IsHeldType s →
+      Names σ n s →
+      Names σ' n s →
+      renaming (length named) st n ≡ renaming (length named) st' n →
+      (w : ℕ) →
+      Sees c t (renaming (length named) st n) w →
+      Sees c' t (renaming (length named) st n) w
   sees_kept σ σ' st st' c c' holds holds' t u d a y does zero s i is is' same w sees = absurd is
   sees_kept σ σ' st st' c c' holds holds' t u d a y does (suc k) s i is is' same w (now, ec, fresh) =
       let r = thing_there classes σ st.things σ k s holds.typed is in
@@ -260,12 +334,18 @@ module _ (classes : List Class) (named : List ValueType) (sizes : List ℕ) (roo
       let after = lock_apart t u d classes st st' y k o r.1 (can_be_held classes σ o s i r.2) a does in
       let one : r'.0 ≡ after.0 = (let z : Some r'.0 ≡ Some after.0 = sym r'.1 ∙ after.1 in cc) in
       let has' : ThingHas classes σ' after.0 s = subst (λ z. ThingHas classes σ' z s) one r'.2 in
-      let here : now ≡ lock_word o = (let z : Some now ≡ Some (lock_word o) = sym ec ∙ word_there σ st c holds k o s r.1 i r.2 in cc) in
-      (lock_word after.0, ap (λ z. cell_at c' z 0) same ∙ word_there σ' st' c' holds' k after.0 s after.1 i has', freshly (hold_in o) (hold_in after.0) (hold_has classes σ o s r.2) (hold_has classes σ' after.0 s has') here after.2)
+      let here : now ≡ lock_word o = (let z : Some now ≡ Some (lock_word o) = sym ec ∙
+      word_there σ st c holds k o s r.1 i r.2 in cc) in (
+        lock_word after.0,
+        ap (λ z. cell_at c' z 0) same ∙ word_there σ' st' c' holds' k after.0 s after.1 i has',
+        freshly (hold_in o) (hold_in after.0) (hold_has classes σ o s r.2) (hold_has classes σ' after.0 s has') here
+            after.2,
+      )
     where
       freshly : (g g' : Hold) → IsHold g → IsHold g' → now ≡ hold_word g → HoldApart t g g' → Fresh t w (hold_word g')
       freshly g g' h h' here (inl e) = subst (Fresh t w) (here ∙ ap hold_word (sym e)) fresh
-      freshly g g' h h' here (inr n) = fresh_apart t w now (hold_word g') fresh (ap (λ z. is_own z t) here ∙ not_own t g h n.0, not_own t g' h' n.1)
+      freshly g g' h h' here (inr n) = fresh_apart t w now (hold_word g') fresh
+          (ap (λ z. is_own z t) here ∙ not_own t g h n.0, not_own t g' h' n.1)
 
 -- the lock, or the object with the monitor, that an operation is on
 abbrev pub lock_on : {V : Type 0} → Action V → Option ℕ
@@ -287,7 +367,8 @@ renamed_lock ρ None = None
 renamed_lock ρ (Some o) = Some (ρ o)
 
 -- a renamed action is on the renamed lock
-pub lock_renamed : (ρ : ℕ → ℕ) (f : Value → ℕ) (a : Action Value) → lock_on (map_action ρ f a) ≡ renamed_lock ρ (lock_on a)
+pub lock_renamed : (ρ : ℕ → ℕ) (f : Value → ℕ) (a : Action Value) →
+    lock_on (map_action ρ f a) ≡ renamed_lock ρ (lock_on a)
 lock_renamed ρ f (act.ReadField o i) = refl
 lock_renamed ρ f (act.WriteField o i v) = refl
 lock_renamed ρ f (act.ReadItem o i) = refl
@@ -315,7 +396,9 @@ lock_renamed ρ f (act.Return o v) = refl
 lock_renamed ρ f (act.Trap o v) = refl
 
 -- an action of the right types is on a thing that can be held
-pub lock_named : (file : File) (program : Program) (σ : List ValueType) (t : ℕ) (a : Action Value) (q : Sort) → ActionHas file program σ t a q → LockNamed σ (lock_on a)
+pub lock_named : (file : File) (program : Program) (σ : List ValueType) (t : ℕ) (a : Action Value) (q : Sort) →
+    ActionHas file program σ t a q →
+    LockNamed σ (lock_on a)
 lock_named file program σ t (act.ReadField o i) q h = tt
 lock_named file program σ t (act.WriteField o i v) q h = tt
 lock_named file program σ t (act.ReadItem o i) q h = tt

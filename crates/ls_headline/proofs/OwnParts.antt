@@ -29,25 +29,41 @@ module _ (p : Code) (n : ℕ) where
 
   module _ (y : Thread) (a : ℕ) (running : y.mode ≡ mode.Running) where
     -- SEE asks for the word
-    pub sees_is : (x : ℕ) (o : Action ℕ) (shape : Bool) → Begins p n y x a o shape → (k : ℕ) → own.quiet p n k y ≡ Paused o (told_word (saw p y n x o))
+    pub sees_is : (x : ℕ) (o : Action ℕ) (shape : Bool) →
+        Begins p n y x a o shape →
+        (k : ℕ) →
+        own.quiet p n k y ≡ Paused o (told_word (saw p y n x o))
     sees_is x o shape b k =
-        at k y running ∙ ap (λ d. own.carry n d (rest k)) (see_move p n y a b.rest b.top x b.see) ∙ ap (λ q. carry_plan q (rest k)) b.plan
+        at k y running ∙ ap (λ d. own.carry n d (rest k)) (see_move p n y a b.rest b.top x b.see) ∙
+        ap (λ q. carry_plan q (rest k)) b.plan
 
     -- what TAKE does after a word
-    pub take_is : (x : ℕ) (o : Action ℕ) (shape : Bool) → Begins p n y x a o shape → slice_get p.instructions (y.top.counter + 1) ≡ Some (op.Take x) → taking_action x a ≡ Some o →
-        (w : ℕ) (t : Taken) → taken_of w n ≡ t → (k : ℕ) → own.quiet p n k (seen y w) ≡ carry_plan (take_from p (seen y w) x o a w t) (rest k)
+    pub take_is : (x : ℕ) (o : Action ℕ) (shape : Bool) →
+        Begins p n y x a o shape →
+        slice_get p.instructions (y.top.counter + 1) ≡ Some (op.Take x) →
+        taking_action x a ≡ Some o →
+        (w : ℕ) (t : Taken) → taken_of w n ≡ t → (k : ℕ) → own.quiet p n k (seen y w) ≡ carry_plan
+        (take_from p (seen y w) x o a w t) (rest k)
     take_is x o shape b there eo w t et k =
         at k (seen y w) running ∙ ap (λ d. own.carry n d (rest k)) (take_move p n y a b.rest b.top x w there)
         ∙ ap (λ q. carry_plan q (rest k)) (take_plan p n y a b.rest b.top x w o t eo et)
 
     -- what DROP does after a word
-    pub drop_is : (x v : ℕ) (o : Action ℕ) (shape : Bool) → Begins p n y x a o shape → slice_get p.instructions (y.top.counter + 1) ≡ Some (op.DropLock v) → dropping_action v a ≡ Some o →
-        (w : ℕ) (t : Left) → left_of w n ≡ t → (k : ℕ) → own.quiet p n k (seen y w) ≡ carry_plan (drop_to (seen y w) o a t) (rest k)
+    pub drop_is : (x v : ℕ) (o : Action ℕ) (shape : Bool) →
+        Begins p n y x a o shape →
+        slice_get p.instructions (y.top.counter + 1) ≡ Some (op.DropLock v) →
+        dropping_action v a ≡ Some o →
+        (w : ℕ) (t : Left) → left_of w n ≡ t → (k : ℕ) → own.quiet p n k (seen y w) ≡ carry_plan
+        (drop_to (seen y w) o a t) (rest k)
     drop_is x v o shape b there eo w t et k =
         at k (seen y w) running ∙ ap (λ d. own.carry n d (rest k)) (ap (fetched_move p (seen y w)) there)
         ∙ ap (λ l. carry_plan (drop_at (seen y w) n v (top_two (w ∷ l))) (rest k)) b.top
-        ∙ ap (λ z. carry_plan (drop_named (seen y w) n a w z) (rest k)) eo ∙ ap (λ z. carry_plan (drop_to (seen y w) o a z) (rest k)) et
+        ∙ ap (λ z. carry_plan (drop_named (seen y w) n a w z) (rest k)) eo ∙
+        ap (λ z. carry_plan (drop_to (seen y w) o a z) (rest k)) et
 
     -- the jump back to SEE
-    pub back_is : slice_get p.instructions (y.top.counter + 1 + 1) ≡ Some (op.JumpIfFalse y.top.counter) → (k : ℕ) → own.quiet p n (suc k) (exchanged y 0) ≡ own.quiet p n k y
-    back_is there k = at (suc k) (exchanged y 0) running ∙ ap (λ d. own.carry n d (own.quiet p n k)) (ap (fetched_move p (exchanged y 0)) there)
+    pub back_is : slice_get p.instructions (y.top.counter + 1 + 1) ≡ Some (op.JumpIfFalse y.top.counter) →
+        (k : ℕ) →
+        own.quiet p n (suc k) (exchanged y 0) ≡ own.quiet p n k y
+    back_is there k = at (suc k) (exchanged y 0) running ∙ ap (λ d. own.carry n d (own.quiet p n k))
+        (ap (fetched_move p (exchanged y 0)) there)

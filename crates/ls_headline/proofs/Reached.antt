@@ -18,7 +18,8 @@ use Rattle.ls_headline.proofs.LiftBack
 use Rattle.ls_headline.proofs.Following
 use Rattle.ls_headline.proofs.Theorem
 
-module _ (file : File) (program : Program) (code : Code) (asks : Asks file program code) (sound : Means file program) (room : ℕ) (within : IsCells code room) where
+module _ (file : File) (program : Program) (code : Code) (asks : Asks file program code) (sound : Means file program)
+    (room : ℕ) (within : IsCells code room) where
   abbrev setting : Setting
   setting = record {
     file = file;
@@ -43,10 +44,14 @@ module _ (file : File) (program : Program) (code : Code) (asks : Asks file progr
   write = Following.write setting
 
   -- after each schedule the machine follows the source
-  pub follows_all : (ts : List ℕ) → Follows (source_run file program (to_source code room ts)) (machine_run (loaded code room) ts)
+  pub follows_all : (ts : List ℕ) →
+      Follows (source_run file program (to_source code room ts)) (machine_run (loaded code room) ts)
   follows_all ts =
       let r =
-      LiftBack.to_source_right State Machine (source.Entry Value) Entry (source_step file program) md (λ f. f.thread) write Follows Later Live
-      (Theorem.back_laws file program code asks sound room within) ts (start program) (loaded code room) (Theorem.follows_start file program code asks sound room within) in
+      LiftBack.to_source_right State Machine (source.Entry Value) Entry (source_step file program) md (λ f. f.thread)
+      write Follows Later Live
+      (Theorem.back_laws file program code asks sound room within) ts (start program) (loaded code room)
+      (Theorem.follows_start file program code asks sound room within) in
       subst (λ z. Follows (source_run file program (to_source code room ts)) z) (run_is ts (loaded code room))
-      (subst (λ fs. Follows (run (source_step file program) (start program) (map (λ f. f.thread) fs)) (run md (loaded code room) ts)) (trace_is ts (loaded code room)) r.0)
+      (subst (λ fs. Follows (run (source_step file program) (start program) (map (λ f. f.thread) fs))
+      (run md (loaded code room) ts)) (trace_is ts (loaded code room)) r.0)

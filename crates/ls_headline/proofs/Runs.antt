@@ -25,7 +25,8 @@ after_so t m m' did.Waits = refl
 after_so t m m' did.Idle = refl
 after_so t m m' did.Stopped = refl
 
-traced_so : (t : ℕ) (m' : Machine) (d : Did) (rest : List Entry) → traced (stepped_so t m' d) rest ≡ machine.traced t d rest
+traced_so : (t : ℕ) (m' : Machine) (d : Did) (rest : List Entry) →
+    traced (stepped_so t m' d) rest ≡ machine.traced t d rest
 traced_so t m' did.Silent rest = refl
 traced_so t m' (did.Acted action answer) rest = refl
 traced_so t m' did.Waits rest = refl
@@ -35,14 +36,16 @@ traced_so t m' did.Stopped rest = refl
 -- its runs are the machine's runs
 pub run_is : (ts : List ℕ) (m : Machine) → run md m ts ≡ machine_run m ts
 run_is [] m = refl
-run_is (t ∷ ts) m = ap (λ z. run md z ts) (after_so t m (machine_step m t).machine (machine_step m t).did) ∙ run_is ts (machine_step m t).machine
+run_is (t ∷ ts) m = ap (λ z. run md z ts) (after_so t m (machine_step m t).machine (machine_step m t).did) ∙
+    run_is ts (machine_step m t).machine
 
 -- its traces are the machine's traces
 pub trace_is : (ts : List ℕ) (m : Machine) → trace md m ts ≡ machine_trace m ts
 trace_is [] m = refl
 trace_is (t ∷ ts) m =
     traced_so t (machine_step m t).machine (machine_step m t).did _
-    ∙ ap (λ z. machine.traced t (machine_step m t).did (trace md z ts)) (after_so t m (machine_step m t).machine (machine_step m t).did)
+    ∙ ap (λ z. machine.traced t (machine_step m t).did (trace md z ts))
+    (after_so t m (machine_step m t).machine (machine_step m t).did)
     ∙ ap (machine.traced t (machine_step m t).did) (trace_is ts (machine_step m t).machine)
 
 -- a run of two schedules, one after the other
@@ -58,7 +61,8 @@ traced-append t did.Idle xs ys = refl
 traced-append t did.Stopped xs ys = refl
 
 -- a trace of two schedules, one after the other
-pub trace-append : (m : Machine) (ts us : List ℕ) → machine_trace m (ts ++ us) ≡ machine_trace m ts ++ machine_trace (machine_run m ts) us
+pub trace-append : (m : Machine) (ts us : List ℕ) →
+    machine_trace m (ts ++ us) ≡ machine_trace m ts ++ machine_trace (machine_run m ts) us
 trace-append m [] us = refl
 trace-append m (t ∷ ts) us =
     ap (machine.traced t (machine_step m t).did) (trace-append (machine_step m t).machine ts us)

@@ -1,13 +1,20 @@
 -- No action takes cells away, and a making takes the next ones.
-use Rattle.std.proofs.Common.{◌≡◌, ℕ, zero, suc, ◌+◌, Bool, true, false, List, [], ◌∷◌, ◌++◌, length, Option, Some, None, refl, sym, ap, ◌∙◌, subst, arith, length-append, slice_get, nat_eq, if◌then◌else◌}
+use Rattle.std.proofs.Common.{◌≡◌, ℕ, zero, suc, ◌+◌, Bool, true, false, List, [], ◌∷◌, ◌++◌, length, Option, Some}
+use Rattle.std.proofs.Common.{None, refl, sym, ap, ◌∙◌, subst, arith, length-append, slice_get, nat_eq, if◌then◌else◌}
 use Rattle.ls_events.specs.declared.value.Value.{Value}
 use Rattle.ls_events.specs.declared.value.Value.TheVariants.{Reference}
 use Rattle.ls_events.specs.declared.action.Action.{Action}
-use Rattle.ls_events.specs.declared.action.Action.TheVariants.{ReadField, WriteField, ReadItem, WriteItem, ReadName, WriteName, New, NewLock, NewMarkable, NewArray, Lock, Unlock, TryLock, IsHeld, LockMonitor, UnlockMonitor, ReadPair, SetPair, SwapPair, AttemptMark, Turn, Enter, Call, Return, Trap}
+use Rattle.ls_events.specs.declared.action.Action.TheVariants.{ReadField, WriteField, ReadItem, WriteItem, ReadName}
+use Rattle.ls_events.specs.declared.action.Action.TheVariants.{WriteName, New, NewLock, NewMarkable, NewArray, Lock}
+use Rattle.ls_events.specs.declared.action.Action.TheVariants.{Unlock, TryLock, IsHeld, LockMonitor, UnlockMonitor}
+use Rattle.ls_events.specs.declared.action.Action.TheVariants.{ReadPair, SetPair, SwapPair, AttemptMark, Turn, Enter}
+use Rattle.ls_events.specs.declared.action.Action.TheVariants.{Call, Return, Trap}
 use Rattle.ls_events.specs.declared.action.Answer.TheVariants.{Gives}
 use Rattle.ls_checked.specs.CheckedTree.{Class}
 use Rattle.ls_meaning.specs.Store.{Hold, Free, Thing, Object, LockOf, Markable, Array, Store, thing_at}
-use Rattle.ls_meaning.specs.Effect.{Effect, Waits, Does, Change, Stays, Leaves, change, put_back, at_thing, on_thing, making, effect, Holding, Awaits, Becomes, with_hold, locking, trying, unlocking, asking_held, in_range, same_pair}
+use Rattle.ls_meaning.specs.Effect.{Effect, Waits, Does, Change, Stays, Leaves, change, put_back, at_thing, on_thing}
+use Rattle.ls_meaning.specs.Effect.{making, effect, Holding, Awaits, Becomes, with_hold, locking, trying, unlocking}
+use Rattle.ls_meaning.specs.Effect.{asking_held, in_range, same_pair}
 use Rattle.ls_headline.specs.Threads.{object_cells}
 use Rattle.ls_headline.specs.Same.{size_of}
 use Rattle.ls_headline.proofs.Lists.{length-set}
@@ -23,7 +30,10 @@ if_keeps : (n : ℕ) (b : Bool) (d e : Change) → KeepsSize n d → KeepsSize n
 if_keeps n true d e h g = h
 if_keeps n false d e h g = g
 
-hold_keeps : (thing : Hold → Thing) (n : ℕ) → ((h : Hold) → size_of (thing h) ≡ n) → (x : Holding) → KeepsSize n (with_hold thing x)
+hold_keeps : (thing : Hold → Thing) (n : ℕ) →
+    ((h : Hold) → size_of (thing h) ≡ n) →
+    (x : Holding) →
+    KeepsSize n (with_hold thing x)
 hold_keeps thing n e Awaits = tt
 hold_keeps thing n e (Becomes h y) = e h
 
@@ -108,7 +118,8 @@ Keeps st (Does st' y) = sizes_of st'.things ≡ sizes_of st.things
 -- a making has one more thing, and answers its number
 abbrev pub Makes : Store → Effect → Type 0
 Makes st Waits = Unit {0}
-Makes st (Does st' y) = (k : ℕ) × (sizes_of st'.things ≡ sizes_of st.things ++ k ∷ []) × (length st'.things ≡ suc (length st.things)) × (y ≡ Gives (Reference (suc (length st.things))))
+Makes st (Does st' y) = (k : ℕ) × (sizes_of st'.things ≡ sizes_of st.things ++ k ∷ []) ×
+    (length st'.things ≡ suc (length st.things)) × (y ≡ Gives (Reference (suc (length st.things))))
 
 -- what an action keeps of the sizes of things: a making has one more thing, any other keeps all sizes
 abbrev pub Kept : Store → Action Value → Effect → Type 0
@@ -125,14 +136,24 @@ sizes-append (x ∷ os) o = ap (λ l. size_of x ∷ l) (sizes-append os o)
 module _ (st : Store) where
   one_more : (o : Thing) → Makes st (making st o)
   one_more o =
-      let e : length st.things + 1 ≡ suc (length st.things) = omega arith in
-      (size_of o, sizes-append st.things o, omega (arith, length-append st.things (o ∷ [])), ap (λ k. Gives (Reference k)) e)
+      let e : length st.things + 1 ≡ suc (length st.things) = omega arith in (
+        size_of o,
+        sizes-append st.things o,
+        omega (arith, length-append st.things (o ∷ [])),
+        ap (λ k. Gives (Reference k)) e,
+      )
 
-  put_keeps : (n : ℕ) (o : Thing) → slice_get st.things n ≡ Some o → (d : Change) → KeepsSize (size_of o) d → Keeps st (put_back st (suc n) d)
+  put_keeps : (n : ℕ) (o : Thing) →
+      slice_get st.things n ≡ Some o →
+      (d : Change) →
+      KeepsSize (size_of o) d →
+      Keeps st (put_back st (suc n) d)
   put_keeps n o at Stays h = tt
   put_keeps n o at (Leaves o' x) h = ap (λ z. sizes_of z.things) (put_is st n o') ∙ sizes-set st.things n o o' at h
 
-  thing_keeps : (n t : ℕ) (a : Action Value) (p : Option Thing) → slice_get st.things n ≡ p → Keeps st (at_thing st (suc n) p (change t a))
+  thing_keeps : (n t : ℕ) (a : Action Value) (p : Option Thing) →
+      slice_get st.things n ≡ p →
+      Keeps st (at_thing st (suc n) p (change t a))
   thing_keeps n t a None e = refl
   thing_keeps n t a (Some o) e = put_keeps n o e (change t a o) (change_keeps t a o)
 
@@ -140,7 +161,8 @@ module _ (st : Store) where
   on_keeps zero t a =
       let e : thing_at st zero ≡ None = refl in
       subst (λ p. Keeps st (at_thing st zero p (change t a))) (sym e) refl
-  on_keeps (suc n) t a = subst (λ p. Keeps st (at_thing st (suc n) p (change t a))) (sym (thing_is st n)) (thing_keeps n t a (slice_get st.things n) refl)
+  on_keeps (suc n) t a = subst (λ p. Keeps st (at_thing st (suc n) p (change t a))) (sym (thing_is st n))
+      (thing_keeps n t a (slice_get st.things n) refl)
 
   -- each action keeps that
   pub keeps : (classes : List Class) (t : ℕ) (a : Action Value) → Kept st a (effect classes st t a)

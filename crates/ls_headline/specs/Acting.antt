@@ -54,6 +54,7 @@ StepsAs program cells next first = ActsAs (has_room program cells next.after) ne
 -- the other threads.
 abbrev pub ActsInTime : File → Program → Code → Type 0
 ActsInTime file program code =
-    (cells : ℕ) → IsCells code cells → (schedule : List ℕ) (t : ℕ) → t < length program.threads → IsOpen (machine_run (loaded code cells) schedule) t →
+    (cells : ℕ) → IsCells code cells → (schedule : List ℕ) (t : ℕ) → t < length program.threads →
+    IsOpen (machine_run (loaded code cells) schedule) t →
     StepsAs program cells (step file program (source_run file program (to_source code cells schedule)) t)
     (first_did (most_silent code + 1) (machine_run (loaded code cells) schedule) t)

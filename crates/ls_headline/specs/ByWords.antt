@@ -1,6 +1,7 @@
 -- A thread of the code is fed, by its own instructions, with the words of locks and the outcomes of exchanges. The
 -- answers of its operations follow from these.
-use Rattle.std.specs.Prelude.{◌≡◌, ◌≢◌, ℕ, ◌≤◌, List, [], ◌∷◌, map, Option, Some, None, Bool, true, false, ◌==◌, if◌then◌else◌, slice_get}
+use Rattle.std.specs.Prelude.{◌≡◌, ◌≢◌, ℕ, ◌≤◌, List, [], ◌∷◌, map, Option, Some, None, Bool, true, false, ◌==◌}
+use Rattle.std.specs.Prelude.{if◌then◌else◌, slice_get}
 use Rattle.std.specs.List.{All}
 use Rattle.ls_events.specs.declared.kind.Kind.TheVariants.{IllegalMonitorState, Error}
 use Rattle.ls_events.specs.declared.action.Action.{Action}
@@ -82,7 +83,8 @@ sees p n bound (act.Lock lock) go word next = seen_by_lock p n bound (act.Lock l
 sees p n bound (act.TryLock lock) go word next = seen_by_try p n bound (act.TryLock lock) go word (taken_of word n) next
 sees p n bound (act.Unlock lock) go word next =
     if is_own word n then ends_with p n bound go Done next else ends_with p n bound go (Fails IllegalMonitorState) next
-sees p n bound (act.LockMonitor object) go word next = seen_by_lock p n bound (act.LockMonitor object) go word (taken_of word n) next
+sees p n bound (act.LockMonitor object) go word next = seen_by_lock p n bound (act.LockMonitor object) go word
+    (taken_of word n) next
 sees p n bound (act.UnlockMonitor object) go word next =
     if is_own word n then ends_with p n bound go Done next else ends_with p n bound go (Fails IllegalMonitorState) next
 sees p n bound a go word next = None
@@ -121,7 +123,8 @@ come_to p n bound (x ∷ xs) stage = comes p n bound x stage (come_to p n bound 
 -- counts SEE as a silent instruction.
 abbrev pub FedByWords : Type 0
 FedByWords =
-    (p : Code) (n bound k : ℕ) (t : Thread) (words answers : List (Answer ℕ)) → All IsExchanged p.instructions → 2 ≤ bound →
+    (p : Code) (n bound k : ℕ) (t : Thread) (words answers : List (Answer ℕ)) → All IsExchanged p.instructions →
+    2 ≤ bound →
     come_to p n bound words (Waits (quiet p n k t)) ≡ Some answers → fed p n bound k t answers ≢ Lost →
     own.fed p n bound k t words ≡ fed p n bound k t answers
 
@@ -129,6 +132,8 @@ FedByWords =
 -- source asks next
 abbrev pub AsksByWords : File → Program → Code → Type 0
 AsksByWords file program code =
-    (t : ℕ) (s : Start) (had : Answers) (words : List (Answer ℕ)) → slice_get code.starts t ≡ Some s → InKind file program t had →
-    come_to code t (most_silent code) words (Waits (quiet code t (most_silent code) (started s))) ≡ Some (map (map_answer word_of) had) →
+    (t : ℕ) (s : Start) (had : Answers) (words : List (Answer ℕ)) → slice_get code.starts t ≡ Some s →
+    InKind file program t had →
+    come_to code t (most_silent code) words (Waits (quiet code t (most_silent code) (started s))) ≡ Some
+    (map (map_answer word_of) had) →
     own.fed code t (most_silent code) (most_silent code) (started s) words ≡ told (next file program t had)

@@ -44,8 +44,10 @@ code = record {
       ∷ op.NewLock ∷ op.Store 1 ∷ op.Load 1 ∷ op.See 1 ∷ op.Take 1 ∷ op.JumpIfFalse 16 ∷ op.Pop ∷ op.Leave
       ∷ op.Leave ∷ [];
   handlers = record { from = 7; to = 12; handler = 12; depth = 0 } ∷ [];
-  methods = record { start = 13; arguments = 1; more = 1; need = 2 } ∷ record { start = 21; arguments = 1; more = 0; need = 0 } ∷ [];
+  methods = record { start = 13; arguments = 1; more = 1; need = 2 } ∷
+      record { start = 21; arguments = 1; more = 0; need = 0 } ∷ [];
   sizes = 1 ∷ [];
-  starts = record { place = 0; need = 2; calls = Nothing ∷ [] } ∷ record { place = 7; need = 1; calls = Nothing ∷ [] } ∷ [];
+  starts = record { place = 0; need = 2; calls = Nothing ∷ [] } ∷ record { place = 7; need = 1; calls = Nothing ∷ [] } ∷
+      [];
   names = 1;
 }

@@ -3,7 +3,11 @@ use Rattle.std.specs.Prelude.{◌≡◌, ℕ, zero, suc, ◌+◌, ◌≤◌, Lis
 use Rattle.ls_events.specs.declared.value.Value.{Value}
 use Rattle.ls_events.specs.declared.value.Value.TheVariants.{Int, Boolean, Reference, Pair}
 use Rattle.ls_events.specs.declared.action.Action.{Action}
-use Rattle.ls_events.specs.declared.action.Action.TheVariants.{ReadField, WriteField, ReadItem, WriteItem, ReadName, WriteName, New, NewLock, NewMarkable, NewArray, Lock, Unlock, TryLock, IsHeld, LockMonitor, UnlockMonitor, ReadPair, SetPair, SwapPair, AttemptMark, Turn, Enter, Call, Return, Trap}
+use Rattle.ls_events.specs.declared.action.Action.TheVariants.{ReadField, WriteField, ReadItem, WriteItem, ReadName}
+use Rattle.ls_events.specs.declared.action.Action.TheVariants.{WriteName, New, NewLock, NewMarkable, NewArray, Lock}
+use Rattle.ls_events.specs.declared.action.Action.TheVariants.{Unlock, TryLock, IsHeld, LockMonitor, UnlockMonitor}
+use Rattle.ls_events.specs.declared.action.Action.TheVariants.{ReadPair, SetPair, SwapPair, AttemptMark, Turn, Enter}
+use Rattle.ls_events.specs.declared.action.Action.TheVariants.{Call, Return, Trap}
 use Rattle.ls_events.specs.declared.action.Answer.{Answer}
 use Rattle.ls_events.specs.declared.action.Answer.TheVariants.{Done, Gives, Fails}
 use Rattle.ls_meaning.specs.Renamings.{renamed}
@@ -63,7 +67,11 @@ map_answer f (Fails k) = Fails k
 
 -- a line of the source's trace in words, if object n is at address ρ n
 abbrev pub in_words : (ℕ → ℕ) → source.Entry Value → machine.Entry
-in_words ρ e = record { thread = e.thread; action = map_action ρ (written ρ) e.action; answer = map_answer (written ρ) e.answer }
+in_words ρ e = record {
+  thread = e.thread;
+  action = map_action ρ (written ρ) e.action;
+  answer = map_answer (written ρ) e.answer;
+}
 
 -- the answer of a making, put before the others
 abbrev pub born : Action ℕ → Answer ℕ → List ℕ → List ℕ

@@ -16,7 +16,8 @@ use Rattle.ls_headline.specs.Example.{file, program, code}
 
 -- the words of -1, of true, of null, and of a pair of object 3 and a mark
 abbrev pub WordsOfValues : Type 0
-WordsOfValues = (word_of (Int (negsuc 0)) ≡ 4294967295) × (word_of (Boolean true) ≡ 1) × (word_of (Reference 0) ≡ 0) × (word_of (Pair 3 true) ≡ 7)
+WordsOfValues = (word_of (Int (negsuc 0)) ≡ 4294967295) × (word_of (Boolean true) ≡ 1) × (word_of (Reference 0) ≡ 0) ×
+    (word_of (Pair 3 true) ≡ 7)
 
 -- an object without fields has a cell, and so has a lock, and an array of three items has four
 abbrev pub CellsOfThings : Type 0
@@ -28,7 +29,8 @@ ScheduleToSource = to_source code 9 (1 ∷ replicate 8 0 ++ replicate 15 1) ≡ 
 
 -- the instructions up to each acting one, and at the end of the setup its silent last step too
 abbrev pub ScheduleToMachine : Type 0
-ScheduleToMachine = to_machine file program code 9 (1 ∷ replicate 5 0 ++ replicate 7 1) ≡ replicate 8 0 ++ replicate 12 1
+ScheduleToMachine = to_machine file program code 9 (1 ∷ replicate 5 0 ++ replicate 7 1) ≡ replicate 8 0 ++
+    replicate 12 1
 
 -- the name has cell 1, the object 2, the lock 3
 abbrev pub BirthsOfRun : Type 0
@@ -49,7 +51,8 @@ AnswersInKind =
 
 -- one cell too few for the lock
 abbrev pub RoomOfRun : Type 0
-RoomOfRun = Fits file program 3 (replicate 5 0 ++ replicate 6 1) × (Fits file program 2 (replicate 5 0 ++ replicate 6 1) → ⊥)
+RoomOfRun = Fits file program 3 (replicate 5 0 ++ replicate 6 1) ×
+    (Fits file program 2 (replicate 5 0 ++ replicate 6 1) → ⊥)
 
 -- Thread 1 sees that thread 2 holds the lock, then that the lock is free, and loses its exchange. It sees again that
 -- the lock is free, and wins.

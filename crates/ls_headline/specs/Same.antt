@@ -36,10 +36,12 @@ pub record IsCells (code : Code) (cells : ℕ) : Type 0 where
 -- the same, in order and with their answers; those of the machine are in words. The events are the same, with the
 -- values that calls return. The makings have answered different addresses, and none of these is 0. So a word names one
 -- object.
-pub record Alike (file : File) (program : Program) (code : Code) (cells : ℕ) (of_machine of_source : List ℕ) : Type 0 where
-  pub traces : Agree (machine_trace (loaded code cells) of_machine) (source_trace file program of_source)
-  pub places : ArePlaces (length (births (machine_trace (loaded code cells) of_machine))) (numbered (births (machine_trace (loaded code cells) of_machine)))
-  pub histories : machine_history code cells of_machine ≡ source_history file program of_source
+pub record Alike (file : File) (program : Program) (code : Code) (cells : ℕ) (of_machine of_source : List ℕ) : Type 0
+  where
+    pub traces : Agree (machine_trace (loaded code cells) of_machine) (source_trace file program of_source)
+    pub places : ArePlaces (length (births (machine_trace (loaded code cells) of_machine)))
+        (numbered (births (machine_trace (loaded code cells) of_machine)))
+    pub histories : machine_history code cells of_machine ≡ source_history file program of_source
 
 -- For each number of cells: each schedule of instructions has its schedule of source steps. Each schedule of source
 -- steps that fits has its schedule of instructions.

@@ -1,5 +1,6 @@
 -- Values, objects, actions and answers of their sorts.
-use Rattle.std.specs.Prelude.{◌≡◌, ◌≢◌, ℕ, zero, suc, ◌-◌, ◌<◌, ◌^◌, pos, List, [], ◌∷◌, length, Option, Some, None, FitsSigned, slice_get}
+use Rattle.std.specs.Prelude.{◌≡◌, ◌≢◌, ℕ, zero, suc, ◌-◌, ◌<◌, ◌^◌, pos, List, [], ◌∷◌, length, Option, Some, None}
+use Rattle.std.specs.Prelude.{FitsSigned, slice_get}
 use Rattle.std.specs.Int.{w32}
 use Rattle.ls_events.specs.declared.kind.Kind.{Kind}
 use Rattle.ls_events.specs.declared.kind.Kind.TheVariants.{ArrayIndexOutOfBounds, IllegalMonitorState, Error}
@@ -8,7 +9,11 @@ use Rattle.ls_events.specs.declared.value.Value.TheVariants.{Int, Boolean, Refer
 use Rattle.ls_events.specs.declared.value.ValueType.{ValueType}
 use Rattle.ls_events.specs.declared.value.ValueType.TheVariants as type
 use Rattle.ls_events.specs.declared.action.Action.{Action}
-use Rattle.ls_events.specs.declared.action.Action.TheVariants.{ReadField, WriteField, ReadItem, WriteItem, ReadName, WriteName, New, NewLock, NewMarkable, NewArray, Lock, Unlock, TryLock, IsHeld, LockMonitor, UnlockMonitor, ReadPair, SetPair, SwapPair, AttemptMark, Turn, Enter, Call, Return, Trap}
+use Rattle.ls_events.specs.declared.action.Action.TheVariants.{ReadField, WriteField, ReadItem, WriteItem, ReadName}
+use Rattle.ls_events.specs.declared.action.Action.TheVariants.{WriteName, New, NewLock, NewMarkable, NewArray, Lock}
+use Rattle.ls_events.specs.declared.action.Action.TheVariants.{Unlock, TryLock, IsHeld, LockMonitor, UnlockMonitor}
+use Rattle.ls_events.specs.declared.action.Action.TheVariants.{ReadPair, SetPair, SwapPair, AttemptMark, Turn, Enter}
+use Rattle.ls_events.specs.declared.action.Action.TheVariants.{Call, Return, Trap}
 use Rattle.ls_events.specs.declared.action.Answer.{Answer}
 use Rattle.ls_events.specs.declared.action.Answer.TheVariants.{Done, Gives, Fails}
 use Rattle.ls_checked.specs.CheckedTree.{Class, File}
@@ -58,7 +63,8 @@ fields_of classes c = fields_by (slice_get classes c)
 
 -- a name of the setup has the type of its object
 abbrev pub NameHas : Program → ℕ → ValueType → Type 0
-NameHas program n t = elim (slice_get program.names n) as (λ _. Type 0) [ None ↦ ⊥ | Some name ↦ t ≡ type.Class name.class ]
+NameHas program n t = elim (slice_get program.names n) as (λ _. Type 0)
+    [ None ↦ ⊥ | Some name ↦ t ≡ type.Class name.class ]
 
 -- a thread's call, by its number from 1
 abbrev pub call_at : Program → ℕ → ℕ → Option ProgramCall
@@ -78,16 +84,21 @@ Returns (Some (Calling name m text (Some t) values)) v = ⊥
 -- an action of a thread on things and values of the right types, whose answer has a sort
 abbrev pub ActionHas : File → Program → List ValueType → ℕ → Action Value → Sort → Type 0
 ActionHas file program things thread (ReadField n f) s =
-    (c : ℕ) × (t : ValueType) × Names things n (type.Class c) × (slice_get (fields_of file.classes c) f ≡ Some t) × (s ≡ ValueOf t)
+    (c : ℕ) × (t : ValueType) × Names things n (type.Class c) × (slice_get (fields_of file.classes c) f ≡ Some t) ×
+    (s ≡ ValueOf t)
 ActionHas file program things thread (WriteField n f v) s =
-    (c : ℕ) × (t : ValueType) × Names things n (type.Class c) × (slice_get (fields_of file.classes c) f ≡ Some t) × HasType things v t × (s ≡ NoValue)
+    (c : ℕ) × (t : ValueType) × Names things n (type.Class c) × (slice_get (fields_of file.classes c) f ≡ Some t) ×
+    HasType things v t × (s ≡ NoValue)
 ActionHas file program things thread (ReadItem n i) s = Names things n type.BooleanArray × (s ≡ ValueOf type.Boolean)
-ActionHas file program things thread (WriteItem n i v) s = Names things n type.BooleanArray × HasType things v type.Boolean × (s ≡ NoValue)
+ActionHas file program things thread (WriteItem n i v) s = Names things n type.BooleanArray ×
+    HasType things v type.Boolean × (s ≡ NoValue)
 ActionHas file program things thread (ReadName n) s = (t : ValueType) × NameHas program n t × (s ≡ ValueOf t)
-ActionHas file program things thread (WriteName n v) s = (t : ValueType) × NameHas program n t × HasType things v t × (s ≡ NoValue)
+ActionHas file program things thread (WriteName n v) s = (t : ValueType) × NameHas program n t × HasType things v t ×
+    (s ≡ NoValue)
 ActionHas file program things thread (New c) s = (c < length file.classes) × (s ≡ NewOf (type.Class c))
 ActionHas file program things thread NewLock s = s ≡ NewOf type.Lock
-ActionHas file program things thread (NewMarkable v) s = (c : ℕ) × HasSortBy (Refers things) v (PairOf c) × (s ≡ NewOf (type.Markable c))
+ActionHas file program things thread (NewMarkable v) s = (c : ℕ) × HasSortBy (Refers things) v (PairOf c) ×
+    (s ≡ NewOf (type.Markable c))
 ActionHas file program things thread (NewArray z) s = (n : ℕ) × (z ≡ pos n) × (s ≡ NewOf type.BooleanArray)
 ActionHas file program things thread (Lock n) s = Names things n type.Lock × (s ≡ NoValue)
 ActionHas file program things thread (Unlock n) s = Names things n type.Lock × (s ≡ NoValue)
@@ -96,9 +107,11 @@ ActionHas file program things thread (IsHeld n) s = Names things n type.Lock × 
 ActionHas file program things thread (LockMonitor n) s = (c : ℕ) × Names things n (type.Class c) × (s ≡ NoValue)
 ActionHas file program things thread (UnlockMonitor n) s = (c : ℕ) × Names things n (type.Class c) × (s ≡ NoValue)
 ActionHas file program things thread (ReadPair n) s = (c : ℕ) × Names things n (type.Markable c) × (s ≡ PairOf c)
-ActionHas file program things thread (SetPair n v) s = (c : ℕ) × Names things n (type.Markable c) × HasSortBy (Refers things) v (PairOf c) × (s ≡ NoValue)
+ActionHas file program things thread (SetPair n v) s = (c : ℕ) × Names things n (type.Markable c) ×
+    HasSortBy (Refers things) v (PairOf c) × (s ≡ NoValue)
 ActionHas file program things thread (SwapPair n e d) s =
-    (c : ℕ) × Names things n (type.Markable c) × HasSortBy (Refers things) e (PairOf c) × HasSortBy (Refers things) d (PairOf c) × (s ≡ ValueOf type.Boolean)
+    (c : ℕ) × Names things n (type.Markable c) × HasSortBy (Refers things) e (PairOf c) ×
+    HasSortBy (Refers things) d (PairOf c) × (s ≡ ValueOf type.Boolean)
 ActionHas file program things thread (AttemptMark n r m) s =
     (c : ℕ) × Names things n (type.Markable c) × Refers things r (type.Class c) × (s ≡ ValueOf type.Boolean)
 ActionHas file program things thread Turn s = s ≡ NoValue

@@ -51,12 +51,15 @@ pub record Asks (file : File) (program : Program) (code : Code) : Type 0 where
   -- If a thread gets answers in kind, it asks what the source asks next, and ends as the source ends. It is never
   -- stuck, nor silent for too long. Its waiting for a lock doesn't count.
   pub asks : (t : ℕ) (s : Start) (had : Answers) → slice_get code.starts t ≡ Some s → InKind file program t had →
-      fed code t (most_silent code) (most_silent code) (started s) (map (map_answer word_of) had) ≡ told (next file program t had)
+      fed code t (most_silent code) (most_silent code) (started s) (map (map_answer word_of) had) ≡ told
+      (next file program t had)
   -- the threads of the program, with their calls, and its names
   pub threads : (t : ℕ) → calls_of (slice_get code.starts t) (slice_get program.threads t)
   pub names : code.names ≡ length program.names
   -- the cells of an object of each class
-  pub sizes : (c : ℕ) (class : Class) → slice_get file.classes c ≡ Some class → slice_get code.sizes c ≡ Some (object_cells (length class.fields))
+  pub sizes : (c : ℕ) (class : Class) →
+      slice_get file.classes c ≡ Some class →
+      slice_get code.sizes c ≡ Some (object_cells (length class.fields))
 
 -- what the meaning of a file and a program promises
 pub record IsSound (file : File) (program : Program) : Type 0 where

@@ -31,7 +31,8 @@ if_silent did.Stopped rest = []
 -- a thread's steps up to and with its first step that isn't silent, after at most n silent steps
 abbrev pub until_acts : ℕ → Machine → ℕ → List ℕ
 until_acts zero m thread = thread ∷ []
-until_acts (suc n) m thread = thread ∷ if_silent (machine_step m thread).did (until_acts n (machine_step m thread).machine thread)
+until_acts (suc n) m thread = thread ∷ if_silent (machine_step m thread).did
+    (until_acts n (machine_step m thread).machine thread)
 
 abbrev pub unless : Bool → List ℕ → List ℕ
 unless true rest = []
@@ -62,7 +63,8 @@ abbrev pub steps_from : File → Program → ℕ → State → Machine → List 
 steps_from file program n s m [] = []
 steps_from file program n s m (t ∷ ts) =
     steps_for file program n m t (source_step file program s t)
-    ++ steps_from file program n (after s (source_step file program s t)) (machine_run m (steps_for file program n m t (source_step file program s t))) ts
+    ++ steps_from file program n (after s (source_step file program s t))
+    (machine_run m (steps_for file program n m t (source_step file program s t))) ts
 
 -- the same; if the setup's source has ended already, the setup of the machine first comes to its end
 abbrev pub steps_all : File → Program → ℕ → State → Machine → List ℕ → List ℕ
@@ -71,4 +73,5 @@ steps_all file program n s m schedule =
     ++ steps_from file program n s (machine_run m (setup_end n m (has_setup_ended file program s))) schedule
 
 abbrev pub to_machine : File → Program → Code → ℕ → List ℕ → List ℕ
-to_machine file program code cells schedule = steps_all file program (most_silent code) (start program) (loaded code cells) schedule
+to_machine file program code cells schedule = steps_all file program (most_silent code) (start program)
+    (loaded code cells) schedule

@@ -2,7 +2,8 @@
 use Rattle.std.specs.Prelude.{ℕ, List, [], ◌∷◌, ◌++◌, None, replicate}
 use Rattle.ls_events.specs.declared.value.ValueType.TheVariants as type
 use Rattle.ls_checked.specs.declared.tree.Called.TheVariants.{LockIt, UnlockIt}
-use Rattle.ls_checked.specs.CheckedTree.{File, Expression, Slot, Field, Call, MakeLock, End, Block, SetField, Evaluate, Done, Then}
+use Rattle.ls_checked.specs.CheckedTree.{File, Expression, Slot, Field, Call, MakeLock, End, Block, SetField, Evaluate}
+use Rattle.ls_checked.specs.CheckedTree.{Done, Then}
 use Rattle.ls_checked.specs.CheckedProgram.{Program, Making, Calling}
 use Rattle.ls_code.specs.Code.{Code}
 use Rattle.ls_code.specs.declared.code.CallResult.TheVariants.{Nothing}
@@ -91,7 +92,13 @@ locking_file = record {
         result = None;
         body = Block (Then (Evaluate (Call lock LockIt End)) (Then (Evaluate (Call lock UnlockIt End)) Done));
       }
-      ∷ record { class = 0; parameters = 0; slots = type.Class 0 ∷ []; result = None; body = Block (Then (SetField (Slot 0) 0 MakeLock) Done) }
+      ∷ record {
+        class = 0;
+        parameters = 0;
+        slots = type.Class 0 ∷ [];
+        result = None;
+        body = Block (Then (SetField (Slot 0) 0 MakeLock) Done);
+      }
       ∷ [];
 }
 
@@ -116,7 +123,8 @@ after_lost place = record {
       ∷ op.Load 0 ∷ op.NewLock ∷ op.PutField 1 ∷ op.Leave
       ∷ op.Jump 28 ∷ [];
   handlers = [];
-  methods = record { start = 13; arguments = 1; more = 0; need = 2 } ∷ record { start = 24; arguments = 1; more = 0; need = 2 } ∷ [];
+  methods = record { start = 13; arguments = 1; more = 0; need = 2 } ∷
+      record { start = 24; arguments = 1; more = 0; need = 2 } ∷ [];
   sizes = 2 ∷ [];
   starts =
       record { place = 0; need = 2; calls = Nothing ∷ [] }

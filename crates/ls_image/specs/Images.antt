@@ -30,7 +30,8 @@ code_of_image i = i.code
 -- An image's code runs as its file and its program do. It has the same histories, both ways, and no thread of it is
 -- silent for too long.
 abbrev pub RunsAsItsTexts : Image → Type 0
-RunsAsItsTexts image = Runs (outcome_of (checked_of image)).file (plain_program (program_of_image image)) (code_of_image image)
+RunsAsItsTexts image = Runs (outcome_of (checked_of image)).file (plain_program (program_of_image image))
+    (code_of_image image)
 
 -- The class text is a file that keeps every rule. The program text is a program of that file. The code runs as that
 -- file and that program do.

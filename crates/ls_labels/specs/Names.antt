@@ -1,5 +1,6 @@
 -- The names of classes, fields and methods.
-use Rattle.std.specs.Prelude.{ℕ, nat_eq, List, [], ◌∷◌, ◌++◌, Option, Some, None, slice_get, slice_index_or, find, map, option_map, codes}
+use Rattle.std.specs.Prelude.{ℕ, nat_eq, List, [], ◌∷◌, ◌++◌, Option, Some, None, slice_get, slice_index_or, find, map}
+use Rattle.std.specs.Prelude.{option_map, codes}
 use Rattle.std.specs.Option.{option_map_or}
 use Rattle.ls_checked.specs.CheckedTree.{File}
 use Rattle.ls_checked.specs.CheckedProgram.{Program}
@@ -46,7 +47,8 @@ member_name class None = codes "new " ++ class
 
 abbrev pub member_in : Names → ℕ → ℕ → Text
 member_in names class number =
-    option_map_or (λ sign. member_name (class_name names class) (method_found sign.methods number)) (slice_get names.signs class) []
+    option_map_or (λ sign. member_name (class_name names class) (method_found sign.methods number))
+    (slice_get names.signs class) []
 
 -- a method or constructor of the file, by its number
 abbrev pub method_name : Names → ℕ → Text

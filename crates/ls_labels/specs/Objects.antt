@@ -30,4 +30,5 @@ abbrev pub value_text : Names → List Label → Value → Text
 value_text names ls (values.Int n) = signed_decimal n
 value_text names ls (values.Boolean b) = boolean_text b
 value_text names ls (values.Reference o) = object_text names ls o
-value_text names ls (values.Pair o mark) = 40 ∷ (object_text names ls o ++ (codes ", " ++ (boolean_text mark ++ 41 ∷ [])))
+value_text names ls (values.Pair o mark) = 40 ∷ (object_text names ls o ++
+    (codes ", " ++ (boolean_text mark ++ 41 ∷ [])))

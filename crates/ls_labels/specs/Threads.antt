@@ -45,6 +45,8 @@ awaited_text names ls what lock owner =
 
 -- what a thread waits for, by the action that it asks for: a lock or a monitor that a thread owns
 abbrev pub wait_text : Names → List Label → Store → Action Value → Text
-wait_text names ls s (Lock o) = option_map_or (awaited_text names ls (codes "waits for ") o) (owner_of (thing_at s o)) []
-wait_text names ls s (LockMonitor o) = option_map_or (awaited_text names ls (codes "waits for the monitor of ") o) (owner_of (thing_at s o)) []
+wait_text names ls s (Lock o) = option_map_or (awaited_text names ls (codes "waits for ") o) (owner_of (thing_at s o))
+    []
+wait_text names ls s (LockMonitor o) = option_map_or (awaited_text names ls (codes "waits for the monitor of ") o)
+    (owner_of (thing_at s o)) []
 wait_text names ls s _ = []

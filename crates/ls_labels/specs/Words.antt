@@ -42,9 +42,13 @@ operation_text names ls (actions.ReadPair o) = codes "reads " ++ object_text nam
 operation_text names ls (actions.SetPair o pair) =
     codes "sets " ++ (object_text names ls o ++ (codes " to " ++ value_text names ls pair))
 operation_text names ls (actions.SwapPair o expected new) =
-    codes "exchanges " ++ (object_text names ls o ++ (codes " from " ++ (value_text names ls expected ++ (codes " to " ++ value_text names ls new))))
+    codes "exchanges " ++
+    (object_text names ls o ++
+    (codes " from " ++ (value_text names ls expected ++ (codes " to " ++ value_text names ls new))))
 operation_text names ls (actions.AttemptMark o reference mark) =
-    codes "marks " ++ (object_text names ls o ++ (32 ∷ (boolean_text mark ++ (codes " if it refers to " ++ object_text names ls reference))))
+    codes "marks " ++
+    (object_text names ls o ++
+    (32 ∷ (boolean_text mark ++ (codes " if it refers to " ++ object_text names ls reference))))
 operation_text names ls _ = []
 
 -- makings, entered methods and turns of loops

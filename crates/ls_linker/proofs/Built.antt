@@ -16,10 +16,14 @@ use Rattle.ls_linker_laws.specs.Compiled.{flat_of, code_of}
 use Rattle.std.specs.Prelude.{List}
 
 -- the lowered tree of the code is the one that the law is of
-pub placed_here : (file : File) (refs : low.File) → refs ≡ lowered_file file → AllPlaced (lowered_file file) (lowered_file file) → AllPlaced refs refs
+pub placed_here : (file : File) (refs : low.File) →
+    refs ≡ lowered_file file →
+    AllPlaced (lowered_file file) (lowered_file file) →
+    AllPlaced refs refs
 placed_here file refs r p = subst (λ x. AllPlaced x x) (sym r) p
 
-module _ (file : File) (program : Program) (refs flat : low.File) (r : refs ≡ lowered_file file) (f : flat ≡ flat_file refs) where
+module _ (file : File) (program : Program) (refs flat : low.File) (r : refs ≡ lowered_file file)
+    (f : flat ≡ flat_file refs) where
   flat_here : flat ≡ flat_of file
   flat_here = f ∙ ap flat_file r
 
@@ -28,7 +32,10 @@ module _ (file : File) (program : Program) (refs flat : low.File) (r : refs ≡ 
   emittable_here e = subst IsEmittableFile (sym flat_here) e
 
   -- the code is the one of the law
-  pub code_here : (units : List CodeUnit) (code : Code) → units ≡ units_of flat → code ≡ linked file program units → code ≡ code_of file program
+  pub code_here : (units : List CodeUnit) (code : Code) →
+      units ≡ units_of flat →
+      code ≡ linked file program units →
+      code ≡ code_of file program
   code_here units code u c = c ∙ ap (linked file program) (u ∙ ap units_of flat_here)
 
   -- if the methods of the law are short, so are these
@@ -36,7 +43,10 @@ module _ (file : File) (program : Program) (refs flat : low.File) (r : refs ≡ 
   short_here short = subst AllShort flat_here short
 
   -- the units of this tree link, if those of the law do
-  pub links_here : (units : List CodeUnit) → units ≡ units_of flat → Links file program (units_of (flat_of file)) → Links file program units
+  pub links_here : (units : List CodeUnit) →
+      units ≡ units_of flat →
+      Links file program (units_of (flat_of file)) →
+      Links file program units
   links_here units u l = subst (Links file program) (sym (u ∙ ap units_of flat_here)) l
 
 -- what is so of two is so of their equals

@@ -1,5 +1,6 @@
 -- The laws of the layers, one after the other.
-use Rattle.std.proofs.Common.{◌≡◌, ℕ, zero, suc, ◌+◌, ◌≤◌, List, [], ◌∷◌, length, map, take, drop, Option, Some, None, refl, sym, subst, ap, ◌∙◌, arith}
+use Rattle.std.proofs.Common.{◌≡◌, ℕ, zero, suc, ◌+◌, ◌≤◌, List, [], ◌∷◌, length, map, take, drop, Option, Some, None}
+use Rattle.std.proofs.Common.{refl, sym, subst, ap, ◌∙◌, arith}
 use Rattle.std.specs.Prelude.{slice_get}
 use Rattle.ls_events.specs.declared.value.Value.{Value}
 use Rattle.ls_events.specs.declared.value.ValueType.{ValueType}
@@ -16,7 +17,9 @@ use Rattle.ls_soundness.specs.InCall.{SuitedInCall}
 use Rattle.ls_linker_laws.specs.Laws.{LoweredAsks}
 use Rattle.ls_linker_laws.specs.Compiled.{flat_of}
 
-got : {A B : Type 0} (f : A → B) (xs : List A) (n : ℕ) (x : A) → slice_get xs n ≡ Some x → slice_get (map f xs) n ≡ Some (f x)
+got : {A B : Type 0} (f : A → B) (xs : List A) (n : ℕ) (x : A) →
+    slice_get xs n ≡ Some x →
+    slice_get (map f xs) n ≡ Some (f x)
 got f [] n x e = absurd (none e)
   where
     none : {C : Type 0} {y : C} → None ≡ Some y → ⊥
@@ -45,7 +48,9 @@ taken (suc n) (x ∷ xs) le = let e = taken n xs (omega arith) in omega (arith, 
 
 module _ (file : File) (typed : IsTypedFile file) (suited : SuitedInCall file)
     (keeps : KeepsCourses) (placed : AllPlaced (lowered_file file) (lowered_file file)) where
-  lowered_at : (n : ℕ) (m : Method) → slice_get file.methods n ≡ Some m → slice_get (lowered_file file) n ≡ Some (lowered_method file.classes m)
+  lowered_at : (n : ℕ) (m : Method) →
+      slice_get file.methods n ≡ Some m →
+      slice_get (lowered_file file) n ≡ Some (lowered_method file.classes m)
   lowered_at n m e = got (lowered_method file.classes) file.methods n m e
 
   -- the slots of a typed method are `this`, its parameters and more
@@ -54,7 +59,10 @@ module _ (file : File) (typed : IsTypedFile file) (suited : SuitedInCall file)
       let t = typed n m e in
       ap (λ slots. length (take m.parameters (drop 1 slots))) t.this ∙ taken m.parameters t.locals t.parameters
 
-  takes_here : (n : ℕ) (m : Method) (k : ℕ) → slice_get file.methods n ≡ Some m → k ≡ m.parameters + 1 → Takes (lowered_file file) n k
+  takes_here : (n : ℕ) (m : Method) (k : ℕ) →
+      slice_get file.methods n ≡ Some m →
+      k ≡ m.parameters + 1 →
+      Takes (lowered_file file) n k
   takes_here n m k e f = subst (λ o. TakesIn o k) (sym (lowered_at n m e)) f
 
   -- the tree without `try` asks as its file
@@ -62,12 +70,17 @@ module _ (file : File) (typed : IsTypedFile file) (suited : SuitedInCall file)
   lowered_asks = record {
     asks = λ depth n m o vs go throw q found types s.
         let ic = suited depth n m o vs found types.0 types.1 go throw q s in
-        let many : length (map value_word (o ∷ vs)) ≡ m.parameters + 1 = omega (arith, length-words (o ∷ vs), as_many (parameters_of m) vs types.1, parameters_here n m found) in
+        let many : length (map value_word (o ∷ vs)) ≡ m.parameters + 1 = omega
+        (arith, length-words (o ∷ vs), as_many (parameters_of m) vs types.1, parameters_here n m found) in
         record {
-          words = keeps (lowered_file file) placed depth n (map value_word (o ∷ vs)) (answer_words q) (takes_here n m (length (map value_word (o ∷ vs))) found many) ∙ ic.words;
+          words = keeps (lowered_file file) placed depth n (map value_word (o ∷ vs)) (answer_words q)
+              (takes_here n m (length (map value_word (o ∷ vs))) found many) ∙ ic.words;
           answered = λ v rest e. (ic.answered v rest e).1;
         };
     takes = λ n m found.
-        let g = flat_method (lowered_method file.classes m) in
-        (g, got flat_method (lowered_file file) n (lowered_method file.classes m) (lowered_at n m found), ap (λ k. k + 1) (sym (parameters_here n m found)));
+        let g = flat_method (lowered_method file.classes m) in (
+          g,
+          got flat_method (lowered_file file) n (lowered_method file.classes m) (lowered_at n m found),
+          ap (λ k. k + 1) (sym (parameters_here n m found)),
+        );
   }

@@ -32,20 +32,33 @@ long_unit file program floor long =
     let no : ¬ (count file program ≤ 4096) = λ le. long (floor file program (flat_of file) le).0 in
     omega (arith, no)
 
-long_code : (file : File) (program : Program) → KeepsFloor → most_instructions < length (code_of file program).instructions → 4096 < count file program
+long_code : (file : File) (program : Program) →
+    KeepsFloor →
+    most_instructions < length (code_of file program).instructions →
+    4096 < count file program
 long_code file program floor long =
-    let no : ¬ (count file program ≤ 4096) = λ le. (let short = (floor file program (flat_of file) le).1 in omega (arith, short, long)) in
+    let no : ¬ (count file program ≤ 4096) = λ le. (let short = (floor file program (flat_of file) le).1 in
+    omega (arith, short, long)) in
     omega (arith, no)
 
 module _ (file : File) (program : Program) (refs : low.File) (r : refs ≡ lowered_file file) where
   -- a fault of the second lowering names the first limit that isn't kept
-  pub finally_past : (f : LowerFault) → AllFit file.methods → FewLocals (lowered_file file) → Refused refs f → GoesPast file program (Lower f)
+  pub finally_past : (f : LowerFault) →
+      AllFit file.methods →
+      FewLocals (lowered_file file) →
+      Refused refs f →
+      GoesPast file program (Lower f)
   finally_past Memory fits few refused = tt
   finally_past TooManyLocals fits few refused = absurd (refused (subst FewLocals (sym r) few))
   finally_past TooManyCopies fits few refused = (fits, λ copies. refused (subst FewCopies (sym r) copies))
 
   -- so does a fault of counting
-  pub counts_past : (f : CountFault) → CodeHoldsMethods → KeepsFloor → AllFit file.methods → counted.Refused refs f → GoesPast file program (of_counts f)
+  pub counts_past : (f : CountFault) →
+      CodeHoldsMethods →
+      KeepsFloor →
+      AllFit file.methods →
+      counted.Refused refs f →
+      GoesPast file program (of_counts f)
   counts_past counts.Memory holds floor fits refused = tt
   counts_past counts.TooManyCopies holds floor fits refused = (fits, λ copies. refused (subst FewCopies (sym r) copies))
   counts_past counts.TooLong holds floor fits refused =
@@ -53,21 +66,43 @@ module _ (file : File) (program : Program) (refs : low.File) (r : refs ≡ lower
       (fits, subst FewCopies r refused.0, too_long, long_unit file program floor too_long)
   counts_past counts.TooLongTogether holds floor fits refused =
       let here : flat_file refs ≡ flat_of file = ap flat_file r in
-      let no : ¬ (file_size (flat_of file) ≤ most_instructions) = λ le. refused.2 (subst (λ f. file_size f ≤ most_instructions) (sym here) le) in
-      let too_long : most_instructions < length (code_of file program).instructions = omega (arith, no, holds file program (flat_of file)) in
-      (fits, subst FewCopies r refused.0, subst AllShort here refused.1, too_long, long_code file program floor too_long)
+      let no : ¬ (file_size (flat_of file) ≤ most_instructions) = λ le.
+      refused.2 (subst (λ f. file_size f ≤ most_instructions) (sym here) le) in
+      let too_long : most_instructions < length (code_of file program).instructions = omega
+      (arith, no, holds file program (flat_of file)) in (
+        fits,
+        subst FewCopies r refused.0,
+        subst AllShort here refused.1,
+        too_long,
+        long_code file program floor too_long,
+      )
 
-  pub units_past : (flat : low.File) (f : EmitFault) → KeepsFloor → AllFit file.methods → FewCopies refs → flat ≡ flat_file refs → (f ≡ emit.CodeTooLong → ¬ AllShort flat) → GoesPast file program (Emit f)
+  pub units_past : (flat : low.File) (f : EmitFault) →
+      KeepsFloor →
+      AllFit file.methods →
+      FewCopies refs →
+      flat ≡ flat_file refs →
+      (f ≡ emit.CodeTooLong → ¬ AllShort flat) →
+      GoesPast file program (Emit f)
   units_past flat emit.Memory floor fits few e long = tt
   units_past flat emit.CodeTooLong floor fits few e long =
       let too_long : ¬ AllShort (flat_of file) = λ short. long refl (subst AllShort (sym (e ∙ ap flat_file r)) short) in
       (fits, subst FewCopies r few, too_long, long_unit file program floor too_long)
 
   -- so does a fault of linking
-  pub link_past : (flat : low.File) (units : List CodeUnit) (f : LinkFault) → KeepsFloor → AllFit file.methods → FewCopies refs → flat ≡ flat_file refs → AllShort flat → units ≡ units_of flat →
-      (f ≡ link.CodeTooLong → most_instructions < length (linked file program units).instructions) → GoesPast file program (Link f)
+  pub link_past : (flat : low.File) (units : List CodeUnit) (f : LinkFault) →
+      KeepsFloor →
+      AllFit file.methods →
+      FewCopies refs →
+      flat ≡ flat_file refs →
+      AllShort flat →
+      units ≡ units_of flat →
+      (f ≡ link.CodeTooLong → most_instructions < length (linked file program units).instructions) →
+      GoesPast file program (Link f)
   link_past flat units link.Memory floor fits few e short u long = tt
   link_past flat units link.CodeTooLong floor fits few e short u long =
       let flat_here : flat ≡ flat_of file = e ∙ ap flat_file r in
-      let too_long : most_instructions < length (code_of file program).instructions = subst (λ us. most_instructions < length (linked file program us).instructions) (u ∙ ap units_of flat_here) (long refl) in
+      let too_long : most_instructions < length (code_of file program).instructions = subst
+      (λ us. most_instructions < length (linked file program us).instructions) (u ∙ ap units_of flat_here)
+      (long refl) in
       (fits, subst FewCopies r few, subst AllShort flat_here short, too_long, long_code file program floor too_long)

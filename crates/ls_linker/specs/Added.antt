@@ -7,7 +7,8 @@ use Rattle.ls_code.specs.declared.instruction.Instruction.{Instruction}
 use Rattle.ls_emit_laws.specs.Units.{CodeUnit}
 use Rattle.ls_code.specs.declared.code.HandlerRow.{HandlerRow}
 use Rattle.ls_linker_laws.specs.Threads.{calls_code, thread_row}
-use Rattle.ls_linker_laws.specs.Linked.{units_code, units_rows, method_rows, threads_code, threads_rows, starts, class_size}
+use Rattle.ls_linker_laws.specs.Linked.{units_code, units_rows, method_rows, threads_code, threads_rows, starts}
+use Rattle.ls_linker_laws.specs.Linked.{class_size}
 
 -- instructions after others
 pub record Adds (old added new : List Instruction) : Type 0 where
@@ -34,7 +35,8 @@ pub record AddsUnits (old : Code) (units : List CodeUnit) (new : Code) : Type 0 
   pub names : new.names ≡ old.names
 
 -- the code of a thread's calls after other code, and its row
-pub record PushesThread (classes : List Class) (old : List Instruction) (calls : List ProgramCall) (new : List Instruction) (row : HandlerRow) : Type 0 where
+pub record PushesThread (classes : List Class) (old : List Instruction) (calls : List ProgramCall)
+    (new : List Instruction) (row : HandlerRow) : Type 0 where
   pub is : new ≡ old ++ calls_code classes 1 calls
   pub row_is : row ≡ thread_row (length old) (length (calls_code classes 1 calls))
 

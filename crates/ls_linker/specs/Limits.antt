@@ -29,7 +29,9 @@ GoesPast file program (Lower lower.Memory) = Unit {0}
 GoesPast file program (Lower lower.TooManyLocals) = ¬ AllFit file.methods
 GoesPast file program (Lower lower.TooManyCopies) = AllFit file.methods × ¬ FewCopies (lowered_file file)
 GoesPast file program (Emit emit.Memory) = Unit {0}
-GoesPast file program (Emit emit.CodeTooLong) = AllFit file.methods × FewCopies (lowered_file file) × ¬ AllShort (flat_of file) × 4096 < count file program
+GoesPast file program (Emit emit.CodeTooLong) = AllFit file.methods × FewCopies (lowered_file file) ×
+    ¬ AllShort (flat_of file) × 4096 < count file program
 GoesPast file program (Link link.Memory) = Unit {0}
 GoesPast file program (Link link.CodeTooLong) =
-    AllFit file.methods × FewCopies (lowered_file file) × AllShort (flat_of file) × most_instructions < length (code_of file program).instructions × 4096 < count file program
+    AllFit file.methods × FewCopies (lowered_file file) × AllShort (flat_of file) ×
+    most_instructions < length (code_of file program).instructions × 4096 < count file program

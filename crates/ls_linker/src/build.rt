@@ -12,9 +12,11 @@ use crate::link::link;
 use ls_code::code::Code;
 use ls_emit::emit::emit;
 use ls_finally::files::lower_finally;
-use ls_linker_counts::files::measure;
-use ls_linker_bounds::in_range::{fits_lowered, ranged_is_emittable, ranged_links, typed_is_placed};
+use ls_linker_bounds::in_range::{
+    fits_lowered, ranged_is_emittable, ranged_links, typed_is_placed,
+};
 use ls_linker_bounds::lengths::sizes;
+use ls_linker_counts::files::measure;
 use ls_refs::laws::has_slots;
 use ls_refs::lower::lower_refs;
 use ls_types::laws::source_is_well_typed;

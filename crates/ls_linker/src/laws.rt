@@ -12,12 +12,12 @@ ghost use Rattle.ls_linker_laws.specs.Compiled.{flat_of, code_of};
 ghost use Rattle.ls_linker_laws.specs.Runs.{Runs};
 
 use ls_emit_laws::laws::units_ask;
-use ls_headline::ends::{acts_in_time, ends_in_time};
 use ls_finally::laws::keeps_courses;
+use ls_headline::ends::{acts_in_time, ends_in_time};
 use ls_headline::laws::{asks_by_words, same_traces};
-use ls_linker_laws::laws::{linked_asks, linked_exchanges};
-use ls_linker_bounds::quickness::{frames_are_quick, threads_are_quick};
 use ls_linker_bounds::lengths::sizes;
+use ls_linker_bounds::quickness::{frames_are_quick, threads_are_quick};
+use ls_linker_laws::laws::{linked_asks, linked_exchanges};
 use ls_soundness::laws::{is_sound, suited_in_call};
 
 /// The code of a well typed file and a well typed program of it runs as these do, if the code isn't too long.

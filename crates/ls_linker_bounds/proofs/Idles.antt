@@ -20,4 +20,5 @@ jumps = (refl, at 23, refl, refl, (refl, at 24, refl, refl, (refl, at 25, refl, 
 
 -- the image with 30 jumps isn't quick
 pub idles_not : ThreadsAreQuick file program idles → ⊥
-idles_not h = let few = h 0 setup start refl refl 4 (at 22) (at 26) (omega arith) (omega arith) jumps in absurd (omega (arith, few))
+idles_not h = let few = h 0 setup start refl refl 4 (at 22) (at 26) (omega arith) (omega arith) jumps in
+    absurd (omega (arith, few))

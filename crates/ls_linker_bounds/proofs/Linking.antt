@@ -47,7 +47,8 @@ all_written [] (v ∷ vs) h = absurd h
 all_written (t ∷ ts) [] h = tt
 all_written (t ∷ ts) (v ∷ vs) h = (written t v h.0, all_written ts vs h.1)
 
-module _ (file : File) (program : Program) (ranged : IsRanged file) (typed : IsTypedProgram file program) (room : IsRangedProgram program) where
+module _ (file : File) (program : Program) (ranged : IsRanged file) (typed : IsTypedProgram file program)
+    (room : IsRangedProgram program) where
   call_links : (call : ProgramCall) → IsTypedCall file program call → CallLinks file.classes call
   call_links (Making name class text values) h =
       let there = h.there in
@@ -65,25 +66,38 @@ module _ (file : File) (program : Program) (ranged : IsRanged file) (typed : IsT
       let named = in_range program.names name h.setup_name h.named in
       let found = in_range file.methods method h.called h.found in
       let methods = ranged.methods in
-      let names = room.names in
-      (omega (arith, named, names), omega (arith, found, methods), each_all IsWritten values (all_written (parameters_of h.called) values h.fit))
+      let names = room.names in (
+        omega (arith, named, names),
+        omega (arith, found, methods),
+        each_all IsWritten values (all_written (parameters_of h.called) values h.fit),
+      )
 
-  thread_links : (number : ℕ) (t : ThreadProgram) → slice_get program.threads number ≡ Some t → ThreadLinks file.classes t
+  thread_links : (number : ℕ) (t : ThreadProgram) →
+      slice_get program.threads number ≡ Some t →
+      ThreadLinks file.classes t
   thread_links number t e = record {
     few = room.calls number t e;
     calls = λ k call below.
-        call_links (slice_index_or t.calls k call) (typed number t k (slice_index_or t.calls k call) e (slice_get-get_or t.calls k call below));
+        call_links (slice_index_or t.calls k call) (typed number t k (slice_index_or t.calls k call) e
+        (slice_get-get_or t.calls k call below));
   }
 
   threads_link : All (ThreadLinks file.classes) program.threads
-  threads_link = λ k t below. thread_links k (slice_index_or program.threads k t) (slice_get-get_or program.threads k t below)
+  threads_link = λ k t below. thread_links k (slice_index_or program.threads k t)
+      (slice_get-get_or program.threads k t below)
 
   -- the units and the threads of a typed file and its program can be linked
-  pub all_link : IsTypedFile file → HasItsClasses file → HasItsLoops file → AllFit file.methods → AllShort (flat_file (lowered_file file)) → Links file program (units_of (flat_file (lowered_file file)))
+  pub all_link : IsTypedFile file →
+      HasItsClasses file →
+      HasItsLoops file →
+      AllFit file.methods →
+      AllShort (flat_file (lowered_file file)) →
+      Links file program (units_of (flat_file (lowered_file file)))
   all_link well its loops fit short =
       let methods = ranged.methods in
       let many : length (units_of (flat_file (lowered_file file))) ≡ length file.methods =
-      length-map (flat_file (lowered_file file)) unit_of ∙ length-map (lowered_file file) flat_method ∙ length-map file.methods (lowered_method file.classes) in
+      length-map (flat_file (lowered_file file)) unit_of ∙ length-map (lowered_file file) flat_method ∙
+      length-map file.methods (lowered_method file.classes) in
       record {
         few = omega (arith, methods, many);
         all = units_land (flat_file (lowered_file file)) (file_emittable file well its ranged loops fit) short;

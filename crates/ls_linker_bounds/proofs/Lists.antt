@@ -1,5 +1,6 @@
 -- What is at a number of a list.
-use Rattle.std.proofs.Common.{◌≡◌, ℕ, zero, suc, ◌≤◌, ◌<◌, List, [], ◌∷◌, length, map, take, Some, None, option_map, refl, subst, ap, ◌∙◌, arith}
+use Rattle.std.proofs.Common.{◌≡◌, ℕ, zero, suc, ◌≤◌, ◌<◌, List, [], ◌∷◌, length, map, take, Some, None, option_map}
+use Rattle.std.proofs.Common.{refl, subst, ap, ◌∙◌, arith}
 use Rattle.std.specs.Prelude.{All, slice_get}
 use Rattle.std.proofs.lemmas.Option.{get_or_from_slice_get, slice_get-map}
 
@@ -13,7 +14,9 @@ in_range (y ∷ ys) zero x e = omega arith
 in_range (y ∷ ys) (suc n) x e = omega (arith, in_range ys n x e)
 
 -- an item of a mapped list
-pub at_mapped : {A B : Type 0} (f : A → B) (xs : List A) (n : ℕ) (x : A) → slice_get xs n ≡ Some x → slice_get (map f xs) n ≡ Some (f x)
+pub at_mapped : {A B : Type 0} (f : A → B) (xs : List A) (n : ℕ) (x : A) →
+    slice_get xs n ≡ Some x →
+    slice_get (map f xs) n ≡ Some (f x)
 at_mapped f xs n x e = slice_get-map f xs n ∙ ap (option_map f) e
 
 -- how many items are taken

@@ -5,12 +5,18 @@ use Rattle.ls_events.specs.declared.value.Value.{Value}
 use Rattle.ls_events.specs.declared.value.Value.TheVariants as values
 use Rattle.ls_checked.specs.CheckedTree as checked
 use Rattle.ls_checked.specs.CheckedProgram.{Program, ProgramCall, Making, Calling}
-use Rattle.ls_lowered.specs.LoweredTree.{Expression, Word, Local, Unary, Binary, And, Or, Hold, Keep, After, Field, Item, SetFirst, ReadPair, SetPair, SwapPair, AttemptMark, OnLock, Call, MakeObject, MakeLock, MakeMarkable, MakeArray, Expressions, End, More, Statement, Block, SetLocal, SetField, AddField, SetItem, Evaluate, If, While, Return, Try, Guarded, Throw, Leavable, Leave, Statements, Done, Then, Method, File}
+use Rattle.ls_lowered.specs.LoweredTree.{Expression, Word, Local, Unary, Binary, And, Or, Hold, Keep, After, Field}
+use Rattle.ls_lowered.specs.LoweredTree.{Item, SetFirst, ReadPair, SetPair, SwapPair, AttemptMark, OnLock, Call}
+use Rattle.ls_lowered.specs.LoweredTree.{MakeObject, MakeLock, MakeMarkable, MakeArray, Expressions, End, More}
+use Rattle.ls_lowered.specs.LoweredTree.{Statement, Block, SetLocal, SetField, AddField, SetItem, Evaluate, If, While}
+use Rattle.ls_lowered.specs.LoweredTree.{Return, Try, Guarded, Throw, Leavable, Leave, Statements, Done, Then, Method}
+use Rattle.ls_lowered.specs.LoweredTree.{File}
 use Rattle.ls_finally.specs.Agreement.{IsBelow, AreBelow}
 use Rattle.ls_finally.specs.Placed as placed
 use Rattle.ls_finally.specs.Placed.{CallsWell, AllCallWell, IsPlacedStatement, ArePlaced, AllPlaced}
 use Rattle.ls_emit_laws.specs.Emittable as emitted
-use Rattle.ls_emit_laws.specs.Emittable.{IsEmittable, AreEmittable, IsEmittableStatement, AreEmittableStatements, IsEmittableMethod, AllEmittable, statement_count}
+use Rattle.ls_emit_laws.specs.Emittable.{IsEmittable, AreEmittable, IsEmittableStatement, AreEmittableStatements}
+use Rattle.ls_emit_laws.specs.Emittable.{IsEmittableMethod, AllEmittable, statement_count}
 use Rattle.ls_emit_laws.specs.Units.{CodeUnit}
 use Rattle.ls_code.specs.declared.instruction.Instruction.{Instruction}
 use Rattle.ls_code.specs.declared.instruction.Instruction.TheVariants as op
@@ -146,18 +152,33 @@ mutual
   statement_emittable ms k exits (AddField e f a) = hlevel (props, emittable ms k e, emittable ms k a)
   statement_emittable ms k exits (SetItem a i e) = hlevel (emittable ms k a, emittable ms k i, emittable ms k e)
   statement_emittable ms k exits (Evaluate e) = emittable ms k e
-  statement_emittable ms k exits (If e a b) = hlevel (emittable ms k e, statement_emittable ms k exits a, statement_emittable ms k exits b)
+  statement_emittable ms k exits (If e a b) = hlevel (
+    emittable ms k e,
+    statement_emittable ms k exits a,
+    statement_emittable ms k exits b,
+  )
   statement_emittable ms k exits (While e s) = hlevel (emittable ms k e, statement_emittable ms k exits s)
   statement_emittable ms k exits (Return e) = emittable ms k e
   statement_emittable ms k exits (Try b f) = hlevel
-  statement_emittable ms k exits (Guarded b n h) = hlevel (props, statement_emittable ms k exits b, statement_emittable ms k exits h)
+  statement_emittable ms k exits (Guarded b n h) = hlevel (
+    props,
+    statement_emittable ms k exits b,
+    statement_emittable ms k exits h,
+  )
   statement_emittable ms k exits (Throw n) = hlevel props
-  statement_emittable ms k exits (Leavable b xs) = hlevel (statement_emittable ms k (suc (statement_count xs) + exits) b, statements_emittable ms k exits xs)
+  statement_emittable ms k exits (Leavable b xs) = hlevel (
+    statement_emittable ms k (suc (statement_count xs) + exits)
+        b,
+    statements_emittable ms k exits xs,
+  )
   statement_emittable ms k exits (Leave n) = hlevel props
 
   statements_emittable : (ms : File) (k exits : ℕ) (ss : Statements) → IsProp (AreEmittableStatements ms k exits ss)
   statements_emittable ms k exits Done = hlevel
-  statements_emittable ms k exits (Then s ss) = hlevel (statement_emittable ms k exits s, statements_emittable ms k exits ss)
+  statements_emittable ms k exits (Then s ss) = hlevel (
+    statement_emittable ms k exits s,
+    statements_emittable ms k exits ss,
+  )
 
 method_emittable : (ms : File) (m : Method) → IsProp (IsEmittableMethod ms m)
 method_emittable ms m = hlevel (props, statement_emittable ms (m.arguments + m.locals) 0 m.body)

@@ -1,16 +1,19 @@
 -- The silent steps of a thread's own code, one by one.
-use Rattle.std.proofs.Common.{◌≡◌, ℕ, ◌+◌, List, length, Option, Some, None, Bool, true, false, not, ◌&&◌, ◌==◌, nat_lt, nat_le, refl, sym, ap, ◌∙◌, subst, slice_get, if◌then◌else◌}
+use Rattle.std.proofs.Common.{◌≡◌, ℕ, ◌+◌, List, length, Option, Some, None, Bool, true, false, not, ◌&&◌, ◌==◌, nat_lt}
+use Rattle.std.proofs.Common.{nat_le, refl, sym, ap, ◌∙◌, subst, slice_get, if◌then◌else◌}
 use Rattle.std.proofs.lemmas.Option.{none-some, same_Some}
 use Rattle.ls_events.specs.declared.kind.Kind.{Kind}
 use Rattle.ls_code.specs.Code.{Code}
 use Rattle.ls_code.specs.Frame.{Frame, top_one}
 use Rattle.ls_code.specs.Thread.{Thread}
-use Rattle.ls_code.specs.Moves.{FrameMove, Next, Throws, Stuck, Asks as FrameAsks, Beyond, frame_move, with_room, on_one}
+use Rattle.ls_code.specs.Moves.{FrameMove, Next, Throws, Stuck, Asks as FrameAsks, Beyond, frame_move, with_room}
+use Rattle.ls_code.specs.Moves.{on_one}
 use Rattle.ls_events.specs.declared.action.Action.TheVariants as act
 use Rattle.ls_code.specs.Calls.{CallMove, Calls, CallThrows, CallStuck, enter_move, call_begun, call_trapped}
 use Rattle.ls_code.specs.Kinds.{kind_of}
 use Rattle.ls_code.specs.Throws.{find_row, caught, onto, thrown}
-use Rattle.ls_code.specs.Steps.{Move, Silent, Still, Asks, Plans, silent_or_still, thrown_thread, throw_move, call_move, on_top, on_kind, found_move, of_frame, fetched_move, thread_move, value_move}
+use Rattle.ls_code.specs.Steps.{Move, Silent, Still, Asks, Plans, silent_or_still, thrown_thread, throw_move, call_move}
+use Rattle.ls_code.specs.Steps.{on_top, on_kind, found_move, of_frame, fetched_move, thread_move, value_move}
 use Rattle.ls_code.specs.declared.code.CallResult.{CallResult}
 use Rattle.ls_code.specs.declared.code.CallResult.TheVariants as result
 use Rattle.ls_code.specs.declared.code.Method.{Method as MethodRow}
@@ -72,24 +75,39 @@ module _ (c : Code) (t : Thread) (trap : ℕ) where
   room_frames : (i : Instruction) (f : Frame) (x : FrameMove) → Frames i x → Frames i (with_room f x)
   room_frames i f x h = if_frames i (nat_lt (length f.operands) f.need) x Stuck h tt
 
-  one_frames : (i : Instruction) (o : Option ℕ) (go : ℕ → FrameMove) → ((a : ℕ) → Frames i (go a)) → Frames i (on_one o go)
+  one_frames : (i : Instruction) (o : Option ℕ) (go : ℕ → FrameMove) →
+      ((a : ℕ) → Frames i (go a)) →
+      Frames i (on_one o go)
   one_frames i None go h = tt
   one_frames i (Some a) go h = h a
 
   -- a throw is caught by the row of the thread
-  caught_at : (row : HandlerRow) (b : Bool) (f g : Frame) → (if b then Some f else None) ≡ Some g → f.counter ≡ row.handler → g.counter ≡ row.handler
+  caught_at : (row : HandlerRow) (b : Bool) (f g : Frame) →
+      (if b then Some f else None) ≡ Some g →
+      f.counter ≡ row.handler →
+      g.counter ≡ row.handler
   caught_at row true f g e h = ap (λ (w : Frame). w.counter) (sym (same_Some f g e)) ∙ h
   caught_at row false f g e h = absurd (none-some g e)
 
-  caught_by : (m : ℕ) (row : HandlerRow) (o : Option Frame) → ((g : Frame) → o ≡ Some g → g.counter ≡ row.handler) → row.handler ≡ trap → By (op.Enter m) (silent_or_still (thrown_thread t (onto o t.below)))
+  caught_by : (m : ℕ) (row : HandlerRow) (o : Option Frame) →
+      ((g : Frame) → o ≡ Some g → g.counter ≡ row.handler) →
+      row.handler ≡ trap →
+      By (op.Enter m) (silent_or_still (thrown_thread t (onto o t.below)))
   caught_by m row None is h = tt
   caught_by m row (Some g) is h = λ e. is g refl ∙ h
 
-  throw_by : (m : ℕ) (kind : Kind) (row : HandlerRow) (o : Option HandlerRow) → find_row c.handlers t.top.counter ≡ o → o ≡ Some row → row.handler ≡ trap →
-      By (op.Enter m) (silent_or_still (thrown_thread t (elim o as (λ _. Option (Frame × List Frame)) [ Some row ↦ onto (caught row kind t.top) t.below | None ↦ thrown c.handlers kind t.below ])))
+  throw_by : (m : ℕ) (kind : Kind) (row : HandlerRow) (o : Option HandlerRow) →
+      find_row c.handlers t.top.counter ≡ o →
+      o ≡ Some row →
+      row.handler ≡ trap →
+      By (op.Enter m)
+      (silent_or_still
+      (thrown_thread t (elim o as (λ _. Option (Frame × List Frame))
+      [ Some row ↦ onto (caught row kind t.top) t.below | None ↦ thrown c.handlers kind t.below ])))
   throw_by m kind row (Some r) e is h =
       let same : r ≡ row = same_Some r row is in
-      caught_by m r (caught r kind t.top) (λ g is. caught_at r _ _ g is refl) (ap (λ (w : HandlerRow). w.handler) same ∙ h)
+      caught_by m r (caught r kind t.top) (λ g is. caught_at r _ _ g is refl)
+      (ap (λ (w : HandlerRow). w.handler) same ∙ h)
   throw_by m kind row None e is h = absurd (none-some row is)
 
   if_on : (i : Instruction) (b : Bool) (x : Move) → By i x → By i (if b then x else Still)
@@ -110,10 +128,15 @@ module _ (c : Code) (t : Thread) (trap : ℕ) where
   trap_on : By op.Trap (of_frame c t (frame_move op.Trap t.top))
   trap_on =
       if_on op.Trap t.pending (on_top (top_one t.top.operands) (λ w. on_kind (kind_of w) (trapping t)))
-      (top_on op.Trap (top_one t.top.operands) (λ w. on_kind (kind_of w) (trapping t)) (λ w. kind_on op.Trap (kind_of w) (trapping t) (λ k. tt)))
+      (top_on op.Trap (top_one t.top.operands) (λ w. on_kind (kind_of w) (trapping t))
+      (λ w. kind_on op.Trap (kind_of w) (trapping t) (λ k. tt)))
 
   -- no step of TRAP is silent
-  pub trap_acts : slice_get c.instructions t.top.counter ≡ Some op.Trap → (s : Thread) → thread_move c t ≡ Silent s → length s.below ≡ length t.below → ⊥
+  pub trap_acts : slice_get c.instructions t.top.counter ≡ Some op.Trap →
+      (s : Thread) →
+      thread_move c t ≡ Silent s →
+      length s.below ≡ length t.below →
+      ⊥
   trap_acts is s e same =
       let move : thread_move c t ≡ of_frame c t (frame_move op.Trap t.top) = ap (fetched_move c t) is in
       (subst (By op.Trap) (sym move ∙ e) trap_on) same
@@ -139,15 +162,19 @@ module _ (c : Code) (t : Thread) (trap : ℕ) where
 
     by_own : (i : Instruction) → IsOwn i → By i (of_frame c t (frame_move i t.top))
     by_own (op.Push v) own = by_frame (op.Push v) _ (room_frames (op.Push v) t.top _ (λ s e. e))
-    by_own op.Dup own = by_frame op.Dup _ (room_frames op.Dup t.top _ (one_frames op.Dup (top_one t.top.operands) _ (λ a s e. e)))
+    by_own op.Dup own = by_frame op.Dup _ (room_frames op.Dup t.top _
+        (one_frames op.Dup (top_one t.top.operands) _ (λ a s e. e)))
     by_own op.Pop own = by_frame op.Pop _ (one_frames op.Pop (top_one t.top.operands) _ (λ a s e. e))
     by_own (op.Enter m) own = found_on m (slice_get c.methods m)
     by_own op.Halt own = λ e. refl
-    by_own (op.Call n) own = if_on (op.Call n) (not t.pending && (n == t.ended + 1) && nat_le n (length t.calls)) (Asks (act.Call n) (λ answer. Some (call_begun t))) tt
+    by_own (op.Call n) own = if_on (op.Call n) (not t.pending && (n == t.ended + 1) && nat_le n (length t.calls))
+        (Asks (act.Call n) (λ answer. Some (call_begun t))) tt
     by_own (op.NewObject x) own = by_frame (op.NewObject x) _ (room_frames (op.NewObject x) t.top _ tt)
     by_own (op.GetName n) own = by_frame (op.GetName n) _ (room_frames (op.GetName n) t.top _ tt)
-    by_own (op.PutName n) own = by_frame (op.PutName n) _ (one_frames (op.PutName n) (top_one t.top.operands) _ (λ a. tt))
-    by_own (op.Result n) own = if_on (op.Result n) (t.pending && (n == t.ended + 1)) (value_move t n (slice_get t.calls t.ended)) (value_on n (slice_get t.calls t.ended))
+    by_own (op.PutName n) own = by_frame (op.PutName n) _ (one_frames (op.PutName n) (top_one t.top.operands) _
+        (λ a. tt))
+    by_own (op.Result n) own = if_on (op.Result n) (t.pending && (n == t.ended + 1))
+        (value_move t n (slice_get t.calls t.ended)) (value_on n (slice_get t.calls t.ended))
     by_own op.Trap own = trap_on
     by_own (op.Load x) own = absurd own
     by_own (op.Store x) own = absurd own
@@ -194,7 +221,13 @@ module _ (c : Code) (t : Thread) (trap : ℕ) where
     by_own op.Throw own = absurd own
 
     -- where a silent step of a thread's own code leads
-    pub own_step : (i : Instruction) → IsOwn i → slice_get c.instructions t.top.counter ≡ Some i → (s : Thread) → thread_move c t ≡ Silent s → length s.below ≡ length t.below → LeadsTo t.top.counter trap i s
+    pub own_step : (i : Instruction) →
+        IsOwn i →
+        slice_get c.instructions t.top.counter ≡ Some i →
+        (s : Thread) →
+        thread_move c t ≡ Silent s →
+        length s.below ≡ length t.below →
+        LeadsTo t.top.counter trap i s
     own_step i own is s e same =
         let move : thread_move c t ≡ of_frame c t (frame_move i t.top) = ap (fetched_move c t) is in
         (subst (By i) (sym move ∙ e) (by_own i own)) same

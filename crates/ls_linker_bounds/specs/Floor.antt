@@ -19,7 +19,8 @@ UnitsAreFew = (m : Method) → method_size m ≤ 16 * method_count m
 -- the whole code has the instructions of each method
 abbrev pub CodeHoldsMethods : Type 0
 CodeHoldsMethods =
-    (file : checked.File) (program : Program) (flat : File) → file_size flat ≤ length (linked file program (units_of flat)).instructions
+    (file : checked.File) (program : Program) (flat : File) →
+    file_size flat ≤ length (linked file program (units_of flat)).instructions
 
 -- the whole code has at most 16 instructions for each node and declared name, and for each thread, call and argument
 abbrev pub CodeIsShort : Type 0
@@ -31,7 +32,8 @@ CodeIsShort =
 abbrev pub KeepsFloor : Type 0
 KeepsFloor =
     (file : checked.File) (program : Program) (flat : File) → file_count flat + program_count program ≤ 4096 →
-    All (λ m. method_size m ≤ most_instructions) flat × length (linked file program (units_of flat)).instructions ≤ most_instructions
+    All (λ m. method_size m ≤ most_instructions) flat × length (linked file program (units_of flat)).instructions ≤
+    most_instructions
 
 -- The lowering makes at most 16 nodes of one node. Then each copy of a finally block adds at most 6 nodes, and the
 -- nodes of the body that the block belongs to.

@@ -18,7 +18,8 @@ IsWritten _ = ⊥
 
 -- each number of a call is below 2 ^ 32
 abbrev pub CallLinks : List Class → ProgramCall → Type 0
-CallLinks classes (Making name class text values) = (name < 2 ^ 32) × (class < 2 ^ 32) × (constructor_of classes class < 2 ^ 32) × All IsWritten values
+CallLinks classes (Making name class text values) = (name < 2 ^ 32) × (class < 2 ^ 32) ×
+    (constructor_of classes class < 2 ^ 32) × All IsWritten values
 CallLinks classes (Calling name method text result values) = (name < 2 ^ 32) × (method < 2 ^ 32) × All IsWritten values
 
 pub record ThreadLinks (classes : List Class) (t : ThreadProgram) : Type 0 where

@@ -14,7 +14,10 @@ pub all_counted : (before t n f : ℕ) → n ≡ min (2 + t) 4099 → before + n
 all_counted before t n f e h = omega (arith, e, h, at_least n f)
 
 -- if the copies are too many as they are counted, they are too many
-pub too_many_counted : (before t n f : ℕ) → n ≡ min (2 + t) 4099 → 4096 < before + n * (1 + f) → 4096 < before + (2 + t) * (1 + f)
+pub too_many_counted : (before t n f : ℕ) →
+    n ≡ min (2 + t) 4099 →
+    4096 < before + n * (1 + f) →
+    4096 < before + (2 + t) * (1 + f)
 too_many_counted before t n f e h =
     let fewer : n ≤ 2 + t = omega (arith, e) in
     omega (arith, h, mul-le n (1 + f) (2 + t) (1 + f) fewer (omega arith))
@@ -29,5 +32,8 @@ returned_le [] = omega arith
 returned_le (w ∷ ws) = omega (arith, one_returned w.number w.times, returned_le ws)
 
 -- if few ways are counted, all returns are counted
-pub returns_counted : (before f r : ℕ) (ws : List Way) → r ≡ min (returned ws) 4097 → before + (2 + total ws) * (1 + f) ≤ 4096 → r ≡ returned ws
+pub returns_counted : (before f r : ℕ) (ws : List Way) →
+    r ≡ min (returned ws) 4097 →
+    before + (2 + total ws) * (1 + f) ≤ 4096 →
+    r ≡ returned ws
 returns_counted before f r ws e h = omega (arith, e, h, at_least (2 + total ws) f, returned_le ws)

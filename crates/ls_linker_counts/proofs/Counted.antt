@@ -1,12 +1,15 @@
 -- What is counted of a statement is what it has without `try`.
-use Rattle.std.proofs.Common.{◌≡◌, ℕ, zero, suc, ◌+◌, ◌*◌, Bool, true, false, cond, List, [], ◌∷◌, ◌++◌, length, Option, Some, None, refl, ap, sym, ◌∙◌, arith, length-append, is_some}
-use Rattle.ls_lowered.specs.LoweredTree.{Statement, Block, SetLocal, SetField, AddField, SetItem, Evaluate, If, While, Return, Try, Guarded, Throw, Leavable, Leave, Statements, Done, Then}
+use Rattle.std.proofs.Common.{◌≡◌, ℕ, zero, suc, ◌+◌, ◌*◌, Bool, true, false, cond, List, [], ◌∷◌, ◌++◌, length, Option}
+use Rattle.std.proofs.Common.{Some, None, refl, ap, sym, ◌∙◌, arith, length-append, is_some}
+use Rattle.ls_lowered.specs.LoweredTree.{Statement, Block, SetLocal, SetField, AddField, SetItem, Evaluate, If, While}
+use Rattle.ls_lowered.specs.LoweredTree.{Return, Try, Guarded, Throw, Leavable, Leave, Statements, Done, Then}
 use Rattle.ls_finally_exits.specs.Exits.{outward, count, leave_exit, exits, all_exits}
 use Rattle.ls_finally.specs.Flat.{tries, flat, all_flat}
 use Rattle.ls_finally.specs.Counts.{copies, all_copies}
 use Rattle.ls_emit_laws.specs.Statements.{statement_size, statements_size, exits_size}
 use Rattle.ls_linker_counts.specs.declared.ways.Way.{Way}
-use Rattle.ls_linker_counts.specs.Counts.{total, scaled, at_number, numbered_beyond, one_beyond, beyond, ways_of, all_ways, copied, all_copied, flat_size, all_flat_size}
+use Rattle.ls_linker_counts.specs.Counts.{total, scaled, at_number, numbered_beyond, one_beyond, beyond, ways_of}
+use Rattle.ls_linker_counts.specs.Counts.{all_ways, copied, all_copied, flat_size, all_flat_size}
 use Rattle.ls_linker_counts.proofs.Flats.{flat_none}
 use Rattle.ls_linker_counts.proofs.Exits.{finally_exits}
 use Rattle.ls_linker_counts.proofs.Returns.{returned_right}
@@ -34,13 +37,22 @@ scaled_one false n t = sym (nothing n)
 reach_scaled : (l n : ℕ) (ws : List Way) → reach l (scaled n ws) ≡ n * reach l ws
 reach_scaled l n [] = sym (nothing n)
 reach_scaled l n (w ∷ ws) =
-    omega (arith, scaled_one (leads l w.number) n w.times, reach_scaled l n ws, distribute n (cond (leads l w.number) w.times 0) (reach l ws))
+    omega (
+      arith,
+      scaled_one (leads l w.number) n w.times,
+      reach_scaled l n ws,
+      distribute n (cond (leads l w.number) w.times 0) (reach l ws),
+    )
 
 -- a leave that leads beyond some, and then beyond more
-moved_leave : (o : Option ℕ) (l m n t : ℕ) → outward m n ≡ o → reach l (at_number t o) ≡ cond (is_some (outward (m + l) n)) t 0
+moved_leave : (o : Option ℕ) (l m n t : ℕ) →
+    outward m n ≡ o →
+    reach l (at_number t o) ≡ cond (is_some (outward (m + l) n)) t 0
 moved_leave o l m n t e = leave_so m n o e
   where
-    leave_so : (m n : ℕ) (o : Option ℕ) → outward m n ≡ o → reach l (at_number t o) ≡ cond (is_some (outward (m + l) n)) t 0
+    leave_so : (m n : ℕ) (o : Option ℕ) →
+        outward m n ≡ o →
+        reach l (at_number t o) ≡ cond (is_some (outward (m + l) n)) t 0
     leave_so zero n None e = absurd (let f : ⊥ = cc e in f)
     leave_so zero n (Some x) e =
         let same : n ≡ x = cc e in
@@ -88,12 +100,21 @@ mutual
   ways_right (SetItem a i e) k l = refl
   ways_right (Evaluate e) k l = refl
   ways_right (If e a b) k l =
-      omega (arith, reach_append l (ways_of a) (ways_of b), length-append (exits l (flat k a)) (exits l (flat (k + 2 * tries a) b)), ways_right a k l, ways_right b (k + 2 * tries a) l)
+      omega (
+        arith,
+        reach_append l (ways_of a) (ways_of b),
+        length-append (exits l (flat k a))
+            (exits l (flat (k + 2 * tries a) b)),
+        ways_right a k l,
+        ways_right b (k + 2 * tries a) l,
+      )
   ways_right (While e s) k l = ways_right s k l
   ways_right (Return e) k l = refl
   ways_right (Try b f) k l =
       let after : ℕ = k + 2 * tries b in
-      let both = products (total (ways_of b)) (length (exits 0 (flat k b))) (reach l (ways_of f)) (length (exits l (flat after f))) (sym (reach_all (ways_of b)) ∙ ways_right b k 0) (ways_right f after l) in
+      let both = products (total (ways_of b)) (length (exits 0 (flat k b))) (reach l (ways_of f))
+      (length (exits l (flat after f))) (sym (reach_all (ways_of b)) ∙ ways_right b k 0) (ways_right f after l)
+      in
       omega (
         arith,
         reach_append l (ways_of b) (scaled (2 + total (ways_of b)) (ways_of f)),
@@ -103,7 +124,14 @@ mutual
         finally_exits (k + 2 * tries b + 2 * tries f) l (flat k b) (flat after f) (flat_none b k),
       )
   ways_right (Guarded b n h) k l =
-      omega (arith, reach_append l (ways_of b) (ways_of h), length-append (exits l (flat k b)) (exits l (flat (k + 2 * tries b) h)), ways_right b k l, ways_right h (k + 2 * tries b) l)
+      omega (
+        arith,
+        reach_append l (ways_of b) (ways_of h),
+        length-append (exits l (flat k b))
+            (exits l (flat (k + 2 * tries b) h)),
+        ways_right b k l,
+        ways_right h (k + 2 * tries b) l,
+      )
   ways_right (Throw n) k l = refl
   ways_right (Leavable b xs) k l =
       let after : ℕ = k + 2 * tries b in
@@ -124,7 +152,13 @@ mutual
   all_ways_right : (ss : Statements) (k l : ℕ) → reach l (all_ways ss) ≡ length (all_exits l (all_flat k ss))
   all_ways_right Done k l = refl
   all_ways_right (Then s ss) k l =
-      omega (arith, reach_append l (ways_of s) (all_ways ss), length-append (exits l (flat k s)) (all_exits l (all_flat (k + 2 * tries s) ss)), ways_right s k l, all_ways_right ss (k + 2 * tries s) l)
+      omega (
+        arith,
+        reach_append l (ways_of s) (all_ways ss),
+        length-append (exits l (flat k s)) (all_exits l (all_flat (k + 2 * tries s) ss)),
+        ways_right s k l,
+        all_ways_right ss (k + 2 * tries s) l,
+      )
 
 exits_right : (s : Statement) (k : ℕ) → total (ways_of s) ≡ length (exits 0 (flat k s))
 exits_right s k = sym (reach_all (ways_of s)) ∙ ways_right s k 0
@@ -142,8 +176,14 @@ mutual
   copied_right (While e s) k = copied_right s k
   copied_right (Return e) k = refl
   copied_right (Try b f) k =
-      let inner : 1 + copied f ≡ 1 + copies (k + 2 * tries b) f = ap (λ n. 1 + n) (sym (copied_right f (k + 2 * tries b))) in
-      omega (arith, copied_right b k, products (total (ways_of b)) (length (exits 0 (flat k b))) (1 + copied f) (1 + copies (k + 2 * tries b) f) (exits_right b k) inner)
+      let inner : 1 + copied f ≡ 1 + copies (k + 2 * tries b) f = ap (λ n. 1 + n)
+      (sym (copied_right f (k + 2 * tries b))) in
+      omega (
+        arith,
+        copied_right b k,
+        products (total (ways_of b)) (length (exits 0 (flat k b))) (1 + copied f)
+            (1 + copies (k + 2 * tries b) f) (exits_right b k) inner,
+      )
   copied_right (Guarded b n h) k = omega (arith, copied_right b k, copied_right h (k + 2 * tries b))
   copied_right (Throw n) k = refl
   copied_right (Leavable b xs) k = omega (arith, copied_right b k, all_copied_right xs (k + 2 * tries b))
@@ -170,7 +210,8 @@ mutual
       let inner : flat_size f + 2 ≡ statement_size (flat after f) + 2 = ap (λ n. n + 2) (size_right f after) in
       omega (
         arith,
-        products (total (ways_of b)) (length (exits 0 (flat k b))) (flat_size f + 2) (statement_size (flat after f) + 2) (exits_right b k) inner,
+        products (total (ways_of b)) (length (exits 0 (flat k b))) (flat_size f + 2) (statement_size (flat after f) + 2)
+            (exits_right b k) inner,
         returned_right b k exits_right,
         size_right b k,
         finally_size (k + 2 * tries b + 2 * tries f) (flat k b) (flat after f) (flat_none b k),

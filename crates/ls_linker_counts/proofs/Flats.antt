@@ -1,7 +1,9 @@
 -- No tree that is made has a `try`.
 use Rattle.std.proofs.Common.{ℕ, ◌+◌, ◌*◌, suc, List, [], ◌∷◌, length, Option, Some, None}
-use Rattle.ls_lowered.specs.LoweredTree.{Statement, Block, SetLocal, SetField, AddField, SetItem, Evaluate, If, While, Return, Try, Guarded, Throw, Leavable, Leave, Statements, Done, Then}
-use Rattle.ls_finally_exits.specs.Exits.{outward, count, Exit, LeaveOut, ReturnOut, exits, or_leave, replaced, all_replaced, exit_of, ways, finally_of}
+use Rattle.ls_lowered.specs.LoweredTree.{Statement, Block, SetLocal, SetField, AddField, SetItem, Evaluate, If, While}
+use Rattle.ls_lowered.specs.LoweredTree.{Return, Try, Guarded, Throw, Leavable, Leave, Statements, Done, Then}
+use Rattle.ls_finally_exits.specs.Exits.{outward, count, Exit, LeaveOut, ReturnOut, exits, or_leave, replaced}
+use Rattle.ls_finally_exits.specs.Exits.{all_replaced, exit_of, ways, finally_of}
 use Rattle.ls_finally.specs.Flat.{tries, flat, all_flat}
 
 abbrev mutual
@@ -38,13 +40,19 @@ mutual
   replaced_none (Try b f) r l j t = absurd t
   replaced_none (Guarded b n h) r l j t = (replaced_none b r l j t.0, replaced_none h r l (j + length (exits l b)) t.1)
   replaced_none (Throw n) r l j t = tt
-  replaced_none (Leavable b xs) r l j t =
-      (replaced_none b r (suc (count xs) + l) j t.0, all_replaced_none xs r l (j + length (exits (suc (count xs) + l) b)) t.1)
+  replaced_none (Leavable b xs) r l j t = (
+    replaced_none b r (suc (count xs) + l) j t.0,
+    all_replaced_none xs r l
+        (j + length (exits (suc (count xs) + l) b)) t.1,
+  )
   replaced_none (Leave n) r l j t = leave_none (outward l n) n (l + j)
 
   all_replaced_none : (ss : Statements) (r l j : ℕ) → HaveNoTry ss → HaveNoTry (all_replaced r l j ss)
   all_replaced_none Done r l j t = tt
-  all_replaced_none (Then s ss) r l j t = (replaced_none s r l j t.0, all_replaced_none ss r l (j + length (exits l s)) t.1)
+  all_replaced_none (Then s ss) r l j t = (
+    replaced_none s r l j t.0,
+    all_replaced_none ss r l (j + length (exits l s)) t.1,
+  )
 
 exit_none : (r : ℕ) (x : Exit) → HasNoTry (exit_of r x)
 exit_none r (LeaveOut n) = tt
@@ -55,7 +63,10 @@ ways_none r f [] t = tt
 ways_none r f (x ∷ xs) t = ((t, (exit_none r x, tt)), ways_none r f xs t)
 
 finally_none : (k : ℕ) (b f : Statement) → HasNoTry b → HasNoTry f → HasNoTry (finally_of k b f)
-finally_none k b f t u = (((replaced_none b (k + 1) 0 2 t, tt), (tt, tt)), (u, ((u, (tt, tt)), ways_none (k + 1) f (exits 0 b) u)))
+finally_none k b f t u = (
+  ((replaced_none b (k + 1) 0 2 t, tt), (tt, tt)),
+  (u, ((u, (tt, tt)), ways_none (k + 1) f (exits 0 b) u)),
+)
 
 mutual
   -- the lowered form of a statement has no `try`
@@ -69,7 +80,8 @@ mutual
   flat_none (If e a b) k = (flat_none a k, flat_none b (k + 2 * tries a))
   flat_none (While e s) k = flat_none s k
   flat_none (Return e) k = tt
-  flat_none (Try b f) k = finally_none (k + 2 * tries b + 2 * tries f) (flat k b) (flat (k + 2 * tries b) f) (flat_none b k) (flat_none f (k + 2 * tries b))
+  flat_none (Try b f) k = finally_none (k + 2 * tries b + 2 * tries f) (flat k b) (flat (k + 2 * tries b) f)
+      (flat_none b k) (flat_none f (k + 2 * tries b))
   flat_none (Guarded b n h) k = (flat_none b k, flat_none h (k + 2 * tries b))
   flat_none (Throw n) k = tt
   flat_none (Leavable b xs) k = (flat_none b k, all_flat_none xs (k + 2 * tries b))

@@ -2,7 +2,8 @@
 use Rattle.std.proofs.Common.{◌≡◌, ◌⊎◌, inl, inr, ℕ, zero, suc, ◌+◌, ◌*◌, ◌<◌, ◌≤◌, ap, arith}
 use Rattle.std.specs.Prelude.{min}
 use Rattle.ls_linker_counts.specs.declared.fault.CountFault.{CountFault}
-use Rattle.ls_linker_counts.specs.declared.fault.CountFault.TheVariants.{Memory, TooManyCopies, TooLong, TooLongTogether}
+use Rattle.ls_linker_counts.specs.declared.fault.CountFault.TheVariants.{Memory, TooManyCopies, TooLong}
+use Rattle.ls_linker_counts.specs.declared.fault.CountFault.TheVariants.{TooLongTogether}
 use Rattle.ls_linker_counts.specs.Refused.{TooMany}
 use Rattle.ls_linker_counts.proofs.Products.{two_more}
 
@@ -23,10 +24,13 @@ le_or_gt (suc a) (suc b) = more (le_or_gt a b)
     more (inr gt) = inr (omega (arith, gt))
 
 -- copies of a finally block whose length is counted up to a bound
-pub capped : (a n f r : ℕ) → min (min a 65537 + (2 + n) * (min f 65537 + 2) + 2 * r + 4) 65537 ≡ min (a + (2 + n) * (f + 2) + 2 * r + 4) 65537
+pub capped : (a n f r : ℕ) →
+    min (min a 65537 + (2 + n) * (min f 65537 + 2) + 2 * r + 4) 65537 ≡ min (a + (2 + n) * (f + 2) + 2 * r + 4) 65537
 capped a n f r = by_length (le_or_gt f 65537)
   where
-    by_length : (f ≤ 65537) ⊎ (65537 < f) → min (min a 65537 + (2 + n) * (min f 65537 + 2) + 2 * r + 4) 65537 ≡ min (a + (2 + n) * (f + 2) + 2 * r + 4) 65537
+    by_length : (f ≤ 65537) ⊎ (65537 < f) →
+        min (min a 65537 + (2 + n) * (min f 65537 + 2) + 2 * r + 4) 65537 ≡ min (a + (2 + n) * (f + 2) + 2 * r + 4)
+        65537
     by_length (inl le) =
         let same : min f 65537 ≡ f = omega (arith, le) in
         let times = ap (λ x. (2 + n) * (x + 2)) same in

@@ -1,10 +1,13 @@
 -- How many returns a statement has, and its exits.
 use Rattle.std.proofs.Common.{◌≡◌, ℕ, suc, ◌+◌, ◌*◌, List, [], ◌∷◌, ◌++◌, length, Option, Some, None, refl, arith}
-use Rattle.ls_lowered.specs.LoweredTree.{Statement, Block, SetLocal, SetField, AddField, SetItem, Evaluate, If, While, Return, Try, Guarded, Throw, Leavable, Leave, Statements, Done, Then}
-use Rattle.ls_finally_exits.specs.Exits.{outward, count, Exit, LeaveOut, ReturnOut, leave_exit, exits, all_exits, or_leave, replaced, all_replaced, exit_of, ways, finally_of}
+use Rattle.ls_lowered.specs.LoweredTree.{Statement, Block, SetLocal, SetField, AddField, SetItem, Evaluate, If, While}
+use Rattle.ls_lowered.specs.LoweredTree.{Return, Try, Guarded, Throw, Leavable, Leave, Statements, Done, Then}
+use Rattle.ls_finally_exits.specs.Exits.{outward, count, Exit, LeaveOut, ReturnOut, leave_exit, exits, all_exits}
+use Rattle.ls_finally_exits.specs.Exits.{or_leave, replaced, all_replaced, exit_of, ways, finally_of}
 use Rattle.ls_finally.specs.Flat.{tries, flat, all_flat}
 use Rattle.ls_linker_counts.specs.declared.ways.Way.{Way}
-use Rattle.ls_linker_counts.specs.Counts.{total, scaled, at_number, numbered_beyond, one_beyond, beyond, ways_of, all_ways, returned_one, returned}
+use Rattle.ls_linker_counts.specs.Counts.{total, scaled, at_number, numbered_beyond, one_beyond, beyond, ways_of}
+use Rattle.ls_linker_counts.specs.Counts.{all_ways, returned_one, returned}
 use Rattle.ls_linker_counts.proofs.Flats.{HasNoTry, HaveNoTry, flat_none}
 use Rattle.ls_linker_counts.proofs.Products.{two_more, distribute, nothing, products}
 
@@ -56,7 +59,12 @@ mutual
   exits_return (While e s) l = exits_return s l
   exits_return (Return e) l = refl
   exits_return (Try b f) l = omega (arith, return_append (exits l b) (exits l f), exits_return b l, exits_return f l)
-  exits_return (Guarded b n h) l = omega (arith, return_append (exits l b) (exits l h), exits_return b l, exits_return h l)
+  exits_return (Guarded b n h) l = omega (
+    arith,
+    return_append (exits l b) (exits l h),
+    exits_return b l,
+    exits_return h l,
+  )
   exits_return (Throw n) l = refl
   exits_return (Leavable b xs) l =
       let inner : ℕ = suc (count xs) + l in
@@ -65,7 +73,12 @@ mutual
 
   all_exits_return : (ss : Statements) (l : ℕ) → return_exits (all_exits l ss) ≡ all_returns ss
   all_exits_return Done l = refl
-  all_exits_return (Then s ss) l = omega (arith, return_append (exits l s) (all_exits l ss), exits_return s l, all_exits_return ss l)
+  all_exits_return (Then s ss) l = omega (
+    arith,
+    return_append (exits l s) (all_exits l ss),
+    exits_return s l,
+    all_exits_return ss l,
+  )
 
 leave_returns : (o : Option ℕ) (n j : ℕ) → returns (or_leave o n j) ≡ 0
 leave_returns None n j = refl
@@ -80,29 +93,48 @@ mutual
   replaced_returns (AddField e f a) r l j t = refl
   replaced_returns (SetItem a i e) r l j t = refl
   replaced_returns (Evaluate e) r l j t = refl
-  replaced_returns (If e a b) r l j t = omega (arith, replaced_returns a r l j t.0, replaced_returns b r l (j + length (exits l a)) t.1)
+  replaced_returns (If e a b) r l j t = omega (
+    arith,
+    replaced_returns a r l j t.0,
+    replaced_returns b r l (j + length (exits l a)) t.1,
+  )
   replaced_returns (While e s) r l j t = replaced_returns s r l j t
   replaced_returns (Return e) r l j t = refl
   replaced_returns (Try b f) r l j t = absurd t
-  replaced_returns (Guarded b n h) r l j t = omega (arith, replaced_returns b r l j t.0, replaced_returns h r l (j + length (exits l b)) t.1)
+  replaced_returns (Guarded b n h) r l j t = omega (
+    arith,
+    replaced_returns b r l j t.0,
+    replaced_returns h r l (j + length (exits l b)) t.1,
+  )
   replaced_returns (Throw n) r l j t = refl
   replaced_returns (Leavable b xs) r l j t =
-      omega (arith, replaced_returns b r (suc (count xs) + l) j t.0, all_replaced_returns xs r l (j + length (exits (suc (count xs) + l) b)) t.1)
+      omega (
+        arith,
+        replaced_returns b r (suc (count xs) + l) j t.0,
+        all_replaced_returns xs r l (j + length (exits (suc (count xs) + l) b)) t.1,
+      )
   replaced_returns (Leave n) r l j t = leave_returns (outward l n) n (l + j)
 
   all_replaced_returns : (ss : Statements) (r l j : ℕ) → HaveNoTry ss → all_returns (all_replaced r l j ss) ≡ 0
   all_replaced_returns Done r l j t = refl
-  all_replaced_returns (Then s ss) r l j t = omega (arith, replaced_returns s r l j t.0, all_replaced_returns ss r l (j + length (exits l s)) t.1)
+  all_replaced_returns (Then s ss) r l j t = omega (
+    arith,
+    replaced_returns s r l j t.0,
+    all_replaced_returns ss r l (j + length (exits l s)) t.1,
+  )
 
 exit_returns : (r : ℕ) (x : Exit) → returns (exit_of r x) ≡ is_return x
 exit_returns r (LeaveOut n) = refl
 exit_returns r ReturnOut = refl
 
-ways_return : (xs : List Exit) (r : ℕ) (f : Statement) → all_returns (ways r f xs) ≡ length xs * returns f + return_exits xs
+ways_return : (xs : List Exit) (r : ℕ) (f : Statement) →
+    all_returns (ways r f xs) ≡ length xs * returns f + return_exits xs
 ways_return [] r f = omega arith
 ways_return (x ∷ xs) r f = omega (arith, exit_returns r x, ways_return xs r f)
 
-finally_returns : (k : ℕ) (b f : Statement) → HasNoTry b → returns (finally_of k b f) ≡ returns b + (2 + length (exits 0 b)) * returns f
+finally_returns : (k : ℕ) (b f : Statement) →
+    HasNoTry b →
+    returns (finally_of k b f) ≡ returns b + (2 + length (exits 0 b)) * returns f
 finally_returns k b f t =
     omega (
       arith,
@@ -122,7 +154,12 @@ scaled_one (Some m) n t = omega (arith, nothing n)
 
 pub returned_scaled : (n : ℕ) (ws : List Way) → returned (scaled n ws) ≡ n * returned ws
 returned_scaled n [] = omega (arith, nothing n)
-returned_scaled n (w ∷ ws) = omega (arith, scaled_one w.number n w.times, returned_scaled n ws, distribute n (returned_one w.number w.times) (returned ws))
+returned_scaled n (w ∷ ws) = omega (
+  arith,
+  scaled_one w.number n w.times,
+  returned_scaled n ws,
+  distribute n (returned_one w.number w.times) (returned ws),
+)
 
 at_return : (t : ℕ) (o : Option ℕ) → returned (at_number t o) ≡ 0
 at_return t None = refl
@@ -134,23 +171,36 @@ one_return (Some n) l t = at_return t (outward l n)
 
 returned_beyond : (l : ℕ) (ws : List Way) → returned (beyond l ws) ≡ returned ws
 returned_beyond l [] = refl
-returned_beyond l (w ∷ ws) = omega (arith, returned_append (one_beyond l w) (beyond l ws), one_return w.number l w.times, returned_beyond l ws)
+returned_beyond l (w ∷ ws) = omega (
+  arith,
+  returned_append (one_beyond l w) (beyond l ws),
+  one_return w.number l w.times,
+  returned_beyond l ws,
+)
 
 mutual
   -- the returns that are counted are those of the lowered tree
-  pub returned_right : (s : Statement) (k : ℕ) (exits_right : (s : Statement) (k : ℕ) → total (ways_of s) ≡ length (exits 0 (flat k s))) → returned (ways_of s) ≡ returns (flat k s)
+  pub returned_right : (s : Statement) (k : ℕ) (exits_right : (s : Statement) (k : ℕ) →
+      total (ways_of s) ≡ length (exits 0 (flat k s))) →
+      returned (ways_of s) ≡ returns (flat k s)
   returned_right (Block ss) k x = all_returned_right ss k x
   returned_right (SetLocal n e) k x = refl
   returned_right (SetField e f a) k x = refl
   returned_right (AddField e f a) k x = refl
   returned_right (SetItem a i e) k x = refl
   returned_right (Evaluate e) k x = refl
-  returned_right (If e a b) k x = omega (arith, returned_append (ways_of a) (ways_of b), returned_right a k x, returned_right b (k + 2 * tries a) x)
+  returned_right (If e a b) k x = omega (
+    arith,
+    returned_append (ways_of a) (ways_of b),
+    returned_right a k x,
+    returned_right b (k + 2 * tries a) x,
+  )
   returned_right (While e s) k x = returned_right s k x
   returned_right (Return e) k x = refl
   returned_right (Try b f) k x =
       let after : ℕ = k + 2 * tries b in
-      let both = products (total (ways_of b)) (length (exits 0 (flat k b))) (returned (ways_of f)) (returns (flat after f)) (x b k) (returned_right f after x) in
+      let both = products (total (ways_of b)) (length (exits 0 (flat k b))) (returned (ways_of f))
+      (returns (flat after f)) (x b k) (returned_right f after x) in
       omega (
         arith,
         returned_append (ways_of b) (scaled (2 + total (ways_of b)) (ways_of f)),
@@ -159,13 +209,31 @@ mutual
         returned_right b k x,
         finally_returns (k + 2 * tries b + 2 * tries f) (flat k b) (flat after f) (flat_none b k),
       )
-  returned_right (Guarded b n h) k x = omega (arith, returned_append (ways_of b) (ways_of h), returned_right b k x, returned_right h (k + 2 * tries b) x)
+  returned_right (Guarded b n h) k x = omega (
+    arith,
+    returned_append (ways_of b) (ways_of h),
+    returned_right b k x,
+    returned_right h (k + 2 * tries b) x,
+  )
   returned_right (Throw n) k x = refl
   returned_right (Leavable b xs) k x =
       let inner : ℕ = suc (count xs) in
-      omega (arith, returned_append (beyond inner (ways_of b)) (all_ways xs), returned_beyond inner (ways_of b), returned_right b k x, all_returned_right xs (k + 2 * tries b) x)
+      omega (
+        arith,
+        returned_append (beyond inner (ways_of b)) (all_ways xs),
+        returned_beyond inner (ways_of b),
+        returned_right b k x,
+        all_returned_right xs (k + 2 * tries b) x,
+      )
   returned_right (Leave n) k x = refl
 
-  all_returned_right : (ss : Statements) (k : ℕ) (exits_right : (s : Statement) (k : ℕ) → total (ways_of s) ≡ length (exits 0 (flat k s))) → returned (all_ways ss) ≡ all_returns (all_flat k ss)
+  all_returned_right : (ss : Statements) (k : ℕ) (exits_right : (s : Statement) (k : ℕ) →
+      total (ways_of s) ≡ length (exits 0 (flat k s))) →
+      returned (all_ways ss) ≡ all_returns (all_flat k ss)
   all_returned_right Done k x = refl
-  all_returned_right (Then s ss) k x = omega (arith, returned_append (ways_of s) (all_ways ss), returned_right s k x, all_returned_right ss (k + 2 * tries s) x)
+  all_returned_right (Then s ss) k x = omega (
+    arith,
+    returned_append (ways_of s) (all_ways ss),
+    returned_right s k x,
+    all_returned_right ss (k + 2 * tries s) x,
+  )

@@ -2,10 +2,12 @@
 use Rattle.std.proofs.Common.{◌≡◌, ℕ, suc, ◌+◌, ◌*◌, ◌≤◌, List, [], ◌∷◌, ◌++◌, All, Option, Some, None, arith}
 use Rattle.std.proofs.lemmas.List.Elements.{All-nil, All-cons, All-head, All-tail, All-same, All-append, All-weaker}
 use Rattle.std.proofs.lemmas.Nat.{mul-le}
-use Rattle.ls_lowered.specs.LoweredTree.{Statement, Block, SetLocal, SetField, AddField, SetItem, Evaluate, If, While, Return, Try, Guarded, Throw, Leavable, Leave, Statements, Done, Then}
+use Rattle.ls_lowered.specs.LoweredTree.{Statement, Block, SetLocal, SetField, AddField, SetItem, Evaluate, If, While}
+use Rattle.ls_lowered.specs.LoweredTree.{Return, Try, Guarded, Throw, Leavable, Leave, Statements, Done, Then}
 use Rattle.ls_finally_exits.specs.Exits.{outward, count}
 use Rattle.ls_linker_counts.specs.declared.ways.Way.{Way}
-use Rattle.ls_linker_counts.specs.Counts.{total, scaled, at_number, numbered_beyond, one_beyond, beyond, once, ways_of, all_ways, copied, all_copied}
+use Rattle.ls_linker_counts.specs.Counts.{total, scaled, at_number, numbered_beyond, one_beyond, beyond, once, ways_of}
+use Rattle.ls_linker_counts.specs.Counts.{all_ways, copied, all_copied}
 
 -- each is there so often at most
 abbrev pub AtMost : ℕ → List Way → Type 0
@@ -18,17 +20,20 @@ and_more : (n : ℕ) (w : Way) (ws : List Way) → w.times ≤ n → AtMost n ws
 and_more n w ws h hs = All-cons (λ (w : Way). w.times ≤ n) w ws h hs
 
 more_often : (m n : ℕ) (ws : List Way) → m ≤ n → AtMost m ws → AtMost n ws
-more_often m n ws l h = All-weaker (λ (w : Way). w.times ≤ m) (λ (w : Way). w.times ≤ n) (λ w g. omega (arith, l, g)) ws h
+more_often m n ws l h = All-weaker (λ (w : Way). w.times ≤ m) (λ (w : Way). w.times ≤ n) (λ w g. omega (arith, l, g)) ws
+    h
 
 two_lists : (m n k : ℕ) (xs ys : List Way) → m ≤ k → n ≤ k → AtMost m xs → AtMost n ys → AtMost k (xs ++ ys)
-two_lists m n k xs ys l r h g = All-append (λ (w : Way). w.times ≤ k) xs ys (more_often m k xs l h) (more_often n k ys r g)
+two_lists m n k xs ys l r h g = All-append (λ (w : Way). w.times ≤ k) xs ys (more_often m k xs l h)
+    (more_often n k ys r g)
 
 scaled_times : (n m : ℕ) (ws : List Way) → AtMost m ws → AtMost (n * m) (scaled n ws)
 scaled_times n m [] h = none (n * m)
 scaled_times n m (w ∷ ws) h =
     let P : Way → Type 0 = λ w. w.times ≤ m in
     let here : n * w.times ≤ n * m = mul-le n w.times n m (omega arith) (All-head P w ws h) in
-    and_more (n * m) (record { number = w.number; times = n * w.times }) (scaled n ws) here (scaled_times n m ws (All-tail P w ws h))
+    and_more (n * m) (record { number = w.number; times = n * w.times }) (scaled n ws) here
+    (scaled_times n m ws (All-tail P w ws h))
 
 at_number_times : (t n : ℕ) (o : Option ℕ) → t ≤ n → AtMost n (at_number t o)
 at_number_times t n None h = none n
@@ -42,7 +47,8 @@ beyond_times : (l n : ℕ) (ws : List Way) → AtMost n ws → AtMost n (beyond 
 beyond_times l n [] h = none n
 beyond_times l n (w ∷ ws) h =
     let P : Way → Type 0 = λ w. w.times ≤ n in
-    two_lists n n n (one_beyond l w) (beyond l ws) (omega arith) (omega arith) (beyond_one_times l w.times n w.number (All-head P w ws h))
+    two_lists n n n (one_beyond l w) (beyond l ws) (omega arith) (omega arith)
+    (beyond_one_times l w.times n w.number (All-head P w ws h))
     (beyond_times l n ws (All-tail P w ws h))
 
 once_times : (o : Option ℕ) → AtMost (1 + 0) (once o)
@@ -57,30 +63,39 @@ mutual
   times_few (SetItem a i e) = none (1 + 0)
   times_few (Evaluate e) = none (1 + 0)
   times_few (If e a b) =
-      two_lists (1 + copied a) (1 + copied b) (1 + (copied a + copied b)) (ways_of a) (ways_of b) (omega arith) (omega arith) (times_few a) (times_few b)
+      two_lists (1 + copied a) (1 + copied b) (1 + (copied a + copied b)) (ways_of a) (ways_of b) (omega arith)
+      (omega arith) (times_few a) (times_few b)
   times_few (While e s) = times_few s
   times_few (Return e) = once_times None
   times_few (Try b f) =
       let n : ℕ = 2 + total (ways_of b) in
-      two_lists (1 + copied b) (n * (1 + copied f)) (1 + (copied b + n * (1 + copied f))) (ways_of b) (scaled n (ways_of f)) (omega arith) (omega arith)
+      two_lists (1 + copied b) (n * (1 + copied f)) (1 + (copied b + n * (1 + copied f))) (ways_of b)
+      (scaled n (ways_of f)) (omega arith) (omega arith)
       (times_few b) (scaled_times n (1 + copied f) (ways_of f) (times_few f))
   times_few (Guarded b n h) =
-      two_lists (1 + copied b) (1 + copied h) (1 + (copied b + copied h)) (ways_of b) (ways_of h) (omega arith) (omega arith) (times_few b) (times_few h)
+      two_lists (1 + copied b) (1 + copied h) (1 + (copied b + copied h)) (ways_of b) (ways_of h) (omega arith)
+      (omega arith) (times_few b) (times_few h)
   times_few (Throw n) = none (1 + 0)
   times_few (Leavable b xs) =
       let l : ℕ = suc (count xs) in
-      two_lists (1 + copied b) (1 + all_copied xs) (1 + (count xs + copied b + all_copied xs)) (beyond l (ways_of b)) (all_ways xs) (omega arith) (omega arith)
+      two_lists (1 + copied b) (1 + all_copied xs) (1 + (count xs + copied b + all_copied xs)) (beyond l (ways_of b))
+      (all_ways xs) (omega arith) (omega arith)
       (beyond_times l (1 + copied b) (ways_of b) (times_few b)) (all_times_few xs)
   times_few (Leave n) = once_times (Some n)
 
   all_times_few : (ss : Statements) → AtMost (1 + all_copied ss) (all_ways ss)
   all_times_few Done = none (1 + 0)
   all_times_few (Then s ss) =
-      two_lists (1 + copied s) (1 + all_copied ss) (1 + (copied s + all_copied ss)) (ways_of s) (all_ways ss) (omega arith) (omega arith) (times_few s) (all_times_few ss)
+      two_lists (1 + copied s) (1 + all_copied ss) (1 + (copied s + all_copied ss)) (ways_of s) (all_ways ss)
+      (omega arith) (omega arith) (times_few s) (all_times_few ss)
 
 -- so often as a finally block with few copies inside is there, each way out of it is there seldom enough to be counted
-pub scaled_few : (before n : ℕ) (f : Statement) (ws : List Way) → ws ≡ ways_of f → before + n * (1 + copied f) ≤ 4096 → All (λ (w : Way). n * w.times ≤ 4096) ws
+pub scaled_few : (before n : ℕ) (f : Statement) (ws : List Way) →
+    ws ≡ ways_of f →
+    before + n * (1 + copied f) ≤ 4096 →
+    All (λ (w : Way). n * w.times ≤ 4096) ws
 scaled_few before n f ws e h =
     let P : Way → Type 0 = λ w. n * w.times ≤ 4096 in
     let m : ℕ = 1 + copied f in
-    All-same P ws (ways_of f) e (All-weaker (λ (w : Way). w.times ≤ m) P (λ w g. omega (arith, h, mul-le n w.times n m (omega arith) g)) (ways_of f) (times_few f))
+    All-same P ws (ways_of f) e (All-weaker (λ (w : Way). w.times ≤ m) P
+    (λ w g. omega (arith, h, mul-le n w.times n m (omega arith) g)) (ways_of f) (times_few f))

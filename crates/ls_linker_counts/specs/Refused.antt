@@ -9,7 +9,8 @@ use Rattle.ls_finally.specs.Counts.{FewCopies}
 use Rattle.ls_emit_laws.specs.Units.{method_size, file_size}
 use Rattle.ls_linker_counts.specs.Counts.{copied}
 use Rattle.ls_linker_counts.specs.declared.fault.CountFault.{CountFault}
-use Rattle.ls_linker_counts.specs.declared.fault.CountFault.TheVariants.{Memory, TooManyCopies, TooLong, TooLongTogether}
+use Rattle.ls_linker_counts.specs.declared.fault.CountFault.TheVariants.{Memory, TooManyCopies, TooLong}
+use Rattle.ls_linker_counts.specs.declared.fault.CountFault.TheVariants.{TooLongTogether}
 
 -- no method's code has over 65,536 instructions
 abbrev pub AreShort : File → Type 0

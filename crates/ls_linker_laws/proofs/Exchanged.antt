@@ -15,11 +15,18 @@ use Rattle.ls_lowered.specs.declared.tree.UnaryOperator.TheVariants.{Negate, Not
 use Rattle.ls_lowered.specs.declared.tree.BinaryOperator.{BinaryOperator}
 use Rattle.ls_lowered.specs.declared.tree.BinaryOperator.TheVariants as binary
 use Rattle.ls_lowered.specs.declared.tree.LockOperation.{LockOperation}
-use Rattle.ls_lowered.specs.declared.tree.LockOperation.TheVariants.{Lock, Unlock, TryLock, IsHeld, LockMonitor, UnlockMonitor}
-use Rattle.ls_lowered.specs.LoweredTree.{Expression, Word, Local, Unary, Binary, And, Or, Hold, Keep, After, Field, Item, SetFirst, ReadPair, SetPair, SwapPair, AttemptMark, OnLock, Call, MakeObject, MakeLock, MakeMarkable, MakeArray, Expressions, End, More, Statement, Block, SetLocal, SetField, AddField, SetItem, Evaluate, If, While, Return, Try, Guarded, Throw, Leavable, Leave, Statements, Done, Then, Method, File}
+use Rattle.ls_lowered.specs.declared.tree.LockOperation.TheVariants.{Lock, Unlock, TryLock, IsHeld, LockMonitor}
+use Rattle.ls_lowered.specs.declared.tree.LockOperation.TheVariants.{UnlockMonitor}
+use Rattle.ls_lowered.specs.LoweredTree.{Expression, Word, Local, Unary, Binary, And, Or, Hold, Keep, After, Field}
+use Rattle.ls_lowered.specs.LoweredTree.{Item, SetFirst, ReadPair, SetPair, SwapPair, AttemptMark, OnLock, Call}
+use Rattle.ls_lowered.specs.LoweredTree.{MakeObject, MakeLock, MakeMarkable, MakeArray, Expressions, End, More}
+use Rattle.ls_lowered.specs.LoweredTree.{Statement, Block, SetLocal, SetField, AddField, SetItem, Evaluate, If, While}
+use Rattle.ls_lowered.specs.LoweredTree.{Return, Try, Guarded, Throw, Leavable, Leave, Statements, Done, Then, Method}
+use Rattle.ls_lowered.specs.LoweredTree.{File}
 use Rattle.ls_locks.specs.LockCode.{lock_code}
 use Rattle.ls_emit_laws.specs.Expressions.{unary_code, binary_code, size, code, all_code}
-use Rattle.ls_emit_laws.specs.Statements.{Targets, places, statement_size, exits_size, statement_code, statements_code, exits_code}
+use Rattle.ls_emit_laws.specs.Statements.{Targets, places, statement_size, exits_size, statement_code, statements_code}
+use Rattle.ls_emit_laws.specs.Statements.{exits_code}
 use Rattle.ls_emit_laws.specs.Units.{moved, method_code, units_of}
 use Rattle.ls_headline.specs.ByWords.{IsExchanged}
 use Rattle.ls_headline.specs.Threads.{result_type}
@@ -70,18 +77,22 @@ mutual
   exchanges (Local n) p = (tt, tt)
   exchanges (Unary o e) p = both (code p e) _ (exchanges e p) (unary_exchanges o)
   exchanges (Binary o a b) p = both _ _ (both _ _ (exchanges a p) (exchanges b (p + size a))) (binary_exchanges o)
-  exchanges (And a b) p = both _ _ (both _ (op.JumpIfFalse (p + size a + size b + 2) ∷ code (p + size a + 1) b) (exchanges a p) (tt, exchanges b (p + size a + 1))) (tt, (tt, tt))
+  exchanges (And a b) p = both _ _ (both _ (op.JumpIfFalse (p + size a + size b + 2) ∷ code (p + size a + 1) b)
+      (exchanges a p) (tt, exchanges b (p + size a + 1))) (tt, (tt, tt))
   exchanges (Or a b) p = both (code p a) _ (exchanges a p) (tt, (tt, (tt, exchanges b (p + size a + 3))))
   exchanges (Hold a n b) p = both _ _ (both _ _ (exchanges a p) (exchanges b (p + size a))) (tt, tt)
   exchanges (Keep n a b) p = both (code p a) _ (exchanges a p) (tt, exchanges b (p + size a + 1))
   exchanges (After a b) p = both (code p a) _ (exchanges a p) (tt, exchanges b (p + size a + 1))
   exchanges (Field e f) p = both (code p e) _ (exchanges e p) (tt, tt)
   exchanges (Item a i) p = both _ _ (both _ _ (exchanges a p) (exchanges i (p + size a))) (tt, tt)
-  exchanges (SetFirst a e) p = both _ _ (both _ (op.Push 0 ∷ code (p + size a + 1) e) (exchanges a p) (tt, exchanges e (p + size a + 1))) (tt, (tt, tt))
+  exchanges (SetFirst a e) p = both _ _ (both _ (op.Push 0 ∷ code (p + size a + 1) e) (exchanges a p)
+      (tt, exchanges e (p + size a + 1))) (tt, (tt, tt))
   exchanges (ReadPair e) p = both (code p e) _ (exchanges e p) (tt, tt)
   exchanges (SetPair e a) p = both _ _ (both _ _ (exchanges e p) (exchanges a (p + size e))) (tt, (tt, tt))
-  exchanges (SwapPair e a b) p = both _ _ (both _ _ (both _ _ (exchanges e p) (exchanges a (p + size e))) (exchanges b (p + size e + size a))) (tt, tt)
-  exchanges (AttemptMark e a b) p = both _ _ (both _ _ (both _ _ (exchanges e p) (exchanges a (p + size e))) (exchanges b (p + size e + size a))) (tt, tt)
+  exchanges (SwapPair e a b) p = both _ _ (both _ _ (both _ _ (exchanges e p) (exchanges a (p + size e)))
+      (exchanges b (p + size e + size a))) (tt, tt)
+  exchanges (AttemptMark e a b) p = both _ _ (both _ _ (both _ _ (exchanges e p) (exchanges a (p + size e)))
+      (exchanges b (p + size e + size a))) (tt, tt)
   exchanges (OnLock o e) p = both (code p e) _ (exchanges e p) (lock_exchanges o (p + size e))
   exchanges (Call m e es) p = both _ _ (both _ _ (exchanges e p) (all_exchange es (p + size e))) (tt, tt)
   exchanges (MakeObject c m es) p = (tt, (tt, both (all_code (p + 2) es) _ (all_exchange es (p + 2)) (tt, (tt, tt))))
@@ -98,29 +109,38 @@ mutual
   statement_exchanges (Block ss) t p = statements_exchange ss t p
   statement_exchanges (SetLocal n e) t p = both (code p e) _ (exchanges e p) (tt, tt)
   statement_exchanges (SetField e f a) t p = both _ _ (both _ _ (exchanges e p) (exchanges a (p + size e))) (tt, tt)
-  statement_exchanges (AddField e f a) t p = both _ _ (both _ (op.Dup ∷ op.GetField (f + 1) ∷ code (p + size e + 2) a) (exchanges e p) (tt, (tt, exchanges a (p + size e + 2)))) (tt, (tt, tt))
-  statement_exchanges (SetItem a i e) t p = both _ _ (both _ _ (both _ _ (exchanges a p) (exchanges i (p + size a))) (exchanges e (p + size a + size i))) (tt, tt)
+  statement_exchanges (AddField e f a) t p = both _ _ (both _ (op.Dup ∷ op.GetField (f + 1) ∷ code (p + size e + 2) a)
+      (exchanges e p) (tt, (tt, exchanges a (p + size e + 2)))) (tt, (tt, tt))
+  statement_exchanges (SetItem a i e) t p = both _ _ (both _ _ (both _ _ (exchanges a p) (exchanges i (p + size a)))
+      (exchanges e (p + size a + size i))) (tt, tt)
   statement_exchanges (Evaluate e) t p = both (code p e) _ (exchanges e p) (tt, tt)
   statement_exchanges (If e a b) t p =
-      both _ _ (both _ (op.JumpIfFalse (p + size e + statement_size a + 2) ∷ statement_code t (p + size e + 1) a) (exchanges e p) (tt, statement_exchanges a t (p + size e + 1))) (tt, statement_exchanges b t (p + size e + statement_size a + 2))
+      both _ _ (both _ (op.JumpIfFalse (p + size e + statement_size a + 2) ∷ statement_code t (p + size e + 1) a)
+      (exchanges e p) (tt, statement_exchanges a t (p + size e + 1)))
+      (tt, statement_exchanges b t (p + size e + statement_size a + 2))
   statement_exchanges (While e s) t p =
-      both _ _ (both _ (op.JumpIfFalse (p + size e + statement_size s + 2) ∷ statement_code t (p + size e + 1) s) (exchanges e p) (tt, statement_exchanges s t (p + size e + 1))) (tt, tt)
+      both _ _ (both _ (op.JumpIfFalse (p + size e + statement_size s + 2) ∷ statement_code t (p + size e + 1) s)
+      (exchanges e p) (tt, statement_exchanges s t (p + size e + 1))) (tt, tt)
   statement_exchanges (Return e) t p = both (code p e) _ (exchanges e p) (tt, tt)
   statement_exchanges (Try b f) t p = tt
-  statement_exchanges (Guarded b n h) t p = both (statement_code t p b) _ (statement_exchanges b t p) (tt, (tt, statement_exchanges h t (p + statement_size b + 2)))
+  statement_exchanges (Guarded b n h) t p = both (statement_code t p b) _ (statement_exchanges b t p)
+      (tt, (tt, statement_exchanges h t (p + statement_size b + 2)))
   statement_exchanges (Throw n) t p = (tt, (tt, tt))
   statement_exchanges (Leavable b xs) t p =
       let q = p + statement_size b in
-      both (statement_code (places q xs ++ t) p b) _ (statement_exchanges b (places q xs ++ t) p) (exits_exchange xs t (q + exits_size xs) q)
+      both (statement_code (places q xs ++ t) p b) _ (statement_exchanges b (places q xs ++ t) p)
+      (exits_exchange xs t (q + exits_size xs) q)
   statement_exchanges (Leave n) t p = (tt, tt)
 
   statements_exchange : (ss : Statements) (t : Targets) (p : ℕ) → Exchanges (statements_code t p ss)
   statements_exchange Done t p = tt
-  statements_exchange (Then s ss) t p = both (statement_code t p s) _ (statement_exchanges s t p) (statements_exchange ss t (p + statement_size s))
+  statements_exchange (Then s ss) t p = both (statement_code t p s) _ (statement_exchanges s t p)
+      (statements_exchange ss t (p + statement_size s))
 
   exits_exchange : (xs : Statements) (t : Targets) (end p : ℕ) → Exchanges (exits_code t end p xs)
   exits_exchange Done t end p = tt
-  exits_exchange (Then x xs) t end p = both (op.Jump end ∷ statement_code t (p + 1) x) _ (tt, statement_exchanges x t (p + 1)) (exits_exchange xs t end (p + 1 + statement_size x))
+  exits_exchange (Then x xs) t end p = both (op.Jump end ∷ statement_code t (p + 1) x) _
+      (tt, statement_exchanges x t (p + 1)) (exits_exchange xs t end (p + 1 + statement_size x))
 
 moved_exchanges : (p : ℕ) (i : Instruction) → IsExchanged i → IsExchanged (moved p i)
 moved_exchanges p (op.Jump x) h = tt
@@ -138,7 +158,8 @@ unit_exchanges m = both (statement_code [] 0 m.body) _ (statement_exchanges m.bo
 
 pub units_exchange : (file : File) (p : ℕ) → Exchanges (units_code p (units_of file))
 units_exchange [] p = tt
-units_exchange (m ∷ ms) p = both (map (moved p) (method_code 0 m)) _ (all_moved p (method_code 0 m) (unit_exchanges m)) (units_exchange ms (p + length (method_code 0 m)))
+units_exchange (m ∷ ms) p = both (map (moved p) (method_code 0 m)) _ (all_moved p (method_code 0 m) (unit_exchanges m))
+    (units_exchange ms (p + length (method_code 0 m)))
 
 pushes_exchange : (vs : List Value) → Exchanges (pushes vs)
 pushes_exchange [] = tt
@@ -150,16 +171,27 @@ result_exchanges result.Int n = (tt, tt)
 result_exchanges result.Boolean n = (tt, tt)
 
 call_exchanges : (classes : List Class) (n : ℕ) (c : ProgramCall) → Exchanges (call_code classes n c)
-call_exchanges classes n (Making name c text vs) = (tt, (tt, (tt, both (pushes vs) _ (pushes_exchange vs) (tt, (tt, (tt, (tt, tt)))))))
-call_exchanges classes n (Calling name m text answers vs) = (tt, (tt, both (pushes vs) _ (pushes_exchange vs) (tt, result_exchanges (result_type answers) n)))
+call_exchanges classes n (Making name c text vs) = (
+  tt,
+  (
+    tt,
+    (tt, both (pushes vs) _ (pushes_exchange vs) (tt, (tt, (tt, (tt, tt))))),
+  ),
+)
+call_exchanges classes n (Calling name m text answers vs) = (
+  tt,
+  (tt, both (pushes vs) _ (pushes_exchange vs) (tt, result_exchanges (result_type answers) n)),
+)
 
 calls_exchange : (classes : List Class) (n : ℕ) (cs : List ProgramCall) → Exchanges (calls_code classes n cs)
 calls_exchange classes n [] = (tt, (tt, tt))
-calls_exchange classes n (c ∷ cs) = both (call_code classes n c) _ (call_exchanges classes n c) (calls_exchange classes (n + 1) cs)
+calls_exchange classes n (c ∷ cs) = both (call_code classes n c) _ (call_exchanges classes n c)
+    (calls_exchange classes (n + 1) cs)
 
 pub threads_exchange : (classes : List Class) (ts : List ThreadProgram) → Exchanges (threads_code classes ts)
 threads_exchange classes [] = tt
-threads_exchange classes (t ∷ ts) = both (thread_code classes t) _ (calls_exchange classes 1 t.calls) (threads_exchange classes ts)
+threads_exchange classes (t ∷ ts) = both (thread_code classes t) _ (calls_exchange classes 1 t.calls)
+    (threads_exchange classes ts)
 
 by_recursion : (is : List Instruction) → Exchanges is → AllByRecursion IsExchanged is
 by_recursion [] h = tt
@@ -169,6 +201,8 @@ pub all_exchanged : (is : List Instruction) → Exchanges is → All IsExchanged
 all_exchanged is h = All-from_recursion IsExchanged is (by_recursion is h)
 
 -- the whole code
-pub linked_exchanges : (file : checked.File) (program : Program) (methods : File) → All IsExchanged (linked file program (units_of methods)).instructions
+pub linked_exchanges : (file : checked.File) (program : Program) (methods : File) →
+    All IsExchanged (linked file program (units_of methods)).instructions
 linked_exchanges file program methods =
-    all_exchanged _ (both (units_code 0 (units_of methods)) (threads_code file.classes program.threads) (units_exchange methods 0) (threads_exchange file.classes program.threads))
+    all_exchanged _ (both (units_code 0 (units_of methods)) (threads_code file.classes program.threads)
+    (units_exchange methods 0) (threads_exchange file.classes program.threads))

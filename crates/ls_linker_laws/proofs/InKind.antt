@@ -12,9 +12,16 @@ use Rattle.ls_refs_expressions.specs.ValueWords.{IsSmall}
 use Rattle.ls_types_judgement.specs.Programs.{IsArgument, AreArguments}
 
 -- the same if the same comes next
-pub suited_same : (P : ℕ → ValueType → Type 0) (f g : Answers → Next) → ((q : Answers) → f q ≡ g q) → (q : Answers) → Suited P f q → Suited P g q
+pub suited_same : (P : ℕ → ValueType → Type 0) (f g : Answers → Next) →
+    ((q : Answers) → f q ≡ g q) →
+    (q : Answers) →
+    Suited P f q →
+    Suited P g q
 suited_same P f g e [] s = tt
-suited_same P f g e (x ∷ q) s = (subst (λ t. Suits P t x) (e []) s.0, suited_same P (λ q. f (x ∷ q)) (λ q. g (x ∷ q)) (λ q. e (x ∷ q)) q s.1)
+suited_same P f g e (x ∷ q) s = (
+  subst (λ t. Suits P t x) (e []) s.0,
+  suited_same P (λ q. f (x ∷ q)) (λ q. g (x ∷ q)) (λ q. e (x ∷ q)) q s.1,
+)
 
 argument_has : (t : ValueType) (v : Value) → IsArgument t v → HasType IsSmall v t
 argument_has types.Int (values.Int z) h = h

@@ -1,5 +1,7 @@
 -- Lists by place, and the rows that count at a place.
-use Rattle.std.proofs.Common.{◌≡◌, ℕ, zero, suc, ◌+◌, ◌<◌, ◌≤◌, List, [], ◌∷◌, ◌++◌, length, map, reverse, Option, Some, None, slice_get, nat_lt, nat_le, ◌&&◌, Bool, true, false, refl, ap, ◌∙◌, arith, if◌then◌else◌}
+use Rattle.std.proofs.Common.{◌≡◌, ℕ, zero, suc, ◌+◌, ◌<◌, ◌≤◌, List, [], ◌∷◌, ◌++◌, length, map, reverse, Option, Some}
+use Rattle.std.proofs.Common.{None, slice_get, nat_lt, nat_le, ◌&&◌, Bool, true, false, refl, ap, ◌∙◌, arith}
+use Rattle.std.proofs.Common.{if◌then◌else◌}
 use mathlib.Core.List.{reverse_aux, reverse_aux-eq}
 use Rattle.std.proofs.lemmas.Bool.{le-leb, lt-leb, lt-ltb, le-ltb}
 use Rattle.ls_code.specs.Throws.{find_row}
@@ -8,7 +10,8 @@ use Rattle.ls_code.specs.declared.code.HandlerRow.{HandlerRow}
 -- an item of the second of two lists
 pub behind : {A : Type 0} → (a b : List A) (c : ℕ) → slice_get (a ++ b) (length a + c) ≡ slice_get b c
 behind [] b c = let e : 0 + c ≡ c = omega arith in ap (slice_get b) e
-behind (x ∷ a) b c = let e : length (x ∷ a) + c ≡ suc (length a + c) = omega arith in ap (slice_get (x ∷ (a ++ b))) e ∙ behind a b c
+behind (x ∷ a) b c = let e : length (x ∷ a) + c ≡ suc (length a + c) = omega arith in ap (slice_get (x ∷ (a ++ b))) e ∙
+    behind a b c
 
 -- an item of the first of two lists
 pub in_front : {A : Type 0} → (a b : List A) (c : ℕ) (i : A) → slice_get a c ≡ Some i → slice_get (a ++ b) c ≡ Some i
@@ -17,7 +20,10 @@ in_front (x ∷ a) b zero i e = e
 in_front (x ∷ a) b (suc c) i e = in_front a b c i e
 
 -- an item of a mapped list
-pub get_map : {A B : Type 0} → (f : A → B) (xs : List A) (n : ℕ) (x : A) → slice_get xs n ≡ Some x → slice_get (map f xs) n ≡ Some (f x)
+pub get_map : {A B : Type 0} →
+    (f : A → B) (xs : List A) (n : ℕ) (x : A) →
+    slice_get xs n ≡ Some x →
+    slice_get (map f xs) n ≡ Some (f x)
 get_map f [] n x h = cc
 get_map f (y ∷ xs) zero x h = let e : y ≡ x = cc in ap (λ z. Some (f z)) e
 get_map f (y ∷ xs) (suc n) x h = get_map f xs n x h
@@ -39,7 +45,8 @@ laid_is ws operands = laid_aux ws operands ∙ reverse_aux-eq ws operands
 pub laid_get : (ws operands : List ℕ) (n : ℕ) → slice_get (laid ws operands) (length ws + n) ≡ slice_get operands n
 laid_get [] operands n = let e : 0 + n ≡ n = omega arith in ap (slice_get operands) e
 laid_get (w ∷ ws) operands n =
-    let e : length (w ∷ ws) + n ≡ length ws + suc n = omega arith in ap (slice_get (laid ws (w ∷ operands))) e ∙ laid_get ws (w ∷ operands) (suc n)
+    let e : length (w ∷ ws) + n ≡ length ws + suc n = omega arith in ap (slice_get (laid ws (w ∷ operands))) e ∙
+    laid_get ws (w ∷ operands) (suc n)
 
 pub laid_length : (ws operands : List ℕ) → length (laid ws operands) ≡ length ws + length operands
 laid_length [] operands = omega arith
@@ -84,7 +91,8 @@ not_first false r o = refl
 
 -- a row that ends by a place doesn't hold it; nor does a row that begins after it
 past_row : (r : HandlerRow) (rs : List HandlerRow) (d : ℕ) → r.to ≤ d → find_row (r ∷ rs) d ≡ find_row rs d
-past_row r rs d le = ap (λ b. picked (nat_le r.from d) b r (find_row rs d)) (le-ltb d r.to le) ∙ not_first (nat_le r.from d) r (find_row rs d)
+past_row r rs d le = ap (λ b. picked (nat_le r.from d) b r (find_row rs d)) (le-ltb d r.to le) ∙
+    not_first (nat_le r.from d) r (find_row rs d)
 
 before_row : (r : HandlerRow) (rs : List HandlerRow) (d : ℕ) → d < r.from → find_row (r ∷ rs) d ≡ find_row rs d
 before_row r rs d lt = ap (λ b. picked b (nat_lt d r.to) r (find_row rs d)) (lt-leb r.from d lt)
@@ -106,4 +114,5 @@ rows_front t d (r ∷ a) b lt h = ap (λ o. picked (nat_le r.from d) (nat_lt d r
 -- the row that holds a place
 pub this_row : (r : HandlerRow) (rs : List HandlerRow) (d : ℕ) → r.from ≤ d → d < r.to → find_row (r ∷ rs) d ≡ Some r
 this_row r rs d le lt =
-    ap (λ b. picked b (nat_lt d r.to) r (find_row rs d)) (le-leb r.from d le) ∙ ap (λ b. picked true b r (find_row rs d)) (lt-ltb d r.to lt)
+    ap (λ b. picked b (nat_lt d r.to) r (find_row rs d)) (le-leb r.from d le) ∙
+    ap (λ b. picked true b r (find_row rs d)) (lt-ltb d r.to lt)

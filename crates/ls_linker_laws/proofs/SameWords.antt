@@ -31,7 +31,8 @@ answer_is (Fails kind) = refl
 -- the same of answers
 pub answers_are : (q : Answers) → map (map_answer word_of) q ≡ answer_words q
 answers_are [] = refl
-answers_are (x ∷ q) = ap (λ y. y ∷ map (map_answer word_of) q) (answer_is x) ∙ ap (λ ys. answer_word x ∷ ys) (answers_are q)
+answers_are (x ∷ q) = ap (λ y. y ∷ map (map_answer word_of) q) (answer_is x) ∙
+    ap (λ ys. answer_word x ∷ ys) (answers_are q)
 
 -- the same of an action
 pub action_is : (a : Action Value) → action_word a ≡ map_action (λ n. n) word_of a
@@ -53,7 +54,8 @@ action_is (act.LockMonitor o) = refl
 action_is (act.UnlockMonitor o) = refl
 action_is (act.ReadPair o) = refl
 action_is (act.SetPair o v) = ap (act.SetPair o) (value_is v)
-action_is (act.SwapPair o e d) = ap (λ w. act.SwapPair o w (value_word d)) (value_is e) ∙ ap (act.SwapPair o (word_of e)) (value_is d)
+action_is (act.SwapPair o e d) = ap (λ w. act.SwapPair o w (value_word d)) (value_is e) ∙
+    ap (act.SwapPair o (word_of e)) (value_is d)
 action_is (act.AttemptMark o r m) = refl
 action_is act.Turn = refl
 action_is (act.Enter m) = refl

@@ -19,7 +19,13 @@ file = record {
   classes = record { fields = type.Int ∷ type.Int ∷ []; constructor = 0 } ∷ [];
   methods =
       record { class = 0; parameters = 0; slots = type.Class 0 ∷ []; result = None; body = Block Done }
-      ∷ record { class = 0; parameters = 1; slots = type.Class 0 ∷ type.Int ∷ []; result = None; body = Block (Then (Evaluate (Slot 1)) Done) }
+      ∷ record {
+        class = 0;
+        parameters = 1;
+        slots = type.Class 0 ∷ type.Int ∷ [];
+        result = None;
+        body = Block (Then (Evaluate (Slot 1)) Done);
+      }
       ∷ [];
 }
 
@@ -51,9 +57,11 @@ code = record {
       record { from = 2; to = 4; handler = 5; depth = 0 }
       ∷ record { from = 10; to = 18; handler = 18; depth = 0 }
       ∷ record { from = 19; to = 26; handler = 26; depth = 0 } ∷ [];
-  methods = record { start = 0; arguments = 1; more = 0; need = 1 } ∷ record { start = 2; arguments = 2; more = 1; need = 1 } ∷ [];
+  methods = record { start = 0; arguments = 1; more = 0; need = 1 } ∷
+      record { start = 2; arguments = 2; more = 1; need = 1 } ∷ [];
   sizes = 3 ∷ [];
-  starts = record { place = 10; need = 2; calls = Nothing ∷ [] } ∷ record { place = 19; need = 2; calls = Nothing ∷ [] } ∷ [];
+  starts = record { place = 10; need = 2; calls = Nothing ∷ [] } ∷
+      record { place = 19; need = 2; calls = Nothing ∷ [] } ∷ [];
   names = 1;
 }
 

@@ -38,7 +38,8 @@ threads_code classes (t ∷ ts) = thread_code classes t ++ threads_code classes 
 
 abbrev pub threads_rows : List Class → ℕ → List ThreadProgram → List HandlerRow
 threads_rows classes p [] = []
-threads_rows classes p (t ∷ ts) = thread_row p (thread_size classes t) ∷ threads_rows classes (p + thread_size classes t) ts
+threads_rows classes p (t ∷ ts) = thread_row p (thread_size classes t) ∷
+    threads_rows classes (p + thread_size classes t) ts
 
 abbrev pub starts : List Class → ℕ → List ThreadProgram → List Start
 starts classes p [] = []

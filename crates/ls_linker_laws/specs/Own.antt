@@ -22,5 +22,6 @@ most_values (c ∷ cs) = max (length (values_of c)) (most_values cs)
 abbrev pub ThreadsAreQuick : File → Program → Code → Type 0
 ThreadsAreQuick file program c =
     (t : ℕ) (p : ThreadProgram) (s : Start) → slice_get program.threads t ≡ Some p → slice_get c.starts t ≡ Some s →
-    (n : ℕ) (x x' : Thread) → s.place ≤ x.top.counter → x.top.counter < s.place + thread_size file.classes p → InFrame c n x x' →
+    (n : ℕ) (x x' : Thread) → s.place ≤ x.top.counter → x.top.counter < s.place + thread_size file.classes p →
+    InFrame c n x x' →
     n ≤ most_values p.calls + 3

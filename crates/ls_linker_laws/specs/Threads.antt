@@ -25,7 +25,8 @@ result_code result.Boolean n = op.Result n ∷ []
 -- a thread's n-th call: call event, making or read of the setup name, entering, write of the setup name, return event
 abbrev pub call_code : List Class → ℕ → ProgramCall → List Instruction
 call_code classes n (Making name c text values) =
-    op.Call n ∷ op.NewObject c ∷ op.Dup ∷ pushes values ++ op.Enter (constructor_of classes c) ∷ op.Pop ∷ op.PutName name ∷ op.Result n ∷ []
+    op.Call n ∷ op.NewObject c ∷ op.Dup ∷ pushes values ++ op.Enter (constructor_of classes c) ∷ op.Pop ∷
+    op.PutName name ∷ op.Result n ∷ []
 call_code classes n (Calling name m text answers values) =
     op.Call n ∷ op.GetName name ∷ pushes values ++ op.Enter m ∷ result_code (result_type answers) n
 

@@ -17,7 +17,8 @@ use Rattle.ls_linker_laws.specs.Laws.{LoweredAsks}
 -- each method has a unit of its number, which takes as many arguments
 abbrev pub TakeAsMany : low.File → List CodeUnit → Type 0
 TakeAsMany methods units =
-    (n : ℕ) (m : low.Method) → slice_get methods n ≡ Some m → (u : CodeUnit) × (slice_get units n ≡ Some u) × (u.arguments ≡ m.arguments)
+    (n : ℕ) (m : low.Method) → slice_get methods n ≡ Some m →
+    (u : CodeUnit) × (slice_get units n ≡ Some u) × (u.arguments ≡ m.arguments)
 
 -- what units owe the methods that they stand for
 pub record StandFor (methods : low.File) (units : List CodeUnit) : Type 0 where
@@ -32,11 +33,14 @@ pub record StandFor (methods : low.File) (units : List CodeUnit) : Type 0 where
 -- source asks.
 abbrev pub AnyUnitsAsk : Type 0
 AnyUnitsAsk =
-    (file : File) (program : Program) (lowered : low.File) (units : List CodeUnit) → LoweredAsks file lowered → StandFor lowered units → IsTypedProgram file program →
+    (file : File) (program : Program) (lowered : low.File) (units : List CodeUnit) → LoweredAsks file lowered →
+    StandFor lowered units → IsTypedProgram file program →
     Asks file program (linked file program units)
 
 -- So that code is the same as the source.
 abbrev pub AnyUnitsAreSame : Type 0
 AnyUnitsAreSame =
-    (file : File) (program : Program) (lowered : low.File) (units : List CodeUnit) → LoweredAsks file lowered → StandFor lowered units → IsTypedFile file → HasItsClasses file →
-    IsTypedProgram file program → FileHasConstants file → ProgramHasConstants program → Same file program (linked file program units)
+    (file : File) (program : Program) (lowered : low.File) (units : List CodeUnit) → LoweredAsks file lowered →
+    StandFor lowered units → IsTypedFile file → HasItsClasses file →
+    IsTypedProgram file program → FileHasConstants file → ProgramHasConstants program →
+    Same file program (linked file program units)

@@ -13,4 +13,5 @@ AreThere code r = All (λ t. t < length code.starts) (scheduled r)
 -- each thread is over after the record, or the record has as many steps as it may have
 abbrev pub IsDone : Code → ℕ → ℕ → Record → Type 0
 IsDone code cells limit r =
-    ((t : ℕ) → t < length code.starts → is_over (machine_run (loaded code cells) (scheduled r)) t ≡ true) ⊎ (length (scheduled r) ≡ limit)
+    ((t : ℕ) → t < length code.starts → is_over (machine_run (loaded code cells) (scheduled r)) t ≡ true) ⊎
+    (length (scheduled r) ≡ limit)

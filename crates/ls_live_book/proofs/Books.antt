@@ -9,13 +9,15 @@ use Rattle.ls_live_book.specs.Answers.{is_not_started, is_over}
 use Rattle.ls_live_book.specs.Books.{IsKept}
 
 -- a run of one step more
-pub run_more : (m : Machine) (ns : List ℕ) (n : ℕ) → machine_run m (ns ++ n ∷ []) ≡ (machine_step (machine_run m ns) n).machine
+pub run_more : (m : Machine) (ns : List ℕ) (n : ℕ) →
+    machine_run m (ns ++ n ∷ []) ≡ (machine_step (machine_run m ns) n).machine
 run_more m ns n = (go_on m ns (n ∷ [])).0
 
 -- one step more is kept
 pub kept_on : (start : Machine) (most : ℕ) (machine next : Machine) (steps : List ℕ) (limit t : ℕ)
     → IsKept start most machine steps limit → next ≡ (machine_step machine t).machine
-    → is_over (machine_run start steps) t ≡ false → is_not_started (machine_state (machine_run start steps) t) ≡ false → length steps ≢ limit
+    → is_over (machine_run start steps) t ≡ false → is_not_started (machine_state (machine_run start steps) t) ≡ false →
+    length steps ≢ limit
     → IsKept start most next (steps ++ t ∷ []) limit
 kept_on start most machine next steps limit t h e over started less =
     let n = run_threads start steps in

@@ -3,8 +3,10 @@ use Rattle.std.proofs.Common.{◌≡◌, ◌≢◌, ℕ, List, [], ◌∷◌, �
 use Rattle.std.specs.Prelude.{◌||◌, ◌&&◌, ◌==◌, if◌then◌else◌}
 use Rattle.ls_code.specs.Cells.{Answers, Cells, Effect, Stops, Unfit, Waits, effect}
 use Rattle.ls_code.specs.Exchanges.{Plan, Quietly, Reports, Says, Seen, Stores, Touches}
-use Rattle.ls_code.specs.Machine.{Machine, due_step, is_due, is_running, machine_run, machine_state, machine_step, mode_state, open_step, running_state, setup_ended, state_in, step_of}
-use Rattle.ls_code.specs.Steps.{Asks, Move, Plans, Silent, Still, ended_so, performed, planned, replied, seen_outcome, settled, thread_move, touched}
+use Rattle.ls_code.specs.Machine.{Machine, due_step, is_due, is_running, machine_run, machine_state, machine_step}
+use Rattle.ls_code.specs.Machine.{mode_state, open_step, running_state, setup_ended, state_in, step_of}
+use Rattle.ls_code.specs.Steps.{Asks, Move, Plans, Silent, Still, ended_so, performed, planned, replied, seen_outcome}
+use Rattle.ls_code.specs.Steps.{settled, thread_move, touched}
 use Rattle.ls_code.specs.Thread.{Thread}
 use Rattle.ls_code.specs.declared.step.Did.TheVariants as did
 use Rattle.ls_code.specs.declared.step.Mode.{Mode}
@@ -17,7 +19,10 @@ use Rattle.ls_events.specs.declared.action.Answer.TheVariants.{Done, Fails, Give
 use Rattle.ls_live_book.specs.Answers.{is_final, is_not_started, is_over, is_trapped}
 use Rattle.ls_live_book.specs.Due.{AreDue, DueIsNotIdle}
 
-running_state_of : (s : ThreadState) (b : Bool) → (is_final s || b) ≡ false → is_not_started s ≡ false → s ≡ state.Running
+running_state_of : (s : ThreadState) (b : Bool) →
+    (is_final s || b) ≡ false →
+    is_not_started s ≡ false →
+    s ≡ state.Running
 running_state_of state.NotStarted b h k = absurd (cc)
 running_state_of state.Running b h k = refl
 running_state_of state.Ended b h k = absurd (cc)
@@ -25,22 +30,30 @@ running_state_of state.Trapped b h k = absurd (cc)
 running_state_of state.Stopped b h k = absurd (cc)
 
 -- a thread that isn't over, and has started, is due
-pub is_due_now : (m : Machine) (t : ℕ) → is_over m t ≡ false → is_not_started (machine_state m t) ≡ false → machine_state m t ≡ state.Running
+pub is_due_now : (m : Machine) (t : ℕ) →
+    is_over m t ≡ false →
+    is_not_started (machine_state m t) ≡ false →
+    machine_state m t ≡ state.Running
 unfolding is_over
 is_due_now m t h k = running_state_of (machine_state m t) (is_trapped (machine_state m 0)) h k
 
 -- due steps, and one more
-pub due_more : (m : Machine) (ns : List ℕ) (n : ℕ) → AreDue m ns → machine_state (machine_run m ns) n ≡ state.Running → AreDue m (ns ++ n ∷ [])
+pub due_more : (m : Machine) (ns : List ℕ) (n : ℕ) →
+    AreDue m ns →
+    machine_state (machine_run m ns) n ≡ state.Running →
+    AreDue m (ns ++ n ∷ [])
 due_more m [] n d h = (h, tt)
 due_more m (x ∷ ns) n d h = (d.0, due_more (machine_step m x).machine ns n d.1 h)
 
 -- ---- why no due step is idle
 
-replied_acts : (c : Cells) (t : Thread) (action : Action ℕ) (answer : Answer ℕ) (o : Option Thread) → (replied c t action answer o).did ≢ did.Idle
+replied_acts : (c : Cells) (t : Thread) (action : Action ℕ) (answer : Answer ℕ) (o : Option Thread) →
+    (replied c t action answer o).did ≢ did.Idle
 replied_acts c t action answer None = λ e. absurd (cc)
 replied_acts c t action answer (Some s) = λ e. absurd (cc)
 
-settled_acts : (c : Cells) (t : Thread) (action : Action ℕ) (go : Answer ℕ → Option Thread) (e : Effect) → (settled c t action go e).did ≢ did.Idle
+settled_acts : (c : Cells) (t : Thread) (action : Action ℕ) (go : Answer ℕ → Option Thread) (e : Effect) →
+    (settled c t action go e).did ≢ did.Idle
 settled_acts c t action go (Answers d answer) = replied_acts d t action answer (go answer)
 settled_acts c t action go Waits = λ e. absurd (cc)
 settled_acts c t action go Stops = λ e. absurd (cc)
@@ -50,7 +63,8 @@ quiet_acts : (c : Cells) (t : Thread) (o : Option Thread) → (ended_so c t o di
 quiet_acts c t None = λ e. absurd (cc)
 quiet_acts c t (Some s) = λ e. absurd (cc)
 
-reported_acts : (c : Cells) (t : Thread) (action : Action ℕ) (answer : Answer ℕ) (o : Option Thread) → (ended_so c t o (did.Acted action answer)).did ≢ did.Idle
+reported_acts : (c : Cells) (t : Thread) (action : Action ℕ) (answer : Answer ℕ) (o : Option Thread) →
+    (ended_so c t o (did.Acted action answer)).did ≢ did.Idle
 reported_acts c t action answer None = λ e. absurd (cc)
 reported_acts c t action answer (Some s) = λ e. absurd (cc)
 
@@ -77,7 +91,9 @@ performed_acts c n t Still = λ e. absurd (cc)
 performed_acts c n t (Asks action go) = settled_acts c t action go (effect c n action)
 performed_acts c n t (Plans go) = planned_acts c n t (go n)
 
-due_where_running : (mo : Mode) (b : Bool) → (if b then mode_state mo else state.NotStarted) ≡ state.Running → (is_running mo && b) ≡ true
+due_where_running : (mo : Mode) (b : Bool) →
+    (if b then mode_state mo else state.NotStarted) ≡ state.Running →
+    (is_running mo && b) ≡ true
 due_where_running mode.Running true h = refl
 due_where_running mode.Ended true h = absurd (cc)
 due_where_running mode.Trapped true h = absurd (cc)
@@ -87,9 +103,12 @@ due_acts : (m : Machine) (n : ℕ) (t : Thread) (b : Bool) → b ≡ true → (d
 due_acts m n t true h = performed_acts m.cells n t (thread_move m.code t)
 due_acts m n t false h = absurd (cc)
 
-open_acts : (m : Machine) (n : ℕ) (t : Thread) (b : Bool) → (if b then state.Stopped else running_state m n t) ≡ state.Running → (open_step m n t b).did ≢ did.Idle
+open_acts : (m : Machine) (n : ℕ) (t : Thread) (b : Bool) →
+    (if b then state.Stopped else running_state m n t) ≡ state.Running →
+    (open_step m n t b).did ≢ did.Idle
 open_acts m n t true h = absurd (cc)
-open_acts m n t false h = due_acts m n t (is_due m.threads n t) (due_where_running t.mode (n == 0 || setup_ended (slice_get m.threads 0)) h)
+open_acts m n t false h = due_acts m n t (is_due m.threads n t)
+    (due_where_running t.mode (n == 0 || setup_ended (slice_get m.threads 0)) h)
 
 there_acts : (m : Machine) (n : ℕ) (o : Option Thread) → state_in m n o ≡ state.Running → (step_of m n o).did ≢ did.Idle
 there_acts m n None h = absurd (cc)

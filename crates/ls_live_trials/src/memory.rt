@@ -5,9 +5,8 @@ ghost use Rattle.ls_image.specs.Images.{code_of_image};
 ghost use Rattle.std.specs.Prelude.{◌≡◌, length};
 
 use crate::texts::{COUNTER, TWO_COUNT};
-use ls_lent_images::Hoard;
 use ls_image::image::Image;
-use ls_lent_images::{mixed, with_did, with_image};
+use ls_lent_images::{Hoard, mixed, with_did, with_image};
 use ls_live::{Live, LiveFault, More, Seat, Session};
 use ls_machine::{LoadFault, Machine};
 use std::alloc::{AllocError, Global};

@@ -1,7 +1,8 @@
 -- How long the code of an operation is, wherever it is.
 use Rattle.std.proofs.Common.{◌≡◌, refl, ℕ, length}
 use Rattle.ls_lowered.specs.declared.tree.LockOperation.{LockOperation}
-use Rattle.ls_lowered.specs.declared.tree.LockOperation.TheVariants.{Lock, Unlock, TryLock, IsHeld, LockMonitor, UnlockMonitor}
+use Rattle.ls_lowered.specs.declared.tree.LockOperation.TheVariants.{Lock, Unlock, TryLock, IsHeld, LockMonitor}
+use Rattle.ls_lowered.specs.declared.tree.LockOperation.TheVariants.{UnlockMonitor}
 use Rattle.ls_locks.specs.LockCode.{lock_code, lock_size}
 
 -- how long the code of a lock's operation is

@@ -1,13 +1,16 @@
 -- One small case of each form of expression, evaluated.
 use Rattle.std.proofs.Common.{◌≡◌, ℕ, ◌+◌, List, [], ◌∷◌, refl}
 use Rattle.std.specs.Prelude.{pos, negsuc, true}
-use Rattle.ls_events.specs.declared.kind.Kind.TheVariants.{Arithmetic, NullPointer, NegativeArraySize, ArrayIndexOutOfBounds}
+use Rattle.ls_events.specs.declared.kind.Kind.TheVariants.{Arithmetic, NullPointer, NegativeArraySize}
+use Rattle.ls_events.specs.declared.kind.Kind.TheVariants.{ArrayIndexOutOfBounds}
 use Rattle.ls_events.specs.declared.action.Action.TheVariants as act
 use Rattle.ls_events.specs.declared.action.Answer.TheVariants as answer
 use Rattle.ls_lowered.specs.declared.tree.UnaryOperator.TheVariants.{Negate, Not, ReferenceOf, MarkOf}
 use Rattle.ls_lowered.specs.declared.tree.BinaryOperator.TheVariants as op
 use Rattle.ls_lowered.specs.declared.tree.LockOperation.TheVariants as lock
-use Rattle.ls_lowered.specs.LoweredTree.{Expression, Word, Local, Unary, Binary, And, Or, Hold, Keep, After, Field, Item, SetFirst, ReadPair, SetPair, SwapPair, AttemptMark, OnLock, Call, MakeObject, MakeLock, MakeMarkable, MakeArray, End, More}
+use Rattle.ls_lowered.specs.LoweredTree.{Expression, Word, Local, Unary, Binary, And, Or, Hold, Keep, After, Field}
+use Rattle.ls_lowered.specs.LoweredTree.{Item, SetFirst, ReadPair, SetPair, SwapPair, AttemptMark, OnLock, Call}
+use Rattle.ls_lowered.specs.LoweredTree.{MakeObject, MakeLock, MakeMarkable, MakeArray, End, More}
 use Rattle.ls_lowered.specs.Course.{Answers, Course, Asks, Ends, Outcome, Results, Throws, Told, Gave, Raised}
 use Rattle.ls_lowered.specs.Expressions.{evaluate}
 
@@ -136,7 +139,8 @@ item_of_null = refl
 first_set : at (SetFirst (Local 0) (Word 1)) [] ≡ Asks (act.WriteItem 7 (pos 0) 1)
 first_set = refl
 
-first_set_fails : at (SetFirst (Local 0) (Word 1)) (answer.Fails ArrayIndexOutOfBounds ∷ []) ≡ Ends (Throws ArrayIndexOutOfBounds) (7 ∷ 0 ∷ 4 ∷ []) []
+first_set_fails : at (SetFirst (Local 0) (Word 1)) (answer.Fails ArrayIndexOutOfBounds ∷ []) ≡ Ends
+    (Throws ArrayIndexOutOfBounds) (7 ∷ 0 ∷ 4 ∷ []) []
 first_set_fails = refl
 
 -- a write gives no word

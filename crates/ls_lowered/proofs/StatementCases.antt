@@ -5,7 +5,9 @@ use Rattle.ls_events.specs.declared.kind.Kind.TheVariants.{Arithmetic, NullPoint
 use Rattle.ls_events.specs.declared.action.Action.TheVariants as act
 use Rattle.ls_events.specs.declared.action.Answer.TheVariants as answer
 use Rattle.ls_lowered.specs.declared.tree.BinaryOperator.TheVariants as op
-use Rattle.ls_lowered.specs.LoweredTree.{Word, Local, Binary, Call, End, MakeLock, Statement, Block, SetLocal, SetField, AddField, SetItem, Evaluate, If, While, Return, Try, Guarded, Throw, Leavable, Leave, Statements, Done, Then, Method}
+use Rattle.ls_lowered.specs.LoweredTree.{Word, Local, Binary, Call, End, MakeLock, Statement, Block, SetLocal, SetField}
+use Rattle.ls_lowered.specs.LoweredTree.{AddField, SetItem, Evaluate, If, While, Return, Try, Guarded, Throw, Leavable}
+use Rattle.ls_lowered.specs.LoweredTree.{Leave, Statements, Done, Then, Method}
 use Rattle.ls_lowered.specs.Course.{Answers, Course, Asks, Ends, Stuck, Told, Asked, Gave, Raised, Lost}
 use Rattle.ls_lowered.specs.Statements.{Completion, Normal, Returned, Threw, Left, execute}
 use Rattle.ls_lowered.specs.Methods.{invoke}
@@ -76,7 +78,8 @@ loop_turns = refl
 loop_goes_on : at (While (Word 1) (Leavable (both (Leave 0) division) Done)) (answer.Done ∷ []) ≡ Asks act.Turn
 loop_goes_on = refl
 
-loop_ends : at (While (Binary op.Less (Local 1) (Word 2)) (SetLocal 1 (Binary op.Add (Local 1) (Word 1)))) (answer.Done ∷ answer.Done ∷ []) ≡ ends Normal 2 4
+loop_ends : at (While (Binary op.Less (Local 1) (Word 2)) (SetLocal 1 (Binary op.Add (Local 1) (Word 1))))
+    (answer.Done ∷ answer.Done ∷ []) ≡ ends Normal 2 4
 loop_ends = refl
 
 loop_ended : at (Leavable (While (Word 1) (Leavable (Leave 1) Done)) Done) [] ≡ ends Normal 0 4
@@ -147,7 +150,8 @@ answered : invoke methods 64 0 (7 ∷ 41 ∷ []) (answer.Done ∷ answer.Done �
 unfolding invoke
 answered = refl
 
-overflows : invoke methods 2 1 (7 ∷ []) (answer.Done ∷ answer.Done ∷ answer.Done ∷ []) ≡ Raised StackOverflow (answer.Done ∷ [])
+overflows : invoke methods 2 1 (7 ∷ []) (answer.Done ∷ answer.Done ∷ answer.Done ∷ []) ≡ Raised StackOverflow
+    (answer.Done ∷ [])
 unfolding invoke
 overflows = refl
 

@@ -30,11 +30,19 @@ pub data Outcome (A : Type 0) : Type 0 where
   Throws : (kind : Kind) → Outcome A
 
 -- goes on with the result; a throw ends the expression too
-abbrev pub on_result : {A B : Type 0} → (A → List ℕ → Answers → Course (Outcome B)) → Outcome A → List ℕ → Answers → Course (Outcome B)
+abbrev pub on_result : {A B : Type 0} →
+    (A → List ℕ → Answers → Course (Outcome B)) →
+    Outcome A →
+    List ℕ →
+    Answers →
+    Course (Outcome B)
 on_result go (Results x) locals rest = go x locals rest
 on_result go (Throws kind) locals rest = Ends (Throws kind) locals rest
 
-abbrev pub and_then : {A B : Type 0} → Course (Outcome A) → (A → List ℕ → Answers → Course (Outcome B)) → Course (Outcome B)
+abbrev pub and_then : {A B : Type 0} →
+    Course (Outcome A) →
+    (A → List ℕ → Answers → Course (Outcome B)) →
+    Course (Outcome B)
 and_then x go = finish x (on_result go)
 
 -- one action, and the word of its answer

@@ -23,7 +23,8 @@ told Stuck go = Lost
 -- a method's body, with `this` and the arguments; the further locals are 0
 abbrev pub run_body : Calls → Option Method → List ℕ → Answers → Told
 run_body calls None values q = Lost
-run_body calls (Some m) values q = told (execute calls m.body (values ++ replicate m.locals 0) q) (λ end ls q. given end q)
+run_body calls (Some m) values q = told (execute calls m.body (values ++ replicate m.locals 0) q)
+    (λ end ls q. given end q)
 
 -- entering is an action of its own
 abbrev pub enter : Action ℕ → Answers → (Answers → Told) → Told

@@ -1,11 +1,14 @@
 -- The courses of statements.
-use Rattle.std.specs.Prelude.{ℕ, zero, suc, List, [], ◌∷◌, length, nat_eq, Option, Some, None, slice_index, slice_set, if◌then◌else◌, ◌+◌}
+use Rattle.std.specs.Prelude.{ℕ, zero, suc, List, [], ◌∷◌, length, nat_eq, Option, Some, None, slice_index, slice_set}
+use Rattle.std.specs.Prelude.{if◌then◌else◌, ◌+◌}
 use Rattle.ls_events.specs.declared.kind.Kind.{Kind}
 use Rattle.ls_events.specs.declared.action.Action.TheVariants as act
 use Rattle.ls_events.specs.declared.action.Answer.TheVariants.{Done as Answered, Gives, Fails}
-use Rattle.ls_lowered.specs.LoweredTree.{Statement, Block, SetLocal, SetField, AddField, SetItem, Evaluate, If, While, Return, Try, Guarded, Throw, Leavable, Leave, Statements, Done, Then}
+use Rattle.ls_lowered.specs.LoweredTree.{Statement, Block, SetLocal, SetField, AddField, SetItem, Evaluate, If, While}
+use Rattle.ls_lowered.specs.LoweredTree.{Return, Try, Guarded, Throw, Leavable, Leave, Statements, Done, Then}
 use Rattle.ls_lowered.specs.Words.{int_of, kind_word, kind_of}
-use Rattle.ls_lowered.specs.Course.{Answers, Course, Asks, Ends, Stuck, Outcome, Results, Throws, Calls, finish, and_then, ask, perform, unless_null}
+use Rattle.ls_lowered.specs.Course.{Answers, Course, Asks, Ends, Stuck, Outcome, Results, Throws, Calls, finish}
+use Rattle.ls_lowered.specs.Course.{and_then, ask, perform, unless_null}
 use Rattle.ls_lowered.specs.declared.tree.BinaryOperator.TheVariants as op
 use Rattle.ls_lowered.specs.Expressions.{operate, evaluate}
 
@@ -65,12 +68,23 @@ on_body again (Returned w) ls q = Ends (Returned w) ls q
 on_body again (Threw kind) ls q = Ends (Threw kind) ls q
 on_body again (Left n) ls q = Ends (Left n) ls q
 
-abbrev pub one_turn : (List ℕ → Answers → Course (Outcome ℕ)) → (List ℕ → Answers → Course Completion) → (List ℕ → Answers → Course Completion) → List ℕ → Answers → Course Completion
+abbrev pub one_turn : (List ℕ → Answers → Course (Outcome ℕ)) →
+    (List ℕ → Answers → Course Completion) →
+    (List ℕ → Answers → Course Completion) →
+    List ℕ →
+    Answers →
+    Course Completion
 one_turn condition body again ls q =
-    finish (condition ls q) (on_word (λ w ls q. if nat_eq w 0 then Ends Normal ls q else finish (body ls q) (on_body again)))
+    finish (condition ls q) (on_word (λ w ls q. if nat_eq w 0 then Ends Normal ls q else
+    finish (body ls q) (on_body again)))
 
 -- each turn takes an answer, so a loop makes no more turns than there are answers
-abbrev pub turns : ℕ → (List ℕ → Answers → Course (Outcome ℕ)) → (List ℕ → Answers → Course Completion) → List ℕ → Answers → Course Completion
+abbrev pub turns : ℕ →
+    (List ℕ → Answers → Course (Outcome ℕ)) →
+    (List ℕ → Answers → Course Completion) →
+    List ℕ →
+    Answers →
+    Course Completion
 turns zero condition body = one_turn condition body (λ ls q. Asks act.Turn)
 turns (suc n) condition body = one_turn condition body (turns n condition body)
 
@@ -86,20 +100,24 @@ and_normal x = finish x (on_word (λ w ls q. Ends Normal ls q))
 abbrev mutual
   pub execute : Calls → Statement → List ℕ → Answers → Course Completion
   execute calls (Block ss) ls q = execute_all calls ss ls q
-  execute calls (SetLocal n e) ls q = finish (evaluate calls e ls q) (on_word (λ w ls q. Ends Normal (slice_set ls n w) q))
+  execute calls (SetLocal n e) ls q = finish (evaluate calls e ls q)
+      (on_word (λ w ls q. Ends Normal (slice_set ls n w) q))
   execute calls (SetField e f e') ls q =
       and_normal (and_then (evaluate calls e ls q) (λ x ls q. and_then (evaluate calls e' ls q) (λ y ls q.
       unless_null x ls q (perform (act.WriteField x (f + 1) y) ls q))))
   execute calls (AddField e f e') ls q =
-      and_normal (and_then (evaluate calls e ls q) (λ x ls q. and_then (unless_null x ls q (ask (act.ReadField x (f + 1)) ls q)) (λ y ls q.
+      and_normal (and_then (evaluate calls e ls q) (λ x ls q.
+      and_then (unless_null x ls q (ask (act.ReadField x (f + 1)) ls q)) (λ y ls q.
       and_then (evaluate calls e' ls q) (λ z ls q. and_then (operate op.Add y z ls q) (λ w ls q.
       unless_null x ls q (perform (act.WriteField x (f + 1) w) ls q))))))
   execute calls (SetItem a i e) ls q =
-      and_normal (and_then (evaluate calls a ls q) (λ x ls q. and_then (evaluate calls i ls q) (λ n ls q. and_then (evaluate calls e ls q) (λ y ls q.
+      and_normal (and_then (evaluate calls a ls q) (λ x ls q.
+      and_then (evaluate calls i ls q) (λ n ls q. and_then (evaluate calls e ls q) (λ y ls q.
       unless_null x ls q (perform (act.WriteItem x (int_of n) y) ls q)))))
   execute calls (Evaluate e) ls q = and_normal (evaluate calls e ls q)
   execute calls (If e a b) ls q =
-      finish (evaluate calls e ls q) (on_word (λ w ls q. if nat_eq w 0 then execute calls b ls q else execute calls a ls q))
+      finish (evaluate calls e ls q) (on_word (λ w ls q. if nat_eq w 0 then execute calls b ls q else
+      execute calls a ls q))
   execute calls (While e s) ls q = turns (length q) (evaluate calls e) (execute calls s) ls q
   execute calls (Return e) ls q = finish (evaluate calls e ls q) (on_word (λ w ls q. Ends (Returned w) ls q))
   execute calls (Try b f) ls q = finish (execute calls b ls q) (on_any (execute calls f))

@@ -14,7 +14,9 @@ use Rattle.ls_machine.proofs.Back.{calls_of}
 left_of_calls : (t : KeptThread) → events_left t.thread ≤ 2 * length (calls_of t)
 left_of_calls t = omega arith
 
-pub left_fits : (ss : List Start) (ts : List KeptThread) → map calls_of ts ≡ map (λ (s : Start). s.calls) ss → sum_by (λ t. events_left t.thread) ts ≤ sum_by (λ s. 2 * length s.calls) ss
+pub left_fits : (ss : List Start) (ts : List KeptThread) →
+    map calls_of ts ≡ map (λ (s : Start). s.calls) ss →
+    sum_by (λ t. events_left t.thread) ts ≤ sum_by (λ s. 2 * length s.calls) ss
 left_fits [] [] h = omega arith
 left_fits [] (t ∷ ts) h = absurd cc
 left_fits (s ∷ ss) [] h = absurd cc
@@ -31,7 +33,11 @@ left_fits (s ∷ ss) (t ∷ ts) h =
     )
 
 -- what is known of the memory of each thread
-all_rooms : (P : ℕ → ℕ → Type 0) (ts new : List KeptThread) → map (λ (t : KeptThread). t.locals_room) new ≡ map (λ (t : KeptThread). t.locals_room) ts → map (λ (t : KeptThread). t.operands_room) new ≡ map (λ (t : KeptThread). t.operands_room) ts → All (λ t. P t.locals_room t.operands_room) ts → All (λ t. P t.locals_room t.operands_room) new
+all_rooms : (P : ℕ → ℕ → Type 0) (ts new : List KeptThread) →
+    map (λ (t : KeptThread). t.locals_room) new ≡ map (λ (t : KeptThread). t.locals_room) ts →
+    map (λ (t : KeptThread). t.operands_room) new ≡ map (λ (t : KeptThread). t.operands_room) ts →
+    All (λ t. P t.locals_room t.operands_room) ts →
+    All (λ t. P t.locals_room t.operands_room) new
 all_rooms P ts [] a b h k d l = absurd (omega arith)
 all_rooms P [] (n ∷ new) a b h k d l = absurd cc
 all_rooms P (t ∷ ts) (n ∷ new) a b h zero d l =
@@ -44,7 +50,10 @@ all_rooms P (t ∷ ts) (n ∷ new) a b h (suc k) d l =
     all_rooms P ts new locals operands (λ j e m. h (suc j) e (omega arith)) k d (omega arith)
 
 -- other threads of the same calls and memory
-module _ (p : Code) (ts new : List KeptThread) (c c' : Cells) (limit : ℕ) (is : IsOf p ts c limit) (calls : map calls_of new ≡ map calls_of ts) (locals : map (λ (t : KeptThread). t.locals_room) new ≡ map (λ (t : KeptThread). t.locals_room) ts) (operands : map (λ (t : KeptThread). t.operands_room) new ≡ map (λ (t : KeptThread). t.operands_room) ts) where
+module _ (p : Code) (ts new : List KeptThread) (c c' : Cells) (limit : ℕ) (is : IsOf p ts c limit)
+    (calls : map calls_of new ≡ map calls_of ts) (locals : map (λ (t : KeptThread). t.locals_room) new ≡ map
+    (λ (t : KeptThread). t.locals_room) ts) (operands : map (λ (t : KeptThread). t.operands_room) new ≡ map
+    (λ (t : KeptThread). t.operands_room) ts) where
   pub of_set : c'.names ≡ c.names → c'.sizes ≡ c.sizes → c'.limit ≡ c.limit → IsOf p new c' limit
   of_set names sizes cells = record {
     calls = calls ∙ is.calls;
@@ -58,9 +67,14 @@ module _ (p : Code) (ts new : List KeptThread) (c c' : Cells) (limit : ℕ) (is 
   pub left_small : sum_by (λ t. events_left t.thread) new ≤ limit
   left_small = let l = left_fits p.starts new (calls ∙ is.calls) in let e = is.events in omega (arith, l, e)
 
-  pub memory_set : (events old left : ℕ) → HasMemory p ts old limit → left ≡ sum_by (λ t. events_left t.thread) new → events + left ≤ limit → HasMemory p new events limit
+  pub memory_set : (events old left : ℕ) →
+      HasMemory p ts old limit →
+      left ≡ sum_by (λ t. events_left t.thread) new →
+      events + left ≤ limit →
+      HasMemory p new events limit
   memory_set events old left m count fits = record {
-    few = let n = length-map new calls_of in let o = length-map ts calls_of in let s = ap length calls in let few = m.few in omega (arith, n, o, s, few);
+    few = let n = length-map new calls_of in let o = length-map ts calls_of in let s = ap length calls in
+        let few = m.few in omega (arith, n, o, s, few);
     fit = all_rooms (λ l o. MethodsFit p.methods l o) ts new locals operands m.fit;
     events_fit = omega (arith, count, fits);
   }

@@ -1,5 +1,7 @@
 -- Many steps of one thread, one after another.
-use Rattle.std.proofs.Common.{◌≡◌, ℕ, zero, suc, ◌+◌, ◌<◌, ◌≤◌, ◌++◌, ◌∷◌, ◌-◌, List, [], Bool, true, false, ◌&&◌, drop, drop-cons, length, map, set, get_or, Option, Some, None, slice_get, option_map, refl, ap, sym, subst, ◌∙◌, arith}
+use Rattle.std.proofs.Common.{◌≡◌, ℕ, zero, suc, ◌+◌, ◌<◌, ◌≤◌, ◌++◌, ◌∷◌, ◌-◌, List, [], Bool, true, false, ◌&&◌, drop}
+use Rattle.std.proofs.Common.{drop-cons, length, map, set, get_or, Option, Some, None, slice_get, option_map, refl, ap}
+use Rattle.std.proofs.Common.{sym, subst, ◌∙◌, arith}
 use Rattle.std.proofs.Math.Seq.{map-set_same}
 use Rattle.std.proofs.lemmas.List.{append-nil, map-set, length-set, get_or-set_same, set-get_or, set-set}
 use Rattle.std.proofs.lemmas.List.Sums.{sum_by-set}
@@ -12,7 +14,8 @@ use Rattle.ls_code.specs.Frame.{Frame}
 use Rattle.ls_code.specs.Thread.{Thread, with_top}
 use Rattle.ls_code.specs.Moves.{FrameMove, Next, Throws, Stuck, Asks as FrameAsks, Beyond, frame_move}
 use Rattle.ls_code.specs.Steps.{Silent, Outcome, outcome_of, performed, fetched_move, of_frame}
-use Rattle.ls_code.specs.Machine.{Machine, is_due, is_running, stops, after, Stepped, stepped_by, machine_step, machine_run, open_step, due_step, step_of}
+use Rattle.ls_code.specs.Machine.{Machine, is_due, is_running, stops, after, Stepped, stepped_by, machine_step}
+use Rattle.ls_code.specs.Machine.{machine_run, open_step, due_step, step_of}
 use Rattle.ls_code.specs.declared.instruction.Instruction.{Instruction}
 use Rattle.ls_code.specs.declared.step.Did.{Did}
 use Rattle.ls_code.specs.declared.step.Did.TheVariants as did
@@ -66,10 +69,14 @@ pub one_step :
     → (machine_step m n).machine ≡ standing_at m n new.thread c'
 one_step m n old new c' there runs due step =
     let o : Outcome = outcome_at m.code n old m.cells in
-    let found : machine_step m n ≡ stepped_by (after m n o) o.did = ap (step_of m n) there ∙ (ap (open_step m n old.thread) runs ∙ ap (due_step m n old.thread) due) in
-    let is : after m n o ≡ standing_at m n o.thread o.cells = machine_after m n o.thread o.cells (stops o.did) (events_of m.code n o.did) (step.unseen.0 ∙ sym runs) (step.unseen.1 m.code n) in
+    let found : machine_step m n ≡ stepped_by (after m n o) o.did = ap (step_of m n) there ∙
+    (ap (open_step m n old.thread) runs ∙ ap (due_step m n old.thread) due) in
+    let is : after m n o ≡ standing_at m n o.thread o.cells = machine_after m n o.thread o.cells (stops o.did)
+    (events_of m.code n o.did) (step.unseen.0 ∙ sym runs) (step.unseen.1 m.code n) in
     let thread : new.thread ≡ o.thread = ap (λ (k : KeptThread). k.thread) step.came.0 in
-    ap (λ (s : Stepped). s.machine) found ∙ (is ∙ (ap (λ (t : Thread). standing_at m n t o.cells) (sym thread) ∙ ap (standing_at m n new.thread) (sym step.came.1)))
+    ap (λ (s : Stepped). s.machine) found ∙
+    (is ∙ (ap (λ (t : Thread). standing_at m n t o.cells) (sym thread) ∙
+    ap (standing_at m n new.thread) (sym step.came.1)))
 
 -- the thread is due again
 and_right : (a b : Bool) → a && b ≡ true → b ≡ true
@@ -97,7 +104,8 @@ unchanged ts n t there = ap (set ts n) (sym (get_or_from_slice_get ts n t t ther
 -- no steps
 pub stays_none : (p : Code) (n : ℕ) (k : KeptThread) (c : Cells) → Stays p n 0 k k c c
 stays_none p n k c = record {
-  runs = λ m rest code there cells stopped due. ap (λ (x : Machine). machine_run x rest) (sym (rw (unchanged m.threads n k.thread there, cells) refl));
+  runs = λ m rest code there cells stopped due. ap (λ (x : Machine). machine_run x rest)
+      (sym (rw (unchanged m.threads n k.thread there, cells) refl));
   memory = refl;
   calls = refl;
   left = omega arith;
@@ -107,39 +115,49 @@ stays_none p n k c = record {
 }
 
 -- one step more
-module _ (p : Code) (n count total : ℕ) (old mid new : KeptThread) (c c1 c2 : Cells) (s : Stays p n count old mid c c1) (running : is_running mid.thread.mode ≡ true) (step : IsUnseenStep p n mid new c1 c2) (more : total ≡ suc count) where
-  abbrev kept : Machine → Machine
-  kept m = standing_at m n mid.thread c1
+module _ (p : Code) (n count total : ℕ) (old mid new : KeptThread) (c c1 c2 : Cells) (s : Stays p n count old mid c c1)
+    (running : is_running mid.thread.mode ≡ true) (step : IsUnseenStep p n mid new c1 c2) (more : total ≡ suc count)
+  where
+    abbrev kept : Machine → Machine
+    kept m = standing_at m n mid.thread c1
 
-  more_runs :
-      (m : Machine) (rest : List ℕ)
-      → m.code ≡ p
-      → slice_get m.threads n ≡ Some old.thread
-      → m.cells ≡ c
-      → m.stopped ≡ false
-      → is_due m.threads n old.thread ≡ true
-      → machine_run m (turns total n rest) ≡ machine_run (standing_at m n new.thread c2) rest
-  more_runs m rest code there cells stopped due =
-      let first : machine_run m (turns count n (n ∷ rest)) ≡ machine_run (kept m) (n ∷ rest) = s.runs m (n ∷ rest) code there cells stopped due in
-      let here : IsUnseenStep m.code n mid new c1 c2 = subst (λ (q : Code). IsUnseenStep q n mid new c1 c2) (sym code) step in
-      let second : (machine_step (kept m) n).machine ≡ standing_at (kept m) n new.thread c2 = one_step (kept m) n mid new c2 (there_again m.threads n old.thread mid.thread there) stopped (due_stays m.threads n old.thread mid.thread due running) here in
-      let same : standing_at (kept m) n new.thread c2 ≡ standing_at m n new.thread c2 = ap (λ (ts : List Thread). record m { threads = ts; cells = c2 }) (set-set m.threads n mid.thread new.thread) in
-      rw more (first ∙ ap (λ (x : Machine). machine_run x rest) (second ∙ same))
+    more_runs :
+        (m : Machine) (rest : List ℕ)
+        → m.code ≡ p
+        → slice_get m.threads n ≡ Some old.thread
+        → m.cells ≡ c
+        → m.stopped ≡ false
+        → is_due m.threads n old.thread ≡ true
+        → machine_run m (turns total n rest) ≡ machine_run (standing_at m n new.thread c2) rest
+    more_runs m rest code there cells stopped due =
+        let first : machine_run m (turns count n (n ∷ rest)) ≡ machine_run (kept m) (n ∷ rest) =
+        s.runs m (n ∷ rest) code
+        there cells stopped due in
+        let here : IsUnseenStep m.code n mid new c1 c2 = subst (λ (q : Code). IsUnseenStep q n mid new c1 c2) (sym code)
+        step in
+        let second : (machine_step (kept m) n).machine ≡ standing_at (kept m) n new.thread c2 = one_step (kept m) n mid
+        new c2 (there_again m.threads n old.thread mid.thread there) stopped
+        (due_stays m.threads n old.thread mid.thread due running) here in
+        let same : standing_at (kept m) n new.thread c2 ≡ standing_at m n new.thread c2 = ap
+        (λ (ts : List Thread). record m { threads = ts; cells = c2 }) (set-set m.threads n mid.thread new.thread)
+        in
+        rw more (first ∙ ap (λ (x : Machine). machine_run x rest) (second ∙ same))
 
-  pub stays_more : Stays p n total old new c c2
-  stays_more =
-      let o : Outcome = outcome_at p n mid c1 in
-      let keeps = step_keeps p mid.thread c1 n in
-      let thread : new.thread ≡ o.thread = ap (λ (k : KeptThread). k.thread) step.came.0 in
-      record {
-        runs = more_runs;
-        memory = step.came.0 ∙ (ap (λ (k : KeptThread). keeping_thread k o.thread) s.memory ∙ ap (keeping_thread old) (sym thread));
-        calls = ap calls_of step.came.0 ∙ (keeps.0 ∙ s.calls);
-        left = let a = s.left in let b = step.left in omega (arith, a, b);
-        limit = ap (λ (x : Cells). x.limit) step.came.1 ∙ (keeps.1.0 ∙ s.limit);
-        names = ap (λ (x : Cells). x.names) step.came.1 ∙ (keeps.1.1 ∙ s.names);
-        sizes = ap (λ (x : Cells). x.sizes) step.came.1 ∙ (keeps.1.2 ∙ s.sizes);
-      }
+    pub stays_more : Stays p n total old new c c2
+    stays_more =
+        let o : Outcome = outcome_at p n mid c1 in
+        let keeps = step_keeps p mid.thread c1 n in
+        let thread : new.thread ≡ o.thread = ap (λ (k : KeptThread). k.thread) step.came.0 in
+        record {
+          runs = more_runs;
+          memory = step.came.0 ∙ (ap (λ (k : KeptThread). keeping_thread k o.thread) s.memory ∙
+              ap (keeping_thread old) (sym thread));
+          calls = ap calls_of step.came.0 ∙ (keeps.0 ∙ s.calls);
+          left = let a = s.left in let b = step.left in omega (arith, a, b);
+          limit = ap (λ (x : Cells). x.limit) step.came.1 ∙ (keeps.1.0 ∙ s.limit);
+          names = ap (λ (x : Cells). x.names) step.came.1 ∙ (keeps.1.1 ∙ s.names);
+          sizes = ap (λ (x : Cells). x.sizes) step.came.1 ∙ (keeps.1.2 ∙ s.sizes);
+        }
 
 -- a silent move of the innermost frame
 of_next :
@@ -167,7 +185,8 @@ silent_step :
     → moved p.instructions (Some k.thread.top) ≡ Some f
     → IsUnseenStep p n k (keeping_thread k (with_top k.thread f)) c c
 silent_step p n k f c h =
-    let is : outcome_at p n k c ≡ outcome_of (with_top k.thread f) c did.Silent = ap (performed c n k.thread) (fetched_next p k.thread f _ h) in
+    let is : outcome_at p n k c ≡ outcome_of (with_top k.thread f) c did.Silent = ap (performed c n k.thread)
+    (fetched_next p k.thread f _ h) in
     record {
       came = (ap (λ (o : Outcome). keeping_thread k o.thread) (sym is), ap (λ (o : Outcome). o.cells) (sym is), refl);
       unseen = subst IsUnseen (ap (λ (o : Outcome). o.did) (sym is)) silent_unseen;
@@ -186,7 +205,8 @@ glided_more :
     → Stays p n (count + suc k) old (with_frame mid f) c c1
 glided_more p n count k old mid f c c1 None before running is = absurd cc
 glided_more p n count k old mid f c c1 (Some g) before running is =
-    stays_more p n (count + k) (count + suc k) old (with_frame mid g) (with_frame mid f) c c1 c1 (before g refl) running (silent_step p n (with_frame mid g) f c1 is) (omega arith)
+    stays_more p n (count + k) (count + suc k) old (with_frame mid g) (with_frame mid f) c c1 c1 (before g refl) running
+    (silent_step p n (with_frame mid g) f c1 is) (omega arith)
 
 pub stays_glided :
     (p : Code) (n count k : ℕ) (old mid : KeptThread) (f : Frame) (c c1 : Cells)
@@ -199,10 +219,12 @@ stays_glided p n count zero old mid f c c1 s running is =
     let none : count + 0 ≡ count = omega arith in
     rw (none, ← e) s
 stays_glided p n count (suc k) old mid f c c1 s running is =
-    glided_more p n count k old mid f c c1 (glided p.instructions k mid.thread.top) (λ g e. stays_glided p n count k old mid g c c1 s running e) running is
+    glided_more p n count k old mid f c c1 (glided p.instructions k mid.thread.top)
+    (λ g e. stays_glided p n count k old mid g c c1 s running e) running is
 
 -- the memory is there again
-module _ (p : Code) (ts : List KeptThread) (n count limit : ℕ) (k : KeptThread) (c c' : Cells) (within : n < length ts) (s : Stays p n count (get_or ts n no_thread) k c c') where
+module _ (p : Code) (ts : List KeptThread) (n count limit : ℕ) (k : KeptThread) (c c' : Cells) (within : n < length ts)
+    (s : Stays p n count (get_or ts n no_thread) k c c') where
   pub memory_stays : (events : ℕ) → HasMemory p ts events limit → HasMemory p (set ts n k) events limit
   memory_stays events m =
       let P : KeptThread → Type 0 = λ t. MethodsFit p.methods t.locals_room t.operands_room in
@@ -233,12 +255,22 @@ pub machine_stays :
     → m.stopped ≡ false
     → is_due m.threads n (get_or ts n no_thread).thread ≡ true
     → Stays m.code n count (get_or ts n no_thread) k m.cells c'
-    → machine_run m (turns count n rest) ≡ machine_run (record { code = m.code; threads = map (λ t. t.thread) (set ts n k); cells = c'; stopped = m.stopped; history = m.history }) rest
+    → machine_run m (turns count n rest) ≡ machine_run (record {
+      code = m.code;
+      threads = map (λ t. t.thread) (set ts n k);
+      cells = c';
+      stopped = m.stopped;
+      history = m.history;
+    }) rest
 machine_stays m n count ts k c' rest within list runs due s =
     let t : Thread = (get_or ts n no_thread).thread in
-    let found : slice_get m.threads n ≡ Some t = ap (λ xs. slice_get xs n) list ∙ slice_get-map (λ (x : KeptThread). x.thread) ts n ∙ ap (option_map (λ (x : KeptThread). x.thread)) (slice_get-get_or ts n no_thread within) in
-    let threads : set m.threads n k.thread ≡ map (λ (x : KeptThread). x.thread) (set ts n k) = ap (λ xs. set xs n k.thread) list ∙ sym (map-set (λ (x : KeptThread). x.thread) ts n k) in
-    s.runs m rest refl found refl runs due ∙ ap (λ (xs : List Thread). machine_run (record m { threads = xs; cells = c' }) rest) threads
+    let found : slice_get m.threads n ≡ Some t = ap (λ xs. slice_get xs n) list ∙
+    slice_get-map (λ (x : KeptThread). x.thread) ts n ∙
+    ap (option_map (λ (x : KeptThread). x.thread)) (slice_get-get_or ts n no_thread within) in
+    let threads : set m.threads n k.thread ≡ map (λ (x : KeptThread). x.thread) (set ts n k) = ap
+    (λ xs. set xs n k.thread) list ∙ sym (map-set (λ (x : KeptThread). x.thread) ts n k) in
+    s.runs m rest refl found refl runs due ∙ ap (λ (xs : List Thread).
+    machine_run (record m { threads = xs; cells = c' }) rest) threads
 
 -- steps that do nothing, on a machine by its parts
 pub idle_run :
@@ -247,7 +279,8 @@ pub idle_run :
     → machine_step v n ≡ stepped_by v d
     → (rest : List ℕ)
     → machine_run m (turns count n rest) ≡ machine_run m rest
-idle_run v m n count d is stays rest = subst (λ (x : Machine). machine_run x (turns count n rest) ≡ machine_run x rest) is (idle_turns v n count rest (ap (λ (s : Stepped). s.machine) stays))
+idle_run v m n count d is stays rest = subst (λ (x : Machine). machine_run x (turns count n rest) ≡ machine_run x rest)
+    is (idle_turns v n count rest (ap (λ (s : Stepped). s.machine) stays))
 
 -- a step that is said with what it did is one of which nothing is said
 pub unseen_here :
@@ -269,7 +302,9 @@ pub glide_stays :
     → glided p.instructions k mid.thread.top ≡ Some new.thread.top
     → new ≡ keeping_thread mid (with_top mid.thread new.thread.top)
     → Stays p n (count + k) old new c c1
-glide_stays p n count k old mid new c c1 s running is same = subst (λ (t : KeptThread). Stays p n (count + k) old t c c1) (sym same) (stays_glided p n count k old mid new.thread.top c c1 s running is)
+glide_stays p n count k old mid new c c1 s running is same = subst
+    (λ (t : KeptThread). Stays p n (count + k) old t c c1) (sym same)
+    (stays_glided p n count k old mid new.thread.top c c1 s running is)
 
 -- the first of many steps of a thread are taken
 pub turn_rest :
@@ -277,14 +312,16 @@ pub turn_rest :
     → a + left ≡ count
     → ((more : List ℕ) → machine_run m (turns a n more) ≡ machine_run m1 more)
     → machine_run m (turns count n rest) ≡ machine_run m1 (turns left n rest)
-turn_rest m m1 n count a left rest e h = rw (← e) (ap (machine_run m) (turns_plus a left n rest) ∙ h (turns left n rest))
+turn_rest m m1 n count a left rest e h = rw (← e) (ap (machine_run m) (turns_plus a left n rest) ∙
+    h (turns left n rest))
 
 pub turn_one :
     (m m1 : Machine) (n left next : ℕ) (rest : List ℕ)
     → left ≡ suc next
     → m1 ≡ (machine_step m n).machine
     → machine_run m (turns left n rest) ≡ machine_run m1 (turns next n rest)
-turn_one m m1 n left next rest e is = rw e (ap (machine_run m) (turns_cons next n rest) ∙ ap (λ (x : Machine). machine_run x (turns next n rest)) (sym is))
+turn_one m m1 n left next rest e is = rw e (ap (machine_run m) (turns_cons next n rest) ∙
+    ap (λ (x : Machine). machine_run x (turns next n rest)) (sym is))
 
 -- neighbours in a schedule that are steps of the same thread
 pub same_more :
@@ -296,7 +333,8 @@ pub same_more :
     → drop from steps ≡ turns (at - from) n (drop at steps)
     → drop from steps ≡ turns (next - from) n (drop next steps)
 same_more steps from at next n d below after within here h =
-    let one : drop at steps ≡ n ∷ drop (suc at) steps = drop-cons steps at d within ∙ ap (λ x. x ∷ drop (suc at) steps) here in
+    let one : drop at steps ≡ n ∷ drop (suc at) steps = drop-cons steps at d within ∙
+    ap (λ x. x ∷ drop (suc at) steps) here in
     let count : suc at - from ≡ suc (at - from) = omega (arith, below) in
     rw (after, count) (h ∙ ap (turns (at - from) n) one)
 
@@ -308,7 +346,8 @@ pub step_from :
     → m1 ≡ (machine_step m n).machine
     → machine_run m (drop at steps) ≡ machine_run m1 (drop next steps)
 step_from m m1 steps at next n d after within here is =
-    let one : drop at steps ≡ n ∷ drop (suc at) steps = drop-cons steps at d within ∙ ap (λ x. x ∷ drop (suc at) steps) here in
+    let one : drop at steps ≡ n ∷ drop (suc at) steps = drop-cons steps at d within ∙
+    ap (λ x. x ∷ drop (suc at) steps) here in
     rw after (ap (machine_run m) one ∙ ap (λ (x : Machine). machine_run x (drop (suc at) steps)) (sym is))
 
 pub turn_from :
@@ -321,7 +360,9 @@ pub turn_from :
     → ((more : List ℕ) → machine_run m (turns (end - at) n more) ≡ machine_run m1 more)
     → machine_run m (drop at steps) ≡ machine_run m1 (drop end steps)
 turn_from m m1 steps at next end n d after up within here same h =
-    let one : drop at steps ≡ n ∷ drop next steps = rw after (drop-cons steps at d within ∙ ap (λ x. x ∷ drop (suc at) steps) here) in
+    let one : drop at steps ≡ n ∷ drop next steps = rw after
+    (drop-cons steps at d within ∙ ap (λ x. x ∷ drop (suc at) steps) here) in
     let count : end - at ≡ suc (end - next) = omega (arith, after, up) in
-    let many : drop at steps ≡ turns (end - at) n (drop end steps) = rw count (one ∙ (ap (λ (xs : List ℕ). n ∷ xs) same ∙ sym (turns_cons (end - next) n (drop end steps)))) in
+    let many : drop at steps ≡ turns (end - at) n (drop end steps) = rw count
+    (one ∙ (ap (λ (xs : List ℕ). n ∷ xs) same ∙ sym (turns_cons (end - next) n (drop end steps)))) in
     ap (machine_run m) many ∙ h (drop end steps)

@@ -12,7 +12,8 @@ all_back [] ts = ts
 all_back (s ∷ ss) [] = []
 all_back (s ∷ ss) (t ∷ ts) = back_at s t ∷ all_back ss ts
 
--- the threads make the calls of the code's threads and have memory for their lowest frames, the cells are those of the code, and all of the
+-- the threads make the calls of the code's threads and have memory for their lowest frames, the cells are those of the
+-- code, and all of the
 -- code's events have room
 pub record IsOf (p : Code) (threads : List KeptThread) (cells : Cells) (limit : ℕ) : Type 0 where
   pub calls : map (λ t. t.thread.calls) threads ≡ map (λ s. s.calls) p.starts
@@ -24,4 +25,5 @@ pub record IsOf (p : Code) (threads : List KeptThread) (cells : Cells) (limit : 
 
 -- a run keeps its code and the number of its cells
 abbrev pub RunsKeep : Type 0
-RunsKeep = (m : Machine) (ns : List ℕ) → ((machine_run m ns).code ≡ m.code) × ((machine_run m ns).cells.limit ≡ m.cells.limit)
+RunsKeep = (m : Machine) (ns : List ℕ) → ((machine_run m ns).code ≡ m.code) ×
+    ((machine_run m ns).cells.limit ≡ m.cells.limit)

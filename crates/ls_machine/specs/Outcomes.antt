@@ -13,4 +13,5 @@ Came o old new cells d = (new ≡ keeping_thread old o.thread) × (cells ≡ o.c
 
 -- the thread's step is silent, whatever its number and the cells are
 abbrev pub IsSilentMove : Code → KeptThread → KeptThread → Type 0
-IsSilentMove p old new = (cells : Cells) (number : ℕ) → Came (performed cells number old.thread (thread_move p old.thread)) old new cells did.Silent
+IsSilentMove p old new = (cells : Cells) (number : ℕ) → Came
+    (performed cells number old.thread (thread_move p old.thread)) old new cells did.Silent

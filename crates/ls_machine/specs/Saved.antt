@@ -17,4 +17,10 @@ standing m = record { threads = m.threads; cells = m.cells; stopped = m.stopped;
 
 -- the machine of the same code that stands so
 abbrev pub standing_so : Machine → Standing → Machine
-standing_so m s = record { code = m.code; threads = s.threads; cells = s.cells; stopped = s.stopped; history = s.history }
+standing_so m s = record {
+  code = m.code;
+  threads = s.threads;
+  cells = s.cells;
+  stopped = s.stopped;
+  history = s.history;
+}

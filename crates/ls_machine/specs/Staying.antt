@@ -27,9 +27,12 @@ pub record IsUnseenStep (p : Code) (n : ℕ) (old new : KeptThread) (c c' : Cell
   pub unseen : IsUnseen (outcome_at p n old c).did
   pub left : events_left new.thread ≤ events_left old.thread
 
--- On a machine that hasn't stopped, and whose thread n is due, so many steps of thread n change that thread and the cells, and nothing else.
+-- On a machine that hasn't stopped, and whose thread n is due, so many steps of thread n change that thread and the
+-- cells, and nothing else.
 abbrev pub Runs : Code → ℕ → ℕ → Thread → Thread → Cells → Cells → Type 0
-Runs p n count t t' c c' = (m : Machine) (rest : List ℕ) → m.code ≡ p → slice_get m.threads n ≡ Some t → m.cells ≡ c → m.stopped ≡ false → is_due m.threads n t ≡ true → machine_run m (turns count n rest) ≡ machine_run (standing_at m n t' c') rest
+Runs p n count t t' c c' = (m : Machine) (rest : List ℕ) → m.code ≡ p → slice_get m.threads n ≡ Some t → m.cells ≡ c →
+    m.stopped ≡ false → is_due m.threads n t ≡ true → machine_run m (turns count n rest) ≡ machine_run
+    (standing_at m n t' c') rest
 
 -- such steps, after which the thread has its calls and memory, and there are as many cells
 pub record Stays (p : Code) (n count : ℕ) (old new : KeptThread) (c c' : Cells) : Type 0 where

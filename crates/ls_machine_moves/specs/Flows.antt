@@ -82,7 +82,8 @@ frame_after f (Beyond instruction) = f
 
 -- a small answer says what the move says, or leaves it to be asked again
 abbrev pub IsQuick : Quick → FrameMove → Kept → Kept → Type 0
-IsQuick quick.Next move old new = (new ≡ keeping old (frame_after old.frame move)) × (move ≡ Next (frame_after old.frame move))
+IsQuick quick.Next move old new = (new ≡ keeping old (frame_after old.frame move)) ×
+    (move ≡ Next (frame_after old.frame move))
 IsQuick (quick.Throws kind) move old new = (new ≡ old) × (move ≡ Throws kind)
 IsQuick quick.Stuck move old new = (new ≡ old) × (move ≡ Stuck)
 IsQuick quick.Other move old new = new ≡ old

@@ -14,7 +14,15 @@ abbrev pub keeping : Kept → Frame → Kept
 keeping k f = record k { frame = f }
 
 abbrev pub empty_kept : ℕ → ℕ → ℕ → ℕ → Kept
-empty_kept place need locals operands = record { frame = empty_frame place need; locals_room = locals; operands_room = operands }
+empty_kept place need locals operands = record {
+  frame = empty_frame place need;
+  locals_room = locals;
+  operands_room = operands;
+}
 
 abbrev pub no_frame : Kept
-no_frame = record { frame = record { counter = 0; locals = []; operands = []; need = 0 }; locals_room = 0; operands_room = 0 }
+no_frame = record {
+  frame = record { counter = 0; locals = []; operands = []; need = 0 };
+  locals_room = 0;
+  operands_room = 0;
+}

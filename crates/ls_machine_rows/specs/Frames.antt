@@ -74,7 +74,8 @@ Enters =
 -- caller catches both
 abbrev pub EntersNoDeeper : Type 0
 EntersNoDeeper =
-    Leads (op.Enter 0) (within (frame 0 [] (21 ∷ 11 ∷ [])) (replicate 63 (frame 1 [] []))) (did.Acted (act.Enter 0) Done)
+    Leads (op.Enter 0) (within (frame 0 [] (21 ∷ 11 ∷ [])) (replicate 63 (frame 1 [] [])))
+    (did.Acted (act.Enter 0) Done)
     (within (frame 5 (11 ∷ 21 ∷ 0 ∷ []) []) (frame 0 [] [] ∷ replicate 63 (frame 1 [] []))) []
     × Leads (op.Enter 0) (within (frame 0 [] (21 ∷ 11 ∷ [])) (replicate 64 (frame 1 [] (9 ∷ [])))) did.Silent
     (within (frame 20 [] (6 ∷ 9 ∷ [])) (replicate 63 (frame 1 [] (9 ∷ [])))) []
@@ -96,7 +97,8 @@ Leaves =
 -- a throw drops the frames that have no row for it; it keeps as many of the lowest operands as the row says
 abbrev pub Throws : Type 0
 Throws =
-    Leads op.Throw (within (frame 0 [] (5 ∷ [])) (frame 2 [] [] ∷ frame 1 [] (7 ∷ 8 ∷ 9 ∷ []) ∷ frame 1 [] [] ∷ [])) did.Silent
+    Leads op.Throw (within (frame 0 [] (5 ∷ [])) (frame 2 [] [] ∷ frame 1 [] (7 ∷ 8 ∷ 9 ∷ []) ∷ frame 1 [] [] ∷ []))
+    did.Silent
     (within (frame 20 [] (5 ∷ 9 ∷ [])) (frame 1 [] [] ∷ [])) []
     × Sticks op.Throw (within (frame 0 [] (5 ∷ [])) (frame 2 [] [] ∷ []))
     × Sticks op.Throw (within (frame 0 [] (8 ∷ [])) (frame 1 [] [] ∷ []))
@@ -115,13 +117,17 @@ Begins =
 -- the pending call returns, with a value if it has one
 abbrev pub Returns : Type 0
 Returns =
-    Leads (op.Result 1) (alone 0 (4294967295 ∷ []) (results.Int ∷ []) 0 true mode.Running) (did.Acted (act.Return 1 (Some 4294967295)) Done)
+    Leads (op.Result 1) (alone 0 (4294967295 ∷ []) (results.Int ∷ []) 0 true mode.Running)
+    (did.Acted (act.Return 1 (Some 4294967295)) Done)
     (alone 1 [] (results.Int ∷ []) 1 false mode.Running) (event 1 (Returned (Some (values.Int (negsuc 0)))))
-    × Leads (op.Result 1) (alone 0 (1 ∷ []) (results.Boolean ∷ []) 0 true mode.Running) (did.Acted (act.Return 1 (Some 1)) Done)
+    × Leads (op.Result 1) (alone 0 (1 ∷ []) (results.Boolean ∷ []) 0 true mode.Running)
+    (did.Acted (act.Return 1 (Some 1)) Done)
     (alone 1 [] (results.Boolean ∷ []) 1 false mode.Running) (event 1 (Returned (Some (values.Boolean true))))
-    × Leads (op.Result 1) (alone 0 (0 ∷ []) (results.Boolean ∷ []) 0 true mode.Running) (did.Acted (act.Return 1 (Some 0)) Done)
+    × Leads (op.Result 1) (alone 0 (0 ∷ []) (results.Boolean ∷ []) 0 true mode.Running)
+    (did.Acted (act.Return 1 (Some 0)) Done)
     (alone 1 [] (results.Boolean ∷ []) 1 false mode.Running) (event 1 (Returned (Some (values.Boolean false))))
-    × Leads (op.Result 1) (alone 0 (7 ∷ []) (results.Nothing ∷ []) 0 true mode.Running) (did.Acted (act.Return 1 None) Done)
+    × Leads (op.Result 1) (alone 0 (7 ∷ []) (results.Nothing ∷ []) 0 true mode.Running)
+    (did.Acted (act.Return 1 None) Done)
     (alone 1 (7 ∷ []) (results.Nothing ∷ []) 1 false mode.Running) (event 1 (Returned None))
     × Sticks (op.Result 1) (alone 0 (7 ∷ []) (results.Int ∷ []) 0 false mode.Running)
     × Sticks (op.Result 2) (alone 0 (7 ∷ []) (results.Int ∷ results.Int ∷ []) 0 true mode.Running)
@@ -131,7 +137,8 @@ Returns =
 -- thread takes a step.
 abbrev pub Stops : Type 0
 Stops =
-    Leads op.Trap (alone 0 (3 ∷ []) (results.Int ∷ []) 0 true mode.Running) (did.Acted (act.Trap 1 kinds.ArrayIndexOutOfBounds) Done)
+    Leads op.Trap (alone 0 (3 ∷ []) (results.Int ∷ []) 0 true mode.Running)
+    (did.Acted (act.Trap 1 kinds.ArrayIndexOutOfBounds) Done)
     (alone 0 (3 ∷ []) (results.Int ∷ []) 1 false mode.Trapped) (event 1 (Trapped kinds.ArrayIndexOutOfBounds))
     × Sticks op.Trap (alone 0 (3 ∷ []) (results.Int ∷ []) 0 false mode.Running)
     × Leads op.Halt (alone 0 [] [] 0 false mode.Running) did.Silent (alone 0 [] [] 0 false mode.Ended) []

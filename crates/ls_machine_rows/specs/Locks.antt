@@ -189,7 +189,8 @@ LockOfMonitor =
 abbrev pub UnlockOfMonitor : Type 0
 UnlockOfMonitor =
     (Goes (op.See 5) (1 ∷ []) once did.Silent 1 (once ∷ 1 ∷ []) once)
-    × (Goes (op.See 5) (1 ∷ []) other (did.Acted (act.UnlockMonitor 1) (Fails kinds.IllegalMonitorState)) 20 (5 ∷ []) other)
+    × (Goes (op.See 5) (1 ∷ []) other (did.Acted (act.UnlockMonitor 1) (Fails kinds.IllegalMonitorState)) 20 (5 ∷ [])
+    other)
     × (Goes (op.See 5) (1 ∷ []) 0 (did.Acted (act.UnlockMonitor 1) (Fails kinds.IllegalMonitorState)) 20 (5 ∷ []) 0)
     × (Goes (op.DropLock 1) (once ∷ 1 ∷ []) once (did.Acted (act.UnlockMonitor 1) Done) 1 [] 0)
     × (Goes (op.DropLock 1) (twice ∷ 1 ∷ []) twice (did.Acted (act.UnlockMonitor 1) Done) 1 [] once)
@@ -212,7 +213,9 @@ entry n action answer = record { thread = n; action = action; answer = answer }
 -- while thread 1 holds the lock, thread 2 loops in silence; after the first unlock one hold is left
 abbrev pub TwoHoldsDropped : Type 0
 TwoHoldsDropped =
-    (machine_trace both (replicate 10 1 ++ replicate 8 2 ++ replicate 3 1 ++ replicate 4 2 ++ replicate 4 1 ++ replicate 5 2) ≡ entry 1 (act.Lock 1) Done ∷ entry 1 (act.Lock 1) Done ∷ entry 1 (act.Unlock 1) Done ∷ entry 1 (act.Unlock 1) Done ∷ entry 2 (act.Lock 1) Done ∷ [])
+    (machine_trace both (replicate 10 1 ++ replicate 8 2 ++ replicate 3 1 ++ replicate 4 2 ++ replicate 4 1 ++
+    replicate 5 2) ≡ entry 1 (act.Lock 1) Done ∷ entry 1 (act.Lock 1) Done ∷ entry 1 (act.Unlock 1) Done ∷
+    entry 1 (act.Unlock 1) Done ∷ entry 2 (act.Lock 1) Done ∷ [])
     × ((machine_run both (replicate 10 1)).cells.words ≡ twice ∷ [])
     × ((machine_run both (replicate 13 1)).cells.words ≡ once ∷ [])
     × ((machine_run both (replicate 16 1)).cells.words ≡ 0 ∷ [])

@@ -24,7 +24,8 @@ popping setup = record (machine op.Pop 0 [] memory) { threads = setup ∷ thread
 abbrev pub Due : Type 0
 Due =
     Stays (popping (thread mode.Running 0 (8 ∷ []))) 1 did.Idle
-    × (machine_step (popping (thread mode.Running 0 (8 ∷ []))) 0 ≡ record { machine = popping (thread mode.Running 1 []); did = did.Silent })
+    × (machine_step (popping (thread mode.Running 0 (8 ∷ []))) 0 ≡ record
+    { machine = popping (thread mode.Running 1 []); did = did.Silent })
     × Stays (popping (thread mode.Trapped 0 [])) 1 did.Idle
     × Stays (popping (thread mode.Ended 0 (8 ∷ []))) 0 did.Idle
     × ((machine_step (popping (thread mode.Ended 0 [])) 1).did ≡ did.Silent)
@@ -49,7 +50,8 @@ stopped m = record m { stopped = true }
 abbrev pub StopsAll : Type 0
 StopsAll =
     ((machine_step (machine (op.NewObject 0) 0 [] ten) 1).did ≡ did.Acted (act.New 0) (Gives 11))
-    × (machine_step (machine (op.NewObject 0) 0 [] eleven) 1 ≡ record { machine = stopped (machine (op.NewObject 0) 0 [] eleven); did = did.Stopped })
+    × (machine_step (machine (op.NewObject 0) 0 [] eleven) 1 ≡ record
+    { machine = stopped (machine (op.NewObject 0) 0 [] eleven); did = did.Stopped })
     × Stays (stopped (popping (thread mode.Ended 0 []))) 1 did.Stopped
     × Stays (stopped (popping (thread mode.Ended 0 []))) 0 did.Stopped
 

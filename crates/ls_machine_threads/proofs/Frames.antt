@@ -1,9 +1,13 @@
 -- The frames of a thread from one of them on.
-use Rattle.std.proofs.Common.{◌≡◌, ℕ, ◌+◌, ◌-◌, ◌<◌, List, ◌∷◌, ◌++◌, length, drop, set, map, get_or, ap, ◌∙◌, arith, refl, sym}
-use Rattle.std.proofs.lemmas.List.{drop_more, set-append_right, set-append_left, get_or_default, get_or_append_left, get_or-append_right, length-set, length-append}
+use Rattle.std.proofs.Common.{◌≡◌, ℕ, ◌+◌, ◌-◌, ◌<◌, List, ◌∷◌, ◌++◌, length, drop, set, map, get_or, ap, ◌∙◌, arith}
+use Rattle.std.proofs.Common.{refl, sym}
+use Rattle.std.proofs.lemmas.List.{drop_more, set-append_right, set-append_left, get_or_default, get_or_append_left}
+use Rattle.std.proofs.lemmas.List.{get_or-append_right, length-set, length-append}
 use Rattle.ls_machine_moves.specs.Frames.{Kept, no_frame}
 
-pub frames_split : (ks : List Kept) (i : ℕ) → i < length ks → map (λ k. k.frame) (drop i ks) ≡ (get_or ks i no_frame).frame ∷ map (λ k. k.frame) (drop (i + 1) ks)
+pub frames_split : (ks : List Kept) (i : ℕ) →
+    i < length ks →
+    map (λ k. k.frame) (drop i ks) ≡ (get_or ks i no_frame).frame ∷ map (λ k. k.frame) (drop (i + 1) ks)
 frames_split ks i h = ap (map (λ (k : Kept). k.frame)) (drop_more ks i no_frame h)
 
 -- two frames side by side, written in the parts of a cut between them
@@ -14,7 +18,8 @@ module _ (A B : List Kept) (i : ℕ) (cut : length A ≡ i) (above : 0 < i) (the
       let e : length (set A (i - 1) a) ≡ i = simp length-set cut in
       let z : i - i ≡ 0 = omega arith in
       let l = set-append_left A B (i - 1) a h in
-      let r : set (set A (i - 1) a ++ B) i b ≡ set A (i - 1) a ++ set B (i - i) b = set-append_right (set A (i - 1) a) B i i b e (omega arith) in
+      let r : set (set A (i - 1) a ++ B) i b ≡ set A (i - 1) a ++
+      set B (i - i) b = set-append_right (set A (i - 1) a) B i i b e (omega arith) in
       rw (l, r, z) refl
 
   pub callee_is : (d e : Kept) → get_or A (i - 1) d ≡ get_or (A ++ B) (i - 1) e

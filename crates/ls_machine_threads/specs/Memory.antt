@@ -20,7 +20,18 @@ abbrev pub keeping_thread : KeptThread → Thread → KeptThread
 keeping_thread k t = record k { thread = t }
 
 abbrev pub no_thread : KeptThread
-no_thread = record { thread = record { top = no_frame.frame; below = []; mode = Ended; calls = []; ended = 0; pending = false }; locals_room = 0; operands_room = 0 }
+no_thread = record {
+  thread = record {
+    top = no_frame.frame;
+    below = [];
+    mode = Ended;
+    calls = [];
+    ended = 0;
+    pending = false;
+  };
+  locals_room = 0;
+  operands_room = 0;
+}
 
 -- a thread at its start with its memory
 abbrev pub started_kept : ℕ → ℕ → Start → KeptThread
@@ -32,11 +43,14 @@ back_at s t = keeping_thread t (record (started s) { calls = t.thread.calls })
 
 -- each caller can go on after its call
 abbrev pub CallersGoOn : ℕ → List Kept → Type 0
-CallersGoOn inner frames = (k : ℕ) → inner < k → k < length frames → (slice_index_or frames k no_frame).frame.counter + 1 < 2 ^ 64
+CallersGoOn inner frames = (k : ℕ) → inner < k → k < length frames →
+    (slice_index_or frames k no_frame).frame.counter + 1 < 2 ^ 64
 
 -- each frame has this memory
 abbrev pub HaveRooms : ℕ → ℕ → List Kept → Type 0
-HaveRooms locals operands frames = (k : ℕ) → k < length frames → ((slice_index_or frames k no_frame).locals_room ≡ locals) × ((slice_index_or frames k no_frame).operands_room ≡ operands)
+HaveRooms locals operands frames = (k : ℕ) → k < length frames →
+    ((slice_index_or frames k no_frame).locals_room ≡ locals) ×
+    ((slice_index_or frames k no_frame).operands_room ≡ operands)
 
 pub record IsThread (frames : List Kept) (inner locals operands : ℕ) : Type 0 where
   pub inside : inner < length frames

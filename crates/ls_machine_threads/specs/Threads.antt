@@ -16,7 +16,8 @@ use Rattle.ls_machine_threads.specs.declared.flow.Entered.TheVariants as came
 
 -- a small answer of a thread's innermost frame
 abbrev pub IsQuickThread : Quick → FrameMove → KeptThread → KeptThread → Type 0
-IsQuickThread quick.Next move old new = (new ≡ keeping_thread old (with_top old.thread (frame_after old.thread.top move))) × (move ≡ Next (frame_after old.thread.top move))
+IsQuickThread quick.Next move old new = (new ≡ keeping_thread old
+    (with_top old.thread (frame_after old.thread.top move))) × (move ≡ Next (frame_after old.thread.top move))
 IsQuickThread (quick.Throws kind) move old new = (new ≡ old) × (move ≡ Throws kind)
 IsQuickThread quick.Stuck move old new = (new ≡ old) × (move ≡ Stuck)
 IsQuickThread quick.Other move old new = new ≡ old

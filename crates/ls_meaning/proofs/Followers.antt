@@ -7,16 +7,23 @@ use Rattle.ls_meaning.specs.declared.sort.Sort.{Sort}
 use Rattle.ls_meaning.specs.declared.completion.Completion.{Completion}
 use Rattle.ls_meaning.specs.declared.completion.Completion.TheVariants.{Normal, Broke, Continued, Returned, Threw}
 use Rattle.ls_meaning.specs.Course.{Answers, Evaluated, Asks, Results, Throws, with_value}
-use Rattle.ls_meaning.specs.Statements.{Executed, AsksFor, Completes, on_value, then_do, finally_do, turn_back, after_body}
+use Rattle.ls_meaning.specs.Statements.{Executed, AsksFor, Completes, on_value, then_do, finally_do, turn_back}
+use Rattle.ls_meaning.specs.Statements.{after_body}
 
 -- what follows an expression, by its result or its throw
-abbrev pub ends : {A X : Type 0} → (Action Value → Sort → X) → Evaluated A → (A → Answers → X) → (Kind → Answers → X) → X
+abbrev pub ends : {A X : Type 0} →
+    (Action Value → Sort → X) →
+    Evaluated A →
+    (A → Answers → X) →
+    (Kind → Answers → X) →
+    X
 ends asks (Asks action sort) go h = asks action sort
 ends asks (Results v rest) go h = go v rest
 ends asks (Throws kind rest) go h = h kind rest
 
 -- an expression and what follows it, grouped otherwise
-pub ends_with : {A B X : Type 0} (asks : Action Value → Sort → X) (x : Evaluated A) (g : A → Answers → Evaluated B) (go : B → Answers → X) (h : Kind → Answers → X) →
+pub ends_with : {A B X : Type 0} (asks : Action Value → Sort → X) (x : Evaluated A) (g : A → Answers → Evaluated B)
+    (go : B → Answers → X) (h : Kind → Answers → X) →
     ends asks (with_value x g) go h ≡ ends asks x (λ v r. ends asks (g v r) go h) h
 ends_with asks (Asks a s) g go h = refl
 ends_with asks (Results v rest) g go h = refl
@@ -33,7 +40,8 @@ finish_by asks (Completes c ls rest) g = g c ls rest
 
 module _ (X : Type 0) (asks : Action Value → Sort → X) where
   -- an expression, and then a statement
-  pub value_by : (x : Evaluated Value) (ls : List Value) (k : Value → Answers → Executed) (g : Follower X) → finish_by asks (on_value x ls k) g ≡ ends asks x (λ v r. finish_by asks (k v r) g) (λ n r. g (Threw n) ls r)
+  pub value_by : (x : Evaluated Value) (ls : List Value) (k : Value → Answers → Executed) (g : Follower X) →
+      finish_by asks (on_value x ls k) g ≡ ends asks x (λ v r. finish_by asks (k v r) g) (λ n r. g (Threw n) ls r)
   value_by (Asks a s) ls k g = refl
   value_by (Results v r) ls k g = refl
   value_by (Throws n r) ls k g = refl
@@ -47,7 +55,8 @@ module _ (X : Type 0) (asks : Action Value → Sort → X) where
   on_normal b g (Threw n) ls r = g (Threw n) ls r
 
   -- a statement before others
-  pub then_by : (x : Executed) (b : List Value → Answers → Executed) (g : Follower X) → finish_by asks (then_do x b) g ≡ finish_by asks x (on_normal b g)
+  pub then_by : (x : Executed) (b : List Value → Answers → Executed) (g : Follower X) →
+      finish_by asks (then_do x b) g ≡ finish_by asks x (on_normal b g)
   then_by (AsksFor a s) b g = refl
   then_by (Completes Normal ls r) b g = refl
   then_by (Completes (Broke n) ls r) b g = refl
@@ -56,7 +65,9 @@ module _ (X : Type 0) (asks : Action Value → Sort → X) where
   then_by (Completes (Threw n) ls r) b g = refl
 
   -- a try block and its finally block
-  pub finally_by : (x : Executed) (b : List Value → Answers → Executed) (g : Follower X) → finish_by asks (finally_do x b) g ≡ finish_by asks x (λ c ls r. finish_by asks (then_do (b ls r) (λ ls r. Completes c ls r)) g)
+  pub finally_by : (x : Executed) (b : List Value → Answers → Executed) (g : Follower X) →
+      finish_by asks (finally_do x b) g ≡ finish_by asks x (λ c ls r.
+      finish_by asks (then_do (b ls r) (λ ls r. Completes c ls r)) g)
   finally_by (AsksFor a s) b g = refl
   finally_by (Completes c ls r) b g = refl
 
@@ -71,7 +82,8 @@ module _ (X : Type 0) (asks : Action Value → Sort → X) where
   on_body b g (Threw n) ls r = g (Threw n) ls r
 
   -- the body of a loop
-  pub body_by : (x : Executed) (b : List Value → Answers → Executed) (g : Follower X) → finish_by asks (after_body x b) g ≡ finish_by asks x (on_body b g)
+  pub body_by : (x : Executed) (b : List Value → Answers → Executed) (g : Follower X) →
+      finish_by asks (after_body x b) g ≡ finish_by asks x (on_body b g)
   body_by (AsksFor a s) b g = refl
   body_by (Completes Normal ls r) b g = refl
   body_by (Completes (Broke zero) ls r) b g = refl

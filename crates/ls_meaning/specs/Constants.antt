@@ -2,7 +2,11 @@
 use Rattle.std.specs.Prelude.{◌≡◌, ℕ, List, [], ◌∷◌, Some, slice_get}
 use Rattle.ls_events.specs.declared.value.Value.{Value}
 use Rattle.ls_events.specs.declared.value.Value.TheVariants.{Int, Boolean, Reference, Pair}
-use Rattle.ls_checked.specs.CheckedTree.{Expression, Literal, Slot, Field, Item, Negate, Not, Binary, And, Or, Call, MakeObject, MakeLock, MakeMarkable, MakeArray, Expressions, End, More, Statement, Block, SetSlot, SetField, AddField, SetItem, Evaluate, If, While, Break, Continue, ReturnNothing, ReturnValue, Try, Statements, Done, Then, Method, File}
+use Rattle.ls_checked.specs.CheckedTree.{Expression, Literal, Slot, Field, Item, Negate, Not, Binary, And, Or, Call}
+use Rattle.ls_checked.specs.CheckedTree.{MakeObject, MakeLock, MakeMarkable, MakeArray, Expressions, End, More}
+use Rattle.ls_checked.specs.CheckedTree.{Statement, Block, SetSlot, SetField, AddField, SetItem, Evaluate, If, While}
+use Rattle.ls_checked.specs.CheckedTree.{Break, Continue, ReturnNothing, ReturnValue, Try, Statements, Done, Then}
+use Rattle.ls_checked.specs.CheckedTree.{Method, File}
 use Rattle.ls_checked.specs.CheckedProgram.{Program, ThreadProgram, ProgramCall, Making, Calling}
 
 -- an int, a boolean or null (JLS 15.8.1)
@@ -69,4 +73,5 @@ CallsHaveConstants [] = Unit {0}
 CallsHaveConstants (c ∷ cs) = CallHasConstants c × CallsHaveConstants cs
 
 abbrev pub ProgramHasConstants : Program → Type 0
-ProgramHasConstants program = (n : ℕ) (t : ThreadProgram) → slice_get program.threads n ≡ Some t → CallsHaveConstants t.calls
+ProgramHasConstants program = (n : ℕ) (t : ThreadProgram) → slice_get program.threads n ≡ Some t →
+    CallsHaveConstants t.calls

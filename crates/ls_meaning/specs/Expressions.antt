@@ -1,18 +1,26 @@
 -- The evaluation of expressions. Operands, then arguments, go from left to right (JLS 15.7).
-use Rattle.std.specs.Prelude.{ℕ, pos, neg_ℤ, true, false, not, int_lt, List, [], ◌∷◌, Option, Some, None, slice_get, slice_index_or, if◌then◌else◌}
+use Rattle.std.specs.Prelude.{ℕ, pos, neg_ℤ, true, false, not, int_lt, List, [], ◌∷◌, Option, Some, None, slice_get}
+use Rattle.std.specs.Prelude.{slice_index_or, if◌then◌else◌}
 use Rattle.ls_events.specs.declared.value.Value.{Value}
 use Rattle.ls_events.specs.declared.value.Value.TheVariants as values
 use Rattle.ls_events.specs.declared.value.ValueType.TheVariants as types
 use Rattle.ls_events.specs.declared.value.ValueType.{ValueType}
 use Rattle.ls_events.specs.declared.kind.Kind.TheVariants.{Arithmetic, NegativeArraySize}
-use Rattle.ls_events.specs.declared.action.Action.TheVariants.{ReadField, ReadItem, WriteItem, New, NewLock, NewMarkable, NewArray, Lock, Unlock, TryLock, IsHeld, LockMonitor, UnlockMonitor, ReadPair, SetPair, SwapPair, AttemptMark}
+use Rattle.ls_events.specs.declared.action.Action.TheVariants.{ReadField, ReadItem, WriteItem, New, NewLock}
+use Rattle.ls_events.specs.declared.action.Action.TheVariants.{NewMarkable, NewArray, Lock, Unlock, TryLock, IsHeld}
+use Rattle.ls_events.specs.declared.action.Action.TheVariants.{LockMonitor, UnlockMonitor, ReadPair, SetPair, SwapPair}
+use Rattle.ls_events.specs.declared.action.Action.TheVariants.{AttemptMark}
 use Rattle.ls_checked.specs.declared.tree.Operator.{Operator}
 use Rattle.ls_checked.specs.declared.tree.Called.{Called}
-use Rattle.ls_checked.specs.declared.tree.Called.TheVariants.{Method, LockIt, UnlockIt, TryIt, AskIt, HoldMonitor, FreeMonitor, GetReference, IsMarked, GetBoth, SetBoth, CompareAndSet, Attempt}
-use Rattle.ls_checked.specs.CheckedTree.{Class, Expression, Literal, Slot, Field, Item, Negate, Not, Binary, And, Or, Call, MakeObject, MakeLock, MakeMarkable, MakeArray, Expressions, End, More}
+use Rattle.ls_checked.specs.declared.tree.Called.TheVariants.{Method, LockIt, UnlockIt, TryIt, AskIt, HoldMonitor}
+use Rattle.ls_checked.specs.declared.tree.Called.TheVariants.{FreeMonitor, GetReference, IsMarked, GetBoth, SetBoth}
+use Rattle.ls_checked.specs.declared.tree.Called.TheVariants.{CompareAndSet, Attempt}
+use Rattle.ls_checked.specs.CheckedTree.{Class, Expression, Literal, Slot, Field, Item, Negate, Not, Binary, And, Or}
+use Rattle.ls_checked.specs.CheckedTree.{Call, MakeObject, MakeLock, MakeMarkable, MakeArray, Expressions, End, More}
 use Rattle.ls_meaning.specs.declared.sort.Sort.{Sort}
 use Rattle.ls_meaning.specs.declared.sort.Sort.TheVariants.{NoValue, ValueOf, NewOf, PairOf}
-use Rattle.ls_meaning.specs.Values.{int_of, truth_of, reference_of, mark_of, pair_of, nothing, wrapped, operated, divides_by_zero}
+use Rattle.ls_meaning.specs.Values.{int_of, truth_of, reference_of, mark_of, pair_of, nothing, wrapped, operated}
+use Rattle.ls_meaning.specs.Values.{divides_by_zero}
 use Rattle.ls_meaning.specs.Course.{Answers, Evaluated, Results, Throws, ask, with_value, unless_null, on_object}
 
 -- what a call of a method does, with `this` and the arguments
@@ -70,9 +78,11 @@ call calls (HoldMonitor c) o vs rest = ask (LockMonitor (reference_of o)) NoValu
 call calls (FreeMonitor c) o vs rest = ask (UnlockMonitor (reference_of o)) NoValue rest
 -- getReference(), isMarked(), get(boolean[])
 call calls (GetReference c) o vs rest =
-    with_value (ask (ReadPair (reference_of o)) (PairOf c) rest) (λ pair rest. Results (values.Reference (reference_of pair)) rest)
+    with_value (ask (ReadPair (reference_of o)) (PairOf c) rest)
+    (λ pair rest. Results (values.Reference (reference_of pair)) rest)
 call calls (IsMarked c) o vs rest =
-    with_value (ask (ReadPair (reference_of o)) (PairOf c) rest) (λ pair rest. Results (values.Boolean (mark_of pair)) rest)
+    with_value (ask (ReadPair (reference_of o)) (PairOf c) rest)
+    (λ pair rest. Results (values.Boolean (mark_of pair)) rest)
 call calls (GetBoth c) o vs rest = get_both c (reference_of o) (reference_of (argument vs 0)) rest
 -- set(newReference, newMark)
 call calls SetBoth o vs rest = ask (SetPair (reference_of o) (pair_of (argument vs 0) (argument vs 1))) NoValue rest
@@ -82,7 +92,8 @@ call calls CompareAndSet o vs rest =
     (ValueOf types.Boolean) rest
 -- attemptMark(expectedReference, newMark)
 call calls Attempt o vs rest =
-    ask (AttemptMark (reference_of o) (reference_of (argument vs 0)) (truth_of (argument vs 1))) (ValueOf types.Boolean) rest
+    ask (AttemptMark (reference_of o) (reference_of (argument vs 0)) (truth_of (argument vs 1))) (ValueOf types.Boolean)
+    rest
 
 abbrev mutual
   pub evaluate : List Class → Calls → Expression → List Value → Answers → Evaluated Value
@@ -132,7 +143,8 @@ abbrev mutual
   -- a negative length makes nothing (JLS 15.10.2)
   evaluate classes calls (MakeArray e) locals answers =
       with_value (evaluate classes calls e locals answers) (λ n rest.
-      if int_lt (int_of n) (pos 0) then Throws NegativeArraySize rest else ask (NewArray (int_of n)) (NewOf types.BooleanArray) rest)
+      if int_lt (int_of n) (pos 0) then Throws NegativeArraySize rest else
+      ask (NewArray (int_of n)) (NewOf types.BooleanArray) rest)
 
   -- the arguments of a call, from the left (JLS 15.12.4.2)
   pub arguments : List Class → Calls → Expressions → List Value → Answers → Evaluated (List Value)

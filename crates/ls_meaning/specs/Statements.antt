@@ -7,7 +7,9 @@ use Rattle.ls_meaning.specs.declared.completion.Completion.{Completion}
 use Rattle.ls_meaning.specs.declared.completion.Completion.TheVariants.{Normal, Broke, Continued, Returned, Threw}
 use Rattle.ls_events.specs.declared.value.ValueType.TheVariants as types
 use Rattle.ls_checked.specs.declared.tree.Operator.TheVariants.{Add}
-use Rattle.ls_checked.specs.CheckedTree.{Class, Statement, Block, SetSlot, SetField, AddField, SetItem, Evaluate, If, While, Break, Continue, ReturnNothing, ReturnValue, Try, Statements, Done, Then}
+use Rattle.ls_checked.specs.CheckedTree.{Class, Statement, Block, SetSlot, SetField, AddField, SetItem, Evaluate, If}
+use Rattle.ls_checked.specs.CheckedTree.{While, Break, Continue, ReturnNothing, ReturnValue, Try, Statements, Done}
+use Rattle.ls_checked.specs.CheckedTree.{Then}
 use Rattle.ls_meaning.specs.declared.sort.Sort.{Sort}
 use Rattle.ls_meaning.specs.declared.sort.Sort.TheVariants.{NoValue, ValueOf}
 use Rattle.ls_meaning.specs.Values.{int_of, truth_of, reference_of}
@@ -64,13 +66,23 @@ after_body (Completes (Returned v) locals rest) again = Completes (Returned v) l
 after_body (Completes (Threw kind) locals rest) again = Completes (Threw kind) locals rest
 
 -- the condition, and if it is true, the body (JLS 14.12)
-abbrev pub one_turn : (List Value → Answers → Evaluated Value) → (List Value → Answers → Executed) → (List Value → Answers → Executed) → List Value → Answers → Executed
+abbrev pub one_turn : (List Value → Answers → Evaluated Value) →
+    (List Value → Answers → Executed) →
+    (List Value → Answers → Executed) →
+    List Value →
+    Answers →
+    Executed
 one_turn condition body again locals answers =
     on_value (condition locals answers) locals (λ v rest.
     if truth_of v then after_body (body locals rest) again else Completes Normal locals rest)
 
 -- a loop; each turn takes an answer, so a loop makes no more turns than there are answers
-abbrev pub turns : ℕ → (List Value → Answers → Evaluated Value) → (List Value → Answers → Executed) → List Value → Answers → Executed
+abbrev pub turns : ℕ →
+    (List Value → Answers → Evaluated Value) →
+    (List Value → Answers → Executed) →
+    List Value →
+    Answers →
+    Executed
 turns zero condition body = one_turn condition body (λ locals rest. AsksFor Turn NoValue)
 turns (suc n) condition body = one_turn condition body (turns n condition body)
 

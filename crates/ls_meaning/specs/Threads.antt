@@ -68,7 +68,8 @@ after_call n (Throws kind rest) go = event (Trap n kind) rest (λ rest. Trapped)
 -- calls are numbered from 1
 abbrev pub all_calls : File → Program → ℕ → List ProgramCall → Answers → Next
 all_calls file program n [] answers = Ended
-all_calls file program n (c ∷ cs) answers = after_call n (one_call file program n c answers) (all_calls file program (n + 1) cs)
+all_calls file program n (c ∷ cs) answers = after_call n (one_call file program n c answers)
+    (all_calls file program (n + 1) cs)
 
 abbrev pub calls_in : Option ThreadProgram → List ProgramCall
 calls_in None = []

@@ -8,7 +8,8 @@ use Rattle.ls_events.specs.declared.value.Value.TheVariants.{Int, Boolean, Refer
 use Rattle.ls_events.specs.declared.value.ValueType.{ValueType}
 use Rattle.ls_events.specs.declared.value.ValueType.TheVariants.{Int as IntType, Boolean as BooleanType}
 use Rattle.ls_checked.specs.declared.tree.Operator.{Operator}
-use Rattle.ls_checked.specs.declared.tree.Operator.TheVariants.{Add, Subtract, Multiply, Divide, Remainder, Less, LessEqual, Greater, GreaterEqual, Equal, NotEqual}
+use Rattle.ls_checked.specs.declared.tree.Operator.TheVariants.{Add, Subtract, Multiply, Divide, Remainder, Less}
+use Rattle.ls_checked.specs.declared.tree.Operator.TheVariants.{LessEqual, Greater, GreaterEqual, Equal, NotEqual}
 
 -- the parts of a value; a checked tree never reads a value as one of another type
 abbrev pub int_of : Value → ℤ

@@ -3,12 +3,15 @@
 use Rattle.std.specs.Prelude.{◌≡◌, [], ◌∷◌, ◌++◌, replicate, None, Some}
 use Rattle.ls_events.specs.declared.value.ValueType.TheVariants as types
 use Rattle.ls_events.specs.declared.kind.Kind.TheVariants as kinds
-use Rattle.ls_events.specs.declared.action.Action.TheVariants.{ReadField, WriteField, ReadName, WriteName, New, Enter, Return, Trap}
+use Rattle.ls_events.specs.declared.action.Action.TheVariants.{ReadField, WriteField, ReadName, WriteName, New, Enter}
+use Rattle.ls_events.specs.declared.action.Action.TheVariants.{Return, Trap}
 use Rattle.ls_events.specs.declared.action.Action.TheVariants as actions
 use Rattle.ls_checked.specs.declared.tree.Called.TheVariants as called
-use Rattle.ls_checked.specs.CheckedTree.{File, Literal, Slot, Field, Call, End, Statement, SetField, AddField, ReturnValue}
+use Rattle.ls_checked.specs.CheckedTree.{File, Literal, Slot, Field, Call, End, Statement, SetField, AddField}
+use Rattle.ls_checked.specs.CheckedTree.{ReturnValue}
 use Rattle.ls_meaning.specs.Runs.{source_trace}
-use Rattle.ls_meaning_rows.specs.Made.{int, minus, null, at, block, one_class, method, making, calling, program, line, done, gives}
+use Rattle.ls_meaning_rows.specs.Made.{int, minus, null, at, block, one_class, method, making, calling, program, line}
+use Rattle.ls_meaning_rows.specs.Made.{done, gives}
 
 -- class C { int v; C n; void f() { .. } int s() { v = 7; return 2; } C t() { n = this; return n; } }
 abbrev pub with_body : Statement → File
@@ -16,8 +19,10 @@ with_body body = record {
   classes = one_class (types.Int ∷ types.Class 0 ∷ []) 3 ∷ [];
   methods =
       method 0 0 (types.Class 0 ∷ []) None body
-      ∷ method 0 0 (types.Class 0 ∷ []) (Some types.Int) (block (SetField (Slot 0) 0 (Literal (int 7)) ∷ ReturnValue (Literal (int 2)) ∷ []))
-      ∷ method 0 0 (types.Class 0 ∷ []) (Some (types.Class 0)) (block (SetField (Slot 0) 1 (Slot 0) ∷ ReturnValue (Field (Slot 0) 0 1) ∷ []))
+      ∷ method 0 0 (types.Class 0 ∷ []) (Some types.Int) (block
+      (SetField (Slot 0) 0 (Literal (int 7)) ∷ ReturnValue (Literal (int 2)) ∷ []))
+      ∷ method 0 0 (types.Class 0 ∷ []) (Some (types.Class 0))
+      (block (SetField (Slot 0) 1 (Slot 0) ∷ ReturnValue (Field (Slot 0) 0 1) ∷ []))
       ∷ method 0 0 (types.Class 0 ∷ []) None (block [])
       ∷ [];
 }
@@ -70,7 +75,8 @@ ReadBeforeValue =
 abbrev pub SumsWrap : Type 0
 SumsWrap =
     source_trace
-    (with_body (block (AddField (Slot 0) 0 (Literal (int 2147483647)) ∷ AddField (Slot 0) 0 (Literal (int 1)) ∷ AddField (Slot 0) 0 (Literal (minus 1)) ∷ [])))
+    (with_body (block (AddField (Slot 0) 0 (Literal (int 2147483647)) ∷ AddField (Slot 0) 0 (Literal (int 1)) ∷
+    AddField (Slot 0) 0 (Literal (minus 1)) ∷ [])))
     (program (0 ∷ []) ((making 0 0 [] ∷ []) ∷ (calling 0 0 [] ∷ []) ∷ []))
     (replicate 9 0 ++ replicate 99 1)
     ≡

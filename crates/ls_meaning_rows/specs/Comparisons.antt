@@ -7,7 +7,8 @@ use Rattle.ls_events.specs.declared.action.Action.TheVariants as actions
 use Rattle.ls_checked.specs.declared.tree.Operator.TheVariants as operators
 use Rattle.ls_checked.specs.CheckedTree.{Literal, Slot, Not, Binary, And, Or, MakeObject, End, ReturnValue}
 use Rattle.ls_meaning.specs.Runs.{source_trace}
-use Rattle.ls_meaning_rows.specs.Made.{int, minus, yes, no, null, at, block, one_class, method, making, calling, program, line, done, gives}
+use Rattle.ls_meaning_rows.specs.Made.{int, minus, yes, no, null, at, block, one_class, method, making, calling}
+use Rattle.ls_meaning_rows.specs.Made.{program, line, done, gives}
 
 -- class C { boolean f(int a, int b) { return a < b; } } with (1, 2), (2, 2), (3, 2), (-1, 1)
 abbrev pub Less : Type 0
@@ -16,11 +17,14 @@ Less =
     (record {
       classes = (one_class [] 1 ∷ []);
       methods =
-          (method 0 2 ((types.Class 0) ∷ types.Int ∷ types.Int ∷ []) (Some types.Boolean) (block ((ReturnValue (Binary operators.Less (Slot 1) (Slot 2))) ∷ []))
+          (method 0 2 ((types.Class 0) ∷ types.Int ∷ types.Int ∷ []) (Some types.Boolean)
+          (block ((ReturnValue (Binary operators.Less (Slot 1) (Slot 2))) ∷ []))
           ∷ method 0 0 ((types.Class 0) ∷ []) None (block [])
           ∷ []);
     })
-    (program (0 ∷ []) ((making 0 0 [] ∷ []) ∷ (calling 0 0 ((int 1) ∷ (int 2) ∷ []) ∷ calling 0 0 ((int 2) ∷ (int 2) ∷ []) ∷ calling 0 0 ((int 3) ∷ (int 2) ∷ []) ∷ calling 0 0 ((minus 1) ∷ (int 1) ∷ []) ∷ []) ∷ []))
+    (program (0 ∷ []) ((making 0 0 [] ∷ []) ∷ (calling 0 0 ((int 1) ∷ (int 2) ∷ []) ∷
+    calling 0 0 ((int 2) ∷ (int 2) ∷ []) ∷ calling 0 0 ((int 3) ∷ (int 2) ∷ []) ∷
+    calling 0 0 ((minus 1) ∷ (int 1) ∷ []) ∷ []) ∷ []))
     (replicate 9 0 ++ replicate 99 1)
     ≡
     (line 0 (actions.Call 1) done
@@ -53,11 +57,13 @@ LessOrEqual =
     (record {
       classes = (one_class [] 1 ∷ []);
       methods =
-          (method 0 2 ((types.Class 0) ∷ types.Int ∷ types.Int ∷ []) (Some types.Boolean) (block ((ReturnValue (Binary operators.LessEqual (Slot 1) (Slot 2))) ∷ []))
+          (method 0 2 ((types.Class 0) ∷ types.Int ∷ types.Int ∷ []) (Some types.Boolean)
+          (block ((ReturnValue (Binary operators.LessEqual (Slot 1) (Slot 2))) ∷ []))
           ∷ method 0 0 ((types.Class 0) ∷ []) None (block [])
           ∷ []);
     })
-    (program (0 ∷ []) ((making 0 0 [] ∷ []) ∷ (calling 0 0 ((int 1) ∷ (int 2) ∷ []) ∷ calling 0 0 ((int 2) ∷ (int 2) ∷ []) ∷ calling 0 0 ((int 3) ∷ (int 2) ∷ []) ∷ []) ∷ []))
+    (program (0 ∷ []) ((making 0 0 [] ∷ []) ∷ (calling 0 0 ((int 1) ∷ (int 2) ∷ []) ∷
+    calling 0 0 ((int 2) ∷ (int 2) ∷ []) ∷ calling 0 0 ((int 3) ∷ (int 2) ∷ []) ∷ []) ∷ []))
     (replicate 9 0 ++ replicate 99 1)
     ≡
     (line 0 (actions.Call 1) done
@@ -86,11 +92,14 @@ Greater =
     (record {
       classes = (one_class [] 1 ∷ []);
       methods =
-          (method 0 2 ((types.Class 0) ∷ types.Int ∷ types.Int ∷ []) (Some types.Boolean) (block ((ReturnValue (Binary operators.Greater (Slot 1) (Slot 2))) ∷ []))
+          (method 0 2 ((types.Class 0) ∷ types.Int ∷ types.Int ∷ []) (Some types.Boolean)
+          (block ((ReturnValue (Binary operators.Greater (Slot 1) (Slot 2))) ∷ []))
           ∷ method 0 0 ((types.Class 0) ∷ []) None (block [])
           ∷ []);
     })
-    (program (0 ∷ []) ((making 0 0 [] ∷ []) ∷ (calling 0 0 ((int 1) ∷ (int 2) ∷ []) ∷ calling 0 0 ((int 2) ∷ (int 2) ∷ []) ∷ calling 0 0 ((int 3) ∷ (int 2) ∷ []) ∷ calling 0 0 ((int 1) ∷ (minus 1) ∷ []) ∷ []) ∷ []))
+    (program (0 ∷ []) ((making 0 0 [] ∷ []) ∷ (calling 0 0 ((int 1) ∷ (int 2) ∷ []) ∷
+    calling 0 0 ((int 2) ∷ (int 2) ∷ []) ∷ calling 0 0 ((int 3) ∷ (int 2) ∷ []) ∷
+    calling 0 0 ((int 1) ∷ (minus 1) ∷ []) ∷ []) ∷ []))
     (replicate 9 0 ++ replicate 99 1)
     ≡
     (line 0 (actions.Call 1) done
@@ -123,11 +132,13 @@ GreaterOrEqual =
     (record {
       classes = (one_class [] 1 ∷ []);
       methods =
-          (method 0 2 ((types.Class 0) ∷ types.Int ∷ types.Int ∷ []) (Some types.Boolean) (block ((ReturnValue (Binary operators.GreaterEqual (Slot 1) (Slot 2))) ∷ []))
+          (method 0 2 ((types.Class 0) ∷ types.Int ∷ types.Int ∷ []) (Some types.Boolean)
+          (block ((ReturnValue (Binary operators.GreaterEqual (Slot 1) (Slot 2))) ∷ []))
           ∷ method 0 0 ((types.Class 0) ∷ []) None (block [])
           ∷ []);
     })
-    (program (0 ∷ []) ((making 0 0 [] ∷ []) ∷ (calling 0 0 ((int 1) ∷ (int 2) ∷ []) ∷ calling 0 0 ((int 2) ∷ (int 2) ∷ []) ∷ calling 0 0 ((int 3) ∷ (int 2) ∷ []) ∷ []) ∷ []))
+    (program (0 ∷ []) ((making 0 0 [] ∷ []) ∷ (calling 0 0 ((int 1) ∷ (int 2) ∷ []) ∷
+    calling 0 0 ((int 2) ∷ (int 2) ∷ []) ∷ calling 0 0 ((int 3) ∷ (int 2) ∷ []) ∷ []) ∷ []))
     (replicate 9 0 ++ replicate 99 1)
     ≡
     (line 0 (actions.Call 1) done
@@ -156,11 +167,13 @@ Equal =
     (record {
       classes = (one_class [] 1 ∷ []);
       methods =
-          (method 0 2 ((types.Class 0) ∷ types.Int ∷ types.Int ∷ []) (Some types.Boolean) (block ((ReturnValue (Binary operators.Equal (Slot 1) (Slot 2))) ∷ []))
+          (method 0 2 ((types.Class 0) ∷ types.Int ∷ types.Int ∷ []) (Some types.Boolean)
+          (block ((ReturnValue (Binary operators.Equal (Slot 1) (Slot 2))) ∷ []))
           ∷ method 0 0 ((types.Class 0) ∷ []) None (block [])
           ∷ []);
     })
-    (program (0 ∷ []) ((making 0 0 [] ∷ []) ∷ (calling 0 0 ((int 2) ∷ (int 2) ∷ []) ∷ calling 0 0 ((int 2) ∷ (minus 2) ∷ []) ∷ []) ∷ []))
+    (program (0 ∷ []) ((making 0 0 [] ∷ []) ∷ (calling 0 0 ((int 2) ∷ (int 2) ∷ []) ∷
+    calling 0 0 ((int 2) ∷ (minus 2) ∷ []) ∷ []) ∷ []))
     (replicate 9 0 ++ replicate 99 1)
     ≡
     (line 0 (actions.Call 1) done
@@ -185,11 +198,13 @@ NotEqual =
     (record {
       classes = (one_class [] 1 ∷ []);
       methods =
-          (method 0 2 ((types.Class 0) ∷ types.Int ∷ types.Int ∷ []) (Some types.Boolean) (block ((ReturnValue (Binary operators.NotEqual (Slot 1) (Slot 2))) ∷ []))
+          (method 0 2 ((types.Class 0) ∷ types.Int ∷ types.Int ∷ []) (Some types.Boolean)
+          (block ((ReturnValue (Binary operators.NotEqual (Slot 1) (Slot 2))) ∷ []))
           ∷ method 0 0 ((types.Class 0) ∷ []) None (block [])
           ∷ []);
     })
-    (program (0 ∷ []) ((making 0 0 [] ∷ []) ∷ (calling 0 0 ((int 2) ∷ (int 2) ∷ []) ∷ calling 0 0 ((int 2) ∷ (minus 2) ∷ []) ∷ []) ∷ []))
+    (program (0 ∷ []) ((making 0 0 [] ∷ []) ∷ (calling 0 0 ((int 2) ∷ (int 2) ∷ []) ∷
+    calling 0 0 ((int 2) ∷ (minus 2) ∷ []) ∷ []) ∷ []))
     (replicate 9 0 ++ replicate 99 1)
     ≡
     (line 0 (actions.Call 1) done
@@ -214,7 +229,11 @@ References =
     (record {
       classes = (one_class [] 1 ∷ []);
       methods =
-          (method 0 0 ((types.Class 0) ∷ []) (Some types.Boolean) (block ((ReturnValue (Or (Or (Or (Binary operators.Equal (MakeObject 0 End) (MakeObject 0 End)) (Binary operators.Equal (MakeObject 0 End) (Literal null))) (Binary operators.NotEqual (Slot 0) (Slot 0))) (Binary operators.NotEqual (Literal null) (Literal null)))) ∷ []))
+          (method 0 0 ((types.Class 0) ∷ []) (Some types.Boolean)
+          (block ((ReturnValue
+          (Or (Or (Or (Binary operators.Equal (MakeObject 0 End) (MakeObject 0 End))
+          (Binary operators.Equal (MakeObject 0 End) (Literal null))) (Binary operators.NotEqual (Slot 0) (Slot 0)))
+          (Binary operators.NotEqual (Literal null) (Literal null)))) ∷ []))
           ∷ method 0 0 ((types.Class 0) ∷ []) None (block [])
           ∷ []);
     })
@@ -245,7 +264,12 @@ Booleans =
     (record {
       classes = (one_class [] 1 ∷ []);
       methods =
-          (method 0 0 ((types.Class 0) ∷ []) (Some types.Boolean) (block ((ReturnValue (And (And (And (Binary operators.Equal (Literal yes) (Literal yes)) (Binary operators.Equal (Literal no) (Literal no))) (Binary operators.NotEqual (Literal yes) (Literal no))) (Not (Binary operators.Equal (Literal yes) (Literal no))))) ∷ []))
+          (method 0 0 ((types.Class 0) ∷ []) (Some types.Boolean)
+          (block ((ReturnValue
+          (And (And (And (Binary operators.Equal (Literal yes) (Literal yes))
+          (Binary operators.Equal (Literal no) (Literal no)))
+          (Binary operators.NotEqual (Literal yes) (Literal no)))
+          (Not (Binary operators.Equal (Literal yes) (Literal no))))) ∷ []))
           ∷ method 0 0 ((types.Class 0) ∷ []) None (block [])
           ∷ []);
     })

@@ -3,12 +3,17 @@
 use Rattle.std.specs.Prelude.{◌≡◌, [], ◌∷◌, ◌++◌, replicate, None, Some}
 use Rattle.ls_events.specs.declared.value.ValueType.TheVariants as types
 use Rattle.ls_events.specs.declared.kind.Kind.TheVariants as kinds
-use Rattle.ls_events.specs.declared.action.Action.TheVariants.{ReadField, WriteField, ReadItem, WriteItem, ReadName, WriteName, New, NewLock, NewMarkable, NewArray, Lock, Unlock, TryLock, IsHeld, ReadPair, SetPair, SwapPair, AttemptMark, Turn, Enter, Return, Trap}
+use Rattle.ls_events.specs.declared.action.Action.TheVariants.{ReadField, WriteField, ReadItem, WriteItem, ReadName}
+use Rattle.ls_events.specs.declared.action.Action.TheVariants.{WriteName, New, NewLock, NewMarkable, NewArray, Lock}
+use Rattle.ls_events.specs.declared.action.Action.TheVariants.{Unlock, TryLock, IsHeld, ReadPair, SetPair, SwapPair}
+use Rattle.ls_events.specs.declared.action.Action.TheVariants.{AttemptMark, Turn, Enter, Return, Trap}
 use Rattle.ls_events.specs.declared.action.Action.TheVariants as actions
 use Rattle.ls_checked.specs.declared.tree.Operator.TheVariants as operators
-use Rattle.ls_checked.specs.CheckedTree.{Literal, Slot, Field, Negate, Binary, MakeArray, SetSlot, SetField, If, While, Break, Continue, ReturnNothing, ReturnValue, Try}
+use Rattle.ls_checked.specs.CheckedTree.{Literal, Slot, Field, Negate, Binary, MakeArray, SetSlot, SetField, If, While}
+use Rattle.ls_checked.specs.CheckedTree.{Break, Continue, ReturnNothing, ReturnValue, Try}
 use Rattle.ls_meaning.specs.Runs.{source_trace}
-use Rattle.ls_meaning_rows.specs.Made.{int, yes, null, at, block, one_class, method, making, calling, program, line, done, gives}
+use Rattle.ls_meaning_rows.specs.Made.{int, yes, null, at, block, one_class, method, making, calling, program, line}
+use Rattle.ls_meaning_rows.specs.Made.{done, gives}
 
 -- int f() { int x = 1; try { } finally { x = 2; } return x; }
 abbrev pub LocalsSetInFinally : Type 0
@@ -17,7 +22,9 @@ LocalsSetInFinally =
     (record {
       classes = (one_class (types.Int ∷ []) 1 ∷ []);
       methods =
-          (method 0 0 ((types.Class 0) ∷ types.Int ∷ []) (Some types.Int) (block ((block ((SetSlot 1 (Literal (int 0))) ∷ (SetSlot 1 (Literal (int 1))) ∷ [])) ∷ (Try (block []) (block ((SetSlot 1 (Literal (int 2))) ∷ []))) ∷ (ReturnValue (Slot 1)) ∷ []))
+          (method 0 0 ((types.Class 0) ∷ types.Int ∷ []) (Some types.Int)
+          (block ((block ((SetSlot 1 (Literal (int 0))) ∷ (SetSlot 1 (Literal (int 1))) ∷ [])) ∷
+          (Try (block []) (block ((SetSlot 1 (Literal (int 2))) ∷ []))) ∷ (ReturnValue (Slot 1)) ∷ []))
           ∷ method 0 0 ((types.Class 0) ∷ []) None (block [])
           ∷ []);
     })
@@ -42,7 +49,14 @@ LocalResetAtEachDeclaration =
     (record {
       classes = (one_class (types.Int ∷ []) 1 ∷ []);
       methods =
-          (method 0 0 ((types.Class 0) ∷ types.Int ∷ types.Int ∷ types.Int ∷ []) (Some types.Int) (block ((block ((SetSlot 1 (Literal (int 0))) ∷ (SetSlot 1 (Literal (int 0))) ∷ [])) ∷ (block ((SetSlot 2 (Literal (int 0))) ∷ (SetSlot 2 (Literal (int 0))) ∷ [])) ∷ (While (Binary operators.Less (Slot 1) (Literal (int 3))) (block ((block ((SetSlot 3 (Literal (int 0))) ∷ [])) ∷ (SetSlot 3 (Binary operators.Add (Slot 3) (Literal (int 1)))) ∷ (SetSlot 2 (Binary operators.Add (Slot 2) (Slot 3))) ∷ (SetSlot 1 (Binary operators.Add (Slot 1) (Literal (int 1)))) ∷ []))) ∷ (ReturnValue (Slot 2)) ∷ []))
+          (method 0 0 ((types.Class 0) ∷ types.Int ∷ types.Int ∷ types.Int ∷ []) (Some types.Int)
+          (block ((block ((SetSlot 1 (Literal (int 0))) ∷ (SetSlot 1 (Literal (int 0))) ∷ [])) ∷
+          (block ((SetSlot 2 (Literal (int 0))) ∷ (SetSlot 2 (Literal (int 0))) ∷ [])) ∷
+          (While (Binary operators.Less (Slot 1) (Literal (int 3)))
+          (block ((block ((SetSlot 3 (Literal (int 0))) ∷ [])) ∷
+          (SetSlot 3 (Binary operators.Add (Slot 3) (Literal (int 1)))) ∷
+          (SetSlot 2 (Binary operators.Add (Slot 2) (Slot 3))) ∷
+          (SetSlot 1 (Binary operators.Add (Slot 1) (Literal (int 1)))) ∷ []))) ∷ (ReturnValue (Slot 2)) ∷ []))
           ∷ method 0 0 ((types.Class 0) ∷ []) None (block [])
           ∷ []);
     })
@@ -70,7 +84,9 @@ ReturnOverReturn =
     (record {
       classes = (one_class (types.Int ∷ []) 1 ∷ []);
       methods =
-          (method 0 0 ((types.Class 0) ∷ []) (Some types.Int) (block ((Try (block ((ReturnValue (Literal (int 1))) ∷ [])) (block ((ReturnValue (Literal (int 2))) ∷ []))) ∷ []))
+          (method 0 0 ((types.Class 0) ∷ []) (Some types.Int)
+          (block ((Try (block ((ReturnValue (Literal (int 1))) ∷ []))
+          (block ((ReturnValue (Literal (int 2))) ∷ []))) ∷ []))
           ∷ method 0 0 ((types.Class 0) ∷ []) None (block [])
           ∷ []);
     })
@@ -95,7 +111,10 @@ ReturnOverBreak =
     (record {
       classes = (one_class (types.Int ∷ []) 1 ∷ []);
       methods =
-          (method 0 0 ((types.Class 0) ∷ []) (Some types.Int) (block ((While (Literal yes) (block ((Try (block ((Break 0) ∷ [])) (block ((ReturnValue (Literal (int 3))) ∷ []))) ∷ []))) ∷ (ReturnValue (Literal (int 4))) ∷ []))
+          (method 0 0 ((types.Class 0) ∷ []) (Some types.Int)
+          (block ((While (Literal yes)
+          (block ((Try (block ((Break 0) ∷ [])) (block ((ReturnValue (Literal (int 3))) ∷ []))) ∷ []))) ∷
+          (ReturnValue (Literal (int 4))) ∷ []))
           ∷ method 0 0 ((types.Class 0) ∷ []) None (block [])
           ∷ []);
     })
@@ -120,7 +139,10 @@ BreakOverReturn =
     (record {
       classes = (one_class (types.Int ∷ []) 1 ∷ []);
       methods =
-          (method 0 0 ((types.Class 0) ∷ []) (Some types.Int) (block ((While (Literal yes) (block ((Try (block ((ReturnValue (Literal (int 1))) ∷ [])) (block ((Break 0) ∷ []))) ∷ []))) ∷ (ReturnValue (Literal (int 5))) ∷ []))
+          (method 0 0 ((types.Class 0) ∷ []) (Some types.Int)
+          (block ((While (Literal yes)
+          (block ((Try (block ((ReturnValue (Literal (int 1))) ∷ [])) (block ((Break 0) ∷ []))) ∷ []))) ∷
+          (ReturnValue (Literal (int 5))) ∷ []))
           ∷ method 0 0 ((types.Class 0) ∷ []) None (block [])
           ∷ []);
     })
@@ -145,7 +167,9 @@ ThrowOverReturn =
     (record {
       classes = (one_class (types.Int ∷ []) 1 ∷ []);
       methods =
-          (method 0 0 ((types.Class 0) ∷ []) (Some types.Int) (block ((Try (block ((ReturnValue (Literal (int 1))) ∷ [])) (block ((SetField (Slot 0) 0 (Binary operators.Divide (Literal (int 1)) (Literal (int 0)))) ∷ []))) ∷ []))
+          (method 0 0 ((types.Class 0) ∷ []) (Some types.Int)
+          (block ((Try (block ((ReturnValue (Literal (int 1))) ∷ []))
+          (block ((SetField (Slot 0) 0 (Binary operators.Divide (Literal (int 1)) (Literal (int 0)))) ∷ []))) ∷ []))
           ∷ method 0 0 ((types.Class 0) ∷ []) None (block [])
           ∷ []);
     })
@@ -170,7 +194,11 @@ ThrowOverThrow =
     (record {
       classes = (one_class (types.Int ∷ []) 1 ∷ []);
       methods =
-          (method 0 0 ((types.Class 0) ∷ types.BooleanArray ∷ []) None (block ((Try (block ((block ((SetSlot 1 (Literal null)) ∷ (SetSlot 1 (MakeArray (Negate (Literal (int 1))))) ∷ [])) ∷ [])) (block ((SetField (Slot 0) 0 (Binary operators.Divide (Literal (int 1)) (Literal (int 0)))) ∷ []))) ∷ []))
+          (method 0 0 ((types.Class 0) ∷ types.BooleanArray ∷ []) None
+          (block ((Try
+          (block ((block ((SetSlot 1 (Literal null)) ∷ (SetSlot 1 (MakeArray (Negate (Literal (int 1))))) ∷ [])) ∷
+          [])) (block ((SetField (Slot 0) 0 (Binary operators.Divide (Literal (int 1)) (Literal (int 0)))) ∷ []))) ∷
+          []))
           ∷ method 0 0 ((types.Class 0) ∷ []) None (block [])
           ∷ []);
     })
@@ -195,7 +223,13 @@ ContinueOutOfATry =
     (record {
       classes = (one_class (types.Int ∷ []) 1 ∷ []);
       methods =
-          (method 0 0 ((types.Class 0) ∷ types.Int ∷ []) (Some types.Int) (block ((block ((SetSlot 1 (Literal (int 0))) ∷ (SetSlot 1 (Literal (int 0))) ∷ [])) ∷ (While (Binary operators.Less (Slot 1) (Literal (int 2))) (block ((SetSlot 1 (Binary operators.Add (Slot 1) (Literal (int 1)))) ∷ (Try (block ((Continue 0) ∷ [])) (block ((SetField (Slot 0) 0 (Binary operators.Add (Field (Slot 0) 0 0) (Slot 1))) ∷ []))) ∷ []))) ∷ (ReturnValue (Field (Slot 0) 0 0)) ∷ []))
+          (method 0 0 ((types.Class 0) ∷ types.Int ∷ []) (Some types.Int)
+          (block ((block ((SetSlot 1 (Literal (int 0))) ∷ (SetSlot 1 (Literal (int 0))) ∷ [])) ∷
+          (While (Binary operators.Less (Slot 1) (Literal (int 2)))
+          (block ((SetSlot 1 (Binary operators.Add (Slot 1) (Literal (int 1)))) ∷
+          (Try (block ((Continue 0) ∷ []))
+          (block ((SetField (Slot 0) 0 (Binary operators.Add (Field (Slot 0) 0 0) (Slot 1))) ∷ []))) ∷ []))) ∷
+          (ReturnValue (Field (Slot 0) 0 0)) ∷ []))
           ∷ method 0 0 ((types.Class 0) ∷ []) None (block [])
           ∷ []);
     })
@@ -227,7 +261,12 @@ OuterLoops =
     (record {
       classes = (one_class (types.Int ∷ []) 1 ∷ []);
       methods =
-          (method 0 0 ((types.Class 0) ∷ []) (Some types.Int) (block ((While (Literal yes) (block ((While (Literal yes) (block ((SetField (Slot 0) 0 (Binary operators.Add (Field (Slot 0) 0 0) (Literal (int 1)))) ∷ (If (Binary operators.Equal (Field (Slot 0) 0 0) (Literal (int 2))) (Break 1) (block [])) ∷ (Continue 1) ∷ []))) ∷ []))) ∷ (ReturnValue (Field (Slot 0) 0 0)) ∷ []))
+          (method 0 0 ((types.Class 0) ∷ []) (Some types.Int)
+          (block ((While (Literal yes)
+          (block ((While (Literal yes)
+          (block ((SetField (Slot 0) 0 (Binary operators.Add (Field (Slot 0) 0 0) (Literal (int 1)))) ∷
+          (If (Binary operators.Equal (Field (Slot 0) 0 0) (Literal (int 2))) (Break 1) (block [])) ∷ (Continue 1) ∷
+          []))) ∷ []))) ∷ (ReturnValue (Field (Slot 0) 0 0)) ∷ []))
           ∷ method 0 0 ((types.Class 0) ∷ []) None (block [])
           ∷ []);
     })
@@ -260,7 +299,13 @@ NestedFinallyBlocksInOrder =
     (record {
       classes = (one_class (types.Int ∷ []) 1 ∷ []);
       methods =
-          (method 0 0 ((types.Class 0) ∷ []) (Some types.Int) (block ((Try (block ((Try (block ((ReturnValue (Field (Slot 0) 0 0)) ∷ [])) (block ((SetField (Slot 0) 0 (Binary operators.Add (Binary operators.Multiply (Field (Slot 0) 0 0) (Literal (int 10))) (Literal (int 1)))) ∷ []))) ∷ [])) (block ((SetField (Slot 0) 0 (Binary operators.Add (Binary operators.Multiply (Field (Slot 0) 0 0) (Literal (int 10))) (Literal (int 2)))) ∷ []))) ∷ []))
+          (method 0 0 ((types.Class 0) ∷ []) (Some types.Int)
+          (block ((Try
+          (block ((Try (block ((ReturnValue (Field (Slot 0) 0 0)) ∷ []))
+          (block ((SetField (Slot 0) 0 (Binary operators.Add
+          (Binary operators.Multiply (Field (Slot 0) 0 0) (Literal (int 10))) (Literal (int 1)))) ∷ []))) ∷ []))
+          (block ((SetField (Slot 0) 0 (Binary operators.Add
+          (Binary operators.Multiply (Field (Slot 0) 0 0) (Literal (int 10))) (Literal (int 2)))) ∷ []))) ∷ []))
           ∷ method 0 0 ((types.Class 0) ∷ []) None (block [])
           ∷ []);
     })
@@ -299,7 +344,9 @@ ReturnEndsABlock =
     (record {
       classes = (one_class (types.Int ∷ []) 1 ∷ []);
       methods =
-          (method 0 0 ((types.Class 0) ∷ []) (Some types.Int) (block ((SetField (Slot 0) 0 (Literal (int 1))) ∷ (ReturnValue (Field (Slot 0) 0 0)) ∷ (SetField (Slot 0) 0 (Literal (int 2))) ∷ []))
+          (method 0 0 ((types.Class 0) ∷ []) (Some types.Int)
+          (block ((SetField (Slot 0) 0 (Literal (int 1))) ∷ (ReturnValue (Field (Slot 0) 0 0)) ∷
+          (SetField (Slot 0) 0 (Literal (int 2))) ∷ []))
           ∷ method 0 0 ((types.Class 0) ∷ []) None (block [])
           ∷ []);
     })
@@ -326,7 +373,9 @@ ReturnWithoutAValue =
     (record {
       classes = (one_class (types.Int ∷ []) 1 ∷ []);
       methods =
-          (method 0 0 ((types.Class 0) ∷ []) None (block ((If (Binary operators.Equal (Field (Slot 0) 0 0) (Literal (int 0))) ReturnNothing (block [])) ∷ (SetField (Slot 0) 0 (Literal (int 2))) ∷ []))
+          (method 0 0 ((types.Class 0) ∷ []) None
+          (block ((If (Binary operators.Equal (Field (Slot 0) 0 0) (Literal (int 0))) ReturnNothing (block [])) ∷
+          (SetField (Slot 0) 0 (Literal (int 2))) ∷ []))
           ∷ method 0 0 ((types.Class 0) ∷ []) None (block [])
           ∷ []);
     })
@@ -352,7 +401,9 @@ ElseBranch =
     (record {
       classes = (one_class (types.Int ∷ []) 1 ∷ []);
       methods =
-          (method 0 0 ((types.Class 0) ∷ []) (Some types.Int) (block ((If (Binary operators.Equal (Field (Slot 0) 0 0) (Literal (int 1))) (ReturnValue (Literal (int 1))) (ReturnValue (Literal (int 2)))) ∷ []))
+          (method 0 0 ((types.Class 0) ∷ []) (Some types.Int)
+          (block ((If (Binary operators.Equal (Field (Slot 0) 0 0) (Literal (int 1)))
+          (ReturnValue (Literal (int 1))) (ReturnValue (Literal (int 2)))) ∷ []))
           ∷ method 0 0 ((types.Class 0) ∷ []) None (block [])
           ∷ []);
     })

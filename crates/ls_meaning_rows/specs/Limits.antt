@@ -10,7 +10,8 @@ use Rattle.ls_meaning.specs.Store.{Store, Free, HeldBy, LockOf}
 use Rattle.ls_meaning.specs.Effect.{Waits, Does, effect, size_of}
 use Rattle.ls_meaning.specs.Threads.{Goes, Ended, Trapped, next}
 use Rattle.ls_meaning.specs.Runs.{start, asked}
-use Rattle.ls_meaning_rows.specs.Made.{yes, null, block, one_class, method, making, calling, program, done, gives, fails}
+use Rattle.ls_meaning_rows.specs.Made.{yes, null, block, one_class, method, making, calling, program, done, gives}
+use Rattle.ls_meaning_rows.specs.Made.{fails}
 
 -- a store of one lock, which thread 1 holds this many times
 abbrev pub held : ℕ → Store
@@ -49,11 +50,13 @@ file = record {
 
 -- a setup name that is read as null throws at the call; no run meets this
 abbrev pub NullName : Type 0
-NullName = next file (program (0 ∷ []) ((making 0 0 [] ∷ []) ∷ (calling 0 0 [] ∷ []) ∷ [])) 1 (done ∷ gives null ∷ []) ≡ Goes (actions.Trap 1 kinds.NullPointer) NoValue
+NullName = next file (program (0 ∷ []) ((making 0 0 [] ∷ []) ∷ (calling 0 0 [] ∷ []) ∷ [])) 1 (done ∷ gives null ∷ []) ≡
+    Goes (actions.Trap 1 kinds.NullPointer) NoValue
 
 -- a turn, an entry, a write of a name and an event are done, whatever the answer is
 abbrev pub EntryIsDone : Type 0
-EntryIsDone = next file (program (0 ∷ []) ((making 0 0 [] ∷ []) ∷ [])) 0 (fails kinds.Error ∷ gives yes ∷ fails kinds.Error ∷ fails kinds.Error ∷ []) ≡ Goes (actions.Return 1 None) NoValue
+EntryIsDone = next file (program (0 ∷ []) ((making 0 0 [] ∷ []) ∷ [])) 0
+    (fails kinds.Error ∷ gives yes ∷ fails kinds.Error ∷ fails kinds.Error ∷ []) ≡ Goes (actions.Return 1 None) NoValue
 
 -- a trapped thread has ended for whoever asks; a trapped setup doesn't let the others start
 abbrev pub TrappedIsNoEnd : Type 0
@@ -61,10 +64,12 @@ TrappedIsNoEnd = next file (program (0 ∷ []) ((calling 0 0 [] ∷ []) ∷ []))
 
 -- a thread that doesn't exist has ended; a thread hasn't started before the setup's end
 abbrev pub NoThread : Type 0
-NoThread = asked file (program (0 ∷ []) ((making 0 0 [] ∷ []) ∷ (calling 0 0 [] ∷ []) ∷ [])) (start (program (0 ∷ []) ((making 0 0 [] ∷ []) ∷ (calling 0 0 [] ∷ []) ∷ []))) 2 ≡ asks.Ended
+NoThread = asked file (program (0 ∷ []) ((making 0 0 [] ∷ []) ∷ (calling 0 0 [] ∷ []) ∷ []))
+    (start (program (0 ∷ []) ((making 0 0 [] ∷ []) ∷ (calling 0 0 [] ∷ []) ∷ []))) 2 ≡ asks.Ended
 
 abbrev pub NotYet : Type 0
-NotYet = asked file (program (0 ∷ []) ((making 0 0 [] ∷ []) ∷ (calling 0 0 [] ∷ []) ∷ [])) (start (program (0 ∷ []) ((making 0 0 [] ∷ []) ∷ (calling 0 0 [] ∷ []) ∷ []))) 1 ≡ asks.NotStarted
+NotYet = asked file (program (0 ∷ []) ((making 0 0 [] ∷ []) ∷ (calling 0 0 [] ∷ []) ∷ []))
+    (start (program (0 ∷ []) ((making 0 0 [] ∷ []) ∷ (calling 0 0 [] ∷ []) ∷ []))) 1 ≡ asks.NotStarted
 
 -- a setup without calls has ended at the start
 abbrev pub EmptySetup : Type 0

@@ -1,13 +1,18 @@
 -- Runs of list classes. Each text is above its checked file. Then come its thread program, schedule and trace.
 use Rattle.std.specs.Prelude.{◌≡◌, [], ◌∷◌, ◌++◌, replicate, None, Some}
 use Rattle.ls_events.specs.declared.value.ValueType.TheVariants as types
-use Rattle.ls_events.specs.declared.action.Action.TheVariants.{ReadField, WriteField, ReadItem, WriteItem, ReadName, WriteName, New, NewLock, NewMarkable, NewArray, Lock, Unlock, TryLock, IsHeld, ReadPair, SetPair, SwapPair, AttemptMark, Turn, Enter, Return, Trap}
+use Rattle.ls_events.specs.declared.action.Action.TheVariants.{ReadField, WriteField, ReadItem, WriteItem, ReadName}
+use Rattle.ls_events.specs.declared.action.Action.TheVariants.{WriteName, New, NewLock, NewMarkable, NewArray, Lock}
+use Rattle.ls_events.specs.declared.action.Action.TheVariants.{Unlock, TryLock, IsHeld, ReadPair, SetPair, SwapPair}
+use Rattle.ls_events.specs.declared.action.Action.TheVariants.{AttemptMark, Turn, Enter, Return, Trap}
 use Rattle.ls_events.specs.declared.action.Action.TheVariants as actions
 use Rattle.ls_checked.specs.declared.tree.Operator.TheVariants as operators
 use Rattle.ls_checked.specs.declared.tree.Called.TheVariants as called
-use Rattle.ls_checked.specs.CheckedTree.{Literal, Slot, Field, Not, Binary, And, Call, MakeObject, MakeLock, End, More, SetSlot, SetField, Evaluate, If, While, ReturnValue, Try}
+use Rattle.ls_checked.specs.CheckedTree.{Literal, Slot, Field, Not, Binary, And, Call, MakeObject, MakeLock, End, More}
+use Rattle.ls_checked.specs.CheckedTree.{SetSlot, SetField, Evaluate, If, While, ReturnValue, Try}
 use Rattle.ls_meaning.specs.Runs.{source_trace}
-use Rattle.ls_meaning_rows.specs.Made.{int, minus, yes, no, null, at, block, one_class, method, making, calling, program, line, done, gives}
+use Rattle.ls_meaning_rows.specs.Made.{int, minus, yes, no, null, at, block, one_class, method, making, calling}
+use Rattle.ls_meaning_rows.specs.Made.{program, line, done, gives}
 
 -- class Node { int key; Node next; boolean marked; Lock lock = new ReentrantLock(); Node(int k) { key = k; }
 -- void lock() { lock.lock(); } void unlock() { lock.unlock(); } }
@@ -39,19 +44,61 @@ abbrev pub LazyList : Type 0
 LazyList =
     source_trace
     (record {
-      classes = (one_class (types.Int ∷ (types.Class 0) ∷ types.Boolean ∷ types.Lock ∷ []) 0 ∷ one_class ((types.Class 0) ∷ []) 3 ∷ []);
+      classes = (one_class (types.Int ∷ (types.Class 0) ∷ types.Boolean ∷ types.Lock ∷ []) 0 ∷
+          one_class ((types.Class 0) ∷ []) 3 ∷ []);
       methods =
-          (method 0 1 ((types.Class 0) ∷ types.Int ∷ []) None (block ((SetField (Slot 0) 3 MakeLock) ∷ (SetField (Slot 0) 0 (Slot 1)) ∷ []))
-          ∷ method 0 0 ((types.Class 0) ∷ []) None (block ((Evaluate (Call (Field (Slot 0) 0 3) called.LockIt End)) ∷ []))
-          ∷ method 0 0 ((types.Class 0) ∷ []) None (block ((Evaluate (Call (Field (Slot 0) 0 3) called.UnlockIt End)) ∷ []))
-          ∷ method 1 0 ((types.Class 1) ∷ []) None (block ((SetField (Slot 0) 0 (MakeObject 0 (More (Literal (minus 2147483648)) End))) ∷ (SetField (Field (Slot 0) 1 0) 1 (MakeObject 0 (More (Literal (int 2147483647)) End))) ∷ []))
-          ∷ method 1 2 ((types.Class 1) ∷ (types.Class 0) ∷ (types.Class 0) ∷ []) (Some types.Boolean) (block ((ReturnValue (And (And (Not (Field (Slot 1) 0 2)) (Not (Field (Slot 2) 0 2))) (Binary operators.Equal (Field (Slot 1) 0 1) (Slot 2)))) ∷ []))
-          ∷ method 1 1 ((types.Class 1) ∷ types.Int ∷ (types.Class 0) ∷ (types.Class 0) ∷ (types.Class 0) ∷ []) (Some types.Boolean) (block ((While (Literal yes) (block ((block ((SetSlot 2 (Literal null)) ∷ (SetSlot 2 (Field (Slot 0) 1 0)) ∷ (SetSlot 3 (Literal null)) ∷ (SetSlot 3 (Field (Slot 2) 0 1)) ∷ [])) ∷ (While (Binary operators.Less (Field (Slot 3) 0 0) (Slot 1)) (block ((SetSlot 2 (Slot 3)) ∷ (SetSlot 3 (Field (Slot 3) 0 1)) ∷ []))) ∷ (Evaluate (Call (Slot 2) (called.Method 1) End)) ∷ (Try (block ((Evaluate (Call (Slot 3) (called.Method 1) End)) ∷ (Try (block ((If (Call (Slot 0) (called.Method 4) (More (Slot 2) (More (Slot 3) End))) (block ((If (Binary operators.Equal (Field (Slot 3) 0 0) (Slot 1)) (ReturnValue (Literal no)) (block [])) ∷ (block ((SetSlot 4 (Literal null)) ∷ (SetSlot 4 (MakeObject 0 (More (Slot 1) End))) ∷ [])) ∷ (SetField (Slot 4) 1 (Slot 3)) ∷ (SetField (Slot 2) 1 (Slot 4)) ∷ (ReturnValue (Literal yes)) ∷ [])) (block [])) ∷ [])) (block ((Evaluate (Call (Slot 3) (called.Method 2) End)) ∷ []))) ∷ [])) (block ((Evaluate (Call (Slot 2) (called.Method 2) End)) ∷ []))) ∷ []))) ∷ []))
-          ∷ method 1 1 ((types.Class 1) ∷ types.Int ∷ (types.Class 0) ∷ (types.Class 0) ∷ []) (Some types.Boolean) (block ((While (Literal yes) (block ((block ((SetSlot 2 (Literal null)) ∷ (SetSlot 2 (Field (Slot 0) 1 0)) ∷ (SetSlot 3 (Literal null)) ∷ (SetSlot 3 (Field (Slot 2) 0 1)) ∷ [])) ∷ (While (Binary operators.Less (Field (Slot 3) 0 0) (Slot 1)) (block ((SetSlot 2 (Slot 3)) ∷ (SetSlot 3 (Field (Slot 3) 0 1)) ∷ []))) ∷ (Evaluate (Call (Slot 2) (called.Method 1) End)) ∷ (Try (block ((Evaluate (Call (Slot 3) (called.Method 1) End)) ∷ (Try (block ((If (Call (Slot 0) (called.Method 4) (More (Slot 2) (More (Slot 3) End))) (block ((If (Binary operators.NotEqual (Field (Slot 3) 0 0) (Slot 1)) (ReturnValue (Literal no)) (block [])) ∷ (SetField (Slot 3) 2 (Literal yes)) ∷ (SetField (Slot 2) 1 (Field (Slot 3) 0 1)) ∷ (ReturnValue (Literal yes)) ∷ [])) (block [])) ∷ [])) (block ((Evaluate (Call (Slot 3) (called.Method 2) End)) ∷ []))) ∷ [])) (block ((Evaluate (Call (Slot 2) (called.Method 2) End)) ∷ []))) ∷ []))) ∷ []))
-          ∷ method 1 1 ((types.Class 1) ∷ types.Int ∷ (types.Class 0) ∷ []) (Some types.Boolean) (block ((block ((SetSlot 2 (Literal null)) ∷ (SetSlot 2 (Field (Slot 0) 1 0)) ∷ [])) ∷ (While (Binary operators.Less (Field (Slot 2) 0 0) (Slot 1)) (SetSlot 2 (Field (Slot 2) 0 1))) ∷ (ReturnValue (And (Binary operators.Equal (Field (Slot 2) 0 0) (Slot 1)) (Not (Field (Slot 2) 0 2)))) ∷ []))
+          (method 0 1 ((types.Class 0) ∷ types.Int ∷ []) None
+          (block ((SetField (Slot 0) 3 MakeLock) ∷ (SetField (Slot 0) 0 (Slot 1)) ∷ []))
+          ∷ method 0 0 ((types.Class 0) ∷ []) None (block ((Evaluate (Call (Field (Slot 0) 0 3) called.LockIt End)) ∷
+          []))
+          ∷ method 0 0 ((types.Class 0) ∷ []) None (block ((Evaluate (Call (Field (Slot 0) 0 3) called.UnlockIt End)) ∷
+          []))
+          ∷ method 1 0 ((types.Class 1) ∷ []) None
+          (block ((SetField (Slot 0) 0 (MakeObject 0 (More (Literal (minus 2147483648)) End))) ∷
+          (SetField (Field (Slot 0) 1 0) 1 (MakeObject 0 (More (Literal (int 2147483647)) End))) ∷ []))
+          ∷ method 1 2 ((types.Class 1) ∷ (types.Class 0) ∷ (types.Class 0) ∷ []) (Some types.Boolean)
+          (block ((ReturnValue (And (And (Not (Field (Slot 1) 0 2)) (Not (Field (Slot 2) 0 2)))
+          (Binary operators.Equal (Field (Slot 1) 0 1) (Slot 2)))) ∷ []))
+          ∷ method 1 1 ((types.Class 1) ∷ types.Int ∷ (types.Class 0) ∷ (types.Class 0) ∷ (types.Class 0) ∷ [])
+          (Some types.Boolean)
+          (block ((While (Literal yes)
+          (block ((block ((SetSlot 2 (Literal null)) ∷ (SetSlot 2 (Field (Slot 0) 1 0)) ∷
+          (SetSlot 3 (Literal null)) ∷ (SetSlot 3 (Field (Slot 2) 0 1)) ∷ [])) ∷
+          (While (Binary operators.Less (Field (Slot 3) 0 0) (Slot 1))
+          (block ((SetSlot 2 (Slot 3)) ∷ (SetSlot 3 (Field (Slot 3) 0 1)) ∷ []))) ∷
+          (Evaluate (Call (Slot 2) (called.Method 1) End)) ∷
+          (Try (block ((Evaluate (Call (Slot 3) (called.Method 1) End)) ∷
+          (Try (block
+          ((If (Call (Slot 0) (called.Method 4) (More (Slot 2) (More (Slot 3) End)))
+          (block ((If (Binary operators.Equal (Field (Slot 3) 0 0) (Slot 1)) (ReturnValue (Literal no)) (block []))
+          ∷ (block ((SetSlot 4 (Literal null)) ∷ (SetSlot 4 (MakeObject 0 (More (Slot 1) End))) ∷ [])) ∷
+          (SetField (Slot 4) 1 (Slot 3)) ∷ (SetField (Slot 2) 1 (Slot 4)) ∷ (ReturnValue (Literal yes)) ∷ []))
+          (block [])) ∷ [])) (block ((Evaluate (Call (Slot 3) (called.Method 2) End)) ∷ []))) ∷ []))
+          (block ((Evaluate (Call (Slot 2) (called.Method 2) End)) ∷ []))) ∷ []))) ∷ []))
+          ∷ method 1 1 ((types.Class 1) ∷ types.Int ∷ (types.Class 0) ∷ (types.Class 0) ∷ []) (Some types.Boolean)
+          (block ((While (Literal yes)
+          (block ((block ((SetSlot 2 (Literal null)) ∷ (SetSlot 2 (Field (Slot 0) 1 0)) ∷
+          (SetSlot 3 (Literal null)) ∷ (SetSlot 3 (Field (Slot 2) 0 1)) ∷ [])) ∷
+          (While (Binary operators.Less (Field (Slot 3) 0 0) (Slot 1))
+          (block ((SetSlot 2 (Slot 3)) ∷ (SetSlot 3 (Field (Slot 3) 0 1)) ∷ []))) ∷
+          (Evaluate (Call (Slot 2) (called.Method 1) End)) ∷
+          (Try (block ((Evaluate (Call (Slot 3) (called.Method 1) End)) ∷
+          (Try (block
+          ((If (Call (Slot 0) (called.Method 4) (More (Slot 2) (More (Slot 3) End)))
+          (block ((If (Binary operators.NotEqual (Field (Slot 3) 0 0) (Slot 1)) (ReturnValue (Literal no))
+          (block [])) ∷ (SetField (Slot 3) 2 (Literal yes)) ∷ (SetField (Slot 2) 1 (Field (Slot 3) 0 1)) ∷
+          (ReturnValue (Literal yes)) ∷ [])) (block [])) ∷ []))
+          (block ((Evaluate (Call (Slot 3) (called.Method 2) End)) ∷ []))) ∷ []))
+          (block ((Evaluate (Call (Slot 2) (called.Method 2) End)) ∷ []))) ∷ []))) ∷ []))
+          ∷ method 1 1 ((types.Class 1) ∷ types.Int ∷ (types.Class 0) ∷ []) (Some types.Boolean)
+          (block ((block ((SetSlot 2 (Literal null)) ∷ (SetSlot 2 (Field (Slot 0) 1 0)) ∷ [])) ∷
+          (While (Binary operators.Less (Field (Slot 2) 0 0) (Slot 1)) (SetSlot 2 (Field (Slot 2) 0 1))) ∷
+          (ReturnValue (And (Binary operators.Equal (Field (Slot 2) 0 0) (Slot 1)) (Not (Field (Slot 2) 0 2)))) ∷
+          []))
           ∷ []);
     })
-    (program (1 ∷ []) ((making 0 1 [] ∷ calling 0 5 ((int 3) ∷ []) ∷ []) ∷ (calling 0 7 ((int 3) ∷ []) ∷ []) ∷ (calling 0 6 ((int 3) ∷ []) ∷ []) ∷ []))
+    (program (1 ∷ []) ((making 0 1 [] ∷ calling 0 5 ((int 3) ∷ []) ∷ []) ∷ (calling 0 7 ((int 3) ∷ []) ∷ []) ∷
+    (calling 0 6 ((int 3) ∷ []) ∷ []) ∷ []))
     (replicate 999 0 ++ replicate 8 1 ++ replicate 999 2 ++ replicate 3 1)
     ≡
     (line 0 (actions.Call 1) done

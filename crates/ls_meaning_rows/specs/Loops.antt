@@ -3,7 +3,8 @@
 use Rattle.std.specs.Prelude.{◌≡◌, [], ◌∷◌, ◌++◌, replicate, None}
 use Rattle.ls_events.specs.declared.value.ValueType.TheVariants as types
 use Rattle.ls_events.specs.declared.kind.Kind.TheVariants as kinds
-use Rattle.ls_events.specs.declared.action.Action.TheVariants.{WriteField, ReadName, WriteName, New, Turn, Enter, Return, Trap}
+use Rattle.ls_events.specs.declared.action.Action.TheVariants.{WriteField, ReadName, WriteName, New, Turn, Enter}
+use Rattle.ls_events.specs.declared.action.Action.TheVariants.{Return, Trap}
 use Rattle.ls_events.specs.declared.action.Action.TheVariants as actions
 use Rattle.ls_checked.specs.declared.tree.Operator.TheVariants as operators
 use Rattle.ls_checked.specs.CheckedTree.{Literal, Slot, Binary, SetSlot, SetField, If, While, Break, Continue}
@@ -17,7 +18,11 @@ ExceptionOutOfALoop =
     (record {
       classes = (one_class (types.Int ∷ []) 1 ∷ []);
       methods =
-          (method 0 0 ((types.Class 0) ∷ types.Int ∷ []) None (block ((block ((SetSlot 1 (Literal (int 0))) ∷ (SetSlot 1 (Literal (int 0))) ∷ [])) ∷ (While (Binary operators.Less (Slot 1) (Literal (int 2))) (block ((SetSlot 1 (Binary operators.Add (Slot 1) (Literal (int 1)))) ∷ (SetField (Slot 0) 0 (Slot 1)) ∷ (SetField (Slot 0) 0 (Binary operators.Divide (Literal (int 1)) (Literal (int 0)))) ∷ []))) ∷ []))
+          (method 0 0 ((types.Class 0) ∷ types.Int ∷ []) None
+          (block ((block ((SetSlot 1 (Literal (int 0))) ∷ (SetSlot 1 (Literal (int 0))) ∷ [])) ∷
+          (While (Binary operators.Less (Slot 1) (Literal (int 2)))
+          (block ((SetSlot 1 (Binary operators.Add (Slot 1) (Literal (int 1)))) ∷ (SetField (Slot 0) 0 (Slot 1)) ∷
+          (SetField (Slot 0) 0 (Binary operators.Divide (Literal (int 1)) (Literal (int 0)))) ∷ []))) ∷ []))
           ∷ method 0 0 ((types.Class 0) ∷ []) None (block [])
           ∷ []);
     })
@@ -43,7 +48,12 @@ ContinueSkipsTheRest =
     (record {
       classes = (one_class (types.Int ∷ []) 1 ∷ []);
       methods =
-          (method 0 0 ((types.Class 0) ∷ types.Int ∷ []) None (block ((block ((SetSlot 1 (Literal (int 0))) ∷ (SetSlot 1 (Literal (int 0))) ∷ [])) ∷ (While (Binary operators.Less (Slot 1) (Literal (int 2))) (block ((SetSlot 1 (Binary operators.Add (Slot 1) (Literal (int 1)))) ∷ (If (Binary operators.Equal (Slot 1) (Literal (int 1))) (Continue 0) (block [])) ∷ (SetField (Slot 0) 0 (Slot 1)) ∷ []))) ∷ []))
+          (method 0 0 ((types.Class 0) ∷ types.Int ∷ []) None
+          (block ((block ((SetSlot 1 (Literal (int 0))) ∷ (SetSlot 1 (Literal (int 0))) ∷ [])) ∷
+          (While (Binary operators.Less (Slot 1) (Literal (int 2)))
+          (block ((SetSlot 1 (Binary operators.Add (Slot 1) (Literal (int 1)))) ∷
+          (If (Binary operators.Equal (Slot 1) (Literal (int 1))) (Continue 0) (block [])) ∷
+          (SetField (Slot 0) 0 (Slot 1)) ∷ []))) ∷ []))
           ∷ method 0 0 ((types.Class 0) ∷ []) None (block [])
           ∷ []);
     })
@@ -71,7 +81,13 @@ ContinueOutOfAnInnerBlock =
     (record {
       classes = (one_class (types.Int ∷ []) 1 ∷ []);
       methods =
-          (method 0 0 ((types.Class 0) ∷ types.Int ∷ []) None (block ((block ((SetSlot 1 (Literal (int 0))) ∷ (SetSlot 1 (Literal (int 0))) ∷ [])) ∷ (While (Binary operators.Less (Slot 1) (Literal (int 2))) (block ((SetSlot 1 (Binary operators.Add (Slot 1) (Literal (int 1)))) ∷ (block ((If (Binary operators.Equal (Slot 1) (Literal (int 1))) (Continue 0) (block [])) ∷ (SetField (Slot 0) 0 (Slot 1)) ∷ [])) ∷ (SetField (Slot 0) 0 (Binary operators.Add (Literal (int 7)) (Slot 1))) ∷ []))) ∷ []))
+          (method 0 0 ((types.Class 0) ∷ types.Int ∷ []) None
+          (block ((block ((SetSlot 1 (Literal (int 0))) ∷ (SetSlot 1 (Literal (int 0))) ∷ [])) ∷
+          (While (Binary operators.Less (Slot 1) (Literal (int 2)))
+          (block ((SetSlot 1 (Binary operators.Add (Slot 1) (Literal (int 1)))) ∷
+          (block ((If (Binary operators.Equal (Slot 1) (Literal (int 1))) (Continue 0) (block [])) ∷
+          (SetField (Slot 0) 0 (Slot 1)) ∷ [])) ∷ (SetField (Slot 0) 0
+          (Binary operators.Add (Literal (int 7)) (Slot 1))) ∷ []))) ∷ []))
           ∷ method 0 0 ((types.Class 0) ∷ []) None (block [])
           ∷ []);
     })
@@ -100,7 +116,14 @@ BreakOutOfAnInnerBlock =
     (record {
       classes = (one_class (types.Int ∷ []) 1 ∷ []);
       methods =
-          (method 0 0 ((types.Class 0) ∷ types.Int ∷ []) None (block ((block ((SetSlot 1 (Literal (int 0))) ∷ (SetSlot 1 (Literal (int 0))) ∷ [])) ∷ (While (Binary operators.Less (Slot 1) (Literal (int 2))) (block ((SetSlot 1 (Binary operators.Add (Slot 1) (Literal (int 1)))) ∷ (block ((If (Binary operators.Equal (Slot 1) (Literal (int 1))) (Break 0) (block [])) ∷ (SetField (Slot 0) 0 (Slot 1)) ∷ [])) ∷ (SetField (Slot 0) 0 (Binary operators.Add (Literal (int 7)) (Slot 1))) ∷ []))) ∷ (SetField (Slot 0) 0 (Literal (int 5))) ∷ []))
+          (method 0 0 ((types.Class 0) ∷ types.Int ∷ []) None
+          (block ((block ((SetSlot 1 (Literal (int 0))) ∷ (SetSlot 1 (Literal (int 0))) ∷ [])) ∷
+          (While (Binary operators.Less (Slot 1) (Literal (int 2)))
+          (block ((SetSlot 1 (Binary operators.Add (Slot 1) (Literal (int 1)))) ∷
+          (block ((If (Binary operators.Equal (Slot 1) (Literal (int 1))) (Break 0) (block [])) ∷
+          (SetField (Slot 0) 0 (Slot 1)) ∷ [])) ∷ (SetField (Slot 0) 0
+          (Binary operators.Add (Literal (int 7)) (Slot 1))) ∷ []))) ∷ (SetField (Slot 0) 0 (Literal (int 5))) ∷
+          []))
           ∷ method 0 0 ((types.Class 0) ∷ []) None (block [])
           ∷ []);
     })
@@ -126,7 +149,13 @@ ContinueOfTheOuterLoop =
     (record {
       classes = (one_class (types.Int ∷ []) 1 ∷ []);
       methods =
-          (method 0 0 ((types.Class 0) ∷ types.Int ∷ []) None (block ((block ((SetSlot 1 (Literal (int 0))) ∷ (SetSlot 1 (Literal (int 0))) ∷ [])) ∷ (While (Binary operators.Less (Slot 1) (Literal (int 2))) (block ((SetSlot 1 (Binary operators.Add (Slot 1) (Literal (int 1)))) ∷ (While (Binary operators.Less (Slot 1) (Literal (int 3))) (block ((SetField (Slot 0) 0 (Slot 1)) ∷ (Continue 1) ∷ []))) ∷ (SetField (Slot 0) 0 (Literal (int 7))) ∷ []))) ∷ []))
+          (method 0 0 ((types.Class 0) ∷ types.Int ∷ []) None
+          (block ((block ((SetSlot 1 (Literal (int 0))) ∷ (SetSlot 1 (Literal (int 0))) ∷ [])) ∷
+          (While (Binary operators.Less (Slot 1) (Literal (int 2)))
+          (block ((SetSlot 1 (Binary operators.Add (Slot 1) (Literal (int 1)))) ∷
+          (While (Binary operators.Less (Slot 1) (Literal (int 3)))
+          (block ((SetField (Slot 0) 0 (Slot 1)) ∷ (Continue 1) ∷ []))) ∷ (SetField (Slot 0) 0 (Literal (int 7))) ∷
+          []))) ∷ []))
           ∷ method 0 0 ((types.Class 0) ∷ []) None (block [])
           ∷ []);
     })

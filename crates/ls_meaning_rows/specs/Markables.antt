@@ -4,13 +4,18 @@ use Rattle.std.specs.Prelude.{◌≡◌, pos, true, false, [], ◌∷◌, ◌++�
 use Rattle.ls_events.specs.declared.value.Value.TheVariants as values
 use Rattle.ls_events.specs.declared.value.ValueType.TheVariants as types
 use Rattle.ls_events.specs.declared.kind.Kind.TheVariants as kinds
-use Rattle.ls_events.specs.declared.action.Action.TheVariants.{ReadField, WriteField, ReadItem, WriteItem, ReadName, WriteName, New, NewLock, NewMarkable, NewArray, Lock, Unlock, TryLock, IsHeld, ReadPair, SetPair, SwapPair, AttemptMark, Turn, Enter, Return, Trap}
+use Rattle.ls_events.specs.declared.action.Action.TheVariants.{ReadField, WriteField, ReadItem, WriteItem, ReadName}
+use Rattle.ls_events.specs.declared.action.Action.TheVariants.{WriteName, New, NewLock, NewMarkable, NewArray, Lock}
+use Rattle.ls_events.specs.declared.action.Action.TheVariants.{Unlock, TryLock, IsHeld, ReadPair, SetPair, SwapPair}
+use Rattle.ls_events.specs.declared.action.Action.TheVariants.{AttemptMark, Turn, Enter, Return, Trap}
 use Rattle.ls_events.specs.declared.action.Action.TheVariants as actions
 use Rattle.ls_checked.specs.declared.tree.Operator.TheVariants as operators
 use Rattle.ls_checked.specs.declared.tree.Called.TheVariants as called
-use Rattle.ls_checked.specs.CheckedTree.{Literal, Slot, Field, Item, Not, Binary, And, Or, Call, MakeMarkable, MakeArray, End, More, SetSlot, SetField, Evaluate, ReturnValue}
+use Rattle.ls_checked.specs.CheckedTree.{Literal, Slot, Field, Item, Not, Binary, And, Or, Call, MakeMarkable}
+use Rattle.ls_checked.specs.CheckedTree.{MakeArray, End, More, SetSlot, SetField, Evaluate, ReturnValue}
 use Rattle.ls_meaning.specs.Runs.{source_trace}
-use Rattle.ls_meaning_rows.specs.Made.{int, yes, no, null, at, block, one_class, method, making, calling, program, line, done, gives}
+use Rattle.ls_meaning_rows.specs.Made.{int, yes, no, null, at, block, one_class, method, making, calling, program, line}
+use Rattle.ls_meaning_rows.specs.Made.{done, gives}
 
 -- class C { int v; AtomicMarkableReference<C> r; ..
 --   C s() { v = v + 1; return this; } boolean b() { v = v + 1; return true; } },
@@ -21,9 +26,16 @@ ArgumentsOfTheMaking =
     (record {
       classes = (one_class (types.Int ∷ (types.Markable 0) ∷ []) 3 ∷ []);
       methods =
-          (method 0 0 ((types.Class 0) ∷ []) None (block ((SetField (Slot 0) 1 (MakeMarkable 0 (More (Call (Slot 0) (called.Method 1) End) (More (Call (Slot 0) (called.Method 2) End) End)))) ∷ []))
-          ∷ method 0 0 ((types.Class 0) ∷ []) (Some (types.Class 0)) (block ((SetField (Slot 0) 0 (Binary operators.Add (Field (Slot 0) 0 0) (Literal (int 1)))) ∷ (ReturnValue (Slot 0)) ∷ []))
-          ∷ method 0 0 ((types.Class 0) ∷ []) (Some types.Boolean) (block ((SetField (Slot 0) 0 (Binary operators.Add (Field (Slot 0) 0 0) (Literal (int 1)))) ∷ (ReturnValue (Literal yes)) ∷ []))
+          (method 0 0 ((types.Class 0) ∷ []) None
+          (block ((SetField (Slot 0) 1
+          (MakeMarkable 0 (More (Call (Slot 0) (called.Method 1) End)
+          (More (Call (Slot 0) (called.Method 2) End) End)))) ∷ []))
+          ∷ method 0 0 ((types.Class 0) ∷ []) (Some (types.Class 0))
+          (block ((SetField (Slot 0) 0 (Binary operators.Add (Field (Slot 0) 0 0) (Literal (int 1)))) ∷
+          (ReturnValue (Slot 0)) ∷ []))
+          ∷ method 0 0 ((types.Class 0) ∷ []) (Some types.Boolean)
+          (block ((SetField (Slot 0) 0 (Binary operators.Add (Field (Slot 0) 0 0) (Literal (int 1)))) ∷
+          (ReturnValue (Literal yes)) ∷ []))
           ∷ method 0 0 ((types.Class 0) ∷ []) None (block [])
           ∷ []);
     })
@@ -56,9 +68,16 @@ ArgumentsOfSet =
     (record {
       classes = (one_class (types.Int ∷ (types.Markable 0) ∷ []) 3 ∷ []);
       methods =
-          (method 0 0 ((types.Class 0) ∷ []) None (block ((SetField (Slot 0) 1 (MakeMarkable 0 (More (Literal null) (More (Literal no) End)))) ∷ (Evaluate (Call (Field (Slot 0) 0 1) called.SetBoth (More (Call (Slot 0) (called.Method 1) End) (More (Call (Slot 0) (called.Method 2) End) End)))) ∷ []))
-          ∷ method 0 0 ((types.Class 0) ∷ []) (Some (types.Class 0)) (block ((SetField (Slot 0) 0 (Binary operators.Add (Field (Slot 0) 0 0) (Literal (int 1)))) ∷ (ReturnValue (Slot 0)) ∷ []))
-          ∷ method 0 0 ((types.Class 0) ∷ []) (Some types.Boolean) (block ((SetField (Slot 0) 0 (Binary operators.Add (Field (Slot 0) 0 0) (Literal (int 1)))) ∷ (ReturnValue (Literal yes)) ∷ []))
+          (method 0 0 ((types.Class 0) ∷ []) None
+          (block ((SetField (Slot 0) 1 (MakeMarkable 0 (More (Literal null) (More (Literal no) End)))) ∷
+          (Evaluate (Call (Field (Slot 0) 0 1) called.SetBoth
+          (More (Call (Slot 0) (called.Method 1) End) (More (Call (Slot 0) (called.Method 2) End) End)))) ∷ []))
+          ∷ method 0 0 ((types.Class 0) ∷ []) (Some (types.Class 0))
+          (block ((SetField (Slot 0) 0 (Binary operators.Add (Field (Slot 0) 0 0) (Literal (int 1)))) ∷
+          (ReturnValue (Slot 0)) ∷ []))
+          ∷ method 0 0 ((types.Class 0) ∷ []) (Some types.Boolean)
+          (block ((SetField (Slot 0) 0 (Binary operators.Add (Field (Slot 0) 0 0) (Literal (int 1)))) ∷
+          (ReturnValue (Literal yes)) ∷ []))
           ∷ method 0 0 ((types.Class 0) ∷ []) None (block [])
           ∷ []);
     })
@@ -93,9 +112,16 @@ ArgumentsOfAttemptMark =
     (record {
       classes = (one_class (types.Int ∷ (types.Markable 0) ∷ []) 3 ∷ []);
       methods =
-          (method 0 0 ((types.Class 0) ∷ []) (Some types.Boolean) (block ((SetField (Slot 0) 1 (MakeMarkable 0 (More (Slot 0) (More (Literal no) End)))) ∷ (ReturnValue (Call (Field (Slot 0) 0 1) called.Attempt (More (Call (Slot 0) (called.Method 1) End) (More (Call (Slot 0) (called.Method 2) End) End)))) ∷ []))
-          ∷ method 0 0 ((types.Class 0) ∷ []) (Some (types.Class 0)) (block ((SetField (Slot 0) 0 (Binary operators.Add (Field (Slot 0) 0 0) (Literal (int 1)))) ∷ (ReturnValue (Slot 0)) ∷ []))
-          ∷ method 0 0 ((types.Class 0) ∷ []) (Some types.Boolean) (block ((SetField (Slot 0) 0 (Binary operators.Add (Field (Slot 0) 0 0) (Literal (int 1)))) ∷ (ReturnValue (Literal yes)) ∷ []))
+          (method 0 0 ((types.Class 0) ∷ []) (Some types.Boolean)
+          (block ((SetField (Slot 0) 1 (MakeMarkable 0 (More (Slot 0) (More (Literal no) End)))) ∷
+          (ReturnValue (Call (Field (Slot 0) 0 1) called.Attempt
+          (More (Call (Slot 0) (called.Method 1) End) (More (Call (Slot 0) (called.Method 2) End) End)))) ∷ []))
+          ∷ method 0 0 ((types.Class 0) ∷ []) (Some (types.Class 0))
+          (block ((SetField (Slot 0) 0 (Binary operators.Add (Field (Slot 0) 0 0) (Literal (int 1)))) ∷
+          (ReturnValue (Slot 0)) ∷ []))
+          ∷ method 0 0 ((types.Class 0) ∷ []) (Some types.Boolean)
+          (block ((SetField (Slot 0) 0 (Binary operators.Add (Field (Slot 0) 0 0) (Literal (int 1)))) ∷
+          (ReturnValue (Literal yes)) ∷ []))
           ∷ method 0 0 ((types.Class 0) ∷ []) None (block [])
           ∷ []);
     })
@@ -130,9 +156,17 @@ ArgumentsOfCompareAndSet =
     (record {
       classes = (one_class (types.Int ∷ (types.Markable 0) ∷ []) 3 ∷ []);
       methods =
-          (method 0 0 ((types.Class 0) ∷ []) (Some types.Boolean) (block ((SetField (Slot 0) 1 (MakeMarkable 0 (More (Slot 0) (More (Literal yes) End)))) ∷ (ReturnValue (Call (Field (Slot 0) 0 1) called.CompareAndSet (More (Call (Slot 0) (called.Method 1) End) (More (Call (Slot 0) (called.Method 1) End) (More (Call (Slot 0) (called.Method 2) End) (More (Call (Slot 0) (called.Method 2) End) End)))))) ∷ []))
-          ∷ method 0 0 ((types.Class 0) ∷ []) (Some (types.Class 0)) (block ((SetField (Slot 0) 0 (Binary operators.Add (Field (Slot 0) 0 0) (Literal (int 1)))) ∷ (ReturnValue (Slot 0)) ∷ []))
-          ∷ method 0 0 ((types.Class 0) ∷ []) (Some types.Boolean) (block ((SetField (Slot 0) 0 (Binary operators.Add (Field (Slot 0) 0 0) (Literal (int 1)))) ∷ (ReturnValue (Literal yes)) ∷ []))
+          (method 0 0 ((types.Class 0) ∷ []) (Some types.Boolean)
+          (block ((SetField (Slot 0) 1 (MakeMarkable 0 (More (Slot 0) (More (Literal yes) End)))) ∷
+          (ReturnValue (Call (Field (Slot 0) 0 1) called.CompareAndSet
+          (More (Call (Slot 0) (called.Method 1) End) (More (Call (Slot 0) (called.Method 1) End)
+          (More (Call (Slot 0) (called.Method 2) End) (More (Call (Slot 0) (called.Method 2) End) End)))))) ∷ []))
+          ∷ method 0 0 ((types.Class 0) ∷ []) (Some (types.Class 0))
+          (block ((SetField (Slot 0) 0 (Binary operators.Add (Field (Slot 0) 0 0) (Literal (int 1)))) ∷
+          (ReturnValue (Slot 0)) ∷ []))
+          ∷ method 0 0 ((types.Class 0) ∷ []) (Some types.Boolean)
+          (block ((SetField (Slot 0) 0 (Binary operators.Add (Field (Slot 0) 0 0) (Literal (int 1)))) ∷
+          (ReturnValue (Literal yes)) ∷ []))
           ∷ method 0 0 ((types.Class 0) ∷ []) None (block [])
           ∷ []);
     })
@@ -173,9 +207,16 @@ NullTargetAfterArguments =
     (record {
       classes = (one_class (types.Int ∷ (types.Markable 0) ∷ []) 3 ∷ []);
       methods =
-          (method 0 0 ((types.Class 0) ∷ []) (Some types.Boolean) (block ((ReturnValue (Call (Field (Slot 0) 0 1) called.CompareAndSet (More (Call (Slot 0) (called.Method 1) End) (More (Call (Slot 0) (called.Method 1) End) (More (Call (Slot 0) (called.Method 2) End) (More (Call (Slot 0) (called.Method 2) End) End)))))) ∷ []))
-          ∷ method 0 0 ((types.Class 0) ∷ []) (Some (types.Class 0)) (block ((SetField (Slot 0) 0 (Binary operators.Add (Field (Slot 0) 0 0) (Literal (int 1)))) ∷ (ReturnValue (Slot 0)) ∷ []))
-          ∷ method 0 0 ((types.Class 0) ∷ []) (Some types.Boolean) (block ((SetField (Slot 0) 0 (Binary operators.Add (Field (Slot 0) 0 0) (Literal (int 1)))) ∷ (ReturnValue (Literal yes)) ∷ []))
+          (method 0 0 ((types.Class 0) ∷ []) (Some types.Boolean)
+          (block ((ReturnValue (Call (Field (Slot 0) 0 1) called.CompareAndSet
+          (More (Call (Slot 0) (called.Method 1) End) (More (Call (Slot 0) (called.Method 1) End)
+          (More (Call (Slot 0) (called.Method 2) End) (More (Call (Slot 0) (called.Method 2) End) End)))))) ∷ []))
+          ∷ method 0 0 ((types.Class 0) ∷ []) (Some (types.Class 0))
+          (block ((SetField (Slot 0) 0 (Binary operators.Add (Field (Slot 0) 0 0) (Literal (int 1)))) ∷
+          (ReturnValue (Slot 0)) ∷ []))
+          ∷ method 0 0 ((types.Class 0) ∷ []) (Some types.Boolean)
+          (block ((SetField (Slot 0) 0 (Binary operators.Add (Field (Slot 0) 0 0) (Literal (int 1)))) ∷
+          (ReturnValue (Literal yes)) ∷ []))
           ∷ method 0 0 ((types.Class 0) ∷ []) None (block [])
           ∷ []);
     })
@@ -213,9 +254,15 @@ NullTargetOfGetAfterItsArray =
     (record {
       classes = (one_class (types.Int ∷ (types.Markable 0) ∷ []) 3 ∷ []);
       methods =
-          (method 0 0 ((types.Class 0) ∷ []) None (block ((Evaluate (Call (Field (Slot 0) 0 1) (called.GetBoth 0) (More (MakeArray (Literal (int 1))) End))) ∷ []))
-          ∷ method 0 0 ((types.Class 0) ∷ []) (Some (types.Class 0)) (block ((SetField (Slot 0) 0 (Binary operators.Add (Field (Slot 0) 0 0) (Literal (int 1)))) ∷ (ReturnValue (Slot 0)) ∷ []))
-          ∷ method 0 0 ((types.Class 0) ∷ []) (Some types.Boolean) (block ((SetField (Slot 0) 0 (Binary operators.Add (Field (Slot 0) 0 0) (Literal (int 1)))) ∷ (ReturnValue (Literal yes)) ∷ []))
+          (method 0 0 ((types.Class 0) ∷ []) None
+          (block ((Evaluate (Call (Field (Slot 0) 0 1) (called.GetBoth 0) (More (MakeArray (Literal (int 1))) End)))
+          ∷ []))
+          ∷ method 0 0 ((types.Class 0) ∷ []) (Some (types.Class 0))
+          (block ((SetField (Slot 0) 0 (Binary operators.Add (Field (Slot 0) 0 0) (Literal (int 1)))) ∷
+          (ReturnValue (Slot 0)) ∷ []))
+          ∷ method 0 0 ((types.Class 0) ∷ []) (Some types.Boolean)
+          (block ((SetField (Slot 0) 0 (Binary operators.Add (Field (Slot 0) 0 0) (Literal (int 1)))) ∷
+          (ReturnValue (Literal yes)) ∷ []))
           ∷ method 0 0 ((types.Class 0) ∷ []) None (block [])
           ∷ []);
     })
@@ -242,9 +289,15 @@ NullArrayOfGetAfterTheRead =
     (record {
       classes = (one_class (types.Int ∷ (types.Markable 0) ∷ []) 3 ∷ []);
       methods =
-          (method 0 0 ((types.Class 0) ∷ []) None (block ((SetField (Slot 0) 1 (MakeMarkable 0 (More (Slot 0) (More (Literal yes) End)))) ∷ (Evaluate (Call (Field (Slot 0) 0 1) (called.GetBoth 0) (More (Literal null) End))) ∷ []))
-          ∷ method 0 0 ((types.Class 0) ∷ []) (Some (types.Class 0)) (block ((SetField (Slot 0) 0 (Binary operators.Add (Field (Slot 0) 0 0) (Literal (int 1)))) ∷ (ReturnValue (Slot 0)) ∷ []))
-          ∷ method 0 0 ((types.Class 0) ∷ []) (Some types.Boolean) (block ((SetField (Slot 0) 0 (Binary operators.Add (Field (Slot 0) 0 0) (Literal (int 1)))) ∷ (ReturnValue (Literal yes)) ∷ []))
+          (method 0 0 ((types.Class 0) ∷ []) None
+          (block ((SetField (Slot 0) 1 (MakeMarkable 0 (More (Slot 0) (More (Literal yes) End)))) ∷
+          (Evaluate (Call (Field (Slot 0) 0 1) (called.GetBoth 0) (More (Literal null) End))) ∷ []))
+          ∷ method 0 0 ((types.Class 0) ∷ []) (Some (types.Class 0))
+          (block ((SetField (Slot 0) 0 (Binary operators.Add (Field (Slot 0) 0 0) (Literal (int 1)))) ∷
+          (ReturnValue (Slot 0)) ∷ []))
+          ∷ method 0 0 ((types.Class 0) ∷ []) (Some types.Boolean)
+          (block ((SetField (Slot 0) 0 (Binary operators.Add (Field (Slot 0) 0 0) (Literal (int 1)))) ∷
+          (ReturnValue (Literal yes)) ∷ []))
           ∷ method 0 0 ((types.Class 0) ∷ []) None (block [])
           ∷ []);
     })
@@ -273,9 +326,19 @@ GetWithTwoElements =
     (record {
       classes = (one_class (types.Int ∷ (types.Markable 0) ∷ []) 3 ∷ []);
       methods =
-          (method 0 0 ((types.Class 0) ∷ types.BooleanArray ∷ (types.Class 0) ∷ []) (Some types.Boolean) (block ((SetField (Slot 0) 1 (MakeMarkable 0 (More (Slot 0) (More (Literal yes) End)))) ∷ (block ((SetSlot 1 (Literal null)) ∷ (SetSlot 1 (MakeArray (Literal (int 2)))) ∷ [])) ∷ (block ((SetSlot 2 (Literal null)) ∷ (SetSlot 2 (Call (Field (Slot 0) 0 1) (called.GetBoth 0) (More (Slot 1) End))) ∷ [])) ∷ (ReturnValue (And (And (Item (Slot 1) (Literal (int 0))) (Not (Item (Slot 1) (Literal (int 1))))) (Binary operators.Equal (Slot 2) (Slot 0)))) ∷ []))
-          ∷ method 0 0 ((types.Class 0) ∷ []) (Some (types.Class 0)) (block ((SetField (Slot 0) 0 (Binary operators.Add (Field (Slot 0) 0 0) (Literal (int 1)))) ∷ (ReturnValue (Slot 0)) ∷ []))
-          ∷ method 0 0 ((types.Class 0) ∷ []) (Some types.Boolean) (block ((SetField (Slot 0) 0 (Binary operators.Add (Field (Slot 0) 0 0) (Literal (int 1)))) ∷ (ReturnValue (Literal yes)) ∷ []))
+          (method 0 0 ((types.Class 0) ∷ types.BooleanArray ∷ (types.Class 0) ∷ []) (Some types.Boolean)
+          (block ((SetField (Slot 0) 1 (MakeMarkable 0 (More (Slot 0) (More (Literal yes) End)))) ∷
+          (block ((SetSlot 1 (Literal null)) ∷ (SetSlot 1 (MakeArray (Literal (int 2)))) ∷ [])) ∷
+          (block ((SetSlot 2 (Literal null)) ∷ (SetSlot 2
+          (Call (Field (Slot 0) 0 1) (called.GetBoth 0) (More (Slot 1) End))) ∷ [])) ∷
+          (ReturnValue (And (And (Item (Slot 1) (Literal (int 0))) (Not (Item (Slot 1) (Literal (int 1)))))
+          (Binary operators.Equal (Slot 2) (Slot 0)))) ∷ []))
+          ∷ method 0 0 ((types.Class 0) ∷ []) (Some (types.Class 0))
+          (block ((SetField (Slot 0) 0 (Binary operators.Add (Field (Slot 0) 0 0) (Literal (int 1)))) ∷
+          (ReturnValue (Slot 0)) ∷ []))
+          ∷ method 0 0 ((types.Class 0) ∷ []) (Some types.Boolean)
+          (block ((SetField (Slot 0) 0 (Binary operators.Add (Field (Slot 0) 0 0) (Literal (int 1)))) ∷
+          (ReturnValue (Literal yes)) ∷ []))
           ∷ method 0 0 ((types.Class 0) ∷ []) None (block [])
           ∷ []);
     })
@@ -308,9 +371,19 @@ ExpectedMarkIsWrong =
     (record {
       classes = (one_class (types.Int ∷ (types.Markable 0) ∷ []) 3 ∷ []);
       methods =
-          (method 0 0 ((types.Class 0) ∷ []) (Some types.Boolean) (block ((SetField (Slot 0) 1 (MakeMarkable 0 (More (Slot 0) (More (Literal yes) End)))) ∷ (ReturnValue (Or (Or (Call (Field (Slot 0) 0 1) called.CompareAndSet (More (Slot 0) (More (Literal null) (More (Literal no) (More (Literal yes) End))))) (Binary operators.NotEqual (Call (Field (Slot 0) 0 1) (called.GetReference 0) End) (Slot 0))) (Not (Call (Field (Slot 0) 0 1) (called.IsMarked 0) End)))) ∷ []))
-          ∷ method 0 0 ((types.Class 0) ∷ []) (Some (types.Class 0)) (block ((SetField (Slot 0) 0 (Binary operators.Add (Field (Slot 0) 0 0) (Literal (int 1)))) ∷ (ReturnValue (Slot 0)) ∷ []))
-          ∷ method 0 0 ((types.Class 0) ∷ []) (Some types.Boolean) (block ((SetField (Slot 0) 0 (Binary operators.Add (Field (Slot 0) 0 0) (Literal (int 1)))) ∷ (ReturnValue (Literal yes)) ∷ []))
+          (method 0 0 ((types.Class 0) ∷ []) (Some types.Boolean)
+          (block ((SetField (Slot 0) 1 (MakeMarkable 0 (More (Slot 0) (More (Literal yes) End)))) ∷
+          (ReturnValue
+          (Or (Or (Call (Field (Slot 0) 0 1) called.CompareAndSet
+          (More (Slot 0) (More (Literal null) (More (Literal no) (More (Literal yes) End)))))
+          (Binary operators.NotEqual (Call (Field (Slot 0) 0 1) (called.GetReference 0) End) (Slot 0)))
+          (Not (Call (Field (Slot 0) 0 1) (called.IsMarked 0) End)))) ∷ []))
+          ∷ method 0 0 ((types.Class 0) ∷ []) (Some (types.Class 0))
+          (block ((SetField (Slot 0) 0 (Binary operators.Add (Field (Slot 0) 0 0) (Literal (int 1)))) ∷
+          (ReturnValue (Slot 0)) ∷ []))
+          ∷ method 0 0 ((types.Class 0) ∷ []) (Some types.Boolean)
+          (block ((SetField (Slot 0) 0 (Binary operators.Add (Field (Slot 0) 0 0) (Literal (int 1)))) ∷
+          (ReturnValue (Literal yes)) ∷ []))
           ∷ method 0 0 ((types.Class 0) ∷ []) None (block [])
           ∷ []);
     })
@@ -343,9 +416,18 @@ ExpectedReferenceIsWrong =
     (record {
       classes = (one_class (types.Int ∷ (types.Markable 0) ∷ []) 3 ∷ []);
       methods =
-          (method 0 0 ((types.Class 0) ∷ []) (Some types.Boolean) (block ((SetField (Slot 0) 1 (MakeMarkable 0 (More (Slot 0) (More (Literal yes) End)))) ∷ (ReturnValue (Or (Call (Field (Slot 0) 0 1) called.CompareAndSet (More (Literal null) (More (Slot 0) (More (Literal yes) (More (Literal yes) End))))) (Call (Field (Slot 0) 0 1) called.Attempt (More (Literal null) (More (Literal no) End))))) ∷ []))
-          ∷ method 0 0 ((types.Class 0) ∷ []) (Some (types.Class 0)) (block ((SetField (Slot 0) 0 (Binary operators.Add (Field (Slot 0) 0 0) (Literal (int 1)))) ∷ (ReturnValue (Slot 0)) ∷ []))
-          ∷ method 0 0 ((types.Class 0) ∷ []) (Some types.Boolean) (block ((SetField (Slot 0) 0 (Binary operators.Add (Field (Slot 0) 0 0) (Literal (int 1)))) ∷ (ReturnValue (Literal yes)) ∷ []))
+          (method 0 0 ((types.Class 0) ∷ []) (Some types.Boolean)
+          (block ((SetField (Slot 0) 1 (MakeMarkable 0 (More (Slot 0) (More (Literal yes) End)))) ∷
+          (ReturnValue
+          (Or (Call (Field (Slot 0) 0 1) called.CompareAndSet
+          (More (Literal null) (More (Slot 0) (More (Literal yes) (More (Literal yes) End)))))
+          (Call (Field (Slot 0) 0 1) called.Attempt (More (Literal null) (More (Literal no) End))))) ∷ []))
+          ∷ method 0 0 ((types.Class 0) ∷ []) (Some (types.Class 0))
+          (block ((SetField (Slot 0) 0 (Binary operators.Add (Field (Slot 0) 0 0) (Literal (int 1)))) ∷
+          (ReturnValue (Slot 0)) ∷ []))
+          ∷ method 0 0 ((types.Class 0) ∷ []) (Some types.Boolean)
+          (block ((SetField (Slot 0) 0 (Binary operators.Add (Field (Slot 0) 0 0) (Literal (int 1)))) ∷
+          (ReturnValue (Literal yes)) ∷ []))
           ∷ method 0 0 ((types.Class 0) ∷ []) None (block [])
           ∷ []);
     })
@@ -376,9 +458,19 @@ ExchangeSetsBoth =
     (record {
       classes = (one_class (types.Int ∷ (types.Markable 0) ∷ []) 3 ∷ []);
       methods =
-          (method 0 0 ((types.Class 0) ∷ []) (Some types.Boolean) (block ((SetField (Slot 0) 1 (MakeMarkable 0 (More (Slot 0) (More (Literal yes) End)))) ∷ (Evaluate (Call (Field (Slot 0) 0 1) called.CompareAndSet (More (Slot 0) (More (Literal null) (More (Literal yes) (More (Literal no) End)))))) ∷ (ReturnValue (And (Binary operators.Equal (Call (Field (Slot 0) 0 1) (called.GetReference 0) End) (Literal null)) (Not (Call (Field (Slot 0) 0 1) (called.IsMarked 0) End)))) ∷ []))
-          ∷ method 0 0 ((types.Class 0) ∷ []) (Some (types.Class 0)) (block ((SetField (Slot 0) 0 (Binary operators.Add (Field (Slot 0) 0 0) (Literal (int 1)))) ∷ (ReturnValue (Slot 0)) ∷ []))
-          ∷ method 0 0 ((types.Class 0) ∷ []) (Some types.Boolean) (block ((SetField (Slot 0) 0 (Binary operators.Add (Field (Slot 0) 0 0) (Literal (int 1)))) ∷ (ReturnValue (Literal yes)) ∷ []))
+          (method 0 0 ((types.Class 0) ∷ []) (Some types.Boolean)
+          (block ((SetField (Slot 0) 1 (MakeMarkable 0 (More (Slot 0) (More (Literal yes) End)))) ∷
+          (Evaluate (Call (Field (Slot 0) 0 1) called.CompareAndSet
+          (More (Slot 0) (More (Literal null) (More (Literal yes) (More (Literal no) End)))))) ∷
+          (ReturnValue
+          (And (Binary operators.Equal (Call (Field (Slot 0) 0 1) (called.GetReference 0) End) (Literal null))
+          (Not (Call (Field (Slot 0) 0 1) (called.IsMarked 0) End)))) ∷ []))
+          ∷ method 0 0 ((types.Class 0) ∷ []) (Some (types.Class 0))
+          (block ((SetField (Slot 0) 0 (Binary operators.Add (Field (Slot 0) 0 0) (Literal (int 1)))) ∷
+          (ReturnValue (Slot 0)) ∷ []))
+          ∷ method 0 0 ((types.Class 0) ∷ []) (Some types.Boolean)
+          (block ((SetField (Slot 0) 0 (Binary operators.Add (Field (Slot 0) 0 0) (Literal (int 1)))) ∷
+          (ReturnValue (Literal yes)) ∷ []))
           ∷ method 0 0 ((types.Class 0) ∷ []) None (block [])
           ∷ []);
     })
@@ -411,9 +503,16 @@ AttemptOfTheSameMark =
     (record {
       classes = (one_class (types.Int ∷ (types.Markable 0) ∷ []) 3 ∷ []);
       methods =
-          (method 0 0 ((types.Class 0) ∷ []) (Some types.Boolean) (block ((SetField (Slot 0) 1 (MakeMarkable 0 (More (Slot 0) (More (Literal yes) End)))) ∷ (ReturnValue (And (Call (Field (Slot 0) 0 1) called.Attempt (More (Slot 0) (More (Literal yes) End))) (Call (Field (Slot 0) 0 1) (called.IsMarked 0) End))) ∷ []))
-          ∷ method 0 0 ((types.Class 0) ∷ []) (Some (types.Class 0)) (block ((SetField (Slot 0) 0 (Binary operators.Add (Field (Slot 0) 0 0) (Literal (int 1)))) ∷ (ReturnValue (Slot 0)) ∷ []))
-          ∷ method 0 0 ((types.Class 0) ∷ []) (Some types.Boolean) (block ((SetField (Slot 0) 0 (Binary operators.Add (Field (Slot 0) 0 0) (Literal (int 1)))) ∷ (ReturnValue (Literal yes)) ∷ []))
+          (method 0 0 ((types.Class 0) ∷ []) (Some types.Boolean)
+          (block ((SetField (Slot 0) 1 (MakeMarkable 0 (More (Slot 0) (More (Literal yes) End)))) ∷
+          (ReturnValue (And (Call (Field (Slot 0) 0 1) called.Attempt (More (Slot 0) (More (Literal yes) End)))
+          (Call (Field (Slot 0) 0 1) (called.IsMarked 0) End))) ∷ []))
+          ∷ method 0 0 ((types.Class 0) ∷ []) (Some (types.Class 0))
+          (block ((SetField (Slot 0) 0 (Binary operators.Add (Field (Slot 0) 0 0) (Literal (int 1)))) ∷
+          (ReturnValue (Slot 0)) ∷ []))
+          ∷ method 0 0 ((types.Class 0) ∷ []) (Some types.Boolean)
+          (block ((SetField (Slot 0) 0 (Binary operators.Add (Field (Slot 0) 0 0) (Literal (int 1)))) ∷
+          (ReturnValue (Literal yes)) ∷ []))
           ∷ method 0 0 ((types.Class 0) ∷ []) None (block [])
           ∷ []);
     })

@@ -3,13 +3,17 @@
 use Rattle.std.specs.Prelude.{◌≡◌, true, false, [], ◌∷◌, ◌++◌, replicate, None, Some}
 use Rattle.ls_events.specs.declared.value.Value.TheVariants as values
 use Rattle.ls_events.specs.declared.value.ValueType.TheVariants as types
-use Rattle.ls_events.specs.declared.action.Action.TheVariants.{ReadField, WriteField, ReadName, WriteName, New, NewMarkable, Enter, ReadPair, SetPair, SwapPair, AttemptMark, Return}
+use Rattle.ls_events.specs.declared.action.Action.TheVariants.{ReadField, WriteField, ReadName, WriteName, New}
+use Rattle.ls_events.specs.declared.action.Action.TheVariants.{NewMarkable, Enter, ReadPair, SetPair, SwapPair}
+use Rattle.ls_events.specs.declared.action.Action.TheVariants.{AttemptMark, Return}
 use Rattle.ls_events.specs.declared.action.Action.TheVariants as actions
 use Rattle.ls_checked.specs.declared.tree.Operator.TheVariants as operators
 use Rattle.ls_checked.specs.declared.tree.Called.TheVariants as called
-use Rattle.ls_checked.specs.CheckedTree.{Literal, Slot, Field, Not, Binary, And, Or, Call, MakeMarkable, End, More, SetField, Evaluate, ReturnValue}
+use Rattle.ls_checked.specs.CheckedTree.{Literal, Slot, Field, Not, Binary, And, Or, Call, MakeMarkable, End, More}
+use Rattle.ls_checked.specs.CheckedTree.{SetField, Evaluate, ReturnValue}
 use Rattle.ls_meaning.specs.Runs.{source_trace}
-use Rattle.ls_meaning_rows.specs.Made.{yes, no, null, at, block, one_class, method, making, calling, program, line, done, gives}
+use Rattle.ls_meaning_rows.specs.Made.{yes, no, null, at, block, one_class, method, making, calling, program, line}
+use Rattle.ls_meaning_rows.specs.Made.{done, gives}
 
 -- r holds (this, false): return r.compareAndSet(this, null, true, true) || r.getReference() != this || r.isMarked();
 abbrev pub ExpectedMarkIsSet : Type 0
@@ -18,7 +22,13 @@ ExpectedMarkIsSet =
     (record {
       classes = (one_class ((types.Markable 0) ∷ []) 1 ∷ []);
       methods =
-          (method 0 0 ((types.Class 0) ∷ []) (Some types.Boolean) (block ((SetField (Slot 0) 0 (MakeMarkable 0 (More (Slot 0) (More (Literal no) End)))) ∷ (ReturnValue (Or (Or (Call (Field (Slot 0) 0 0) called.CompareAndSet (More (Slot 0) (More (Literal null) (More (Literal yes) (More (Literal yes) End))))) (Binary operators.NotEqual (Call (Field (Slot 0) 0 0) (called.GetReference 0) End) (Slot 0))) (Call (Field (Slot 0) 0 0) (called.IsMarked 0) End))) ∷ []))
+          (method 0 0 ((types.Class 0) ∷ []) (Some types.Boolean)
+          (block ((SetField (Slot 0) 0 (MakeMarkable 0 (More (Slot 0) (More (Literal no) End)))) ∷
+          (ReturnValue
+          (Or (Or (Call (Field (Slot 0) 0 0) called.CompareAndSet
+          (More (Slot 0) (More (Literal null) (More (Literal yes) (More (Literal yes) End)))))
+          (Binary operators.NotEqual (Call (Field (Slot 0) 0 0) (called.GetReference 0) End) (Slot 0)))
+          (Call (Field (Slot 0) 0 0) (called.IsMarked 0) End))) ∷ []))
           ∷ method 0 0 ((types.Class 0) ∷ []) None (block [])
           ∷ []);
     })
@@ -51,7 +61,12 @@ SetIsRead =
     (record {
       classes = (one_class ((types.Markable 0) ∷ []) 1 ∷ []);
       methods =
-          (method 0 0 ((types.Class 0) ∷ []) (Some types.Boolean) (block ((SetField (Slot 0) 0 (MakeMarkable 0 (More (Slot 0) (More (Literal no) End)))) ∷ (Evaluate (Call (Field (Slot 0) 0 0) called.SetBoth (More (Literal null) (More (Literal yes) End)))) ∷ (ReturnValue (And (Binary operators.Equal (Call (Field (Slot 0) 0 0) (called.GetReference 0) End) (Literal null)) (Call (Field (Slot 0) 0 0) (called.IsMarked 0) End))) ∷ []))
+          (method 0 0 ((types.Class 0) ∷ []) (Some types.Boolean)
+          (block ((SetField (Slot 0) 0 (MakeMarkable 0 (More (Slot 0) (More (Literal no) End)))) ∷
+          (Evaluate (Call (Field (Slot 0) 0 0) called.SetBoth (More (Literal null) (More (Literal yes) End)))) ∷
+          (ReturnValue
+          (And (Binary operators.Equal (Call (Field (Slot 0) 0 0) (called.GetReference 0) End) (Literal null))
+          (Call (Field (Slot 0) 0 0) (called.IsMarked 0) End))) ∷ []))
           ∷ method 0 0 ((types.Class 0) ∷ []) None (block [])
           ∷ []);
     })
@@ -84,7 +99,12 @@ RefusedAttempt =
     (record {
       classes = (one_class ((types.Markable 0) ∷ []) 1 ∷ []);
       methods =
-          (method 0 0 ((types.Class 0) ∷ []) (Some types.Boolean) (block ((SetField (Slot 0) 0 (MakeMarkable 0 (More (Slot 0) (More (Literal no) End)))) ∷ (ReturnValue (Or (Or (Call (Field (Slot 0) 0 0) called.Attempt (More (Literal null) (More (Literal yes) End))) (Call (Field (Slot 0) 0 0) (called.IsMarked 0) End)) (Binary operators.NotEqual (Call (Field (Slot 0) 0 0) (called.GetReference 0) End) (Slot 0)))) ∷ []))
+          (method 0 0 ((types.Class 0) ∷ []) (Some types.Boolean)
+          (block ((SetField (Slot 0) 0 (MakeMarkable 0 (More (Slot 0) (More (Literal no) End)))) ∷
+          (ReturnValue
+          (Or (Or (Call (Field (Slot 0) 0 0) called.Attempt (More (Literal null) (More (Literal yes) End)))
+          (Call (Field (Slot 0) 0 0) (called.IsMarked 0) End))
+          (Binary operators.NotEqual (Call (Field (Slot 0) 0 0) (called.GetReference 0) End) (Slot 0)))) ∷ []))
           ∷ method 0 0 ((types.Class 0) ∷ []) None (block [])
           ∷ []);
     })
@@ -117,7 +137,12 @@ AttemptClears =
     (record {
       classes = (one_class ((types.Markable 0) ∷ []) 1 ∷ []);
       methods =
-          (method 0 0 ((types.Class 0) ∷ []) (Some types.Boolean) (block ((SetField (Slot 0) 0 (MakeMarkable 0 (More (Slot 0) (More (Literal yes) End)))) ∷ (ReturnValue (And (And (Call (Field (Slot 0) 0 0) called.Attempt (More (Slot 0) (More (Literal no) End))) (Not (Call (Field (Slot 0) 0 0) (called.IsMarked 0) End))) (Binary operators.Equal (Call (Field (Slot 0) 0 0) (called.GetReference 0) End) (Slot 0)))) ∷ []))
+          (method 0 0 ((types.Class 0) ∷ []) (Some types.Boolean)
+          (block ((SetField (Slot 0) 0 (MakeMarkable 0 (More (Slot 0) (More (Literal yes) End)))) ∷
+          (ReturnValue
+          (And (And (Call (Field (Slot 0) 0 0) called.Attempt (More (Slot 0) (More (Literal no) End)))
+          (Not (Call (Field (Slot 0) 0 0) (called.IsMarked 0) End)))
+          (Binary operators.Equal (Call (Field (Slot 0) 0 0) (called.GetReference 0) End) (Slot 0)))) ∷ []))
           ∷ method 0 0 ((types.Class 0) ∷ []) None (block [])
           ∷ []);
     })

@@ -6,7 +6,8 @@ use Rattle.ls_events.specs.declared.action.Action.TheVariants as actions
 use Rattle.ls_events.specs.declared.event.Happening.TheVariants.{Called, Returned, Trapped}
 use Rattle.ls_checked.specs.declared.tree.Operator.TheVariants as operators
 use Rattle.ls_checked.specs.declared.tree.Called.TheVariants as called
-use Rattle.ls_checked.specs.CheckedTree.{File, Expression, Literal, Slot, Field, Binary, Call, End, Statement, SetSlot, SetField, Evaluate, While, ReturnValue, Try}
+use Rattle.ls_checked.specs.CheckedTree.{File, Expression, Literal, Slot, Field, Binary, Call, End, Statement, SetSlot}
+use Rattle.ls_checked.specs.CheckedTree.{SetField, Evaluate, While, ReturnValue, Try}
 use Rattle.ls_meaning.specs.Store.{Store, Hold, Free, HeldBy, Object}
 use Rattle.ls_meaning.specs.Effect.{Waits, Does, effect}
 use Rattle.ls_meaning.specs.Runs.{source_history}
@@ -36,10 +37,12 @@ counter = record {
       SetSlot 2 (Literal (int 0))
       ∷ SetSlot 2 (Field (Slot 0) 0 0)
       ∷ SetSlot 3 (Literal (int 0))
-      ∷ While (Binary operators.Less (Slot 3) (Literal (int 1))) (block (SetSlot 3 (Binary operators.Add (Slot 3) (Literal (int 1))) ∷ []))
+      ∷ While (Binary operators.Less (Slot 3) (Literal (int 1)))
+      (block (SetSlot 3 (Binary operators.Add (Slot 3) (Literal (int 1))) ∷ []))
       ∷ SetField (Slot 0) 0 (Binary operators.Add (Slot 2) (Literal (int 1)))
       ∷ [])))
-      ∷ method 0 0 (types.Class 0 ∷ types.Class 0 ∷ []) (Some types.Int) (holding 1 (Slot 0) (block (ReturnValue (Field (Slot 0) 0 0) ∷ [])))
+      ∷ method 0 0 (types.Class 0 ∷ types.Class 0 ∷ []) (Some types.Int)
+      (holding 1 (Slot 0) (block (ReturnValue (Field (Slot 0) 0 0) ∷ [])))
       ∷ method 0 0 (types.Class 0 ∷ []) None (block [])
       ∷ [];
 }
@@ -47,7 +50,8 @@ counter = record {
 -- A is in inc() when B calls inc(). B waits, and no update is lost. With one step less, the last call is pending.
 abbrev pub NoUpdateLost : Type 0
 NoUpdateLost =
-    source_history counter (program (0 ∷ []) ((making 0 0 [] ∷ []) ∷ (calling 0 0 [] ∷ []) ∷ (calling 0 0 [] ∷ calling 0 1 [] ∷ []) ∷ []))
+    source_history counter (program (0 ∷ []) ((making 0 0 [] ∷ []) ∷ (calling 0 0 [] ∷ []) ∷
+    (calling 0 0 [] ∷ calling 0 1 [] ∷ []) ∷ []))
     (replicate 5 0 ++ replicate 5 1 ++ replicate 99 2 ++ replicate 4 1 ++ replicate 13 2)
     ≡
     (event 0 1 Called
@@ -62,7 +66,8 @@ NoUpdateLost =
 
 abbrev pub OneStepLess : Type 0
 OneStepLess =
-    source_history counter (program (0 ∷ []) ((making 0 0 [] ∷ []) ∷ (calling 0 0 [] ∷ []) ∷ (calling 0 0 [] ∷ calling 0 1 [] ∷ []) ∷ []))
+    source_history counter (program (0 ∷ []) ((making 0 0 [] ∷ []) ∷ (calling 0 0 [] ∷ []) ∷
+    (calling 0 0 [] ∷ calling 0 1 [] ∷ []) ∷ []))
     (replicate 5 0 ++ replicate 5 1 ++ replicate 99 2 ++ replicate 4 1 ++ replicate 12 2)
     ≡
     (event 0 1 Called
@@ -81,7 +86,8 @@ MonitorOfNull =
     (record {
       classes = one_class (types.Class 0 ∷ types.Int ∷ []) 1 ∷ [];
       methods =
-          method 0 0 (types.Class 0 ∷ types.Class 0 ∷ []) None (block (holding 1 (Field (Slot 0) 0 0) (block (SetField (Slot 0) 1 (Literal (int 1)) ∷ [])) ∷ []))
+          method 0 0 (types.Class 0 ∷ types.Class 0 ∷ []) None
+          (block (holding 1 (Field (Slot 0) 0 0) (block (SetField (Slot 0) 1 (Literal (int 1)) ∷ [])) ∷ []))
           ∷ method 0 0 (types.Class 0 ∷ []) None (block [])
           ∷ [];
     })
@@ -100,8 +106,10 @@ UnlockedByTraps =
     (record {
       classes = one_class (types.Int ∷ []) 2 ∷ [];
       methods =
-          method 0 0 (types.Class 0 ∷ types.Class 0 ∷ []) None (holding 1 (Slot 0) (block (Evaluate (Call (Slot 0) (called.Method 0) End) ∷ [])))
-          ∷ method 0 0 (types.Class 0 ∷ types.Class 0 ∷ []) (Some types.Int) (holding 1 (Slot 0) (block (ReturnValue (Field (Slot 0) 0 0) ∷ [])))
+          method 0 0 (types.Class 0 ∷ types.Class 0 ∷ []) None
+          (holding 1 (Slot 0) (block (Evaluate (Call (Slot 0) (called.Method 0) End) ∷ [])))
+          ∷ method 0 0 (types.Class 0 ∷ types.Class 0 ∷ []) (Some types.Int)
+          (holding 1 (Slot 0) (block (ReturnValue (Field (Slot 0) 0 0) ∷ [])))
           ∷ method 0 0 (types.Class 0 ∷ []) None (block [])
           ∷ [];
     })
@@ -126,9 +134,11 @@ abbrev pub MonitorOfAnObject : Type 0
 MonitorOfAnObject =
     (effect [] (object Free) 1 (actions.LockMonitor 1) ≡ Does (object (HeldBy 1 1)) done)
     × (effect [] (object (HeldBy 1 1)) 1 (actions.LockMonitor 1) ≡ Does (object (HeldBy 1 2)) done)
-    × (effect [] (object (HeldBy 1 2147483647)) 1 (actions.LockMonitor 1) ≡ Does (object (HeldBy 1 2147483647)) (fails kinds.Error))
+    × (effect [] (object (HeldBy 1 2147483647)) 1 (actions.LockMonitor 1) ≡ Does (object (HeldBy 1 2147483647))
+    (fails kinds.Error))
     × (effect [] (object (HeldBy 1 1)) 2 (actions.LockMonitor 1) ≡ Waits)
     × (effect [] (object (HeldBy 1 2)) 1 (actions.UnlockMonitor 1) ≡ Does (object (HeldBy 1 1)) done)
     × (effect [] (object (HeldBy 1 1)) 1 (actions.UnlockMonitor 1) ≡ Does (object Free) done)
-    × (effect [] (object (HeldBy 1 1)) 2 (actions.UnlockMonitor 1) ≡ Does (object (HeldBy 1 1)) (fails kinds.IllegalMonitorState))
+    × (effect [] (object (HeldBy 1 1)) 2 (actions.UnlockMonitor 1) ≡ Does (object (HeldBy 1 1))
+    (fails kinds.IllegalMonitorState))
     × (effect [] (object Free) 1 (actions.UnlockMonitor 1) ≡ Does (object Free) (fails kinds.IllegalMonitorState))

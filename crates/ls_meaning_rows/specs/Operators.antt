@@ -8,7 +8,8 @@ use Rattle.ls_events.specs.declared.action.Action.TheVariants as actions
 use Rattle.ls_checked.specs.declared.tree.Operator.TheVariants as operators
 use Rattle.ls_checked.specs.CheckedTree.{Literal, Slot, Negate, Binary, ReturnValue}
 use Rattle.ls_meaning.specs.Runs.{source_trace}
-use Rattle.ls_meaning_rows.specs.Made.{int, minus, at, block, one_class, method, making, calling, program, line, done, gives}
+use Rattle.ls_meaning_rows.specs.Made.{int, minus, at, block, one_class, method, making, calling, program, line, done}
+use Rattle.ls_meaning_rows.specs.Made.{gives}
 
 -- class C { int f(int a, int b) { return a / b; } } with (7, 2), (-7, 2), (7, -2), (-7, -2), (-2147483648, -1)
 abbrev pub Quotients : Type 0
@@ -17,11 +18,14 @@ Quotients =
     (record {
       classes = (one_class [] 1 ∷ []);
       methods =
-          (method 0 2 ((types.Class 0) ∷ types.Int ∷ types.Int ∷ []) (Some types.Int) (block ((ReturnValue (Binary operators.Divide (Slot 1) (Slot 2))) ∷ []))
+          (method 0 2 ((types.Class 0) ∷ types.Int ∷ types.Int ∷ []) (Some types.Int)
+          (block ((ReturnValue (Binary operators.Divide (Slot 1) (Slot 2))) ∷ []))
           ∷ method 0 0 ((types.Class 0) ∷ []) None (block [])
           ∷ []);
     })
-    (program (0 ∷ []) ((making 0 0 [] ∷ []) ∷ (calling 0 0 ((int 7) ∷ (int 2) ∷ []) ∷ calling 0 0 ((minus 7) ∷ (int 2) ∷ []) ∷ calling 0 0 ((int 7) ∷ (minus 2) ∷ []) ∷ calling 0 0 ((minus 7) ∷ (minus 2) ∷ []) ∷ calling 0 0 ((minus 2147483648) ∷ (minus 1) ∷ []) ∷ []) ∷ []))
+    (program (0 ∷ []) ((making 0 0 [] ∷ []) ∷ (calling 0 0 ((int 7) ∷ (int 2) ∷ []) ∷
+    calling 0 0 ((minus 7) ∷ (int 2) ∷ []) ∷ calling 0 0 ((int 7) ∷ (minus 2) ∷ []) ∷
+    calling 0 0 ((minus 7) ∷ (minus 2) ∷ []) ∷ calling 0 0 ((minus 2147483648) ∷ (minus 1) ∷ []) ∷ []) ∷ []))
     (replicate 9 0 ++ replicate 99 1)
     ≡
     (line 0 (actions.Call 1) done
@@ -58,11 +62,14 @@ Remainders =
     (record {
       classes = (one_class [] 1 ∷ []);
       methods =
-          (method 0 2 ((types.Class 0) ∷ types.Int ∷ types.Int ∷ []) (Some types.Int) (block ((ReturnValue (Binary operators.Remainder (Slot 1) (Slot 2))) ∷ []))
+          (method 0 2 ((types.Class 0) ∷ types.Int ∷ types.Int ∷ []) (Some types.Int)
+          (block ((ReturnValue (Binary operators.Remainder (Slot 1) (Slot 2))) ∷ []))
           ∷ method 0 0 ((types.Class 0) ∷ []) None (block [])
           ∷ []);
     })
-    (program (0 ∷ []) ((making 0 0 [] ∷ []) ∷ (calling 0 0 ((int 7) ∷ (int 2) ∷ []) ∷ calling 0 0 ((minus 7) ∷ (int 2) ∷ []) ∷ calling 0 0 ((int 7) ∷ (minus 2) ∷ []) ∷ calling 0 0 ((minus 7) ∷ (minus 2) ∷ []) ∷ calling 0 0 ((minus 2147483648) ∷ (minus 1) ∷ []) ∷ []) ∷ []))
+    (program (0 ∷ []) ((making 0 0 [] ∷ []) ∷ (calling 0 0 ((int 7) ∷ (int 2) ∷ []) ∷
+    calling 0 0 ((minus 7) ∷ (int 2) ∷ []) ∷ calling 0 0 ((int 7) ∷ (minus 2) ∷ []) ∷
+    calling 0 0 ((minus 7) ∷ (minus 2) ∷ []) ∷ calling 0 0 ((minus 2147483648) ∷ (minus 1) ∷ []) ∷ []) ∷ []))
     (replicate 9 0 ++ replicate 99 1)
     ≡
     (line 0 (actions.Call 1) done
@@ -99,11 +106,13 @@ Sums =
     (record {
       classes = (one_class [] 1 ∷ []);
       methods =
-          (method 0 2 ((types.Class 0) ∷ types.Int ∷ types.Int ∷ []) (Some types.Int) (block ((ReturnValue (Binary operators.Add (Slot 1) (Slot 2))) ∷ []))
+          (method 0 2 ((types.Class 0) ∷ types.Int ∷ types.Int ∷ []) (Some types.Int)
+          (block ((ReturnValue (Binary operators.Add (Slot 1) (Slot 2))) ∷ []))
           ∷ method 0 0 ((types.Class 0) ∷ []) None (block [])
           ∷ []);
     })
-    (program (0 ∷ []) ((making 0 0 [] ∷ []) ∷ (calling 0 0 ((int 2147483647) ∷ (int 1) ∷ []) ∷ calling 0 0 ((minus 2147483648) ∷ (minus 1) ∷ []) ∷ calling 0 0 ((int 2) ∷ (int 3) ∷ []) ∷ []) ∷ []))
+    (program (0 ∷ []) ((making 0 0 [] ∷ []) ∷ (calling 0 0 ((int 2147483647) ∷ (int 1) ∷ []) ∷
+    calling 0 0 ((minus 2147483648) ∷ (minus 1) ∷ []) ∷ calling 0 0 ((int 2) ∷ (int 3) ∷ []) ∷ []) ∷ []))
     (replicate 9 0 ++ replicate 99 1)
     ≡
     (line 0 (actions.Call 1) done
@@ -132,11 +141,13 @@ Differences =
     (record {
       classes = (one_class [] 1 ∷ []);
       methods =
-          (method 0 2 ((types.Class 0) ∷ types.Int ∷ types.Int ∷ []) (Some types.Int) (block ((ReturnValue (Binary operators.Subtract (Slot 1) (Slot 2))) ∷ []))
+          (method 0 2 ((types.Class 0) ∷ types.Int ∷ types.Int ∷ []) (Some types.Int)
+          (block ((ReturnValue (Binary operators.Subtract (Slot 1) (Slot 2))) ∷ []))
           ∷ method 0 0 ((types.Class 0) ∷ []) None (block [])
           ∷ []);
     })
-    (program (0 ∷ []) ((making 0 0 [] ∷ []) ∷ (calling 0 0 ((minus 2147483648) ∷ (int 1) ∷ []) ∷ calling 0 0 ((int 2) ∷ (int 3) ∷ []) ∷ []) ∷ []))
+    (program (0 ∷ []) ((making 0 0 [] ∷ []) ∷ (calling 0 0 ((minus 2147483648) ∷ (int 1) ∷ []) ∷
+    calling 0 0 ((int 2) ∷ (int 3) ∷ []) ∷ []) ∷ []))
     (replicate 9 0 ++ replicate 99 1)
     ≡
     (line 0 (actions.Call 1) done
@@ -161,11 +172,13 @@ Products =
     (record {
       classes = (one_class [] 1 ∷ []);
       methods =
-          (method 0 2 ((types.Class 0) ∷ types.Int ∷ types.Int ∷ []) (Some types.Int) (block ((ReturnValue (Binary operators.Multiply (Slot 1) (Slot 2))) ∷ []))
+          (method 0 2 ((types.Class 0) ∷ types.Int ∷ types.Int ∷ []) (Some types.Int)
+          (block ((ReturnValue (Binary operators.Multiply (Slot 1) (Slot 2))) ∷ []))
           ∷ method 0 0 ((types.Class 0) ∷ []) None (block [])
           ∷ []);
     })
-    (program (0 ∷ []) ((making 0 0 [] ∷ []) ∷ (calling 0 0 ((int 65536) ∷ (int 65536) ∷ []) ∷ calling 0 0 ((minus 2147483648) ∷ (minus 1) ∷ []) ∷ calling 0 0 ((int 46341) ∷ (int 46341) ∷ []) ∷ []) ∷ []))
+    (program (0 ∷ []) ((making 0 0 [] ∷ []) ∷ (calling 0 0 ((int 65536) ∷ (int 65536) ∷ []) ∷
+    calling 0 0 ((minus 2147483648) ∷ (minus 1) ∷ []) ∷ calling 0 0 ((int 46341) ∷ (int 46341) ∷ []) ∷ []) ∷ []))
     (replicate 9 0 ++ replicate 99 1)
     ≡
     (line 0 (actions.Call 1) done
@@ -194,7 +207,8 @@ QuotientByZero =
     (record {
       classes = (one_class [] 1 ∷ []);
       methods =
-          (method 0 2 ((types.Class 0) ∷ types.Int ∷ types.Int ∷ []) (Some types.Int) (block ((ReturnValue (Binary operators.Divide (Slot 1) (Slot 2))) ∷ []))
+          (method 0 2 ((types.Class 0) ∷ types.Int ∷ types.Int ∷ []) (Some types.Int)
+          (block ((ReturnValue (Binary operators.Divide (Slot 1) (Slot 2))) ∷ []))
           ∷ method 0 0 ((types.Class 0) ∷ []) None (block [])
           ∷ []);
     })
@@ -219,7 +233,8 @@ RemainderByZero =
     (record {
       classes = (one_class [] 1 ∷ []);
       methods =
-          (method 0 2 ((types.Class 0) ∷ types.Int ∷ types.Int ∷ []) (Some types.Int) (block ((ReturnValue (Binary operators.Remainder (Slot 1) (Slot 2))) ∷ []))
+          (method 0 2 ((types.Class 0) ∷ types.Int ∷ types.Int ∷ []) (Some types.Int)
+          (block ((ReturnValue (Binary operators.Remainder (Slot 1) (Slot 2))) ∷ []))
           ∷ method 0 0 ((types.Class 0) ∷ []) None (block [])
           ∷ []);
     })
@@ -244,7 +259,8 @@ OppositeOfTheLeastInt =
     (record {
       classes = (one_class [] 1 ∷ []);
       methods =
-          (method 0 0 ((types.Class 0) ∷ []) (Some types.Int) (block ((ReturnValue (Negate (Literal (minus 2147483648)))) ∷ []))
+          (method 0 0 ((types.Class 0) ∷ []) (Some types.Int)
+          (block ((ReturnValue (Negate (Literal (minus 2147483648)))) ∷ []))
           ∷ method 0 0 ((types.Class 0) ∷ []) None (block [])
           ∷ []);
     })

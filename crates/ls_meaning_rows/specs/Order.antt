@@ -3,13 +3,18 @@
 use Rattle.std.specs.Prelude.{◌≡◌, pos, negsuc, [], ◌∷◌, ◌++◌, replicate, None, Some}
 use Rattle.ls_events.specs.declared.value.ValueType.TheVariants as types
 use Rattle.ls_events.specs.declared.kind.Kind.TheVariants as kinds
-use Rattle.ls_events.specs.declared.action.Action.TheVariants.{ReadField, WriteField, ReadItem, WriteItem, ReadName, WriteName, New, NewLock, NewMarkable, NewArray, Lock, Unlock, TryLock, IsHeld, ReadPair, SetPair, SwapPair, AttemptMark, Turn, Enter, Return, Trap}
+use Rattle.ls_events.specs.declared.action.Action.TheVariants.{ReadField, WriteField, ReadItem, WriteItem, ReadName}
+use Rattle.ls_events.specs.declared.action.Action.TheVariants.{WriteName, New, NewLock, NewMarkable, NewArray, Lock}
+use Rattle.ls_events.specs.declared.action.Action.TheVariants.{Unlock, TryLock, IsHeld, ReadPair, SetPair, SwapPair}
+use Rattle.ls_events.specs.declared.action.Action.TheVariants.{AttemptMark, Turn, Enter, Return, Trap}
 use Rattle.ls_events.specs.declared.action.Action.TheVariants as actions
 use Rattle.ls_checked.specs.declared.tree.Operator.TheVariants as operators
 use Rattle.ls_checked.specs.declared.tree.Called.TheVariants as called
-use Rattle.ls_checked.specs.CheckedTree.{Literal, Slot, Field, Item, Negate, Binary, And, Or, Call, MakeObject, MakeArray, End, More, SetSlot, SetField, SetItem, Evaluate, ReturnValue}
+use Rattle.ls_checked.specs.CheckedTree.{Literal, Slot, Field, Item, Negate, Binary, And, Or, Call, MakeObject}
+use Rattle.ls_checked.specs.CheckedTree.{MakeArray, End, More, SetSlot, SetField, SetItem, Evaluate, ReturnValue}
 use Rattle.ls_meaning.specs.Runs.{source_trace}
-use Rattle.ls_meaning_rows.specs.Made.{int, minus, yes, no, null, at, block, one_class, method, making, calling, program, line, done, gives, fails}
+use Rattle.ls_meaning_rows.specs.Made.{int, minus, yes, no, null, at, block, one_class, method, making, calling}
+use Rattle.ls_meaning_rows.specs.Made.{program, line, done, gives, fails}
 
 -- class C { int v; C n; void f() { n.g(s(), 0); }
 --   int s() { v = v + 1; return v; } int g(int a, int b) { return a - b; } }
@@ -19,9 +24,14 @@ TargetNullAfterArguments =
     (record {
       classes = (one_class (types.Int ∷ (types.Class 0) ∷ []) 3 ∷ []);
       methods =
-          (method 0 0 ((types.Class 0) ∷ []) None (block ((Evaluate (Call (Field (Slot 0) 0 1) (called.Method 2) (More (Call (Slot 0) (called.Method 1) End) (More (Literal (int 0)) End)))) ∷ []))
-          ∷ method 0 0 ((types.Class 0) ∷ []) (Some types.Int) (block ((SetField (Slot 0) 0 (Binary operators.Add (Field (Slot 0) 0 0) (Literal (int 1)))) ∷ (ReturnValue (Field (Slot 0) 0 0)) ∷ []))
-          ∷ method 0 2 ((types.Class 0) ∷ types.Int ∷ types.Int ∷ []) (Some types.Int) (block ((ReturnValue (Binary operators.Subtract (Slot 1) (Slot 2))) ∷ []))
+          (method 0 0 ((types.Class 0) ∷ []) None
+          (block ((Evaluate (Call (Field (Slot 0) 0 1) (called.Method 2)
+          (More (Call (Slot 0) (called.Method 1) End) (More (Literal (int 0)) End)))) ∷ []))
+          ∷ method 0 0 ((types.Class 0) ∷ []) (Some types.Int)
+          (block ((SetField (Slot 0) 0 (Binary operators.Add (Field (Slot 0) 0 0) (Literal (int 1)))) ∷
+          (ReturnValue (Field (Slot 0) 0 0)) ∷ []))
+          ∷ method 0 2 ((types.Class 0) ∷ types.Int ∷ types.Int ∷ []) (Some types.Int)
+          (block ((ReturnValue (Binary operators.Subtract (Slot 1) (Slot 2))) ∷ []))
           ∷ method 0 0 ((types.Class 0) ∷ []) None (block [])
           ∷ []);
     })
@@ -51,9 +61,13 @@ FieldNullAfterValue =
     (record {
       classes = (one_class (types.Int ∷ (types.Class 0) ∷ []) 3 ∷ []);
       methods =
-          (method 0 0 ((types.Class 0) ∷ []) None (block ((SetField (Field (Slot 0) 0 1) 0 (Call (Slot 0) (called.Method 1) End)) ∷ []))
-          ∷ method 0 0 ((types.Class 0) ∷ []) (Some types.Int) (block ((SetField (Slot 0) 0 (Binary operators.Add (Field (Slot 0) 0 0) (Literal (int 1)))) ∷ (ReturnValue (Field (Slot 0) 0 0)) ∷ []))
-          ∷ method 0 2 ((types.Class 0) ∷ types.Int ∷ types.Int ∷ []) (Some types.Int) (block ((ReturnValue (Binary operators.Subtract (Slot 1) (Slot 2))) ∷ []))
+          (method 0 0 ((types.Class 0) ∷ []) None
+          (block ((SetField (Field (Slot 0) 0 1) 0 (Call (Slot 0) (called.Method 1) End)) ∷ []))
+          ∷ method 0 0 ((types.Class 0) ∷ []) (Some types.Int)
+          (block ((SetField (Slot 0) 0 (Binary operators.Add (Field (Slot 0) 0 0) (Literal (int 1)))) ∷
+          (ReturnValue (Field (Slot 0) 0 0)) ∷ []))
+          ∷ method 0 2 ((types.Class 0) ∷ types.Int ∷ types.Int ∷ []) (Some types.Int)
+          (block ((ReturnValue (Binary operators.Subtract (Slot 1) (Slot 2))) ∷ []))
           ∷ method 0 0 ((types.Class 0) ∷ []) None (block [])
           ∷ []);
     })
@@ -83,9 +97,14 @@ MethodArguments =
     (record {
       classes = (one_class (types.Int ∷ (types.Class 0) ∷ []) 3 ∷ []);
       methods =
-          (method 0 0 ((types.Class 0) ∷ []) (Some types.Int) (block ((ReturnValue (Call (Slot 0) (called.Method 2) (More (Call (Slot 0) (called.Method 1) End) (More (Call (Slot 0) (called.Method 1) End) End)))) ∷ []))
-          ∷ method 0 0 ((types.Class 0) ∷ []) (Some types.Int) (block ((SetField (Slot 0) 0 (Binary operators.Add (Field (Slot 0) 0 0) (Literal (int 1)))) ∷ (ReturnValue (Field (Slot 0) 0 0)) ∷ []))
-          ∷ method 0 2 ((types.Class 0) ∷ types.Int ∷ types.Int ∷ []) (Some types.Int) (block ((ReturnValue (Binary operators.Subtract (Slot 1) (Slot 2))) ∷ []))
+          (method 0 0 ((types.Class 0) ∷ []) (Some types.Int)
+          (block ((ReturnValue (Call (Slot 0) (called.Method 2)
+          (More (Call (Slot 0) (called.Method 1) End) (More (Call (Slot 0) (called.Method 1) End) End)))) ∷ []))
+          ∷ method 0 0 ((types.Class 0) ∷ []) (Some types.Int)
+          (block ((SetField (Slot 0) 0 (Binary operators.Add (Field (Slot 0) 0 0) (Literal (int 1)))) ∷
+          (ReturnValue (Field (Slot 0) 0 0)) ∷ []))
+          ∷ method 0 2 ((types.Class 0) ∷ types.Int ∷ types.Int ∷ []) (Some types.Int)
+          (block ((ReturnValue (Binary operators.Subtract (Slot 1) (Slot 2))) ∷ []))
           ∷ method 0 0 ((types.Class 0) ∷ []) None (block [])
           ∷ []);
     })
@@ -119,9 +138,14 @@ Operands =
     (record {
       classes = (one_class (types.Int ∷ (types.Class 0) ∷ []) 3 ∷ []);
       methods =
-          (method 0 0 ((types.Class 0) ∷ []) (Some types.Int) (block ((ReturnValue (Binary operators.Subtract (Call (Slot 0) (called.Method 1) End) (Call (Slot 0) (called.Method 1) End))) ∷ []))
-          ∷ method 0 0 ((types.Class 0) ∷ []) (Some types.Int) (block ((SetField (Slot 0) 0 (Binary operators.Add (Field (Slot 0) 0 0) (Literal (int 1)))) ∷ (ReturnValue (Field (Slot 0) 0 0)) ∷ []))
-          ∷ method 0 2 ((types.Class 0) ∷ types.Int ∷ types.Int ∷ []) (Some types.Int) (block ((ReturnValue (Binary operators.Subtract (Slot 1) (Slot 2))) ∷ []))
+          (method 0 0 ((types.Class 0) ∷ []) (Some types.Int)
+          (block ((ReturnValue (Binary operators.Subtract (Call (Slot 0) (called.Method 1) End)
+          (Call (Slot 0) (called.Method 1) End))) ∷ []))
+          ∷ method 0 0 ((types.Class 0) ∷ []) (Some types.Int)
+          (block ((SetField (Slot 0) 0 (Binary operators.Add (Field (Slot 0) 0 0) (Literal (int 1)))) ∷
+          (ReturnValue (Field (Slot 0) 0 0)) ∷ []))
+          ∷ method 0 2 ((types.Class 0) ∷ types.Int ∷ types.Int ∷ []) (Some types.Int)
+          (block ((ReturnValue (Binary operators.Subtract (Slot 1) (Slot 2))) ∷ []))
           ∷ method 0 0 ((types.Class 0) ∷ []) None (block [])
           ∷ []);
     })
@@ -154,11 +178,18 @@ ConstructorArguments =
     (record {
       classes = (one_class (types.Int ∷ (types.Class 0) ∷ []) 3 ∷ one_class (types.Int ∷ []) 4 ∷ []);
       methods =
-          (method 0 0 ((types.Class 0) ∷ []) (Some types.Int) (block ((ReturnValue (Field (MakeObject 1 (More (Call (Slot 0) (called.Method 1) End) (More (Call (Slot 0) (called.Method 1) End) End))) 1 0)) ∷ []))
-          ∷ method 0 0 ((types.Class 0) ∷ []) (Some types.Int) (block ((SetField (Slot 0) 0 (Binary operators.Add (Field (Slot 0) 0 0) (Literal (int 1)))) ∷ (ReturnValue (Field (Slot 0) 0 0)) ∷ []))
-          ∷ method 0 2 ((types.Class 0) ∷ types.Int ∷ types.Int ∷ []) (Some types.Int) (block ((ReturnValue (Binary operators.Subtract (Slot 1) (Slot 2))) ∷ []))
+          (method 0 0 ((types.Class 0) ∷ []) (Some types.Int)
+          (block ((ReturnValue
+          (Field (MakeObject 1 (More (Call (Slot 0) (called.Method 1) End)
+          (More (Call (Slot 0) (called.Method 1) End) End))) 1 0)) ∷ []))
+          ∷ method 0 0 ((types.Class 0) ∷ []) (Some types.Int)
+          (block ((SetField (Slot 0) 0 (Binary operators.Add (Field (Slot 0) 0 0) (Literal (int 1)))) ∷
+          (ReturnValue (Field (Slot 0) 0 0)) ∷ []))
+          ∷ method 0 2 ((types.Class 0) ∷ types.Int ∷ types.Int ∷ []) (Some types.Int)
+          (block ((ReturnValue (Binary operators.Subtract (Slot 1) (Slot 2))) ∷ []))
           ∷ method 0 0 ((types.Class 0) ∷ []) None (block [])
-          ∷ method 1 2 ((types.Class 1) ∷ types.Int ∷ types.Int ∷ []) None (block ((SetField (Slot 0) 0 (Binary operators.Subtract (Slot 1) (Slot 2))) ∷ []))
+          ∷ method 1 2 ((types.Class 1) ∷ types.Int ∷ types.Int ∷ []) None
+          (block ((SetField (Slot 0) 0 (Binary operators.Subtract (Slot 1) (Slot 2))) ∷ []))
           ∷ []);
     })
     (program (0 ∷ []) ((making 0 0 [] ∷ []) ∷ (calling 0 0 [] ∷ []) ∷ []))
@@ -194,8 +225,11 @@ AndLeftFalse =
     (record {
       classes = (one_class (types.Int ∷ []) 2 ∷ []);
       methods =
-          (method 0 0 ((types.Class 0) ∷ []) (Some types.Boolean) (block ((ReturnValue (And (Literal no) (Call (Slot 0) (called.Method 1) End))) ∷ []))
-          ∷ method 0 0 ((types.Class 0) ∷ []) (Some types.Boolean) (block ((SetField (Slot 0) 0 (Binary operators.Add (Field (Slot 0) 0 0) (Literal (int 1)))) ∷ (ReturnValue (Binary operators.Equal (Field (Slot 0) 0 0) (Literal (int 1)))) ∷ []))
+          (method 0 0 ((types.Class 0) ∷ []) (Some types.Boolean)
+          (block ((ReturnValue (And (Literal no) (Call (Slot 0) (called.Method 1) End))) ∷ []))
+          ∷ method 0 0 ((types.Class 0) ∷ []) (Some types.Boolean)
+          (block ((SetField (Slot 0) 0 (Binary operators.Add (Field (Slot 0) 0 0) (Literal (int 1)))) ∷
+          (ReturnValue (Binary operators.Equal (Field (Slot 0) 0 0) (Literal (int 1)))) ∷ []))
           ∷ method 0 0 ((types.Class 0) ∷ []) None (block [])
           ∷ []);
     })
@@ -220,8 +254,11 @@ AndLeftTrue =
     (record {
       classes = (one_class (types.Int ∷ []) 2 ∷ []);
       methods =
-          (method 0 0 ((types.Class 0) ∷ []) (Some types.Boolean) (block ((ReturnValue (And (Literal yes) (Call (Slot 0) (called.Method 1) End))) ∷ []))
-          ∷ method 0 0 ((types.Class 0) ∷ []) (Some types.Boolean) (block ((SetField (Slot 0) 0 (Binary operators.Add (Field (Slot 0) 0 0) (Literal (int 1)))) ∷ (ReturnValue (Binary operators.Equal (Field (Slot 0) 0 0) (Literal (int 1)))) ∷ []))
+          (method 0 0 ((types.Class 0) ∷ []) (Some types.Boolean)
+          (block ((ReturnValue (And (Literal yes) (Call (Slot 0) (called.Method 1) End))) ∷ []))
+          ∷ method 0 0 ((types.Class 0) ∷ []) (Some types.Boolean)
+          (block ((SetField (Slot 0) 0 (Binary operators.Add (Field (Slot 0) 0 0) (Literal (int 1)))) ∷
+          (ReturnValue (Binary operators.Equal (Field (Slot 0) 0 0) (Literal (int 1)))) ∷ []))
           ∷ method 0 0 ((types.Class 0) ∷ []) None (block [])
           ∷ []);
     })
@@ -250,8 +287,11 @@ OrLeftTrue =
     (record {
       classes = (one_class (types.Int ∷ []) 2 ∷ []);
       methods =
-          (method 0 0 ((types.Class 0) ∷ []) (Some types.Boolean) (block ((ReturnValue (Or (Literal yes) (Call (Slot 0) (called.Method 1) End))) ∷ []))
-          ∷ method 0 0 ((types.Class 0) ∷ []) (Some types.Boolean) (block ((SetField (Slot 0) 0 (Binary operators.Add (Field (Slot 0) 0 0) (Literal (int 1)))) ∷ (ReturnValue (Binary operators.Equal (Field (Slot 0) 0 0) (Literal (int 1)))) ∷ []))
+          (method 0 0 ((types.Class 0) ∷ []) (Some types.Boolean)
+          (block ((ReturnValue (Or (Literal yes) (Call (Slot 0) (called.Method 1) End))) ∷ []))
+          ∷ method 0 0 ((types.Class 0) ∷ []) (Some types.Boolean)
+          (block ((SetField (Slot 0) 0 (Binary operators.Add (Field (Slot 0) 0 0) (Literal (int 1)))) ∷
+          (ReturnValue (Binary operators.Equal (Field (Slot 0) 0 0) (Literal (int 1)))) ∷ []))
           ∷ method 0 0 ((types.Class 0) ∷ []) None (block [])
           ∷ []);
     })
@@ -276,8 +316,11 @@ OrLeftFalse =
     (record {
       classes = (one_class (types.Int ∷ []) 2 ∷ []);
       methods =
-          (method 0 0 ((types.Class 0) ∷ []) (Some types.Boolean) (block ((ReturnValue (Or (Literal no) (Call (Slot 0) (called.Method 1) End))) ∷ []))
-          ∷ method 0 0 ((types.Class 0) ∷ []) (Some types.Boolean) (block ((SetField (Slot 0) 0 (Binary operators.Add (Field (Slot 0) 0 0) (Literal (int 1)))) ∷ (ReturnValue (Binary operators.Equal (Field (Slot 0) 0 0) (Literal (int 1)))) ∷ []))
+          (method 0 0 ((types.Class 0) ∷ []) (Some types.Boolean)
+          (block ((ReturnValue (Or (Literal no) (Call (Slot 0) (called.Method 1) End))) ∷ []))
+          ∷ method 0 0 ((types.Class 0) ∷ []) (Some types.Boolean)
+          (block ((SetField (Slot 0) 0 (Binary operators.Add (Field (Slot 0) 0 0) (Literal (int 1)))) ∷
+          (ReturnValue (Binary operators.Equal (Field (Slot 0) 0 0) (Literal (int 1)))) ∷ []))
           ∷ method 0 0 ((types.Class 0) ∷ []) None (block [])
           ∷ []);
     })
@@ -306,9 +349,13 @@ ArrayNullAfterIndex =
     (record {
       classes = (one_class (types.Int ∷ types.BooleanArray ∷ []) 3 ∷ []);
       methods =
-          (method 0 0 ((types.Class 0) ∷ []) (Some types.Boolean) (block ((ReturnValue (Item (Field (Slot 0) 0 1) (Call (Slot 0) (called.Method 1) End))) ∷ []))
-          ∷ method 0 0 ((types.Class 0) ∷ []) (Some types.Int) (block ((SetField (Slot 0) 0 (Binary operators.Add (Field (Slot 0) 0 0) (Literal (int 1)))) ∷ (ReturnValue (Field (Slot 0) 0 0)) ∷ []))
-          ∷ method 0 2 ((types.Class 0) ∷ types.Int ∷ types.Int ∷ []) (Some types.Int) (block ((ReturnValue (Binary operators.Subtract (Slot 1) (Slot 2))) ∷ []))
+          (method 0 0 ((types.Class 0) ∷ []) (Some types.Boolean)
+          (block ((ReturnValue (Item (Field (Slot 0) 0 1) (Call (Slot 0) (called.Method 1) End))) ∷ []))
+          ∷ method 0 0 ((types.Class 0) ∷ []) (Some types.Int)
+          (block ((SetField (Slot 0) 0 (Binary operators.Add (Field (Slot 0) 0 0) (Literal (int 1)))) ∷
+          (ReturnValue (Field (Slot 0) 0 0)) ∷ []))
+          ∷ method 0 2 ((types.Class 0) ∷ types.Int ∷ types.Int ∷ []) (Some types.Int)
+          (block ((ReturnValue (Binary operators.Subtract (Slot 1) (Slot 2))) ∷ []))
           ∷ method 0 0 ((types.Class 0) ∷ []) None (block [])
           ∷ []);
     })
@@ -338,9 +385,14 @@ ArrayIndexValue =
     (record {
       classes = (one_class (types.Int ∷ types.BooleanArray ∷ []) 3 ∷ []);
       methods =
-          (method 0 0 ((types.Class 0) ∷ []) None (block ((SetField (Slot 0) 1 (MakeArray (Literal (int 5)))) ∷ (SetItem (Field (Slot 0) 0 1) (Call (Slot 0) (called.Method 1) End) (Binary operators.Equal (Call (Slot 0) (called.Method 1) End) (Literal (int 2)))) ∷ []))
-          ∷ method 0 0 ((types.Class 0) ∷ []) (Some types.Int) (block ((SetField (Slot 0) 0 (Binary operators.Add (Field (Slot 0) 0 0) (Literal (int 1)))) ∷ (ReturnValue (Field (Slot 0) 0 0)) ∷ []))
-          ∷ method 0 2 ((types.Class 0) ∷ types.Int ∷ types.Int ∷ []) (Some types.Int) (block ((ReturnValue (Binary operators.Subtract (Slot 1) (Slot 2))) ∷ []))
+          (method 0 0 ((types.Class 0) ∷ []) None (block ((SetField (Slot 0) 1 (MakeArray (Literal (int 5)))) ∷
+          (SetItem (Field (Slot 0) 0 1) (Call (Slot 0) (called.Method 1) End)
+          (Binary operators.Equal (Call (Slot 0) (called.Method 1) End) (Literal (int 2)))) ∷ []))
+          ∷ method 0 0 ((types.Class 0) ∷ []) (Some types.Int)
+          (block ((SetField (Slot 0) 0 (Binary operators.Add (Field (Slot 0) 0 0) (Literal (int 1)))) ∷
+          (ReturnValue (Field (Slot 0) 0 0)) ∷ []))
+          ∷ method 0 2 ((types.Class 0) ∷ types.Int ∷ types.Int ∷ []) (Some types.Int)
+          (block ((ReturnValue (Binary operators.Subtract (Slot 1) (Slot 2))) ∷ []))
           ∷ method 0 0 ((types.Class 0) ∷ []) None (block [])
           ∷ []);
     })
@@ -377,9 +429,14 @@ ArrayNullAfterValue =
     (record {
       classes = (one_class (types.Int ∷ types.BooleanArray ∷ []) 3 ∷ []);
       methods =
-          (method 0 0 ((types.Class 0) ∷ []) None (block ((SetItem (Field (Slot 0) 0 1) (Call (Slot 0) (called.Method 1) End) (Binary operators.Equal (Call (Slot 0) (called.Method 1) End) (Literal (int 2)))) ∷ []))
-          ∷ method 0 0 ((types.Class 0) ∷ []) (Some types.Int) (block ((SetField (Slot 0) 0 (Binary operators.Add (Field (Slot 0) 0 0) (Literal (int 1)))) ∷ (ReturnValue (Field (Slot 0) 0 0)) ∷ []))
-          ∷ method 0 2 ((types.Class 0) ∷ types.Int ∷ types.Int ∷ []) (Some types.Int) (block ((ReturnValue (Binary operators.Subtract (Slot 1) (Slot 2))) ∷ []))
+          (method 0 0 ((types.Class 0) ∷ []) None
+          (block ((SetItem (Field (Slot 0) 0 1) (Call (Slot 0) (called.Method 1) End)
+          (Binary operators.Equal (Call (Slot 0) (called.Method 1) End) (Literal (int 2)))) ∷ []))
+          ∷ method 0 0 ((types.Class 0) ∷ []) (Some types.Int)
+          (block ((SetField (Slot 0) 0 (Binary operators.Add (Field (Slot 0) 0 0) (Literal (int 1)))) ∷
+          (ReturnValue (Field (Slot 0) 0 0)) ∷ []))
+          ∷ method 0 2 ((types.Class 0) ∷ types.Int ∷ types.Int ∷ []) (Some types.Int)
+          (block ((ReturnValue (Binary operators.Subtract (Slot 1) (Slot 2))) ∷ []))
           ∷ method 0 0 ((types.Class 0) ∷ []) None (block [])
           ∷ []);
     })
@@ -413,9 +470,14 @@ NegativeIndex =
     (record {
       classes = (one_class (types.Int ∷ types.BooleanArray ∷ []) 3 ∷ []);
       methods =
-          (method 0 0 ((types.Class 0) ∷ types.BooleanArray ∷ []) (Some types.Boolean) (block ((block ((SetSlot 1 (Literal null)) ∷ (SetSlot 1 (MakeArray (Literal (int 1)))) ∷ [])) ∷ (ReturnValue (Item (Slot 1) (Negate (Literal (int 1))))) ∷ []))
-          ∷ method 0 0 ((types.Class 0) ∷ []) (Some types.Int) (block ((SetField (Slot 0) 0 (Binary operators.Add (Field (Slot 0) 0 0) (Literal (int 1)))) ∷ (ReturnValue (Field (Slot 0) 0 0)) ∷ []))
-          ∷ method 0 2 ((types.Class 0) ∷ types.Int ∷ types.Int ∷ []) (Some types.Int) (block ((ReturnValue (Binary operators.Subtract (Slot 1) (Slot 2))) ∷ []))
+          (method 0 0 ((types.Class 0) ∷ types.BooleanArray ∷ []) (Some types.Boolean)
+          (block ((block ((SetSlot 1 (Literal null)) ∷ (SetSlot 1 (MakeArray (Literal (int 1)))) ∷ [])) ∷
+          (ReturnValue (Item (Slot 1) (Negate (Literal (int 1))))) ∷ []))
+          ∷ method 0 0 ((types.Class 0) ∷ []) (Some types.Int)
+          (block ((SetField (Slot 0) 0 (Binary operators.Add (Field (Slot 0) 0 0) (Literal (int 1)))) ∷
+          (ReturnValue (Field (Slot 0) 0 0)) ∷ []))
+          ∷ method 0 2 ((types.Class 0) ∷ types.Int ∷ types.Int ∷ []) (Some types.Int)
+          (block ((ReturnValue (Binary operators.Subtract (Slot 1) (Slot 2))) ∷ []))
           ∷ method 0 0 ((types.Class 0) ∷ []) None (block [])
           ∷ []);
     })
@@ -442,9 +504,14 @@ NegativeLength =
     (record {
       classes = (one_class (types.Int ∷ types.BooleanArray ∷ []) 3 ∷ []);
       methods =
-          (method 0 0 ((types.Class 0) ∷ types.BooleanArray ∷ []) None (block ((block ((SetSlot 1 (Literal null)) ∷ (SetSlot 1 (MakeArray (Negate (Literal (int 1))))) ∷ [])) ∷ []))
-          ∷ method 0 0 ((types.Class 0) ∷ []) (Some types.Int) (block ((SetField (Slot 0) 0 (Binary operators.Add (Field (Slot 0) 0 0) (Literal (int 1)))) ∷ (ReturnValue (Field (Slot 0) 0 0)) ∷ []))
-          ∷ method 0 2 ((types.Class 0) ∷ types.Int ∷ types.Int ∷ []) (Some types.Int) (block ((ReturnValue (Binary operators.Subtract (Slot 1) (Slot 2))) ∷ []))
+          (method 0 0 ((types.Class 0) ∷ types.BooleanArray ∷ []) None
+          (block ((block ((SetSlot 1 (Literal null)) ∷ (SetSlot 1 (MakeArray (Negate (Literal (int 1))))) ∷ [])) ∷
+          []))
+          ∷ method 0 0 ((types.Class 0) ∷ []) (Some types.Int)
+          (block ((SetField (Slot 0) 0 (Binary operators.Add (Field (Slot 0) 0 0) (Literal (int 1)))) ∷
+          (ReturnValue (Field (Slot 0) 0 0)) ∷ []))
+          ∷ method 0 2 ((types.Class 0) ∷ types.Int ∷ types.Int ∷ []) (Some types.Int)
+          (block ((ReturnValue (Binary operators.Subtract (Slot 1) (Slot 2))) ∷ []))
           ∷ method 0 0 ((types.Class 0) ∷ []) None (block [])
           ∷ []);
     })
@@ -469,9 +536,15 @@ IndexAtTheLength =
     (record {
       classes = (one_class (types.Int ∷ types.BooleanArray ∷ []) 3 ∷ []);
       methods =
-          (method 0 0 ((types.Class 0) ∷ types.BooleanArray ∷ []) (Some types.Boolean) (block ((block ((SetSlot 1 (Literal null)) ∷ (SetSlot 1 (MakeArray (Literal (int 2)))) ∷ [])) ∷ (SetItem (Slot 1) (Literal (int 1)) (Literal yes)) ∷ (ReturnValue (And (Item (Slot 1) (Literal (int 1))) (Item (Slot 1) (Literal (int 2))))) ∷ []))
-          ∷ method 0 0 ((types.Class 0) ∷ []) (Some types.Int) (block ((SetField (Slot 0) 0 (Binary operators.Add (Field (Slot 0) 0 0) (Literal (int 1)))) ∷ (ReturnValue (Field (Slot 0) 0 0)) ∷ []))
-          ∷ method 0 2 ((types.Class 0) ∷ types.Int ∷ types.Int ∷ []) (Some types.Int) (block ((ReturnValue (Binary operators.Subtract (Slot 1) (Slot 2))) ∷ []))
+          (method 0 0 ((types.Class 0) ∷ types.BooleanArray ∷ []) (Some types.Boolean)
+          (block ((block ((SetSlot 1 (Literal null)) ∷ (SetSlot 1 (MakeArray (Literal (int 2)))) ∷ [])) ∷
+          (SetItem (Slot 1) (Literal (int 1)) (Literal yes)) ∷
+          (ReturnValue (And (Item (Slot 1) (Literal (int 1))) (Item (Slot 1) (Literal (int 2))))) ∷ []))
+          ∷ method 0 0 ((types.Class 0) ∷ []) (Some types.Int)
+          (block ((SetField (Slot 0) 0 (Binary operators.Add (Field (Slot 0) 0 0) (Literal (int 1)))) ∷
+          (ReturnValue (Field (Slot 0) 0 0)) ∷ []))
+          ∷ method 0 2 ((types.Class 0) ∷ types.Int ∷ types.Int ∷ []) (Some types.Int)
+          (block ((ReturnValue (Binary operators.Subtract (Slot 1) (Slot 2))) ∷ []))
           ∷ method 0 0 ((types.Class 0) ∷ []) None (block [])
           ∷ []);
     })

@@ -7,7 +7,8 @@ use Rattle.ls_events.specs.declared.action.Action.TheVariants as actions
 use Rattle.ls_checked.specs.declared.tree.Operator.TheVariants as operators
 use Rattle.ls_checked.specs.CheckedTree.{Slot, Field, Binary, ReturnValue}
 use Rattle.ls_meaning.specs.Runs.{source_trace}
-use Rattle.ls_meaning_rows.specs.Made.{int, minus, no, null, at, block, one_class, method, making, calling, program, line, done, gives}
+use Rattle.ls_meaning_rows.specs.Made.{int, minus, no, null, at, block, one_class, method, making, calling, program}
+use Rattle.ls_meaning_rows.specs.Made.{line, done, gives}
 
 -- class C { int f(int a, int b) { return a * b; } } with (0, 5), (-5, 0), (0, 0), (-2147483648, 0), (-3, 7), (-3, -7)
 abbrev pub ProductsOfZero : Type 0
@@ -16,11 +17,15 @@ ProductsOfZero =
     (record {
       classes = (one_class [] 1 ∷ []);
       methods =
-          (method 0 2 ((types.Class 0) ∷ types.Int ∷ types.Int ∷ []) (Some types.Int) (block ((ReturnValue (Binary operators.Multiply (Slot 1) (Slot 2))) ∷ []))
+          (method 0 2 ((types.Class 0) ∷ types.Int ∷ types.Int ∷ []) (Some types.Int)
+          (block ((ReturnValue (Binary operators.Multiply (Slot 1) (Slot 2))) ∷ []))
           ∷ method 0 0 ((types.Class 0) ∷ []) None (block [])
           ∷ []);
     })
-    (program (0 ∷ []) ((making 0 0 [] ∷ []) ∷ (calling 0 0 ((int 0) ∷ (int 5) ∷ []) ∷ calling 0 0 ((minus 5) ∷ (int 0) ∷ []) ∷ calling 0 0 ((int 0) ∷ (int 0) ∷ []) ∷ calling 0 0 ((minus 2147483648) ∷ (int 0) ∷ []) ∷ calling 0 0 ((minus 3) ∷ (int 7) ∷ []) ∷ calling 0 0 ((minus 3) ∷ (minus 7) ∷ []) ∷ []) ∷ []))
+    (program (0 ∷ []) ((making 0 0 [] ∷ []) ∷ (calling 0 0 ((int 0) ∷ (int 5) ∷ []) ∷
+    calling 0 0 ((minus 5) ∷ (int 0) ∷ []) ∷ calling 0 0 ((int 0) ∷ (int 0) ∷ []) ∷
+    calling 0 0 ((minus 2147483648) ∷ (int 0) ∷ []) ∷ calling 0 0 ((minus 3) ∷ (int 7) ∷ []) ∷
+    calling 0 0 ((minus 3) ∷ (minus 7) ∷ []) ∷ []) ∷ []))
     (replicate 9 0 ++ replicate 99 1)
     ≡
     (line 0 (actions.Call 1) done

@@ -9,14 +9,16 @@ use Rattle.ls_events.specs.declared.event.Happening.{Happening}
 use Rattle.ls_events.specs.declared.event.Happening.TheVariants.{Called, Returned, Trapped}
 use Rattle.ls_checked.specs.declared.tree.Operator.TheVariants as operators
 use Rattle.ls_checked.specs.declared.tree.Called.TheVariants as called
-use Rattle.ls_checked.specs.CheckedTree.{File, Literal, Slot, Field, Binary, Call, MakeLock, End, SetField, Evaluate, ReturnValue}
+use Rattle.ls_checked.specs.CheckedTree.{File, Literal, Slot, Field, Binary, Call, MakeLock, End, SetField, Evaluate}
+use Rattle.ls_checked.specs.CheckedTree.{ReturnValue}
 use Rattle.ls_checked.specs.CheckedProgram.{Program}
 use Rattle.ls_meaning.specs.declared.step.Asked.TheVariants as asks
 use Rattle.ls_meaning.specs.declared.step.Did.TheVariants as did
 use Rattle.ls_meaning.specs.Course.{Answers}
 use Rattle.ls_meaning.specs.Store.{Free, HeldBy, Object, LockOf}
 use Rattle.ls_meaning.specs.Runs.{State, start, asked, step, source_run, source_history}
-use Rattle.ls_meaning_rows.specs.Made.{int, no, at, block, one_class, method, making, calling, program, done, gives, fails}
+use Rattle.ls_meaning_rows.specs.Made.{int, no, at, block, one_class, method, making, calling, program, done, gives}
+use Rattle.ls_meaning_rows.specs.Made.{fails}
 
 abbrev pub event : ℕ → ℕ → Happening → Event
 event thread call happening = record { thread = thread; call = call; happening = happening }
@@ -33,12 +35,15 @@ WholeHistory =
           (method 0 1 ((types.Class 0) ∷ types.Int ∷ []) None (block ((SetField (Slot 0) 0 (Slot 1)) ∷ []))
           ∷ method 0 0 ((types.Class 0) ∷ []) (Some types.Int) (block ((ReturnValue (Field (Slot 0) 0 0)) ∷ []))
           ∷ method 0 0 ((types.Class 0) ∷ []) (Some types.Boolean) (block ((ReturnValue (Field (Slot 0) 0 1)) ∷ []))
-          ∷ method 0 0 ((types.Class 0) ∷ []) None (block ((SetField (Slot 0) 0 (Binary operators.Divide (Literal (int 1)) (Literal (int 0)))) ∷ []))
+          ∷ method 0 0 ((types.Class 0) ∷ []) None
+          (block ((SetField (Slot 0) 0 (Binary operators.Divide (Literal (int 1)) (Literal (int 0)))) ∷ []))
           ∷ method 0 0 ((types.Class 0) ∷ []) None (block [])
           ∷ []);
     })
-    (program (0 ∷ []) ((making 0 0 [] ∷ []) ∷ (calling 0 0 ((int 5) ∷ []) ∷ calling 0 1 [] ∷ calling 0 2 [] ∷ []) ∷ (calling 0 1 [] ∷ calling 0 3 [] ∷ calling 0 1 [] ∷ []) ∷ (calling 0 0 ((int 6) ∷ []) ∷ []) ∷ []))
-    (replicate 5 0 ++ replicate 1 1 ++ replicate 1 2 ++ replicate 4 1 ++ replicate 4 2 ++ replicate 3 3 ++ replicate 5 1 ++ replicate 9 2 ++ replicate 9 1)
+    (program (0 ∷ []) ((making 0 0 [] ∷ []) ∷ (calling 0 0 ((int 5) ∷ []) ∷ calling 0 1 [] ∷ calling 0 2 [] ∷ []) ∷
+    (calling 0 1 [] ∷ calling 0 3 [] ∷ calling 0 1 [] ∷ []) ∷ (calling 0 0 ((int 6) ∷ []) ∷ []) ∷ []))
+    (replicate 5 0 ++ replicate 1 1 ++ replicate 1 2 ++ replicate 4 1 ++ replicate 4 2 ++ replicate 3 3 ++ replicate 5 1
+    ++ replicate 9 2 ++ replicate 9 1)
     ≡
     (event 0 1 Called
     ∷ event 0 1 (Returned None)
@@ -68,7 +73,8 @@ file = record {
 
 -- the setup makes one, A locks, B locks, C unlocks
 abbrev pub of_locks : Program
-of_locks = program (0 ∷ []) ((making 0 0 [] ∷ []) ∷ (calling 0 0 [] ∷ []) ∷ (calling 0 0 [] ∷ []) ∷ (calling 0 1 [] ∷ []) ∷ [])
+of_locks = program (0 ∷ []) ((making 0 0 [] ∷ []) ∷ (calling 0 0 [] ∷ []) ∷ (calling 0 0 [] ∷ []) ∷
+    (calling 0 1 [] ∷ []) ∷ [])
 
 -- the store when A holds the lock, with the answers that each thread has had
 abbrev pub with_answers : Answers → Answers → Answers → Answers → State
@@ -123,4 +129,5 @@ AskedOnTheWay =
     × (asked file of_locks (with_answers made [] [] []) 1 ≡ asks.Asks (actions.Call 1))
     × (asked file of_locks (with_answers made (entered ++ done ∷ []) [] []) 1 ≡ asks.Asks (actions.Return 1 None))
     × (asked file of_locks (with_answers made [] [] entered) 3 ≡ asks.Asks (actions.Unlock 2))
-    × (asked file of_locks (with_answers made [] [] (entered ++ fails kinds.IllegalMonitorState ∷ [])) 3 ≡ asks.Asks (actions.Trap 1 kinds.IllegalMonitorState))
+    × (asked file of_locks (with_answers made [] [] (entered ++ fails kinds.IllegalMonitorState ∷ [])) 3 ≡ asks.Asks
+    (actions.Trap 1 kinds.IllegalMonitorState))

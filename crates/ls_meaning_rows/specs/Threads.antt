@@ -3,13 +3,18 @@
 use Rattle.std.specs.Prelude.{◌≡◌, [], ◌∷◌, ◌++◌, replicate, None, Some}
 use Rattle.ls_events.specs.declared.value.ValueType.TheVariants as types
 use Rattle.ls_events.specs.declared.kind.Kind.TheVariants as kinds
-use Rattle.ls_events.specs.declared.action.Action.TheVariants.{ReadField, WriteField, ReadItem, WriteItem, ReadName, WriteName, New, NewLock, NewMarkable, NewArray, Lock, Unlock, TryLock, IsHeld, ReadPair, SetPair, SwapPair, AttemptMark, Turn, Enter, Return, Trap}
+use Rattle.ls_events.specs.declared.action.Action.TheVariants.{ReadField, WriteField, ReadItem, WriteItem, ReadName}
+use Rattle.ls_events.specs.declared.action.Action.TheVariants.{WriteName, New, NewLock, NewMarkable, NewArray, Lock}
+use Rattle.ls_events.specs.declared.action.Action.TheVariants.{Unlock, TryLock, IsHeld, ReadPair, SetPair, SwapPair}
+use Rattle.ls_events.specs.declared.action.Action.TheVariants.{AttemptMark, Turn, Enter, Return, Trap}
 use Rattle.ls_events.specs.declared.action.Action.TheVariants as actions
 use Rattle.ls_checked.specs.declared.tree.Operator.TheVariants as operators
 use Rattle.ls_checked.specs.declared.tree.Called.TheVariants as called
-use Rattle.ls_checked.specs.CheckedTree.{Literal, Slot, Field, Binary, Call, MakeObject, MakeLock, End, SetSlot, SetField, Evaluate, ReturnValue, Try}
+use Rattle.ls_checked.specs.CheckedTree.{Literal, Slot, Field, Binary, Call, MakeObject, MakeLock, End, SetSlot}
+use Rattle.ls_checked.specs.CheckedTree.{SetField, Evaluate, ReturnValue, Try}
 use Rattle.ls_meaning.specs.Runs.{source_trace}
-use Rattle.ls_meaning_rows.specs.Made.{int, yes, no, at, block, one_class, method, making, calling, program, line, done, gives, fails}
+use Rattle.ls_meaning_rows.specs.Made.{int, yes, no, at, block, one_class, method, making, calling, program, line, done}
+use Rattle.ls_meaning_rows.specs.Made.{gives, fails}
 
 -- class C { int v; int f() { return v; } C() { v = 1; } }
 abbrev pub NoStartBeforeTheSetupHasEnded : Type 0
@@ -46,7 +51,8 @@ NoStartAfterATrapOfTheSetup =
       classes = (one_class (types.Int ∷ []) 1 ∷ []);
       methods =
           (method 0 0 ((types.Class 0) ∷ []) (Some types.Int) (block ((ReturnValue (Field (Slot 0) 0 0)) ∷ []))
-          ∷ method 0 0 ((types.Class 0) ∷ []) None (block ((SetField (Slot 0) 0 (Binary operators.Divide (Literal (int 1)) (Literal (int 0)))) ∷ []))
+          ∷ method 0 0 ((types.Class 0) ∷ []) None
+          (block ((SetField (Slot 0) 0 (Binary operators.Divide (Literal (int 1)) (Literal (int 0)))) ∷ []))
           ∷ []);
     })
     (program (0 ∷ []) ((making 0 0 [] ∷ []) ∷ (calling 0 0 [] ∷ []) ∷ []))
@@ -65,7 +71,8 @@ NoStepAfterATrap =
     (record {
       classes = (one_class (types.Int ∷ []) 1 ∷ []);
       methods =
-          (method 0 0 ((types.Class 0) ∷ []) None (block ((SetField (Slot 0) 0 (Binary operators.Divide (Literal (int 1)) (Field (Slot 0) 0 0))) ∷ []))
+          (method 0 0 ((types.Class 0) ∷ []) None
+          (block ((SetField (Slot 0) 0 (Binary operators.Divide (Literal (int 1)) (Field (Slot 0) 0 0))) ∷ []))
           ∷ method 0 0 ((types.Class 0) ∷ []) None (block [])
           ∷ []);
     })
@@ -92,7 +99,9 @@ ExceptionOfAnInitialiser =
       classes = (one_class (types.Int ∷ []) 1 ∷ []);
       methods =
           (method 0 0 ((types.Class 0) ∷ []) (Some types.Int) (block ((ReturnValue (Field (Slot 0) 0 0)) ∷ []))
-          ∷ method 0 0 ((types.Class 0) ∷ []) None (block ((SetField (Slot 0) 0 (Binary operators.Divide (Literal (int 1)) (Literal (int 0)))) ∷ (SetField (Slot 0) 0 (Literal (int 2))) ∷ []))
+          ∷ method 0 0 ((types.Class 0) ∷ []) None
+          (block ((SetField (Slot 0) 0 (Binary operators.Divide (Literal (int 1)) (Literal (int 0)))) ∷
+          (SetField (Slot 0) 0 (Literal (int 2))) ∷ []))
           ∷ []);
     })
     (program (0 ∷ []) ((making 0 0 [] ∷ []) ∷ (calling 0 0 [] ∷ []) ∷ []))
@@ -111,9 +120,13 @@ ExceptionOfAConstructor =
     (record {
       classes = (one_class (types.Int ∷ []) 1 ∷ one_class [] 2 ∷ []);
       methods =
-          (method 0 0 ((types.Class 0) ∷ []) (Some types.Int) (block ((Try (block ((Evaluate (MakeObject 1 End)) ∷ [])) (block ((SetField (Slot 0) 0 (Literal (int 1))) ∷ []))) ∷ (ReturnValue (Literal (int 1))) ∷ []))
+          (method 0 0 ((types.Class 0) ∷ []) (Some types.Int)
+          (block ((Try (block ((Evaluate (MakeObject 1 End)) ∷ []))
+          (block ((SetField (Slot 0) 0 (Literal (int 1))) ∷ []))) ∷ (ReturnValue (Literal (int 1))) ∷ []))
           ∷ method 0 0 ((types.Class 0) ∷ []) None (block [])
-          ∷ method 1 0 ((types.Class 1) ∷ types.Int ∷ []) None (block ((block ((SetSlot 1 (Literal (int 0))) ∷ (SetSlot 1 (Binary operators.Divide (Literal (int 1)) (Literal (int 0)))) ∷ [])) ∷ []))
+          ∷ method 1 0 ((types.Class 1) ∷ types.Int ∷ []) None
+          (block ((block ((SetSlot 1 (Literal (int 0))) ∷
+          (SetSlot 1 (Binary operators.Divide (Literal (int 1)) (Literal (int 0)))) ∷ [])) ∷ []))
           ∷ []);
     })
     (program (0 ∷ []) ((making 0 0 [] ∷ []) ∷ (calling 0 0 [] ∷ []) ∷ []))
@@ -141,10 +154,14 @@ AHeldLockIsWaitedFor =
     (record {
       classes = (one_class (types.Lock ∷ []) 4 ∷ []);
       methods =
-          (method 0 0 ((types.Class 0) ∷ []) None (block ((Evaluate (Call (Field (Slot 0) 0 0) called.LockIt End)) ∷ []))
-          ∷ method 0 0 ((types.Class 0) ∷ []) None (block ((Evaluate (Call (Field (Slot 0) 0 0) called.UnlockIt End)) ∷ []))
-          ∷ method 0 0 ((types.Class 0) ∷ []) (Some types.Boolean) (block ((ReturnValue (Call (Field (Slot 0) 0 0) called.TryIt End)) ∷ []))
-          ∷ method 0 0 ((types.Class 0) ∷ []) (Some types.Boolean) (block ((ReturnValue (Call (Field (Slot 0) 0 0) called.AskIt End)) ∷ []))
+          (method 0 0 ((types.Class 0) ∷ []) None (block ((Evaluate (Call (Field (Slot 0) 0 0) called.LockIt End)) ∷
+          []))
+          ∷ method 0 0 ((types.Class 0) ∷ []) None (block ((Evaluate (Call (Field (Slot 0) 0 0) called.UnlockIt End)) ∷
+          []))
+          ∷ method 0 0 ((types.Class 0) ∷ []) (Some types.Boolean)
+          (block ((ReturnValue (Call (Field (Slot 0) 0 0) called.TryIt End)) ∷ []))
+          ∷ method 0 0 ((types.Class 0) ∷ []) (Some types.Boolean)
+          (block ((ReturnValue (Call (Field (Slot 0) 0 0) called.AskIt End)) ∷ []))
           ∷ method 0 0 ((types.Class 0) ∷ []) None (block ((SetField (Slot 0) 0 MakeLock) ∷ []))
           ∷ []);
     })
@@ -185,10 +202,14 @@ UnlockOfALockThatAnotherHolds =
     (record {
       classes = (one_class (types.Lock ∷ []) 4 ∷ []);
       methods =
-          (method 0 0 ((types.Class 0) ∷ []) None (block ((Evaluate (Call (Field (Slot 0) 0 0) called.LockIt End)) ∷ []))
-          ∷ method 0 0 ((types.Class 0) ∷ []) None (block ((Evaluate (Call (Field (Slot 0) 0 0) called.UnlockIt End)) ∷ []))
-          ∷ method 0 0 ((types.Class 0) ∷ []) (Some types.Boolean) (block ((ReturnValue (Call (Field (Slot 0) 0 0) called.TryIt End)) ∷ []))
-          ∷ method 0 0 ((types.Class 0) ∷ []) (Some types.Boolean) (block ((ReturnValue (Call (Field (Slot 0) 0 0) called.AskIt End)) ∷ []))
+          (method 0 0 ((types.Class 0) ∷ []) None (block ((Evaluate (Call (Field (Slot 0) 0 0) called.LockIt End)) ∷
+          []))
+          ∷ method 0 0 ((types.Class 0) ∷ []) None (block ((Evaluate (Call (Field (Slot 0) 0 0) called.UnlockIt End)) ∷
+          []))
+          ∷ method 0 0 ((types.Class 0) ∷ []) (Some types.Boolean)
+          (block ((ReturnValue (Call (Field (Slot 0) 0 0) called.TryIt End)) ∷ []))
+          ∷ method 0 0 ((types.Class 0) ∷ []) (Some types.Boolean)
+          (block ((ReturnValue (Call (Field (Slot 0) 0 0) called.AskIt End)) ∷ []))
           ∷ method 0 0 ((types.Class 0) ∷ []) None (block ((SetField (Slot 0) 0 MakeLock) ∷ []))
           ∷ []);
     })
@@ -229,10 +250,14 @@ UnlockOfAFreeLock =
     (record {
       classes = (one_class (types.Lock ∷ []) 4 ∷ []);
       methods =
-          (method 0 0 ((types.Class 0) ∷ []) None (block ((Evaluate (Call (Field (Slot 0) 0 0) called.LockIt End)) ∷ []))
-          ∷ method 0 0 ((types.Class 0) ∷ []) None (block ((Evaluate (Call (Field (Slot 0) 0 0) called.UnlockIt End)) ∷ []))
-          ∷ method 0 0 ((types.Class 0) ∷ []) (Some types.Boolean) (block ((ReturnValue (Call (Field (Slot 0) 0 0) called.TryIt End)) ∷ []))
-          ∷ method 0 0 ((types.Class 0) ∷ []) (Some types.Boolean) (block ((ReturnValue (Call (Field (Slot 0) 0 0) called.AskIt End)) ∷ []))
+          (method 0 0 ((types.Class 0) ∷ []) None (block ((Evaluate (Call (Field (Slot 0) 0 0) called.LockIt End)) ∷
+          []))
+          ∷ method 0 0 ((types.Class 0) ∷ []) None (block ((Evaluate (Call (Field (Slot 0) 0 0) called.UnlockIt End)) ∷
+          []))
+          ∷ method 0 0 ((types.Class 0) ∷ []) (Some types.Boolean)
+          (block ((ReturnValue (Call (Field (Slot 0) 0 0) called.TryIt End)) ∷ []))
+          ∷ method 0 0 ((types.Class 0) ∷ []) (Some types.Boolean)
+          (block ((ReturnValue (Call (Field (Slot 0) 0 0) called.AskIt End)) ∷ []))
           ∷ method 0 0 ((types.Class 0) ∷ []) None (block ((SetField (Slot 0) 0 MakeLock) ∷ []))
           ∷ []);
     })
@@ -261,14 +286,19 @@ HeldByAnother =
     (record {
       classes = (one_class (types.Lock ∷ []) 4 ∷ []);
       methods =
-          (method 0 0 ((types.Class 0) ∷ []) None (block ((Evaluate (Call (Field (Slot 0) 0 0) called.LockIt End)) ∷ []))
-          ∷ method 0 0 ((types.Class 0) ∷ []) None (block ((Evaluate (Call (Field (Slot 0) 0 0) called.UnlockIt End)) ∷ []))
-          ∷ method 0 0 ((types.Class 0) ∷ []) (Some types.Boolean) (block ((ReturnValue (Call (Field (Slot 0) 0 0) called.TryIt End)) ∷ []))
-          ∷ method 0 0 ((types.Class 0) ∷ []) (Some types.Boolean) (block ((ReturnValue (Call (Field (Slot 0) 0 0) called.AskIt End)) ∷ []))
+          (method 0 0 ((types.Class 0) ∷ []) None (block ((Evaluate (Call (Field (Slot 0) 0 0) called.LockIt End)) ∷
+          []))
+          ∷ method 0 0 ((types.Class 0) ∷ []) None (block ((Evaluate (Call (Field (Slot 0) 0 0) called.UnlockIt End)) ∷
+          []))
+          ∷ method 0 0 ((types.Class 0) ∷ []) (Some types.Boolean)
+          (block ((ReturnValue (Call (Field (Slot 0) 0 0) called.TryIt End)) ∷ []))
+          ∷ method 0 0 ((types.Class 0) ∷ []) (Some types.Boolean)
+          (block ((ReturnValue (Call (Field (Slot 0) 0 0) called.AskIt End)) ∷ []))
           ∷ method 0 0 ((types.Class 0) ∷ []) None (block ((SetField (Slot 0) 0 MakeLock) ∷ []))
           ∷ []);
     })
-    (program (0 ∷ []) ((making 0 0 [] ∷ []) ∷ (calling 0 3 [] ∷ calling 0 0 [] ∷ calling 0 3 [] ∷ []) ∷ (calling 0 3 [] ∷ calling 0 2 [] ∷ []) ∷ []))
+    (program (0 ∷ []) ((making 0 0 [] ∷ []) ∷ (calling 0 3 [] ∷ calling 0 0 [] ∷ calling 0 3 [] ∷ []) ∷
+    (calling 0 3 [] ∷ calling 0 2 [] ∷ []) ∷ []))
     (replicate 9 0 ++ replicate 99 1 ++ replicate 99 2)
     ≡
     (line 0 (actions.Call 1) done
@@ -317,14 +347,19 @@ TwoHoldsByTry =
     (record {
       classes = (one_class (types.Lock ∷ []) 4 ∷ []);
       methods =
-          (method 0 0 ((types.Class 0) ∷ []) None (block ((Evaluate (Call (Field (Slot 0) 0 0) called.LockIt End)) ∷ []))
-          ∷ method 0 0 ((types.Class 0) ∷ []) None (block ((Evaluate (Call (Field (Slot 0) 0 0) called.UnlockIt End)) ∷ []))
-          ∷ method 0 0 ((types.Class 0) ∷ []) (Some types.Boolean) (block ((ReturnValue (Call (Field (Slot 0) 0 0) called.TryIt End)) ∷ []))
-          ∷ method 0 0 ((types.Class 0) ∷ []) (Some types.Boolean) (block ((ReturnValue (Call (Field (Slot 0) 0 0) called.AskIt End)) ∷ []))
+          (method 0 0 ((types.Class 0) ∷ []) None (block ((Evaluate (Call (Field (Slot 0) 0 0) called.LockIt End)) ∷
+          []))
+          ∷ method 0 0 ((types.Class 0) ∷ []) None (block ((Evaluate (Call (Field (Slot 0) 0 0) called.UnlockIt End)) ∷
+          []))
+          ∷ method 0 0 ((types.Class 0) ∷ []) (Some types.Boolean)
+          (block ((ReturnValue (Call (Field (Slot 0) 0 0) called.TryIt End)) ∷ []))
+          ∷ method 0 0 ((types.Class 0) ∷ []) (Some types.Boolean)
+          (block ((ReturnValue (Call (Field (Slot 0) 0 0) called.AskIt End)) ∷ []))
           ∷ method 0 0 ((types.Class 0) ∷ []) None (block ((SetField (Slot 0) 0 MakeLock) ∷ []))
           ∷ []);
     })
-    (program (0 ∷ []) ((making 0 0 [] ∷ []) ∷ (calling 0 2 [] ∷ calling 0 2 [] ∷ calling 0 1 [] ∷ calling 0 1 [] ∷ []) ∷ (calling 0 2 [] ∷ calling 0 2 [] ∷ []) ∷ []))
+    (program (0 ∷ []) ((making 0 0 [] ∷ []) ∷ (calling 0 2 [] ∷ calling 0 2 [] ∷ calling 0 1 [] ∷ calling 0 1 [] ∷ []) ∷
+    (calling 0 2 [] ∷ calling 0 2 [] ∷ []) ∷ []))
     (replicate 9 0 ++ replicate 18 1 ++ replicate 6 2 ++ replicate 6 1 ++ replicate 6 2)
     ≡
     (line 0 (actions.Call 1) done

@@ -3,13 +3,18 @@ use Rattle.std.specs.Prelude.{◌≡◌, pos, true, [], ◌∷◌, ◌++◌, rep
 use Rattle.ls_events.specs.declared.value.Value.TheVariants as values
 use Rattle.ls_events.specs.declared.value.ValueType.TheVariants as types
 use Rattle.ls_events.specs.declared.kind.Kind.TheVariants as kinds
-use Rattle.ls_events.specs.declared.action.Action.TheVariants.{ReadField, WriteField, ReadItem, WriteItem, ReadName, WriteName, New, NewLock, NewMarkable, NewArray, Lock, Unlock, TryLock, IsHeld, ReadPair, SetPair, SwapPair, AttemptMark, Turn, Enter, Return, Trap}
+use Rattle.ls_events.specs.declared.action.Action.TheVariants.{ReadField, WriteField, ReadItem, WriteItem, ReadName}
+use Rattle.ls_events.specs.declared.action.Action.TheVariants.{WriteName, New, NewLock, NewMarkable, NewArray, Lock}
+use Rattle.ls_events.specs.declared.action.Action.TheVariants.{Unlock, TryLock, IsHeld, ReadPair, SetPair, SwapPair}
+use Rattle.ls_events.specs.declared.action.Action.TheVariants.{AttemptMark, Turn, Enter, Return, Trap}
 use Rattle.ls_events.specs.declared.action.Action.TheVariants as actions
 use Rattle.ls_checked.specs.declared.tree.Operator.TheVariants as operators
 use Rattle.ls_checked.specs.declared.tree.Called.TheVariants as called
-use Rattle.ls_checked.specs.CheckedTree.{Literal, Slot, Field, Binary, Call, MakeLock, MakeMarkable, MakeArray, End, More, SetSlot, SetField, Evaluate, While, ReturnValue, Try}
+use Rattle.ls_checked.specs.CheckedTree.{Literal, Slot, Field, Binary, Call, MakeLock, MakeMarkable, MakeArray, End}
+use Rattle.ls_checked.specs.CheckedTree.{More, SetSlot, SetField, Evaluate, While, ReturnValue, Try}
 use Rattle.ls_meaning.specs.Runs.{source_trace}
-use Rattle.ls_meaning_rows.specs.Made.{int, yes, no, null, at, block, one_class, method, making, calling, program, line, done, gives, fails}
+use Rattle.ls_meaning_rows.specs.Made.{int, yes, no, null, at, block, one_class, method, making, calling, program, line}
+use Rattle.ls_meaning_rows.specs.Made.{done, gives, fails}
 
 -- class Counter { int v; void inc() { int t = v; int i = 0; while (i < 1) { i = i + 1; } v = t + 1; }
 -- int get() { return v; } }
@@ -19,7 +24,12 @@ UpdateLost =
     (record {
       classes = (one_class (types.Int ∷ []) 2 ∷ []);
       methods =
-          (method 0 0 ((types.Class 0) ∷ types.Int ∷ types.Int ∷ []) None (block ((block ((SetSlot 1 (Literal (int 0))) ∷ (SetSlot 1 (Field (Slot 0) 0 0)) ∷ [])) ∷ (block ((SetSlot 2 (Literal (int 0))) ∷ (SetSlot 2 (Literal (int 0))) ∷ [])) ∷ (While (Binary operators.Less (Slot 2) (Literal (int 1))) (block ((SetSlot 2 (Binary operators.Add (Slot 2) (Literal (int 1)))) ∷ []))) ∷ (SetField (Slot 0) 0 (Binary operators.Add (Slot 1) (Literal (int 1)))) ∷ []))
+          (method 0 0 ((types.Class 0) ∷ types.Int ∷ types.Int ∷ []) None
+          (block ((block ((SetSlot 1 (Literal (int 0))) ∷ (SetSlot 1 (Field (Slot 0) 0 0)) ∷ [])) ∷
+          (block ((SetSlot 2 (Literal (int 0))) ∷ (SetSlot 2 (Literal (int 0))) ∷ [])) ∷
+          (While (Binary operators.Less (Slot 2) (Literal (int 1)))
+          (block ((SetSlot 2 (Binary operators.Add (Slot 2) (Literal (int 1)))) ∷ []))) ∷
+          (SetField (Slot 0) 0 (Binary operators.Add (Slot 1) (Literal (int 1)))) ∷ []))
           ∷ method 0 0 ((types.Class 0) ∷ []) (Some types.Int) (block ((ReturnValue (Field (Slot 0) 0 0)) ∷ []))
           ∷ method 0 0 ((types.Class 0) ∷ []) None (block [])
           ∷ []);
@@ -60,7 +70,9 @@ ValueBeforeFinally =
     (record {
       classes = (one_class [] 1 ∷ []);
       methods =
-          (method 0 0 ((types.Class 0) ∷ types.Int ∷ []) (Some types.Int) (block ((block ((SetSlot 1 (Literal (int 0))) ∷ (SetSlot 1 (Literal (int 1))) ∷ [])) ∷ (Try (block ((ReturnValue (Slot 1)) ∷ [])) (block ((SetSlot 1 (Literal (int 5))) ∷ []))) ∷ []))
+          (method 0 0 ((types.Class 0) ∷ types.Int ∷ []) (Some types.Int)
+          (block ((block ((SetSlot 1 (Literal (int 0))) ∷ (SetSlot 1 (Literal (int 1))) ∷ [])) ∷
+          (Try (block ((ReturnValue (Slot 1)) ∷ [])) (block ((SetSlot 1 (Literal (int 5))) ∷ []))) ∷ []))
           ∷ method 0 0 ((types.Class 0) ∷ []) None (block [])
           ∷ []);
     })
@@ -86,7 +98,10 @@ ReturnOverThrow =
       classes = (one_class (types.Int ∷ []) 0 ∷ one_class [] 2 ∷ []);
       methods =
           (method 0 0 ((types.Class 0) ∷ []) None (block [])
-          ∷ method 1 0 ((types.Class 1) ∷ (types.Class 0) ∷ []) (Some types.Int) (block ((block ((SetSlot 1 (Literal null)) ∷ (SetSlot 1 (Literal null)) ∷ [])) ∷ (Try (block ((SetField (Slot 1) 0 (Literal (int 1))) ∷ [])) (block ((ReturnValue (Literal (int 7))) ∷ []))) ∷ []))
+          ∷ method 1 0 ((types.Class 1) ∷ (types.Class 0) ∷ []) (Some types.Int)
+          (block ((block ((SetSlot 1 (Literal null)) ∷ (SetSlot 1 (Literal null)) ∷ [])) ∷
+          (Try (block ((SetField (Slot 1) 0 (Literal (int 1))) ∷ []))
+          (block ((ReturnValue (Literal (int 7))) ∷ []))) ∷ []))
           ∷ method 1 0 ((types.Class 1) ∷ []) None (block [])
           ∷ []);
     })
@@ -112,7 +127,9 @@ FinallyBeforeTrap =
     (record {
       classes = (one_class (types.Int ∷ types.Lock ∷ []) 2 ∷ []);
       methods =
-          (method 0 0 ((types.Class 0) ∷ []) None (block ((Try (block ((Evaluate (Call (Field (Slot 0) 0 1) called.UnlockIt End)) ∷ [])) (block ((SetField (Slot 0) 0 (Literal (int 1))) ∷ []))) ∷ []))
+          (method 0 0 ((types.Class 0) ∷ []) None
+          (block ((Try (block ((Evaluate (Call (Field (Slot 0) 0 1) called.UnlockIt End)) ∷ []))
+          (block ((SetField (Slot 0) 0 (Literal (int 1))) ∷ []))) ∷ []))
           ∷ method 0 0 ((types.Class 0) ∷ []) (Some types.Int) (block ((ReturnValue (Field (Slot 0) 0 0)) ∷ []))
           ∷ method 0 0 ((types.Class 0) ∷ []) None (block ((SetField (Slot 0) 1 MakeLock) ∷ []))
           ∷ []);
@@ -149,8 +166,11 @@ GetWithAnEmptyArray =
     (record {
       classes = (one_class ((types.Markable 0) ∷ []) 1 ∷ []);
       methods =
-          (method 0 0 ((types.Class 0) ∷ []) None (block ((Evaluate (Call (Field (Slot 0) 0 0) (called.GetBoth 0) (More (MakeArray (Literal (int 0))) End))) ∷ []))
-          ∷ method 0 0 ((types.Class 0) ∷ []) None (block ((SetField (Slot 0) 0 (MakeMarkable 0 (More (Literal null) (More (Literal yes) End)))) ∷ []))
+          (method 0 0 ((types.Class 0) ∷ []) None
+          (block ((Evaluate (Call (Field (Slot 0) 0 0) (called.GetBoth 0) (More (MakeArray (Literal (int 0))) End)))
+          ∷ []))
+          ∷ method 0 0 ((types.Class 0) ∷ []) None
+          (block ((SetField (Slot 0) 0 (MakeMarkable 0 (More (Literal null) (More (Literal yes) End)))) ∷ []))
           ∷ []);
     })
     (program (0 ∷ []) ((making 0 0 [] ∷ []) ∷ (calling 0 0 [] ∷ []) ∷ []))
@@ -180,8 +200,11 @@ GetBeforeItsTrap =
     (record {
       classes = (one_class ((types.Markable 0) ∷ []) 1 ∷ []);
       methods =
-          (method 0 0 ((types.Class 0) ∷ []) None (block ((Evaluate (Call (Field (Slot 0) 0 0) (called.GetBoth 0) (More (MakeArray (Literal (int 0))) End))) ∷ []))
-          ∷ method 0 0 ((types.Class 0) ∷ []) None (block ((SetField (Slot 0) 0 (MakeMarkable 0 (More (Literal null) (More (Literal yes) End)))) ∷ []))
+          (method 0 0 ((types.Class 0) ∷ []) None
+          (block ((Evaluate (Call (Field (Slot 0) 0 0) (called.GetBoth 0) (More (MakeArray (Literal (int 0))) End)))
+          ∷ []))
+          ∷ method 0 0 ((types.Class 0) ∷ []) None
+          (block ((SetField (Slot 0) 0 (MakeMarkable 0 (More (Literal null) (More (Literal yes) End)))) ∷ []))
           ∷ []);
     })
     (program (0 ∷ []) ((making 0 0 [] ∷ []) ∷ (calling 0 0 [] ∷ []) ∷ []))
@@ -210,7 +233,9 @@ SixtyFourCalls =
     (record {
       classes = (one_class (types.Int ∷ []) 2 ∷ []);
       methods =
-          (method 0 0 ((types.Class 0) ∷ []) None (block ((Try (block ((Evaluate (Call (Slot 0) (called.Method 0) End)) ∷ [])) (block ((SetField (Slot 0) 0 (Binary operators.Add (Field (Slot 0) 0 0) (Literal (int 1)))) ∷ []))) ∷ []))
+          (method 0 0 ((types.Class 0) ∷ []) None
+          (block ((Try (block ((Evaluate (Call (Slot 0) (called.Method 0) End)) ∷ []))
+          (block ((SetField (Slot 0) 0 (Binary operators.Add (Field (Slot 0) 0 0) (Literal (int 1)))) ∷ []))) ∷ []))
           ∷ method 0 0 ((types.Class 0) ∷ []) (Some types.Int) (block ((ReturnValue (Field (Slot 0) 0 0)) ∷ []))
           ∷ method 0 0 ((types.Class 0) ∷ []) None (block [])
           ∷ []);
@@ -433,13 +458,17 @@ HeldTwice =
     (record {
       classes = (one_class (types.Lock ∷ []) 3 ∷ []);
       methods =
-          (method 0 0 ((types.Class 0) ∷ []) None (block ((Evaluate (Call (Field (Slot 0) 0 0) called.LockIt End)) ∷ (Evaluate (Call (Field (Slot 0) 0 0) called.LockIt End)) ∷ []))
-          ∷ method 0 0 ((types.Class 0) ∷ []) None (block ((Evaluate (Call (Field (Slot 0) 0 0) called.UnlockIt End)) ∷ []))
-          ∷ method 0 0 ((types.Class 0) ∷ []) (Some types.Boolean) (block ((ReturnValue (Call (Field (Slot 0) 0 0) called.TryIt End)) ∷ []))
+          (method 0 0 ((types.Class 0) ∷ []) None (block ((Evaluate (Call (Field (Slot 0) 0 0) called.LockIt End)) ∷
+          (Evaluate (Call (Field (Slot 0) 0 0) called.LockIt End)) ∷ []))
+          ∷ method 0 0 ((types.Class 0) ∷ []) None (block ((Evaluate (Call (Field (Slot 0) 0 0) called.UnlockIt End)) ∷
+          []))
+          ∷ method 0 0 ((types.Class 0) ∷ []) (Some types.Boolean)
+          (block ((ReturnValue (Call (Field (Slot 0) 0 0) called.TryIt End)) ∷ []))
           ∷ method 0 0 ((types.Class 0) ∷ []) None (block ((SetField (Slot 0) 0 MakeLock) ∷ []))
           ∷ []);
     })
-    (program (0 ∷ []) ((making 0 0 [] ∷ []) ∷ (calling 0 0 [] ∷ calling 0 1 [] ∷ calling 0 1 [] ∷ []) ∷ (calling 0 2 [] ∷ calling 0 2 [] ∷ []) ∷ []))
+    (program (0 ∷ []) ((making 0 0 [] ∷ []) ∷ (calling 0 0 [] ∷ calling 0 1 [] ∷ calling 0 1 [] ∷ []) ∷
+    (calling 0 2 [] ∷ calling 0 2 [] ∷ []) ∷ []))
     (replicate 99 0 ++ replicate 14 1 ++ replicate 6 2 ++ replicate 6 1 ++ replicate 6 2)
     ≡
     (line 0 (actions.Call 1) done

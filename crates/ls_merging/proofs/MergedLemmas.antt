@@ -11,12 +11,19 @@ use Rattle.ls_faults.specs.Given.{Gives}
 use Rattle.ls_faults.proofs.Answering.{Failed}
 use Rattle.ls_merging.specs.Merging.{IsOther, Merges, MergesTo, NoTally}
 
-pub not_read : (wanted : Option ℕ) (text : Text) (f : TallyFault) → Explains text f → Gives (MergesTo wanted text) (Failed (lifted_tally f))
+pub not_read : (wanted : Option ℕ) (text : Text) (f : TallyFault) →
+    Explains text f →
+    Gives (MergesTo wanted text) (Failed (lifted_tally f))
 not_read wanted text tally.Memory h = tt
 not_read wanted text (tally.BadTally at) h = NoTally at h
 not_read wanted text tally.CountTooGreat h = absurd h
 not_read wanted text tally.OtherCount h = absurd h
 
-pub printed : (wanted : Option ℕ) (text said : Text) (rows merge : List Row) → Lists text rows → total_of rows < 2 ^ 64 → ¬ IsOther wanted (total_of rows) → IsMerge rows merge
+pub printed : (wanted : Option ℕ) (text said : Text) (rows merge : List Row) →
+    Lists text rows →
+    total_of rows < 2 ^ 64 →
+    ¬ IsOther wanted (total_of rows) →
+    IsMerge rows merge
     → said ≡ rows_text merge → MergesTo wanted text (Ok said)
-printed wanted text said rows merge lists fits same is e = subst (λ t. MergesTo wanted text (Ok t)) (sym e) (Merges rows merge lists fits same is)
+printed wanted text said rows merge lists fits same is e = subst (λ t. MergesTo wanted text (Ok t)) (sym e)
+    (Merges rows merge lists fits same is)

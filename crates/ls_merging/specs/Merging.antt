@@ -13,12 +13,20 @@ abbrev pub IsOther : Option ℕ → ℕ → Type 0
 IsOther None total = ⊥
 IsOther (Some wanted) total = wanted ≢ total
 
--- The text of the merge of all rows of the text; or the text isn't that of tallies, or the counts have more than 64 bits or come
+-- The text of the merge of all rows of the text; or the text isn't that of tallies, or the counts have more than 64
+-- bits or come
 -- to another number than is wanted.
 pub data MergesTo (wanted : Option ℕ) (text : Text) : Result Text ToolFault → Type 0 where
-  Merges : (rows merge : List Row) → Lists text rows → total_of rows < 2 ^ 64 → ¬ IsOther wanted (total_of rows) → IsMerge rows merge
+  Merges : (rows merge : List Row) →
+      Lists text rows →
+      total_of rows < 2 ^ 64 →
+      ¬ IsOther wanted (total_of rows) →
+      IsMerge rows merge
       → MergesTo wanted text (Ok (rows_text merge))
   NoTally : (at : ℕ) → BreaksAt text at → MergesTo wanted text (Err (faults.Tally (tally.BadTally at)))
-  TooGreat : (rows : List Row) → Lists text rows → 2 ^ 64 ≤ total_of rows → MergesTo wanted text (Err (faults.Tally tally.CountTooGreat))
+  TooGreat : (rows : List Row) →
+      Lists text rows →
+      2 ^ 64 ≤ total_of rows →
+      MergesTo wanted text (Err (faults.Tally tally.CountTooGreat))
   Other : (rows : List Row) → Lists text rows → total_of rows < 2 ^ 64 → IsOther wanted (total_of rows)
       → MergesTo wanted text (Err (faults.Tally tally.OtherCount))

@@ -1,9 +1,12 @@
 -- Elaborated files hold the monitors of their `synchronized` statements and methods.
-use Rattle.std.proofs.Common.{◌≡◌, ℕ, zero, suc, ◌+◌, ◌<◌, ◌≤◌, refl, sym, ◌∙◌, subst, ap, arith, Bool, true, false, ◌&&◌, Ok, Err, List, [], ◌∷◌, ◌++◌, length, Option, Some, None, is_some, if◌then◌else◌, All}
+use Rattle.std.proofs.Common.{◌≡◌, ℕ, zero, suc, ◌+◌, ◌<◌, ◌≤◌, refl, sym, ◌∙◌, subst, ap, arith, Bool, true, false}
+use Rattle.std.proofs.Common.{◌&&◌, Ok, Err, List, [], ◌∷◌, ◌++◌, length, Option, Some, None, is_some, if◌then◌else◌}
+use Rattle.std.proofs.Common.{All}
 use Rattle.ls_events.specs.declared.value.ValueType.{ValueType}
 use Rattle.ls_events.specs.declared.value.ValueType.TheVariants as types
 use Rattle.ls_checked.specs.CheckedTree as checked
-use Rattle.ls_checked.specs.CheckedTree.{Statement, Block, SetSlot, SetField, AddField, SetItem, Evaluate, If, While, Break, Continue, ReturnNothing, ReturnValue, Try, Statements, Done, Then}
+use Rattle.ls_checked.specs.CheckedTree.{Statement, Block, SetSlot, SetField, AddField, SetItem, Evaluate, If, While}
+use Rattle.ls_checked.specs.CheckedTree.{Break, Continue, ReturnNothing, ReturnValue, Try, Statements, Done, Then}
 use Rattle.ls_meaning.specs.Statements.{execute}
 use Rattle.ls_types_judgement.specs.Completion.{can_complete}
 use Rattle.ls_types_elaboration.specs.declared.known.FoundField.{FoundField}
@@ -15,17 +18,22 @@ use Rattle.ls_types_elaboration.specs.Known.{Known, ClassSign, Local, field_of, 
 use Rattle.ls_types_elaboration.specs.TypedExpressions.{fitting}
 use Rattle.ls_types_elaboration.specs.Scopes.{Body, Slots, with_unnamed, Scope}
 use Rattle.ls_types_elaboration.specs.Monitors.{synchronized}
-use Rattle.ls_types_elaboration.specs.TypedStatements.{Loops, WithSlots, with_slots, sequence, opened, closed, Monitor, monitor, statement, items}
-use Rattle.ls_types_elaboration.specs.TypedMethods.{parameter, field_set, declarator_set, member_set, initialisers, with_unnamed_slot, all_items, method, written_method, written_constructor, one_method, has_constructor, class_methods}
+use Rattle.ls_types_elaboration.specs.TypedStatements.{Loops, WithSlots, with_slots, sequence, opened, closed, Monitor}
+use Rattle.ls_types_elaboration.specs.TypedStatements.{monitor, statement, items}
+use Rattle.ls_types_elaboration.specs.TypedMethods.{parameter, field_set, declarator_set, member_set, initialisers}
+use Rattle.ls_types_elaboration.specs.TypedMethods.{with_unnamed_slot, all_items, method, written_method}
+use Rattle.ls_types_elaboration.specs.TypedMethods.{written_constructor, one_method, has_constructor, class_methods}
 use Rattle.ls_types_elaboration.specs.Signs.{class_names, class_signs}
 use Rattle.ls_types_elaboration.specs.Elaboration.{Bodies, one_body, file_methods, Outcome, elaborated}
 use Rattle.ls_types_laws.proofs.Results.{Gives, bind, after, gives_of, weaker, unless, each_keeps}
 use Rattle.ls_types_laws.proofs.Lists.{Each, each_push, each_weaker, length_push}
 use Rattle.ls_types_laws.proofs.Loops.{may_gives}
 use Rattle.ls_monitors.specs.Meaning.{Leaves}
-use Rattle.ls_monitors.specs.Kept.{KeepsTheSlot, MethodKeepsTheSlot, HoldsItsMonitor, Everywhere, EverywhereIn, HoldsMonitors, FileHoldsMonitors}
+use Rattle.ls_monitors.specs.Kept.{KeepsTheSlot, MethodKeepsTheSlot, HoldsItsMonitor, Everywhere, EverywhereIn}
+use Rattle.ls_monitors.specs.Kept.{HoldsMonitors, FileHoldsMonitors}
 use Rattle.ls_monitors.proofs.Kept.{holds_the_monitor}
-use Rattle.ls_monitors.proofs.Leaving.{Guarded, Guards, leave_in_order, guard_in_order, monitor_guards, Within, within_more, others_of_within, Kept, variable_within, items_kept}
+use Rattle.ls_monitors.proofs.Leaving.{Guarded, Guards, leave_in_order, guard_in_order, monitor_guards, Within}
+use Rattle.ls_monitors.proofs.Leaving.{within_more, others_of_within, Kept, variable_within, items_kept}
 
 -- what holds of each element, by recursion and by number
 

@@ -1,6 +1,7 @@
 -- What elaborated statements leave alone: each slot that no local in scope has. So each monitor's object stays in its
 -- slot.
-use Rattle.std.proofs.Common.{◌≡◌, ◌≢◌, ℕ, ◌+◌, ◌<◌, ◌≤◌, arith, true, false, Ok, Err, List, [], ◌∷◌, ◌++◌, length, Option, Some, None}
+use Rattle.std.proofs.Common.{◌≡◌, ◌≢◌, ℕ, ◌+◌, ◌<◌, ◌≤◌, arith, true, false, Ok, Err, List, [], ◌∷◌, ◌++◌, length}
+use Rattle.std.proofs.Common.{Option, Some, None}
 use Rattle.ls_lexer.specs.declared.token.Span.{Span}
 use Rattle.ls_events.specs.declared.value.ValueType.{ValueType}
 use Rattle.ls_events.specs.declared.value.ValueType.TheVariants as types
@@ -9,20 +10,28 @@ use Rattle.ls_checked.specs.CheckedTree as checked
 use Rattle.ls_types_elaboration.specs.declared.loops.LoopPart.{LoopPart}
 use Rattle.ls_types_elaboration.specs.declared.loops.LoopPart.TheVariants as parts
 use Rattle.ls_types_elaboration.specs.Trees
-use Rattle.ls_types_elaboration.specs.Trees.{Text, Expression, Declarator, Declaration, Simple, Opening, Statement, Items, span_of}
+use Rattle.ls_types_elaboration.specs.Trees.{Text, Expression, Declarator, Declaration, Simple, Opening, Statement}
+use Rattle.ls_types_elaboration.specs.Trees.{Items, span_of}
 use Rattle.ls_types_elaboration.specs.Elaborated.{Elaborated, with_ok}
 use Rattle.ls_types_elaboration.specs.Known.{Known, Local, type_of}
 use Rattle.ls_types_elaboration.specs.TypedExpressions.{typed, fitting}
 use Rattle.ls_types_elaboration.specs.Monitors.{synchronized}
-use Rattle.ls_types_elaboration.specs.Scopes.{Body, Slots, with_unnamed, Scope, start_of, with_variable, with_statement, initialised, declared, declaration}
-use Rattle.ls_types_elaboration.specs.TypedStatements.{Loops, loop_of, WithSlots, with_slots, jump, continued, label_text, variable, Variable, Place, AtSlot, AtField, AtItem, assigned, assignment, Counter, OfSlot, OfField, counter, added, addition, step, simple, one_simple, simples, returned, sequence, opened, opening, condition, for_loop, closed, followed, monitor, statement, items}
+use Rattle.ls_types_elaboration.specs.Scopes.{Body, Slots, with_unnamed, Scope, start_of, with_variable, with_statement}
+use Rattle.ls_types_elaboration.specs.Scopes.{initialised, declared, declaration}
+use Rattle.ls_types_elaboration.specs.TypedStatements.{Loops, loop_of, WithSlots, with_slots, jump, continued}
+use Rattle.ls_types_elaboration.specs.TypedStatements.{label_text, variable, Variable, Place, AtSlot, AtField, AtItem}
+use Rattle.ls_types_elaboration.specs.TypedStatements.{assigned, assignment, Counter, OfSlot, OfField, counter, added}
+use Rattle.ls_types_elaboration.specs.TypedStatements.{addition, step, simple, one_simple, simples, returned, sequence}
+use Rattle.ls_types_elaboration.specs.TypedStatements.{opened, opening, condition, for_loop, closed, followed, monitor}
+use Rattle.ls_types_elaboration.specs.TypedStatements.{statement, items}
 use Rattle.ls_types_laws.proofs.Results.{Gives, bind, after, each_keeps}
 use Rattle.ls_types_laws.proofs.Lists.{Each, each_push, each_weaker, length_push}
 use Rattle.ls_types_laws.proofs.Jumping.{fresh_gives}
 use Rattle.ls_types_laws.proofs.Loops.{may_gives}
 use Rattle.ls_monitors.specs.Meaning.{Leaves, AllLeave}
 use Rattle.ls_monitors.specs.Kept.{Everywhere, EverywhereIn}
-use Rattle.ls_monitors.proofs.Named.{Others, PlaceIsNamed, CounterIsNamed, Named, typed_named, variable_named, counter_named}
+use Rattle.ls_monitors.proofs.Named.{Others, PlaceIsNamed, CounterIsNamed, Named, typed_named, variable_named}
+use Rattle.ls_monitors.proofs.Named.{counter_named}
 
 -- a `try` that frees a monitor: its object's slot is below this number, and the block leaves it alone
 abbrev pub Guarded : ℕ → checked.Statement → Type 0
@@ -174,12 +183,22 @@ at_least n = omega arith
 
 still_good : (locals : List Local) (slots : Slots) (s : checked.Statement) → Still locals s →
     Good (length slots.types) locals (record { tree = s; slots = slots })
-still_good locals slots s h = record { more = at_least (length slots.types); leaves = λ n d. h.0 n d.1; guards = λ count g. h.1 count }
+still_good locals slots s h = record {
+  more = at_least (length slots.types);
+  leaves = λ n d. h.0 n d.1;
+  guards = λ count g. h.1 count;
+}
 
 opened_kept : (locals : List Local) (slots : Slots) → Within (length slots.types) locals →
     Kept (length slots.types) locals (opened locals slots)
 opened_kept locals slots h =
-    record { more = at_least (length slots.types); within = h; others = λ n d. d.1; leaves = λ n d. tt; guards = λ count g. tt }
+    record {
+      more = at_least (length slots.types);
+      within = h;
+      others = λ n d. d.1;
+      leaves = λ n d. tt;
+      guards = λ count g. tt;
+    }
 
 closed_good : (bound : ℕ) (locals : List Local) (scope : Scope) → Kept bound locals scope →
     Gives (Good bound locals) (closed scope)

@@ -1,5 +1,6 @@
 -- What an assignment may name: no slot but that of a local in scope.
-use Rattle.std.proofs.Common.{◌≡◌, ◌≢◌, ℕ, zero, suc, true, false, List, [], ◌∷◌, Option, Some, None, Ok, refl, arith, nat_eq, pos, negsuc}
+use Rattle.std.proofs.Common.{◌≡◌, ◌≢◌, ℕ, zero, suc, true, false, List, [], ◌∷◌, Option, Some, None, Ok, refl, arith}
+use Rattle.std.proofs.Common.{nat_eq, pos, negsuc}
 use Rattle.std.specs.Prelude.{bytes_eq, codes}
 use Rattle.ls_lexer.specs.declared.token.Span.{Span}
 use Rattle.ls_tree.specs.declared.tree.UnaryOp.{UnaryOp}
@@ -25,8 +26,10 @@ use Rattle.ls_types_elaboration.specs.Known.{Known, Local, local_named, field_of
 use Rattle.ls_types_elaboration.specs.StaticTypes.{Typed, typed_as, as_type, as_value, as_array, is_void, comparable}
 use Rattle.ls_types_elaboration.specs.Members.{method_member, member_of, found, made, maker_of, markable_maker}
 use Rattle.ls_types_elaboration.specs.Operators.{unary_of, of_operands, computed, compared, binary_of}
-use Rattle.ls_types_elaboration.specs.TypedExpressions.{own_field, local_or, field_in, field_at, is_integer, integer_constant, typed, passed}
-use Rattle.ls_types_elaboration.specs.TypedStatements.{Place, AtSlot, Variable, variable, variable_as, Counter, OfSlot, counter}
+use Rattle.ls_types_elaboration.specs.TypedExpressions.{own_field, local_or, field_in, field_at, is_integer}
+use Rattle.ls_types_elaboration.specs.TypedExpressions.{integer_constant, typed, passed}
+use Rattle.ls_types_elaboration.specs.TypedStatements.{Place, AtSlot, Variable, variable, variable_as, Counter, OfSlot}
+use Rattle.ls_types_elaboration.specs.TypedStatements.{counter}
 use Rattle.ls_types_laws.proofs.Results.{Gives, bind, after, either}
 use Rattle.ls_types_laws.proofs.Lists.{Each, each_weaker, each_found}
 

@@ -3,7 +3,8 @@ use Rattle.std.proofs.Common.{◌≡◌, Bool, true, false, ◌&&◌, ◌||◌, 
 use Rattle.ls_events.specs.declared.value.ValueType.TheVariants as types
 use Rattle.ls_meaning.specs.declared.sort.Sort.TheVariants.{NoValue}
 use Rattle.ls_types_judgement.specs.Completion.{can_complete, breaks}
-use Rattle.ls_monitors.specs.Laws.{CompletesAsItsBlock, BreaksAsItsBlock, JumpsAsItsBlock, TakesThreeMore, IsTypedByItsParts}
+use Rattle.ls_monitors.specs.Laws.{CompletesAsItsBlock, BreaksAsItsBlock, JumpsAsItsBlock, TakesThreeMore}
+use Rattle.ls_monitors.specs.Laws.{IsTypedByItsParts}
 
 and_true : (a : Bool) → ((a && true) && true) ≡ a
 and_true true = refl
@@ -31,5 +32,10 @@ takes_three_more m slot class target slots e = omega (arith, e)
 
 -- the law: it is typed if its parts are
 pub is_typed_by_its_parts : IsTypedByItsParts
-is_typed_by_its_parts file slots result slot class target body at typed block =
-    ((types.Class class, at, typed), ((NoValue, (refl, (types.Class class, refl, at), tt)), ((block, (NoValue, (refl, (types.Class class, refl, at), tt))), tt)))
+is_typed_by_its_parts file slots result slot class target body at typed block = (
+  (types.Class class, at, typed),
+  (
+    (NoValue, (refl, (types.Class class, refl, at), tt)),
+    ((block, (NoValue, (refl, (types.Class class, refl, at), tt))), tt),
+  ),
+)

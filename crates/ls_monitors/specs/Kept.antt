@@ -2,7 +2,8 @@
 -- there are at least as many values of locals as slots, the course is the standard's (JLS 14.19).
 use Rattle.std.specs.Prelude.{◌≡◌, ℕ, ◌+◌, ◌<◌, ◌≤◌, true, List, [], ◌∷◌, length, Ok, All}
 use Rattle.ls_events.specs.declared.value.Value.{Value}
-use Rattle.ls_checked.specs.CheckedTree.{Class, Method, Expression, Slot, Statement, Block, If, While, Try, Statements, Done, Then}
+use Rattle.ls_checked.specs.CheckedTree.{Class, Method, Expression, Slot, Statement, Block, If, While, Try, Statements}
+use Rattle.ls_checked.specs.CheckedTree.{Done, Then}
 use Rattle.ls_meaning.specs.Course.{Answers}
 use Rattle.ls_meaning.specs.Expressions.{Calls}
 use Rattle.ls_meaning.specs.Statements.{execute}

@@ -2,7 +2,9 @@
 use Rattle.std.specs.Prelude.{◌≡◌, ◌≢◌, ℕ, ◌<◌, List, length, slice_set}
 use Rattle.ls_events.specs.declared.value.Value.{Value}
 use Rattle.ls_events.specs.declared.action.Action.TheVariants.{LockMonitor, UnlockMonitor}
-use Rattle.ls_checked.specs.CheckedTree.{Class, Expression, Statement, Block, SetSlot, SetField, AddField, SetItem, Evaluate, If, While, Break, Continue, ReturnNothing, ReturnValue, Try, Statements, Done, Then}
+use Rattle.ls_checked.specs.CheckedTree.{Class, Expression, Statement, Block, SetSlot, SetField, AddField, SetItem}
+use Rattle.ls_checked.specs.CheckedTree.{Evaluate, If, While, Break, Continue, ReturnNothing, ReturnValue, Try}
+use Rattle.ls_checked.specs.CheckedTree.{Statements, Done, Then}
 use Rattle.ls_meaning.specs.declared.sort.Sort.TheVariants.{NoValue}
 use Rattle.ls_meaning.specs.Values.{reference_of}
 use Rattle.ls_meaning.specs.Course.{Answers, on_object}
@@ -42,6 +44,8 @@ monitored classes calls slot target body locals answers =
 
 abbrev pub HoldsTheMonitor : Type 0
 HoldsTheMonitor =
-    (classes : List Class) (calls : Calls) (slot class : ℕ) (target : Expression) (body : Statement) (locals : List Value) (answers : Answers) →
+    (classes : List Class) (calls : Calls) (slot class : ℕ) (target : Expression) (body : Statement)
+    (locals : List Value) (answers : Answers) →
     slot < length locals → Leaves slot body →
-    execute classes calls (synchronized slot class target body) locals answers ≡ monitored classes calls slot target body locals answers
+    execute classes calls (synchronized slot class target body) locals answers ≡ monitored classes calls slot target
+    body locals answers

@@ -1,12 +1,15 @@
 -- Between two events, one step more.
-use Rattle.std.proofs.Common.{◌≡◌, ◌∙◌, ◌⊎◌, ◌+◌, ◌<◌, ◌≤◌, inl, inr, ℕ, zero, suc, ℤ, true, false, [], ◌∷◌, ◌++◌, length, get_or, drop, refl, sym, ap, subst, append_assoc, append-nil, arith, suc-le-suc, zero-le}
+use Rattle.std.proofs.Common.{◌≡◌, ◌∙◌, ◌⊎◌, ◌+◌, ◌<◌, ◌≤◌, inl, inr, ℕ, zero, suc, ℤ, true, false, [], ◌∷◌, ◌++◌}
+use Rattle.std.proofs.Common.{length, get_or, drop, refl, sym, ap, subst, append_assoc, append-nil, arith, suc-le-suc}
+use Rattle.std.proofs.Common.{zero-le}
 use Rattle.std.proofs.lemmas.Bool.{true≢false}
 use Rattle.std.proofs.lemmas.List.{drop_more, get_or_default}
 use Rattle.ls_orders.specs.declared.calls.SetCall.{SetCall}
 use Rattle.ls_orders.specs.Rules.{ended_before}
 use Rattle.ls_orders.specs.Legal.{Set, empty}
 use Rattle.ls_order_search.specs.Plans.{Among, Distinct, IsPlan, has_end}
-use Rattle.ls_order_search.specs.Search.{HasPlan, CalledAfter, CalledFrom, Between, Calls, Closed, Due, Lasting, LastUntil, NoPlanOn, NotDue, Rising, Stuck, Within, ends_at, is_item, on_items}
+use Rattle.ls_order_search.specs.Search.{HasPlan, CalledAfter, CalledFrom, Between, Calls, Closed, Due, Lasting}
+use Rattle.ls_order_search.specs.Search.{LastUntil, NoPlanOn, NotDue, Rising, Stuck, Within, ends_at, is_item, on_items}
 use Rattle.ls_order_search.proofs.Lists.{among_back, among_cases, among_front}
 use Rattle.ls_order_search.proofs.Sets.{Same}
 use Rattle.ls_order_search.proofs.Steps.{goes_by, plan_same, sooner}
@@ -28,7 +31,8 @@ at_start events calls s h r = record {
 
 -- ---- a call is opened
 
-module _ (events : ℕ) (calls : Calls) (at next : ℕ) (s : Set) (pool placed : Calls) (x : SetCall) (b : Between events calls at next s pool placed)
+module _ (events : ℕ) (calls : Calls) (at next : ℕ) (s : Set) (pool placed : Calls) (x : SetCall)
+    (b : Between events calls at next s pool placed)
     (lt : next < length calls) (is : x ≡ get_or calls next x) (le : x.called ≤ at) where
   split : drop next calls ≡ x ∷ drop (next + 1) calls
   split = drop_more calls next x lt ∙ ap (λ y. y ∷ drop (next + 1) calls) (sym is)
@@ -64,31 +68,47 @@ module _ (events : ℕ) (calls : Calls) (at next : ℕ) (s : Set) (pool placed :
 
       lasting : Lasting calls → (c : SetCall) → Among c pool ⊎ Among c (x ∷ []) → ended_before c.end at ≡ false
       lasting l c (inl a) = b.lasts l c a
-      lasting l c (inr (inl i)) = subst (λ (d : SetCall). ended_before d.end at ≡ false) i (sooner at x.called x.end (l x x_known) comes)
+      lasting l c (inr (inl i)) = subst (λ (d : SetCall). ended_before d.end at ≡ false) i
+          (sooner at x.called x.end (l x x_known) comes)
       lasting l c (inr (inr a)) = absurd a
 
 -- the next call is open now
-pub opened_at : (events : ℕ) (calls : Calls) (at next : ℕ) (s : Set) (pool placed : Calls) (d : SetCall) (more : Calls) → Between events calls at next s pool placed → Due at calls next → more ≡ pool ++ get_or calls next d ∷ []
+pub opened_at : (events : ℕ) (calls : Calls) (at next : ℕ) (s : Set) (pool placed : Calls) (d : SetCall) (more : Calls)
+    →
+    Between events calls at next s pool placed →
+    Due at calls next →
+    more ≡ pool ++ get_or calls next d ∷ []
     → Between events calls at (next + 1) s more placed
 opened_at events calls at next s pool placed d more b due e =
     let x = get_or calls next d in
     opened events calls at next s pool placed x b due.0 (get_or_default calls next d x due.0) (due.1 d) more e
 
 -- before the first event nothing is placed or open
-pub starts : (events : ℕ) (calls : Calls) (s : Set) (pool placed : Calls) → pool ≡ [] → placed ≡ [] → ((z : ℤ) → s z ≡ false) → Rising calls → Between events calls 0 0 s pool placed
+pub starts : (events : ℕ) (calls : Calls) (s : Set) (pool placed : Calls) →
+    pool ≡ [] →
+    placed ≡ [] →
+    ((z : ℤ) → s z ≡ false) →
+    Rising calls →
+    Between events calls 0 0 s pool placed
 starts events calls s pool placed p q h r =
-    subst (λ l. Between events calls 0 0 s l placed) (sym p) (subst (λ l. Between events calls 0 0 s [] l) (sym q) (at_start events calls s (λ z. sym (h z)) r))
+    subst (λ l. Between events calls 0 0 s l placed) (sym p)
+    (subst (λ l. Between events calls 0 0 s [] l) (sym q) (at_start events calls s (λ z. sym (h z)) r))
 
 -- ---- an event is over
 
-rising_after : (at next : ℕ) (calls : Calls) → NotDue at calls next → Rising (drop next calls) → CalledAfter at (drop next calls)
+rising_after : (at next : ℕ) (calls : Calls) →
+    NotDue at calls next →
+    Rising (drop next calls) →
+    CalledAfter at (drop next calls)
 rising_after at zero [] n r c a = absurd a
 rising_after at (suc next) [] n r c a = absurd a
 rising_after at zero (x ∷ xs) n r c (inl i) = subst (λ (d : SetCall). at < d.called) i (n (suc-le-suc zero-le) x)
-rising_after at zero (x ∷ xs) n r c (inr a) = let first : at < x.called = n (suc-le-suc zero-le) x in let then : x.called < c.called = r.0 c a in omega arith
+rising_after at zero (x ∷ xs) n r c (inr a) = let first : at < x.called = n (suc-le-suc zero-le) x in
+    let then : x.called < c.called = r.0 c a in omega arith
 rising_after at (suc next) (x ∷ xs) n r c a = rising_after at next xs (λ lt d. n (suc-le-suc lt) d) r c a
 
-module _ (events : ℕ) (calls : Calls) (at next : ℕ) (s : Set) (pool placed : Calls) (b : Between events calls at next s pool placed) (n : NotDue at calls next) where
+module _ (events : ℕ) (calls : Calls) (at next : ℕ) (s : Set) (pool placed : Calls)
+    (b : Between events calls at next s pool placed) (n : NotDue at calls next) where
   abbrev rest : Calls
   rest = drop next calls
 
@@ -100,7 +120,10 @@ module _ (events : ℕ) (calls : Calls) (at next : ℕ) (s : Set) (pool placed :
   no_more h = (h.0, λ q. h.1 rest b.distinct later (λ c a. b.up_to c a) (b.plan (is_item h.0) q))
 
   -- one event further, with the calls that were placed
-  pub over : (t : Set) (less new : Calls) → Closed at s t pool less placed new → ((c : SetCall) → Among c less → ends_at at c.end ≡ false) → Between events calls (at + 1) next t less new
+  pub over : (t : Set) (less new : Calls) →
+      Closed at s t pool less placed new →
+      ((c : SetCall) → Among c less → ends_at at c.end ≡ false) →
+      Between events calls (at + 1) next t less new
   over t less new k none = record {
     plan = λ f q. k.2.plan f rest b.distinct later (λ c a. b.up_to c a) (b.plan f q);
     distinct = k.2.distinct rest b.distinct;
@@ -110,7 +133,8 @@ module _ (events : ℕ) (calls : Calls) (at next : ℕ) (s : Set) (pool placed :
     known = λ c a. known c (among_cases c less rest a);
     lasts = λ l c a. goes_by at c.end (b.lasts l c (k.2.among c a)) (none c a);
     back = λ l p q. subst (λ m. IsPlan empty calls m) (sym (ap (λ m. m ++ p) k.1 ∙ append_assoc placed k.0 p))
-        (b.back l (k.0 ++ p) (k.2.back rest b.distinct later (λ c a. b.up_to c a) (b.lasts l) (λ c a. l c (b.known c (among_back c pool rest a))) p q));
+        (b.back l (k.0 ++ p) (k.2.back rest b.distinct later (λ c a. b.up_to c a) (b.lasts l)
+        (λ c a. l c (b.known c (among_back c pool rest a))) p q));
   }
     where
       known : (c : SetCall) → Among c less ⊎ Among c rest → Among c calls
@@ -120,8 +144,10 @@ module _ (events : ℕ) (calls : Calls) (at next : ℕ) (s : Set) (pool placed :
 -- ---- events are passed over at which no call comes or ends
 
 -- events at which no call begins or ends are passed over
-pub skipped : (events : ℕ) (calls : Calls) (at next : ℕ) (s : Set) (pool placed : Calls) → Between events calls at next s pool placed
-    → (to : ℕ) → at ≤ to → (LastUntil at pool → LastUntil to pool) → CalledFrom to (drop next calls) → Between events calls to next s pool placed
+pub skipped : (events : ℕ) (calls : Calls) (at next : ℕ) (s : Set) (pool placed : Calls) →
+    Between events calls at next s pool placed
+    → (to : ℕ) → at ≤ to → (LastUntil at pool → LastUntil to pool) → CalledFrom to (drop next calls) →
+    Between events calls to next s pool placed
 skipped events calls at next s pool placed b to le last comes = record {
   plan = b.plan;
   distinct = b.distinct;
@@ -136,7 +162,11 @@ skipped events calls at next s pool placed b to le last comes = record {
 -- ---- at the end
 
 -- after the last event the placed calls are a plan
-pub at_end : (events : ℕ) (calls : Calls) (next : ℕ) (s : Set) (pool placed : Calls) → Between events calls events next s pool placed → Within events calls → Lasting calls → IsPlan empty calls placed
+pub at_end : (events : ℕ) (calls : Calls) (next : ℕ) (s : Set) (pool placed : Calls) →
+    Between events calls events next s pool placed →
+    Within events calls →
+    Lasting calls →
+    IsPlan empty calls placed
 at_end events calls next s pool placed b w l = subst (IsPlan empty calls) (append-nil placed) (b.back l [] (record {
   inside = λ c a. absurd a;
   complete = λ c a e. absurd (gone c (among_cases c pool (drop next calls) a) e);

@@ -1,5 +1,6 @@
 -- Calls that pass a test, and the calls on some items.
-use Rattle.std.proofs.Common.{◌≡◌, ◌∙◌, inl, inr, ℤ, Bool, true, false, cond, [], ◌∷◌, ◌++◌, filter, Some, refl, sym, ap, subst}
+use Rattle.std.proofs.Common.{◌≡◌, ◌∙◌, inl, inr, ℤ, Bool, true, false, cond, [], ◌∷◌, ◌++◌, filter, Some, refl, sym}
+use Rattle.std.proofs.Common.{ap, subst}
 use Rattle.std.proofs.lemmas.Bool.{true≢false}
 use Rattle.std.proofs.lemmas.Bool.Decides.{Decides-int_eq}
 use Rattle.std.proofs.lemmas.List.Elements.{filter-append}
@@ -15,7 +16,8 @@ use Rattle.ls_order_search.proofs.Sets.{after_other}
 -- a call that passes is among those that pass
 pub among_filter : (p : SetCall → Bool) (xs : Calls) (c : SetCall) → Among c xs → p c ≡ true → Among c (filter p xs)
 among_filter p [] c a e = a
-among_filter p (x ∷ xs) c (inl i) e = subst (λ b. Among c (cond b (x ∷ filter p xs) (filter p xs))) (sym (ap p i ∙ e)) (inl i)
+among_filter p (x ∷ xs) c (inl i) e = subst (λ b. Among c (cond b (x ∷ filter p xs) (filter p xs))) (sym (ap p i ∙ e))
+    (inl i)
 among_filter p (x ∷ xs) c (inr a) e = go (p x) (among_filter p xs c a e)
   where
     go : (b : Bool) → Among c (filter p xs) → Among c (cond b (x ∷ filter p xs) (filter p xs))
@@ -30,11 +32,18 @@ filter_among p (x ∷ xs) c a = go (p x) refl a (λ b. filter_among p xs c b)
     later : Among c xs × (p c ≡ true) → Among c (x ∷ xs) × (p c ≡ true)
     later r = (inr r.0, r.1)
 
-    first : p x ≡ true → Among c (x ∷ filter p xs) → (Among c (filter p xs) → Among c xs × (p c ≡ true)) → Among c (x ∷ xs) × (p c ≡ true)
+    first : p x ≡ true →
+        Among c (x ∷ filter p xs) →
+        (Among c (filter p xs) → Among c xs × (p c ≡ true)) →
+        Among c (x ∷ xs) × (p c ≡ true)
     first e (inl i) rest = (inl i, ap p (sym i) ∙ e)
     first e (inr b) rest = later (rest b)
 
-    go : (b : Bool) → p x ≡ b → Among c (cond b (x ∷ filter p xs) (filter p xs)) → (Among c (filter p xs) → Among c xs × (p c ≡ true)) → Among c (x ∷ xs) × (p c ≡ true)
+    go : (b : Bool) →
+        p x ≡ b →
+        Among c (cond b (x ∷ filter p xs) (filter p xs)) →
+        (Among c (filter p xs) → Among c xs × (p c ≡ true)) →
+        Among c (x ∷ xs) × (p c ≡ true)
     go true e b rest = first e b rest
     go false e b rest = later (rest b)
 
@@ -67,7 +76,10 @@ distinct_filter q (c ∷ cs) o = go (q c) (distinct_filter q cs o.1)
     go false r = r
 
 -- in sets that are alike on those items
-pub runs_filter : (p : ℤ → Bool) (s t : Set) (cs : Calls) → ((z : ℤ) → p z ≡ true → s z ≡ t z) → Runs s cs → Runs t (filter (λ c. p c.item) cs)
+pub runs_filter : (p : ℤ → Bool) (s t : Set) (cs : Calls) →
+    ((z : ℤ) → p z ≡ true → s z ≡ t z) →
+    Runs s cs →
+    Runs t (filter (λ c. p c.item) cs)
 runs_filter p s t [] h r = tt
 runs_filter p s t (c ∷ cs) h r = go (p c.item) refl (λ u g. runs_filter p (after s c) u cs g r.1)
   where
@@ -77,7 +89,10 @@ runs_filter p s t (c ∷ cs) h r = go (p c.item) refl (λ u g. runs_filter p (af
     less : p c.item ≡ false → (z : ℤ) → p z ≡ true → after s c z ≡ t z
     less e z f = after_other s c z (λ i. true≢false (sym f ∙ ap p (sym i) ∙ e)) ∙ h z f
 
-    go : (b : Bool) → p c.item ≡ b → ((u : Set) → ((z : ℤ) → p z ≡ true → after s c z ≡ u z) → Runs u (filter (λ d. p d.item) cs)) → Runs t (cond b (c ∷ filter (λ d. p d.item) cs) (filter (λ d. p d.item) cs))
+    go : (b : Bool) →
+        p c.item ≡ b →
+        ((u : Set) → ((z : ℤ) → p z ≡ true → after s c z ≡ u z) → Runs u (filter (λ d. p d.item) cs)) →
+        Runs t (cond b (c ∷ filter (λ d. p d.item) cs) (filter (λ d. p d.item) cs))
     go true e later = (r.0 ∙ ap (λ w. Some w) (h c.item e), later (after t c) (more e))
     go false e later = later t (less e)
 
@@ -92,8 +107,10 @@ pub plan_on : (f : ℤ → Bool) (s : Set) (calls : Calls) → HasPlan s calls �
 plan_on f s calls q = (
   on_items f q.0,
   record {
-    inside = λ c a. let b = filter_among (λ (d : SetCall). f d.item) q.0 c a in among_filter (λ (d : SetCall). f d.item) calls c (q.1.inside c b.0) b.1;
-    complete = λ c a e. let b = filter_among (λ (d : SetCall). f d.item) calls c a in among_filter (λ (d : SetCall). f d.item) q.0 c (q.1.complete c b.0 e) b.1;
+    inside = λ c a. let b = filter_among (λ (d : SetCall). f d.item) q.0 c a in
+        among_filter (λ (d : SetCall). f d.item) calls c (q.1.inside c b.0) b.1;
+    complete = λ c a e. let b = filter_among (λ (d : SetCall). f d.item) calls c a in
+        among_filter (λ (d : SetCall). f d.item) q.0 c (q.1.complete c b.0 e) b.1;
     ordered = ordered_filter (λ (d : SetCall). f d.item) q.0 q.1.ordered;
     run = runs_filter f s s q.0 (λ z e. refl) q.1.run;
   },
@@ -104,7 +121,11 @@ pub no_plan : (calls : Calls) → NoPlanOn calls → HasPlan empty calls → ⊥
 no_plan calls n q = n.1 (plan_on (is_item n.0) empty calls q)
 
 -- a run of calls on some items, in another set that is alike on them
-runs_on : (f : ℤ → Bool) (s t : Set) (cs : Calls) → ((z : ℤ) → f z ≡ true → s z ≡ t z) → ((c : SetCall) → Among c cs → f c.item ≡ true) → Runs s cs → Runs t cs
+runs_on : (f : ℤ → Bool) (s t : Set) (cs : Calls) →
+    ((z : ℤ) → f z ≡ true → s z ≡ t z) →
+    ((c : SetCall) → Among c cs → f c.item ≡ true) →
+    Runs s cs →
+    Runs t cs
 runs_on f s t [] h k r = tt
 runs_on f s t (c ∷ cs) h k r = (
   r.0 ∙ ap (λ w. Some w) (h c.item (k c (inl refl))),
@@ -116,13 +137,15 @@ runs_on f s t (c ∷ cs) h k r = (
 module _ (f : ℤ → Bool) (s : Set) (p r : Calls) (x : SetCall) where
   -- a call on one of the items is among those on the items
   pub with_it : f x.item ≡ true → on_items f (p ++ x ∷ r) ≡ on_items f p ++ x ∷ on_items f r
-  with_it e = filter-append (λ (c : SetCall). f c.item) p (x ∷ r) ∙ ap (λ b. on_items f p ++ cond b (x ∷ on_items f r) (on_items f r)) e
+  with_it e = filter-append (λ (c : SetCall). f c.item) p (x ∷ r) ∙
+      ap (λ b. on_items f p ++ cond b (x ∷ on_items f r) (on_items f r)) e
 
   pub without_it : on_items f (p ++ r) ≡ on_items f p ++ on_items f r
   without_it = filter-append (λ (c : SetCall). f c.item) p r
 
   unseen : f x.item ≡ false → on_items f (p ++ x ∷ r) ≡ on_items f (p ++ r)
-  unseen e = filter-append (λ (c : SetCall). f c.item) p (x ∷ r) ∙ ap (λ b. on_items f p ++ cond b (x ∷ on_items f r) (on_items f r)) e ∙ sym without_it
+  unseen e = filter-append (λ (c : SetCall). f c.item) p (x ∷ r) ∙
+      ap (λ b. on_items f p ++ cond b (x ∷ on_items f r) (on_items f r)) e ∙ sym without_it
 
   elsewhere : f x.item ≡ false → HasPlan s (on_items f (p ++ r)) → HasPlan (after s x) (on_items f (p ++ r))
   elsewhere e q = (
@@ -137,7 +160,8 @@ module _ (f : ℤ → Bool) (s : Set) (p r : Calls) (x : SetCall) where
   )
 
   -- a plan of the calls on the items, after one of them
-  pub placed_on : (f x.item ≡ true → HasPlan s (on_items f p ++ x ∷ on_items f r) → HasPlan (after s x) (on_items f p ++ on_items f r))
+  pub placed_on : (f x.item ≡ true → HasPlan s (on_items f p ++ x ∷ on_items f r) →
+      HasPlan (after s x) (on_items f p ++ on_items f r))
       → HasPlan s (on_items f (p ++ x ∷ r)) → HasPlan (after s x) (on_items f (p ++ r))
   placed_on step q = go (f x.item) refl
     where
@@ -147,10 +171,15 @@ module _ (f : ℤ → Bool) (s : Set) (p r : Calls) (x : SetCall) where
 
   -- among those that are seen
   pub seen_among : f x.item ≡ true → (c : SetCall) → Among c (on_items f p ++ x ∷ on_items f r) → Among c (p ++ x ∷ r)
-  seen_among e c a = (filter_among (λ (d : SetCall). f d.item) (p ++ x ∷ r) c (subst (λ l. Among c l) (sym (with_it e)) a)).0
+  seen_among e c a = (filter_among (λ (d : SetCall). f d.item) (p ++ x ∷ r) c
+      (subst (λ l. Among c l) (sym (with_it e)) a)).0
 
   -- a call on the items is among those on the items
-  pub among_seen : f x.item ≡ true → (c : SetCall) → f c.item ≡ true → Among c (p ++ x ∷ r) → Among c (on_items f p ++ x ∷ on_items f r)
+  pub among_seen : f x.item ≡ true →
+      (c : SetCall) →
+      f c.item ≡ true →
+      Among c (p ++ x ∷ r) →
+      Among c (on_items f p ++ x ∷ on_items f r)
   among_seen e c g a = subst (λ l. Among c l) (with_it e) (among_filter (λ (d : SetCall). f d.item) (p ++ x ∷ r) c a g)
 
   -- the calls on the items are distinct

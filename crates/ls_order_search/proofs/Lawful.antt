@@ -1,5 +1,7 @@
 -- What the search finds is a legal order.
-use Rattle.std.proofs.Common.{◌≡◌, ◌∙◌, ◌==◌, ◌&&◌, ◌⊎◌, ◌+◌, ◌<◌, ◌≤◌, ◌^◌, inl, inr, ℕ, Bool, true, false, cond, List, [], ◌∷◌, ◌++◌, length, map, Option, Some, None, refl, sym, ap, ap₂, subst, append_assoc, append-nil, arith, le-ltb, lt-ltb, ne_eqb, eq-eqb}
+use Rattle.std.proofs.Common.{◌≡◌, ◌∙◌, ◌==◌, ◌&&◌, ◌⊎◌, ◌+◌, ◌<◌, ◌≤◌, ◌^◌, inl, inr, ℕ, Bool, true, false, cond, List}
+use Rattle.std.proofs.Common.{[], ◌∷◌, ◌++◌, length, map, Option, Some, None, refl, sym, ap, ap₂, subst, append_assoc}
+use Rattle.std.proofs.Common.{append-nil, arith, le-ltb, lt-ltb, ne_eqb, eq-eqb}
 use Rattle.std.specs.List.{list_any}
 use Rattle.std.specs.Str.{bytes_eq}
 use Rattle.std.proofs.lemmas.Bool.{true≢false, or_from}
@@ -11,7 +13,8 @@ use Rattle.ls_orders.specs.declared.calls.Operation.TheVariants.{Add, Remove, Co
 use Rattle.ls_orders.specs.declared.calls.End.{End}
 use Rattle.ls_orders.specs.declared.calls.End.TheVariants.{Pending, Returned, Trapped}
 use Rattle.ls_orders.specs.declared.calls.SetCall.{SetCall}
-use Rattle.ls_orders.specs.SetCalls.{Asked, asked_of, call_named, calls_from, end_at, end_of, first_foreign, set_calls, with_asked}
+use Rattle.ls_orders.specs.SetCalls.{Asked, asked_of, call_named, calls_from, end_at, end_of, first_foreign, set_calls}
+use Rattle.ls_orders.specs.SetCalls.{with_asked}
 use Rattle.ls_orders.specs.Rules.{answer_of, differs, ended_before, is_returned, is_same, named_by}
 use Rattle.ls_orders.specs.Legal.{IsLegal, IsRun, Set, after, empty}
 use Rattle.ls_order_search.specs.Plans.{Among, MayPrecede, Ordered, Runs, has_end, needed, want}
@@ -49,7 +52,8 @@ way_is front [] p w = record {
   ordered = w.ordered;
   run = w.run;
 }
-way_is front (c ∷ cs) p (inl w) = subst (λ l. Lawful l p) (append_assoc front (c ∷ []) cs) (way_is (front ++ c ∷ []) cs p w)
+way_is front (c ∷ cs) p (inl w) = subst (λ l. Lawful l p) (append_assoc front (c ∷ []) cs)
+    (way_is (front ++ c ∷ []) cs p w)
 way_is front (c ∷ cs) p (inr w) = less (way_is front cs p w.1)
   where
     less : Lawful (front ++ cs) p → Lawful (front ++ c ∷ cs) p
@@ -100,30 +104,43 @@ any_none q [] h = refl
 any_none q (x ∷ xs) h = or_from (q x) (list_any q xs) (h x (inl refl)) (any_none q xs (λ c a. h c (inr a)))
 
 -- an order of the calls, all that returned among them, is legal by its names
-pub legal_of : (h : List Event) (order : Calls) (names : List Text) → first_foreign h ≡ None → ((c : SetCall) → Among c (set_calls h) → is_returned c.end ≡ true → Among c order)
-    → Ordered order → IsRun empty order → map (call_named h (set_calls h)) names ≡ map (λ c. Some c) order → IsLegal h names
+pub legal_of : (h : List Event) (order : Calls) (names : List Text) →
+    first_foreign h ≡ None →
+    ((c : SetCall) → Among c (set_calls h) → is_returned c.end ≡ true → Among c order)
+    → Ordered order → IsRun empty order → map (call_named h (set_calls h)) names ≡ map (λ c. Some c) order →
+    IsLegal h names
 legal_of h order names one returned ordered run named = record {
   one_set = one;
   calls = order;
   named = named;
-  once = λ front back x e. any_none (is_same x) back (λ c a. ne_eqb c.called x.called (λ i. (ordered_tail front x back (subst Ordered e ordered) c a).apart (sym i)));
-  complete = λ front back c e r. any_some (is_same c) order c (returned c (subst (λ k. Among c k) (sym e) (among_it c front back)) r) (eq-eqb c.called c.called refl);
-  in_time = λ front middle back x y e. (ordered_tail front y (middle ++ x ∷ back) (subst Ordered e ordered) x (among_it x middle back)).in_time;
+  once = λ front back x e. any_none (is_same x) back (λ c a.
+      ne_eqb c.called x.called (λ i. (ordered_tail front x back (subst Ordered e ordered) c a).apart (sym i)));
+  complete = λ front back c e r. any_some (is_same c) order c
+      (returned c (subst (λ k. Among c k) (sym e) (among_it c front back)) r) (eq-eqb c.called c.called refl);
+  in_time = λ front middle back x y e. (ordered_tail front y (middle ++ x ∷ back) (subst Ordered e ordered) x
+      (among_it x middle back)).in_time;
   run = run;
 }
 
 -- ---- the names
 
-pub all_named : (h : List Event) (order : Calls) → ((c : SetCall) → Among c order → call_named h (set_calls h) (named_by h c) ≡ Some c)
+pub all_named : (h : List Event) (order : Calls) →
+    ((c : SetCall) → Among c order → call_named h (set_calls h) (named_by h c) ≡ Some c)
     → map (call_named h (set_calls h)) (map (named_by h) order) ≡ map (λ c. Some c) order
 all_named h [] named = refl
 all_named h (c ∷ cs) named = ap₂ (λ x xs. x ∷ xs) (named c (inl refl)) (all_named h cs (λ d a. named d (inr a)))
 
 -- the texts of such an order are a legal order of the history
-pub names_legal : (h : List Event) (order : Calls) → is_history h ≡ true → length h < 2 ^ 64 → first_foreign h ≡ None → Way [] (set_calls h) order → IsLegal h (map (named_by h) order)
+pub names_legal : (h : List Event) (order : Calls) →
+    is_history h ≡ true →
+    length h < 2 ^ 64 →
+    first_foreign h ≡ None →
+    Way [] (set_calls h) order →
+    IsLegal h (map (named_by h) order)
 names_legal h order is small one w =
     let l = way_is [] (set_calls h) order w in
-    legal_of h order (map (named_by h) order) one l.returned l.ordered (runs_is empty order l.run) (all_named h order (λ c a. found_by_name h is small c (l.inside c a)))
+    legal_of h order (map (named_by h) order) one l.returned l.ordered (runs_is empty order l.run)
+    (all_named h order (λ c a. found_by_name h is small c (l.inside c a)))
 
 -- ---- the ends of a history's calls
 
@@ -134,11 +151,16 @@ end_lasts (events.Returned v) at n le = le-ltb at n le
 end_lasts (events.Trapped k) at n le = le-ltb at n le
 
 -- an end in the events from `at` on isn't before `at`
-pub of_lasts : (thread : Text) (call at : ℕ) (es : List Event) (n : ℕ) → n ≤ at → ended_before (end_of thread call at es) n ≡ false
+pub of_lasts : (thread : Text) (call at : ℕ) (es : List Event) (n : ℕ) →
+    n ≤ at →
+    ended_before (end_of thread call at es) n ≡ false
 of_lasts thread call at [] n le = refl
-of_lasts thread call at (e ∷ es) n le = go (bytes_eq e.thread thread && e.call == call) (of_lasts thread call (at + 1) es n (omega arith))
+of_lasts thread call at (e ∷ es) n le = go (bytes_eq e.thread thread && e.call == call)
+    (of_lasts thread call (at + 1) es n (omega arith))
   where
-    go : (b : Bool) → ended_before (end_of thread call (at + 1) es) n ≡ false → ended_before (cond b (end_at at e.occurrence) (end_of thread call (at + 1) es)) n ≡ false
+    go : (b : Bool) →
+        ended_before (end_of thread call (at + 1) es) n ≡ false →
+        ended_before (cond b (end_at at e.occurrence) (end_of thread call (at + 1) es)) n ≡ false
     go true later = end_lasts e.occurrence at n le
     go false later = later
 
@@ -148,29 +170,45 @@ end_within (events.Called a b c) at n lt h = absurd (true≢false (sym h))
 end_within (events.Returned v) at n lt h = lt-ltb at n lt
 end_within (events.Trapped k) at n lt h = lt-ltb at n lt
 
-of_within : (thread : Text) (call at : ℕ) (es : List Event) (n : ℕ) → at + length es ≤ n → has_end (end_of thread call at es) ≡ true → ended_before (end_of thread call at es) n ≡ true
+of_within : (thread : Text) (call at : ℕ) (es : List Event) (n : ℕ) →
+    at + length es ≤ n →
+    has_end (end_of thread call at es) ≡ true →
+    ended_before (end_of thread call at es) n ≡ true
 of_within thread call at [] n le h = absurd (true≢false (sym h))
-of_within thread call at (e ∷ es) n le h = go (bytes_eq e.thread thread && e.call == call) (λ i. of_within thread call (at + 1) es n (omega arith) i) h
+of_within thread call at (e ∷ es) n le h = go (bytes_eq e.thread thread && e.call == call)
+    (λ i. of_within thread call (at + 1) es n (omega arith) i) h
   where
-    go : (b : Bool) → (has_end (end_of thread call (at + 1) es) ≡ true → ended_before (end_of thread call (at + 1) es) n ≡ true)
-        → has_end (cond b (end_at at e.occurrence) (end_of thread call (at + 1) es)) ≡ true → ended_before (cond b (end_at at e.occurrence) (end_of thread call (at + 1) es)) n ≡ true
+    go : (b : Bool) →
+        (has_end (end_of thread call (at + 1) es) ≡ true → ended_before (end_of thread call (at + 1) es) n ≡ true)
+        → has_end (cond b (end_at at e.occurrence) (end_of thread call (at + 1) es)) ≡ true →
+        ended_before (cond b (end_at at e.occurrence) (end_of thread call (at + 1) es)) n ≡ true
     go true later i = end_within e.occurrence at n (omega arith) i
     go false later i = later i
 
 abbrev Fine : ℕ → SetCall → Type 0
 Fine n c = (ended_before c.end c.called ≡ false) × (c.called < n) × (has_end c.end ≡ true → ended_before c.end n ≡ true)
 
-fine_with : (n at : ℕ) (end : End) (cs : Calls) (o : Option Asked) → ended_before end at ≡ false → at < n → (has_end end ≡ true → ended_before end n ≡ true) → ((c : SetCall) → Among c cs → Fine n c)
+fine_with : (n at : ℕ) (end : End) (cs : Calls) (o : Option Asked) →
+    ended_before end at ≡ false →
+    at < n →
+    (has_end end ≡ true → ended_before end n ≡ true) →
+    ((c : SetCall) → Among c cs → Fine n c)
     → (c : SetCall) → Among c (with_asked o at end cs) → Fine n c
 fine_with n at end cs None l lt w rest c a = rest c a
 fine_with n at end cs (Some q) l lt w rest c (inl e) = subst (Fine n) e (l, lt, w)
 fine_with n at end cs (Some q) l lt w rest c (inr a) = rest c a
 
-calls_fine : (at : ℕ) (es : List Event) (n : ℕ) → at + length es ≤ n → (c : SetCall) → Among c (calls_from at es) → Fine n c
+calls_fine : (at : ℕ) (es : List Event) (n : ℕ) →
+    at + length es ≤ n →
+    (c : SetCall) →
+    Among c (calls_from at es) →
+    Fine n c
 calls_fine at [] n le c a = absurd a
 calls_fine at (e ∷ es) n le c a =
-    fine_with n at (end_of e.thread e.call (at + 1) es) (calls_from (at + 1) es) (asked_of e.occurrence) (of_lasts e.thread e.call (at + 1) es at (omega arith)) (omega arith)
-    (λ h. of_within e.thread e.call (at + 1) es n (omega arith) h) (λ d b. calls_fine (at + 1) es n (omega arith) d b) c a
+    fine_with n at (end_of e.thread e.call (at + 1) es) (calls_from (at + 1) es) (asked_of e.occurrence)
+    (of_lasts e.thread e.call (at + 1) es at (omega arith)) (omega arith)
+    (λ h. of_within e.thread e.call (at + 1) es n (omega arith) h) (λ d b. calls_fine (at + 1) es n (omega arith) d b) c
+    a
 
 pub calls_within : (h : List Event) → Within (length h) (set_calls h)
 calls_within h c a = let f = calls_fine 0 h (length h) (omega arith) c a in (f.1, f.2)

@@ -1,5 +1,6 @@
 -- Calls in lists.
-use Rattle.std.proofs.Common.{◌≡◌, ◌∙◌, ◌⊎◌, inl, inr, ℕ, zero, suc, ◌<◌, false, List, [], ◌∷◌, ◌++◌, length, get_or, take, drop, refl, sym, ap, subst, suc-le-suc, zero-le, not-suc-le-zero, le_of_suc-le-suc}
+use Rattle.std.proofs.Common.{◌≡◌, ◌∙◌, ◌⊎◌, inl, inr, ℕ, zero, suc, ◌<◌, false, List, [], ◌∷◌, ◌++◌, length, get_or}
+use Rattle.std.proofs.Common.{take, drop, refl, sym, ap, subst, suc-le-suc, zero-le, not-suc-le-zero, le_of_suc-le-suc}
 use Rattle.ls_orders.specs.declared.calls.SetCall.{SetCall}
 use Rattle.ls_orders.specs.Rules.{ended_before}
 use Rattle.ls_order_search.specs.Plans.{Among, Distinct, MayPrecede, Ordered}
@@ -55,7 +56,9 @@ among_without c x f b h nay = go (among_either c x f b h)
     go (inr a) = a
 
 -- a list is split at a call
-pub among_split : (x : SetCall) (o : List SetCall) → Among x o → (f : List SetCall) × (b : List SetCall) × (o ≡ f ++ x ∷ b)
+pub among_split : (x : SetCall) (o : List SetCall) →
+    Among x o →
+    (f : List SetCall) × (b : List SetCall) × (o ≡ f ++ x ∷ b)
 among_split x [] h = absurd h
 among_split x (y ∷ ys) (inl e) = ([], ys, ap (λ z. z ∷ ys) e)
 among_split x (y ∷ ys) (inr h) =
@@ -70,7 +73,11 @@ ordered_without [] x b h = h.1
 ordered_without (y ∷ f) x b h = (λ z a. h.0 z (among_with z x f b a), ordered_without f x b h.1)
 
 -- no other call of an order has its place
-pub ordered_apart : (c x : SetCall) (f b : List SetCall) → Ordered (f ++ x ∷ b) → Among c (f ++ b) → c.called ≡ x.called → ⊥
+pub ordered_apart : (c x : SetCall) (f b : List SetCall) →
+    Ordered (f ++ x ∷ b) →
+    Among c (f ++ b) →
+    c.called ≡ x.called →
+    ⊥
 ordered_apart c x [] b h a e = (h.0 c a).apart (sym e)
 ordered_apart c x (y ∷ f) b h (inl i) e = (h.0 x (among_it x f b)).apart (ap (λ (d : SetCall). d.called) i ∙ e)
 ordered_apart c x (y ∷ f) b h (inr a) e = ordered_apart c x f b h.1 a e
@@ -83,13 +90,22 @@ distinct_without [] x b h = h.1
 distinct_without (y ∷ f) x b h = (λ z a. h.0 z (among_with z x f b a), distinct_without f x b h.1)
 
 -- no other call has its place
-pub distinct_apart : (c x : SetCall) (f b : List SetCall) → Distinct (f ++ x ∷ b) → Among c (f ++ b) → c.called ≡ x.called → ⊥
+pub distinct_apart : (c x : SetCall) (f b : List SetCall) →
+    Distinct (f ++ x ∷ b) →
+    Among c (f ++ b) →
+    c.called ≡ x.called →
+    ⊥
 distinct_apart c x [] b h a e = h.0 c a (sym e)
 distinct_apart c x (y ∷ f) b h (inl i) e = h.0 x (among_it x f b) (ap (λ (d : SetCall). d.called) i ∙ e)
 distinct_apart c x (y ∷ f) b h (inr a) e = distinct_apart c x f b h.1 a e
 
 -- distinct calls with one place are the same
-pub distinct_same : (xs : List SetCall) (x y : SetCall) → Distinct xs → Among x xs → Among y xs → x.called ≡ y.called → x ≡ y
+pub distinct_same : (xs : List SetCall) (x y : SetCall) →
+    Distinct xs →
+    Among x xs →
+    Among y xs →
+    x.called ≡ y.called →
+    x ≡ y
 distinct_same [] x y h a b e = absurd a
 distinct_same (c ∷ xs) x y h (inl i) (inl j) e = sym i ∙ j
 distinct_same (c ∷ xs) x y h (inl i) (inr b) e = absurd (h.0 y b (ap (λ (d : SetCall). d.called) i ∙ e))
@@ -102,7 +118,11 @@ distinct_same (c ∷ xs) x y h (inr a) (inr b) e = distinct_same xs x y h.1 a b 
 abbrev pub EndsFirst : SetCall → SetCall → Type 0
 EndsFirst x k = (n : ℕ) → ended_before x.end n ≡ false → ended_before k.end n ≡ false
 
-swap_after : (k x : SetCall) (m b : List SetCall) → ((y : SetCall) → Among y (m ++ x ∷ b) → MayPrecede k y) → EndsFirst x k → Ordered (m ++ x ∷ b) → Ordered (m ++ k ∷ b)
+swap_after : (k x : SetCall) (m b : List SetCall) →
+    ((y : SetCall) → Among y (m ++ x ∷ b) → MayPrecede k y) →
+    EndsFirst x k →
+    Ordered (m ++ x ∷ b) →
+    Ordered (m ++ k ∷ b)
 swap_after k x [] b before late h = (λ y a. before y (inr a), h.1)
 swap_after k x (y ∷ m) b before late h =
     (λ z a. first z (among_either z k m b a), swap_after k x m b (λ z a. before z (inr a)) late h.1)
@@ -115,7 +135,9 @@ swap_after k x (y ∷ m) b before late h =
     })
 
 -- a call of the list after the exchange is one of the list before
-pub among_swap : (c k x : SetCall) (f m b : List SetCall) → Among c (f ++ (m ++ k ∷ b)) → Among c (f ++ k ∷ (m ++ x ∷ b))
+pub among_swap : (c k x : SetCall) (f m b : List SetCall) →
+    Among c (f ++ (m ++ k ∷ b)) →
+    Among c (f ++ k ∷ (m ++ x ∷ b))
 among_swap c k x f m b h = go (among_cases c f (m ++ k ∷ b) h)
   where
     among : (k ≡ c) ⊎ Among c (m ++ b) → Among c (k ∷ (m ++ x ∷ b))
@@ -127,7 +149,10 @@ among_swap c k x f m b h = go (among_cases c f (m ++ k ∷ b) h)
     go (inr a) = among_back c f (k ∷ (m ++ x ∷ b)) (among (among_either c k m b a))
 
 -- and back, but for x
-pub among_swapped : (c k x : SetCall) (f m b : List SetCall) → Among c (f ++ k ∷ (m ++ x ∷ b)) → (x ≡ c → ⊥) → Among c (f ++ (m ++ k ∷ b))
+pub among_swapped : (c k x : SetCall) (f m b : List SetCall) →
+    Among c (f ++ k ∷ (m ++ x ∷ b)) →
+    (x ≡ c → ⊥) →
+    Among c (f ++ (m ++ k ∷ b))
 among_swapped c k x f m b h nay = go (among_cases c f (k ∷ (m ++ x ∷ b)) h)
   where
     go : Among c f ⊎ Among c (k ∷ (m ++ x ∷ b)) → Among c (f ++ (m ++ k ∷ b))
@@ -136,12 +161,19 @@ among_swapped c k x f m b h nay = go (among_cases c f (k ∷ (m ++ x ∷ b)) h)
     go (inr (inr a)) = among_back c f (m ++ k ∷ b) (among_with c k m b (among_without c x m b a nay))
 
 -- two calls change places in an order
-pub ordered_swap : (k x : SetCall) (f m b : List SetCall) → EndsFirst x k → Ordered (f ++ k ∷ (m ++ x ∷ b)) → Ordered (f ++ (m ++ k ∷ b))
+pub ordered_swap : (k x : SetCall) (f m b : List SetCall) →
+    EndsFirst x k →
+    Ordered (f ++ k ∷ (m ++ x ∷ b)) →
+    Ordered (f ++ (m ++ k ∷ b))
 ordered_swap k x [] m b late h = swap_after k x m b h.0 late h.1
 ordered_swap k x (y ∷ f) m b late h = (λ z a. h.0 z (among_swap z k x f m b a), ordered_swap k x f m b late h.1)
 
 -- x is apart from the others after the exchange too
-pub swap_apart : (c k x : SetCall) (f m b : List SetCall) → Ordered (f ++ k ∷ (m ++ x ∷ b)) → Among c (f ++ (m ++ k ∷ b)) → c.called ≡ x.called → ⊥
+pub swap_apart : (c k x : SetCall) (f m b : List SetCall) →
+    Ordered (f ++ k ∷ (m ++ x ∷ b)) →
+    Among c (f ++ (m ++ k ∷ b)) →
+    c.called ≡ x.called →
+    ⊥
 swap_apart c k x [] m b h a e = go (among_either c k m b a)
   where
     go : (k ≡ c) ⊎ Among c (m ++ b) → ⊥
@@ -160,19 +192,30 @@ among_at (x ∷ xs) zero d lt = inl refl
 among_at (x ∷ xs) (suc i) d lt = inr (among_at xs i d (le_of_suc-le-suc lt))
 
 -- what fails at each place holds of none among them
-pub none_among : (P : SetCall → Type 0) (xs : List SetCall) → ((i : ℕ) (d : SetCall) → i < length xs → P (get_or xs i d) → ⊥) → (c : SetCall) → Among c xs → P c → ⊥
+pub none_among : (P : SetCall → Type 0) (xs : List SetCall) →
+    ((i : ℕ) (d : SetCall) → i < length xs → P (get_or xs i d) → ⊥) →
+    (c : SetCall) →
+    Among c xs →
+    P c →
+    ⊥
 none_among P [] h c a p = a
 none_among P (x ∷ xs) h c (inl e) p = h 0 x (suc-le-suc zero-le) (subst P (sym e) p)
 none_among P (x ∷ xs) h c (inr a) p = none_among P xs (λ i d lt. h (suc i) d (suc-le-suc lt)) c a p
 
 -- what holds at each number holds of each call
-pub all_among : (P : SetCall → Type 0) (xs : List SetCall) (d : SetCall) → ((i : ℕ) → i < length xs → P (get_or xs i d)) → (c : SetCall) → Among c xs → P c
+pub all_among : (P : SetCall → Type 0) (xs : List SetCall) (d : SetCall) →
+    ((i : ℕ) → i < length xs → P (get_or xs i d)) →
+    (c : SetCall) →
+    Among c xs →
+    P c
 all_among P [] d h c a = absurd a
 all_among P (x ∷ xs) d h c (inl e) = subst P e (h 0 (suc-le-suc zero-le))
 all_among P (x ∷ xs) d h c (inr a) = all_among P xs d (λ i lt. h (suc i) (suc-le-suc lt)) c a
 
 -- a call is taken out of a list
-pub taken_out : (xs : List SetCall) (i : ℕ) (d : SetCall) → i < length xs → xs ≡ take i xs ++ get_or xs i d ∷ drop (suc i) xs
+pub taken_out : (xs : List SetCall) (i : ℕ) (d : SetCall) →
+    i < length xs →
+    xs ≡ take i xs ++ get_or xs i d ∷ drop (suc i) xs
 taken_out [] i d lt = absurd (not-suc-le-zero lt)
 taken_out (x ∷ xs) zero d lt = refl
 taken_out (x ∷ xs) (suc i) d lt = ap (λ l. x ∷ l) (taken_out xs i d (le_of_suc-le-suc lt))

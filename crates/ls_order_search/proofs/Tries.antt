@@ -1,5 +1,7 @@
 -- Trying, one call more.
-use Rattle.std.proofs.Common.{◌≡◌, ◌∙◌, ◌+◌, ◌<◌, inl, inr, ℕ, true, false, [], ◌∷◌, ◌++◌, length, get_or, drop, sym, ap, subst, append_assoc, append-nil, ◌-◌, take, take_all, length-drop, le_of_eq, Option, Some, None, IfNone, IfSome, is_some, is_none}
+use Rattle.std.proofs.Common.{◌≡◌, ◌∙◌, ◌+◌, ◌<◌, inl, inr, ℕ, true, false, [], ◌∷◌, ◌++◌, length, get_or, drop, sym}
+use Rattle.std.proofs.Common.{ap, subst, append_assoc, append-nil, ◌-◌, take, take_all, length-drop, le_of_eq, Option}
+use Rattle.std.proofs.Common.{Some, None, IfNone, IfSome, is_some, is_none}
 use Rattle.std.proofs.lemmas.List.{drop_more}
 use Rattle.std.proofs.lemmas.Bool.{true≢false}
 use Rattle.ls_orders.specs.declared.calls.SetCall.{SetCall}
@@ -17,7 +19,8 @@ rising_without (y ∷ f) x b h = (λ z a. h.0 z (among_with z x f b a), rising_w
 pub trying_on : (front back : Calls) → Rising (front ++ back) → Trying front back front back
 trying_on front back r = record { rising = r; none = λ n. n; some = λ p w. w; known = λ c a. a }
 
-module _ (front back more all : Calls) (i : ℕ) (x : SetCall) (t : Trying front back more (drop i all)) (lt : i < length all) (is : x ≡ get_or all i x) where
+module _ (front back more all : Calls) (i : ℕ) (x : SetCall) (t : Trying front back more (drop i all))
+    (lt : i < length all) (is : x ≡ get_or all i x) where
   split : drop i all ≡ x ∷ drop (i + 1) all
   split = drop_more all i x lt ∙ ap (λ y. y ∷ drop (i + 1) all) (sym is)
 
@@ -38,9 +41,14 @@ module _ (front back more all : Calls) (i : ℕ) (x : SetCall) (t : Trying front
   less_some e p w = here.some p (inr (e, w))
 
   -- if leaving a trapped call out gives a way, there is one
-  pub less_tried : (events : ℕ) (less tail p : Calls) → less ≡ more → tail ≡ left → is_trapped x.end ≡ true → (Within events (less ++ tail) → Lasting (less ++ tail) → Way less tail p)
+  pub less_tried : (events : ℕ) (less tail p : Calls) →
+      less ≡ more →
+      tail ≡ left →
+      is_trapped x.end ≡ true →
+      (Within events (less ++ tail) → Lasting (less ++ tail) → Way less tail p)
       → Within events (front ++ back) → Lasting (front ++ back) → Way front back p
-  less_tried events less tail p e f trap h w l = less_some trap p (way (h (λ c a. w c (less_known c (among c a))) (λ c a. l c (less_known c (among c a)))))
+  less_tried events less tail p e f trap h w l = less_some trap p
+      (way (h (λ c a. w c (less_known c (among c a))) (λ c a. l c (less_known c (among c a)))))
     where
       among : (c : SetCall) → Among c (less ++ tail) → Among c (more ++ left)
       among c a = subst (λ m. Among c (m ++ left)) e (subst (λ m. Among c (less ++ m)) f a)
@@ -50,14 +58,18 @@ module _ (front back more all : Calls) (i : ℕ) (x : SetCall) (t : Trying front
 
   -- the calls stay in order of their call events
   pub less_rises : (less tail : Calls) → less ≡ more → tail ≡ left → Rising (less ++ tail)
-  less_rises less tail e f = subst (λ m. Rising (m ++ tail)) (sym e) (subst (λ m. Rising (more ++ m)) (sym f) less_rising)
+  less_rises less tail e f = subst (λ m. Rising (m ++ tail)) (sym e)
+      (subst (λ m. Rising (more ++ m)) (sym f) less_rising)
 
   -- that there is no way, under equal names
   pub less_none : (less tail : Calls) → less ≡ more → tail ≡ left → NoWay less tail → NoWay more left
   less_none less tail e f n = subst (λ m. NoWay m left) e (subst (λ m. NoWay less m) f n)
 
   -- with x
-  pub tried : (new : Calls) → new ≡ more ++ x ∷ [] → (is_trapped x.end ≡ true → NoWay more left) → Trying front back new left
+  pub tried : (new : Calls) →
+      new ≡ more ++ x ∷ [] →
+      (is_trapped x.end ≡ true → NoWay more left) →
+      Trying front back new left
   tried new e without = subst (λ m. Trying front back m left) (sym e) (record {
     rising = subst Rising (sym (append_assoc more (x ∷ []) left)) here.rising;
     none = λ n. here.none (n, without);
@@ -96,16 +108,28 @@ pub none_last : (front back more : Calls) → Trying front back more [] → NoPl
 none_last front back more t h = t.none (no_plan more h)
 
 -- all calls are tried: a plan of the chosen calls is a way
-pub some_last : (events : ℕ) (front back more p : Calls) → Trying front back more [] → (Within events more → Lasting more → IsPlan empty more p) → Within events (front ++ back) → Lasting (front ++ back) → Way front back p
+pub some_last : (events : ℕ) (front back more p : Calls) →
+    Trying front back more [] →
+    (Within events more → Lasting more → IsPlan empty more p) →
+    Within events (front ++ back) →
+    Lasting (front ++ back) →
+    Way front back p
 some_last events front back more p t h w l = t.some p (h (λ c a. w c (known c a)) (λ c a. l c (known c a)))
   where
     known : (c : SetCall) → Among c more → Among c (front ++ back)
     known c a = t.known c (among_front c more [] a)
 
 -- of the calls alone
-pub on_own : (events : ℕ) (front back own p : Calls) → front ≡ [] → back ≡ own → CallsOf events own → (Within events (front ++ back) → Lasting (front ++ back) → Way front back p) → Way [] own p
+pub on_own : (events : ℕ) (front back own p : Calls) →
+    front ≡ [] →
+    back ≡ own →
+    CallsOf events own →
+    (Within events (front ++ back) → Lasting (front ++ back) → Way front back p) →
+    Way [] own p
 on_own events front back own p f b h w =
-    subst (λ y. Way [] y p) b (subst (λ x. Way x back p) f (w (subst (Within events) (sym both) h.within) (subst Lasting (sym both) h.lasting)))
+    subst (λ y. Way [] y p) b
+    (subst (λ x. Way x back p) f (w (subst (Within events) (sym both) h.within)
+    (subst Lasting (sym both) h.lasting)))
   where
     both : front ++ back ≡ own
     both = ap (λ x. x ++ back) f ∙ b

@@ -29,7 +29,10 @@ pub record IsDecided (history : List Event) : Type 0 where
 -- The history has a call of another kind, or too many trapped calls on an item, or a legal order. Or it has no legal
 -- order from an event on, but a legal order of the events before that event.
 abbrev pub IsOutcome : List Event → Outcome → Type 0
-IsOutcome history (outcomes.NotOneSet call) = (e : Event) × (first_foreign history ≡ Some e) × (string_bytes call ≡ name_of e)
-IsOutcome history outcomes.TooManyTrapped = (first_foreign history ≡ None) × (has_many_trapped (set_calls history) ≡ true)
+IsOutcome history (outcomes.NotOneSet call) = (e : Event) × (first_foreign history ≡ Some e) ×
+    (string_bytes call ≡ name_of e)
+IsOutcome history outcomes.TooManyTrapped = (first_foreign history ≡ None) ×
+    (has_many_trapped (set_calls history) ≡ true)
 IsOutcome history (outcomes.Legal order) = IsDecided history × IsLegal history (map string_bytes order.items)
-IsOutcome history (outcomes.Hopeless at order) = IsDecided history × IsHopeless history at × IsLegal (take at history) (map string_bytes order.items)
+IsOutcome history (outcomes.Hopeless at order) = IsDecided history × IsHopeless history at ×
+    IsLegal (take at history) (map string_bytes order.items)

@@ -17,5 +17,6 @@ order_line (call ∷ calls) = call ++ (flat_map spaced calls ++ 10 ∷ [])
 
 -- The line of a legal order of a history is read as that order.
 abbrev pub OrderReadsBack : Type 0
-OrderReadsBack = (history : List Event) (order : List Text) → is_history history ≡ true → length history < 2 ^ 64 → IsLegal history order
+OrderReadsBack = (history : List Event) (order : List Text) → is_history history ≡ true → length history < 2 ^ 64 →
+    IsLegal history order
     → order_of (order_line order) ≡ Ok order

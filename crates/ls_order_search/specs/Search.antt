@@ -1,5 +1,6 @@
 -- The steps of the search.
-use Rattle.std.specs.Prelude.{◌≡◌, ◌==◌, ◌⊎◌, ◌++◌, ◌<◌, ◌≤◌, ℕ, ℤ, Bool, true, false, not, List, [], ◌∷◌, Option, Some, None, length, slice_index_or, nat_lt, drop, filter, take, ◌||◌}
+use Rattle.std.specs.Prelude.{◌≡◌, ◌==◌, ◌⊎◌, ◌++◌, ◌<◌, ◌≤◌, ℕ, ℤ, Bool, true, false, not, List, [], ◌∷◌, Option, Some}
+use Rattle.std.specs.Prelude.{None, length, slice_index_or, nat_lt, drop, filter, take, ◌||◌}
 use Rattle.std.specs.BTreeSet.{BTreeSet, contains}
 use Rattle.std.specs.Ordering.{int_cmp, int_eq}
 use Rattle.ls_orders.specs.declared.calls.SetCall.{SetCall}
@@ -49,7 +50,8 @@ pub record Best (item : ℤ) (was : Bool) (pool : Calls) (x : SetCall) : Type 0 
 abbrev pub BestSoFar : ℤ → Bool → Calls → ℕ → Option ℕ → Type 0
 BestSoFar item was pool n None = (k : ℕ) (d : SetCall) → k < n → Turns item was (slice_index_or pool k d) → ⊥
 BestSoFar item was pool n (Some b) = (b < length pool) × ((d : SetCall) → Turns item was (slice_index_or pool b d))
-    × ((k : ℕ) (d : SetCall) → k < n → Turns item was (slice_index_or pool k d) → NoLater (slice_index_or pool b d).end (slice_index_or pool k d).end)
+    × ((k : ℕ) (d : SetCall) → k < n → Turns item was (slice_index_or pool k d) →
+    NoLater (slice_index_or pool b d).end (slice_index_or pool k d).end)
 
 abbrev pub comes_first : ℕ → End → Bool
 comes_first at Pending = true
@@ -58,7 +60,8 @@ comes_first at (Returned place reply) = nat_lt at place
 
 -- A call that changes nothing. If there is none, then among the calls that change the set, the first to end.
 abbrev pub Choice : ℤ → Bool → Calls → SetCall → Type 0
-Choice item was pool x = Keeps item was x ⊎ (((c : SetCall) → Among c pool → Keeps item was c → ⊥) × Best item was pool x)
+Choice item was pool x = Keeps item was x ⊎ (((c : SetCall) → Among c pool → Keeps item was c → ⊥) ×
+    Best item was pool x)
 
 abbrev pub Place : Calls → (SetCall → Type 0) → ℕ → Type 0
 Place pool P i = (i < length pool) × ((d : SetCall) → P (slice_index_or pool i d))
@@ -99,17 +102,31 @@ is_item item = λ z. int_eq z item
 -- plan of the calls on these items, there still is one. And a plan of the calls that are left is a plan of all, after
 -- the calls that are placed.
 pub record Goes (at : ℕ) (s t : Set) (pool less placed : Calls) : Type 0 where
-  pub plan : (p : ℤ → Bool) (rest : Calls) → Distinct (pool ++ rest) → CalledAfter at rest → CalledBy at pool → HasPlan s (on_items p (pool ++ rest)) → HasPlan t (on_items p (less ++ rest))
+  pub plan : (p : ℤ → Bool) (rest : Calls) →
+      Distinct (pool ++ rest) →
+      CalledAfter at rest →
+      CalledBy at pool →
+      HasPlan s (on_items p (pool ++ rest)) →
+      HasPlan t (on_items p (less ++ rest))
   pub distinct : (rest : Calls) → Distinct (pool ++ rest) → Distinct (less ++ rest)
   pub among : (c : SetCall) → Among c less → Among c pool
-  pub back : (rest : Calls) → Distinct (pool ++ rest) → CalledAfter at rest → CalledBy at pool → LastUntil at pool → Lasting rest → (p : Calls) → IsPlan t (less ++ rest) p → IsPlan s (pool ++ rest) (placed ++ p)
+  pub back : (rest : Calls) →
+      Distinct (pool ++ rest) →
+      CalledAfter at rest →
+      CalledBy at pool →
+      LastUntil at pool →
+      Lasting rest →
+      (p : Calls) →
+      IsPlan t (less ++ rest) p →
+      IsPlan s (pool ++ rest) (placed ++ p)
 
 abbrev pub Closed : ℕ → Set → Set → Calls → Calls → Calls → Calls → Type 0
 Closed at s t pool less old new = (placed : Calls) × (new ≡ old ++ placed) × Goes at s t pool less placed
 
 -- whatever comes later, there is an item for which the calls have no plan
 abbrev pub Stuck : ℕ → Set → Calls → Type 0
-Stuck at s pool = (item : ℤ) × ((rest : Calls) → Distinct (pool ++ rest) → CalledAfter at rest → CalledBy at pool → HasPlan s (on_items (is_item item) (pool ++ rest)) → ⊥)
+Stuck at s pool = (item : ℤ) × ((rest : Calls) → Distinct (pool ++ rest) → CalledAfter at rest → CalledBy at pool →
+    HasPlan s (on_items (is_item item) (pool ++ rest)) → ⊥)
 
 abbrev pub NoPlanOn : Calls → Type 0
 NoPlanOn calls = (item : ℤ) × (HasPlan empty (on_items (is_item item) calls) → ⊥)
@@ -134,7 +151,8 @@ Way front (c ∷ cs) p = Way (front ++ c ∷ []) cs p ⊎ ((is_trapped c.end ≡
 
 -- the calls and their ends are among the first `events` events
 abbrev pub Within : ℕ → Calls → Type 0
-Within events rest = (c : SetCall) → Among c rest → (c.called < events) × (has_end c.end ≡ true → ended_before c.end events ≡ true)
+Within events rest = (c : SetCall) → Among c rest → (c.called < events) ×
+    (has_end c.end ≡ true → ended_before c.end events ≡ true)
 
 -- the next call was called at the place or before
 abbrev pub Due : ℕ → Calls → ℕ → Type 0

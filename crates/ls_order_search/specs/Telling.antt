@@ -1,5 +1,6 @@
 -- The verdict on the text of a history.
-use Rattle.std.specs.Prelude.{◌≡◌, ◌+◌, ℕ, true, List, [], ◌∷◌, ◌++◌, Some, None, Result, Ok, Err, String, codes, slice_get, string_bytes, take}
+use Rattle.std.specs.Prelude.{◌≡◌, ◌+◌, ℕ, true, List, [], ◌∷◌, ◌++◌, Some, None, Result, Ok, Err, String, codes}
+use Rattle.std.specs.Prelude.{slice_get, string_bytes, take}
 use Rattle.std.specs.Fmt.{decimal}
 use Rattle.std.specs.Global.{Global}
 use Rattle.ls_report.specs.Events.{Event, Text}
@@ -25,10 +26,25 @@ hopeless_text at line order = codes "hopeless " ++ (decimal (at + 1) ++ (32 ∷ 
 -- item has too many trapped calls. There is a legal order. Or there is the event with which no order is legal any
 -- more, with a legal order of the events before it. Or the text is no history, and breaks at a place.
 pub data Tells (text : Text) : Result Text SearchFault → Type 0 where
-  Foreign : (events : List Event) (e : Event) → Says text events → first_foreign events ≡ Some e → Tells text (Ok (foreign_text (name_of e)))
-  ManyTrapped : (events : List Event) → Says text events → first_foreign events ≡ None → has_many_trapped (set_calls events) ≡ true → Tells text (Err faults.TooManyTrapped)
-  Legal : (events : List Event) (order : List Text) → Says text events → IsDecided events → IsLegal events order → Tells text (Ok (order_line order))
-  Hopeless : (events : List Event) (at : ℕ) (e : Event) (order : List Text) → Says text events → IsDecided events → IsHopeless events at → slice_get events at ≡ Some e
+  Foreign : (events : List Event) (e : Event) →
+      Says text events →
+      first_foreign events ≡ Some e →
+      Tells text (Ok (foreign_text (name_of e)))
+  ManyTrapped : (events : List Event) →
+      Says text events →
+      first_foreign events ≡ None →
+      has_many_trapped (set_calls events) ≡ true →
+      Tells text (Err faults.TooManyTrapped)
+  Legal : (events : List Event) (order : List Text) →
+      Says text events →
+      IsDecided events →
+      IsLegal events order →
+      Tells text (Ok (order_line order))
+  Hopeless : (events : List Event) (at : ℕ) (e : Event) (order : List Text) →
+      Says text events →
+      IsDecided events →
+      IsHopeless events at →
+      slice_get events at ≡ Some e
       → IsLegal (take at events) order → Tells text (Ok (hopeless_text at (event_text e) order))
   NoHistory : (at : ℕ) → BreaksAt text at → Tells text (Err (faults.BadHistory at))
 

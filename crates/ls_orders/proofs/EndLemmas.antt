@@ -1,5 +1,6 @@
 -- How calls end, one event before the other.
-use Rattle.std.proofs.Common.{◌≡◌, ◌∙◌, ◌==◌, ◌&&◌, ◌+◌, ◌-◌, ◌<◌, ◌≤◌, ℕ, Bool, true, false, cond, List, [], ◌∷◌, ◌++◌, length, map, drop, get_or, arith, refl, sym, ap}
+use Rattle.std.proofs.Common.{◌≡◌, ◌∙◌, ◌==◌, ◌&&◌, ◌+◌, ◌-◌, ◌<◌, ◌≤◌, ℕ, Bool, true, false, cond, List, [], ◌∷◌, ◌++◌}
+use Rattle.std.proofs.Common.{length, map, drop, get_or, arith, refl, sym, ap}
 use Rattle.std.specs.Prelude.{Option, Some, None, reverse, unwrap_or}
 use Rattle.std.specs.HashMap.{HashMap, UpdatesBy, get}
 use Rattle.std.specs.Str.{bytes_eq}
@@ -25,13 +26,17 @@ swap true false = refl
 swap false true = refl
 swap false false = refl
 
-or_pending : (b : Bool) (w o : Option End) → unwrap_or (cond b w o) Pending ≡ cond b (unwrap_or w Pending) (unwrap_or o Pending)
+or_pending : (b : Bool) (w o : Option End) →
+    unwrap_or (cond b w o) Pending ≡ cond b (unwrap_or w Pending) (unwrap_or o Pending)
 or_pending true w o = refl
 or_pending false w o = refl
 
 -- how calls end after one end is put into the map
-pub end_put : {S : Type 0} (old new : HashMap CallKey End S) (k : CallKey) (w : Option End) → UpdatesBy key_eq (key_eq k) old new w → (thread : Text) (call : ℕ)
-    → ended new thread call ≡ cond (bytes_eq k.1.now thread && k.0 == call) (unwrap_or w Pending) (ended old thread call)
+pub end_put : {S : Type 0} (old new : HashMap CallKey End S) (k : CallKey) (w : Option End) →
+    UpdatesBy key_eq (key_eq k) old new w →
+    (thread : Text) (call : ℕ)
+    → ended new thread call ≡ cond (bytes_eq k.1.now thread && k.0 == call) (unwrap_or w Pending)
+    (ended old thread call)
 end_put old new k w u thread call =
     let q : CallKey = (call, record { ref_ptr = (0, 0); now = thread }) in
     ap (λ o. unwrap_or o Pending) (u.0 q) ∙ or_pending (key_eq k q) w (get key_eq old q)
@@ -55,33 +60,48 @@ event_before es i e some le is =
     drop_event es (i - 1) e lt is ∙ ap (λ n. plain_event e ∷ drop n (map plain_event es)) next
 
 -- how calls end, seen from one event earlier
-pub ends_before : (es : List NamedEvent) (i : ℕ) (e : NamedEvent) (old new : Text → ℕ → End) → 0 < i → i ≤ length es → e ≡ get_or es (i - 1) e
+pub ends_before : (es : List NamedEvent) (i : ℕ) (e : NamedEvent) (old new : Text → ℕ → End) →
+    0 < i →
+    i ≤ length es →
+    e ≡ get_or es (i - 1) e
     → ((thread : Text) (call : ℕ) → old thread call ≡ end_of thread call i (drop i (map plain_event es)))
     → ((thread : Text) (call : ℕ) → new thread call
-    ≡ cond (bytes_eq (plain_event e).thread thread && (plain_event e).call == call) (end_at (i - 1) (plain_event e).occurrence) (old thread call))
+    ≡ cond (bytes_eq (plain_event e).thread thread && (plain_event e).call == call)
+    (end_at (i - 1) (plain_event e).occurrence) (old thread call))
     → (thread : Text) (call : ℕ) → new thread call ≡ end_of thread call (i - 1) (drop (i - 1) (map plain_event es))
 ends_before es i e old new some le is was put thread call =
     let next : i ≡ i - 1 + 1 = omega arith in
-    let here = λ (x : End). cond (bytes_eq (plain_event e).thread thread && (plain_event e).call == call) (end_at (i - 1) (plain_event e).occurrence) x in
-    put thread call ∙ ap here (was thread call) ∙ ap (λ n. here (end_of thread call n (drop i (map plain_event es)))) next
+    let here = λ (x : End). cond (bytes_eq (plain_event e).thread thread && (plain_event e).call == call)
+    (end_at (i - 1) (plain_event e).occurrence) x in
+    put thread call ∙ ap here (was thread call) ∙ ap (λ n. here (end_of thread call n (drop i (map plain_event es))))
+    next
     ∙ ap (end_of thread call (i - 1)) (sym (event_before es i e some le is))
 
 -- ---- the calls
 
 calls_before : (es : List NamedEvent) (i : ℕ) (e : NamedEvent) → 0 < i → i ≤ length es → e ≡ get_or es (i - 1) e
     → calls_from (i - 1) (drop (i - 1) (map plain_event es))
-    ≡ with_asked (asked_of (plain_event e).occurrence) (i - 1) (end_of (plain_event e).thread (plain_event e).call i (drop i (map plain_event es))) (calls_from i (drop i (map plain_event es)))
+    ≡ with_asked (asked_of (plain_event e).occurrence) (i - 1)
+    (end_of (plain_event e).thread (plain_event e).call i (drop i (map plain_event es)))
+    (calls_from i (drop i (map plain_event es)))
 calls_before es i e some le is =
     let next : i - 1 + 1 ≡ i = omega arith in
     let more = drop i (map plain_event es) in
     ap (calls_from (i - 1)) (event_before es i e some le is)
-    ∙ ap (λ n. with_asked (asked_of (plain_event e).occurrence) (i - 1) (end_of (plain_event e).thread (plain_event e).call n more) (calls_from n more)) next
+    ∙ ap (λ n. with_asked (asked_of (plain_event e).occurrence) (i - 1)
+    (end_of (plain_event e).thread (plain_event e).call n more) (calls_from n more)) next
 
 -- the set calls from one event earlier on, if that event is a set call
-pub call_before : (es : List NamedEvent) (i : ℕ) (e : NamedEvent) (asked : Asked) (end : End) (calls new : List SetCall) → 0 < i → i ≤ length es → e ≡ get_or es (i - 1) e
-    → Some asked ≡ asked_of (plain_event e).occurrence → end ≡ end_of (plain_event e).thread (plain_event e).call i (drop i (map plain_event es))
+pub call_before : (es : List NamedEvent) (i : ℕ) (e : NamedEvent) (asked : Asked) (end : End) (calls new : List SetCall)
+    →
+    0 < i →
+    i ≤ length es →
+    e ≡ get_or es (i - 1) e
+    → Some asked ≡ asked_of (plain_event e).occurrence → end ≡ end_of (plain_event e).thread (plain_event e).call i
+    (drop i (map plain_event es))
     → new ≡ calls ++ record { called = i - 1; operation = asked.0; item = asked.1; end = end } ∷ []
-    → reverse calls ≡ calls_from i (drop i (map plain_event es)) → reverse new ≡ calls_from (i - 1) (drop (i - 1) (map plain_event es))
+    → reverse calls ≡ calls_from i (drop i (map plain_event es)) →
+    reverse new ≡ calls_from (i - 1) (drop (i - 1) (map plain_event es))
 call_before es i e asked end calls new some le is o there pushed h =
     let more = drop i (map plain_event es) in
     let c : SetCall = record { called = i - 1; operation = asked.0; item = asked.1; end = end } in
@@ -91,9 +111,13 @@ call_before es i e asked end calls new some le is o there pushed h =
     ∙ sym (calls_before es i e some le is)
 
 -- the set calls from one event earlier on, if that event is none
-pub no_call_before : (es : List NamedEvent) (i : ℕ) (e : NamedEvent) (calls : List SetCall) → 0 < i → i ≤ length es → e ≡ get_or es (i - 1) e
+pub no_call_before : (es : List NamedEvent) (i : ℕ) (e : NamedEvent) (calls : List SetCall) →
+    0 < i →
+    i ≤ length es →
+    e ≡ get_or es (i - 1) e
     → None ≡ asked_of (plain_event e).occurrence
-    → reverse calls ≡ calls_from i (drop i (map plain_event es)) → reverse calls ≡ calls_from (i - 1) (drop (i - 1) (map plain_event es))
+    → reverse calls ≡ calls_from i (drop i (map plain_event es)) →
+    reverse calls ≡ calls_from (i - 1) (drop (i - 1) (map plain_event es))
 no_call_before es i e calls some le is o h =
     let more = drop i (map plain_event es) in
     h ∙ ap (λ x. with_asked x (i - 1) (end_of (plain_event e).thread (plain_event e).call i more) (calls_from i more)) o

@@ -8,5 +8,6 @@ use Rattle.ls_report.specs.declared.history.NamedEvent.{NamedEvent}
 pub drop_event : (es : List NamedEvent) (i : ℕ) (e : NamedEvent) → i < length es → e ≡ get_or es i e
     → drop i (map plain_event es) ≡ plain_event e ∷ drop (i + 1) (map plain_event es)
 drop_event es i e lt is =
-    drop-map plain_event i es ∙ ap (map plain_event) (drop_more es i e lt) ∙ ap (λ x. plain_event x ∷ map plain_event (drop (i + 1) es)) (sym is)
+    drop-map plain_event i es ∙ ap (map plain_event) (drop_more es i e lt) ∙
+    ap (λ x. plain_event x ∷ map plain_event (drop (i + 1) es)) (sym is)
     ∙ ap (λ xs. plain_event e ∷ xs) (sym (drop-map plain_event (i + 1) es))

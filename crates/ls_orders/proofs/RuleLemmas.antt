@@ -1,5 +1,6 @@
 -- The rules, one call after the other.
-use Rattle.std.proofs.Common.{◌≡◌, ◌∙◌, ◌||◌, ◌+◌, ◌-◌, ◌<◌, ◌≤◌, ℕ, ℤ, Bool, true, false, cond, List, [], ◌∷◌, ◌++◌, length, map, take, drop, get_or, refl, sym, ap, arith, Option, Some}
+use Rattle.std.proofs.Common.{◌≡◌, ◌∙◌, ◌||◌, ◌+◌, ◌-◌, ◌<◌, ◌≤◌, ℕ, ℤ, Bool, true, false, cond, List, [], ◌∷◌, ◌++◌}
+use Rattle.std.proofs.Common.{length, map, take, drop, get_or, refl, sym, ap, arith, Option, Some}
 use Rattle.std.specs.List.{list_any}
 use Rattle.std.proofs.lemmas.List.{drop_more, map_more}
 use Rattle.std.specs.Prelude.{pos}
@@ -11,7 +12,8 @@ use Rattle.ls_orders.specs.Named.{plain_call}
 use Rattle.ls_orders.specs.Rules.{after_call, first_repeated, first_where, is_present, is_same, present_from}
 
 -- whether an item is present after one more call
-pub present_push : (z : ℤ) (was : Bool) (xs : List SetCall) (x : SetCall) → present_from z was (xs ++ x ∷ []) ≡ after_call z (present_from z was xs) x
+pub present_push : (z : ℤ) (was : Bool) (xs : List SetCall) (x : SetCall) →
+    present_from z was (xs ++ x ∷ []) ≡ after_call z (present_from z was xs) x
 present_push z was [] x = refl
 present_push z was (y ∷ ys) x = present_push z (after_call z was y) ys x
 
@@ -45,11 +47,15 @@ back_more : (xs : Lent) (i : ℕ) → i < length xs → back i xs ≡ at xs i �
 back_more xs i lt = ap (map plain_call) (drop_more xs i none_lent lt)
 
 -- whether an item is present, one call further
-pub present_more : (z : ℤ) (xs : Lent) (i : ℕ) → i < length xs → is_present z (front (i + 1) xs) ≡ after_call z (is_present z (front i xs)) (at xs i)
+pub present_more : (z : ℤ) (xs : Lent) (i : ℕ) →
+    i < length xs →
+    is_present z (front (i + 1) xs) ≡ after_call z (is_present z (front i xs)) (at xs i)
 present_more z xs i lt = ap (is_present z) (front_more xs i lt) ∙ present_push z false (front i xs) (at xs i)
 
 -- the call at i doesn't pass
-pub goes_on : (p : List SetCall → SetCall → Bool) (xs : Lent) (i : ℕ) (all : Option SetCall) → i < length xs → p (front i xs) (at xs i) ≡ false
+pub goes_on : (p : List SetCall → SetCall → Bool) (xs : Lent) (i : ℕ) (all : Option SetCall) →
+    i < length xs →
+    p (front i xs) (at xs i) ≡ false
     → first_where p (front i xs) (back i xs) ≡ all → first_where p (front (i + 1) xs) (back (i + 1) xs) ≡ all
 goes_on p xs i all lt e h =
     let x = at xs i in
@@ -67,7 +73,9 @@ any_push p (y ∷ ys) x = swap (p y) (p x) (list_any p ys) (list_any p (ys ++ x 
     swap false b c d e = e
 
 -- whether any of the first calls passes, one call further
-pub any_more : (p : SetCall → Bool) (xs : Lent) (i : ℕ) → i < length xs → list_any p (front (i + 1) xs) ≡ (p (at xs i) || list_any p (front i xs))
+pub any_more : (p : SetCall → Bool) (xs : Lent) (i : ℕ) →
+    i < length xs →
+    list_any p (front (i + 1) xs) ≡ (p (at xs i) || list_any p (front i xs))
 any_more p xs i lt = ap (list_any p) (front_more xs i lt) ∙ any_push p (front i xs) (at xs i)
 
 one_before : (xs : Lent) (i : ℕ) → 0 < i → i ≤ length xs → back (i - 1) xs ≡ at xs (i - 1) ∷ back i xs
@@ -77,10 +85,14 @@ one_before xs i some le =
     back_more xs (i - 1) lt ∙ ap (λ n. at xs (i - 1) ∷ back n xs) next
 
 -- whether any of the last calls passes, one call earlier
-pub any_before : (p : SetCall → Bool) (xs : Lent) (i : ℕ) → 0 < i → i ≤ length xs → list_any p (back (i - 1) xs) ≡ (p (at xs (i - 1)) || list_any p (back i xs))
+pub any_before : (p : SetCall → Bool) (xs : Lent) (i : ℕ) →
+    0 < i →
+    i ≤ length xs →
+    list_any p (back (i - 1) xs) ≡ (p (at xs (i - 1)) || list_any p (back i xs))
 any_before p xs i some le = ap (list_any p) (one_before xs i some le)
 
 -- the first call that comes a second time, one call earlier
 pub repeated_before : (xs : Lent) (i : ℕ) → 0 < i → i ≤ length xs
-    → first_repeated (back (i - 1) xs) ≡ cond (list_any (is_same (at xs (i - 1))) (back i xs)) (Some (at xs (i - 1))) (first_repeated (back i xs))
+    → first_repeated (back (i - 1) xs) ≡ cond (list_any (is_same (at xs (i - 1))) (back i xs)) (Some (at xs (i - 1)))
+    (first_repeated (back i xs))
 repeated_before xs i some le = ap first_repeated (one_before xs i some le)

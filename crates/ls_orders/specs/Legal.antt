@@ -32,9 +32,14 @@ pub record IsLegal (history : List Event) (order : List Text) : Type 0 where
   pub named : map (call_named history (set_calls history)) order ≡ map (λ c. Some c) calls
   pub once : (front back : List SetCall) (x : SetCall) → calls ≡ front ++ x ∷ back → list_any (is_same x) back ≡ false
   -- the order has each call that returned
-  pub complete : (front back : List SetCall) (c : SetCall) → set_calls history ≡ front ++ c ∷ back → is_returned c.end ≡ true → list_any (is_same c) calls ≡ true
+  pub complete : (front back : List SetCall) (c : SetCall) →
+      set_calls history ≡ front ++ c ∷ back →
+      is_returned c.end ≡ true →
+      list_any (is_same c) calls ≡ true
   -- if a call had ended before another was called, it comes first
-  pub in_time : (front middle back : List SetCall) (x y : SetCall) → calls ≡ front ++ y ∷ (middle ++ x ∷ back) → ended_before x.end y.called ≡ false
+  pub in_time : (front middle back : List SetCall) (x y : SetCall) →
+      calls ≡ front ++ y ∷ (middle ++ x ∷ back) →
+      ended_before x.end y.called ≡ false
   -- the calls are a run of a set that is empty at the start
   pub run : IsRun empty calls
 

@@ -1,5 +1,6 @@
 -- The set calls of a history.
-use Rattle.std.specs.Prelude.{◌==◌, ◌&&◌, ◌||◌, ◌+◌, ℕ, ℤ, Bool, false, not, List, [], ◌∷◌, Option, Some, None, find, is_some, slice_get, option_map, option_and_then, if◌then◌else◌, codes}
+use Rattle.std.specs.Prelude.{◌==◌, ◌&&◌, ◌||◌, ◌+◌, ℕ, ℤ, Bool, false, not, List, [], ◌∷◌, Option, Some, None, find}
+use Rattle.std.specs.Prelude.{is_some, slice_get, option_map, option_and_then, if◌then◌else◌, codes}
 use Rattle.std.specs.Option.{option_map_or}
 use Rattle.std.specs.Str.{bytes_eq}
 use Rattle.ls_events.specs.declared.value.Value.{Value}
@@ -47,7 +48,8 @@ name_of e = call_text e.thread e.call
 abbrev pub is_foreign : Option Text → Occurrence → Bool
 is_foreign first (Made object class arguments) = is_some first
 is_foreign first (Called object method arguments) =
-    not (is_some (asked_of (Called object method arguments))) || option_map_or (λ f. not (bytes_eq f object)) first false
+    not (is_some (asked_of (Called object method arguments))) || option_map_or (λ f. not (bytes_eq f object)) first
+    false
 is_foreign first other = false
 
 abbrev pub first_after : Option Text → Occurrence → Option Text

@@ -1,8 +1,11 @@
 -- Each character as it is written: safe bytes, which JSON reads as that character.
-use Rattle.std.proofs.Common.{◌≡◌, ◌+◌, ◌-◌, ◌/◌, ◌%◌, ◌<◌, ◌≤◌, ◌==◌, ℕ, Bool, true, false, cond, not, ◌&&◌, nat_le, nat_lt, List, [], ◌∷◌, ◌++◌, Option, Some, None, flat_map, inl, inr, refl, sym, ap, arith, append_assoc, if◌then◌else◌}
+use Rattle.std.proofs.Common.{◌≡◌, ◌+◌, ◌-◌, ◌/◌, ◌%◌, ◌<◌, ◌≤◌, ◌==◌, ℕ, Bool, true, false, cond, not, ◌&&◌, nat_le}
+use Rattle.std.proofs.Common.{nat_lt, List, [], ◌∷◌, ◌++◌, Option, Some, None, flat_map, inl, inr, refl, sym, ap, arith}
+use Rattle.std.proofs.Common.{append_assoc, if◌then◌else◌}
 use Rattle.std.specs.List.{list_all}
 use Rattle.std.specs.Option.{option_map_or}
-use Rattle.std.proofs.lemmas.Bool.{agree_below_at, and_from, and_parts, cases_Bool, cases_eq, cases_lt, eqb-true, false≢true, le-leb, le-ltb, leb-true, lt-ltb, ne_eqb}
+use Rattle.std.proofs.lemmas.Bool.{agree_below_at, and_from, and_parts, cases_Bool, cases_eq, cases_lt, eqb-true}
+use Rattle.std.proofs.lemmas.Bool.{false≢true, le-leb, le-ltb, leb-true, lt-ltb, ne_eqb}
 use Rattle.std.proofs.lemmas.List.Folds.{list_all-append}
 use lib.Utf8.{encode, encodes}
 use Rattle.ls_page.specs.Laws.{is_safe}
@@ -10,7 +13,11 @@ use Rattle.ls_page.specs.Quoted.{Text, control_text, escaped, hex_digit}
 use Rattle.ls_page.specs.Strings.{Byte, Inside, Letter, Number, is_in, is_plain, unit_of}
 
 -- a test that follows from another
-all_weaker : (p q : ℕ → Bool) → ((byte : ℕ) → p byte ≡ true → q byte ≡ true) → (bytes : Text) → list_all p bytes ≡ true → list_all q bytes ≡ true
+all_weaker : (p q : ℕ → Bool) →
+    ((byte : ℕ) → p byte ≡ true → q byte ≡ true) →
+    (bytes : Text) →
+    list_all p bytes ≡ true →
+    list_all q bytes ≡ true
 all_weaker p q weaker [] h = refl
 all_weaker p q weaker (byte ∷ bytes) h =
     let both = and_parts (p byte) (list_all p bytes) h in
@@ -38,12 +45,17 @@ high_bytes c h =
     let a4 = is_high_from 128 (c / 64 % 64) (omega arith) in
     let a5 = is_high_from 240 (c / 262144) (omega arith) in
     let a6 = is_high_from 128 (c / 4096 % 64) (omega arith) in
-    rw (le-ltb c 128 h) (one_of (nat_lt c 2048) (nat_lt c 65536) _ _ _ (rw (a1, a2) refl) (rw (a3, a4, a2) refl) (rw (a5, a6, a4, a2) refl))
+    rw (le-ltb c 128 h) (one_of (nat_lt c 2048) (nat_lt c 65536) _ _ _ (rw (a1, a2) refl) (rw (a3, a4, a2) refl)
+    (rw (a5, a6, a4, a2) refl))
 
 high_is_plain : (byte : ℕ) → is_high byte ≡ true → is_plain byte ≡ true
 high_is_plain byte h =
     let high = leb-true 128 byte h in
-    rw (le-ltb byte 32 (omega (arith, high)), ne_eqb byte 34 (λ e. omega (arith, high, e)), ne_eqb byte 92 (λ e. omega (arith, high, e))) refl
+    rw (
+      le-ltb byte 32 (omega (arith, high)),
+      ne_eqb byte 34 (λ e. omega (arith, high, e)),
+      ne_eqb byte 92 (λ e. omega (arith, high, e)),
+    ) refl
 
 high_is_safe : (byte : ℕ) → is_high byte ≡ true → is_safe byte ≡ true
 high_is_safe byte h =
@@ -55,7 +67,8 @@ written_so : (c : ℕ) → (c ≡ 34 → ⊥) → (c ≡ 92 → ⊥) → (c ≡ 
 written_so c a b d e h = rw (ne_eqb c 34 a, ne_eqb c 92 b, ne_eqb c 60 d, ne_eqb c 127 e, le-ltb c 32 h) refl
 
 high_so : (c : ℕ) → 128 ≤ c → escaped c ≡ encode c
-high_so c h = written_so c (λ e. omega (arith, h, e)) (λ e. omega (arith, h, e)) (λ e. omega (arith, h, e)) (λ e. omega (arith, h, e)) (omega (arith, h))
+high_so c h = written_so c (λ e. omega (arith, h, e)) (λ e. omega (arith, h, e)) (λ e. omega (arith, h, e))
+    (λ e. omega (arith, h, e)) (omega (arith, h))
 
 ascii_safe : (c : ℕ) → c < 128 → list_all is_safe (escaped c) ≡ true
 unfolding encode
@@ -72,7 +85,10 @@ pub all_safe : (cs : List ℕ) → list_all is_safe (flat_map escaped cs) ≡ tr
 all_safe [] = refl
 all_safe (c ∷ cs) = rw (list_all-append is_safe (escaped c) (flat_map escaped cs), one_safe c, all_safe cs) refl
 
-reads_bytes : (bytes written text rest : Text) → list_all is_plain bytes ≡ true → Inside written text rest → Inside (bytes ++ written) (bytes ++ text) rest
+reads_bytes : (bytes written text rest : Text) →
+    list_all is_plain bytes ≡ true →
+    Inside written text rest →
+    Inside (bytes ++ written) (bytes ++ text) rest
 reads_bytes [] written text rest p h = h
 reads_bytes (byte ∷ bytes) written text rest p h =
     let both = and_parts (is_plain byte) (list_all is_plain bytes) p in
@@ -95,7 +111,8 @@ is_some_of None n h = absurd (false≢true h)
 control_unit : (c : ℕ) → c < 32 → unit_of 48 48 (third c) (fourth c) ≡ Some c
 control_unit c h =
     is_some_of (unit_of 48 48 (third c) (fourth c)) c
-    (agree_below_at (λ k. option_map_or (λ m. m == k) (unit_of 48 48 (third k) (fourth k)) false) (λ k. true) 32 c refl h)
+    (agree_below_at (λ k. option_map_or (λ m. m == k) (unit_of 48 48 (third k) (fourth k)) false) (λ k. true) 32 c refl
+    h)
 
 low_is_no_surrogate : (c : ℕ) → c < 32 → is_in 55296 57344 c ≡ false
 low_is_no_surrogate c h = agree_below_at (λ k. is_in 55296 57344 k) (λ k. false) 32 c refl h
@@ -110,7 +127,10 @@ escaped_control c h =
       lt-ltb c 32 h,
     ) refl
 
-reads_control : (c : ℕ) (written text rest : Text) → c < 32 → Inside written text rest → Inside (escaped c ++ written) (encode c ++ text) rest
+reads_control : (c : ℕ) (written text rest : Text) →
+    c < 32 →
+    Inside written text rest →
+    Inside (escaped c ++ written) (encode c ++ text) rest
 reads_control c written text rest small h =
     rw (escaped_control c small, control_is c)
     (Number 48 48 (third c) (fourth c) c written text rest (control_unit c small) (low_is_no_surrogate c small) h)
@@ -122,7 +142,9 @@ plain_bytes c a b h = elim (cases_lt c 128) [
   | inr big ↦ all_weaker is_high is_plain high_is_plain (encode c) (high_bytes c big)
 ]
 
-reads_one : (c : ℕ) (written text rest : Text) → Inside written text rest → Inside (escaped c ++ written) (encode c ++ text) rest
+reads_one : (c : ℕ) (written text rest : Text) →
+    Inside written text rest →
+    Inside (escaped c ++ written) (encode c ++ text) rest
 unfolding encode
 reads_one c written text rest h = elim (cases_eq c 34) [
   | inl e ↦ rw e (Letter 34 34 written text rest refl h)
@@ -142,7 +164,9 @@ reads_one c written text rest h = elim (cases_eq c 34) [
 ]
 
 -- characters are read back
-pub reads_all : (cs : List ℕ) (written text rest : Text) → Inside written text rest → Inside (flat_map escaped cs ++ written) (encodes cs ++ text) rest
+pub reads_all : (cs : List ℕ) (written text rest : Text) →
+    Inside written text rest →
+    Inside (flat_map escaped cs ++ written) (encodes cs ++ text) rest
 reads_all [] written text rest h = h
 reads_all (c ∷ cs) written text rest h =
     rw (append_assoc (escaped c) (flat_map escaped cs) written, append_assoc (encode c) (encodes cs) text)

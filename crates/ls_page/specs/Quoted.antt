@@ -1,5 +1,6 @@
 -- Texts as JSON strings that may be in a page. They contain no `<`, so they end no script and begin no comment.
-use Rattle.std.specs.Prelude.{ℕ, ◌+◌, ◌-◌, ◌==◌, nat_lt, List, [], ◌∷◌, ◌++◌, chars, codes, flat_map, encode_utf8, if◌then◌else◌}
+use Rattle.std.specs.Prelude.{ℕ, ◌+◌, ◌-◌, ◌==◌, nat_lt, List, [], ◌∷◌, ◌++◌, chars, codes, flat_map, encode_utf8}
+use Rattle.std.specs.Prelude.{if◌then◌else◌}
 
 abbrev pub Text : Type 0
 Text = List ℕ

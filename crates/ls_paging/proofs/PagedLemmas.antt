@@ -67,14 +67,16 @@ module _ (w : Wanted) (names : Names) (steps : List ℕ) where
         → Gives (TellsTo w names steps (Some order)) (Failed f)
     verdict_fails f g =
         through (TellsTo w names steps (Some order)) (with_verdict w names steps order) (λ f. refl) f
-        (wider (JudgesTo history order) (λ a. TellsTo w names steps (Some order) (with_verdict w names steps order a)) (Failed f) ordered g)
+        (wider (JudgesTo history order) (λ a. TellsTo w names steps (Some order) (with_verdict w names steps order a))
+        (Failed f) ordered g)
 
     -- a page with a verdict
     pub ordered_told : (verdict text : Text)
         → JudgesTo history order (Ok verdict)
         → text ≡ ordered_page_text names w.texts steps w.from w.to (record { order = order; verdict = verdict })
         → TellsTo w names steps (Some order) (Ok text)
-    ordered_told verdict text h same = subst (λ t. TellsTo w names steps (Some order) (Ok t)) (sym same) (ordered (Ok verdict) h)
+    ordered_told verdict text h same = subst (λ t. TellsTo w names steps (Some order) (Ok t)) (sym same)
+        (ordered (Ok verdict) h)
 
 module _ (w : Wanted) (names : Names) (p : code.Program) (is : names.program ≡ plain_program p) where
   read : (r : Result (List ℕ) ScheduleFault)
@@ -91,7 +93,8 @@ module _ (w : Wanted) (names : Names) (p : code.Program) (is : names.program ≡
       → Gives (PlaysTo w names) (Failed (lifted_schedule f))
   schedule_fails schedule.Memory e = tt
   schedule_fails (schedule.BadItem at) e = NoSchedule (schedule.BadItem at) (read (Err (schedule.BadItem at)) e)
-  schedule_fails (schedule.UnknownThread at) e = NoSchedule (schedule.UnknownThread at) (read (Err (schedule.UnknownThread at)) e)
+  schedule_fails (schedule.UnknownThread at) e = NoSchedule (schedule.UnknownThread at)
+      (read (Err (schedule.UnknownThread at)) e)
   schedule_fails schedule.TooManySteps e = NoSchedule schedule.TooManySteps (read (Err schedule.TooManySteps) e)
 
   -- one that is read

@@ -13,7 +13,13 @@ use Rattle.ls_refs_expressions.specs.Lowered.{lowered_file}
 
 -- class C { C() { new C(); } }
 abbrev maker : Method
-maker = record { class = 0; parameters = 0; slots = types.Class 0 ∷ []; result = None; body = Evaluate (MakeObject 0 End) }
+maker = record {
+  class = 0;
+  parameters = 0;
+  slots = types.Class 0 ∷ [];
+  result = None;
+  body = Evaluate (MakeObject 0 End);
+}
 
 abbrev file : File
 file = record { classes = record { fields = []; constructor = 0 } ∷ []; methods = maker ∷ [] }
@@ -23,7 +29,13 @@ or_maker None = maker
 or_maker (Some m) = m
 
 is_typed : IsTypedFile file
-is_typed zero m e = subst (λ z. IsTypedMethod file z) (ap or_maker e) (record { locals = []; this = refl; parameters = omega arith; body = (ValueOf (types.Class 0), (maker, refl, refl, refl, tt)) })
+is_typed zero m e = subst (λ z. IsTypedMethod file z) (ap or_maker e)
+    (record {
+      locals = [];
+      this = refl;
+      parameters = omega arith;
+      body = (ValueOf (types.Class 0), (maker, refl, refl, refl, tt));
+    })
 is_typed (suc n) m e = absurd (none e)
   where
     none : {x : Method} → None ≡ Some x → ⊥

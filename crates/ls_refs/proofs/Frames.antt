@@ -1,5 +1,6 @@
 -- The locals of a method as it is entered.
-use Rattle.std.proofs.Common.{rules, ◌≡◌, ℕ, zero, suc, ◌+◌, ◌≤◌, List, [], ◌∷◌, ◌++◌, length, map, take, replicate, Option, Some, None, refl, sym, ap, ◌∙◌, subst, arith}
+use Rattle.std.proofs.Common.{rules, ◌≡◌, ℕ, zero, suc, ◌+◌, ◌≤◌, List, [], ◌∷◌, ◌++◌, length, map, take, replicate}
+use Rattle.std.proofs.Common.{Option, Some, None, refl, sym, ap, ◌∙◌, subst, arith}
 use Rattle.std.specs.Prelude.{slice_index, slice_index_or, slice_get}
 use Rattle.std.proofs.lemmas.List.{length-map, length-replicate}
 use Rattle.ls_events.specs.declared.value.Value.{Value}
@@ -44,7 +45,9 @@ module _ (P : ℕ → ValueType → Type 0) (null : (n : ℕ) (t : ValueType) �
   start_has types.Lock = null 0 types.Lock refl
   start_has (types.Markable c) = null 0 (types.Markable c) refl
 
-  starts_typed : (ts : List ValueType) (i : ℕ) (t : ValueType) → slice_get ts i ≡ Some t → HasType P (slice_index_or (map start_of ts) i nothing) t
+  starts_typed : (ts : List ValueType) (i : ℕ) (t : ValueType) →
+      slice_get ts i ≡ Some t →
+      HasType P (slice_index_or (map start_of ts) i nothing) t
   starts_typed [] i t e = absurd (let l = get_within {A = ValueType} [] i t e in let f : ⊥ = omega arith in f)
   starts_typed (u ∷ ts) zero t e = subst (λ z. HasType P (start_of u) z) (ap or_int e) (start_has u)
   starts_typed (u ∷ ts) (suc i) t e = starts_typed ts i t e
@@ -63,7 +66,10 @@ module _ (P : ℕ → ValueType → Type 0) (null : (n : ℕ) (t : ValueType) �
   starts_of (v ∷ vs) (suc p) (t ∷ slots) h = (h.0, starts_of vs p slots h.1)
 
   -- there are as many arguments as parameters
-  pub as_long : (vs : List Value) (p : ℕ) (slots : List ValueType) → p ≤ length slots → HaveTypes P (take p slots) vs → length vs ≡ p
+  pub as_long : (vs : List Value) (p : ℕ) (slots : List ValueType) →
+      p ≤ length slots →
+      HaveTypes P (take p slots) vs →
+      length vs ≡ p
   as_long [] zero slots l h = refl
   as_long [] (suc p) [] l h = absurd (let f : ⊥ = omega arith in f)
   as_long [] (suc p) (t ∷ slots) l h = absurd h
@@ -76,21 +82,34 @@ module _ (P : ℕ → ValueType → Type 0) (null : (n : ℕ) (t : ValueType) �
   frame_long (v ∷ vs) [] h = absurd h
   frame_long (v ∷ vs) (t ∷ slots) h = ap suc (frame_long vs slots h.1)
 
-  frame_typed : (vs : List Value) (slots : List ValueType) → Starts vs slots → (i : ℕ) (t : ValueType) → slice_get slots i ≡ Some t → HasType P (slice_index_or (frame slots vs) i nothing) t
+  frame_typed : (vs : List Value) (slots : List ValueType) →
+      Starts vs slots →
+      (i : ℕ) (t : ValueType) →
+      slice_get slots i ≡ Some t →
+      HasType P (slice_index_or (frame slots vs) i nothing) t
   frame_typed [] slots h i t e = starts_typed slots i t e
   frame_typed (v ∷ vs) [] h i t e = absurd h
   frame_typed (v ∷ vs) (u ∷ slots) h zero t e = subst (λ z. HasType P v z) (ap or_int e) h.0
   frame_typed (v ∷ vs) (u ∷ slots) h (suc i) t e = frame_typed vs slots h.1 i t e
 
-  frame_worded : (vs : List Value) (slots : List ValueType) (k : ℕ) → Starts vs slots → (i : ℕ) → slice_index (map value_word vs ++ replicate k 0) i ≡ value_word (slice_index_or (frame slots vs) i nothing)
+  frame_worded : (vs : List Value) (slots : List ValueType) (k : ℕ) →
+      Starts vs slots →
+      (i : ℕ) →
+      slice_index (map value_word vs ++ replicate k 0) i ≡ value_word (slice_index_or (frame slots vs) i nothing)
   frame_worded [] slots k h i = zeros k i ∙ sym (starts_word slots i)
   frame_worded (v ∷ vs) [] k h i = absurd h
   frame_worded (v ∷ vs) (t ∷ slots) k h zero = refl
   frame_worded (v ∷ vs) (t ∷ slots) k h (suc i) = frame_worded vs slots k h.1 i
 
   -- a frame of such arguments is held by their words, with zeros after them
-  pub frame_holds : (vs : List Value) (slots : List ValueType) (k : ℕ) → Starts vs slots → Holds P slots (frame slots vs) (map value_word vs ++ replicate k 0)
-  frame_holds vs slots k h = record { long = frame_long vs slots h; typed = frame_typed vs slots h; worded = λ i l. frame_worded vs slots k h i }
+  pub frame_holds : (vs : List Value) (slots : List ValueType) (k : ℕ) →
+      Starts vs slots →
+      Holds P slots (frame slots vs) (map value_word vs ++ replicate k 0)
+  frame_holds vs slots k h = record {
+    long = frame_long vs slots h;
+    typed = frame_typed vs slots h;
+    worded = λ i l. frame_worded vs slots k h i;
+  }
 
 -- as many locals as there are values and further ones
 pub frame_room : (vs : List Value) (k : ℕ) → length (map value_word vs ++ replicate k 0) ≡ length vs + k

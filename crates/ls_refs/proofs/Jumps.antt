@@ -8,7 +8,9 @@ use Rattle.ls_checked.specs.declared.tree.Statement as code
 use Rattle.ls_checked.specs.declared.tree.Statement.TheBlock.{hidden-the_row-Statement-0, shape-the_row-Statement-0}
 use Rattle.ls_checked.specs.declared.tree.Statement.TheVariants.{Block'}
 use Rattle.ls_checked.specs.Plain.{statements_of, plain_statement}
-use Rattle.ls_checked.specs.CheckedTree.{Statement, Block, SetSlot, SetField, AddField, SetItem, Evaluate, If, While, Break, Continue, ReturnNothing, ReturnValue, Try, Statements, Done, Then, Method, File}
+use Rattle.ls_checked.specs.CheckedTree.{Statement, Block, SetSlot, SetField, AddField, SetItem, Evaluate, If, While}
+use Rattle.ls_checked.specs.CheckedTree.{Break, Continue, ReturnNothing, ReturnValue, Try, Statements, Done, Then}
+use Rattle.ls_checked.specs.CheckedTree.{Method, File}
 use Rattle.ls_types_judgement.specs.Leaving.{JumpsInLoops, JumpInLoops}
 use Rattle.ls_types_judgement.specs.Jumps.{HasItsLoops}
 use Rattle.ls_refs.proofs.Rows.{block_read}
@@ -36,13 +38,18 @@ mutual
   all_below m n (Then s ss) l j = (below m n s (omega (arith, l)) j.0, all_below m n ss (omega (arith, l)) j.1)
 
 -- the jumps of a block that is read
-pub block_below : (m : ℕ) (s : code.Statement) (v : Vec code.Statement) (items : List code.Statement) → items ≡ v.items → s ≡ Block' (shape-the_row-Statement-0 v) (hidden-the_row-Statement-0 v) →
+pub block_below : (m : ℕ) (s : code.Statement) (v : Vec code.Statement) (items : List code.Statement) →
+    items ≡ v.items →
+    s ≡ Block' (shape-the_row-Statement-0 v) (hidden-the_row-Statement-0 v) →
     JumpsBelow m (plain_statement s) → JumpBelow m (statements_of items)
 block_below m s v items e is h =
-    subst (λ (ss : List code.Statement). JumpBelow m (statements_of ss)) (sym e) (subst (JumpBelow m) (block_read v) (subst (λ (z : code.Statement). JumpsBelow m (plain_statement z)) is h))
+    subst (λ (ss : List code.Statement). JumpBelow m (statements_of ss)) (sym e)
+    (subst (JumpBelow m) (block_read v) (subst (λ (z : code.Statement). JumpsBelow m (plain_statement z)) is h))
 
 -- the jumps of what is left of a block
-pub left_below : (m : ℕ) (s : code.Statement) (items rest : List code.Statement) → items ≡ s ∷ rest → JumpBelow m (statements_of items) →
+pub left_below : (m : ℕ) (s : code.Statement) (items rest : List code.Statement) →
+    items ≡ s ∷ rest →
+    JumpBelow m (statements_of items) →
     JumpsBelow m (plain_statement s) × JumpBelow m (statements_of rest)
 left_below m s items rest split h = subst (λ (ss : List code.Statement). JumpBelow m (statements_of ss)) split h
 

@@ -20,13 +20,18 @@ pub block_read : (v : Vec Statement) → row_statements (hidden-the_row-Statemen
 block_read v = row_is_list _ (hidden-the_row-Statement-0 v) ∙ ap statements_of (items_hidden-the_row-Statement-0 v)
 
 -- the statements of a block are lowered so far, and one more
-pub one_lowered : (classes : List checked.Class) (lowered new : List Tree) (x : Tree) (next after : ℕ) (s : Statement) (items rest : List Statement) →
-    ((others : Statements) → in_front new others ≡ in_front lowered (ahead (plain_statement x) others)) → items ≡ s ∷ rest → plain_statement x ≡ lowered_statement classes next (checked_statement s) → after ≡ next + statement_temporaries (checked_statement s) →
-    in_front new (lowered_block classes after (statements_of rest)) ≡ in_front lowered (lowered_block classes next (statements_of items))
+pub one_lowered : (classes : List checked.Class) (lowered new : List Tree) (x : Tree) (next after : ℕ) (s : Statement)
+    (items rest : List Statement) →
+    ((others : Statements) → in_front new others ≡ in_front lowered (ahead (plain_statement x) others)) →
+    items ≡ s ∷ rest → plain_statement x ≡ lowered_statement classes next (checked_statement s) →
+    after ≡ next + statement_temporaries (checked_statement s) →
+    in_front new (lowered_block classes after (statements_of rest)) ≡ in_front lowered
+    (lowered_block classes next (statements_of items))
 one_lowered classes lowered new x next after s items rest pushed split is ends =
     pushed (lowered_block classes after (statements_of rest))
     ∙ ap (λ t. in_front lowered (ahead t (lowered_block classes after (statements_of rest)))) is
-    ∙ ap (λ n. in_front lowered (ahead (lowered_statement classes next (checked_statement s)) (lowered_block classes n (statements_of rest)))) ends
+    ∙ ap (λ n. in_front lowered (ahead (lowered_statement classes next (checked_statement s))
+    (lowered_block classes n (statements_of rest)))) ends
     ∙ ap (λ l. in_front lowered (lowered_block classes next (statements_of l))) (sym split)
 
 -- the count of a list, of which one statement more is read
@@ -34,19 +39,32 @@ pub one_counted : (next after : ℕ) (s : Statement) (items rest : List Statemen
     items ≡ s ∷ rest → after ≡ next + statement_temporaries (checked_statement s) →
     next + block_temporaries (statements_of items) ≡ whole → after + block_temporaries (statements_of rest) ≡ whole
 one_counted next after s items rest whole split ends h =
-    let e : block_temporaries (statements_of items) ≡ statement_temporaries (checked_statement s) + block_temporaries (statements_of rest) = ap (λ l. block_temporaries (statements_of l)) split in
+    let e : block_temporaries (statements_of items) ≡ statement_temporaries (checked_statement s) + block_temporaries
+    (statements_of rest) = ap (λ l. block_temporaries (statements_of l)) split in
     omega (arith, e, ends, h)
 
 -- a block and its statements need the same
-pub block_counted : (s : Statement) (v : Vec Statement) (items : List Statement) → items ≡ v.items → s ≡ Block' (shape-the_row-Statement-0 v) (hidden-the_row-Statement-0 v) →
+pub block_counted : (s : Statement) (v : Vec Statement) (items : List Statement) →
+    items ≡ v.items →
+    s ≡ Block' (shape-the_row-Statement-0 v) (hidden-the_row-Statement-0 v) →
     block_temporaries (statements_of items) ≡ statement_temporaries (checked_statement s)
-block_counted s v items e is = ap (λ l. block_temporaries (statements_of l)) e ∙ ap block_temporaries (sym (block_read v)) ∙ sym (ap (λ z. statement_temporaries (checked_statement z)) is)
+block_counted s v items e is = ap (λ l. block_temporaries (statements_of l)) e ∙
+    ap block_temporaries (sym (block_read v)) ∙ sym (ap (λ z. statement_temporaries (checked_statement z)) is)
 
 -- and so they are lowered
-pub block_lowered : (classes : List checked.Class) (free : ℕ) (s : Statement) (v : Vec Statement) (items : List Statement) → items ≡ v.items → s ≡ Block' (shape-the_row-Statement-0 v) (hidden-the_row-Statement-0 v) →
+pub block_lowered : (classes : List checked.Class) (free : ℕ) (s : Statement) (v : Vec Statement)
+    (items : List Statement) →
+    items ≡ v.items →
+    s ≡ Block' (shape-the_row-Statement-0 v) (hidden-the_row-Statement-0 v) →
     Block (lowered_block classes free (statements_of items)) ≡ lowered_statement classes free (checked_statement s)
-block_lowered classes free s v items e is = ap (λ l. Block (lowered_block classes free (statements_of l))) e ∙ ap (λ l. Block (lowered_block classes free l)) (sym (block_read v)) ∙ sym (ap (λ z. lowered_statement classes free (checked_statement z)) is)
+block_lowered classes free s v items e is = ap (λ l. Block (lowered_block classes free (statements_of l))) e ∙
+    ap (λ l. Block (lowered_block classes free l)) (sym (block_read v)) ∙
+    sym (ap (λ z. lowered_statement classes free (checked_statement z)) is)
 
 -- what is left at an index
-pub left_at : (xs : List Statement) (i : ℕ) (x : Statement) → i < length xs → x ≡ slice_index_or xs i x → drop i xs ≡ x ∷ drop (i + 1) xs
-left_at xs i x l e = drop-cons xs i x l ∙ ap (λ z. z ∷ drop (suc i) xs) (sym e) ∙ ap (λ n. x ∷ drop n xs) (sym (add-one i))
+pub left_at : (xs : List Statement) (i : ℕ) (x : Statement) →
+    i < length xs →
+    x ≡ slice_index_or xs i x →
+    drop i xs ≡ x ∷ drop (i + 1) xs
+left_at xs i x l e = drop-cons xs i x l ∙ ap (λ z. z ∷ drop (suc i) xs) (sym e) ∙
+    ap (λ n. x ∷ drop n xs) (sym (add-one i))

@@ -11,4 +11,5 @@ in_slots file m h = let e = ap length h.this in let p = h.parameters in omega (a
 
 -- each method of a typed file has a local for each parameter
 pub all_slotted : (file : File) → IsTypedFile file → AllSlotted file.methods
-all_slotted file h = λ k d l. in_slots file (slice_index_or file.methods k d) (h k (slice_index_or file.methods k d) (slice_get-get_or file.methods k d l))
+all_slotted file h = λ k d l. in_slots file (slice_index_or file.methods k d)
+    (h k (slice_index_or file.methods k d) (slice_get-get_or file.methods k d l))

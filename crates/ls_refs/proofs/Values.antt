@@ -88,7 +88,10 @@ module _ (P : ℕ → ValueType → Type 0) where
   int_fits (Pair n b) h = absurd h
 
   -- values of one type are the same exactly if their words are
-  pub same_values : (t : ValueType) (v w : Value) → HasType P v t → HasType P w t → words.same_word (value_word v) (value_word w) ≡ words.bool_word (same v w)
+  pub same_values : (t : ValueType) (v w : Value) →
+      HasType P v t →
+      HasType P w t →
+      words.same_word (value_word v) (value_word w) ≡ words.bool_word (same v w)
   same_values types.Int (Int x) (Int y) h g = same_ints x y h g
   same_values types.Int (Int x) (Boolean y) h g = absurd g
   same_values types.Int (Int x) (Reference y) h g = absurd g
@@ -133,8 +136,12 @@ module _ (P : ℕ → ValueType → Type 0) where
   same_values (types.Markable c) (Pair x b) w h g = absurd h
 
   -- the word of a pair is made of those of its reference and mark
-  pub packed : (x m : Value) (c : ℕ) → HasType P x (types.Class c) → HasType P m types.Boolean → words.pair_word (value_word x) (value_word m) ≡ value_word (pair_of x m)
-  packed x m c hx hm = ap (λ n. words.pair_word n (value_word m)) (reference_word x (types.Class c) tt hx) ∙ ap (λ b. words.pair_word (reference_of x) b) (truth_word m hm)
+  pub packed : (x m : Value) (c : ℕ) →
+      HasType P x (types.Class c) →
+      HasType P m types.Boolean →
+      words.pair_word (value_word x) (value_word m) ≡ value_word (pair_of x m)
+  packed x m c hx hm = ap (λ n. words.pair_word n (value_word m)) (reference_word x (types.Class c) tt hx) ∙
+      ap (λ b. words.pair_word (reference_of x) b) (truth_word m hm)
 
   module _ (small : (n : ℕ) (t : ValueType) → P n t → n < 2 ^ 32) where
     -- half of the word of a pair is its reference

@@ -79,6 +79,9 @@ Suited P f (x ∷ q) = Suits P (f []) x × Suited P (λ rest. f (x ∷ rest)) q
 
 -- a call of any method, at any depth, with `this` and arguments of the right types
 pub record AsksAsFile (file : File) : Type 0 where
-  pub asks : (depth n : ℕ) (m : Method) (o : Value) (vs : List Value) (q : Answers) → slice_get file.methods n ≡ Some m →
-      HaveTypes IsSmall (types.Class m.class ∷ parameters_of m) (o ∷ vs) → Suited IsSmall (λ q. invoke file depth n (o ∷ vs) q) q →
-      courses.invoke (lowered_file file) depth n (map value_word (o ∷ vs)) (answer_words q) ≡ in_words (invoke file depth n (o ∷ vs) q)
+  pub asks : (depth n : ℕ) (m : Method) (o : Value) (vs : List Value) (q : Answers) →
+      slice_get file.methods n ≡ Some m →
+      HaveTypes IsSmall (types.Class m.class ∷ parameters_of m) (o ∷ vs) →
+      Suited IsSmall (λ q. invoke file depth n (o ∷ vs) q) q →
+      courses.invoke (lowered_file file) depth n (map value_word (o ∷ vs)) (answer_words q) ≡ in_words
+      (invoke file depth n (o ∷ vs) q)

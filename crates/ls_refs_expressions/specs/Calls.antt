@@ -4,12 +4,15 @@ use Rattle.std.specs.Prelude.{ℕ, ◌+◌}
 use Rattle.ls_checked.specs.declared.tree.Operator.{Operator}
 use Rattle.ls_checked.specs.declared.tree.Operator.TheVariants as written
 use Rattle.ls_checked.specs.declared.tree.Called.{Called}
-use Rattle.ls_checked.specs.declared.tree.Called.TheVariants.{Method as OfMethod, LockIt, UnlockIt, TryIt, AskIt, HoldMonitor, FreeMonitor, GetReference, IsMarked, GetBoth, SetBoth, CompareAndSet, Attempt}
+use Rattle.ls_checked.specs.declared.tree.Called.TheVariants.{Method as OfMethod, LockIt, UnlockIt, TryIt, AskIt}
+use Rattle.ls_checked.specs.declared.tree.Called.TheVariants.{HoldMonitor, FreeMonitor, GetReference, IsMarked, GetBoth}
+use Rattle.ls_checked.specs.declared.tree.Called.TheVariants.{SetBoth, CompareAndSet, Attempt}
 use Rattle.ls_lowered.specs.declared.tree.UnaryOperator.TheVariants as unary
 use Rattle.ls_lowered.specs.declared.tree.BinaryOperator.{BinaryOperator}
 use Rattle.ls_lowered.specs.declared.tree.BinaryOperator.TheVariants as binary
 use Rattle.ls_lowered.specs.declared.tree.LockOperation.TheVariants as lock
-use Rattle.ls_lowered.specs.LoweredTree.{Expression, Word, Local, Unary, Binary, Hold, Keep, After, SetFirst, ReadPair, SetPair, SwapPair, AttemptMark, OnLock, Call, Expressions, End, More}
+use Rattle.ls_lowered.specs.LoweredTree.{Expression, Word, Local, Unary, Binary, Hold, Keep, After, SetFirst, ReadPair}
+use Rattle.ls_lowered.specs.LoweredTree.{SetPair, SwapPair, AttemptMark, OnLock, Call, Expressions, End, More}
 
 abbrev pub lowered_operator : Operator → BinaryOperator
 lowered_operator written.Add = binary.Add

@@ -2,7 +2,10 @@
 use Rattle.std.specs.Prelude.{ℕ, ◌+◌, ◌-◌, ◌*◌, List, length, map, Option, Some, None}
 use Rattle.ls_checked.specs.CheckedTree as checked
 use Rattle.ls_lowered.specs.declared.tree.UnaryOperator.TheVariants as unary
-use Rattle.ls_lowered.specs.LoweredTree.{Expression, Word, Local, Unary, Binary, And, Or, Field, Item, MakeObject, MakeLock, MakeMarkable, MakeArray, Expressions, End, More, Statement, Block, SetLocal, SetField, AddField, SetItem, Evaluate, If, While, Return, Try, Leavable, Leave, Statements, Done, Then, Method, File}
+use Rattle.ls_lowered.specs.LoweredTree.{Expression, Word, Local, Unary, Binary, And, Or, Field, Item, MakeObject}
+use Rattle.ls_lowered.specs.LoweredTree.{MakeLock, MakeMarkable, MakeArray, Expressions, End, More, Statement, Block}
+use Rattle.ls_lowered.specs.LoweredTree.{SetLocal, SetField, AddField, SetItem, Evaluate, If, While, Return, Try}
+use Rattle.ls_lowered.specs.LoweredTree.{Leavable, Leave, Statements, Done, Then, Method, File}
 use Rattle.ls_meaning.specs.Expressions.{constructor_of}
 use Rattle.ls_refs_expressions.specs.ValueWords.{value_word}
 use Rattle.ls_refs_expressions.specs.Calls.{lowered_operator, own_temporaries, first_of, second_of, pack, lowered_call}
@@ -16,12 +19,15 @@ abbrev mutual
   lowered classes free (checked.Item a i) = Item (lowered classes free a) (lowered classes (free + temporaries a) i)
   lowered classes free (checked.Negate e) = Unary unary.Negate (lowered classes free e)
   lowered classes free (checked.Not e) = Unary unary.Not (lowered classes free e)
-  lowered classes free (checked.Binary op a b) = Binary (lowered_operator op) (lowered classes free a) (lowered classes (free + temporaries a) b)
+  lowered classes free (checked.Binary op a b) = Binary (lowered_operator op) (lowered classes free a)
+      (lowered classes (free + temporaries a) b)
   lowered classes free (checked.And a b) = And (lowered classes free a) (lowered classes (free + temporaries a) b)
   lowered classes free (checked.Or a b) = Or (lowered classes free a) (lowered classes (free + temporaries a) b)
   lowered classes free (checked.Call e called es) =
-      lowered_call free called (lowered classes (free + own_temporaries called) e) (all_lowered classes (free + own_temporaries called + temporaries e) es)
-  lowered classes free (checked.MakeObject class es) = MakeObject class (constructor_of classes class) (all_lowered classes free es)
+      lowered_call free called (lowered classes (free + own_temporaries called) e)
+      (all_lowered classes (free + own_temporaries called + temporaries e) es)
+  lowered classes free (checked.MakeObject class es) = MakeObject class (constructor_of classes class)
+      (all_lowered classes free es)
   lowered classes free checked.MakeLock = MakeLock
   lowered classes free (checked.MakeMarkable class es) =
       MakeMarkable (pack (first_of (all_lowered classes free es)) (second_of (all_lowered classes free es)))
@@ -29,7 +35,8 @@ abbrev mutual
 
   pub all_lowered : List checked.Class → ℕ → checked.Expressions → Expressions
   all_lowered classes free checked.End = End
-  all_lowered classes free (checked.More e es) = More (lowered classes free e) (all_lowered classes (free + temporaries e) es)
+  all_lowered classes free (checked.More e es) = More (lowered classes free e)
+      (all_lowered classes (free + temporaries e) es)
 
 -- a statement that a leave ends
 abbrev pub leavable : Statement → Statement
@@ -58,13 +65,17 @@ abbrev mutual
   pub lowered_statement : List checked.Class → ℕ → checked.Statement → Statement
   lowered_statement classes free (checked.Block ss) = Block (lowered_block classes free ss)
   lowered_statement classes free (checked.SetSlot n e) = SetLocal n (lowered classes free e)
-  lowered_statement classes free (checked.SetField e field v) = SetField (lowered classes free e) field (lowered classes (free + temporaries e) v)
-  lowered_statement classes free (checked.AddField e field v) = AddField (lowered classes free e) field (lowered classes (free + temporaries e) v)
+  lowered_statement classes free (checked.SetField e field v) = SetField (lowered classes free e) field
+      (lowered classes (free + temporaries e) v)
+  lowered_statement classes free (checked.AddField e field v) = AddField (lowered classes free e) field
+      (lowered classes (free + temporaries e) v)
   lowered_statement classes free (checked.SetItem a i v) =
-      SetItem (lowered classes free a) (lowered classes (free + temporaries a) i) (lowered classes (free + temporaries a + temporaries i) v)
+      SetItem (lowered classes free a) (lowered classes (free + temporaries a) i)
+      (lowered classes (free + temporaries a + temporaries i) v)
   lowered_statement classes free (checked.Evaluate e) = Evaluate (lowered classes free e)
   lowered_statement classes free (checked.If e a b) =
-      If (lowered classes free e) (lowered_statement classes (free + temporaries e) a) (lowered_statement classes (free + temporaries e + statement_temporaries a) b)
+      If (lowered classes free e) (lowered_statement classes (free + temporaries e) a)
+      (lowered_statement classes (free + temporaries e + statement_temporaries a) b)
   lowered_statement classes free (checked.While e s) =
       leavable (While (lowered classes free e) (leavable (lowered_statement classes (free + temporaries e) s)))
   lowered_statement classes free (checked.Break n) = Leave (2 * n + 1)
@@ -76,7 +87,8 @@ abbrev mutual
 
   pub lowered_block : List checked.Class → ℕ → checked.Statements → Statements
   lowered_block classes free checked.Done = Done
-  lowered_block classes free (checked.Then s ss) = ahead (lowered_statement classes free s) (lowered_block classes (free + statement_temporaries s) ss)
+  lowered_block classes free (checked.Then s ss) = ahead (lowered_statement classes free s)
+      (lowered_block classes (free + statement_temporaries s) ss)
 
 -- the temporaries follow the method's slots
 abbrev pub lowered_method : List checked.Class → checked.Method → Method

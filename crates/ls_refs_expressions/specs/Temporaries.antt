@@ -1,6 +1,10 @@
 -- How many temporaries a tree needs for its calls. Each try needs two more for the lowering of finally blocks.
 use Rattle.std.specs.Prelude.{ℕ, ◌+◌, ◌*◌, length}
-use Rattle.ls_checked.specs.CheckedTree.{Expression, Literal, Slot, Field, Item, Negate, Not, Binary, And, Or, Call, MakeObject, MakeLock, MakeMarkable, MakeArray, Expressions, End, More, Statement, Block, SetSlot, SetField, AddField, SetItem, Evaluate, If, While, Break, Continue, ReturnNothing, ReturnValue, Try, Statements, Done, Then, Method}
+use Rattle.ls_checked.specs.CheckedTree.{Expression, Literal, Slot, Field, Item, Negate, Not, Binary, And, Or, Call}
+use Rattle.ls_checked.specs.CheckedTree.{MakeObject, MakeLock, MakeMarkable, MakeArray, Expressions, End, More}
+use Rattle.ls_checked.specs.CheckedTree.{Statement, Block, SetSlot, SetField, AddField, SetItem, Evaluate, If, While}
+use Rattle.ls_checked.specs.CheckedTree.{Break, Continue, ReturnNothing, ReturnValue, Try, Statements, Done, Then}
+use Rattle.ls_checked.specs.CheckedTree.{Method}
 use Rattle.ls_refs_expressions.specs.Calls.{own_temporaries}
 
 abbrev mutual

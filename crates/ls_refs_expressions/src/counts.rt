@@ -6,8 +6,8 @@ ghost use Rattle.ls_checked.specs.Plain.{plain as checked, all_plain as all_chec
 ghost use Rattle.ls_refs_expressions.specs.Calls.{own_temporaries as those_of};
 ghost use Rattle.ls_refs_expressions.specs.Temporaries.{temporaries, all_temporaries};
 
-use ls_checked::tree::{Expression, Expressions};
 use crate::calls::own_temporaries;
+use ls_checked::tree::{Expression, Expressions};
 
 /// The most locals of a method.
 pub const MOST_LOCALS: usize = 128;

@@ -7,11 +7,9 @@ ghost use Rattle.ls_lowered.specs.Plain.{plain, all_plain};
 ghost use Rattle.ls_refs_expressions.specs.Temporaries.{temporaries, all_temporaries};
 ghost use Rattle.ls_refs_expressions.specs.Lowered.{lowered, all_lowered};
 
+use crate::calls::{call, constructor_of, operator, own_temporaries, pack_arguments, value_word};
 use ls_checked::tree::{Class, Expression, Expressions};
 use ls_lowered::tree::{Expression as Tree, Expressions as Trees, UnaryOperator};
-use crate::calls::{
-    call, constructor_of, operator, own_temporaries, pack_arguments, value_word,
-};
 use ls_together::also;
 use std::alloc::{AllocError, Global};
 

@@ -1,5 +1,7 @@
 -- Where a text is cut.
-use Rattle.std.proofs.Common.{◌≡◌, ◌∙◌, ◌+◌, ◌<◌, ◌==◌, ◌^◌, ◌%◌, ℕ, ℤ, pos, negsuc, FitsSigned, Bor, zero, suc, Bool, true, false, cond, not, List, [], ◌∷◌, ◌++◌, length, get_or, refl, sym, ap, eq-eqb, eqb-true, arith, Option, Some, None}
+use Rattle.std.proofs.Common.{◌≡◌, ◌∙◌, ◌+◌, ◌<◌, ◌==◌, ◌^◌, ◌%◌, ℕ, ℤ, pos, negsuc, FitsSigned, Bor, zero, suc, Bool}
+use Rattle.std.proofs.Common.{true, false, cond, not, List, [], ◌∷◌, ◌++◌, length, get_or, refl, sym, ap, eq-eqb}
+use Rattle.std.proofs.Common.{eqb-true, arith, Option, Some, None}
 use Rattle.std.specs.Prelude.{Option, option_map}
 use Rattle.std.specs.Int.{w32}
 use lib.Signed.{mag}
@@ -87,7 +89,8 @@ pub lacks-decimal : (b n : ℕ) → NoDigit b → n < 2 ^ 64 → lacks b (decima
 lacks-decimal b n none fits =
     decimal_by_steps (λ m ds. lacks b ds ≡ true)
     (λ m small. and_from (not ((48 + m) == b)) true (apart b (48 + m) (none m small)) refl)
-    (λ m ds large h. lacks-append b ds ((48 + m % 10) ∷ []) h (and_from (not ((48 + m % 10) == b)) true (apart b (48 + m % 10) (none (m % 10) (omega arith))) refl)) n fits
+    (λ m ds large h. lacks-append b ds ((48 + m % 10) ∷ []) h
+    (and_from (not ((48 + m % 10) == b)) true (apart b (48 + m % 10) (none (m % 10) (omega arith))) refl)) n fits
 
 -- a signed decimal number has only digits and a minus
 pub lacks-signed : (b : ℕ) (z : ℤ) → NoDigit b → (45 ≡ b → ⊥) → FitsSigned w32 z → lacks b (signed_decimal z) ≡ true
@@ -104,7 +107,8 @@ mag_small (negsuc n) fits = omega arith
 pub cut_is : (b : ℕ) (bs : Text) (r : Option (Bor (List ℕ) × Bor (List ℕ))) → IsSplitOnceResult b bs r → b < 128
     → option_map (λ p. (p.0.now, p.1.now)) r ≡ cut b bs
 cut_is b bs None h low = sym (cut_none b bs (split_parts b bs None h low))
-cut_is b bs (Some p) h low = let q = split_parts b bs (Some p) h low in sym (ap (cut b) q.0 ∙ cut_at b p.0.now p.1.now q.1)
+cut_is b bs (Some p) h low = let q = split_parts b bs (Some p) h low in
+    sym (ap (cut b) q.0 ∙ cut_at b p.0.now p.1.now q.1)
 
 -- what is cut, put together again
 pub cut_parts : (b : ℕ) (bs x y : Text) → two x y ≡ cut b bs → bs ≡ x ++ b ∷ y

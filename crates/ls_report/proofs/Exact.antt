@@ -1,5 +1,6 @@
 -- What is taken apart is the text of its parts.
-use Rattle.std.proofs.Common.{◌≡◌, ◌∙◌, ◌==◌, ◌&&◌, ℕ, Bool, true, false, cond, List, [], ◌∷◌, ◌++◌, length, refl, sym, ap, arith, append_assoc, append-nil, codes, eqb-true, Option, Some, None, Result, Ok, Err}
+use Rattle.std.proofs.Common.{◌≡◌, ◌∙◌, ◌==◌, ◌&&◌, ℕ, Bool, true, false, cond, List, [], ◌∷◌, ◌++◌, length, refl, sym}
+use Rattle.std.proofs.Common.{ap, arith, append_assoc, append-nil, codes, eqb-true, Option, Some, None, Result, Ok, Err}
 use Rattle.std.specs.Prelude.{IfOk, IfSome, option_and_then}
 use Rattle.std.specs.Fmt.{decimal}
 use Rattle.std.specs.Str.{bytes_eq}
@@ -8,7 +9,8 @@ use Rattle.std.proofs.lemmas.Slice.Eq.{bytes_eq-Decides}
 use Rattle.ls_events.specs.declared.value.Value.{Value}
 use Rattle.ls_report.specs.Cut.{cut}
 use Rattle.ls_report.specs.Events.{Occurrence as Happened, Text}
-use Rattle.ls_report.specs.LineReading.{Calling, Giving, Making, Parts, Returning, Trapping, call_parts, closed_parts, head_parts, made_parts, making_parts, parts_of, parts_text, word_parts}
+use Rattle.ls_report.specs.LineReading.{Calling, Giving, Making, Parts, Returning, Trapping, call_parts, closed_parts}
+use Rattle.ls_report.specs.LineReading.{head_parts, made_parts, making_parts, parts_of, parts_text, word_parts}
 use Rattle.ls_report.specs.Lines.{arguments_text, event_text, more_arguments, occurrence_text, value_text}
 use Rattle.ls_report.specs.Plain.{plain_occurrence}
 use Rattle.ls_report.specs.declared.history.Occurrence.{Occurrence as Found}
@@ -24,11 +26,14 @@ empty (b ∷ bs) h = absurd (omega (arith, eqb-true (length (b ∷ bs)) 0 h))
 
 -- ---- a making
 
-made_exact : (object equals new class arguments : Text) (p : Parts) → made_parts object equals new class arguments ≡ Some p
+made_exact : (object equals new class arguments : Text) (p : Parts) →
+    made_parts object equals new class arguments ≡ Some p
     → (equals ≡ codes "=") × (new ≡ codes "new") × (Making object class arguments ≡ p)
 made_exact object equals new class arguments p e = go (bytes_eq equals (codes "=") && bytes_eq new (codes "new")) refl e
   where
-    go : (t : Bool) → (bytes_eq equals (codes "=") && bytes_eq new (codes "new")) ≡ t → cond t (Some (Making object class arguments)) None ≡ Some p
+    go : (t : Bool) →
+        (bytes_eq equals (codes "=") && bytes_eq new (codes "new")) ≡ t →
+        cond t (Some (Making object class arguments)) None ≡ Some p
         → (equals ≡ codes "=") × (new ≡ codes "new") × (Making object class arguments ≡ p)
     go true is k =
         let q = and_parts (bytes_eq equals (codes "=")) (bytes_eq new (codes "new")) is in
@@ -39,12 +44,15 @@ made_exact object equals new class arguments p e = go (bytes_eq equals (codes "=
 abbrev closed_text : Text → Text → Text
 closed_text head arguments = codes "call " ++ (head ++ (40 ∷ (arguments ++ 41 ∷ [])))
 
-making_exact : (arguments head : Text) (p : Parts) → making_parts arguments head ≡ Some p → closed_text head arguments ≡ parts_text p
+making_exact : (arguments head : Text) (p : Parts) →
+    making_parts arguments head ≡ Some p →
+    closed_text head arguments ≡ parts_text p
 making_exact arguments head p e = first (cut 32 head) refl e
   where
     third : (object equals : Text) (bs : Text) (o : Option Two) → cut 32 bs ≡ o
         → head ≡ object ++ (32 ∷ (equals ++ (32 ∷ bs)))
-        → option_and_then (λ r. made_parts object equals r.0 r.1 arguments) o ≡ Some p → closed_text head arguments ≡ parts_text p
+        → option_and_then (λ r. made_parts object equals r.0 r.1 arguments) o ≡ Some p →
+        closed_text head arguments ≡ parts_text p
     third object equals bs None is h k = absurd (none_is k)
     third object equals bs (Some r) is h k =
         let m = made_exact object equals r.0 r.1 arguments p k in
@@ -58,37 +66,51 @@ making_exact arguments head p e = first (cut 32 head) refl e
         ∙ ap parts_text m.2
 
     second : (object : Text) (bs : Text) (o : Option Two) → cut 32 bs ≡ o → head ≡ object ++ (32 ∷ bs)
-        → option_and_then (λ q. option_and_then (λ r. made_parts object q.0 r.0 r.1 arguments) (cut 32 q.1)) o ≡ Some p → closed_text head arguments ≡ parts_text p
+        → option_and_then (λ q. option_and_then (λ r. made_parts object q.0 r.0 r.1 arguments) (cut 32 q.1)) o ≡ Some p
+        → closed_text head arguments ≡ parts_text p
     second object bs None is h k = absurd (none_is k)
     second object bs (Some q) is h k =
         third object q.0 q.1 (cut 32 q.1) refl (h ∙ ap (λ x. object ++ (32 ∷ x)) (cut_parts 32 bs q.0 q.1 (sym is))) k
 
     first : (o : Option Two) → cut 32 head ≡ o
-        → option_and_then (λ p. option_and_then (λ q. option_and_then (λ r. made_parts p.0 q.0 r.0 r.1 arguments) (cut 32 q.1)) (cut 32 p.1)) o ≡ Some p
+        → option_and_then
+        (λ p. option_and_then (λ q. option_and_then (λ r. made_parts p.0 q.0 r.0 r.1 arguments) (cut 32 q.1))
+        (cut 32 p.1)) o ≡ Some p
         → closed_text head arguments ≡ parts_text p
     first None is k = absurd (none_is k)
     first (Some q) is k = second q.0 q.1 (cut 32 q.1) refl (cut_parts 32 head q.0 q.1 (sym is)) k
 
 -- ---- a call
 
-head_exact : (arguments head : Text) (o : Option Two) (p : Parts) → cut 46 head ≡ o → head_parts arguments head o ≡ Some p → closed_text head arguments ≡ parts_text p
+head_exact : (arguments head : Text) (o : Option Two) (p : Parts) →
+    cut 46 head ≡ o →
+    head_parts arguments head o ≡ Some p →
+    closed_text head arguments ≡ parts_text p
 head_exact arguments head None p is e = making_exact arguments head p e
 head_exact arguments head (Some q) p is e =
     ap (λ x. closed_text x arguments) (cut_parts 46 head q.0 q.1 (sym is))
     ∙ ap (λ x. codes "call " ++ x) (append_assoc q.0 (46 ∷ q.1) (40 ∷ (arguments ++ 41 ∷ [])))
     ∙ ap parts_text (some_is e)
 
-closed_exact : (head arguments after : Text) (p : Parts) → closed_parts head arguments after ≡ Some p → (after ≡ []) × (closed_text head arguments ≡ parts_text p)
+closed_exact : (head arguments after : Text) (p : Parts) →
+    closed_parts head arguments after ≡ Some p →
+    (after ≡ []) × (closed_text head arguments ≡ parts_text p)
 closed_exact head arguments after p e = go (length after == 0) refl e
   where
-    go : (t : Bool) → (length after == 0) ≡ t → cond t (head_parts arguments head (cut 46 head)) None ≡ Some p → (after ≡ []) × (closed_text head arguments ≡ parts_text p)
+    go : (t : Bool) →
+        (length after == 0) ≡ t →
+        cond t (head_parts arguments head (cut 46 head)) None ≡ Some p →
+        (after ≡ []) × (closed_text head arguments ≡ parts_text p)
     go true is k = (empty after is, head_exact arguments head (cut 46 head) p refl k)
     go false is k = absurd (none_is k)
 
 call_exact : (text : Text) (p : Parts) → call_parts text ≡ Some p → codes "call " ++ text ≡ parts_text p
 call_exact text p e = first (cut 40 text) refl e
   where
-    second : (head bs : Text) (o : Option Two) → cut 41 bs ≡ o → text ≡ head ++ (40 ∷ bs) → option_and_then (λ q. closed_parts head q.0 q.1) o ≡ Some p
+    second : (head bs : Text) (o : Option Two) →
+        cut 41 bs ≡ o →
+        text ≡ head ++ (40 ∷ bs) →
+        option_and_then (λ q. closed_parts head q.0 q.1) o ≡ Some p
         → codes "call " ++ text ≡ parts_text p
     second head bs None is h k = absurd (none_is k)
     second head bs (Some q) is h k =
@@ -97,7 +119,9 @@ call_exact text p e = first (cut 40 text) refl e
         (h ∙ ap (λ x. head ++ (40 ∷ x)) (cut_parts 41 bs q.0 q.1 (sym is) ∙ ap (λ x. q.0 ++ 41 ∷ x) closed.0))
         ∙ closed.1
 
-    first : (o : Option Two) → cut 40 text ≡ o → option_and_then (λ p. option_and_then (λ q. closed_parts p.0 q.0 q.1) (cut 41 p.1)) o ≡ Some p
+    first : (o : Option Two) →
+        cut 40 text ≡ o →
+        option_and_then (λ p. option_and_then (λ q. closed_parts p.0 q.0 q.1) (cut 41 p.1)) o ≡ Some p
         → codes "call " ++ text ≡ parts_text p
     first None is k = absurd (none_is k)
     first (Some q) is k = second q.0 q.1 (cut 41 q.1) refl (cut_parts 40 text q.0 q.1 (sym is)) k
@@ -107,17 +131,23 @@ call_exact text p e = first (cut 40 text) refl e
 word_exact : (word rest : Text) (p : Parts) → word_parts word rest ≡ Some p → word ++ (32 ∷ rest) ≡ parts_text p
 word_exact word rest p e = on_call (bytes_eq word (codes "call")) refl e
   where
-    on_trap : (t : Bool) → bytes_eq word (codes "trap") ≡ t → cond t (Some (Trapping rest)) None ≡ Some p → word ++ (32 ∷ rest) ≡ parts_text p
+    on_trap : (t : Bool) →
+        bytes_eq word (codes "trap") ≡ t →
+        cond t (Some (Trapping rest)) None ≡ Some p →
+        word ++ (32 ∷ rest) ≡ parts_text p
     on_trap true is k = ap (λ x. x ++ (32 ∷ rest)) (same word (codes "trap") is) ∙ ap parts_text (some_is k)
     on_trap false is k = absurd (none_is k)
 
-    on_return : (t : Bool) → bytes_eq word (codes "return") ≡ t → cond t (Some (Giving rest)) (cond (bytes_eq word (codes "trap")) (Some (Trapping rest)) None) ≡ Some p
+    on_return : (t : Bool) →
+        bytes_eq word (codes "return") ≡ t →
+        cond t (Some (Giving rest)) (cond (bytes_eq word (codes "trap")) (Some (Trapping rest)) None) ≡ Some p
         → word ++ (32 ∷ rest) ≡ parts_text p
     on_return true is k = ap (λ x. x ++ (32 ∷ rest)) (same word (codes "return") is) ∙ ap parts_text (some_is k)
     on_return false is k = on_trap (bytes_eq word (codes "trap")) refl k
 
     on_call : (t : Bool) → bytes_eq word (codes "call") ≡ t
-        → cond t (call_parts rest) (cond (bytes_eq word (codes "return")) (Some (Giving rest)) (cond (bytes_eq word (codes "trap")) (Some (Trapping rest)) None)) ≡ Some p
+        → cond t (call_parts rest) (cond (bytes_eq word (codes "return")) (Some (Giving rest))
+        (cond (bytes_eq word (codes "trap")) (Some (Trapping rest)) None)) ≡ Some p
         → word ++ (32 ∷ rest) ≡ parts_text p
     on_call true is k = ap (λ x. x ++ (32 ∷ rest)) (same word (codes "call") is) ∙ call_exact rest p k
     on_call false is k = on_return (bytes_eq word (codes "return")) refl k
@@ -126,11 +156,17 @@ word_exact word rest p e = on_call (bytes_eq word (codes "call")) refl e
 pub parts_exact : (text : Text) (p : Parts) → parts_of text ≡ Some p → text ≡ parts_text p
 parts_exact text p e = go (bytes_eq text (codes "return")) refl e
   where
-    words : (o : Option Two) → cut 32 text ≡ o → option_and_then (λ p. word_parts p.0 p.1) o ≡ Some p → text ≡ parts_text p
+    words : (o : Option Two) →
+        cut 32 text ≡ o →
+        option_and_then (λ p. word_parts p.0 p.1) o ≡ Some p →
+        text ≡ parts_text p
     words None is k = absurd (none_is k)
     words (Some q) is k = cut_parts 32 text q.0 q.1 (sym is) ∙ word_exact q.0 q.1 p k
 
-    go : (t : Bool) → bytes_eq text (codes "return") ≡ t → cond t (Some Returning) (option_and_then (λ p. word_parts p.0 p.1) (cut 32 text)) ≡ Some p → text ≡ parts_text p
+    go : (t : Bool) →
+        bytes_eq text (codes "return") ≡ t →
+        cond t (Some Returning) (option_and_then (λ p. word_parts p.0 p.1) (cut 32 text)) ≡ Some p →
+        text ≡ parts_text p
     go true is k = same text (codes "return") is ∙ ap parts_text (some_is k)
     go false is k = words (cut 32 text) refl k
 
@@ -142,7 +178,8 @@ led [] = []
 led (v ∷ vs) = value_text v ++ (codes ", " ++ led vs)
 
 -- one more value with its comma
-pub led_push : (vs : List Value) (v : Value) (rest : Text) → led vs ++ (value_text v ++ (codes ", " ++ rest)) ≡ led (vs ++ v ∷ []) ++ rest
+pub led_push : (vs : List Value) (v : Value) (rest : Text) →
+    led vs ++ (value_text v ++ (codes ", " ++ rest)) ≡ led (vs ++ v ∷ []) ++ rest
 led_push [] v rest = sym (append_assoc (value_text v) (codes ", ") rest)
 led_push (u ∷ us) v rest =
     append_assoc (value_text u) (codes ", " ++ led us) (value_text v ++ (codes ", " ++ rest))
@@ -165,28 +202,39 @@ led_last (u ∷ us) v =
     ∙ ap (λ x. value_text u ++ x) (sym (more_last us v))
 
 -- one more value is read, at a comma and a space
-pub led_more : (text : Text) (vs : List Value) (v : Value) (rest first others gap more : Text) → text ≡ led vs ++ rest → rest ≡ first ++ 44 ∷ others → others ≡ gap ++ 32 ∷ more
+pub led_more : (text : Text) (vs : List Value) (v : Value) (rest first others gap more : Text) →
+    text ≡ led vs ++ rest →
+    rest ≡ first ++ 44 ∷ others →
+    others ≡ gap ++ 32 ∷ more
     → gap ≡ [] → first ≡ value_text v → text ≡ led (vs ++ v ∷ []) ++ more
 led_more text vs v rest first others gap more t r o g f =
-    t ∙ ap (λ x. led vs ++ x) (r ∙ ap (λ x. first ++ 44 ∷ x) (o ∙ ap (λ x. x ++ 32 ∷ more) g) ∙ ap (λ x. x ++ (codes ", " ++ more)) f) ∙ led_push vs v more
+    t ∙ ap (λ x. led vs ++ x) (r ∙ ap (λ x. first ++ 44 ∷ x) (o ∙ ap (λ x. x ++ 32 ∷ more) g) ∙
+    ap (λ x. x ++ (codes ", " ++ more)) f) ∙ led_push vs v more
 
 -- ---- what is read of a text
 
 -- the occurrence of the parts is that of the text
-pub if_exact : {E : Type 0} (text parts : Text) (r : Result (Option Found) E) → text ≡ parts → IfOk r (λ o. IfSome o (λ f. parts ≡ occurrence_text (plain_occurrence f)))
+pub if_exact : {E : Type 0} (text parts : Text) (r : Result (Option Found) E) →
+    text ≡ parts →
+    IfOk r (λ o. IfSome o (λ f. parts ≡ occurrence_text (plain_occurrence f)))
     → IfOk r (λ o. IfSome o (λ f. text ≡ occurrence_text (plain_occurrence f)))
 if_exact text parts (Err e) t h = tt
 if_exact text parts (Ok None) t h = tt
 if_exact text parts (Ok (Some f)) t h = t ∙ h
 
 -- the same of an occurrence that takes no memory
-pub if_some_exact : (text parts : Text) (o : Option Found) → text ≡ parts → IfSome o (λ f. parts ≡ occurrence_text (plain_occurrence f))
+pub if_some_exact : (text parts : Text) (o : Option Found) →
+    text ≡ parts →
+    IfSome o (λ f. parts ≡ occurrence_text (plain_occurrence f))
     → IfSome o (λ f. text ≡ occurrence_text (plain_occurrence f))
 if_some_exact text parts None t h = tt
 if_some_exact text parts (Some f) t h = t ∙ h
 
 -- a line is that of the event of its pieces
-pub event_exact : (line thread rest number text : Text) (n : ℕ) (o : Happened) → line ≡ thread ++ 46 ∷ rest → rest ≡ number ++ 32 ∷ text → number ≡ decimal n
+pub event_exact : (line thread rest number text : Text) (n : ℕ) (o : Happened) →
+    line ≡ thread ++ 46 ∷ rest →
+    rest ≡ number ++ 32 ∷ text →
+    number ≡ decimal n
     → text ≡ occurrence_text o → line ≡ event_text (record { thread = thread; call = n; occurrence = o })
 event_exact line thread rest number text n o l r d t =
     l ∙ ap (λ x. thread ++ 46 ∷ x) (r ∙ ap (λ x. x ++ 32 ∷ text) d ∙ ap (λ x. decimal n ++ 32 ∷ x) t)

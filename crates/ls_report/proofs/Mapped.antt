@@ -4,11 +4,14 @@ use Rattle.std.specs.Prelude.{find, option_map, reverse}
 use Rattle.std.proofs.lemmas.List.{map-append}
 use Rattle.std.proofs.lemmas.Grind.{reverse_onto}
 
-pub find-map : {X Y : Type 0} (p : Y → Bool) (f : X → Y) (xs : List X) → find p (map f xs) ≡ option_map f (find (λ x. p (f x)) xs)
+pub find-map : {X Y : Type 0} (p : Y → Bool) (f : X → Y) (xs : List X) →
+    find p (map f xs) ≡ option_map f (find (λ x. p (f x)) xs)
 find-map p f [] = refl
 find-map {X} {Y} p f (x ∷ xs) = go (p (f x)) (find-map p f xs)
   where
-    go : (b : Bool) → find p (map f xs) ≡ option_map f (find (λ y. p (f y)) xs) → cond b (Some (f x)) (find p (map f xs)) ≡ option_map f (cond b (Some x) (find (λ y. p (f y)) xs))
+    go : (b : Bool) →
+        find p (map f xs) ≡ option_map f (find (λ y. p (f y)) xs) →
+        cond b (Some (f x)) (find p (map f xs)) ≡ option_map f (cond b (Some x) (find (λ y. p (f y)) xs))
     go true h = refl
     go false h = h
 
@@ -19,5 +22,6 @@ reverse-map f (x ∷ xs) =
     ∙ sym (map-append f (reverse xs) (x ∷ [])) ∙ ap (map f) (sym (reverse_onto xs x []))
 
 -- the last of mapped items that passes
-pub last-map : {X Y : Type 0} (p : Y → Bool) (f : X → Y) (xs : List X) → find p (reverse (map f xs)) ≡ option_map f (find (λ x. p (f x)) (reverse xs))
+pub last-map : {X Y : Type 0} (p : Y → Bool) (f : X → Y) (xs : List X) →
+    find p (reverse (map f xs)) ≡ option_map f (find (λ x. p (f x)) (reverse xs))
 last-map p f xs = ap (find p) (reverse-map f xs) ∙ find-map p f (reverse xs)

@@ -1,5 +1,6 @@
 -- The pieces of an occurrence's text.
-use Rattle.std.proofs.Common.{◌≡◌, ◌∙◌, ◌&&◌, ◌==◌, ◌+◌, ◌<◌, ◌^◌, ℕ, arith, Bool, true, false, List, [], ◌∷◌, ◌++◌, refl, sym, ap, codes, append_assoc, eqb-true, cond, length}
+use Rattle.std.proofs.Common.{◌≡◌, ◌∙◌, ◌&&◌, ◌==◌, ◌+◌, ◌<◌, ◌^◌, ℕ, arith, Bool, true, false, List, [], ◌∷◌, ◌++◌}
+use Rattle.std.proofs.Common.{refl, sym, ap, codes, append_assoc, eqb-true, cond, length}
 use Rattle.std.specs.Prelude.{Some, None, is_none, not}
 use Rattle.std.specs.List.{list_all}
 use Rattle.std.specs.Str.{bytes_eq}
@@ -13,7 +14,8 @@ use Rattle.ls_report.specs.Events.{Called, Event, Made, Occurrence, Returned, Te
 use Rattle.ls_report.specs.Discipline.{has_names, is_shown, is_well_formed}
 use Rattle.ls_report.specs.Lines.{arguments_text, event_text, kind_text, occurrence_text, value_text}
 use Rattle.ls_lexer.specs.Names.{is_identifier, is_name}
-use Rattle.ls_report.specs.LineReading.{Calling, Giving, Making, Parts, Returning, Trapping, call_parts, head_parts, parts_of}
+use Rattle.ls_report.specs.LineReading.{Calling, Giving, Making, Parts, Returning, Trapping, call_parts, head_parts}
+use Rattle.ls_report.specs.LineReading.{parts_of}
 use Rattle.ls_report.specs.Cut.{cut}
 use Rattle.ls_report.proofs.CutLemmas.{cut_at, cut_none, lacks, lacks-append, lacks-decimal, without}
 use Rattle.ls_report.proofs.CutLemmas.{two}
@@ -25,14 +27,19 @@ lacks_parts : (b : ℕ) (bs : Text) → is_part b ≡ false → list_all is_part
 lacks_parts b [] h k = refl
 lacks_parts b (c ∷ cs) h k =
     let p = and_parts (is_part c) (list_all is_part cs) k in
-    let apart : (c == b) ≡ false = false_from_ne_true (c == b) (λ e. true≢false (sym p.0 ∙ ap is_part (eqb-true c b e) ∙ h)) in
+    let apart : (c == b) ≡ false = false_from_ne_true (c == b)
+    (λ e. true≢false (sym p.0 ∙ ap is_part (eqb-true c b e) ∙ h)) in
     and_from (not (c == b)) (lacks b cs) (not_from_false (c == b) apart) (lacks_parts b cs h p.1)
 
 run_all : (test : ℕ → Bool) (bs : Text) → run test bs ≡ length bs → list_all test bs ≡ true
 run_all test [] e = refl
 run_all test (c ∷ cs) e = go (test c) refl (run_all test cs) e
   where
-    go : (t : Bool) → test c ≡ t → (run test cs ≡ length cs → list_all test cs ≡ true) → cond t (run test cs + 1) 0 ≡ length (c ∷ cs) → list_all test (c ∷ cs) ≡ true
+    go : (t : Bool) →
+        test c ≡ t →
+        (run test cs ≡ length cs → list_all test cs ≡ true) →
+        cond t (run test cs + 1) 0 ≡ length (c ∷ cs) →
+        list_all test (c ∷ cs) ≡ true
     go true is next k = and_from (test c) (list_all test cs) is (next (omega arith))
     go false is next k = absurd (omega arith)
 
@@ -40,7 +47,8 @@ identifier_parts : (bs : Text) → is_identifier bs ≡ true → list_all is_par
 identifier_parts [] k = absurd cc
 identifier_parts (c ∷ cs) k =
     let p = and_parts (is_letter c) (run is_part cs == length cs) k in
-    and_from (is_part c) (list_all is_part cs) (or_right (is_digit c) (is_letter c) p.0) (run_all is_part cs (eqb-true (run is_part cs) (length cs) p.1))
+    and_from (is_part c) (list_all is_part cs) (or_right (is_digit c) (is_letter c) p.0)
+    (run_all is_part cs (eqb-true (run is_part cs) (length cs) p.1))
 
 -- a name consists of letters and digits
 pub name_parts : (bs : Text) → is_name bs ≡ true → list_all is_part bs ≡ true
@@ -64,27 +72,43 @@ expected (Trapped k) = Trapping (kind_text k)
 call_is : (head : Text) (vs : List Value) → lacks 40 head ≡ true → list_all is_shown vs ≡ true
     → call_parts (head ++ 40 ∷ (arguments_text vs ++ 41 ∷ [])) ≡ head_parts (arguments_text vs) head (cut 46 head)
 call_is head vs h k =
-    rw (cut_at 40 head (arguments_text vs ++ 41 ∷ []) (without 40 head h), cut_at 41 (arguments_text vs) [] (without 41 (arguments_text vs) (lacks-arguments 41 vs is_close refl k))) refl
+    rw (
+      cut_at 40 head (arguments_text vs ++ 41 ∷ []) (without 40 head h),
+      cut_at 41 (arguments_text vs) [] (without 41 (arguments_text vs) (lacks-arguments 41 vs is_close refl k)),
+    ) refl
 
-called_is : (object method : Text) (vs : List Value) → is_name object ≡ true → is_name method ≡ true → list_all is_shown vs ≡ true
-    → call_parts (object ++ (46 ∷ (method ++ (40 ∷ (arguments_text vs ++ 41 ∷ []))))) ≡ Some (Calling object method (arguments_text vs))
+called_is : (object method : Text) (vs : List Value) →
+    is_name object ≡ true →
+    is_name method ≡ true →
+    list_all is_shown vs ≡ true
+    → call_parts (object ++ (46 ∷ (method ++ (40 ∷ (arguments_text vs ++ 41 ∷ []))))) ≡ Some
+    (Calling object method (arguments_text vs))
 called_is object method vs o m k =
     let tail = arguments_text vs ++ 41 ∷ [] in
     let head = object ++ 46 ∷ method in
-    let is : head ++ 40 ∷ tail ≡ object ++ (46 ∷ (method ++ 40 ∷ tail)) = append_assoc object (46 ∷ method) (40 ∷ tail) in
-    let free : lacks 40 head ≡ true = lacks-append 40 object (46 ∷ method) (lacks-name 40 object refl o) (lacks-name 40 method refl m) in
+    let is : head ++ 40 ∷ tail ≡ object ++ (46 ∷ (method ++ 40 ∷ tail)) = append_assoc object (46 ∷ method) (40 ∷ tail)
+    in
+    let free : lacks 40 head ≡ true = lacks-append 40 object (46 ∷ method) (lacks-name 40 object refl o)
+    (lacks-name 40 method refl m) in
     ap call_parts (sym is) ∙ call_is head vs free k
-    ∙ ap (head_parts (arguments_text vs) head) (cut_at 46 object method (without 46 object (lacks-name 46 object refl o)))
+    ∙ ap (head_parts (arguments_text vs) head) (cut_at 46 object method
+    (without 46 object (lacks-name 46 object refl o)))
 
-made_is : (object class : Text) (vs : List Value) → is_name object ≡ true → is_name class ≡ true → list_all is_shown vs ≡ true
-    → call_parts (object ++ (codes " = new " ++ (class ++ (40 ∷ (arguments_text vs ++ 41 ∷ []))))) ≡ Some (Making object class (arguments_text vs))
+made_is : (object class : Text) (vs : List Value) →
+    is_name object ≡ true →
+    is_name class ≡ true →
+    list_all is_shown vs ≡ true
+    → call_parts (object ++ (codes " = new " ++ (class ++ (40 ∷ (arguments_text vs ++ 41 ∷ []))))) ≡ Some
+    (Making object class (arguments_text vs))
 made_is object class vs o m k =
     let tail = arguments_text vs ++ 41 ∷ [] in
     let head = object ++ (codes " = new " ++ class) in
     let is : head ++ 40 ∷ tail ≡ object ++ (codes " = new " ++ (class ++ 40 ∷ tail)) =
     append_assoc object (codes " = new " ++ class) (40 ∷ tail) in
-    let free : lacks 40 head ≡ true = lacks-append 40 object (codes " = new " ++ class) (lacks-name 40 object refl o) (lacks-name 40 class refl m) in
-    let no_point : lacks 46 head ≡ true = lacks-append 46 object (codes " = new " ++ class) (lacks-name 46 object refl o) (lacks-name 46 class refl m) in
+    let free : lacks 40 head ≡ true = lacks-append 40 object (codes " = new " ++ class) (lacks-name 40 object refl o)
+    (lacks-name 40 class refl m) in
+    let no_point : lacks 46 head ≡ true = lacks-append 46 object (codes " = new " ++ class)
+    (lacks-name 46 object refl o) (lacks-name 46 class refl m) in
     ap call_parts (sym is) ∙ call_is head vs free k
     ∙ ap (head_parts (arguments_text vs) head) (cut_none 46 head (without 46 head no_point))
     ∙ rw (cut_at 32 object (codes "= new " ++ class) (without 32 object (lacks-name 32 object refl o))) refl
@@ -106,7 +130,9 @@ parts_is (Trapped k) h = refl
 -- ---- and back
 
 -- a making, from its parts
-pub made_back : (object class arguments : Text) (o : Occurrence) → has_names o ≡ true → Some (Making object class arguments) ≡ Some (expected o)
+pub made_back : (object class arguments : Text) (o : Occurrence) →
+    has_names o ≡ true →
+    Some (Making object class arguments) ≡ Some (expected o)
     → (vs : List Value) × (Made object class vs ≡ o) × (arguments ≡ arguments_text vs) × (list_all is_shown vs ≡ true)
 made_back object class arguments (Made a b vs) h e =
     let p = and_parts (is_name a) (is_name b && list_all is_shown vs) h in
@@ -117,8 +143,11 @@ made_back object class arguments (Returned (Some v)) h e = absurd cc
 made_back object class arguments (Trapped k) h e = absurd cc
 
 -- a call of a method, from its parts
-pub called_back : (object method arguments : Text) (o : Occurrence) → has_names o ≡ true → Some (Calling object method arguments) ≡ Some (expected o)
-    → (vs : List Value) × (Called object method vs ≡ o) × (arguments ≡ arguments_text vs) × (list_all is_shown vs ≡ true)
+pub called_back : (object method arguments : Text) (o : Occurrence) →
+    has_names o ≡ true →
+    Some (Calling object method arguments) ≡ Some (expected o)
+    → (vs : List Value) × (Called object method vs ≡ o) × (arguments ≡ arguments_text vs) ×
+    (list_all is_shown vs ≡ true)
 called_back object method arguments (Called a b vs) h e =
     let p = and_parts (is_name a) (is_name b && list_all is_shown vs) h in
     (vs, cc, cc, (and_parts (is_name b) (list_all is_shown vs) p.1).1)
@@ -145,7 +174,9 @@ giving_back value (Called a b vs) h e = absurd cc
 giving_back value (Trapped k) h e = absurd cc
 
 -- a trap, from its parts
-pub trapping_back : (kind : Text) (o : Occurrence) → Some (Trapping kind) ≡ Some (expected o) → (k : Kind) × (Trapped k ≡ o) × (kind ≡ kind_text k)
+pub trapping_back : (kind : Text) (o : Occurrence) →
+    Some (Trapping kind) ≡ Some (expected o) →
+    (k : Kind) × (Trapped k ≡ o) × (kind ≡ kind_text k)
 trapping_back kind (Trapped k) e = (k, refl, cc)
 trapping_back kind (Returned None) e = absurd cc
 trapping_back kind (Returned (Some v)) e = absurd cc
@@ -155,15 +186,21 @@ trapping_back kind (Called a b vs) e = absurd cc
 -- ---- an event's line
 
 -- the thread's name is cut off a line
-pub thread_cut : (e : Event) → is_well_formed e ≡ true → cut 46 (event_text e) ≡ two e.thread (decimal e.call ++ (32 ∷ occurrence_text e.occurrence))
+pub thread_cut : (e : Event) →
+    is_well_formed e ≡ true →
+    cut 46 (event_text e) ≡ two e.thread (decimal e.call ++ (32 ∷ occurrence_text e.occurrence))
 thread_cut e h =
     let p = and_parts (is_name e.thread) (not (bytes_eq e.thread (codes "all")) && has_names e.occurrence) h in
-    cut_at 46 e.thread (decimal e.call ++ (32 ∷ occurrence_text e.occurrence)) (without 46 e.thread (lacks-name 46 e.thread refl p.0))
+    cut_at 46 e.thread (decimal e.call ++ (32 ∷ occurrence_text e.occurrence))
+    (without 46 e.thread (lacks-name 46 e.thread refl p.0))
 
 -- the call's number is cut off the rest
-pub number_cut : (e : Event) → e.call < 2 ^ 64 → cut 32 (decimal e.call ++ (32 ∷ occurrence_text e.occurrence)) ≡ two (decimal e.call) (occurrence_text e.occurrence)
+pub number_cut : (e : Event) →
+    e.call < 2 ^ 64 →
+    cut 32 (decimal e.call ++ (32 ∷ occurrence_text e.occurrence)) ≡ two (decimal e.call) (occurrence_text e.occurrence)
 number_cut e h =
-    cut_at 32 (decimal e.call) (occurrence_text e.occurrence) (without 32 (decimal e.call) (lacks-decimal 32 e.call (λ m small same. omega arith) h))
+    cut_at 32 (decimal e.call) (occurrence_text e.occurrence)
+    (without 32 (decimal e.call) (lacks-decimal 32 e.call (λ m small same. omega arith) h))
 
 -- a well formed event has names
 pub well_named : (e : Event) → is_well_formed e ≡ true → has_names e.occurrence ≡ true

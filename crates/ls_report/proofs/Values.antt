@@ -1,5 +1,6 @@
 -- The texts of values.
-use Rattle.std.proofs.Common.{◌≡◌, ◌∙◌, ◌<◌, ◌^◌, ℕ, ℤ, Bool, true, false, List, [], ◌∷◌, ◌++◌, get_or, length, cond, append-nil, ◌==◌, refl, sym, ap, codes, arith, pos, negsuc, FitsSigned}
+use Rattle.std.proofs.Common.{◌≡◌, ◌∙◌, ◌<◌, ◌^◌, ℕ, ℤ, Bool, true, false, List, [], ◌∷◌, ◌++◌, get_or, length, cond}
+use Rattle.std.proofs.Common.{append-nil, ◌==◌, refl, sym, ap, codes, arith, pos, negsuc, FitsSigned}
 use Rattle.std.specs.Int.{w32}
 use Rattle.std.specs.Prelude.{Option, Some, None, option_map}
 use Rattle.std.specs.List.{list_all}
@@ -13,7 +14,8 @@ use Rattle.ls_report.specs.Events.{Text}
 use Rattle.ls_report.specs.Discipline.{is_shown}
 use Rattle.ls_report.specs.Lines.{arguments_text, more_arguments, value_text}
 use Rattle.ls_report.specs.Cut.{cut}
-use Rattle.ls_report.proofs.CutLemmas.{first_of_two, none_is, second_of_two, Two, two, NoDigit, cut_at, cut_none, lacks, lacks-append, lacks-signed, without}
+use Rattle.ls_report.proofs.CutLemmas.{first_of_two, none_is, second_of_two, Two, two, NoDigit, cut_at, cut_none, lacks}
+use Rattle.ls_report.proofs.CutLemmas.{lacks-append, lacks-signed, without}
 
 -- an int that has a line has 32 bits
 pub fits_shown : (z : ℤ) → is_shown (values.Int z) ≡ true → FitsSigned w32 z
@@ -23,7 +25,8 @@ fits_shown (negsuc n) h = let lt = ltb-true n (2 ^ 31) h in omega arith
 -- an int's text doesn't begin with the letter
 pub no_letter : (b : ℕ) (bs : Text) (z : ℤ) → 57 < b → FitsSigned w32 z → b ∷ bs ≡ signed_decimal z → ⊥
 no_letter b bs z high fits e =
-    without b (b ∷ bs) (ap (lacks b) e ∙ lacks-signed b z (λ m small same. omega arith) (λ same. omega arith) fits) 0 (omega arith) refl
+    without b (b ∷ bs) (ap (lacks b) e ∙ lacks-signed b z (λ m small same. omega arith) (λ same. omega arith) fits) 0
+    (omega arith) refl
 
 first_byte : (b c : ℕ) (bs cs : Text) → b ∷ bs ≡ c ∷ cs → b ≡ c
 first_byte b c bs cs e = ap (λ l. get_or l 0 0) e
@@ -70,14 +73,23 @@ lacks-value b (values.Pair n m) s h = absurd cc
 pub is_feed : IsSign 10
 is_feed = record { no_digit = λ m small e. omega arith; no_minus = λ e. omega arith; in_true = refl; in_false = refl }
 
-lacks-more : (b : ℕ) (vs : List Value) → IsSign b → lacks b (codes ", ") ≡ true → list_all is_shown vs ≡ true → lacks b (more_arguments vs) ≡ true
+lacks-more : (b : ℕ) (vs : List Value) →
+    IsSign b →
+    lacks b (codes ", ") ≡ true →
+    list_all is_shown vs ≡ true →
+    lacks b (more_arguments vs) ≡ true
 lacks-more b [] s c h = refl
 lacks-more b (v ∷ vs) s c h =
     let p = and_parts (is_shown v) (list_all is_shown vs) h in
-    lacks-append b (codes ", " ++ value_text v) (more_arguments vs) (lacks-append b (codes ", ") (value_text v) c (lacks-value b v s p.0)) (lacks-more b vs s c p.1)
+    lacks-append b (codes ", " ++ value_text v) (more_arguments vs)
+    (lacks-append b (codes ", ") (value_text v) c (lacks-value b v s p.0)) (lacks-more b vs s c p.1)
 
 -- the text of arguments has no such sign
-pub lacks-arguments : (b : ℕ) (vs : List Value) → IsSign b → lacks b (codes ", ") ≡ true → list_all is_shown vs ≡ true → lacks b (arguments_text vs) ≡ true
+pub lacks-arguments : (b : ℕ) (vs : List Value) →
+    IsSign b →
+    lacks b (codes ", ") ≡ true →
+    list_all is_shown vs ≡ true →
+    lacks b (arguments_text vs) ≡ true
 lacks-arguments b [] s c h = refl
 lacks-arguments b (v ∷ vs) s c h =
     let p = and_parts (is_shown v) (list_all is_shown vs) h in
@@ -113,11 +125,15 @@ pub record Comma (back : List Value) (first others : Text) : Type 0 where
 
 -- one argument has no comma
 pub one_value : (v : Value) → is_shown v ≡ true → cut 44 (arguments_text (v ∷ [])) ≡ None
-one_value v h = ap (cut 44) (append-nil (value_text v)) ∙ cut_none 44 (value_text v) (without 44 (value_text v) (lacks-value 44 v is_comma h))
+one_value v h = ap (cut 44) (append-nil (value_text v)) ∙ cut_none 44 (value_text v)
+    (without 44 (value_text v) (lacks-value 44 v is_comma h))
 
 -- two arguments have a comma between them
-pub two_values : (v w : Value) (vs : List Value) → is_shown v ≡ true → cut 44 (arguments_text (v ∷ w ∷ vs)) ≡ two (value_text v) (32 ∷ arguments_text (w ∷ vs))
-two_values v w vs h = cut_at 44 (value_text v) (32 ∷ arguments_text (w ∷ vs)) (without 44 (value_text v) (lacks-value 44 v is_comma h))
+pub two_values : (v w : Value) (vs : List Value) →
+    is_shown v ≡ true →
+    cut 44 (arguments_text (v ∷ w ∷ vs)) ≡ two (value_text v) (32 ∷ arguments_text (w ∷ vs))
+two_values v w vs h = cut_at 44 (value_text v) (32 ∷ arguments_text (w ∷ vs))
+    (without 44 (value_text v) (lacks-value 44 v is_comma h))
 
 -- at a comma: the first argument and the others
 pub at_comma : (back : List Value) (first others : Text) → list_all is_shown back ≡ true
@@ -146,9 +162,18 @@ pub record Last (back : List Value) : Type 0 where
   pub shown : is_shown value ≡ true
 
 -- without a comma: the last argument
-pub at_last : (back : List Value) → list_all is_shown back ≡ true → 0 < length back → None ≡ cut 44 (arguments_text back) → Last back
+pub at_last : (back : List Value) →
+    list_all is_shown back ≡ true →
+    0 < length back →
+    None ≡ cut 44 (arguments_text back) →
+    Last back
 at_last [] h some e = absurd (omega arith)
-at_last (v ∷ []) h some e = record { value = v; is = refl; text_is = append-nil (value_text v); shown = (and_parts (is_shown v) true h).0 }
+at_last (v ∷ []) h some e = record {
+  value = v;
+  is = refl;
+  text_is = append-nil (value_text v);
+  shown = (and_parts (is_shown v) true h).0;
+}
 at_last (v ∷ w ∷ vs) h some e =
     absurd (none_is (e ∙ two_values v w vs (and_parts (is_shown v) (list_all is_shown (w ∷ vs)) h).0))
 

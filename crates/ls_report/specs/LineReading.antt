@@ -1,6 +1,7 @@
 -- How a line is taken apart. What is taken apart is the text of its parts. A number or a value is read if it is written
 -- as it is printed.
-use Rattle.std.specs.Prelude.{◌==◌, ◌&&◌, ◌++◌, ◌∷◌, [], Bool, true, length, not, Option, Some, None, option_map, option_and_then, if◌then◌else◌, codes}
+use Rattle.std.specs.Prelude.{◌==◌, ◌&&◌, ◌++◌, ◌∷◌, [], Bool, true, length, not, Option, Some, None, option_map}
+use Rattle.std.specs.Prelude.{option_and_then, if◌then◌else◌, codes}
 use Rattle.std.specs.Str.{bytes_eq}
 use Rattle.ls_report.specs.Cut.{cut}
 use Rattle.ls_report.specs.Events.{Text}
@@ -22,7 +23,9 @@ made_parts object equals new class arguments =
 
 abbrev pub making_parts : Text → Text → Option Parts
 making_parts arguments head =
-    option_and_then (λ p. option_and_then (λ q. option_and_then (λ r. made_parts p.0 q.0 r.0 r.1 arguments) (cut 32 q.1)) (cut 32 p.1)) (cut 32 head)
+    option_and_then
+    (λ p. option_and_then (λ q. option_and_then (λ r. made_parts p.0 q.0 r.0 r.1 arguments) (cut 32 q.1))
+    (cut 32 p.1)) (cut 32 head)
 
 abbrev pub head_parts : Text → Text → Option (Text × Text) → Option Parts
 head_parts arguments head (Some p) = Some (Calling p.0 p.1 arguments)

@@ -27,7 +27,8 @@ event_of p t e call = record { thread = t.name; call = e.call; occurrence = occu
 
 -- the event with its names; a thread's calls are numbered from 1
 abbrev pub named : Program → RunEvent → Option Event
-named p e = option_and_then (λ t. option_map (event_of p t e) (slice_get t.calls (e.call - 1))) (slice_get p.threads e.thread)
+named p e = option_and_then (λ t. option_map (event_of p t e) (slice_get t.calls (e.call - 1)))
+    (slice_get p.threads e.thread)
 
 -- an event of no call of the program has no line
 abbrev pub run_line : Program → RunEvent → Text

@@ -1,5 +1,6 @@
 -- Digits, and faults of items.
-use Rattle.std.proofs.Common.{◌≡◌, ◌+◌, ◌*◌, ◌-◌, ◌<◌, ◌≤◌, ℕ, true, List, length, take, min, arith, Result, Err, get_or}
+use Rattle.std.proofs.Common.{◌≡◌, ◌+◌, ◌*◌, ◌-◌, ◌<◌, ◌≤◌, ℕ, true, List, length, take, min, arith, Result, Err}
+use Rattle.std.proofs.Common.{get_or}
 use Rattle.std.specs.List.{list_all}
 use Rattle.std.specs.Char.{digit_value}
 use Rattle.std.specs.Str.Parse.{digits_value}
@@ -16,7 +17,10 @@ digit_range b e = (grind (arith, common_steps), grind (arith, common_steps))
 pub digit_at : (ds : List ℕ) (i : ℕ) → list_all is_digit ds ≡ true → i < length ds → is_digit (get_or ds i 0) ≡ true
 digit_at ds i e lt = grind (arith, common_steps)
 
-pub value_more : (ds : List ℕ) (i n : ℕ) → list_all is_digit ds ≡ true → i < length ds → n ≡ min (digits_value 10 (take i ds)) 1000001
+pub value_more : (ds : List ℕ) (i n : ℕ) →
+    list_all is_digit ds ≡ true →
+    i < length ds →
+    n ≡ min (digits_value 10 (take i ds)) 1000001
     → min (n * 10 + (get_or ds i 0 - 48)) 1000001 ≡ min (digits_value 10 (take (i + 1) ds)) 1000001
 value_more ds i n e lt h =
     let r = digit_range (get_or ds i 0) (digit_at ds i e lt) in

@@ -1,5 +1,6 @@
 -- A text without parentheses says the same in both versions.
-use Rattle.std.proofs.Common.{◌≡◌, ◌∙◌, inl, inr, ◌+◌, ℕ, Bool, true, false, cond, List, [], ◌∷◌, ◌++◌, take, drop, Result, Ok, Err, refl, sym, ap, subst, arith, append_assoc, append-nil}
+use Rattle.std.proofs.Common.{◌≡◌, ◌∙◌, inl, inr, ◌+◌, ℕ, Bool, true, false, cond, List, [], ◌∷◌, ◌++◌, take, drop}
+use Rattle.std.proofs.Common.{Result, Ok, Err, refl, sym, ap, subst, arith, append_assoc, append-nil}
 use Rattle.std.specs.Prelude.{if◌then◌else◌}
 use Rattle.std.proofs.lemmas.Bool.{cases_Bool}
 use Rattle.ls_items.specs.Items.{Item, is_gap, items, joined, with_byte as before_items}
@@ -7,7 +8,8 @@ use Rattle.ls_schedule.specs.declared.fault.ScheduleFault.{ScheduleFault}
 use Rattle.ls_schedule.specs.declared.fault.ScheduleFault.TheVariants as fault
 use Rattle.ls_schedule.specs.Pieces.{Piece, Gap, Word, Opens, Closes, opens, pieces, with_byte}
 use Rattle.ls_schedule.specs.Passing.{word_len}
-use Rattle.ls_schedule.specs.Reading.{Turns, each, followed_by, group_schedule, repeated, steps_in, steps_of, turns_of, within, ◌>>=◌}
+use Rattle.ls_schedule.specs.Reading.{Turns, each, followed_by, group_schedule, repeated, steps_in, steps_of, turns_of}
+use Rattle.ls_schedule.specs.Reading.{within, ◌>>=◌}
 use Rattle.ls_schedule.proofs.Fronts.{at_byte, at_gap, front}
 use Rattle.ls_schedule.proofs.Spoilt.{broken, content_of, outside_all, spoilt}
 use Rattle.ls_schedule.proofs.Words.{NoGroups}
@@ -53,7 +55,8 @@ byte_words at b (c ∷ cs) n h =
       | inr g ↦
           let m : ℕ = word_len cs in
           let more : List Piece = pieces (at + 1 + 1 + m) (drop m cs) in
-          let p : pieces (at + 1) (c ∷ cs) ≡ Word (at + 1) (c ∷ take m cs) ∷ more = at_byte (at + 1) c cs g n.0.0 n.0.1 ∙ (front (at + 1 + 1) cs (at + 1) c).0 in
+          let p : pieces (at + 1) (c ∷ cs) ≡ Word (at + 1) (c ∷ take m cs) ∷ more = at_byte (at + 1) c cs g n.0.0 n.0.1
+          ∙ (front (at + 1 + 1) cs (at + 1) c).0 in
           ap (λ ps. words (with_byte at b ps)) p ∙ ap (joined at b) (ap words (sym p) ∙ h)
           ∙ sym (ap (λ t. cond t ((at, b ∷ []) ∷ is) (joined at b is)) g)
     ]
@@ -85,16 +88,20 @@ no_opening (Closes at after ∷ ps) h = refl
 
 abbrev Steps : List (List ℕ) → List Piece → Type 0
 Steps names ps = (filled : Bool) (now : List ℕ)
-    → steps_in names [] (content_of filled now) ps ≡ (each (turns_of names) (words ps) >>= λ turns. Ok (now ++ steps_of turns))
+    → steps_in names [] (content_of filled now) ps ≡ (each (turns_of names) (words ps) >>= λ turns.
+    Ok (now ++ steps_of turns))
 
-by_word : (names : List (List ℕ)) (filled : Bool) (now : List ℕ) (ps : List Piece) (x : Result Turns ScheduleFault) → Steps names ps
+by_word : (names : List (List ℕ)) (filled : Bool) (now : List ℕ) (ps : List Piece) (x : Result Turns ScheduleFault) →
+    Steps names ps
     → steps_in names [] (followed_by (content_of filled now) (x >>= λ p. Ok (repeated p.1 p.0))) ps
     ≡ ((x >>= λ y. each (turns_of names) (words ps) >>= λ ys. Ok (y ∷ ys)) >>= λ turns. Ok (now ++ steps_of turns))
-by_word names filled now ps (Err e) more = spoilt names [] [] (broken e) e ps (omega arith) refl ∙ ap (λ f. Err f) (outside_all e ps)
+by_word names filled now ps (Err e) more = spoilt names [] [] (broken e) e ps (omega arith) refl ∙
+    ap (λ f. Err f) (outside_all e ps)
 by_word names filled now ps (Ok p) more = more true (now ++ repeated p.1 p.0) ∙ joins (each (turns_of names) (words ps))
   where
     joins : (r : Result (List Turns) ScheduleFault)
-        → (r >>= λ turns. Ok ((now ++ repeated p.1 p.0) ++ steps_of turns)) ≡ ((r >>= λ ys. Ok (p ∷ ys)) >>= λ turns. Ok (now ++ steps_of turns))
+        → (r >>= λ turns. Ok ((now ++ repeated p.1 p.0) ++ steps_of turns)) ≡
+        ((r >>= λ ys. Ok (p ∷ ys)) >>= λ turns. Ok (now ++ steps_of turns))
     joins (Err e) = refl
     joins (Ok ys) = ap (λ l. Ok l) (append_assoc now (repeated p.1 p.0) (steps_of ys))
 
@@ -102,18 +109,23 @@ plain_steps : (names : List (List ℕ)) (ps : List Piece) → Plain ps → Steps
 plain_steps names [] h filled now = ap (λ l. Ok l) (sym (append-nil now))
 plain_steps names (Gap ∷ ps) h filled now = plain_steps names ps h filled now
 plain_steps names (Word at bytes ∷ ps) h filled now =
-    ap (λ b. steps_in names [] (followed_by (content_of filled now) ((if b then Err (fault.BadItem at) else turns_of names (at, bytes)) >>= λ p. Ok (repeated p.1 p.0))) ps) (no_opening ps h)
+    ap (λ b. steps_in names [] (followed_by (content_of filled now)
+    ((if b then Err (fault.BadItem at) else turns_of names (at, bytes)) >>= λ p. Ok (repeated p.1 p.0))) ps)
+    (no_opening ps h)
     ∙ by_word names filled now ps (turns_of names (at, bytes)) (plain_steps names ps h)
 plain_steps names (Opens at ∷ ps) h filled now = absurd h
 plain_steps names (Closes at after ∷ ps) h filled now = absurd h
 
-bind_both : (r : Result (List Turns) ScheduleFault) → ((r >>= λ turns. Ok (steps_of turns)) >>= within) ≡ (r >>= λ turns. within (steps_of turns))
+bind_both : (r : Result (List Turns) ScheduleFault) →
+    ((r >>= λ turns. Ok (steps_of turns)) >>= within) ≡ (r >>= λ turns. within (steps_of turns))
 bind_both (Ok turns) = refl
 bind_both (Err e) = refl
 
 pub without_groups : (names : List (List ℕ)) (at : ℕ) (text : List ℕ) → NoGroups text
-    → group_schedule names (pieces at text) ≡ (each (turns_of names) (items at text) >>= λ turns. within (steps_of turns))
+    → group_schedule names (pieces at text) ≡ (each (turns_of names) (items at text) >>= λ turns.
+    within (steps_of turns))
 without_groups names at text n =
     let d = divided at text n in
-    ap (λ x. x >>= within) (plain_steps names (pieces at text) d.0 false []) ∙ bind_both (each (turns_of names) (words (pieces at text)))
+    ap (λ x. x >>= within) (plain_steps names (pieces at text) d.0 false []) ∙
+    bind_both (each (turns_of names) (words (pieces at text)))
     ∙ ap (λ is. each (turns_of names) is >>= λ turns. within (steps_of turns)) d.1

@@ -1,5 +1,6 @@
 -- The runs of a list of steps, one after the other.
-use Rattle.std.proofs.Common.{◌≡◌, ◌∙◌, ◌+◌, ◌==◌, ◌<◌, ℕ, suc, Bool, true, false, cond, List, [], ◌∷◌, ◌++◌, length, drop, get_or, refl, sym, ap, subst, eq-eqb, append_assoc, arith, eqb-true}
+use Rattle.std.proofs.Common.{◌≡◌, ◌∙◌, ◌+◌, ◌==◌, ◌<◌, ℕ, suc, Bool, true, false, cond, List, [], ◌∷◌, ◌++◌, length}
+use Rattle.std.proofs.Common.{drop, get_or, refl, sym, ap, subst, eq-eqb, append_assoc, arith, eqb-true}
 use Rattle.std.specs.List.{prefix_len}
 use Rattle.std.proofs.lemmas.Bool.Decides.{nat_tests}
 use Rattle.ls_schedule.specs.Printing.{item_text, more_text, runs_of, with_step}
@@ -14,7 +15,8 @@ Splits t ts = runs_of (t ∷ ts) ≡ (t, suc (first_len t ts)) ∷ runs_of (drop
 same_run : (t u : ℕ) (us : List ℕ) → t ≡ u → (t == u) ≡ true → (u == t) ≡ true → Splits u us → Splits t (u ∷ us)
 same_run t u us e a b h =
     let k : ℕ = first_len t us in
-    let at_t : runs_of (u ∷ us) ≡ (u, suc k) ∷ runs_of (drop k us) = subst (λ x. runs_of (u ∷ us) ≡ (u, suc (first_len x us)) ∷ runs_of (drop (first_len x us) us)) (sym e) h in
+    let at_t : runs_of (u ∷ us) ≡ (u, suc k) ∷ runs_of (drop k us) = subst
+    (λ x. runs_of (u ∷ us) ≡ (u, suc (first_len x us)) ∷ runs_of (drop (first_len x us) us)) (sym e) h in
     let len : first_len t (u ∷ us) ≡ suc k = ap (λ b. cond b (1 + k) 0) b ∙ omega arith in
     let more : suc k + 1 ≡ suc (suc k) = omega arith in
     ap (with_step t) at_t

@@ -1,5 +1,6 @@
 -- The bytes of names and counts, and items that are cut from a text.
-use Rattle.std.proofs.Common.{◌≡◌, ◌∙◌, ◌+◌, ◌<◌, ◌≤◌, inl, inr, ℕ, suc, Bool, true, false, cond, List, [], ◌∷◌, ◌++◌, length, take, drop, get_or, not, Some, None, refl, sym, ap, arith, eqb-true}
+use Rattle.std.proofs.Common.{◌≡◌, ◌∙◌, ◌+◌, ◌<◌, ◌≤◌, inl, inr, ℕ, suc, Bool, true, false, cond, List, [], ◌∷◌, ◌++◌}
+use Rattle.std.proofs.Common.{length, take, drop, get_or, not, Some, None, refl, sym, ap, arith, eqb-true}
 use Rattle.std.specs.Prelude.{◌==◌, ◌&&◌, ◌||◌, ◌^◌, ◌%◌, nat_lt, is_none}
 use Rattle.std.specs.Fmt.{decimal}
 use Rattle.std.specs.List.{list_all, position, position_or_len}
@@ -119,8 +120,12 @@ and_true false y h k = absurd (true≢false (sym h))
 one_digit : (n : ℕ) → n < 10 → list_all is_digit ((48 + n) ∷ []) ≡ true
 one_digit n lt = and_true (is_digit (48 + n)) true (digit_of n lt) refl
 
-more_digits : (n : ℕ) (ds : List ℕ) → 10 ≤ n → list_all is_digit ds ≡ true → list_all is_digit (ds ++ (48 + n % 10) ∷ []) ≡ true
-more_digits n ds le h = list_all-append is_digit ds ((48 + n % 10) ∷ []) ∙ and_true _ _ h (one_digit (n % 10) (omega arith))
+more_digits : (n : ℕ) (ds : List ℕ) →
+    10 ≤ n →
+    list_all is_digit ds ≡ true →
+    list_all is_digit (ds ++ (48 + n % 10) ∷ []) ≡ true
+more_digits n ds le h = list_all-append is_digit ds ((48 + n % 10) ∷ []) ∙
+    and_true _ _ h (one_digit (n % 10) (omega arith))
 
 pub decimal_digits : (n : ℕ) → n < 2 ^ 64 → list_all is_digit (decimal n) ≡ true
 decimal_digits n lt = decimal_by_steps (λ _ ds. list_all is_digit ds ≡ true) one_digit more_digits n lt
@@ -131,19 +136,32 @@ gap_small b g =
       | inl e ↦ omega (arith, eqb-true b 32 e)
       | inr f ↦ elim (or_cases (b == 9) (b == 13 || b == 10) f) [
         | inl e ↦ omega (arith, eqb-true b 9 e)
-        | inr f ↦ elim (or_cases (b == 13) (b == 10) f) [ inl e ↦ omega (arith, eqb-true b 13 e) | inr e ↦ omega (arith, eqb-true b 10 e) ]
+        | inr f ↦ elim (or_cases (b == 13) (b == 10) f) [
+          | inl e ↦ omega (arith, eqb-true b 13 e)
+          | inr e ↦ omega
+              (arith, eqb-true b 10 e)
+        ]
       ]
     ]
 
 digit_gap : (b : ℕ) → is_digit b ≡ true → is_gap b ≡ false
-digit_gap b h = elim (cases_Bool (is_gap b)) [ inl g ↦ absurd (omega (arith, gap_small b g, (digit_range b h).0)) | inr g ↦ g ]
+digit_gap b h = elim (cases_Bool (is_gap b)) [
+  | inl g ↦ absurd (omega (arith, gap_small b g, (digit_range b h).0))
+  | inr
+      g ↦ g
+]
 
 pub digits_gaps : (ds : List ℕ) → list_all is_digit ds ≡ true → NoGaps ds
 digits_gaps [] h = tt
-digits_gaps (d ∷ ds) h = let p = and_parts (is_digit d) (list_all is_digit ds) h in (digit_gap d p.0, digits_gaps ds p.1)
+digits_gaps (d ∷ ds) h = let p = and_parts (is_digit d) (list_all is_digit ds) h in
+    (digit_gap d p.0, digits_gaps ds p.1)
 
 digit_not : (b k : ℕ) → k < 48 → is_digit b ≡ true → (b == k) ≡ false
-digit_not b k small h = elim (cases_Bool (b == k)) [ inl e ↦ absurd (omega (arith, eqb-true b k e, small, (digit_range b h).0)) | inr e ↦ e ]
+digit_not b k small h = elim (cases_Bool (b == k)) [
+  | inl e ↦ absurd
+      (omega (arith, eqb-true b k e, small, (digit_range b h).0))
+  | inr e ↦ e
+]
 
 pub digits_plain : (ds : List ℕ) → list_all is_digit ds ≡ true → NoGroups ds
 digits_plain [] h = tt
@@ -160,7 +178,8 @@ counts (d ∷ ds) pos first h = and_true (not (d == 48)) _ (ap not (not_zero d f
 
 pub count_read : (n : ℕ) → 0 < n → n < 2 ^ 64 → count_of (decimal n) ≡ Some n
 count_read n pos lt =
-    let form : is_count (decimal n) ≡ true = counts (decimal n) (decimal_nonempty n lt) (first_decimal n pos lt) (decimal_digits n lt) in
+    let form : is_count (decimal n) ≡ true = counts (decimal n) (decimal_nonempty n lt) (first_decimal n pos lt)
+    (decimal_digits n lt) in
     ap (λ t. cond t (Some (digits_value 10 (decimal n))) None) form ∙ ap Some (decimal_is_IsNumeral n lt).1
 
 -- ---- a name, and a star behind it
@@ -197,26 +216,38 @@ length_more (x ∷ xs) ys y = omega (arith, length_more xs ys y)
 pub parts_once : (name : List ℕ) → Parts name → parts_of name ≡ (name, Some 1)
 parts_once name h =
     let none : position star name ≡ None =
-    ap (λ k. cond (nat_lt k (length name)) (Some k) None) (star_none name h) ∙ ap (λ t. cond t (Some (length name)) None) (le-ltb (length name) (length name) (omega arith)) in
+    ap (λ k. cond (nat_lt k (length name)) (Some k) None) (star_none name h) ∙
+    ap (λ t. cond t (Some (length name)) None) (le-ltb (length name) (length name) (omega arith)) in
     ap (λ o. option_map_or (λ i. (take i name, count_of (drop (i + 1) name))) o (name, Some 1)) none
 
 pub parts_times : (name ds : List ℕ) → Parts name → parts_of (name ++ 42 ∷ ds) ≡ (name, count_of ds)
 parts_times name ds h =
     let item : List ℕ = name ++ 42 ∷ ds in
     let some : position star item ≡ Some (length name) =
-    ap (λ k. cond (nat_lt k (length item)) (Some k) None) (star_at name ds h) ∙ ap (λ t. cond t (Some (length name)) None) (lt-ltb (length name) (length item) (length_more name ds 42)) in
+    ap (λ k. cond (nat_lt k (length item)) (Some k) None) (star_at name ds h) ∙
+    ap (λ t. cond t (Some (length name)) None) (lt-ltb (length name) (length item) (length_more name ds 42)) in
     let next : length name + 1 ≡ suc (length name) = omega arith in
     let front : take (length name) item ≡ name = take_front name (42 ∷ ds) in
     let back : drop (length name + 1) item ≡ ds = ap (λ k. drop k item) next ∙ drop_front name ds 42 in
-    ap (λ o. option_map_or (λ i. (take i item, count_of (drop (i + 1) item))) o (item, Some 1)) some ∙ (λ i. (front i, count_of (back i)))
+    ap (λ o. option_map_or (λ i. (take i item, count_of (drop (i + 1) item))) o (item, Some 1)) some ∙
+    (λ i. (front i, count_of (back i)))
 
 -- ---- an item at the front of a text
 
-pub word_items : (at b : ℕ) (w : List ℕ) (c : ℕ) (rest : List ℕ) → NoGaps (b ∷ w) → is_gap c ≡ true → (place : ℕ) × (items at (b ∷ w ++ c ∷ rest) ≡ (at, b ∷ w) ∷ items place (c ∷ rest))
+pub word_items : (at b : ℕ) (w : List ℕ) (c : ℕ) (rest : List ℕ) →
+    NoGaps (b ∷ w) →
+    is_gap c ≡ true →
+    (place : ℕ) × (items at (b ∷ w ++ c ∷ rest) ≡ (at, b ∷ w) ∷ items place (c ∷ rest))
 word_items at b [] c rest n g =
-    let more : List Item = items (at + 1) (c ∷ rest) in
-    (at + 1, ap (λ t. cond t more (with_byte at b (c ∷ rest) more)) n.0 ∙ ap (λ t. cond t ((at, b ∷ []) ∷ more) (joined at b more)) g)
+    let more : List Item = items (at + 1) (c ∷ rest) in (
+      at + 1,
+      ap (λ t. cond t more (with_byte at b (c ∷ rest) more)) n.0 ∙
+          ap (λ t. cond t ((at, b ∷ []) ∷ more) (joined at b more)) g,
+    )
 word_items at b (d ∷ w) c rest n g =
     let found = word_items (at + 1) d w c rest n.1 g in
-    let more : List Item = items (at + 1) (d ∷ w ++ c ∷ rest) in
-    (found.0, ap (λ t. cond t more (with_byte at b (d ∷ w ++ c ∷ rest) more)) n.0 ∙ ap (λ t. cond t ((at, b ∷ []) ∷ more) (joined at b more)) n.1.0 ∙ ap (joined at b) found.1)
+    let more : List Item = items (at + 1) (d ∷ w ++ c ∷ rest) in (
+      found.0,
+      ap (λ t. cond t more (with_byte at b (d ∷ w ++ c ∷ rest) more)) n.0 ∙
+          ap (λ t. cond t ((at, b ∷ []) ∷ more) (joined at b more)) n.1.0 ∙ ap (joined at b) found.1,
+    )

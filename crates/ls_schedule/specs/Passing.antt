@@ -1,6 +1,8 @@
 -- What the functions answer that read a text of version 2 in one pass.
 use Rattle.ls_events.specs.Limits.{most_steps}
-use Rattle.std.specs.Prelude.{◌≡◌, ◌==◌, ◌-◌, ◌+◌, ◌<◌, ◌≤◌, ℕ, zero, suc, Bool, true, false, not, List, [], ◌∷◌, length, take, drop, map, min, nat_lt, reverse, slice_get, unwrap_or, Option, Some, None, option_map, Result, Ok, Err, if◌then◌else◌}
+use Rattle.std.specs.Prelude.{◌≡◌, ◌==◌, ◌-◌, ◌+◌, ◌<◌, ◌≤◌, ℕ, zero, suc, Bool, true, false, not, List, [], ◌∷◌}
+use Rattle.std.specs.Prelude.{length, take, drop, map, min, nat_lt, reverse, slice_get, unwrap_or, Option, Some, None}
+use Rattle.std.specs.Prelude.{option_map, Result, Ok, Err, if◌then◌else◌}
 use Rattle.std.specs.List.{prefix_len}
 use Rattle.ls_schedule.specs.declared.fault.ScheduleFault.{ScheduleFault}
 use Rattle.ls_schedule.specs.declared.fault.ScheduleFault.TheVariants as fault
@@ -104,7 +106,11 @@ finished (o ∷ os) s = Err (unclosed (places os) (fault.BadItem o.at))
 
 -- ---- the pass
 
-abbrev pub or_fault : {A : Type 0} → Result A ScheduleFault → (A → Result (List ℕ) ScheduleFault) → (ScheduleFault → ScheduleFault) → Result (List ℕ) ScheduleFault
+abbrev pub or_fault : {A : Type 0} →
+    Result A ScheduleFault →
+    (A → Result (List ℕ) ScheduleFault) →
+    (ScheduleFault → ScheduleFault) →
+    Result (List ℕ) ScheduleFault
 or_fault (Ok x) go_on other = go_on x
 or_fault (Err e) go_on other = Err (other e)
 
@@ -115,18 +121,21 @@ abbrev pub group_count : Bool → ℕ → Option ℕ → Result ℕ ScheduleFaul
 group_count filled at None = Err (fault.BadItem at)
 group_count filled at (Some n) = if filled then Ok (min n 1000001) else Err (fault.BadItem at)
 
--- the schedule, where these groups are open, the innermost first, whether anything stands in that, the steps so far, and the pieces to come
+-- the schedule, where these groups are open, the innermost first, whether anything stands in that, the steps so far,
+-- and the pieces to come
 abbrev pub goes : List (List ℕ) → List Opened → Bool → Option (List ℕ) → List Piece → Result (List ℕ) ScheduleFault
 goes names os filled s [] = finished os s
 goes names os filled s (Gap ∷ ps) = goes names os filled s ps
 goes names os filled s (Word at bytes ∷ ps) =
-    or_fault (capped_item names at bytes (opens ps)) (λ t. goes names os true (more_steps s t.0 t.1) ps) (λ e. first_fault (places os) 0 e ps)
+    or_fault (capped_item names at bytes (opens ps)) (λ t. goes names os true (more_steps s t.0 t.1) ps)
+    (λ e. first_fault (places os) 0 e ps)
 goes names os filled s (Opens at ∷ ps) =
     if nat_lt (length os) 8 then goes names (record { at = at; from = kept_len s } ∷ os) false s ps
     else Err (first_fault (places os) 0 (fault.BadItem at) (Opens at ∷ ps))
 goes names [] filled s (Closes at after ∷ ps) = Err (fault.BadItem at)
 goes names (o ∷ os) filled s (Closes at after ∷ ps) =
-    or_fault (group_count filled o.at (group_times after (opens ps))) (λ n. goes names os true (again s o.from n) ps) (λ e. first_fault (places os) 0 e ps)
+    or_fault (group_count filled o.at (group_times after (opens ps))) (λ n. goes names os true (again s o.from n) ps)
+    (λ e. first_fault (places os) 0 e ps)
 
 abbrev pub going : List (List ℕ) → Reader → List Piece → Result (List ℕ) ScheduleFault
 going names r ps = goes names (reverse r.open_groups.items) r.filled (so_far r.fits r.schedule) ps

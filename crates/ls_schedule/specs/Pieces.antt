@@ -1,5 +1,6 @@
 -- The words and parentheses of a schedule text, and its version.
-use Rattle.std.specs.Prelude.{◌==◌, ◌&&◌, ◌||◌, ◌+◌, ℕ, Bool, true, false, not, List, [], ◌∷◌, Option, Some, None, if◌then◌else◌, codes}
+use Rattle.std.specs.Prelude.{◌==◌, ◌&&◌, ◌||◌, ◌+◌, ℕ, Bool, true, false, not, List, [], ◌∷◌, Option, Some, None}
+use Rattle.std.specs.Prelude.{if◌then◌else◌, codes}
 use Rattle.std.specs.Str.{bytes_eq}
 use Rattle.ls_items.specs.Items.{is_gap}
 
@@ -7,7 +8,8 @@ use Rattle.ls_items.specs.Items.{is_gap}
 abbrev pub ends_word : ℕ → Bool
 ends_word b = is_gap b || (b == 40 || b == 41)
 
--- What a text is made of, with the places where it begins. The word directly after a closing parenthesis belongs to that.
+-- What a text is made of, with the places where it begins. The word directly after a closing parenthesis belongs to
+-- that.
 pub data Piece : Type 0 where
   Gap : Piece
   Word : (at : ℕ) → (bytes : List ℕ) → Piece

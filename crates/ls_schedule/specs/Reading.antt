@@ -1,6 +1,8 @@
 -- What a schedule text says.
 use Rattle.ls_events.specs.Limits.{most_steps}
-use Rattle.std.specs.Prelude.{◌==◌, ◌&&◌, ◌+◌, ◌-◌, ℕ, zero, suc, Bool, true, false, not, List, [], ◌∷◌, ◌++◌, length, take, drop, nat_lt, Option, Some, None, Result, Ok, Err, if◌then◌else◌, codes, option_map, map, string_bytes}
+use Rattle.std.specs.Prelude.{◌==◌, ◌&&◌, ◌+◌, ◌-◌, ℕ, zero, suc, Bool, true, false, not, List, [], ◌∷◌, ◌++◌, length}
+use Rattle.std.specs.Prelude.{take, drop, nat_lt, Option, Some, None, Result, Ok, Err, if◌then◌else◌, codes, option_map}
+use Rattle.std.specs.Prelude.{map, string_bytes}
 use Rattle.std.specs.Option.{option_map_or}
 use Rattle.std.specs.List.{flat_map, list_all, position, range_with_len}
 use Rattle.std.specs.Str.{bytes_eq}
@@ -86,7 +88,8 @@ plain_schedule names text = each (turns_of names) (items 0 text) >>= λ turns. w
 
 -- ---- groups
 
--- what stands so far in a group, or in the text outside of all groups: whether anything does, and its steps or first fault
+-- what stands so far in a group, or in the text outside of all groups: whether anything does, and its steps or first
+-- fault
 pub record Content : Type 0 where
   pub filled : Bool
   pub steps : Result (List ℕ) ScheduleFault

@@ -13,5 +13,6 @@ pub record AreThreadNames (names : List (List ℕ)) : Type 0 where
 
 abbrev pub ReadsBack : Type 0
 ReadsBack =
-    (names : List (List ℕ)) (steps : List ℕ) → AreThreadNames names → All (λ t. t < length names) steps → length steps ≤ most_steps
+    (names : List (List ℕ)) (steps : List ℕ) → AreThreadNames names → All (λ t. t < length names) steps →
+    length steps ≤ most_steps
     → schedule_of names (schedule_text names steps) ≡ Ok steps

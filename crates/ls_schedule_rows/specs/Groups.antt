@@ -38,7 +38,8 @@ GapsInGroups =
 
 -- eight groups in one another
 abbrev pub EightInOneAnother : Type 0
-EightInOneAnother = Says (codes "@2 ((((((((A))))))))") (1 ∷ []) × Says (codes "@2 ((((((((A)*2)))))) B)") (1 ∷ 1 ∷ 2 ∷ [])
+EightInOneAnother = Says (codes "@2 ((((((((A))))))))") (1 ∷ []) ×
+    Says (codes "@2 ((((((((A)*2)))))) B)") (1 ∷ 1 ∷ 2 ∷ [])
 
 -- a group without a step isn't empty
 abbrev pub GroupOfNone : Type 0

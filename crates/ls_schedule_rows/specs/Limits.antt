@@ -23,16 +23,19 @@ OneStepTooMany = (t : ℕ) → within (replicate 1000001 t) ≡ Err TooManySteps
 
 -- the count of a group has as many digits as are written
 abbrev pub LongGroupCounts : Type 0
-LongGroupCounts = (times_of (codes "*7654321") ≡ Some 7654321) × (times_of (codes "*98765432109876543210") ≡ Some 98765432109876543210)
+LongGroupCounts = (times_of (codes "*7654321") ≡ Some 7654321) ×
+    (times_of (codes "*98765432109876543210") ≡ Some 98765432109876543210)
 
 -- counts of groups in one another multiply, however large the product is
 abbrev pub CountsInOneAnother : Type 0
-CountsInOneAnother = (m n : ℕ) (steps : List ℕ) → most_steps < m * (n * length steps) → within (repeated m (repeated n steps)) ≡ Err TooManySteps
+CountsInOneAnother = (m n : ℕ) (steps : List ℕ) → most_steps < m * (n * length steps) →
+    within (repeated m (repeated n steps)) ≡ Err TooManySteps
 
 -- the groups have at most 1,000,000 steps together
 abbrev pub GroupsPastTheLimit : Type 0
 GroupsPastTheLimit =
-    (ps : List Piece) (steps : List ℕ) → steps_in names [] nothing ps ≡ Ok steps → most_steps < length steps → group_schedule names ps ≡ Err TooManySteps
+    (ps : List Piece) (steps : List ℕ) → steps_in names [] nothing ps ≡ Ok steps → most_steps < length steps →
+    group_schedule names ps ≡ Err TooManySteps
 
 -- an item with a fault is reported before the length is
 abbrev pub FaultsBeforeTheLength : Type 0

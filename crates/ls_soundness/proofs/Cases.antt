@@ -1,5 +1,6 @@
 -- The headline's example is typed, and programs with a wrong call aren't.
-use Rattle.std.proofs.Common.{rules, ◌≡◌, ℕ, zero, suc, ◌<◌, ◌≤◌, [], ◌∷◌, length, true, false, Some, None, refl, sym, subst, ap, arith}
+use Rattle.std.proofs.Common.{rules, ◌≡◌, ℕ, zero, suc, ◌<◌, ◌≤◌, [], ◌∷◌, length, true, false, Some, None, refl, sym}
+use Rattle.std.proofs.Common.{subst, ap, arith}
 use Rattle.std.specs.Prelude.{slice_get, is_some, pos, FitsSigned}
 use mir.Syntax.{w32}
 use borrow.Author.Differences.{fits_in}
@@ -18,7 +19,8 @@ use Rattle.ls_types_judgement.specs.Limits.{IsRanged, IsRangedProgram}
 use Rattle.ls_types_judgement.specs.WellTyped.{IsWellTyped, IsWellTypedProgram}
 use Rattle.ls_headline.proofs.ExampleSound.{example_constants}
 use Rattle.ls_types_judgement.specs.Programs.{AreArguments, IsTypedCalling, IsTypedCall, IsTypedProgram}
-use Rattle.ls_soundness.specs.Cases.{with_call, of_no_name, of_no_method, with_argument, for_an_int, Arguments, NoArguments, Pairs}
+use Rattle.ls_soundness.specs.Cases.{with_call, of_no_name, of_no_method, with_argument, for_an_int, Arguments}
+use Rattle.ls_soundness.specs.Cases.{NoArguments, Pairs}
 
 nothing_there : {A : Type 0} {x : A} → None ≡ Some x → ⊥
 nothing_there e = cc
@@ -29,8 +31,14 @@ there x y e = cc
 
 pub typed_file : IsTypedFile file
 typed_file zero m e = subst (λ z. IsTypedMethod file z) (there _ m e)
-    (record { locals = types.Lock ∷ []; this = refl; parameters = omega arith; body = ((types.Lock, refl, refl), ((NoValue, (refl, (types.Lock, refl, refl), tt)), tt)) })
-typed_file (suc zero) m e = subst (λ z. IsTypedMethod file z) (there _ m e) (record { locals = []; this = refl; parameters = omega arith; body = tt })
+    (record {
+      locals = types.Lock ∷ [];
+      this = refl;
+      parameters = omega arith;
+      body = ((types.Lock, refl, refl), ((NoValue, (refl, (types.Lock, refl, refl), tt)), tt));
+    })
+typed_file (suc zero) m e = subst (λ z. IsTypedMethod file z) (there _ m e)
+    (record { locals = []; this = refl; parameters = omega arith; body = tt })
 typed_file (suc (suc n)) m e = absurd (nothing_there e)
 
 pub has_its_classes : HasItsClasses file
@@ -70,19 +78,43 @@ well_typed = record {
   limits = is_ranged;
 }
 
-setup_call : (n : ℕ) (call : ProgramCall) → slice_get (Making 0 0 [] [] ∷ []) n ≡ Some call → IsTypedCall file program call
+setup_call : (n : ℕ) (call : ProgramCall) →
+    slice_get (Making 0 0 [] [] ∷ []) n ≡ Some call →
+    IsTypedCall file program call
 setup_call zero call e = subst (λ z. IsTypedCall file program z) (there _ call e)
-    (record { there = omega arith; constructor = _; found = refl; own = refl; fit = tt; setup_name = _; named = refl; holds = refl })
+    (record {
+      there = omega arith;
+      constructor = _;
+      found = refl;
+      own = refl;
+      fit = tt;
+      setup_name = _;
+      named = refl;
+      holds = refl;
+    })
 setup_call (suc n) call e = absurd (nothing_there e)
 
-work_call : (n : ℕ) (call : ProgramCall) → slice_get (Calling 0 0 [] None [] ∷ []) n ≡ Some call → IsTypedCall file program call
+work_call : (n : ℕ) (call : ProgramCall) →
+    slice_get (Calling 0 0 [] None [] ∷ []) n ≡ Some call →
+    IsTypedCall file program call
 work_call zero call e = subst (λ z. IsTypedCall file program z) (there _ call e)
-    (record { setup_name = _; named = refl; called = _; found = refl; own = refl; answers = refl; plain = tt; fit = tt })
+    (record {
+      setup_name = _;
+      named = refl;
+      called = _;
+      found = refl;
+      own = refl;
+      answers = refl;
+      plain = tt;
+      fit = tt;
+    })
 work_call (suc n) call e = absurd (nothing_there e)
 
 pub typed_program : IsTypedProgram file program
-typed_program zero calls n call e is = setup_call n call (subst (λ (z : ThreadProgram). slice_get z.calls n ≡ Some call) (sym (there _ calls e)) is)
-typed_program (suc zero) calls n call e is = work_call n call (subst (λ (z : ThreadProgram). slice_get z.calls n ≡ Some call) (sym (there _ calls e)) is)
+typed_program zero calls n call e is = setup_call n call (subst (λ (z : ThreadProgram). slice_get z.calls n ≡ Some call)
+    (sym (there _ calls e)) is)
+typed_program (suc zero) calls n call e is = work_call n call
+    (subst (λ (z : ThreadProgram). slice_get z.calls n ≡ Some call) (sym (there _ calls e)) is)
 typed_program (suc (suc t)) calls n call e is = absurd (nothing_there e)
 
 is_ranged_program : IsRangedProgram program
@@ -112,14 +144,17 @@ no_method typed = nothing_there ((the_call (Calling 0 2 [] None []) typed).found
 -- a call with an argument too many isn't typed
 pub no_argument : IsTypedProgram file with_argument → ⊥
 no_argument typed =
-    let call : IsTypedCalling file with_argument 0 0 None (Int (pos 1) ∷ []) = the_call (Calling 0 0 [] None (Int (pos 1) ∷ [])) typed in
+    let call : IsTypedCalling file with_argument 0 0 None (Int (pos 1) ∷ []) = the_call
+    (Calling 0 0 [] None (Int (pos 1) ∷ [])) typed in
     subst (λ z. AreArguments (parameters_of z) (Int (pos 1) ∷ [])) (sym (there _ call.called call.found)) call.fit
 
 -- a call that takes an int from a method that answers nothing isn't typed
 pub no_int : IsTypedProgram file for_an_int → ⊥
 no_int typed =
-    let call : IsTypedCalling file for_an_int 0 0 (Some types.Int) [] = the_call (Calling 0 0 [] (Some types.Int) []) typed in
-    nothing_there (subst (λ (z : Method). z.result ≡ Some types.Int) (sym (there _ call.called call.found)) call.answers)
+    let call : IsTypedCalling file for_an_int 0 0 (Some types.Int) [] = the_call (Calling 0 0 [] (Some types.Int) [])
+    typed in
+    nothing_there (subst (λ (z : Method). z.result ≡ Some types.Int) (sym (there _ call.called call.found))
+    call.answers)
 
 -- the cases of arguments
 pub arguments : Arguments

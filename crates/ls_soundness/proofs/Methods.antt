@@ -35,7 +35,9 @@ on_leave r go h (Returned None) ls q = go (answer_without r) q
 on_leave r go h (Returned (Some v)) ls q = go v q
 on_leave r go h (Threw k) ls q = h k q
 
-leave_by : {X : Type 0} (asks : Action Value → Sort → X) (r : Option ValueType) (x : Executed) (go : Value → Answers → X) (h : Kind → Answers → X) → ends asks (leave r x) go h ≡ finish_by asks x (on_leave r go h)
+leave_by : {X : Type 0} (asks : Action Value → Sort → X) (r : Option ValueType) (x : Executed)
+    (go : Value → Answers → X) (h : Kind → Answers → X) →
+    ends asks (leave r x) go h ≡ finish_by asks x (on_leave r go h)
 leave_by asks r (AsksFor a s) go h = refl
 leave_by asks r (Completes Normal ls q) go h = refl
 leave_by asks r (Completes (Broke n) ls q) go h = refl
@@ -44,35 +46,50 @@ leave_by asks r (Completes (Returned None) ls q) go h = refl
 leave_by asks r (Completes (Returned (Some v)) ls q) go h = refl
 leave_by asks r (Completes (Threw k) ls q) go h = refl
 
-module _ (P : ℕ → ValueType → Type 0) (null : (n : ℕ) (t : ValueType) → n ≡ 0 → P n t) (file : File) (w : Way P file) where
-  without_has : (r : Option ValueType) → HasSort P (answer_sort r) (answer_without r)
-  without_has None = refl
-  without_has (Some t) = start_has P null t
+module _ (P : ℕ → ValueType → Type 0) (null : (n : ℕ) (t : ValueType) → n ≡ 0 → P n t) (file : File) (w : Way P file)
+  where
+    without_has : (r : Option ValueType) → HasSort P (answer_sort r) (answer_without r)
+    without_has None = refl
+    without_has (Some t) = start_has P null t
 
-  body_good : (calls : Calls) → CallsGood P file w calls → CallsWithin calls → (m : Method) (o : Value) (vs : List Value) → IsTypedMethod file m → HasType P o (types.Class m.class) → HaveTypes P (parameters_of m) vs →
-      Good P file w (HasSort P (answer_sort m.result)) (λ q. run_body file calls (Some m) (o ∷ vs) q)
-  body_good calls called within m o vs t ho hvs = record {
-    good = λ go h kg kh.
-        let cut : HaveTypes P (take m.parameters t.locals) vs = subst (λ (z : List ValueType). HaveTypes P (take m.parameters (drop 1 z)) vs) t.this hvs in
-        let starts : Starts P (o ∷ vs) m.slots = subst (λ z. Starts P (o ∷ vs) z) (sym t.this) (ho, starts_of P vs m.parameters t.locals cut) in
-        sure_same P file w _ _ (λ q. leave_by w.asks m.result (execute file.classes calls m.body (frame m.slots (o ∷ vs)) q) go h)
-        ((good_by P null file w calls called within m.slots m.result m.body (frame m.slots (o ∷ vs)) t.body (frame_locals P null (o ∷ vs) m.slots starts)).good (on_leave m.result go h) (goes go h kg kh));
-  }
-    where
-      goes : (go : Value → Answers → w.Left) (h : Kind → Answers → w.Left) → ((v : Value) → HasSort P (answer_sort m.result) v → Sure P file w (go v)) → ((k : Kind) → Sure P file w (h k)) →
-          (c : Completion Value) (ls : List Value) → CompletionHas P m.result c → Locals P m.slots ls → Sure P file w (on_leave m.result go h c ls)
-      goes go h kg kh Normal ls hc hh = kg (answer_without m.result) (without_has m.result)
-      goes go h kg kh (Broke n) ls hc hh = kg (answer_without m.result) (without_has m.result)
-      goes go h kg kh (Continued n) ls hc hh = kg (answer_without m.result) (without_has m.result)
-      goes go h kg kh (Returned None) ls hc hh = kg (answer_without m.result) (without_has m.result)
-      goes go h kg kh (Returned (Some v)) ls hc hh = kg v (subst (λ r. HasSort P (answer_sort r) v) (sym hc.1) hc.2)
-      goes go h kg kh (Threw k) ls hc hh = kh k
+    body_good : (calls : Calls) →
+        CallsGood P file w calls →
+        CallsWithin calls →
+        (m : Method) (o : Value) (vs : List Value) →
+        IsTypedMethod file m →
+        HasType P o (types.Class m.class) →
+        HaveTypes P (parameters_of m) vs →
+        Good P file w (HasSort P (answer_sort m.result)) (λ q. run_body file calls (Some m) (o ∷ vs) q)
+    body_good calls called within m o vs t ho hvs = record {
+      good = λ go h kg kh.
+          let cut : HaveTypes P (take m.parameters t.locals) vs = subst
+          (λ (z : List ValueType). HaveTypes P (take m.parameters (drop 1 z)) vs) t.this hvs in
+          let starts : Starts P (o ∷ vs) m.slots = subst (λ z. Starts P (o ∷ vs) z) (sym t.this)
+          (ho, starts_of P vs m.parameters t.locals cut) in
+          sure_same P file w _ _ (λ q. leave_by w.asks m.result
+          (execute file.classes calls m.body (frame m.slots (o ∷ vs)) q) go h)
+          ((good_by P null file w calls called within m.slots m.result m.body (frame m.slots (o ∷ vs)) t.body
+          (frame_locals P null (o ∷ vs) m.slots starts)).good (on_leave m.result go h) (goes go h kg kh));
+    }
+      where
+        goes : (go : Value → Answers → w.Left) (h : Kind → Answers → w.Left) →
+            ((v : Value) → HasSort P (answer_sort m.result) v → Sure P file w (go v)) →
+            ((k : Kind) → Sure P file w (h k)) →
+            (c : Completion Value) (ls : List Value) → CompletionHas P m.result c → Locals P m.slots ls →
+            Sure P file w (on_leave m.result go h c ls)
+        goes go h kg kh Normal ls hc hh = kg (answer_without m.result) (without_has m.result)
+        goes go h kg kh (Broke n) ls hc hh = kg (answer_without m.result) (without_has m.result)
+        goes go h kg kh (Continued n) ls hc hh = kg (answer_without m.result) (without_has m.result)
+        goes go h kg kh (Returned None) ls hc hh = kg (answer_without m.result) (without_has m.result)
+        goes go h kg kh (Returned (Some v)) ls hc hh = kg v (subst (λ r. HasSort P (answer_sort r) v) (sym hc.1) hc.2)
+        goes go h kg kh (Threw k) ls hc hh = kh k
 
-  -- calls of the methods of a typed file, at any depth
-  pub calls_good : IsTypedFile file → (d : ℕ) → CallsGood P file w (invoke file d)
-  unfolding invoke
-  calls_good t zero n m o vs e ho hvs = throws_good P file w (HasSort P (answer_sort m.result)) StackOverflow
-  calls_good t (suc d) n m o vs e ho hvs =
-      then_good P file w _ _ _ _ (tell_fits P file w (Enter n) (w.fits (Enter n) NoValue refl)) (λ v hv.
-      subst (λ z. Good P file w (HasSort P (answer_sort m.result)) (λ q. run_body file (invoke file d) z (o ∷ vs) q)) (sym e)
-      (body_good (invoke file d) (calls_good t d) (invoke_within file d) m o vs (t n m e) ho hvs))
+    -- calls of the methods of a typed file, at any depth
+    pub calls_good : IsTypedFile file → (d : ℕ) → CallsGood P file w (invoke file d)
+    unfolding invoke
+    calls_good t zero n m o vs e ho hvs = throws_good P file w (HasSort P (answer_sort m.result)) StackOverflow
+    calls_good t (suc d) n m o vs e ho hvs =
+        then_good P file w _ _ _ _ (tell_fits P file w (Enter n) (w.fits (Enter n) NoValue refl)) (λ v hv.
+        subst (λ z. Good P file w (HasSort P (answer_sort m.result)) (λ q. run_body file (invoke file d) z (o ∷ vs) q))
+        (sym e)
+        (body_good (invoke file d) (calls_good t d) (invoke_within file d) m o vs (t n m e) ho hvs))

@@ -36,12 +36,20 @@ abbrev pub Both : Type 0
 Both = Next × Evaluated Value
 
 -- the same for all lists that aren't longer
-pub refs_same : (P : ℕ → ValueType → Type 0) (f g : Answers → Evaluated Value) (had : Answers) → ((q : Answers) → length q ≤ length had → f q ≡ g q) → refs.Suited P f had → refs.Suited P g had
+pub refs_same : (P : ℕ → ValueType → Type 0) (f g : Answers → Evaluated Value) (had : Answers) →
+    ((q : Answers) → length q ≤ length had → f q ≡ g q) →
+    refs.Suited P f had →
+    refs.Suited P g had
 refs_same P f g [] e s = tt
-refs_same P f g (x ∷ had) e s = (subst (λ z. refs.Suits P z x) (e [] (omega arith)) s.0, refs_same P (λ q. f (x ∷ q)) (λ q. g (x ∷ q)) had (λ q l. e (x ∷ q) (omega arith)) s.1)
+refs_same P f g (x ∷ had) e s = (
+  subst (λ z. refs.Suits P z x) (e [] (omega arith)) s.0,
+  refs_same P (λ q. f (x ∷ q)) (λ q. g (x ∷ q)) had (λ q l. e (x ∷ q) (omega arith)) s.1,
+)
 
 -- an answer that suits a thread suits its call; a turn back fails in neither
-fails_call : (P : ℕ → ValueType → Type 0) (a : Action Value) (s : Sort) (k : Kind) → CanFail a k → refs.Suits P (Asks a s) (Fails k)
+fails_call : (P : ℕ → ValueType → Type 0) (a : Action Value) (s : Sort) (k : Kind) →
+    CanFail a k →
+    refs.Suits P (Asks a s) (Fails k)
 fails_call P (act.ReadField n f) s k u = tt
 fails_call P (act.WriteField n f v) s k u = tt
 fails_call P (act.ReadItem n i) s k u = tt
@@ -68,7 +76,10 @@ fails_call P (act.Call n) s k u = tt
 fails_call P (act.Return n v) s k u = tt
 fails_call P (act.Trap n kind) s k u = tt
 
-suits_call : (P : ℕ → ValueType → Type 0) (a : Action Value) (s : Sort) (y : Answer Value) → Makes s → Suits P (Goes a s) y → refs.Suits P (Asks a s) y
+suits_call : (P : ℕ → ValueType → Type 0) (a : Action Value) (s : Sort) (y : Answer Value) →
+    Makes s →
+    Suits P (Goes a s) y →
+    refs.Suits P (Asks a s) y
 suits_call P a s Done m u = u
 suits_call P a s (Gives v) m u = sort_of_answer P v s m u
 suits_call P a s (Fails k) m u = fails_call P a s k u
@@ -77,7 +88,8 @@ suits_call P a s (Fails k) m u = fails_call P a s k u
 abbrev pub two : (a : Next) (b : Evaluated Value) → Both
 two a b = (a, b)
 
-module _ (P : ℕ → ValueType → Type 0) (file : File) (H : Value → Type 0) (go : Value → Answers → Next) (throw : Kind → Answers → Next) where
+module _ (P : ℕ → ValueType → Type 0) (file : File) (H : Value → Type 0) (go : Value → Answers → Next)
+    (throw : Kind → Answers → Next) where
   -- the value of a call that has ended is as it should be
   abbrev pub EndHas : End → Type 0
   EndHas (Gave v) = H v
@@ -116,7 +128,10 @@ module _ (P : ℕ → ValueType → Type 0) (file : File) (H : Value → Type 0)
     Goes_on : (is : Within f had) → Split f had
     Has_ended : (is : Past f had) → Split f had
 
-  split_same : (f g : Answers → Both) (had : Answers) → ((q : Answers) → length q ≤ length had → f q ≡ g q) → Split g had → Split f had
+  split_same : (f g : Answers → Both) (had : Answers) →
+      ((q : Answers) → length q ≤ length had → f q ≡ g q) →
+      Split g had →
+      Split f had
   split_same f g had e (Goes_on is) = Goes_on (record {
     suited = refs_same P (λ q. (g q).1) (λ q. (f q).1) had (λ q l. ap (λ (z : Both). z.1) (sym (e q l))) is.suited;
     action = is.action;
@@ -129,7 +144,8 @@ module _ (P : ℕ → ValueType → Type 0) (file : File) (H : Value → Type 0)
     end = is.end;
     has = is.has;
     whole = is.whole;
-    suited = refs_same P (λ q. (g q).1) (λ q. (f q).1) is.before (λ q l. ap (λ (z : Both). z.1) (sym (e q (shorter q l)))) is.suited;
+    suited = refs_same P (λ q. (g q).1) (λ q. (f q).1) is.before
+        (λ q l. ap (λ (z : Both). z.1) (sym (e q (shorter q l)))) is.suited;
     call = λ more l. ap (λ (z : Both). z.1) (e (is.before ++ more) (longer more l)) ∙ is.call more l;
     thread = λ more l. ap (λ (z : Both). z.0) (e (is.before ++ more) (longer more l)) ∙ is.thread more l;
   })
@@ -143,7 +159,12 @@ module _ (P : ℕ → ValueType → Type 0) (file : File) (H : Value → Type 0)
       longer : (more : Answers) → length more ≤ length is.rest → length (is.before ++ more) ≤ length had
       longer more l = let e = length-append is.before more in omega (arith, l, all, e)
 
-  split_more : (f : Answers → Both) (a : Action Value) (s : Sort) (y : Answer Value) (rest : Answers) → f [] ≡ two (Goes a s) (Asks a s) → Makes s → Suits P (Goes a s) y → Split (λ q. f (y ∷ q)) rest → Split f (y ∷ rest)
+  split_more : (f : Answers → Both) (a : Action Value) (s : Sort) (y : Answer Value) (rest : Answers) →
+      f [] ≡ two (Goes a s) (Asks a s) →
+      Makes s →
+      Suits P (Goes a s) y →
+      Split (λ q. f (y ∷ q)) rest →
+      Split f (y ∷ rest)
   split_more f a s y rest e m u (Goes_on is) = Goes_on (record {
     suited = (subst (λ (z : Both). refs.Suits P z.1 y) (sym e) (suits_call P a s y m u), is.suited);
     action = is.action;
@@ -168,12 +189,19 @@ module _ (P : ℕ → ValueType → Type 0) (file : File) (H : Value → Type 0)
     Shown = λ f had. Suited P (λ q. (f q).0) had → Split f had;
     Fits = λ a s. Unit {0};
     fits = λ a s h. tt;
-    same = λ f g had e s u. split_same f g had e (s (suited_same P (λ q. (f q).0) (λ q. (g q).0) had (λ q l. ap (λ (z : Both). z.0) (e q l)) u));
+    same = λ f g had e s u.
+        split_same f g had e
+        (s (suited_same P (λ q. (f q).0) (λ q. (g q).0) had (λ q l. ap (λ (z : Both). z.0) (e q l)) u));
     at_end = λ f a s e has u. Goes_on (record { suited = tt; action = a; sort = s; asks = ap (λ (z : Both). z.1) e });
-    at_more = λ f a s y rest e m k u. let here : Suits P (Goes a s) y = subst (λ (z : Both). Suits P z.0 y) e u.0 in split_more f a s y rest e m here (k here u.1);
+    at_more = λ f a s y rest e m k u. let here : Suits P (Goes a s) y = subst (λ (z : Both). Suits P z.0 y) e u.0 in
+        split_more f a s y rest e m here (k here u.1);
   }
 
-  ended : (end : End) → EndHas end → (f : Answers → Both) → ((q : Answers) → f q ≡ two (thread_end end q) (call_end end q)) → Sure P file split_way f
+  ended : (end : End) →
+      EndHas end →
+      (f : Answers → Both) →
+      ((q : Answers) → f q ≡ two (thread_end end q) (call_end end q)) →
+      Sure P file split_way f
   ended end has f e = record {
     is = λ had u. Has_ended (record {
       before = [];
@@ -191,18 +219,27 @@ module _ (P : ℕ → ValueType → Type 0) (file : File) (H : Value → Type 0)
   abbrev pub both_of : Evaluated Value → Both
   both_of x = (then_next x go throw, x)
 
-  both_ends : (x : Evaluated Value) → both_of x ≡ ends (λ a s. two (Goes a s) (Asks a s)) x (λ v q. two (go v q) (Results v q)) (λ k q. two (throw k q) (Throws k q))
+  both_ends : (x : Evaluated Value) →
+      both_of x ≡ ends (λ a s. two (Goes a s) (Asks a s)) x (λ v q. two (go v q) (Results v q))
+      (λ k q. two (throw k q) (Throws k q))
   both_ends (Asks a s) = refl
   both_ends (Results v q) = refl
   both_ends (Throws k q) = refl
 
 -- a call of a typed method in a thread
-pub split_of : (P : ℕ → ValueType → Type 0) (null : (n : ℕ) (t : ValueType) → n ≡ 0 → P n t) (file : File) → IsTypedFile file → (depth n : ℕ) (m : Method) (o : Value) (vs : List Value) (go : Value → Answers → Next) (throw : Kind → Answers → Next) (had : Answers) →
-    slice_get file.methods n ≡ Some m → HasType P o (types.Class m.class) → HaveTypes P (parameters_of m) vs → Suited P (λ q. then_next (invoke file depth n (o ∷ vs) q) go throw) had →
-    Split P file (HasSort P (answer_sort m.result)) go throw (λ q. both_of P file (HasSort P (answer_sort m.result)) go throw (invoke file depth n (o ∷ vs) q)) had
+pub split_of : (P : ℕ → ValueType → Type 0) (null : (n : ℕ) (t : ValueType) → n ≡ 0 → P n t) (file : File) →
+    IsTypedFile file →
+    (depth n : ℕ) (m : Method) (o : Value) (vs : List Value) (go : Value → Answers → Next)
+    (throw : Kind → Answers → Next) (had : Answers) →
+    slice_get file.methods n ≡ Some m → HasType P o (types.Class m.class) → HaveTypes P (parameters_of m) vs →
+    Suited P (λ q. then_next (invoke file depth n (o ∷ vs) q) go throw) had →
+    Split P file (HasSort P (answer_sort m.result)) go throw
+    (λ q. both_of P file (HasSort P (answer_sort m.result)) go throw (invoke file depth n (o ∷ vs) q)) had
 split_of P null file t depth n m o vs go throw had found ho hvs u =
     let H = HasSort P (answer_sort m.result) in
     let w = split_way P file H go throw in
     (sure_same P file w _ _ (λ q. both_ends P file H go throw (invoke file depth n (o ∷ vs) q))
-    ((calls_good P null file w t depth n m o vs found ho hvs).good (λ v q. two (go v q) (Results v q)) (λ k q. two (throw k q) (Throws k q))
-    (λ v hv. ended P file H go throw (Gave v) hv _ (λ q. refl)) (λ k. ended P file H go throw (Threw k) tt _ (λ q. refl)))).is had u
+    ((calls_good P null file w t depth n m o vs found ho hvs).good (λ v q. two (go v q) (Results v q))
+    (λ k q. two (throw k q) (Throws k q))
+    (λ v hv. ended P file H go throw (Gave v) hv _ (λ q. refl))
+    (λ k. ended P file H go throw (Threw k) tt _ (λ q. refl)))).is had u

@@ -93,7 +93,10 @@ module _ (P : ℕ → ValueType → Type 0) where
   pair_reference (Pair n b) c h = h
 
   -- the n-th of values of their types
-  pub value_at : (ts : List ValueType) (vs : List Value) (i : ℕ) (t : ValueType) → HaveTypes P ts vs → slice_get ts i ≡ Some t → HasType P (slice_index_or vs i nothing) t
+  pub value_at : (ts : List ValueType) (vs : List Value) (i : ℕ) (t : ValueType) →
+      HaveTypes P ts vs →
+      slice_get ts i ≡ Some t →
+      HasType P (slice_index_or vs i nothing) t
   value_at [] vs i t h e = absurd (none e)
     where
       none : None ≡ Some t → ⊥

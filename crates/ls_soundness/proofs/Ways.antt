@@ -8,7 +8,10 @@ use Rattle.ls_events.specs.declared.value.Value.{Value}
 use Rattle.ls_events.specs.declared.value.ValueType.{ValueType}
 use Rattle.ls_events.specs.declared.value.ValueType.TheVariants as types
 use Rattle.ls_events.specs.declared.action.Action.{Action}
-use Rattle.ls_events.specs.declared.action.Action.TheVariants.{ReadField, WriteField, ReadItem, WriteItem, New, NewLock, NewMarkable, NewArray, Lock, Unlock, TryLock, IsHeld, LockMonitor, UnlockMonitor, ReadPair, SetPair, SwapPair, AttemptMark, Turn, Enter}
+use Rattle.ls_events.specs.declared.action.Action.TheVariants.{ReadField, WriteField, ReadItem, WriteItem, New, NewLock}
+use Rattle.ls_events.specs.declared.action.Action.TheVariants.{NewMarkable, NewArray, Lock, Unlock, TryLock, IsHeld}
+use Rattle.ls_events.specs.declared.action.Action.TheVariants.{LockMonitor, UnlockMonitor, ReadPair, SetPair, SwapPair}
+use Rattle.ls_events.specs.declared.action.Action.TheVariants.{AttemptMark, Turn, Enter}
 use Rattle.ls_events.specs.declared.action.Answer.{Answer}
 use Rattle.ls_events.specs.declared.action.Answer.TheVariants.{Done, Gives, Fails}
 use Rattle.ls_checked.specs.CheckedTree.{File, Method}
@@ -28,11 +31,14 @@ IsThing P n t = (n ≢ 0) × P n t
 
 -- what a method's body asks for, on things and values of the right types
 abbrev pub HasAction : (ℕ → ValueType → Type 0) → File → Action Value → Sort → Type 0
-HasAction P file (ReadField n f) s = (c : ℕ) × (t : ValueType) × IsThing P n (types.Class c) × (slice_get (fields_of file.classes c) f ≡ Some t) × (s ≡ ValueOf t)
-HasAction P file (WriteField n f v) s = (c : ℕ) × (t : ValueType) × IsThing P n (types.Class c) × (slice_get (fields_of file.classes c) f ≡ Some t) × HasType P v t × (s ≡ NoValue)
+HasAction P file (ReadField n f) s = (c : ℕ) × (t : ValueType) × IsThing P n (types.Class c) ×
+    (slice_get (fields_of file.classes c) f ≡ Some t) × (s ≡ ValueOf t)
+HasAction P file (WriteField n f v) s = (c : ℕ) × (t : ValueType) × IsThing P n (types.Class c) ×
+    (slice_get (fields_of file.classes c) f ≡ Some t) × HasType P v t × (s ≡ NoValue)
 HasAction P file (ReadItem n i) s = IsThing P n types.BooleanArray × (s ≡ ValueOf types.Boolean)
 HasAction P file (WriteItem n i v) s = IsThing P n types.BooleanArray × HasType P v types.Boolean × (s ≡ NoValue)
-HasAction P file (New c) s = (n : ℕ) × (m : Method) × (slice_get file.methods n ≡ Some m) × (m.class ≡ c) × (s ≡ NewOf (types.Class c))
+HasAction P file (New c) s = (n : ℕ) × (m : Method) × (slice_get file.methods n ≡ Some m) × (m.class ≡ c) ×
+    (s ≡ NewOf (types.Class c))
 HasAction P file NewLock s = s ≡ NewOf types.Lock
 HasAction P file (NewMarkable v) s = (c : ℕ) × HasSortBy P v (PairOf c) × (s ≡ NewOf (types.Markable c))
 HasAction P file (NewArray z) s = (n : ℕ) × (z ≡ pos n) × (s ≡ NewOf types.BooleanArray)
@@ -44,8 +50,10 @@ HasAction P file (LockMonitor n) s = (c : ℕ) × IsThing P n (types.Class c) ×
 HasAction P file (UnlockMonitor n) s = (c : ℕ) × IsThing P n (types.Class c) × (s ≡ NoValue)
 HasAction P file (ReadPair n) s = (c : ℕ) × IsThing P n (types.Markable c) × (s ≡ PairOf c)
 HasAction P file (SetPair n v) s = (c : ℕ) × IsThing P n (types.Markable c) × HasSortBy P v (PairOf c) × (s ≡ NoValue)
-HasAction P file (SwapPair n e d) s = (c : ℕ) × IsThing P n (types.Markable c) × HasSortBy P e (PairOf c) × HasSortBy P d (PairOf c) × (s ≡ ValueOf types.Boolean)
-HasAction P file (AttemptMark n r m) s = (c : ℕ) × IsThing P n (types.Markable c) × P r (types.Class c) × (s ≡ ValueOf types.Boolean)
+HasAction P file (SwapPair n e d) s = (c : ℕ) × IsThing P n (types.Markable c) × HasSortBy P e (PairOf c) ×
+    HasSortBy P d (PairOf c) × (s ≡ ValueOf types.Boolean)
+HasAction P file (AttemptMark n r m) s = (c : ℕ) × IsThing P n (types.Markable c) × P r (types.Class c) ×
+    (s ≡ ValueOf types.Boolean)
 HasAction P file Turn s = s ≡ NoValue
 HasAction P file (Enter m) s = s ≡ NoValue
 HasAction P file _ s = ⊥
@@ -59,9 +67,16 @@ pub record Way (P : ℕ → ValueType → Type 0) (file : File) : Type 1 where
   pub Shown : (Answers → Left) → Answers → Type 0
   pub Fits : Action Value → Sort → Type 0
   pub fits : (a : Action Value) (s : Sort) → HasAction P file a s → Fits a s
-  pub same : (f g : Answers → Left) (had : Answers) → ((q : Answers) → length q ≤ length had → f q ≡ g q) → Shown g had → Shown f had
+  pub same : (f g : Answers → Left) (had : Answers) →
+      ((q : Answers) → length q ≤ length had → f q ≡ g q) →
+      Shown g had →
+      Shown f had
   pub at_end : (f : Answers → Left) (a : Action Value) (s : Sort) → f [] ≡ asks a s → Fits a s → Shown f []
-  pub at_more : (f : Answers → Left) (a : Action Value) (s : Sort) (y : Answer Value) (rest : Answers) → f [] ≡ asks a s → Makes s → (Suits P (Goes a s) y → Shown (λ q. f (y ∷ q)) rest) → Shown f (y ∷ rest)
+  pub at_more : (f : Answers → Left) (a : Action Value) (s : Sort) (y : Answer Value) (rest : Answers) →
+      f [] ≡ asks a s →
+      Makes s →
+      (Suits P (Goes a s) y → Shown (λ q. f (y ∷ q)) rest) →
+      Shown f (y ∷ rest)
 
 differ : (n : ℕ) → nat_eq n 0 ≡ false → n ≢ 0
 differ n e z = grind (arith, common_steps, e, z)
@@ -77,7 +92,10 @@ module _ (P : ℕ → ValueType → Type 0) (file : File) (w : Way P file) where
 
   -- an expression whose results have H
   pub record Good {A : Type 0} (H : A → Type 0) (x : Answers → Evaluated A) : Type 0 where
-    pub good : (go : A → Answers → w.Left) (h : Kind → Answers → w.Left) → ((v : A) → H v → Sure (go v)) → ((k : Kind) → Sure (h k)) → Sure (λ q. ends w.asks (x q) go h)
+    pub good : (go : A → Answers → w.Left) (h : Kind → Answers → w.Left) →
+        ((v : A) → H v → Sure (go v)) →
+        ((k : Kind) → Sure (h k)) →
+        Sure (λ q. ends w.asks (x q) go h)
 
   -- a result that has H
   pub results_good : {A : Type 0} (H : A → Type 0) (v : A) → H v → Good H (λ q. Results v q)
@@ -88,9 +106,14 @@ module _ (P : ℕ → ValueType → Type 0) (file : File) (w : Way P file) where
   throws_good H k = record { good = λ go h kg kh. kh k }
 
   -- one expression, and then another with its result
-  pub then_good : {A B : Type 0} (H : A → Type 0) (K : B → Type 0) (x : Answers → Evaluated A) (g : A → Answers → Evaluated B) → Good H x → ((v : A) → H v → Good K (λ q. g v q)) → Good K (λ q. with_value (x q) g)
+  pub then_good : {A B : Type 0} (H : A → Type 0) (K : B → Type 0) (x : Answers → Evaluated A)
+      (g : A → Answers → Evaluated B) →
+      Good H x →
+      ((v : A) → H v → Good K (λ q. g v q)) →
+      Good K (λ q. with_value (x q) g)
   then_good H K x g a f = record {
-    good = λ go h kg kh. sure_same _ _ (λ q. ends_with w.asks (x q) g go h) (a.good (λ v q. ends w.asks (g v q) go h) h (λ v hv. (f v hv).good go h kg kh) kh);
+    good = λ go h kg kh. sure_same _ _ (λ q. ends_with w.asks (x q) g go h)
+        (a.good (λ v q. ends w.asks (g v q) go h) h (λ v hv. (f v hv).good go h kg kh) kh);
   }
 
   -- if H is enough for K, results that have H have K
@@ -101,10 +124,16 @@ module _ (P : ℕ → ValueType → Type 0) (file : File) (w : Way P file) where
   pub ask_fits : (a : Action Value) (s : Sort) → Makes s → w.Fits a s → Good (HasSort P s) (λ q. ask a s q)
   ask_fits a s m has = record { good = λ go h kg kh. record { is = asked go h kg kh } }
     where
-      asked : (go : Value → Answers → w.Left) (h : Kind → Answers → w.Left) → ((v : Value) → HasSort P s v → Sure (go v)) → ((k : Kind) → Sure (h k)) → (had : Answers) → w.Shown (λ q. ends w.asks (ask a s q) go h) had
+      asked : (go : Value → Answers → w.Left) (h : Kind → Answers → w.Left) →
+          ((v : Value) → HasSort P s v → Sure (go v)) →
+          ((k : Kind) → Sure (h k)) →
+          (had : Answers) →
+          w.Shown (λ q. ends w.asks (ask a s q) go h) had
       asked go h kg kh [] = w.at_end _ a s refl has
-      asked go h kg kh (Done ∷ rest) = w.at_more _ a s Done rest refl m (λ e. (kg nothing (subst (λ r. HasSort P r nothing) (sym e) refl)).is rest)
-      asked go h kg kh (Gives v ∷ rest) = w.at_more _ a s (Gives v) rest refl m (λ u. (kg v (sort_of_answer P v s m u)).is rest)
+      asked go h kg kh (Done ∷ rest) = w.at_more _ a s Done rest refl m
+          (λ e. (kg nothing (subst (λ r. HasSort P r nothing) (sym e) refl)).is rest)
+      asked go h kg kh (Gives v ∷ rest) = w.at_more _ a s (Gives v) rest refl m
+          (λ u. (kg v (sort_of_answer P v s m u)).is rest)
       asked go h kg kh (Fails k ∷ rest) = w.at_more _ a s (Fails k) rest refl m (λ u. (kh k).is rest)
 
   -- one action of the right types, and its answer
@@ -115,18 +144,27 @@ module _ (P : ℕ → ValueType → Type 0) (file : File) (w : Way P file) where
   pub tell_fits : (a : Action Value) → w.Fits a NoValue → Good (λ v. Unit {0}) (λ q. tell a q)
   tell_fits a has = record { good = λ go h kg kh. record { is = told go h kg } }
     where
-      told : (go : Value → Answers → w.Left) (h : Kind → Answers → w.Left) → ((v : Value) → Unit {0} → Sure (go v)) → (had : Answers) → w.Shown (λ q. ends w.asks (tell a q) go h) had
+      told : (go : Value → Answers → w.Left) (h : Kind → Answers → w.Left) →
+          ((v : Value) → Unit {0} → Sure (go v)) →
+          (had : Answers) →
+          w.Shown (λ q. ends w.asks (tell a q) go h) had
       told go h kg [] = w.at_end _ a NoValue refl has
       told go h kg (y ∷ rest) = w.at_more _ a NoValue y rest refl tt (λ u. (kg nothing tt).is rest)
 
   -- one of two expressions, by a test
-  pub either_good : {A : Type 0} (H : A → Type 0) (b : Bool) (x y : Answers → Evaluated A) → (b ≡ true → Good H x) → (b ≡ false → Good H y) → Good H (λ q. cond b (x q) (y q))
+  pub either_good : {A : Type 0} (H : A → Type 0) (b : Bool) (x y : Answers → Evaluated A) →
+      (b ≡ true → Good H x) →
+      (b ≡ false → Good H y) →
+      Good H (λ q. cond b (x q) (y q))
   either_good H true x y f g = f refl
   either_good H false x y f g = g refl
 
   -- an expression, unless a reference is null
-  pub null_good : {A : Type 0} (H : A → Type 0) (n : ℕ) (x : Answers → Evaluated A) → (n ≢ 0 → Good H x) → Good H (λ q. unless_null n q (x q))
-  null_good H n x a = either_good H (nat_eq n 0) (λ q. Throws NullPointer q) x (λ e. throws_good H NullPointer) (λ e. a (differ n e))
+  pub null_good : {A : Type 0} (H : A → Type 0) (n : ℕ) (x : Answers → Evaluated A) →
+      (n ≢ 0 → Good H x) →
+      Good H (λ q. unless_null n q (x q))
+  null_good H n x a = either_good H (nat_eq n 0) (λ q. Throws NullPointer q) x (λ e. throws_good H NullPointer)
+      (λ e. a (differ n e))
 
   -- the same under another name of the sort
   pub resort : (s r : Sort) (x : Answers → Evaluated Value) → s ≡ r → Good (HasSort P r) x → Good (HasSort P s) x

@@ -1,12 +1,15 @@
 -- The calls that a thread has left.
-use Rattle.std.proofs.Common.{◌≡◌, ℕ, zero, suc, None, arith, ◌+◌, ◌<◌, ◌≤◌, List, [], ◌∷◌, length, drop, map, get_or, refl, sym, ap, subst, ◌∙◌}
+use Rattle.std.proofs.Common.{◌≡◌, ℕ, zero, suc, None, arith, ◌+◌, ◌<◌, ◌≤◌, List, [], ◌∷◌, length, drop, map, get_or}
+use Rattle.std.proofs.Common.{refl, sym, ap, subst, ◌∙◌}
 use Rattle.std.proofs.lemmas.List.{drop_more, length-map, get_or-map, drop_all}
 use Rattle.ls_checked.specs.declared.program.ProgramCall.{ProgramCall}
 use Rattle.ls_checked.specs.PlainProgram.{plain_call}
 use Rattle.ls_source.specs.Calls.{asked_at_start}
 
 -- the next of the calls that are left
-pub one_left : (cs : List ProgramCall) (n : ℕ) (d : ProgramCall) → n < length cs → drop n (map plain_call cs) ≡ plain_call (get_or cs n d) ∷ drop (n + 1) (map plain_call cs)
+pub one_left : (cs : List ProgramCall) (n : ℕ) (d : ProgramCall) →
+    n < length cs →
+    drop n (map plain_call cs) ≡ plain_call (get_or cs n d) ∷ drop (n + 1) (map plain_call cs)
 one_left cs n d h =
     drop_more (map plain_call cs) n (plain_call d) (subst (λ k. n < k) (sym (length-map cs plain_call)) h)
     ∙ ap (λ c. c ∷ drop (n + 1) (map plain_call cs)) (get_or-map plain_call cs n d (plain_call d) h)

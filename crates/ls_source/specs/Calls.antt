@@ -4,7 +4,8 @@ use Rattle.ls_events.specs.declared.value.Value.{Value}
 use Rattle.ls_events.specs.declared.value.ValueType.TheVariants as types
 use Rattle.ls_events.specs.declared.kind.Kind.{Kind}
 use Rattle.ls_events.specs.declared.kind.Kind.TheVariants.{NullPointer}
-use Rattle.ls_events.specs.declared.action.Action.TheVariants.{ReadName, WriteName, New, Call, Return, Trap, Enter, Turn}
+use Rattle.ls_events.specs.declared.action.Action.TheVariants.{ReadName, WriteName, New, Call, Return, Trap, Enter}
+use Rattle.ls_events.specs.declared.action.Action.TheVariants.{Turn}
 use Rattle.ls_events.specs.declared.action.Answer.{Answer}
 use Rattle.ls_events.specs.declared.action.Answer.TheVariants as answers
 use Rattle.ls_checked.specs.CheckedTree.{File}
@@ -49,7 +50,8 @@ naming name o q = with_value (tell (WriteName name o) q) (λ _ rest. Results Non
 
 abbrev pub after_work : File → Program → ℕ → List ProgramCall → Bottom → Rest
 after_work file program n cs (OfMaking name o) d ls (OfValue v) q = then_calls file program n cs (naming name o q)
-after_work file program n cs (OfCalling m) d ls (OfValue v) q = then_calls file program n cs (Results (result_of file m v) q)
+after_work file program n cs (OfCalling m) d ls (OfValue v) q = then_calls file program n cs
+    (Results (result_of file m v) q)
 after_work file program n cs b d ls (OfEnd Normal) q = Trapped
 after_work file program n cs b d ls (OfEnd (Broke m)) q = Trapped
 after_work file program n cs b d ls (OfEnd (Continued m)) q = Trapped
@@ -62,15 +64,18 @@ made file name c values o q =
 
 abbrev pub fetched : File → ℕ → List Value → Value → Answers → Evaluated (Option Value)
 fetched file m values o q =
-    unless_null (reference_of o) q (with_value (invoke file depth_limit m (o ∷ values) q) (λ v rest. Results (result_of file m v) rest))
+    unless_null (reference_of o) q (with_value (invoke file depth_limit m (o ∷ values) q)
+    (λ v rest. Results (result_of file m v) rest))
 
 abbrev pub phase_meaning : File → Program → ℕ → List ProgramCall → Phase → Answers → Next
 phase_meaning file program n cs Starts q = all_calls file program (n + 1) cs q
 phase_meaning file program n cs (Announces c) q = then_calls file program n cs (one_call file program n c q)
 phase_meaning file program n cs (Makes name c values) q =
-    then_calls file program n cs (with_value (ask (New c) (NewOf (types.Class c)) q) (λ o rest. made file name c values o rest))
+    then_calls file program n cs (with_value (ask (New c) (NewOf (types.Class c)) q)
+    (λ o rest. made file name c values o rest))
 phase_meaning file program n cs (Fetches name m values) q =
-    then_calls file program n cs (with_value (ask (ReadName name) (named program name) q) (λ o rest. fetched file m values o rest))
+    then_calls file program n cs (with_value (ask (ReadName name) (named program name) q)
+    (λ o rest. fetched file m values o rest))
 phase_meaning file program n cs (Works b work) q = meaning file (after_work file program n cs b) work q
 phase_meaning file program n cs (Names name o) q = then_calls file program n cs (naming name o q)
 phase_meaning file program n cs (ReturnsWith v) q = then_calls file program n cs (Results v q)
@@ -112,12 +117,15 @@ finished file t = record { number = t.number; left = t.left; phase = finished_ph
 
 -- an answer is taken
 abbrev pub object_made : File → ℕ → ℕ → List Value → Answer Value → Phase
-object_made file name c values answers.Done = Works (OfMaking name nothing) (at (Invokes (constructor_of file.classes c) (nothing ∷ values)) [] [] depth_limit)
-object_made file name c values (answers.Gives o) = Works (OfMaking name o) (at (Invokes (constructor_of file.classes c) (o ∷ values)) [] [] depth_limit)
+object_made file name c values answers.Done = Works (OfMaking name nothing)
+    (at (Invokes (constructor_of file.classes c) (nothing ∷ values)) [] [] depth_limit)
+object_made file name c values (answers.Gives o) = Works (OfMaking name o)
+    (at (Invokes (constructor_of file.classes c) (o ∷ values)) [] [] depth_limit)
 object_made file name c values (answers.Fails kind) = TrapsWith kind
 
 abbrev pub entered : File → ℕ → List Value → Value → Phase
-entered file m values o = if nat_eq (reference_of o) 0 then TrapsWith NullPointer else Works (OfCalling m) (at (Invokes m (o ∷ values)) [] [] depth_limit)
+entered file m values o = if nat_eq (reference_of o) 0 then TrapsWith NullPointer else
+    Works (OfCalling m) (at (Invokes m (o ∷ values)) [] [] depth_limit)
 
 abbrev pub object_fetched : File → ℕ → List Value → Answer Value → Phase
 object_fetched file m values answers.Done = entered file m values nothing

@@ -16,7 +16,8 @@ means file program (Some t) q = thread_meaning file program t q
 -- the work of each thread means what the thread does after the answers that it has had
 abbrev pub IsKept : File → Program → List Thread → List Answers → Type 0
 IsKept file program threads answers =
-    (i : ℕ) (q : Answers) → means file program (slice_get threads i) q ≡ next file program i (slice_index_or answers i [] ++ q)
+    (i : ℕ) (q : Answers) → means file program (slice_get threads i) q ≡ next file program i
+    (slice_index_or answers i [] ++ q)
 
 -- what a thread asks for, if no move is left
 abbrev pub asked_at : Program → Option Thread → Option Next

@@ -30,7 +30,8 @@ phase_of phases.Starts work = calls.Starts
 phase_of (phases.Announces c) work = calls.Announces (plain_call c.now)
 phase_of (phases.Makes name class values) work = calls.Makes name class values.now
 phase_of (phases.Fetches name m values) work = calls.Fetches name m values.now
-phase_of (phases.Begins b m o values) work = calls.Works (bottom_of b) (at (Invokes m (o ∷ values.now)) [] [] depth_limit)
+phase_of (phases.Begins b m o values) work = calls.Works (bottom_of b)
+    (at (Invokes m (o ∷ values.now)) [] [] depth_limit)
 phase_of (phases.Works b) work = calls.Works (bottom_of b) work
 phase_of (phases.Names name o) work = calls.Names name o
 phase_of (phases.ReturnsWith v) work = calls.ReturnsWith v

@@ -1,18 +1,35 @@
 -- A measure of pending work, which each move makes less. So after finitely many moves an answer is waited for, or the
 -- work is done.
-use Rattle.std.proofs.Common.{◌≡◌, ℕ, zero, suc, ◌+◌, ◌<◌, ◌≤◌, Bool, true, false, cond, List, [], ◌∷◌, Option, Some, None, arith}
+use Rattle.std.proofs.Common.{◌≡◌, ℕ, zero, suc, ◌+◌, ◌<◌, ◌≤◌, Bool, true, false, cond, List, [], ◌∷◌, Option, Some}
+use Rattle.std.proofs.Common.{None, arith}
 use Rattle.std.specs.Prelude.{nat_eq, pos, int_lt, slice_get}
 use Rattle.ls_events.specs.declared.value.Value.{Value}
 use Rattle.ls_events.specs.declared.value.ValueType.{ValueType}
 use Rattle.ls_checked.specs.declared.tree.Operator.{Operator}
 use Rattle.ls_checked.specs.declared.tree.Called.{Called}
-use Rattle.ls_checked.specs.declared.tree.Called.TheVariants.{Method as OfMethod, LockIt, UnlockIt, TryIt, AskIt, HoldMonitor, FreeMonitor, GetReference, IsMarked, GetBoth, SetBoth, CompareAndSet, Attempt}
-use Rattle.ls_checked.specs.CheckedTree.{Method, File, Expression, Literal, Slot, Field, Item, Negate, Not, Binary, And, Or, Call, MakeObject, MakeLock, MakeMarkable, MakeArray, Expressions, End, More, Statement, Block, SetSlot, SetField, AddField, SetItem, Evaluate, If, While, Break, Continue, ReturnNothing, ReturnValue, Try, Statements, Done, Then}
+use Rattle.ls_checked.specs.declared.tree.Called.TheVariants.{Method as OfMethod, LockIt, UnlockIt, TryIt, AskIt}
+use Rattle.ls_checked.specs.declared.tree.Called.TheVariants.{HoldMonitor, FreeMonitor, GetReference, IsMarked, GetBoth}
+use Rattle.ls_checked.specs.declared.tree.Called.TheVariants.{SetBoth, CompareAndSet, Attempt}
+use Rattle.ls_checked.specs.CheckedTree.{Method, File, Expression, Literal, Slot, Field, Item, Negate, Not, Binary, And}
+use Rattle.ls_checked.specs.CheckedTree.{Or, Call, MakeObject, MakeLock, MakeMarkable, MakeArray, Expressions, End}
+use Rattle.ls_checked.specs.CheckedTree.{More, Statement, Block, SetSlot, SetField, AddField, SetItem, Evaluate, If}
+use Rattle.ls_checked.specs.CheckedTree.{While, Break, Continue, ReturnNothing, ReturnValue, Try, Statements, Done}
+use Rattle.ls_checked.specs.CheckedTree.{Then}
 use Rattle.ls_meaning.specs.declared.completion.Completion.{Completion}
 use Rattle.ls_meaning.specs.declared.completion.Completion.TheVariants.{Normal, Broke, Continued, Returned, Threw}
 use Rattle.ls_meaning.specs.Values.{int_of, truth_of, reference_of, divides_by_zero}
-use Rattle.ls_source_pending.specs.Pending.{Purpose, ToCall, ToMake, ToMark, Operand, InField, InItem, InIndex, InNegate, InNot, InLength, InLeft, InRight, InAnd, InOr, InTarget, InArgument, InMade, InConstructor, InReference, InMark, InBoth, InWritten, Waiting, ToSlot, ToTarget, ToField, ToCounter, ToAddend, ToSum, ToArray, ToIndex, ToItem, ToNothing, ToIf, ToTest, ToReturn, Ending, OfSequence, OfBody, OfTry, OfFinally, Frame, In, On, Up, Leaves, Control, Evaluates, Argues, Applies, Invokes, Opens, Executes, Runs, Loops, Gives, Ends, Asks, Enters, Turns, State}
-use Rattle.ls_source_pending.specs.Machine.{known, on_argument, on_right, on_left, on_target, on_called, on_written, evaluating, arguing, calling, applying, opening, filling, going_on, giving, executing, running, if_normal, after_loop, leaving, closing, ending, move, moved, is_left}
+use Rattle.ls_source_pending.specs.Pending.{Purpose, ToCall, ToMake, ToMark, Operand, InField, InItem, InIndex}
+use Rattle.ls_source_pending.specs.Pending.{InNegate, InNot, InLength, InLeft, InRight, InAnd, InOr, InTarget}
+use Rattle.ls_source_pending.specs.Pending.{InArgument, InMade, InConstructor, InReference, InMark, InBoth, InWritten}
+use Rattle.ls_source_pending.specs.Pending.{Waiting, ToSlot, ToTarget, ToField, ToCounter, ToAddend, ToSum, ToArray}
+use Rattle.ls_source_pending.specs.Pending.{ToIndex, ToItem, ToNothing, ToIf, ToTest, ToReturn, Ending, OfSequence}
+use Rattle.ls_source_pending.specs.Pending.{OfBody, OfTry, OfFinally, Frame, In, On, Up, Leaves, Control, Evaluates}
+use Rattle.ls_source_pending.specs.Pending.{Argues, Applies, Invokes, Opens, Executes, Runs, Loops, Gives, Ends, Asks}
+use Rattle.ls_source_pending.specs.Pending.{Enters, Turns, State}
+use Rattle.ls_source_pending.specs.Machine.{known, on_argument, on_right, on_left, on_target, on_called, on_written}
+use Rattle.ls_source_pending.specs.Machine.{evaluating, arguing, calling, applying, opening, filling, going_on, giving}
+use Rattle.ls_source_pending.specs.Machine.{executing, running, if_normal, after_loop, leaving, closing, ending, move}
+use Rattle.ls_source_pending.specs.Machine.{moved, is_left}
 
 abbrev mutual
   pub weight : Expression → ℕ
@@ -210,7 +227,11 @@ ending_loads (OfTry f) = omega arith
 ending_loads (OfFinally reason) = omega arith
 
 module _ (file : File) where
-  by_test : (b : Bool) (c c2 : Control) (m l n : ℕ) → control_load file c ≤ m → control_load file c2 ≤ m → m + l < n → control_load file (cond b c c2) + l < n
+  by_test : (b : Bool) (c c2 : Control) (m l n : ℕ) →
+      control_load file c ≤ m →
+      control_load file c2 ≤ m →
+      m + l < n →
+      control_load file (cond b c c2) + l < n
   by_test true c c2 m l n h g k = omega arith
   by_test false c c2 m l n h g k = omega arith
 
@@ -218,27 +239,39 @@ module _ (file : File) where
   chosen_state true s t n h g = h
   chosen_state false s t n h g = g
 
-  right_less : (o : Option Value) (op : Operator) (x : Value) (b : Expression) (fs : List Frame) (ls : List Value) (d : ℕ) → burden file (on_right o op x b fs ls d) < weight b + 2 + load fs
+  right_less : (o : Option Value) (op : Operator) (x : Value) (b : Expression) (fs : List Frame) (ls : List Value)
+      (d : ℕ) →
+      burden file (on_right o op x b fs ls d) < weight b + 2 + load fs
   right_less None op x b fs ls d = omega arith
-  right_less (Some y) op x b fs ls d = by_test (divides_by_zero op y) _ _ 1 (load fs) _ (omega arith) (omega arith) (omega (arith, two b))
+  right_less (Some y) op x b fs ls d = by_test (divides_by_zero op y) _ _ 1 (load fs) _ (omega arith) (omega arith)
+      (omega (arith, two b))
 
-  left_less : (o : Option Value) (op : Operator) (a b : Expression) (fs : List Frame) (ls : List Value) (d : ℕ) → burden file (on_left o op a b fs ls d) < weight a + weight b + 2 + load fs
+  left_less : (o : Option Value) (op : Operator) (a b : Expression) (fs : List Frame) (ls : List Value) (d : ℕ) →
+      burden file (on_left o op a b fs ls d) < weight a + weight b + 2 + load fs
   left_less None op a b fs ls d = omega arith
-  left_less (Some x) op a b fs ls d = let r : burden file (on_right (known b ls) op x b fs ls d) < weight b + 2 + load fs = right_less (known b ls) op x b fs ls d in omega (arith, two a)
+  left_less (Some x) op a b fs ls d = let r : burden file (on_right (known b ls) op x b fs ls d) < weight b + 2 + load
+      fs = right_less (known b ls) op x b fs ls d in omega (arith, two a)
 
-  target_less : (o : Option Value) (e : Expression) (c f : ℕ) (fs : List Frame) (ls : List Value) (d : ℕ) → burden file (on_target file.classes o e c f fs ls d) < weight e + 2 + load fs
+  target_less : (o : Option Value) (e : Expression) (c f : ℕ) (fs : List Frame) (ls : List Value) (d : ℕ) →
+      burden file (on_target file.classes o e c f fs ls d) < weight e + 2 + load fs
   target_less None e c f fs ls d = omega arith
-  target_less (Some v) e c f fs ls d = by_test (nat_eq (reference_of v) 0) _ _ 1 (load fs) _ (omega arith) (omega arith) (omega (arith, two e))
+  target_less (Some v) e c f fs ls d = by_test (nat_eq (reference_of v) 0) _ _ 1 (load fs) _ (omega arith) (omega arith)
+      (omega (arith, two e))
 
-  called_less : (o : Option Value) (e : Expression) (m : Called) (es : Expressions) (fs : List Frame) (ls : List Value) (d : ℕ) → burden file (on_called o e m es fs ls d) < weight e + weight_all es + 2 + load fs
+  called_less : (o : Option Value) (e : Expression) (m : Called) (es : Expressions) (fs : List Frame) (ls : List Value)
+      (d : ℕ) →
+      burden file (on_called o e m es fs ls d) < weight e + weight_all es + 2 + load fs
   called_less None e m es fs ls d = omega arith
   called_less (Some o) e m es fs ls d = omega arith
 
-  written_less : (o : Option Value) (e : Expression) (f : ℕ) (v : Expression) (fs : List Frame) (ls : List Value) (d : ℕ) → burden file (on_written o e f v fs ls d) < weight e + weight v + 3 + load fs
+  written_less : (o : Option Value) (e : Expression) (f : ℕ) (v : Expression) (fs : List Frame) (ls : List Value)
+      (d : ℕ) →
+      burden file (on_written o e f v fs ls d) < weight e + weight v + 3 + load fs
   written_less None e f v fs ls d = omega arith
   written_less (Some o) e f v fs ls d = omega (arith, two e)
 
-  evaluating_less : (e : Expression) (fs : List Frame) (ls : List Value) (d : ℕ) → burden file (evaluating file.classes e fs ls d) < weight e + load fs
+  evaluating_less : (e : Expression) (fs : List Frame) (ls : List Value) (d : ℕ) →
+      burden file (evaluating file.classes e fs ls d) < weight e + load fs
   evaluating_less (Literal v) fs ls d = omega arith
   evaluating_less (Slot n) fs ls d = omega arith
   evaluating_less (Field e c f) fs ls d = target_less (known e ls) e c f fs ls d
@@ -254,15 +287,19 @@ module _ (file : File) where
   evaluating_less (MakeMarkable c es) fs ls d = omega arith
   evaluating_less (MakeArray e) fs ls d = omega arith
 
-  argument_less : (o : Option Value) (e : Expression) (es : Expressions) (p : Purpose) (vs : List Value) (fs : List Frame) (ls : List Value) (d : ℕ) → burden file (on_argument o p vs e es fs ls d) < weight_all (More e es) + 1 + load fs
+  argument_less : (o : Option Value) (e : Expression) (es : Expressions) (p : Purpose) (vs : List Value)
+      (fs : List Frame) (ls : List Value) (d : ℕ) →
+      burden file (on_argument o p vs e es fs ls d) < weight_all (More e es) + 1 + load fs
   argument_less None e es p vs fs ls d = omega arith
   argument_less (Some v) e es p vs fs ls d = omega (arith, two e)
 
-  arguing_less : (es : Expressions) (p : Purpose) (vs : List Value) (fs : List Frame) (ls : List Value) (d : ℕ) → burden file (arguing p vs es fs ls d) < weight_all es + 1 + load fs
+  arguing_less : (es : Expressions) (p : Purpose) (vs : List Value) (fs : List Frame) (ls : List Value) (d : ℕ) →
+      burden file (arguing p vs es fs ls d) < weight_all es + 1 + load fs
   arguing_less End p vs fs ls d = omega arith
   arguing_less (More e es) p vs fs ls d = argument_less (known e ls) e es p vs fs ls d
 
-  calling_less : (m : Called) (o : Value) (vs : List Value) (fs : List Frame) (ls : List Value) (d : ℕ) → burden file (calling m o vs fs ls d) < 5 + load fs
+  calling_less : (m : Called) (o : Value) (vs : List Value) (fs : List Frame) (ls : List Value) (d : ℕ) →
+      burden file (calling m o vs fs ls d) < 5 + load fs
   calling_less (OfMethod m) o vs fs ls d = omega arith
   calling_less LockIt o vs fs ls d = omega arith
   calling_less UnlockIt o vs fs ls d = omega arith
@@ -277,51 +314,69 @@ module _ (file : File) where
   calling_less CompareAndSet o vs fs ls d = omega arith
   calling_less Attempt o vs fs ls d = omega arith
 
-  applying_less : (p : Purpose) (vs : List Value) (fs : List Frame) (ls : List Value) (d : ℕ) → burden file (applying file.classes p vs fs ls d) < 5 + load fs
-  applying_less (ToCall m o) vs fs ls d = chosen_state (nat_eq (reference_of o) 0) _ _ (5 + load fs) (omega arith) (calling_less m o vs fs ls d)
+  applying_less : (p : Purpose) (vs : List Value) (fs : List Frame) (ls : List Value) (d : ℕ) →
+      burden file (applying file.classes p vs fs ls d) < 5 + load fs
+  applying_less (ToCall m o) vs fs ls d = chosen_state (nat_eq (reference_of o) 0) _ _ (5 + load fs) (omega arith)
+      (calling_less m o vs fs ls d)
   applying_less (ToMake c o) vs fs ls d = omega arith
   applying_less (ToMark c) vs fs ls d = omega arith
 
-  filling_less : (f : Operand) (v : Value) (fs : List Frame) (ls : List Value) (d : ℕ) → burden file (filling file.classes f v fs ls d) < 1 + operand_load f + load fs
-  filling_less (InField c f) v fs ls d = by_test (nat_eq (reference_of v) 0) _ _ 1 (load fs) _ (omega arith) (omega arith) (omega arith)
+  filling_less : (f : Operand) (v : Value) (fs : List Frame) (ls : List Value) (d : ℕ) →
+      burden file (filling file.classes f v fs ls d) < 1 + operand_load f + load fs
+  filling_less (InField c f) v fs ls d = by_test (nat_eq (reference_of v) 0) _ _ 1 (load fs) _ (omega arith)
+      (omega arith) (omega arith)
   filling_less (InItem i) v fs ls d = omega arith
-  filling_less (InIndex o) v fs ls d = by_test (nat_eq (reference_of o) 0) _ _ 1 (load fs) _ (omega arith) (omega arith) (omega arith)
+  filling_less (InIndex o) v fs ls d = by_test (nat_eq (reference_of o) 0) _ _ 1 (load fs) _ (omega arith) (omega arith)
+      (omega arith)
   filling_less InNegate v fs ls d = omega arith
   filling_less InNot v fs ls d = omega arith
-  filling_less InLength v fs ls d = by_test (int_lt (int_of v) (pos 0)) _ _ 1 (load fs) _ (omega arith) (omega arith) (omega arith)
-  filling_less (InLeft op b) v fs ls d = let r : burden file (on_right (known b ls) op v b fs ls d) < weight b + 2 + load fs = right_less (known b ls) op v b fs ls d in omega arith
-  filling_less (InRight op x) v fs ls d = by_test (divides_by_zero op v) _ _ 1 (load fs) _ (omega arith) (omega arith) (omega arith)
-  filling_less (InAnd b) v fs ls d = by_test (truth_of v) _ _ (weight b) (load fs) _ (omega arith) (omega (arith, two b)) (omega arith)
-  filling_less (InOr b) v fs ls d = by_test (truth_of v) _ _ (weight b) (load fs) _ (omega (arith, two b)) (omega arith) (omega arith)
+  filling_less InLength v fs ls d = by_test (int_lt (int_of v) (pos 0)) _ _ 1 (load fs) _ (omega arith) (omega arith)
+      (omega arith)
+  filling_less (InLeft op b) v fs ls d = let r : burden file (on_right (known b ls) op v b fs ls d) < weight b + 2 +
+      load fs = right_less (known b ls) op v b fs ls d in omega arith
+  filling_less (InRight op x) v fs ls d = by_test (divides_by_zero op v) _ _ 1 (load fs) _ (omega arith) (omega arith)
+      (omega arith)
+  filling_less (InAnd b) v fs ls d = by_test (truth_of v) _ _ (weight b) (load fs) _ (omega arith)
+      (omega (arith, two b)) (omega arith)
+  filling_less (InOr b) v fs ls d = by_test (truth_of v) _ _ (weight b) (load fs) _ (omega (arith, two b)) (omega arith)
+      (omega arith)
   filling_less (InTarget m es) v fs ls d = omega arith
   filling_less (InArgument p before es) v fs ls d = omega arith
   filling_less (InMade c es) v fs ls d = omega arith
   filling_less (InConstructor o) v fs ls d = omega arith
   filling_less InReference v fs ls d = omega arith
   filling_less InMark v fs ls d = omega arith
-  filling_less (InBoth array) v fs ls d = by_test (nat_eq array 0) _ _ 1 (1 + load fs) _ (omega arith) (omega arith) (omega arith)
+  filling_less (InBoth array) v fs ls d = by_test (nat_eq array 0) _ _ 1 (1 + load fs) _ (omega arith) (omega arith)
+      (omega arith)
   filling_less (InWritten pair) v fs ls d = omega arith
 
   branch_less : (b : Bool) (x y : Statement) → heaviness (cond b x y) < 1 + heaviness x + heaviness y
   branch_less true x y = omega arith
   branch_less false x y = omega arith
 
-  going_less : (f : Waiting) (v : Value) (fs : List Frame) (ls : List Value) (d : ℕ) → burden file (going_on f v fs ls d) < 1 + waiting_load f + load fs
+  going_less : (f : Waiting) (v : Value) (fs : List Frame) (ls : List Value) (d : ℕ) →
+      burden file (going_on f v fs ls d) < 1 + waiting_load f + load fs
   going_less (ToSlot n) v fs ls d = omega arith
   going_less (ToTarget f e) v fs ls d = omega arith
-  going_less (ToField o f) v fs ls d = by_test (nat_eq (reference_of o) 0) _ _ 1 (1 + load fs) _ (omega arith) (omega arith) (omega arith)
-  going_less (ToCounter f e) v fs ls d = by_test (nat_eq (reference_of v) 0) _ _ 1 (weight e + 2 + load fs) _ (omega arith) (omega arith) (omega arith)
+  going_less (ToField o f) v fs ls d = by_test (nat_eq (reference_of o) 0) _ _ 1 (1 + load fs) _ (omega arith)
+      (omega arith) (omega arith)
+  going_less (ToCounter f e) v fs ls d = by_test (nat_eq (reference_of v) 0) _ _ 1 (weight e + 2 + load fs) _
+      (omega arith) (omega arith) (omega arith)
   going_less (ToAddend o f e) v fs ls d = omega arith
-  going_less (ToSum o f x) v fs ls d = by_test (nat_eq (reference_of o) 0) _ _ 1 (1 + load fs) _ (omega arith) (omega arith) (omega arith)
+  going_less (ToSum o f x) v fs ls d = by_test (nat_eq (reference_of o) 0) _ _ 1 (1 + load fs) _ (omega arith)
+      (omega arith) (omega arith)
   going_less (ToArray i e) v fs ls d = omega arith
   going_less (ToIndex o e) v fs ls d = omega arith
-  going_less (ToItem o n) v fs ls d = by_test (nat_eq (reference_of o) 0) _ _ 1 (1 + load fs) _ (omega arith) (omega arith) (omega arith)
+  going_less (ToItem o n) v fs ls d = by_test (nat_eq (reference_of o) 0) _ _ 1 (1 + load fs) _ (omega arith)
+      (omega arith) (omega arith)
   going_less ToNothing v fs ls d = omega arith
   going_less (ToIf a b) v fs ls d = omega (arith, branch_less (truth_of v) a b)
-  going_less (ToTest e s) v fs ls d = chosen_state (truth_of v) _ _ (1 + (heaviness s + 1) + load fs) (omega arith) (omega arith)
+  going_less (ToTest e s) v fs ls d = chosen_state (truth_of v) _ _ (1 + (heaviness s + 1) + load fs) (omega arith)
+      (omega arith)
   going_less ToReturn v fs ls d = omega arith
 
-  executing_less : (s : Statement) (fs : List Frame) (ls : List Value) (d : ℕ) → burden file (executing s fs ls d) < heaviness s + load fs
+  executing_less : (s : Statement) (fs : List Frame) (ls : List Value) (d : ℕ) →
+      burden file (executing s fs ls d) < heaviness s + load fs
   executing_less (Block ss) fs ls d = omega arith
   executing_less (SetSlot n e) fs ls d = omega arith
   executing_less (SetField e f v) fs ls d = written_less (known e ls) e f v fs ls d
@@ -336,11 +391,15 @@ module _ (file : File) where
   executing_less (ReturnValue e) fs ls d = omega arith
   executing_less (Try b f) fs ls d = omega arith
 
-  running_less : (ss : Statements) (fs : List Frame) (ls : List Value) (d : ℕ) → burden file (running ss fs ls d) < heaviness_all ss + load fs
+  running_less : (ss : Statements) (fs : List Frame) (ls : List Value) (d : ℕ) →
+      burden file (running ss fs ls d) < heaviness_all ss + load fs
   running_less Done fs ls d = omega arith
   running_less (Then s ss) fs ls d = omega arith
 
-  normal_less : (c : Completion Value) (after : Control) (n : ℕ) → 1 ≤ n → control_load file after ≤ n → control_load file (if_normal c after) ≤ n
+  normal_less : (c : Completion Value) (after : Control) (n : ℕ) →
+      1 ≤ n →
+      control_load file after ≤ n →
+      control_load file (if_normal c after) ≤ n
   normal_less Normal after n one h = h
   normal_less (Broke m) after n one h = omega arith
   normal_less (Continued m) after n one h = omega arith
@@ -364,25 +423,33 @@ module _ (file : File) where
   leaving_less result (Returned (Some v)) = omega arith
   leaving_less result (Threw kind) = omega arith
 
-  closing_less : (f : Ending) (c : Completion Value) (fs : List Frame) (ls : List Value) (d : ℕ) → burden file (closing f c fs ls d) < 1 + ending_load f + load fs
-  closing_less (OfSequence ss) c fs ls d = omega (arith, normal_less c (Runs ss) (heaviness_all ss) (omega (arith, some_statements ss)) (omega arith))
+  closing_less : (f : Ending) (c : Completion Value) (fs : List Frame) (ls : List Value) (d : ℕ) →
+      burden file (closing f c fs ls d) < 1 + ending_load f + load fs
+  closing_less (OfSequence ss) c fs ls d = omega (
+    arith,
+    normal_less c (Runs ss) (heaviness_all ss)
+        (omega (arith, some_statements ss)) (omega arith),
+  )
   closing_less (OfBody e s) c fs ls d = omega (arith, loop_less c e s)
   closing_less (OfTry f) c fs ls d = omega arith
   closing_less (OfFinally reason) c fs ls d = omega (arith, normal_less c (Ends reason) 1 (omega arith) (omega arith))
 
-  giving_less : (v : Value) (f : Frame) (fs : List Frame) (ls : List Value) (d : ℕ) → burden file (giving file.classes v (f ∷ fs) ls d) < 1 + frame_load f + load fs
+  giving_less : (v : Value) (f : Frame) (fs : List Frame) (ls : List Value) (d : ℕ) →
+      burden file (giving file.classes v (f ∷ fs) ls d) < 1 + frame_load f + load fs
   giving_less v (In f) fs ls d = filling_less f v fs ls d
   giving_less v (On f) fs ls d = going_less f v fs ls d
   giving_less v (Up f) fs ls d = omega (arith, ending_loads f)
   giving_less v (Leaves result saved outer) fs ls d = omega arith
 
-  ending_less : (c : Completion Value) (f : Frame) (fs : List Frame) (ls : List Value) (d : ℕ) → burden file (ending c (f ∷ fs) ls d) < 1 + frame_load f + load fs
+  ending_less : (c : Completion Value) (f : Frame) (fs : List Frame) (ls : List Value) (d : ℕ) →
+      burden file (ending c (f ∷ fs) ls d) < 1 + frame_load f + load fs
   ending_less c (In f) fs ls d = omega (arith, operand_loads f)
   ending_less c (On f) fs ls d = omega (arith, waiting_loads f)
   ending_less c (Up f) fs ls d = closing_less f c fs ls d
   ending_less c (Leaves result saved outer) fs ls d = omega (arith, leaving_less result c)
 
-  opening_less : (m : Option Method) (vs : List Value) (fs : List Frame) (ls : List Value) (d : ℕ) → burden file (opening m vs fs ls d) < body_load m + load fs
+  opening_less : (m : Option Method) (vs : List Value) (fs : List Frame) (ls : List Value) (d : ℕ) →
+      burden file (opening m vs fs ls d) < body_load m + load fs
   opening_less None vs fs ls d = omega arith
   opening_less (Some m) vs fs ls d = omega arith
 
@@ -390,19 +457,24 @@ module _ (file : File) where
   some_body None = omega arith
   some_body (Some m) = omega arith
 
-  pub move_less : (c : Control) (fs : List Frame) (ls : List Value) (d : ℕ) → is_left c fs ≡ true → burden file (move file c fs ls d) < control_load file c + load fs
+  pub move_less : (c : Control) (fs : List Frame) (ls : List Value) (d : ℕ) →
+      is_left c fs ≡ true →
+      burden file (move file c fs ls d) < control_load file c + load fs
   move_less (Evaluates e) fs ls d h = evaluating_less e fs ls d
   move_less (Argues p vs es) fs ls d h = arguing_less es p vs fs ls d
   move_less (Applies p vs) fs ls d h = applying_less p vs fs ls d
   move_less (Invokes m vs) fs ls d h = by_test (nat_eq d 0) _ _ 1 (load fs) _ (omega arith) (omega arith) (omega arith)
-  move_less (Opens m vs) fs ls d h = chosen_state (nat_eq d 0) _ _ _ (omega (arith, some_body (slice_get file.methods m))) (opening_less (slice_get file.methods m) vs fs ls d)
+  move_less (Opens m vs) fs ls d h = chosen_state (nat_eq d 0) _ _ _
+      (omega (arith, some_body (slice_get file.methods m))) (opening_less (slice_get file.methods m) vs fs ls d)
   move_less (Executes s) fs ls d h = executing_less s fs ls d
   move_less (Runs ss) fs ls d h = running_less ss fs ls d
   move_less (Loops e s) fs ls d h = omega arith
   move_less (Gives v) [] ls d h = cc
-  move_less (Gives v) (f ∷ fs) ls d h = let r : burden file (giving file.classes v (f ∷ fs) ls d) < 1 + frame_load f + load fs = giving_less v f fs ls d in omega arith
+  move_less (Gives v) (f ∷ fs) ls d h = let r : burden file (giving file.classes v (f ∷ fs) ls d) < 1 + frame_load f +
+      load fs = giving_less v f fs ls d in omega arith
   move_less (Ends c) [] ls d h = cc
-  move_less (Ends c) (f ∷ fs) ls d h = let r : burden file (ending c (f ∷ fs) ls d) < 1 + frame_load f + load fs = ending_less c f fs ls d in omega arith
+  move_less (Ends c) (f ∷ fs) ls d h = let r : burden file (ending c (f ∷ fs) ls d) < 1 + frame_load f + load fs =
+      ending_less c f fs ls d in omega arith
   move_less (Asks a s) fs ls d h = cc
   move_less (Enters m vs) fs ls d h = cc
   move_less (Turns e s) fs ls d h = cc

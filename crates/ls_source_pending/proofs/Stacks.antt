@@ -23,7 +23,8 @@ gives_more : (v : Value) (xs : List pending.Frame) (y : pending.Frame) → is_le
 gives_more v [] y = refl
 gives_more v (x ∷ xs) y = refl
 
-ends_more : (c : Completion Value) (xs : List pending.Frame) (y : pending.Frame) → is_left (pending.Ends c) (xs ++ y ∷ []) ≡ true
+ends_more : (c : Completion Value) (xs : List pending.Frame) (y : pending.Frame) →
+    is_left (pending.Ends c) (xs ++ y ∷ []) ≡ true
 ends_more c [] y = refl
 ends_more c (x ∷ xs) y = refl
 
@@ -31,10 +32,12 @@ ends_more c (x ∷ xs) y = refl
 pub gives_left : (v : Value) (fs : List Frame) → is_left (pending.Gives v) (frames_of fs) ≡ is_some fs
 unfolding frames_of
 gives_left v [] = refl
-gives_left v (f ∷ fs) = ap (is_left (pending.Gives v)) (reverse-append (frame_of f ∷ []) (map frame_of fs)) ∙ gives_more v (reverse (map frame_of fs)) (frame_of f)
+gives_left v (f ∷ fs) = ap (is_left (pending.Gives v)) (reverse-append (frame_of f ∷ []) (map frame_of fs)) ∙
+    gives_more v (reverse (map frame_of fs)) (frame_of f)
 
 -- a completion is taken by a frame, if there is one
 pub ends_left : (c : Completion Value) (fs : List Frame) → is_left (pending.Ends c) (frames_of fs) ≡ is_some fs
 unfolding frames_of
 ends_left c [] = refl
-ends_left c (f ∷ fs) = ap (is_left (pending.Ends c)) (reverse-append (frame_of f ∷ []) (map frame_of fs)) ∙ ends_more c (reverse (map frame_of fs)) (frame_of f)
+ends_left c (f ∷ fs) = ap (is_left (pending.Ends c)) (reverse-append (frame_of f ∷ []) (map frame_of fs)) ∙
+    ends_more c (reverse (map frame_of fs)) (frame_of f)

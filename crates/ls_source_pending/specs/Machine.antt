@@ -1,28 +1,48 @@
 -- One small move of pending work, and the course that pending work means.
-use Rattle.std.specs.Prelude.{ℕ, zero, suc, ◌-◌, pos, neg_ℤ, Bool, true, false, not, int_lt, nat_eq, List, [], ◌∷◌, ◌++◌, Option, Some, None, slice_get, slice_set, slice_index_or, if◌then◌else◌}
+use Rattle.std.specs.Prelude.{ℕ, zero, suc, ◌-◌, pos, neg_ℤ, Bool, true, false, not, int_lt, nat_eq, List, [], ◌∷◌}
+use Rattle.std.specs.Prelude.{◌++◌, Option, Some, None, slice_get, slice_set, slice_index_or, if◌then◌else◌}
 use Rattle.ls_events.specs.declared.value.Value.{Value}
 use Rattle.ls_events.specs.declared.value.Value.TheVariants as values
 use Rattle.ls_events.specs.declared.value.ValueType.{ValueType}
 use Rattle.ls_events.specs.declared.value.ValueType.TheVariants as types
 use Rattle.ls_events.specs.declared.kind.Kind.TheVariants.{Arithmetic, NegativeArraySize, NullPointer, StackOverflow}
-use Rattle.ls_events.specs.declared.action.Action.TheVariants.{ReadField, WriteField, ReadItem, WriteItem, New, NewLock, NewMarkable, NewArray, Lock, Unlock, TryLock, IsHeld, LockMonitor, UnlockMonitor, ReadPair, SetPair, SwapPair, AttemptMark, Enter, Turn}
+use Rattle.ls_events.specs.declared.action.Action.TheVariants.{ReadField, WriteField, ReadItem, WriteItem, New, NewLock}
+use Rattle.ls_events.specs.declared.action.Action.TheVariants.{NewMarkable, NewArray, Lock, Unlock, TryLock, IsHeld}
+use Rattle.ls_events.specs.declared.action.Action.TheVariants.{LockMonitor, UnlockMonitor, ReadPair, SetPair, SwapPair}
+use Rattle.ls_events.specs.declared.action.Action.TheVariants.{AttemptMark, Enter, Turn}
 use Rattle.ls_events.specs.declared.action.Answer.{Answer}
 use Rattle.ls_events.specs.declared.action.Answer.TheVariants as answers
 use Rattle.ls_checked.specs.declared.tree.Operator.{Operator}
 use Rattle.ls_checked.specs.declared.tree.Operator.TheVariants.{Add}
 use Rattle.ls_checked.specs.declared.tree.Called.{Called}
-use Rattle.ls_checked.specs.declared.tree.Called.TheVariants.{Method as OfMethod, LockIt, UnlockIt, TryIt, AskIt, HoldMonitor, FreeMonitor, GetReference, IsMarked, GetBoth, SetBoth, CompareAndSet, Attempt}
-use Rattle.ls_checked.specs.CheckedTree.{Class, Method, File, Expression, Literal, Slot, Field, Item, Negate, Not, Binary, And, Or, Call, MakeObject, MakeLock, MakeMarkable, MakeArray, Expressions, End, More, Statement, Block, SetSlot, SetField, AddField, SetItem, Evaluate, If, While, Break, Continue, ReturnNothing, ReturnValue, Try, Statements, Done, Then}
+use Rattle.ls_checked.specs.declared.tree.Called.TheVariants.{Method as OfMethod, LockIt, UnlockIt, TryIt, AskIt}
+use Rattle.ls_checked.specs.declared.tree.Called.TheVariants.{HoldMonitor, FreeMonitor, GetReference, IsMarked, GetBoth}
+use Rattle.ls_checked.specs.declared.tree.Called.TheVariants.{SetBoth, CompareAndSet, Attempt}
+use Rattle.ls_checked.specs.CheckedTree.{Class, Method, File, Expression, Literal, Slot, Field, Item, Negate, Not}
+use Rattle.ls_checked.specs.CheckedTree.{Binary, And, Or, Call, MakeObject, MakeLock, MakeMarkable, MakeArray}
+use Rattle.ls_checked.specs.CheckedTree.{Expressions, End, More, Statement, Block, SetSlot, SetField, AddField, SetItem}
+use Rattle.ls_checked.specs.CheckedTree.{Evaluate, If, While, Break, Continue, ReturnNothing, ReturnValue, Try}
+use Rattle.ls_checked.specs.CheckedTree.{Statements, Done, Then}
 use Rattle.ls_meaning.specs.declared.sort.Sort.TheVariants.{NoValue, ValueOf, NewOf, PairOf}
 use Rattle.ls_meaning.specs.declared.completion.Completion.{Completion}
 use Rattle.ls_meaning.specs.declared.completion.Completion.TheVariants.{Normal, Broke, Continued, Returned, Threw}
-use Rattle.ls_meaning.specs.Values.{int_of, truth_of, reference_of, mark_of, pair_of, nothing, wrapped, operated, divides_by_zero}
-use Rattle.ls_meaning.specs.Course.{Answers, Evaluated, Asks as EAsks, Results, Throws, ask, with_value, unless_null, on_object}
+use Rattle.ls_meaning.specs.Values.{int_of, truth_of, reference_of, mark_of, pair_of, nothing, wrapped, operated}
+use Rattle.ls_meaning.specs.Values.{divides_by_zero}
+use Rattle.ls_meaning.specs.Course.{Answers, Evaluated, Asks as EAsks, Results, Throws, ask, with_value, unless_null}
+use Rattle.ls_meaning.specs.Course.{on_object}
 use Rattle.ls_meaning.specs.Expressions.{evaluate, arguments, call, operate, argument, field_of, constructor_of}
-use Rattle.ls_meaning.specs.Statements.{Executed, AsksFor, Completes, and_normal, then_do, finally_do, after_body, execute, execute_all}
+use Rattle.ls_meaning.specs.Statements.{Executed, AsksFor, Completes, and_normal, then_do, finally_do, after_body}
+use Rattle.ls_meaning.specs.Statements.{execute, execute_all}
 use Rattle.ls_meaning.specs.Methods.{invoke, run_body, leave, answer_without, frame}
 use Rattle.ls_meaning.specs.Threads.{Next, Goes}
-use Rattle.ls_source_pending.specs.Pending.{Purpose, ToCall, ToMake, ToMark, Operand, InField, InItem, InIndex, InNegate, InNot, InLength, InLeft, InRight, InAnd, InOr, InTarget, InArgument, InMade, InConstructor, InReference, InMark, InBoth, InWritten, Waiting, ToSlot, ToTarget, ToField, ToCounter, ToAddend, ToSum, ToArray, ToIndex, ToItem, ToNothing, ToIf, ToTest, ToReturn, Ending, OfSequence, OfBody, OfTry, OfFinally, Frame, In, On, Up, Leaves, Control, Evaluates, Argues, Applies, Invokes, Opens, Executes, Runs, Loops, Gives, Ends, Asks, Enters, Turns, State}
+use Rattle.ls_source_pending.specs.Pending.{Purpose, ToCall, ToMake, ToMark, Operand, InField, InItem, InIndex}
+use Rattle.ls_source_pending.specs.Pending.{InNegate, InNot, InLength, InLeft, InRight, InAnd, InOr, InTarget}
+use Rattle.ls_source_pending.specs.Pending.{InArgument, InMade, InConstructor, InReference, InMark, InBoth, InWritten}
+use Rattle.ls_source_pending.specs.Pending.{Waiting, ToSlot, ToTarget, ToField, ToCounter, ToAddend, ToSum, ToArray}
+use Rattle.ls_source_pending.specs.Pending.{ToIndex, ToItem, ToNothing, ToIf, ToTest, ToReturn, Ending, OfSequence}
+use Rattle.ls_source_pending.specs.Pending.{OfBody, OfTry, OfFinally, Frame, In, On, Up, Leaves, Control, Evaluates}
+use Rattle.ls_source_pending.specs.Pending.{Argues, Applies, Invokes, Opens, Executes, Runs, Loops, Gives, Ends, Asks}
+use Rattle.ls_source_pending.specs.Pending.{Enters, Turns, State}
 
 -- The moves.
 
@@ -52,7 +72,8 @@ known (MakeArray e) ls = None
 -- an operator whose left operand has its value, with the right operand if that is known
 abbrev pub on_right : Option Value → Operator → Value → Expression → List Frame → List Value → ℕ → State
 on_right None op x b fs ls d = at (Evaluates b) (In (InRight op x) ∷ fs) ls d
-on_right (Some y) op x b fs ls d = at (if divides_by_zero op y then Ends (Threw Arithmetic) else Gives (operated op x y)) fs ls d
+on_right (Some y) op x b fs ls d = at (if divides_by_zero op y then Ends (Threw Arithmetic) else
+    Gives (operated op x y)) fs ls d
 
 -- an operator that begins, with its left operand if that is known
 abbrev pub on_left : Option Value → Operator → Expression → Expression → List Frame → List Value → ℕ → State
@@ -62,7 +83,8 @@ on_left (Some x) op a b fs ls d = on_right (known b ls) op x b fs ls d
 -- the read of a field, with its object if that is known
 abbrev pub on_target : List Class → Option Value → Expression → ℕ → ℕ → List Frame → List Value → ℕ → State
 on_target classes None e c f fs ls d = at (Evaluates e) (In (InField c f) ∷ fs) ls d
-on_target classes (Some v) e c f fs ls d = at (thrown_on_null (reference_of v) (Asks (ReadField (reference_of v) f) (field_of classes c f))) fs ls d
+on_target classes (Some v) e c f fs ls d = at (thrown_on_null (reference_of v)
+    (Asks (ReadField (reference_of v) f) (field_of classes c f))) fs ls d
 
 -- a call, with its object if that is known
 abbrev pub on_called : Option Value → Expression → Called → Expressions → List Frame → List Value → ℕ → State
@@ -86,7 +108,15 @@ evaluating classes (MakeMarkable c es) fs ls d = at (Argues (ToMark c) [] es) fs
 evaluating classes (MakeArray e) fs ls d = at (Evaluates e) (In InLength ∷ fs) ls d
 
 -- an argument, with its value if that is known
-abbrev pub on_argument : Option Value → Purpose → List Value → Expression → Expressions → List Frame → List Value → ℕ → State
+abbrev pub on_argument : Option Value →
+    Purpose →
+    List Value →
+    Expression →
+    Expressions →
+    List Frame →
+    List Value →
+    ℕ →
+    State
 on_argument None p vs e es fs ls d = at (Evaluates e) (In (InArgument p vs es) ∷ fs) ls d
 on_argument (Some v) p vs e es fs ls d = at (Argues p (vs ++ v ∷ []) es) fs ls d
 
@@ -104,15 +134,22 @@ calling (HoldMonitor c) o vs fs ls d = at (Asks (LockMonitor (reference_of o)) N
 calling (FreeMonitor c) o vs fs ls d = at (Asks (UnlockMonitor (reference_of o)) NoValue) fs ls d
 calling (GetReference c) o vs fs ls d = at (Asks (ReadPair (reference_of o)) (PairOf c)) (In InReference ∷ fs) ls d
 calling (IsMarked c) o vs fs ls d = at (Asks (ReadPair (reference_of o)) (PairOf c)) (In InMark ∷ fs) ls d
-calling (GetBoth c) o vs fs ls d = at (Asks (ReadPair (reference_of o)) (PairOf c)) (In (InBoth (reference_of (argument vs 0))) ∷ fs) ls d
-calling SetBoth o vs fs ls d = at (Asks (SetPair (reference_of o) (pair_of (argument vs 0) (argument vs 1))) NoValue) fs ls d
-calling CompareAndSet o vs fs ls d = at (Asks (SwapPair (reference_of o) (pair_of (argument vs 0) (argument vs 2)) (pair_of (argument vs 1) (argument vs 3))) (ValueOf types.Boolean)) fs ls d
-calling Attempt o vs fs ls d = at (Asks (AttemptMark (reference_of o) (reference_of (argument vs 0)) (truth_of (argument vs 1))) (ValueOf types.Boolean)) fs ls d
+calling (GetBoth c) o vs fs ls d = at (Asks (ReadPair (reference_of o)) (PairOf c))
+    (In (InBoth (reference_of (argument vs 0))) ∷ fs) ls d
+calling SetBoth o vs fs ls d = at (Asks (SetPair (reference_of o) (pair_of (argument vs 0) (argument vs 1))) NoValue) fs
+    ls d
+calling CompareAndSet o vs fs ls d = at
+    (Asks (SwapPair (reference_of o) (pair_of (argument vs 0) (argument vs 2))
+    (pair_of (argument vs 1) (argument vs 3))) (ValueOf types.Boolean)) fs ls d
+calling Attempt o vs fs ls d = at
+    (Asks (AttemptMark (reference_of o) (reference_of (argument vs 0)) (truth_of (argument vs 1)))
+    (ValueOf types.Boolean)) fs ls d
 
 abbrev pub applying : List Class → Purpose → List Value → List Frame → List Value → ℕ → State
 applying classes (ToCall m o) vs fs ls d =
     if nat_eq (reference_of o) 0 then at (Ends (Threw NullPointer)) fs ls d else calling m o vs fs ls d
-applying classes (ToMake c o) vs fs ls d = at (Invokes (constructor_of classes c) (o ∷ vs)) (In (InConstructor o) ∷ fs) ls d
+applying classes (ToMake c o) vs fs ls d = at (Invokes (constructor_of classes c) (o ∷ vs)) (In (InConstructor o) ∷ fs)
+    ls d
 applying classes (ToMark c) vs fs ls d =
     at (Asks (NewMarkable (pair_of (argument vs 0) (argument vs 1))) (NewOf (types.Markable c))) fs ls d
 
@@ -121,14 +158,18 @@ opening None values fs ls d = at (Gives nothing) fs ls d
 opening (Some m) values fs ls d = at (Executes m.body) (Leaves m.result ls d ∷ fs) (frame m.slots values) (d - 1)
 
 abbrev pub filling : List Class → Operand → Value → List Frame → List Value → ℕ → State
-filling classes (InField c f) v fs ls d = at (thrown_on_null (reference_of v) (Asks (ReadField (reference_of v) f) (field_of classes c f))) fs ls d
+filling classes (InField c f) v fs ls d = at (thrown_on_null (reference_of v)
+    (Asks (ReadField (reference_of v) f) (field_of classes c f))) fs ls d
 filling classes (InItem i) v fs ls d = at (Evaluates i) (In (InIndex v) ∷ fs) ls d
-filling classes (InIndex o) v fs ls d = at (thrown_on_null (reference_of o) (Asks (ReadItem (reference_of o) (int_of v)) (ValueOf types.Boolean))) fs ls d
+filling classes (InIndex o) v fs ls d = at (thrown_on_null (reference_of o)
+    (Asks (ReadItem (reference_of o) (int_of v)) (ValueOf types.Boolean))) fs ls d
 filling classes InNegate v fs ls d = at (Gives (wrapped (neg_ℤ (int_of v)))) fs ls d
 filling classes InNot v fs ls d = at (Gives (values.Boolean (not (truth_of v)))) fs ls d
-filling classes InLength v fs ls d = at (if int_lt (int_of v) (pos 0) then Ends (Threw NegativeArraySize) else Asks (NewArray (int_of v)) (NewOf types.BooleanArray)) fs ls d
+filling classes InLength v fs ls d = at (if int_lt (int_of v) (pos 0) then Ends (Threw NegativeArraySize) else
+    Asks (NewArray (int_of v)) (NewOf types.BooleanArray)) fs ls d
 filling classes (InLeft op b) v fs ls d = on_right (known b ls) op v b fs ls d
-filling classes (InRight op x) v fs ls d = at (if divides_by_zero op v then Ends (Threw Arithmetic) else Gives (operated op x v)) fs ls d
+filling classes (InRight op x) v fs ls d = at (if divides_by_zero op v then Ends (Threw Arithmetic) else
+    Gives (operated op x v)) fs ls d
 filling classes (InAnd b) v fs ls d = at (if truth_of v then Evaluates b else Gives (values.Boolean false)) fs ls d
 filling classes (InOr b) v fs ls d = at (if truth_of v then Gives (values.Boolean true) else Evaluates b) fs ls d
 filling classes (InTarget m es) v fs ls d = at (Argues (ToCall m v) [] es) fs ls d
@@ -137,22 +178,28 @@ filling classes (InMade c es) v fs ls d = at (Argues (ToMake c v) [] es) fs ls d
 filling classes (InConstructor o) v fs ls d = at (Gives o) fs ls d
 filling classes InReference v fs ls d = at (Gives (values.Reference (reference_of v))) fs ls d
 filling classes InMark v fs ls d = at (Gives (values.Boolean (mark_of v))) fs ls d
-filling classes (InBoth array) v fs ls d = at (thrown_on_null array (Asks (WriteItem array (pos 0) (values.Boolean (mark_of v))) NoValue)) (In (InWritten v) ∷ fs) ls d
+filling classes (InBoth array) v fs ls d = at (thrown_on_null array
+    (Asks (WriteItem array (pos 0) (values.Boolean (mark_of v))) NoValue)) (In (InWritten v) ∷ fs) ls d
 filling classes (InWritten pair) v fs ls d = at (Gives (values.Reference (reference_of pair))) fs ls d
 
 abbrev pub going_on : Waiting → Value → List Frame → List Value → ℕ → State
 going_on (ToSlot n) v fs ls d = at (Ends Normal) fs (slice_set ls n v) d
 going_on (ToTarget f e) v fs ls d = at (Evaluates e) (On (ToField v f) ∷ fs) ls d
-going_on (ToField o f) v fs ls d = at (thrown_on_null (reference_of o) (Asks (WriteField (reference_of o) f v) NoValue)) (On ToNothing ∷ fs) ls d
-going_on (ToCounter f e) v fs ls d = at (thrown_on_null (reference_of v) (Asks (ReadField (reference_of v) f) (ValueOf types.Int))) (On (ToAddend v f e) ∷ fs) ls d
+going_on (ToField o f) v fs ls d = at (thrown_on_null (reference_of o) (Asks (WriteField (reference_of o) f v) NoValue))
+    (On ToNothing ∷ fs) ls d
+going_on (ToCounter f e) v fs ls d = at (thrown_on_null (reference_of v)
+    (Asks (ReadField (reference_of v) f) (ValueOf types.Int))) (On (ToAddend v f e) ∷ fs) ls d
 going_on (ToAddend o f e) v fs ls d = at (Evaluates e) (On (ToSum o f v) ∷ fs) ls d
-going_on (ToSum o f x) v fs ls d = at (thrown_on_null (reference_of o) (Asks (WriteField (reference_of o) f (operated Add x v)) NoValue)) (On ToNothing ∷ fs) ls d
+going_on (ToSum o f x) v fs ls d = at (thrown_on_null (reference_of o)
+    (Asks (WriteField (reference_of o) f (operated Add x v)) NoValue)) (On ToNothing ∷ fs) ls d
 going_on (ToArray i e) v fs ls d = at (Evaluates i) (On (ToIndex v e) ∷ fs) ls d
 going_on (ToIndex o e) v fs ls d = at (Evaluates e) (On (ToItem o v) ∷ fs) ls d
-going_on (ToItem o n) v fs ls d = at (thrown_on_null (reference_of o) (Asks (WriteItem (reference_of o) (int_of n) v) NoValue)) (On ToNothing ∷ fs) ls d
+going_on (ToItem o n) v fs ls d = at (thrown_on_null (reference_of o)
+    (Asks (WriteItem (reference_of o) (int_of n) v) NoValue)) (On ToNothing ∷ fs) ls d
 going_on ToNothing v fs ls d = at (Ends Normal) fs ls d
 going_on (ToIf a b) v fs ls d = at (Executes (if truth_of v then a else b)) fs ls d
-going_on (ToTest e s) v fs ls d = if truth_of v then at (Executes s) (Up (OfBody e s) ∷ fs) ls d else at (Ends Normal) fs ls d
+going_on (ToTest e s) v fs ls d = if truth_of v then at (Executes s) (Up (OfBody e s) ∷ fs) ls d else
+    at (Ends Normal) fs ls d
 going_on ToReturn v fs ls d = at (Ends (Returned (Some v))) fs ls d
 
 abbrev pub giving : List Class → Value → List Frame → List Value → ℕ → State
@@ -229,7 +276,8 @@ move file (Evaluates e) fs ls d = evaluating file.classes e fs ls d
 move file (Argues p vs es) fs ls d = arguing p vs es fs ls d
 move file (Applies p vs) fs ls d = applying file.classes p vs fs ls d
 move file (Invokes m vs) fs ls d = at (if nat_eq d 0 then Ends (Threw StackOverflow) else Enters m vs) fs ls d
-move file (Opens m vs) fs ls d = if nat_eq d 0 then at (Gives nothing) fs ls d else opening (slice_get file.methods m) vs fs ls d
+move file (Opens m vs) fs ls d = if nat_eq d 0 then at (Gives nothing) fs ls d else
+    opening (slice_get file.methods m) vs fs ls d
 move file (Executes s) fs ls d = executing s fs ls d
 move file (Runs ss) fs ls d = running ss fs ls d
 move file (Loops e s) fs ls d = at (Evaluates e) (On (ToTest e s) ∷ fs) ls d
@@ -298,8 +346,10 @@ executed k d (Completes c ls q) = k d ls (OfEnd c) q
 
 abbrev pub applied : File → ℕ → Purpose → List Value → Answers → Evaluated Value
 applied file d (ToCall m o) vs q = unless_null (reference_of o) q (call (invoke file d) m o vs q)
-applied file d (ToMake c o) vs q = with_value (invoke file d (constructor_of file.classes c) (o ∷ vs) q) (λ _ q. Results o q)
-applied file d (ToMark c) vs q = ask (NewMarkable (pair_of (argument vs 0) (argument vs 1))) (NewOf (types.Markable c)) q
+applied file d (ToMake c o) vs q = with_value (invoke file d (constructor_of file.classes c) (o ∷ vs) q)
+    (λ _ q. Results o q)
+applied file d (ToMark c) vs q = ask (NewMarkable (pair_of (argument vs 0) (argument vs 1))) (NewOf (types.Markable c))
+    q
 
 abbrev pub argued : File → ℕ → List Value → Purpose → List Value → Expressions → Answers → Evaluated Value
 argued file d ls p before es q =
@@ -308,15 +358,19 @@ argued file d ls p before es q =
 abbrev pub filled : File → ℕ → List Value → Operand → Value → Answers → Evaluated Value
 filled file d ls (InField c f) v q = on_object v (ReadField (reference_of v) f) (field_of file.classes c f) q
 filled file d ls (InItem i) v q =
-    with_value (evaluate file.classes (invoke file d) i ls q) (λ n q. on_object v (ReadItem (reference_of v) (int_of n)) (ValueOf types.Boolean) q)
+    with_value (evaluate file.classes (invoke file d) i ls q)
+    (λ n q. on_object v (ReadItem (reference_of v) (int_of n)) (ValueOf types.Boolean) q)
 filled file d ls (InIndex o) v q = on_object o (ReadItem (reference_of o) (int_of v)) (ValueOf types.Boolean) q
 filled file d ls InNegate v q = Results (wrapped (neg_ℤ (int_of v))) q
 filled file d ls InNot v q = Results (values.Boolean (not (truth_of v))) q
-filled file d ls InLength v q = if int_lt (int_of v) (pos 0) then Throws NegativeArraySize q else ask (NewArray (int_of v)) (NewOf types.BooleanArray) q
+filled file d ls InLength v q = if int_lt (int_of v) (pos 0) then Throws NegativeArraySize q else
+    ask (NewArray (int_of v)) (NewOf types.BooleanArray) q
 filled file d ls (InLeft op b) v q = with_value (evaluate file.classes (invoke file d) b ls q) (λ y q. operate op v y q)
 filled file d ls (InRight op x) v q = operate op x v q
-filled file d ls (InAnd b) v q = if truth_of v then evaluate file.classes (invoke file d) b ls q else Results (values.Boolean false) q
-filled file d ls (InOr b) v q = if truth_of v then Results (values.Boolean true) q else evaluate file.classes (invoke file d) b ls q
+filled file d ls (InAnd b) v q = if truth_of v then evaluate file.classes (invoke file d) b ls q else
+    Results (values.Boolean false) q
+filled file d ls (InOr b) v q = if truth_of v then Results (values.Boolean true) q else
+    evaluate file.classes (invoke file d) b ls q
 filled file d ls (InTarget m es) v q = argued file d ls (ToCall m v) [] es q
 filled file d ls (InArgument p before es) v q = argued file d ls p (before ++ v ∷ []) es q
 filled file d ls (InMade c es) v q = argued file d ls (ToMake c v) [] es q
@@ -324,33 +378,41 @@ filled file d ls (InConstructor o) v q = Results o q
 filled file d ls InReference v q = Results (values.Reference (reference_of v)) q
 filled file d ls InMark v q = Results (values.Boolean (mark_of v)) q
 filled file d ls (InBoth array) v q =
-    unless_null array q (with_value (ask (WriteItem array (pos 0) (values.Boolean (mark_of v))) NoValue q) (λ _ q. Results (values.Reference (reference_of v)) q))
+    unless_null array q (with_value (ask (WriteItem array (pos 0) (values.Boolean (mark_of v))) NoValue q)
+    (λ _ q. Results (values.Reference (reference_of v)) q))
 filled file d ls (InWritten pair) v q = Results (values.Reference (reference_of pair)) q
 
 abbrev pub gone_on : File → ℕ → List Value → Waiting → Value → Answers → Executed
 gone_on file d ls (ToSlot n) v q = Completes Normal (slice_set ls n v) q
 gone_on file d ls (ToTarget f e) v q =
-    and_normal (with_value (evaluate file.classes (invoke file d) e ls q) (λ w q. on_object v (WriteField (reference_of v) f w) NoValue q)) ls
+    and_normal (with_value (evaluate file.classes (invoke file d) e ls q)
+    (λ w q. on_object v (WriteField (reference_of v) f w) NoValue q)) ls
 gone_on file d ls (ToField o f) v q = and_normal (on_object o (WriteField (reference_of o) f v) NoValue q) ls
 gone_on file d ls (ToCounter f e) v q =
     and_normal (
-    with_value (on_object v (ReadField (reference_of v) f) (ValueOf types.Int) q) (λ x q. with_value (evaluate file.classes (invoke file d) e ls q) (λ y q.
+    with_value (on_object v (ReadField (reference_of v) f) (ValueOf types.Int) q)
+    (λ x q. with_value (evaluate file.classes (invoke file d) e ls q) (λ y q.
     with_value (operate Add x y q) (λ w q. on_object v (WriteField (reference_of v) f w) NoValue q)))) ls
 gone_on file d ls (ToAddend o f e) v q =
     and_normal (
     with_value (evaluate file.classes (invoke file d) e ls q) (λ y q.
     with_value (operate Add v y q) (λ w q. on_object o (WriteField (reference_of o) f w) NoValue q))) ls
-gone_on file d ls (ToSum o f x) v q = and_normal (with_value (operate Add x v q) (λ w q. on_object o (WriteField (reference_of o) f w) NoValue q)) ls
+gone_on file d ls (ToSum o f x) v q = and_normal (with_value (operate Add x v q)
+    (λ w q. on_object o (WriteField (reference_of o) f w) NoValue q)) ls
 gone_on file d ls (ToArray i e) v q =
-    and_normal (with_value (evaluate file.classes (invoke file d) i ls q) (λ n q. with_value (evaluate file.classes (invoke file d) e ls q) (λ w q. on_object v (WriteItem (reference_of v) (int_of n) w) NoValue q))) ls
+    and_normal (with_value (evaluate file.classes (invoke file d) i ls q)
+    (λ n q. with_value (evaluate file.classes (invoke file d) e ls q)
+    (λ w q. on_object v (WriteItem (reference_of v) (int_of n) w) NoValue q))) ls
 gone_on file d ls (ToIndex o e) v q =
-    and_normal (with_value (evaluate file.classes (invoke file d) e ls q) (λ w q. on_object o (WriteItem (reference_of o) (int_of v) w) NoValue q)) ls
+    and_normal (with_value (evaluate file.classes (invoke file d) e ls q)
+    (λ w q. on_object o (WriteItem (reference_of o) (int_of v) w) NoValue q)) ls
 gone_on file d ls (ToItem o n) v q = and_normal (on_object o (WriteItem (reference_of o) (int_of n) v) NoValue q) ls
 gone_on file d ls ToNothing v q = Completes Normal ls q
 gone_on file d ls (ToIf a b) v q =
     if truth_of v then execute file.classes (invoke file d) a ls q else execute file.classes (invoke file d) b ls q
 gone_on file d ls (ToTest e s) v q =
-    if truth_of v then after_body (execute file.classes (invoke file d) s ls q) (execute file.classes (invoke file d) (While e s)) else Completes Normal ls q
+    if truth_of v then after_body (execute file.classes (invoke file d) s ls q)
+    (execute file.classes (invoke file d) (While e s)) else Completes Normal ls q
 gone_on file d ls ToReturn v q = Completes (Returned (Some v)) ls q
 
 abbrev pub closed : File → ℕ → Ending → Executed → Executed
@@ -380,7 +442,8 @@ done_now file k (Argues p before es) d ls q = evaluated k d ls (argued file d ls
 done_now file k (Applies p vs) d ls q = evaluated k d ls (applied file d p vs q)
 done_now file k (Invokes m vs) d ls q = evaluated k d ls (invoke file d m vs q)
 done_now file k (Opens m vs) d ls q =
-    if nat_eq d 0 then k d ls (OfValue nothing) q else evaluated k d ls (run_body file (invoke file (d - 1)) (slice_get file.methods m) vs q)
+    if nat_eq d 0 then k d ls (OfValue nothing) q else evaluated k d ls
+    (run_body file (invoke file (d - 1)) (slice_get file.methods m) vs q)
 done_now file k (Executes s) d ls q = executed k d (execute file.classes (invoke file d) s ls q)
 done_now file k (Runs ss) d ls q = executed k d (execute_all file.classes (invoke file d) ss ls q)
 done_now file k (Loops e s) d ls q = executed k d (execute file.classes (invoke file d) (While e s) ls q)

@@ -9,7 +9,8 @@ use Rattle.ls_meaning.specs.Effect.{Change, Stays, Leaves, Holding, Awaits, Beco
 use Rattle.ls_source_store.specs.declared.thing.Hold.{Hold as KeptHold}
 use Rattle.ls_source_store.specs.declared.thing.Hold.TheVariants.{Free as KeptFree, HeldBy as KeptHeld}
 use Rattle.ls_source_store.specs.declared.thing.Thing.{Thing as KeptThing}
-use Rattle.ls_source_store.specs.declared.thing.Thing.TheVariants.{Object as KeptObject, Lock as KeptLock, Markable as KeptMarkable, Array as KeptArray}
+use Rattle.ls_source_store.specs.declared.thing.Thing.TheVariants.{Object as KeptObject, Lock as KeptLock}
+use Rattle.ls_source_store.specs.declared.thing.Thing.TheVariants.{Markable as KeptMarkable, Array as KeptArray}
 use Rattle.ls_source_store.specs.declared.thing.Effect.{Effect as Outcome}
 use Rattle.ls_source_store.specs.declared.thing.Effect.TheVariants.{Waits as HasToWait, Does as HasDone}
 

@@ -1,5 +1,6 @@
 -- The true places of an array, by the items that were written.
-use Rattle.std.proofs.Common.{◌≡◌, ◌≤◌, ◌<◌, ◌+◌, ◌∙◌, ◌&&◌, ℕ, zero, suc, ap, refl, Bool, true, false, cond, List, [], ◌∷◌, arith}
+use Rattle.std.proofs.Common.{◌≡◌, ◌≤◌, ◌<◌, ◌+◌, ◌∙◌, ◌&&◌, ℕ, zero, suc, ap, refl, Bool, true, false, cond, List, []}
+use Rattle.std.proofs.Common.{◌∷◌, arith}
 use Rattle.std.specs.Prelude.{filter, unwrap_or, nat_lt, None}
 use Rattle.std.specs.List.{range_with_len, AllByRecursion}
 use Rattle.std.specs.List.Sorted.{IsStrictlySortedBy}
@@ -58,15 +59,22 @@ from_less a b [] le from = tt
 from_less a b (e ∷ es) le from = (omega (arith, from.0), from_less a b es le from.1)
 
 -- keys in order, each above the first
-above_first : (e : ℕ × Value) (es : List (ℕ × Value)) → IsStrictlySortedBy nat_cmp (keys_of (e ∷ es)) → IsFrom (e.0 + 1) es
+above_first : (e : ℕ × Value) (es : List (ℕ × Value)) →
+    IsStrictlySortedBy nat_cmp (keys_of (e ∷ es)) →
+    IsFrom (e.0 + 1) es
 unfolding IsStrictlySortedBy
 above_first e es sorted = all_above e.0 (keys_of es) sorted.0
 
-sorted_tail : (e : ℕ × Value) (es : List (ℕ × Value)) → IsStrictlySortedBy nat_cmp (keys_of (e ∷ es)) → IsStrictlySortedBy nat_cmp (keys_of es)
+sorted_tail : (e : ℕ × Value) (es : List (ℕ × Value)) →
+    IsStrictlySortedBy nat_cmp (keys_of (e ∷ es)) →
+    IsStrictlySortedBy nat_cmp (keys_of es)
 unfolding IsStrictlySortedBy
 sorted_tail e es sorted = sorted.1
 
-one_key : (b : Bool) (a : ℕ) (e : ℕ × Value) (es : List (ℕ × Value)) (rest : List ℕ) → e.0 ≡ a → keys_of es ≡ rest → keys_of (cond b (e ∷ es) es) ≡ cond b (a ∷ rest) rest
+one_key : (b : Bool) (a : ℕ) (e : ℕ × Value) (es : List (ℕ × Value)) (rest : List ℕ) →
+    e.0 ≡ a →
+    keys_of es ≡ rest →
+    keys_of (cond b (e ∷ es) es) ≡ cond b (a ∷ rest) rest
 one_key true a e es rest at same = cc
 one_key false a e es rest at same = same
 
@@ -91,23 +99,36 @@ one_place size a e es rest v within from same here later above = by_test (is_at 
         rw (inside, v_is) (one_key (truth_of e.1) a e (filter (is_place size) es) rest at (here at))
     by_test false miss =
         let apart : a + 1 ≤ e.0 = grind arith in
-        let v_is : v ≡ Boolean false = same ∙ ap (λ o. unwrap_or o (Boolean false)) (none_below a (e ∷ es) (apart, from_less (a + 1) (e.0 + 1) es (omega arith) above)) in
+        let v_is : v ≡ Boolean false = same ∙ ap (λ o. unwrap_or o (Boolean false))
+        (none_below a (e ∷ es) (apart, from_less (a + 1) (e.0 + 1) es (omega arith) above)) in
         rw v_is (later apart)
 
-pub places_are : (n a : ℕ) (es : List (ℕ × Value)) (f : ℕ → Value) → IsStrictlySortedBy nat_cmp (keys_of es) → IsFrom a es → ((i : ℕ) → a ≤ i → f i ≡ at_place es i) → (size : ℕ) → size ≡ a + n → places_in size es ≡ filter (λ i. truth_of (f i)) (range_with_len a n)
+pub places_are : (n a : ℕ) (es : List (ℕ × Value)) (f : ℕ → Value) →
+    IsStrictlySortedBy nat_cmp (keys_of es) →
+    IsFrom a es →
+    ((i : ℕ) → a ≤ i → f i ≡ at_place es i) →
+    (size : ℕ) →
+    size ≡ a + n →
+    places_in size es ≡ filter (λ i. truth_of (f i)) (range_with_len a n)
 places_are zero a es f sorted from same size is = no_place a size es (omega arith) from
 places_are (suc n) a [] f sorted from same size is =
     let false_here : truth_of (f a) ≡ false = ap truth_of (same a (omega arith)) in
     rw false_here (places_are n (a + 1) [] f sorted tt (λ i h. same i (omega arith)) size (omega arith))
 places_are (suc n) a (e ∷ es) f sorted from same size is =
     let above = above_first e es sorted in
-    one_place size a e es (filter (λ i. truth_of (f i)) (range_with_len (a + 1) n)) (f a) (omega arith) from.0 (same a (omega arith))
-    (λ at. places_are n (a + 1) es f (sorted_tail e es sorted) (from_less (a + 1) (e.0 + 1) es (omega arith) above) (λ i h. same i (omega arith) ∙ past_entry i e es (omega arith)) size (omega arith))
-    (λ less. places_are n (a + 1) (e ∷ es) f sorted (less, from_less (a + 1) (e.0 + 1) es (omega arith) above) (λ i h. same i (omega arith)) size (omega arith))
+    one_place size a e es (filter (λ i. truth_of (f i)) (range_with_len (a + 1) n)) (f a) (omega arith) from.0
+    (same a (omega arith))
+    (λ at. places_are n (a + 1) es f (sorted_tail e es sorted) (from_less (a + 1) (e.0 + 1) es (omega arith) above)
+    (λ i h. same i (omega arith) ∙ past_entry i e es (omega arith)) size (omega arith))
+    (λ less. places_are n (a + 1) (e ∷ es) f sorted (less, from_less (a + 1) (e.0 + 1) es (omega arith) above)
+    (λ i h. same i (omega arith)) size (omega arith))
     above
 
-pub places_of_map : (size : ℕ) (m : BTreeMap ℕ Value) → IsOrdered nat_cmp m → places_in size m.entries ≡ true_places size (items_of m)
-places_of_map size m sorted = places_are size 0 m.entries (items_of m) sorted (from_none m.entries) (λ i h. refl) size (omega arith)
+pub places_of_map : (size : ℕ) (m : BTreeMap ℕ Value) →
+    IsOrdered nat_cmp m →
+    places_in size m.entries ≡ true_places size (items_of m)
+places_of_map size m sorted = places_are size 0 m.entries (items_of m) sorted (from_none m.entries) (λ i h. refl) size
+    (omega arith)
   where
     from_none : (es : List (ℕ × Value)) → IsFrom 0 es
     from_none [] = tt

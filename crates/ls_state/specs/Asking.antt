@@ -38,13 +38,15 @@ has_to_wait (Does after answer) = false
 -- an action, as `reads Node#3.next`, or what it waits for, as `waits for ReentrantLock#2, which A owns`
 abbrev pub asking_text : Names → Scene → ℕ → Action Value → Bool → Text
 asking_text names scene thread action waits =
-    if waits then wait_text names scene.labels scene.state.store action else action_text names scene.labels thread action
+    if waits then wait_text names scene.labels scene.state.store action else
+    action_text names scene.labels thread action
 
 -- as `A.1 reads Node#3.next`
 abbrev pub asks_text : Names → Scene → ℕ → Text → Action Value → Text
 asks_text names scene thread name action =
     call_text name (call_of thread scene.history action)
-    ++ (32 ∷ asking_text names scene thread action (has_to_wait (effect names.file.classes scene.state.store thread action)))
+    ++ (32 ∷ asking_text names scene thread action (has_to_wait
+    (effect names.file.classes scene.state.store thread action)))
 
 abbrev pub asked_text : Names → Scene → ℕ → Text → Asked → Text
 asked_text names scene thread name (Asks action) = asks_text names scene thread name action

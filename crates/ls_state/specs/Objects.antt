@@ -25,7 +25,8 @@ field_name_of names ls o field = option_map_or (field_of names field) (label_at 
 -- a field, as `: lock = ReentrantLock#2` for the first and `, head = Node#3` for another
 abbrev pub field_part : Names → List Label → ℕ → ℕ → Value → Text
 field_part names ls o field v =
-    (if field == 0 then codes ": " else codes ", ") ++ (field_name_of names ls o field ++ (codes " = " ++ value_text names ls v))
+    (if field == 0 then codes ": " else codes ", ") ++ (field_name_of names ls o field ++
+    (codes " = " ++ value_text names ls v))
 
 -- after so many fields, the monitor that a thread owns, as `, monitor held by A, 1 hold`
 abbrev pub monitor_part : Names → ℕ → Hold → Text

@@ -17,11 +17,14 @@ told_merge h rows merge m = told_moved (gathered rows) merge (once_gathered rows
 pub merges_merge : MergesMerge
 merges_merge rows more left right all l r m =
     let same : (h : Text) → told h (gathered (rows ++ more)) ≡ told h (gathered (left ++ right)) = λ h.
-    told_gathered h (rows ++ more) ∙ told_append h rows more ∙ ap (λ o. both o (told h more)) (sym (told_merge h rows left l))
-    ∙ ap (both (told h left)) (sym (told_merge h more right r)) ∙ sym (told_append h left right) ∙ sym (told_gathered h (left ++ right)) in
+    told_gathered h (rows ++ more) ∙ told_append h rows more ∙
+    ap (λ o. both o (told h more)) (sym (told_merge h rows left l))
+    ∙ ap (both (told h left)) (sym (told_merge h more right r)) ∙ sym (told_append h left right) ∙
+    sym (told_gathered h (left ++ right)) in
     record {
       gathers = IsPermutation-trans (gathered (rows ++ more)) (gathered (left ++ right)) all
-          (same_rows (gathered (rows ++ more)) (gathered (left ++ right)) (once_gathered (rows ++ more)) (once_gathered (left ++ right)) same) m.gathers;
+          (same_rows (gathered (rows ++ more)) (gathered (left ++ right)) (once_gathered (rows ++ more))
+          (once_gathered (left ++ right)) same) m.gathers;
       order = m.order;
     }
 
@@ -29,14 +32,19 @@ merges_merge rows more left right all l r m =
 
 module _ (rows : List CodeRow) (i : ℕ) (r : CodeRow) (lt : i < length rows) (read : r ≡ get_or rows i r) where
   pub next_row : map plain_row (drop i rows) ≡ plain_row r ∷ map plain_row (drop (i + 1) rows)
-  next_row = ap (map plain_row) (drop_more rows i r lt) ∙ ap (λ x. plain_row x ∷ map plain_row (drop (i + 1) rows)) (sym read)
+  next_row = ap (map plain_row) (drop_more rows i r lt) ∙ ap (λ x. plain_row x ∷ map plain_row (drop (i + 1) rows))
+      (sym read)
 
-  pub gathered_more : (all all' whole : List Row) → all' ≡ added all (plain_row r) → gathered_onto all (map plain_row (drop i rows)) ≡ whole
+  pub gathered_more : (all all' whole : List Row) →
+      all' ≡ added all (plain_row r) →
+      gathered_onto all (map plain_row (drop i rows)) ≡ whole
       → gathered_onto all' (map plain_row (drop (i + 1) rows)) ≡ whole
   gathered_more all all' whole more h =
       ap (λ l. gathered_onto l (map plain_row (drop (i + 1) rows))) more ∙ ap (gathered_onto all) (sym next_row) ∙ h
 
-  pub total_more : (all all' : List Row) (whole : ℕ) → all' ≡ added all (plain_row r) → total_of all + total_of (map plain_row (drop i rows)) ≡ whole
+  pub total_more : (all all' : List Row) (whole : ℕ) →
+      all' ≡ added all (plain_row r) →
+      total_of all + total_of (map plain_row (drop i rows)) ≡ whole
       → total_of all' + total_of (map plain_row (drop (i + 1) rows)) ≡ whole
   total_more all all' whole more h =
       let sum = ap total_of more ∙ total_added all (plain_row r) in

@@ -39,7 +39,8 @@ gathered = gathered_onto []
 
 -- by seed; rows of one seed by the bytes of their histories
 abbrev pub row_cmp : Row → Row → Ordering
-row_cmp r s = ordering_then (nat_cmp r.seed s.seed) (ordering_then (slice_cmp nat_cmp r.history s.history) (nat_cmp r.count s.count))
+row_cmp r s = ordering_then (nat_cmp r.seed s.seed) (ordering_then (slice_cmp nat_cmp r.history s.history)
+    (nat_cmp r.count s.count))
 
 -- the gathered rows, in order of seed
 pub record IsMerge (rows merge : List Row) : Type 0 where

@@ -27,7 +27,8 @@ history_in image cells schedule = machine_history (code_of_image image) cells sc
 abbrev pub text_in : Image → History → Text
 text_in image history = run_text (program_in image) history
 
--- Two runs of what two texts are compiled to whose histories have the same text, of fewer than 2^64 bytes, have the same
+-- Two runs of what two texts are compiled to whose histories have the same text, of fewer than 2^64 bytes, have the
+-- same
 -- history.
 abbrev pub TextsTellApart : Type 0
 TextsTellApart =

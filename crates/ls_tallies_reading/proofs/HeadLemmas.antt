@@ -12,8 +12,10 @@ after_word : (count : Text) → option_map (λ (p : Text × Text). p.1) (cut 32 
 after_word count = refl
 
 seed_cut : (s : ℕ) (rest : Text) → s < 2 ^ 64 → cut 32 (decimal s ++ 32 ∷ rest) ≡ Some (decimal s, rest)
-seed_cut s rest fits = cut_at 32 (decimal s) rest (without 32 (decimal s) (lacks-decimal 32 s (λ m small same. omega arith) fits))
+seed_cut s rest fits = cut_at 32 (decimal s) rest (without 32 (decimal s)
+    (lacks-decimal 32 s (λ m small same. omega arith) fits))
 
 pub fields_back : (s n : ℕ) → s < 2 ^ 64 → fields_of (head_line s n) ≡ Some (decimal s, decimal n)
 fields_back s n fits =
-    ap (λ (o : Option (Text × Text)). option_and_then (λ q. option_map (λ r. (q.0, r.1)) (cut 32 q.1)) o) (seed_cut s (codes "count " ++ decimal n) fits)
+    ap (λ (o : Option (Text × Text)). option_and_then (λ q. option_map (λ r. (q.0, r.1)) (cut 32 q.1)) o)
+    (seed_cut s (codes "count " ++ decimal n) fits)

@@ -1,5 +1,6 @@
 -- Rows that are read, one after the other.
-use Rattle.std.proofs.Common.{◌≡◌, ◌∙◌, ◌+◌, ◌<◌, ℕ, true, false, List, [], ◌∷◌, ◌++◌, Option, Some, None, length, get_or, drop, refl, sym, ap, subst, arith, true≢false, append_assoc, append-nil}
+use Rattle.std.proofs.Common.{◌≡◌, ◌∙◌, ◌+◌, ◌<◌, ℕ, true, false, List, [], ◌∷◌, ◌++◌, Option, Some, None, length}
+use Rattle.std.proofs.Common.{get_or, drop, refl, sym, ap, subst, arith, true≢false, append_assoc, append-nil}
 use Rattle.std.specs.Str.{bytes_eq}
 use Rattle.std.proofs.lemmas.List.{length-append}
 use Rattle.std.proofs.lemmas.Slice.Eq.{bytes_eq-Decides}
@@ -14,17 +15,23 @@ use Rattle.ls_tallies_reading.proofs.EntryLemmas.{lacks-head, row_split}
 
 -- ---- one more at the end
 
-lists_more : (read : Text) (rows : List Row) (r : Row) → Lists read rows → IsRow r → Lists (read ++ row_text r) (rows ++ r ∷ [])
+lists_more : (read : Text) (rows : List Row) (r : Row) →
+    Lists read rows →
+    IsRow r →
+    Lists (read ++ row_text r) (rows ++ r ∷ [])
 lists_more read rows r Ends is = subst (λ t. Lists t (r ∷ [])) (append-nil (row_text r)) (Entry r [] [] is Ends)
-lists_more read rows r (Marked after more l) is = Marked (after ++ row_text r) (more ++ r ∷ []) (lists_more after more r l is)
+lists_more read rows r (Marked after more l) is = Marked (after ++ row_text r) (more ++ r ∷ [])
+    (lists_more after more r l is)
 lists_more read rows r (Entry s after more it l) is =
-    subst (λ t. Lists t (s ∷ (more ++ r ∷ []))) (sym (append_assoc (row_text s) after (row_text r))) (Entry s (after ++ row_text r) (more ++ r ∷ []) it (lists_more after more r l is))
+    subst (λ t. Lists t (s ∷ (more ++ r ∷ []))) (sym (append_assoc (row_text s) after (row_text r)))
+    (Entry s (after ++ row_text r) (more ++ r ∷ []) it (lists_more after more r l is))
 
 lists_mark : (read : Text) (rows : List Row) → Lists read rows → Lists (read ++ mark) rows
 lists_mark read rows Ends = Marked [] [] Ends
 lists_mark read rows (Marked after more l) = Marked (after ++ mark) more (lists_mark after more l)
 lists_mark read rows (Entry s after more it l) =
-    subst (λ t. Lists t (s ∷ more)) (sym (append_assoc (row_text s) after mark)) (Entry s (after ++ mark) more it (lists_mark after more l))
+    subst (λ t. Lists t (s ∷ more)) (sym (append_assoc (row_text s) after mark))
+    (Entry s (after ++ mark) more it (lists_mark after more l))
 
 -- ---- what stands in front
 
@@ -36,7 +43,8 @@ no_sign : (r : Row) (after other : Text) → row_text r ++ after ≡ mark ++ oth
 no_sign r after other e = two_signs (get_or (row_text r ++ after) 0 0) refl (ap (λ (t : Text). get_or t 0 0) e)
 
 some_text : (r : Row) (after : Text) → row_text r ++ after ≡ [] → ⊥
-some_text r after e = let len = ap length (sym (row_split r after) ∙ e) in let sum = length-append (head_line r.seed r.count) (10 ∷ (r.history ++ 10 ∷ after)) in omega arith
+some_text r after e = let len = ap length (sym (row_split r after) ∙ e) in
+    let sum = length-append (head_line r.seed r.count) (10 ∷ (r.history ++ 10 ∷ after)) in omega arith
 
 unmark : (text after : Text) (more : List Row) → text ≡ mark ++ after → Lists text more → Lists after more
 unmark text after more e Ends = absurd cc
@@ -53,7 +61,11 @@ record Begins (after : Text) (r : Row) (more : List Row) : Type 0 where
   lists : Lists after others
   is : more ≡ r ∷ others
 
-unentry : (text after : Text) (r : Row) (more : List Row) → text ≡ row_text r ++ after → IsOnly text r after → Lists text more → Begins after r more
+unentry : (text after : Text) (r : Row) (more : List Row) →
+    text ≡ row_text r ++ after →
+    IsOnly text r after →
+    Lists text more →
+    Begins after r more
 unentry text after r more e only Ends = absurd (some_text r after (sym e))
 unentry text after r more e only (Marked other rows l) = absurd (no_sign r after other (sym e))
 unentry text after r more e only (Entry s other rows is l) =
@@ -97,7 +109,10 @@ pub record IsReading (text rest : Text) (rows : List Row) : Type 0 where
 pub starts : (text : Text) → IsReading text text []
 starts text = record { read = []; parts = refl; lists = Ends; left = λ all l. (all, l, refl) }
 
-pub past_mark : (text rest after : Text) (rows : List Row) → IsReading text rest rows → rest ≡ mark ++ after → IsReading text after rows
+pub past_mark : (text rest after : Text) (rows : List Row) →
+    IsReading text rest rows →
+    rest ≡ mark ++ after →
+    IsReading text after rows
 past_mark text rest after rows i e = record {
   read = i.read ++ mark;
   parts = i.parts ∙ ap (λ t. i.read ++ t) e ∙ sym (append_assoc i.read mark after);
@@ -105,7 +120,11 @@ past_mark text rest after rows i e = record {
   left = λ all l. let q = i.left all l in (q.0, unmark rest after q.0 e q.1, q.2);
 }
 
-pub past_row : (text rest after : Text) (rows : List Row) (r : Row) → IsReading text rest rows → rest ≡ row_text r ++ after → IsRow r → IsOnly rest r after
+pub past_row : (text rest after : Text) (rows : List Row) (r : Row) →
+    IsReading text rest rows →
+    rest ≡ row_text r ++ after →
+    IsRow r →
+    IsOnly rest r after
     → IsReading text after (rows ++ r ∷ [])
 past_row text rest after rows r i e is only = record {
   read = i.read ++ row_text r;
@@ -118,9 +137,14 @@ past_row text rest after rows r i e is only = record {
 }
 
 pub all_read : (text rest : Text) (rows : List Row) → IsReading text rest rows → rest ≡ [] → Lists text rows
-all_read text rest rows i e = subst (λ t. Lists t rows) (sym (i.parts ∙ ap (λ t. i.read ++ t) e ∙ append-nil i.read)) i.lists
+all_read text rest rows i e = subst (λ t. Lists t rows) (sym (i.parts ∙ ap (λ t. i.read ++ t) e ∙ append-nil i.read))
+    i.lists
 
-pub only_rows : (text rest : Text) (rows all : List Row) → IsReading text rest rows → rest ≡ [] → Lists text all → rows ≡ all
+pub only_rows : (text rest : Text) (rows all : List Row) →
+    IsReading text rest rows →
+    rest ≡ [] →
+    Lists text all →
+    rows ≡ all
 only_rows text rest rows all i e l =
     let q = i.left all l in
     sym (q.2 ∙ ap (λ t. rows ++ t) (lists_none rest q.0 e q.1) ∙ append-nil rows)
@@ -131,7 +155,11 @@ pub record IsStopped (rest : Text) : Type 0 where
   pub no_mark : (after : Text) → rest ≡ mark ++ after → ⊥
   pub no_row : (r : Row) (after : Text) → IsRow r → rest ≡ row_text r ++ after → ⊥
 
-pub breaks : (text rest : Text) (rows : List Row) (at : ℕ) → IsReading text rest rows → IsStopped rest → at + length rest ≡ length text → BreaksAt text at
+pub breaks : (text rest : Text) (rows : List Row) (at : ℕ) →
+    IsReading text rest rows →
+    IsStopped rest →
+    at + length rest ≡ length text →
+    BreaksAt text at
 breaks text rest rows at i s place =
     record {
       read = i.read;
@@ -145,21 +173,33 @@ breaks text rest rows at i s place =
       no_row = s.no_row;
     }
 
-pub not_listed : (text rest : Text) (rows all : List Row) → IsReading text rest rows → IsStopped rest → Lists text all → ⊥
+pub not_listed : (text rest : Text) (rows all : List Row) →
+    IsReading text rest rows →
+    IsStopped rest →
+    Lists text all →
+    ⊥
 not_listed text rest rows all i s l = let q = i.left all l in lists_nothing rest q.0 s.some s.no_mark s.no_row q.1
 
 -- ---- the first line of the rest
 
-pub row_cut : (rest after : Text) (r : Row) → IsRow r → rest ≡ row_text r ++ after → cut 10 rest ≡ two (head_line r.seed r.count) (r.history ++ 10 ∷ after)
+pub row_cut : (rest after : Text) (r : Row) →
+    IsRow r →
+    rest ≡ row_text r ++ after →
+    cut 10 rest ≡ two (head_line r.seed r.count) (r.history ++ 10 ∷ after)
 row_cut rest after r is e =
-    ap (cut 10) (e ∙ row_split r after) ∙ cut_at 10 (head_line r.seed r.count) (r.history ++ 10 ∷ after) (without 10 (head_line r.seed r.count) (lacks-head r.seed r.count is.seed is.count))
+    ap (cut 10) (e ∙ row_split r after) ∙ cut_at 10 (head_line r.seed r.count) (r.history ++ 10 ∷ after)
+    (without 10 (head_line r.seed r.count) (lacks-head r.seed r.count is.seed is.count))
 
 -- the line of a row, and what stands after it
 pub record IsHead (l behind : Text) (r : Row) (after : Text) : Type 0 where
   pub head : l ≡ head_line r.seed r.count
   pub behind_is : behind ≡ r.history ++ 10 ∷ after
 
-pub head_of : (rest l behind after : Text) (r : Row) → two l behind ≡ cut 10 rest → IsRow r → rest ≡ row_text r ++ after → IsHead l behind r after
+pub head_of : (rest l behind after : Text) (r : Row) →
+    two l behind ≡ cut 10 rest →
+    IsRow r →
+    rest ≡ row_text r ++ after →
+    IsHead l behind r after
 head_of rest l behind after r c is e =
     let both = c ∙ row_cut rest after r is e in
     record {
@@ -167,9 +207,13 @@ head_of rest l behind after r c is e =
       behind_is = second_of_two l behind (head_line r.seed r.count) (r.history ++ 10 ∷ after) both;
     }
 
-pub of_head : (rest l behind after : Text) (r : Row) → two l behind ≡ cut 10 rest → IsHead l behind r after → rest ≡ row_text r ++ after
+pub of_head : (rest l behind after : Text) (r : Row) →
+    two l behind ≡ cut 10 rest →
+    IsHead l behind r after →
+    rest ≡ row_text r ++ after
 of_head rest l behind after r c h =
-    cut_parts 10 rest l behind c ∙ ap (λ t. t ++ 10 ∷ behind) h.head ∙ ap (λ t. head_line r.seed r.count ++ 10 ∷ t) h.behind_is ∙ sym (row_split r after)
+    cut_parts 10 rest l behind c ∙ ap (λ t. t ++ 10 ∷ behind) h.head ∙
+    ap (λ t. head_line r.seed r.count ++ 10 ∷ t) h.behind_is ∙ sym (row_split r after)
 
 pub is_mark : (rest l behind : Text) → two l behind ≡ cut 10 rest → l ≡ 37 ∷ 37 ∷ [] → rest ≡ mark ++ behind
 is_mark rest l behind c e = cut_parts 10 rest l behind c ∙ ap (λ t. t ++ 10 ∷ behind) e

@@ -30,7 +30,10 @@ mark = 37 ∷ 37 ∷ 10 ∷ []
 pub data Lists : Text → List Row → Type 0 where
   Ends : Lists [] []
   Marked : (after : Text) (rows : List Row) → Lists after rows → Lists (mark ++ after) rows
-  Entry : (r : Row) (after : Text) (rows : List Row) → IsRow r → Lists after rows → Lists (row_text r ++ after) (r ∷ rows)
+  Entry : (r : Row) (after : Text) (rows : List Row) →
+      IsRow r →
+      Lists after rows →
+      Lists (row_text r ++ after) (r ∷ rows)
 
 -- The text begins with tallies, and goes on at this place, where neither a row nor a line `%%` begins.
 pub record BreaksAt (text : Text) (at : ℕ) : Type 0 where

@@ -1,6 +1,7 @@
 -- Schedules of a program that a text is.
 use Rattle.ls_events.specs.Limits.{most_steps}
-use Rattle.std.proofs.Common.{◌≡◌, ℕ, zero, suc, ◌+◌, ◌-◌, ◌<◌, ◌≤◌, refl, sym, ◌∙◌, subst, arith, Bool, true, false, List, [], ◌∷◌, ◌++◌, length, map, Option, Some, None, Result, Ok, Err, codes}
+use Rattle.std.proofs.Common.{◌≡◌, ℕ, zero, suc, ◌+◌, ◌-◌, ◌<◌, ◌≤◌, refl, sym, ◌∙◌, subst, arith, Bool, true, false}
+use Rattle.std.proofs.Common.{List, [], ◌∷◌, ◌++◌, length, map, Option, Some, None, Result, Ok, Err, codes}
 use Rattle.std.specs.Prelude.{◌&&◌, All, slice_get, nat_lt, option_map, if◌then◌else◌}
 use Rattle.std.specs.List.{position, position_or_len, range_with_len}
 use Rattle.std.specs.Str.{bytes_eq}
@@ -14,13 +15,18 @@ use Rattle.ls_schedule.specs.declared.fault.ScheduleFault.{ScheduleFault}
 use Rattle.ls_schedule.specs.declared.fault.ScheduleFault.TheVariants as fault
 use Rattle.ls_items.specs.Items.{Item, items}
 use Rattle.ls_schedule.specs.Pieces.{Piece, Gap, Word, Opens, Closes, opens, pieces, second_version}
-use Rattle.ls_schedule.specs.Reading.{Content, Group, Turns, by_version, closed, counted, each, ended, followed_by, group_schedule, group_steps, group_times, item_turns, known, nothing, parts_of, plain_schedule, repeated, schedule_of, steps_in, steps_of, thread_name, thread_names, threads_named, turns_of, within, ◌>>=◌}
+use Rattle.ls_schedule.specs.Reading.{Content, Group, Turns, by_version, closed, counted, each, ended, followed_by}
+use Rattle.ls_schedule.specs.Reading.{group_schedule, group_steps, group_times, item_turns, known, nothing, parts_of}
+use Rattle.ls_schedule.specs.Reading.{plain_schedule, repeated, schedule_of, steps_in, steps_of, thread_name}
+use Rattle.ls_schedule.specs.Reading.{thread_names, threads_named, turns_of, within, ◌>>=◌}
 use Rattle.ls_schedule.proofs.RoundTrip.{reads_back}
 use Rattle.ls_text_laws.specs.Schedules.{NamesAreRead, SchedulesReadBack, WhatIsReadIsASchedule, IsReadAgain}
 use Rattle.ls_text_laws.proofs.Names.{program_names}
 
 -- the thread of a name
-thread_at : (ts : List ThreadProgram) (i : ℕ) (name : List ℕ) → slice_get (map thread_name ts) i ≡ Some name → (t : checked.ThreadProgram) × (slice_get (map plain_thread ts) i ≡ Some t) × (t.name ≡ name)
+thread_at : (ts : List ThreadProgram) (i : ℕ) (name : List ℕ) →
+    slice_get (map thread_name ts) i ≡ Some name →
+    (t : checked.ThreadProgram) × (slice_get (map plain_thread ts) i ≡ Some t) × (t.name ≡ name)
 thread_at [] i name e = absurd (some_none name e)
 thread_at (u ∷ ts) zero name e = (plain_thread u, refl, same_some (thread_name u) name e)
 thread_at (u ∷ ts) (suc i) name e = thread_at ts i name e
@@ -32,12 +38,14 @@ names_are_read o text program h =
     record {
       formed = λ i name e. let t = thread_at program.threads.items i name e in subst IsName t.2 (n.formed i t.0 t.1);
       not_all = λ i name e same. let t = thread_at program.threads.items i name e in n.not_all i t.0 t.1 (t.2 ∙ same);
-      once = λ i j name e f. let t = thread_at program.threads.items i name e in let u = thread_at program.threads.items j name f in n.once i j t.0 u.0 t.1 u.1 (t.2 ∙ sym u.2);
+      once = λ i j name e f. let t = thread_at program.threads.items i name e in
+          let u = thread_at program.threads.items j name f in n.once i j t.0 u.0 t.1 u.1 (t.2 ∙ sym u.2);
     }
 
 -- the law: a schedule that is printed is read as the same schedule
 pub schedules_read_back : SchedulesReadBack
-schedules_read_back o text program steps h is = reads_back (thread_names program) steps (names_are_read o text program h) is.there is.short
+schedules_read_back o text program steps h is = reads_back (thread_names program) steps
+    (names_are_read o text program h) is.there is.short
 
 -- ---- what is read is a schedule
 
@@ -76,18 +84,28 @@ module _ (names : List (List ℕ)) where
   position_fits : (p : List ℕ → Bool) (ts : List ℕ) → option_map (λ t. t ∷ []) (position p names) ≡ Some ts → Each n ts
   position_fits p ts = by_test (nat_lt (position_or_len p names) n) refl
     where
-      by_test : (b : Bool) → nat_lt (position_or_len p names) n ≡ b → option_map (λ t. t ∷ []) (if b then Some (position_or_len p names) else None) ≡ Some ts → Each n ts
-      by_test true e is = let lt : position_or_len p names < n = grind (arith, nat_tests) in subst (Each n) (same_some _ ts is) (lt, tt)
+      by_test : (b : Bool) →
+          nat_lt (position_or_len p names) n ≡ b →
+          option_map (λ t. t ∷ []) (if b then Some (position_or_len p names) else None) ≡ Some ts →
+          Each n ts
+      by_test true e is = let lt : position_or_len p names < n = grind (arith, nat_tests) in
+          subst (Each n) (same_some _ ts is) (lt, tt)
       by_test false e is = absurd (some_none ts is)
 
   named_fits : (name ts : List ℕ) → threads_named names name ≡ Some ts → Each n ts
   named_fits name ts = by_test (bytes_eq name (codes "all"))
     where
-      by_test : (b : Bool) → (if b then Some (range_with_len 1 (n - 1)) else option_map (λ t. t ∷ []) (position (λ m. bytes_eq m name) names)) ≡ Some ts → Each n ts
+      by_test : (b : Bool) →
+          (if b then Some (range_with_len 1 (n - 1)) else option_map (λ t. t ∷ [])
+          (position (λ m. bytes_eq m name) names)) ≡ Some ts →
+          Each n ts
       by_test true is = subst (Each n) (same_some _ ts is) (range_fits n)
       by_test false is = position_fits (λ m. bytes_eq m name) ts is
 
-  known_fits : (at : ℕ) (o : Option (List ℕ)) (k : ℕ) (t : Turns) → ((ts : List ℕ) → o ≡ Some ts → Each n ts) → known at o k ≡ Ok t → Each n t.0
+  known_fits : (at : ℕ) (o : Option (List ℕ)) (k : ℕ) (t : Turns) →
+      ((ts : List ℕ) → o ≡ Some ts → Each n ts) →
+      known at o k ≡ Ok t →
+      Each n t.0
   known_fits at None k t h is = let f : ⊥ = cc in absurd f
   known_fits at (Some ts) k t h is = let e : (ts, k) ≡ t = cc in subst (λ (z : Turns). Each n z.0) e (h ts refl)
 
@@ -95,7 +113,9 @@ module _ (names : List (List ℕ)) where
   counted_fits at name None t is = let f : ⊥ = cc in absurd f
   counted_fits at name (Some k) t is = by_test (is_name name) is
     where
-      by_test : (b : Bool) → (if b then known at (threads_named names name) k else Err (fault.BadItem at)) ≡ Ok t → Each n t.0
+      by_test : (b : Bool) →
+          (if b then known at (threads_named names name) k else Err (fault.BadItem at)) ≡ Ok t →
+          Each n t.0
       by_test true is = known_fits at (threads_named names name) k t (named_fits name) is
       by_test false is = let f : ⊥ = cc in absurd f
 
@@ -107,11 +127,22 @@ module _ (names : List (List ℕ)) where
   each_fits [] ts e = let same : [] ≡ ts = cc in subst AllFit same tt
   each_fits (i ∷ is) ts e = by_first (each_fits is) (turns_of names i) refl e
     where
-      by_rest : ((us : List Turns) → each (turns_of names) is ≡ Ok us → AllFit us) → (t : Turns) → turns_of names i ≡ Ok t → (x : Result (List Turns) ScheduleFault) → each (turns_of names) is ≡ x → (x >>= λ ys. Ok (t ∷ ys)) ≡ Ok ts → AllFit ts
+      by_rest : ((us : List Turns) → each (turns_of names) is ≡ Ok us → AllFit us) →
+          (t : Turns) →
+          turns_of names i ≡ Ok t →
+          (x : Result (List Turns) ScheduleFault) →
+          each (turns_of names) is ≡ x →
+          (x >>= λ ys. Ok (t ∷ ys)) ≡ Ok ts →
+          AllFit ts
       by_rest more t first (Err f) rest e = let g : ⊥ = cc in absurd g
-      by_rest more t first (Ok us) rest e = let same : t ∷ us ≡ ts = cc in subst AllFit same (counted_fits i.0 (parts_of i.1).0 (parts_of i.1).1 t first, more us rest)
+      by_rest more t first (Ok us) rest e = let same : t ∷ us ≡ ts = cc in
+          subst AllFit same (counted_fits i.0 (parts_of i.1).0 (parts_of i.1).1 t first, more us rest)
 
-      by_first : ((us : List Turns) → each (turns_of names) is ≡ Ok us → AllFit us) → (x : Result Turns ScheduleFault) → turns_of names i ≡ x → (x >>= λ y. each (turns_of names) is >>= λ ys. Ok (y ∷ ys)) ≡ Ok ts → AllFit ts
+      by_first : ((us : List Turns) → each (turns_of names) is ≡ Ok us → AllFit us) →
+          (x : Result Turns ScheduleFault) →
+          turns_of names i ≡ x →
+          (x >>= λ y. each (turns_of names) is >>= λ ys. Ok (y ∷ ys)) ≡ Ok ts →
+          AllFit ts
       by_first more (Err f) first e = let g : ⊥ = cc in absurd g
       by_first more (Ok t) first e = by_rest more t first (each (turns_of names) is) refl e
 
@@ -122,7 +153,10 @@ module _ (names : List (List ℕ)) where
   within_fits : (steps us : List ℕ) → within steps ≡ Ok us → (steps ≡ us) × (length us ≤ most_steps)
   within_fits steps us = by_test (nat_lt most_steps (length steps)) refl
     where
-      by_test : (b : Bool) → nat_lt most_steps (length steps) ≡ b → (if b then Err fault.TooManySteps else Ok steps) ≡ Ok us → (steps ≡ us) × (length us ≤ most_steps)
+      by_test : (b : Bool) →
+          nat_lt most_steps (length steps) ≡ b →
+          (if b then Err fault.TooManySteps else Ok steps) ≡ Ok us →
+          (steps ≡ us) × (length us ≤ most_steps)
       by_test true e is = let f : ⊥ = cc in absurd f
       by_test false e is =
           let same : steps ≡ us = cc in
@@ -132,7 +166,10 @@ module _ (names : List (List ℕ)) where
   plain_fits : (said steps : List ℕ) → plain_schedule names said ≡ Ok steps → Each n steps × (length steps ≤ most_steps)
   plain_fits said steps = by_items (each (turns_of names) (items 0 said)) refl
     where
-      by_items : (x : Result (List Turns) ScheduleFault) → each (turns_of names) (items 0 said) ≡ x → (x >>= λ turns. within (steps_of turns)) ≡ Ok steps → Each n steps × (length steps ≤ most_steps)
+      by_items : (x : Result (List Turns) ScheduleFault) →
+          each (turns_of names) (items 0 said) ≡ x →
+          (x >>= λ turns. within (steps_of turns)) ≡ Ok steps →
+          Each n steps × (length steps ≤ most_steps)
       by_items (Err f) read e = let g : ⊥ = cc in absurd g
       by_items (Ok ts) read e =
           let h = within_fits (steps_of ts) steps e in
@@ -153,15 +190,21 @@ module _ (names : List (List ℕ)) where
   fit_repeated k (Err f) h = tt
   fit_repeated k (Ok ts) h = each_repeated n k ts h
 
-  fit_item : (x : Result Turns ScheduleFault) → ((t : Turns) → x ≡ Ok t → Each n t.0) → Fit (x >>= λ p. Ok (repeated p.1 p.0))
+  fit_item : (x : Result Turns ScheduleFault) →
+      ((t : Turns) → x ≡ Ok t → Each n t.0) →
+      Fit (x >>= λ p. Ok (repeated p.1 p.0))
   fit_item (Err f) h = tt
   fit_item (Ok t) h = each_repeated n t.1 t.0 (h t refl)
 
-  item_fits : (at : ℕ) (bytes : List ℕ) (joined : Bool) (t : Turns) → item_turns names at bytes joined ≡ Ok t → Each n t.0
+  item_fits : (at : ℕ) (bytes : List ℕ) (joined : Bool) (t : Turns) →
+      item_turns names at bytes joined ≡ Ok t →
+      Each n t.0
   item_fits at bytes true t is = let f : ⊥ = cc in absurd f
   item_fits at bytes false t is = counted_fits at (parts_of bytes).0 (parts_of bytes).1 t is
 
-  fit_group : (at : ℕ) (formed : Bool) (times : Option ℕ) (x : Result (List ℕ) ScheduleFault) → Fit x → Fit (group_steps at formed times x)
+  fit_group : (at : ℕ) (formed : Bool) (times : Option ℕ) (x : Result (List ℕ) ScheduleFault) →
+      Fit x →
+      Fit (group_steps at formed times x)
   fit_group at formed None x h = tt
   fit_group at false (Some k) x h = tt
   fit_group at true (Some k) x h = fit_repeated k x h
@@ -172,9 +215,13 @@ module _ (names : List (List ℕ)) where
 
   ended_fits : (gs : List Group) (c : Content) → GroupsFit gs → Fit c.steps → Fit (ended gs c)
   ended_fits [] c h k = k
-  ended_fits (g ∷ gs) c h k = ended_fits gs (followed_by g.before (Err (fault.BadItem g.at))) h.1 (fit_joined g.before.steps (Err (fault.BadItem g.at)) h.0 tt)
+  ended_fits (g ∷ gs) c h k = ended_fits gs (followed_by g.before (Err (fault.BadItem g.at))) h.1
+      (fit_joined g.before.steps (Err (fault.BadItem g.at)) h.0 tt)
 
-  in_fits : (gs : List Group) (c : Content) (ps : List Piece) → GroupsFit gs → Fit c.steps → Fit (steps_in names gs c ps)
+  in_fits : (gs : List Group) (c : Content) (ps : List Piece) →
+      GroupsFit gs →
+      Fit c.steps →
+      Fit (steps_in names gs c ps)
   in_fits gs c [] h k = ended_fits gs c h k
   in_fits gs c (Gap ∷ ps) h k = in_fits gs c ps h k
   in_fits gs c (Word at bytes ∷ ps) h k =
@@ -182,23 +229,32 @@ module _ (names : List (List ℕ)) where
       in_fits gs (followed_by c (x >>= λ p. Ok (repeated p.1 p.0))) ps h
       (fit_joined c.steps (x >>= λ p. Ok (repeated p.1 p.0)) k (fit_item x (item_fits at bytes (opens ps))))
   in_fits gs c (Opens at ∷ ps) h k = in_fits (record { at = at; before = c } ∷ gs) nothing ps (k, h) tt
-  in_fits [] c (Closes at after ∷ ps) h k = in_fits [] (followed_by c (Err (fault.BadItem at))) ps h (fit_joined c.steps (Err (fault.BadItem at)) k tt)
+  in_fits [] c (Closes at after ∷ ps) h k = in_fits [] (followed_by c (Err (fault.BadItem at))) ps h
+      (fit_joined c.steps (Err (fault.BadItem at)) k tt)
   in_fits (g ∷ gs) c (Closes at after ∷ ps) h k =
       let times : Option ℕ = group_times after (opens ps) in
       let formed : Bool = nat_lt (length gs) 8 && c.filled in
-      in_fits gs (closed g gs c times) ps h.1 (fit_joined g.before.steps (group_steps g.at formed times c.steps) h.0 (fit_group g.at formed times c.steps k))
+      in_fits gs (closed g gs c times) ps h.1 (fit_joined g.before.steps (group_steps g.at formed times c.steps) h.0
+      (fit_group g.at formed times c.steps k))
 
-  group_fits : (ps : List Piece) (steps : List ℕ) → group_schedule names ps ≡ Ok steps → Each n steps × (length steps ≤ most_steps)
+  group_fits : (ps : List Piece) (steps : List ℕ) →
+      group_schedule names ps ≡ Ok steps →
+      Each n steps × (length steps ≤ most_steps)
   group_fits ps steps = by_read (steps_in names [] nothing ps) (in_fits [] nothing ps tt tt)
     where
-      by_read : (x : Result (List ℕ) ScheduleFault) → Fit x → (x >>= within) ≡ Ok steps → Each n steps × (length steps ≤ most_steps)
+      by_read : (x : Result (List ℕ) ScheduleFault) →
+          Fit x →
+          (x >>= within) ≡ Ok steps →
+          Each n steps × (length steps ≤ most_steps)
       by_read (Err f) h e = let g : ⊥ = cc in absurd g
       by_read (Ok ts) h e = let w = within_fits ts steps e in (subst (Each n) w.0 h, w.1)
 
   read_fits : (said steps : List ℕ) → schedule_of names said ≡ Ok steps → Each n steps × (length steps ≤ most_steps)
   read_fits said steps = by_case (second_version (pieces 0 said))
     where
-      by_case : (v : Option (List Piece)) → by_version names said v ≡ Ok steps → Each n steps × (length steps ≤ most_steps)
+      by_case : (v : Option (List Piece)) →
+          by_version names said v ≡ Ok steps →
+          Each n steps × (length steps ≤ most_steps)
       by_case None e = plain_fits said steps e
       by_case (Some ps) e = group_fits ps steps e
 
@@ -210,4 +266,5 @@ what_is_read program said steps e =
 
 -- the law: what is read is read again from what is printed of it
 pub is_read_again : IsReadAgain
-is_read_again o text said program steps h e = schedules_read_back o text program steps h (what_is_read program said steps e)
+is_read_again o text said program steps h e = schedules_read_back o text program steps h
+    (what_is_read program said steps e)

@@ -28,11 +28,14 @@ source_is_readable f o text p e h =
 
 -- code that is the same as the file and the program
 same_is_readable : (f : File) (o : Outcome) (text : Text) (p : Program) → elaborated f ≡ Ok o → IsTextOf o p text
-    → (code : Code) → Same o.file p code → (cells : ℕ) → IsCells code cells → (schedule : List ℕ) → IsReadable p (machine_history code cells schedule)
+    → (code : Code) → Same o.file p code → (cells : ℕ) → IsCells code cells → (schedule : List ℕ) →
+    IsReadable p (machine_history code cells schedule)
 same_is_readable f o text p e h code same cells within schedule =
-    subst (IsReadable p) (sym (same.back cells within schedule).histories) (source_is_readable f o text p e h (to_source code cells schedule))
+    subst (IsReadable p) (sym (same.back cells within schedule).histories)
+    (source_is_readable f o text p e h (to_source code cells schedule))
 
 -- the law: runs of compiled texts are readable
 pub compiled_is_readable : CompiledIsReadable
 compiled_is_readable classes text image h cells within schedule =
-    same_is_readable h.file _ text (plain_program (program_of_image image)) h.elaborates h.reads (code_of_image image) h.runs.same cells within schedule
+    same_is_readable h.file _ text (plain_program (program_of_image image)) h.elaborates h.reads (code_of_image image)
+    h.runs.same cells within schedule

@@ -30,5 +30,7 @@ SourceIsReadable =
 -- each run of what two texts are compiled to
 abbrev pub CompiledIsReadable : Type 0
 CompiledIsReadable =
-    (classes text : Text) (image : Image) → Compiles classes text image → (cells : ℕ) → IsCells (code_of_image image) cells
-    → (schedule : List ℕ) → IsReadable (plain_program (program_of_image image)) (machine_history (code_of_image image) cells schedule)
+    (classes text : Text) (image : Image) → Compiles classes text image → (cells : ℕ) →
+    IsCells (code_of_image image) cells
+    → (schedule : List ℕ) → IsReadable (plain_program (program_of_image image))
+    (machine_history (code_of_image image) cells schedule)

@@ -17,7 +17,13 @@ abbrev pub file : File
 file = record {
   classes = record { fields = []; constructor = 1 } ∷ [];
   methods =
-      record { class = 0; parameters = 0; slots = type.Class 0 ∷ []; result = Some type.Int; body = ReturnValue (Literal (Int (pos 7))) }
+      record {
+        class = 0;
+        parameters = 0;
+        slots = type.Class 0 ∷ [];
+        result = Some type.Int;
+        body = ReturnValue (Literal (Int (pos 7)));
+      }
       ∷ record { class = 0; parameters = 0; slots = type.Class 0 ∷ []; result = None; body = Block Done }
       ∷ [];
 }
@@ -39,7 +45,8 @@ abbrev pub returned : List ℕ
 returned = called ++ 1 ∷ 1 ∷ 1 ∷ []
 
 abbrev pub first_lines : List ℕ
-first_lines = codes "setup.1 call a = new A()" ++ 10 ∷ codes "setup.1 return" ++ 10 ∷ codes "T.1 call a.get()" ++ 10 ∷ []
+first_lines = codes "setup.1 call a = new A()" ++ 10 ∷ codes "setup.1 return" ++ 10 ∷ codes "T.1 call a.get()" ++ 10 ∷
+    []
 
 abbrev pub all_lines : List ℕ
 all_lines = first_lines ++ codes "T.1 return 7" ++ 10 ∷ []

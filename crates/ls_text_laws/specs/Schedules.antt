@@ -17,20 +17,24 @@ pub record IsScheduleOf (program : Program) (steps : List ℕ) : Type 0 where
 
 -- the names of a program text
 abbrev pub NamesAreRead : Type 0
-NamesAreRead = (o : Outcome) (text : Text) (program : Program) → IsTextOf o (plain_program program) text → AreThreadNames (thread_names program)
+NamesAreRead = (o : Outcome) (text : Text) (program : Program) → IsTextOf o (plain_program program) text →
+    AreThreadNames (thread_names program)
 
 abbrev pub SchedulesReadBack : Type 0
 SchedulesReadBack =
-    (o : Outcome) (text : Text) (program : Program) (steps : List ℕ) → IsTextOf o (plain_program program) text → IsScheduleOf program steps
+    (o : Outcome) (text : Text) (program : Program) (steps : List ℕ) → IsTextOf o (plain_program program) text →
+    IsScheduleOf program steps
     → schedule_of (thread_names program) (schedule_text (thread_names program) steps) ≡ Ok steps
 
 -- if a text is read, it is a schedule of the program's threads
 abbrev pub WhatIsReadIsASchedule : Type 0
 WhatIsReadIsASchedule =
-    (program : Program) (said : Text) (steps : List ℕ) → schedule_of (thread_names program) said ≡ Ok steps → IsScheduleOf program steps
+    (program : Program) (said : Text) (steps : List ℕ) → schedule_of (thread_names program) said ≡ Ok steps →
+    IsScheduleOf program steps
 
 -- what is read is read again from what is printed of it
 abbrev pub IsReadAgain : Type 0
 IsReadAgain =
     (o : Outcome) (text said : Text) (program : Program) (steps : List ℕ) → IsTextOf o (plain_program program) text
-    → schedule_of (thread_names program) said ≡ Ok steps → schedule_of (thread_names program) (schedule_text (thread_names program) steps) ≡ Ok steps
+    → schedule_of (thread_names program) said ≡ Ok steps → schedule_of (thread_names program)
+    (schedule_text (thread_names program) steps) ≡ Ok steps

@@ -1,5 +1,6 @@
 -- What the program writes, for its words and its input.
-use Rattle.std.specs.Prelude.{◌≡◌, ◌≢◌, ◌≤◌, ℕ, List, [], ◌∷◌, ◌++◌, length, take, Bool, MatchBool, true, false, Option, Some, None, Result, Ok, Err, String, string_bytes, if◌then◌else◌}
+use Rattle.std.specs.Prelude.{◌≡◌, ◌≢◌, ◌≤◌, ℕ, List, [], ◌∷◌, ◌++◌, length, take, Bool, MatchBool, true, false, Option}
+use Rattle.std.specs.Prelude.{Some, None, Result, Ok, Err, String, string_bytes, if◌then◌else◌}
 use Rattle.std.specs.Global.{Global}
 use Rattle.std.specs.Io.KnownBytes.{Appends, Keeps}
 use Rattle.ls_report.specs.Events.{Text}
@@ -44,9 +45,12 @@ exploring cells states illegal first = record { cells = cells; states = states; 
 
 -- and what one that draws schedules by seeds may answer on two
 abbrev pub OnSamples : Request → Text → Text → Result Text ToolFault → Type 0
-OnSamples (requests.Batch seed count steps switch cells false) classes program answer = TalliesTo cells (sampling seed count (drawing steps switch)) classes program answer
-OnSamples (requests.Batch seed count steps switch cells true) classes program answer = JudgesTo cells (sampling seed count (drawing steps switch)) classes program answer
-OnSamples (requests.Sample seed steps switch cells) classes program answer = SamplesTo cells seed (drawing steps switch) classes program answer
+OnSamples (requests.Batch seed count steps switch cells false) classes program answer = TalliesTo cells
+    (sampling seed count (drawing steps switch)) classes program answer
+OnSamples (requests.Batch seed count steps switch cells true) classes program answer = JudgesTo cells
+    (sampling seed count (drawing steps switch)) classes program answer
+OnSamples (requests.Sample seed steps switch cells) classes program answer = SamplesTo cells seed (drawing steps switch)
+    classes program answer
 OnSamples other classes program answer = answer ≡ Err faults.WrongParts
 
 -- and on two
@@ -54,9 +58,12 @@ abbrev pub OnTwo : Request → Text → Text → Result Text ToolFault → Type 
 OnTwo requests.Check history order answer = ChecksTo history order answer
 OnTwo requests.Compile classes program answer = CountsTo classes program answer
 OnTwo (requests.Live cells limit) classes program answer = LivesTo cells limit classes program answer
-OnTwo (requests.Batch seed count steps switch cells judge) classes program answer = OnSamples (requests.Batch seed count steps switch cells judge) classes program answer
-OnTwo (requests.Sample seed steps switch cells) classes program answer = OnSamples (requests.Sample seed steps switch cells) classes program answer
-OnTwo (requests.Explore cells states illegal first) classes program answer = ExploresTo (exploring cells states illegal first) classes program answer
+OnTwo (requests.Batch seed count steps switch cells judge) classes program answer = OnSamples
+    (requests.Batch seed count steps switch cells judge) classes program answer
+OnTwo (requests.Sample seed steps switch cells) classes program answer = OnSamples
+    (requests.Sample seed steps switch cells) classes program answer
+OnTwo (requests.Explore cells states illegal first) classes program answer = ExploresTo
+    (exploring cells states illegal first) classes program answer
 OnTwo other first second answer = answer ≡ Err faults.WrongParts
 
 -- what is shown of a run
@@ -72,19 +79,25 @@ states_view dot from to = if dot then views.Drawings from to else views.States f
 -- and on three
 abbrev pub OnThree : Request → Text → Text → Text → Result Text ToolFault → Type 0
 OnThree (requests.Replay cells false) classes program schedule answer = ReplaysTo cells classes program schedule answer
-OnThree (requests.Replay cells true) classes program schedule answer = ReplaysLiveTo cells classes program schedule answer
+OnThree (requests.Replay cells true) classes program schedule answer = ReplaysLiveTo cells classes program schedule
+    answer
 OnThree requests.Source classes program schedule answer = ViewsTo views.History classes program schedule answer
-OnThree (requests.Trace from to fold) classes program schedule answer = ViewsTo (trace_view fold from to) classes program schedule answer
+OnThree (requests.Trace from to fold) classes program schedule answer = ViewsTo (trace_view fold from to) classes
+    program schedule answer
 OnThree (requests.Page from to) classes program schedule answer = PagesTo from to classes program schedule answer
-OnThree (requests.State dot to) classes program schedule answer = ViewsTo (state_view dot to) classes program schedule answer
-OnThree (requests.States dot from to) classes program schedule answer = ViewsTo (states_view dot from to) classes program schedule answer
+OnThree (requests.State dot to) classes program schedule answer = ViewsTo (state_view dot to) classes program schedule
+    answer
+OnThree (requests.States dot from to) classes program schedule answer = ViewsTo (states_view dot from to) classes
+    program schedule answer
 OnThree requests.Aim classes program targets answer = AimsTo classes program targets answer
-OnThree (requests.Translate to cells) classes program schedule answer = TranslatesTo to cells classes program schedule answer
+OnThree (requests.Translate to cells) classes program schedule answer = TranslatesTo to cells classes program schedule
+    answer
 OnThree other classes program schedule answer = answer ≡ Err faults.WrongParts
 
 -- and on four
 abbrev pub OnFour : Request → Text → Text → Text → Text → Result Text ToolFault → Type 0
-OnFour (requests.Page from to) classes program schedule order answer = PagesWithOrderTo from to classes program schedule order answer
+OnFour (requests.Page from to) classes program schedule order answer = PagesWithOrderTo from to classes program schedule
+    order answer
 OnFour other classes program schedule order answer = answer ≡ Err faults.WrongParts
 
 -- and on the parts of an input
@@ -129,7 +142,9 @@ ending_of explain input (Err f) = Tells (told explain f input)
 -- what the words and the input ask for
 pub data IsEnding (words : List Text) (input : Text) : Ending → Type 0 where
   BadLine : AsksFor words None → IsEnding words input Helps
-  Answered : (l : CommandLine) (answer : Result Text ToolFault) → AsksFor words (Some l) → AnswersText l.request input answer
+  Answered : (l : CommandLine) (answer : Result Text ToolFault) →
+      AsksFor words (Some l) →
+      AnswersText l.request input answer
       → IsEnding words input (ending_of l.explain input answer)
 
 -- ---- what the code answers
@@ -139,7 +154,8 @@ abbrev pub RefusesAs : Bool → ToolFault → Text → Refusal → Type 0
 RefusesAs explain f input (refusals.BadLine e) = ⊥
 RefusesAs explain f input (refusals.Fault faults.Memory) = Unit {0}
 RefusesAs explain f input (refusals.Fault g) = (g ≡ f) × (explain ≡ false)
-RefusesAs explain f input (refusals.Explained bytes) = (bytes.items ≡ told true f input) × (explain ≡ true) × (f ≢ faults.Memory)
+RefusesAs explain f input (refusals.Explained bytes) = (bytes.items ≡ told true f input) × (explain ≡ true) ×
+    (f ≢ faults.Memory)
 
 -- the words ask for nothing, or memory ran out before they were read
 abbrev pub refused_words : WordsFault → Refusal
@@ -162,7 +178,9 @@ Decides words input (Err (refusals.Explained bytes)) = IsEnding words input (Tel
 -- the same over a reader, which may fail once the command line is taken
 pub data Responds (words : List Text) (input : Text) : Result (String Global) Refusal → Type 0 where
   Decided : (answer : Result (String Global) Refusal) → Decides words input answer → Responds words input answer
-  Unreadable : (l : CommandLine) → AsksFor words (Some l) → Responds words input (Err (refusals.Fault faults.ReadFailed))
+  Unreadable : (l : CommandLine) →
+      AsksFor words (Some l) →
+      Responds words input (Err (refusals.Fault faults.ReadFailed))
 
 -- it holds of what a reader has left, where that is known, and else of some input
 abbrev pub OfInput : Option Text → (Text → Type 0) → Type 0
@@ -192,11 +210,22 @@ Shows Helps exit out out' err err' = (exit.status ≡ 2) × Keeps out out'
 
 -- the writer failed: a beginning of the text is there, and the fault's line is told
 abbrev pub CutShort : Text → Exit → Option Text → Option Text → Option Text → Option Text → Type 0
-CutShort text exit out out' err err' = (exit.status ≡ 1) × Begins out out' text × Told (fault_line faults.WriteFailed) exit.is_told err err'
+CutShort text exit out out' err err' = (exit.status ≡ 1) × Begins out out' text ×
+    Told (fault_line faults.WriteFailed) exit.is_told err err'
 
 -- A run ends as the words and the input ask, or it tells that memory ran out or that a stream failed.
 pub data Ends (words : List Text) (input : Text) (exit : Exit) (out out' err err' : Option Text) : Type 0 where
-  AsAsked : (ending : Ending) → IsEnding words input ending → Shows ending exit out out' err err' → Ends words input exit out out' err err'
-  OutOfMemory : Shows (Tells (fault_line faults.Memory)) exit out out' err err' → Ends words input exit out out' err err'
-  ReaderFailed : (l : CommandLine) → AsksFor words (Some l) → Shows (Tells (fault_line faults.ReadFailed)) exit out out' err err' → Ends words input exit out out' err err'
-  WriterFailed : (text : Text) → IsEnding words input (Prints text) → CutShort text exit out out' err err' → Ends words input exit out out' err err'
+  AsAsked : (ending : Ending) →
+      IsEnding words input ending →
+      Shows ending exit out out' err err' →
+      Ends words input exit out out' err err'
+  OutOfMemory : Shows (Tells (fault_line faults.Memory)) exit out out' err err' →
+      Ends words input exit out out' err err'
+  ReaderFailed : (l : CommandLine) →
+      AsksFor words (Some l) →
+      Shows (Tells (fault_line faults.ReadFailed)) exit out out' err err' →
+      Ends words input exit out out' err err'
+  WriterFailed : (text : Text) →
+      IsEnding words input (Prints text) →
+      CutShort text exit out out' err err' →
+      Ends words input exit out out' err err'

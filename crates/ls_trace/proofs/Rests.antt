@@ -1,5 +1,6 @@
 -- The lines of the steps that are left.
-use Rattle.std.proofs.Common.{◌≡◌, ℕ, ◌+◌, ◌<◌, ◌≤◌, true, false, List, [], ◌∷◌, ◌++◌, length, drop, get_or, refl, sym, ap, ◌∙◌, arith}
+use Rattle.std.proofs.Common.{◌≡◌, ℕ, ◌+◌, ◌<◌, ◌≤◌, true, false, List, [], ◌∷◌, ◌++◌, length, drop, get_or, refl, sym}
+use Rattle.std.proofs.Common.{ap, ◌∙◌, arith}
 use Rattle.std.specs.Prelude.{nat_le, if◌then◌else◌}
 use Rattle.std.proofs.lemmas.List.{append_assoc, append-nil, drop_all, drop_more}
 use Rattle.std.proofs.lemmas.Bool.Decides.{nat_tests}
@@ -19,14 +20,17 @@ rest_of names from number r text ts = text ++ lines names from number r ts
 
 one_more : (names : Names) (from number t : ℕ) (r r' : Told) (did : Did) (ts : List ℕ) (text : Text) →
     r' ≡ after_step names r t → did ≡ (step_in names r t).did →
-    (text ++ told_line names from number r' t did) ++ lines names from (number + 1) r' ts ≡ text ++ lines names from number r (t ∷ ts)
+    (text ++ told_line names from number r' t did) ++ lines names from (number + 1) r' ts ≡ text ++
+    lines names from number r (t ∷ ts)
 one_more names from number t r r' did ts text er ed =
     append_assoc text (told_line names from number r' t did) (lines names from (number + 1) r' ts)
     ∙ ap (λ d. text ++ (told_line names from number r' t d ++ lines names from (number + 1) r' ts)) ed
-    ∙ ap (λ q. text ++ (told_line names from number q t (step_in names r t).did ++ lines names from (number + 1) q ts)) er
+    ∙ ap (λ q. text ++ (told_line names from number q t (step_in names r t).did ++ lines names from (number + 1) q ts))
+    er
 
 -- after one more step
-pub rest_after : (names : Names) (from number i d : ℕ) (r r' : Told) (did : Did) (ts : List ℕ) (text text' whole : Text) →
+pub rest_after : (names : Names) (from number i d : ℕ) (r r' : Told) (did : Did) (ts : List ℕ) (text text' whole : Text)
+    →
     i < length ts →
     r' ≡ after_step names r (get_or ts i d) →
     did ≡ (step_in names r (get_or ts i d)).did →
@@ -39,17 +43,23 @@ rest_after names from number i d r r' did ts text text' whole within er ed et h 
     ∙ ap (rest_of names from number r text) (sym (drop_more ts i d within))
     ∙ h
 
-pub is_told : (names : Names) (from number : ℕ) (r : Told) (thread : ℕ) (did : Did) (text : Text) → from ≤ number → text ++ line names number r thread did ≡ text ++ told_line names from number r thread did
+pub is_told : (names : Names) (from number : ℕ) (r : Told) (thread : ℕ) (did : Did) (text : Text) →
+    from ≤ number →
+    text ++ line names number r thread did ≡ text ++ told_line names from number r thread did
 is_told names from number r thread did text h =
     let b : nat_le from number ≡ true = grind (arith, nat_tests) in
     rw b refl
 
-pub is_untold : (names : Names) (from number : ℕ) (r : Told) (thread : ℕ) (did : Did) (text : Text) → number < from → text ≡ text ++ told_line names from number r thread did
+pub is_untold : (names : Names) (from number : ℕ) (r : Told) (thread : ℕ) (did : Did) (text : Text) →
+    number < from →
+    text ≡ text ++ told_line names from number r thread did
 is_untold names from number r thread did text h =
     let b : nat_le from number ≡ false = grind (arith, nat_tests) in
     rw b (sym (append-nil text))
 
 -- where no steps are left
-pub at_end : (names : Names) (from number i : ℕ) (r : Told) (text : Text) (ts : List ℕ) → length ts ≤ i → text ≡ rest_of names from number r text (drop i ts)
+pub at_end : (names : Names) (from number i : ℕ) (r : Told) (text : Text) (ts : List ℕ) →
+    length ts ≤ i →
+    text ≡ rest_of names from number r text (drop i ts)
 at_end names from number i r text ts h =
     sym (ap (rest_of names from number r text) (drop_all i ts h) ∙ append-nil text)

@@ -21,4 +21,5 @@ lines_told names from number counts r (t ∷ ts) =
     (lines_told names from (number + 1) (counted counts t) (after_step names r t) ts)
 
 pub folds_the_trace : FoldsTheTrace
-folds_the_trace names schedule from to = lines_told names from 1 (map (λ t. 0) names.program.threads) (begun names.program) (take to schedule)
+folds_the_trace names schedule from to = lines_told names from 1 (map (λ t. 0) names.program.threads)
+    (begun names.program) (take to schedule)

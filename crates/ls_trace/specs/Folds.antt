@@ -1,5 +1,6 @@
 -- A trace in which neighbouring steps of one thread that change nothing are one line.
-use Rattle.std.specs.Prelude.{ℕ, ◌+◌, ◌-◌, ◌&&◌, Bool, nat_eq, nat_le, List, [], ◌∷◌, ◌++◌, codes, flat_map, map, slice_index_or, slice_set, take, if◌then◌else◌}
+use Rattle.std.specs.Prelude.{ℕ, ◌+◌, ◌-◌, ◌&&◌, Bool, nat_eq, nat_le, List, [], ◌∷◌, ◌++◌, codes, flat_map, map}
+use Rattle.std.specs.Prelude.{slice_index_or, slice_set, take, if◌then◌else◌}
 use Rattle.std.specs.Fmt.{decimal}
 use Rattle.ls_report.specs.Events.{Text}
 use Rattle.ls_labels.specs.Names.{Names}
@@ -42,7 +43,8 @@ step_told names number counts old new thread = record {
 abbrev pub steps_told : Names → ℕ → ℕ → List ℕ → Told → List ℕ → List Fold
 steps_told names from number counts r [] = []
 steps_told names from number counts r (thread ∷ threads) =
-    (if nat_le from number then step_told names number (counted counts thread) r (after_step names r thread) thread ∷ [] else [])
+    (if nat_le from number then step_told names number (counted counts thread) r (after_step names r thread) thread ∷
+    [] else [])
     ++ steps_told names from (number + 1) (counted counts thread) (after_step names r thread) threads
 
 -- ---- the folds

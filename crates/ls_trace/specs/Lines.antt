@@ -1,5 +1,6 @@
 -- The line of each step.
-use Rattle.std.specs.Prelude.{ℕ, ◌+◌, List, [], ◌∷◌, ◌++◌, nat_le, nat_lt, length, slice_index_or, take, codes, if◌then◌else◌}
+use Rattle.std.specs.Prelude.{ℕ, ◌+◌, List, [], ◌∷◌, ◌++◌, nat_le, nat_lt, length, slice_index_or, take, codes}
+use Rattle.std.specs.Prelude.{if◌then◌else◌}
 use Rattle.std.specs.Fmt.{decimal}
 use Rattle.ls_meaning.specs.declared.step.Asked.{Asked}
 use Rattle.ls_meaning.specs.declared.step.Asked.TheVariants.{Asks, Ended, NotStarted}
@@ -32,7 +33,8 @@ numbered_text names r thread =
 
 -- what is told of a step; the run is the one after it
 abbrev pub step_text : Names → Told → ℕ → Did → Text
-step_text names r thread (Acted action answer) = who names r thread ++ performed_text names r.labels thread action answer
+step_text names r thread (Acted action answer) = who names r thread ++
+    performed_text names r.labels thread action answer
 step_text names r thread Waits = numbered_text names r thread
 step_text names r thread Idle = numbered_text names r thread
 
@@ -44,7 +46,8 @@ line names number r thread did = decimal number ++ (32 ∷ (step_text names r th
 abbrev pub lines : Names → ℕ → ℕ → Told → List ℕ → Text
 lines names from number r [] = []
 lines names from number r (thread ∷ threads) =
-    (if nat_le from number then line names number (after_step names r thread) thread (step_in names r thread).did else [])
+    (if nat_le from number then line names number (after_step names r thread) thread (step_in names r thread).did else
+    [])
     ++ lines names from (number + 1) (after_step names r thread) threads
 
 -- the lines of the steps of a schedule whose numbers, counted from 1, lie in a range, both ends among them

@@ -3,7 +3,8 @@ use Rattle.std.specs.Prelude.{Bool, true, false}
 use Rattle.ls_events.specs.declared.value.Value.{Value}
 use Rattle.ls_events.specs.declared.value.Value.TheVariants.{Boolean}
 use Rattle.ls_events.specs.declared.action.Action.{Action}
-use Rattle.ls_events.specs.declared.action.Action.TheVariants.{AttemptMark, Enter, IsHeld, ReadField, ReadItem, ReadName, ReadPair, SwapPair, TryLock, Turn}
+use Rattle.ls_events.specs.declared.action.Action.TheVariants.{AttemptMark, Enter, IsHeld, ReadField, ReadItem}
+use Rattle.ls_events.specs.declared.action.Action.TheVariants.{ReadName, ReadPair, SwapPair, TryLock, Turn}
 use Rattle.ls_events.specs.declared.action.Answer.{Answer}
 use Rattle.ls_events.specs.declared.action.Answer.TheVariants.{Fails, Gives}
 use Rattle.ls_meaning.specs.declared.step.Did.{Did}

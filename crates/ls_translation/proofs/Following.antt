@@ -1,6 +1,7 @@
 -- The machine's steps for those of the source.
 use Rattle.ls_events.specs.Limits.{most_steps}
-use Rattle.std.proofs.Common.{◌≡◌, ℕ, ◌+◌, ◌<◌, ◌≤◌, Bool, true, false, List, [], ◌++◌, length, drop, get_or, refl, sym, ap, ◌∙◌, subst}
+use Rattle.std.proofs.Common.{◌≡◌, ℕ, ◌+◌, ◌<◌, ◌≤◌, Bool, true, false, List, [], ◌++◌, length, drop, get_or, refl, sym}
+use Rattle.std.proofs.Common.{ap, ◌∙◌, subst}
 use Rattle.std.specs.Prelude.{if◌then◌else◌}
 use Rattle.std.proofs.lemmas.List.{append-nil, drop_all, drop_more}
 use Rattle.ls_checked.specs.CheckedTree.{File}
@@ -14,8 +15,10 @@ use Rattle.ls_headline.specs.Translations.{until_acts, setup_end, has_setup_ende
 use Rattle.ls_translation.specs.declared.fault.TranslationFault.{TranslationFault}
 use Rattle.ls_translation.specs.declared.machine_run.MachineRun.{MachineRun}
 use Rattle.ls_translation.specs.Faults.{CutsShort}
-use Rattle.ls_translation.specs.declared.fault.TranslationFault.TheVariants.{Memory, BadCells, DoesNotFit, ResultTooLong}
-use Rattle.ls_translation.specs.MachineRuns.{begun as no_steps, gone, has_acted, steps_after, steps_before, steps_of_acting, steps_of_one, steps_of_rest}
+use Rattle.ls_translation.specs.declared.fault.TranslationFault.TheVariants.{Memory, BadCells, DoesNotFit}
+use Rattle.ls_translation.specs.declared.fault.TranslationFault.TheVariants.{ResultTooLong}
+use Rattle.ls_translation.specs.MachineRuns.{begun as no_steps, gone, has_acted, steps_after, steps_before}
+use Rattle.ls_translation.specs.MachineRuns.{steps_of_acting, steps_of_one, steps_of_rest}
 use Rattle.ls_translation.proofs.MachineRuns.{cuts_whole, gone_gone, gone_none}
 use Rattle.ls_translation.proofs.SourceSteps.{after_step_is}
 
@@ -39,11 +42,15 @@ after_is r r' n m t d is on =
     ∙ ap (λ x. steps_by r n m t x (step r.file r.program r.state t).after) is
 
 -- nothing for a step that changes nothing
-pub stays : (r : Progress) (q : MachineRun) (n t : ℕ) (d : Did) → has_acted d ≡ false → q ≡ gone q (steps_after r n q.machine t d)
+pub stays : (r : Progress) (q : MachineRun) (n t : ℕ) (d : Did) →
+    has_acted d ≡ false →
+    q ≡ gone q (steps_after r n q.machine t d)
 stays r q n t d still = sym (ap (λ b. gone q (if b then steps_of_acting r n q.machine t else [])) still ∙ gone_none q)
 
 -- else up to the acting one, and the setup's to its end if its source has ended
-pub acts : (r : Progress) (n : ℕ) (m : Machine) (t : ℕ) (d : Did) → has_acted d ≡ true → steps_after r n m t d ≡ steps_of_acting r n m t
+pub acts : (r : Progress) (n : ℕ) (m : Machine) (t : ℕ) (d : Did) →
+    has_acted d ≡ true →
+    steps_after r n m t d ≡ steps_of_acting r n m t
 acts r n m t d loud = ap (λ b. if b then steps_of_acting r n m t else []) loud
 
 pub act_goes : (r : Progress) (q q1 q2 : MachineRun) (n t : ℕ) (b : Bool) →
@@ -62,7 +69,8 @@ pub act_short : (r : Progress) (q : MachineRun) (n t : ℕ) (e : TranslationFaul
     CutsShort (q.steps ++ until_acts n q.machine t) e →
     CutsShort (q.steps ++ steps_of_acting r n q.machine t) e
 act_short r q n t e short =
-    cuts_whole q (gone q (steps_of_acting r n q.machine t)) (until_acts n q.machine t) (steps_before r n (machine_run q.machine (until_acts n q.machine t))) e refl short
+    cuts_whole q (gone q (steps_of_acting r n q.machine t)) (until_acts n q.machine t)
+    (steps_before r n (machine_run q.machine (until_acts n q.machine t))) e refl short
 
 pub finish_short : (r : Progress) (q q1 : MachineRun) (n t : ℕ) (b : Bool) (e : TranslationFault) →
     b ≡ has_setup_ended r.file r.program r.state →
@@ -71,7 +79,8 @@ pub finish_short : (r : Progress) (q q1 : MachineRun) (n t : ℕ) (b : Bool) (e 
     CutsShort (q.steps ++ steps_of_acting r n q.machine t) e
 finish_short r q q1 n t b e ended h1 short =
     cuts_whole q1 (gone q (steps_of_acting r n q.machine t)) (setup_end n q1.machine b) [] e
-    (ap (gone q1) (append-nil (setup_end n q1.machine b)) ∙ act_goes r q q1 (gone q1 (setup_end n q1.machine b)) n t b ended h1 refl) short
+    (ap (gone q1) (append-nil (setup_end n q1.machine b)) ∙ act_goes r q q1 (gone q1 (setup_end n q1.machine b)) n t b
+    ended h1 refl) short
 
 -- a refusal that cuts short and isn't that there are too many steps is that memory ran out
 pub only_memory : (steps : List ℕ) (e : TranslationFault) → CutsShort steps e → (e ≡ ResultTooLong → ⊥) → e ≡ Memory
@@ -81,13 +90,23 @@ only_memory steps (DoesNotFit step) short other = absurd short
 only_memory steps ResultTooLong short other = absurd (other refl)
 
 -- the rest of a schedule
-pub rest_first : (r : Progress) (n : ℕ) (m : Machine) (ts : List ℕ) (i d : ℕ) → i < length ts → steps_of_rest r n m (drop i ts) ≡ steps_of_one r n m (get_or ts i d) ++ steps_of_rest (gone_on r (get_or ts i d)) n (machine_run m (steps_of_one r n m (get_or ts i d))) (drop (i + 1) ts)
+pub rest_first : (r : Progress) (n : ℕ) (m : Machine) (ts : List ℕ) (i d : ℕ) →
+    i < length ts →
+    steps_of_rest r n m (drop i ts) ≡ steps_of_one r n m (get_or ts i d) ++
+    steps_of_rest (gone_on r (get_or ts i d)) n (machine_run m (steps_of_one r n m (get_or ts i d)))
+    (drop (i + 1) ts)
 rest_first r n m ts i d within =
     let t : ℕ = get_or ts i d in
     ap (λ l. steps_of_rest r n m l) (drop_more ts i d within)
-    ∙ ap (λ s. steps_of_one r n m t ++ steps_from r.file r.program n s (machine_run m (steps_of_one r n m t)) (drop (i + 1) ts)) (after_step_is r.file r.program r.state t)
+    ∙ ap (λ s. steps_of_one r n m t ++ steps_from r.file r.program n s (machine_run m (steps_of_one r n m t))
+    (drop (i + 1) ts)) (after_step_is r.file r.program r.state t)
 
-pub follows : (r r' : Progress) (q q' whole : MachineRun) (n : ℕ) (ts : List ℕ) (i d : ℕ) → i < length ts → r' ≡ gone_on r (get_or ts i d) → q' ≡ gone q (steps_of_one r n q.machine (get_or ts i d)) → gone q (steps_of_rest r n q.machine (drop i ts)) ≡ whole → gone q' (steps_of_rest r' n q'.machine (drop (i + 1) ts)) ≡ whole
+pub follows : (r r' : Progress) (q q' whole : MachineRun) (n : ℕ) (ts : List ℕ) (i d : ℕ) →
+    i < length ts →
+    r' ≡ gone_on r (get_or ts i d) →
+    q' ≡ gone q (steps_of_one r n q.machine (get_or ts i d)) →
+    gone q (steps_of_rest r n q.machine (drop i ts)) ≡ whole →
+    gone q' (steps_of_rest r' n q'.machine (drop (i + 1) ts)) ≡ whole
 follows r r' q q' whole n ts i d within is more h =
     let t : ℕ = get_or ts i d in
     let one : List ℕ = steps_of_one r n q.machine t in
@@ -97,11 +116,16 @@ follows r r' q q' whole n ts i d within is more h =
     ∙ ap (gone q) (sym (rest_first r n q.machine ts i d within))
     ∙ h
 
-pub follow_short : (r : Progress) (q whole : MachineRun) (n : ℕ) (ts : List ℕ) (i d : ℕ) (e : TranslationFault) → i < length ts → gone q (steps_of_rest r n q.machine (drop i ts)) ≡ whole → CutsShort (q.steps ++ steps_of_one r n q.machine (get_or ts i d)) e → CutsShort whole.steps e
+pub follow_short : (r : Progress) (q whole : MachineRun) (n : ℕ) (ts : List ℕ) (i d : ℕ) (e : TranslationFault) →
+    i < length ts →
+    gone q (steps_of_rest r n q.machine (drop i ts)) ≡ whole →
+    CutsShort (q.steps ++ steps_of_one r n q.machine (get_or ts i d)) e →
+    CutsShort whole.steps e
 follow_short r q whole n ts i d e within h short =
     let t : ℕ = get_or ts i d in
     let one : List ℕ = steps_of_one r n q.machine t in
-    cuts_whole q whole one (steps_of_rest (gone_on r t) n (machine_run q.machine one) (drop (i + 1) ts)) e (ap (gone q) (sym (rest_first r n q.machine ts i d within)) ∙ h) short
+    cuts_whole q whole one (steps_of_rest (gone_on r t) n (machine_run q.machine one) (drop (i + 1) ts)) e
+    (ap (gone q) (sym (rest_first r n q.machine ts i d within)) ∙ h) short
 
 -- the start, with the setup's end where its source has ended
 pub begins : (file : File) (program : Program) (r : Progress) (q q' : MachineRun) (n : ℕ) (m : Machine) (ts : List ℕ) →
@@ -112,16 +136,19 @@ pub begins : (file : File) (program : Program) (r : Progress) (q q' : MachineRun
 begins file program r q q' n m ts is first h =
     let end : List ℕ = steps_before (begun file program) n m in
     ap (λ p. gone q' (steps_of_rest p n q'.machine ts)) is
-    ∙ ap (λ p. gone p (steps_of_rest (begun file program) n p.machine ts)) (h ∙ ap (λ p. gone p (steps_before r n p.machine)) first ∙ ap (λ p. gone (no_steps m) (steps_before p n m)) is)
+    ∙ ap (λ p. gone p (steps_of_rest (begun file program) n p.machine ts))
+    (h ∙ ap (λ p. gone p (steps_before r n p.machine)) first ∙ ap (λ p. gone (no_steps m) (steps_before p n m)) is)
     ∙ gone_gone (no_steps m) end (steps_of_rest (begun file program) n (machine_run m end) ts)
 
--- The machine follows a source run whose rest of a schedule is this: its steps and those of the rest are the whole's. If there are too
+-- The machine follows a source run whose rest of a schedule is this: its steps and those of the rest are the whole's.
+-- If there are too
 -- many steps, there are in the whole.
 pub record IsFollowed (r : Progress) (q whole : MachineRun) (n : ℕ) (ts : List ℕ) (is_long : Bool) : Type 0 where
   pub goes : is_long ≡ false → gone q (steps_of_rest r n q.machine ts) ≡ whole
   pub long : is_long ≡ true → most_steps < length whole.steps
 
-pub is_begun : (file : File) (program : Program) (r : Progress) (q q' : MachineRun) (n : ℕ) (m : Machine) (b : Bool) (ts : List ℕ) →
+pub is_begun : (file : File) (program : Program) (r : Progress) (q q' : MachineRun) (n : ℕ) (m : Machine) (b : Bool)
+    (ts : List ℕ) →
     r ≡ begun file program →
     q ≡ no_steps m →
     (b ≡ false → q' ≡ gone q (steps_before r n q.machine)) →
@@ -151,11 +178,17 @@ is_followed r r' q q' whole n ts i x d was b within did on h short goes long =
     let one : steps_after r' n q.machine t d ≡ steps_of_one r n q.machine t = after_is r r' n q.machine t d did on in
     record {
       goes = λ e. follows r r' q q' whole n ts i x within on (goes e ∙ ap (gone q) one) (h.goes (short e));
-      long = λ e. longer r q whole n ts i x was within h (λ still. subst (λ l. most_steps < length (q.steps ++ l)) one (long e still));
+      long = λ e. longer r q whole n ts i x was within h (λ still.
+          subst (λ l. most_steps < length (q.steps ++ l)) one (long e still));
     }
   where
-    longer : (r : Progress) (q whole : MachineRun) (n : ℕ) (ts : List ℕ) (i x : ℕ) (was : Bool) → i < length ts → IsFollowed r q whole n (drop i ts) was → (was ≡ false → most_steps < length (q.steps ++ steps_of_one r n q.machine (get_or ts i x))) → most_steps < length whole.steps
-    longer r q whole n ts i x false within h more = follow_short r q whole n ts i x ResultTooLong within (h.goes refl) (more refl)
+    longer : (r : Progress) (q whole : MachineRun) (n : ℕ) (ts : List ℕ) (i x : ℕ) (was : Bool) →
+        i < length ts →
+        IsFollowed r q whole n (drop i ts) was →
+        (was ≡ false → most_steps < length (q.steps ++ steps_of_one r n q.machine (get_or ts i x))) →
+        most_steps < length whole.steps
+    longer r q whole n ts i x false within h more = follow_short r q whole n ts i x ResultTooLong within (h.goes refl)
+        (more refl)
     longer r q whole n ts i x true within h more = h.long refl
 
 -- at the end of the schedule the steps are the whole's
@@ -165,5 +198,6 @@ pub whole_steps : (r : Progress) (q : MachineRun) (n : ℕ) (m : Machine) (ts st
     length ts ≤ i →
     q.steps ≡ steps
 whole_steps r q n m ts steps i b h short past =
-    let none : gone q (steps_of_rest r n q.machine (drop i ts)) ≡ q = ap (λ l. gone q (steps_of_rest r n q.machine l)) (drop_all i ts past) ∙ gone_none q in
+    let none : gone q (steps_of_rest r n q.machine (drop i ts)) ≡ q = ap (λ l. gone q (steps_of_rest r n q.machine l))
+    (drop_all i ts past) ∙ gone_none q in
     ap (λ (p : MachineRun). p.steps) (sym none ∙ h.goes short)

@@ -1,12 +1,14 @@
 -- A run of the machine, step by step.
-use Rattle.std.proofs.Common.{◌≡◌, ℕ, zero, suc, ◌≤◌, true, false, List, [], ◌∷◌, ◌++◌, length, slice_get, refl, sym, ap, ◌∙◌, arith, length-append}
+use Rattle.std.proofs.Common.{◌≡◌, ℕ, zero, suc, ◌≤◌, true, false, List, [], ◌∷◌, ◌++◌, length, slice_get, refl, sym}
+use Rattle.std.proofs.Common.{ap, ◌∙◌, arith, length-append}
 use Rattle.std.proofs.lemmas.List.{append_assoc, append-nil}
 use Rattle.ls_code.specs.Machine.{Machine, machine_step, machine_run, setup_ended}
 use Rattle.ls_code.specs.declared.step.Did.{Did}
 use Rattle.ls_code.specs.declared.step.Did.TheVariants as did
 use Rattle.ls_headline.specs.Translations.{until_acts, until_over, if_silent, unless}
 use Rattle.ls_translation.specs.declared.fault.TranslationFault.{TranslationFault}
-use Rattle.ls_translation.specs.declared.fault.TranslationFault.TheVariants.{Memory, BadCells, DoesNotFit, ResultTooLong}
+use Rattle.ls_translation.specs.declared.fault.TranslationFault.TheVariants.{Memory, BadCells, DoesNotFit}
+use Rattle.ls_translation.specs.declared.fault.TranslationFault.TheVariants.{ResultTooLong}
 use Rattle.ls_translation.specs.declared.machine_run.MachineRun.{MachineRun}
 use Rattle.ls_translation.specs.Faults.{CutsShort}
 use Rattle.ls_translation.specs.MachineRuns.{one_more, gone, is_loud}
@@ -15,7 +17,8 @@ abbrev run_of : List ℕ → Machine → MachineRun
 run_of steps m = record { machine = m; steps = steps }
 
 pub gone_step : (r : MachineRun) (t : ℕ) (ts : List ℕ) → gone (one_more r t) ts ≡ gone r (t ∷ ts)
-gone_step r t ts = ap (λ l. run_of l (machine_run (machine_step r.machine t).machine ts)) (append_assoc r.steps (t ∷ []) ts)
+gone_step r t ts = ap (λ l. run_of l (machine_run (machine_step r.machine t).machine ts))
+    (append_assoc r.steps (t ∷ []) ts)
 
 pub gone_none : (r : MachineRun) → gone r [] ≡ r
 gone_none r = ap (λ l. run_of l r.machine) (append-nil r.steps)
@@ -37,13 +40,27 @@ cuts_longer xs ys (DoesNotFit step) more h = h
 cuts_longer xs ys ResultTooLong more h = omega arith
 
 -- where a run goes on by these steps, and no further than the whole
-pub cuts_whole : (r whole : MachineRun) (xs ys : List ℕ) (e : TranslationFault) → gone r (xs ++ ys) ≡ whole → CutsShort (r.steps ++ xs) e → CutsShort whole.steps e
+pub cuts_whole : (r whole : MachineRun) (xs ys : List ℕ) (e : TranslationFault) →
+    gone r (xs ++ ys) ≡ whole →
+    CutsShort (r.steps ++ xs) e →
+    CutsShort whole.steps e
 cuts_whole r whole xs ys e h short =
     let all = ap (λ (q : MachineRun). length q.steps) h in
-    cuts_longer (r.steps ++ xs) whole.steps e (omega (arith, all, length-append r.steps xs, length-append xs ys, length-append r.steps (xs ++ ys))) short
+    cuts_longer (r.steps ++ xs) whole.steps e (omega (
+      arith,
+      all,
+      length-append r.steps xs,
+      length-append xs ys,
+      length-append r.steps (xs ++ ys),
+    )) short
 
 -- where a thread's next step is silent
-pub silent_goes : (r r' whole : MachineRun) (n k t : ℕ) → n ≡ suc k → r' ≡ one_more r t → did.Silent ≡ (machine_step r.machine t).did → gone r (until_acts n r.machine t) ≡ whole → gone r' (until_acts k r'.machine t) ≡ whole
+pub silent_goes : (r r' whole : MachineRun) (n k t : ℕ) →
+    n ≡ suc k →
+    r' ≡ one_more r t →
+    did.Silent ≡ (machine_step r.machine t).did →
+    gone r (until_acts n r.machine t) ≡ whole →
+    gone r' (until_acts k r'.machine t) ≡ whole
 silent_goes r r' whole n k t e is silent h =
     ap (λ q. gone q (until_acts k q.machine t)) is
     ∙ gone_step r t (until_acts k (machine_step r.machine t).machine t)
@@ -69,14 +86,24 @@ silent_step did.Idle d' e h = absurd (cc)
 silent_step did.Stopped d' e h = absurd (cc)
 
 -- where it isn't
-pub loud_ends : (r r' whole : MachineRun) (n k t : ℕ) → n ≡ suc k → r' ≡ one_more r t → IsLoud (machine_step r.machine t).did → gone r (until_acts n r.machine t) ≡ whole → r' ≡ whole
+pub loud_ends : (r r' whole : MachineRun) (n k t : ℕ) →
+    n ≡ suc k →
+    r' ≡ one_more r t →
+    IsLoud (machine_step r.machine t).did →
+    gone r (until_acts n r.machine t) ≡ whole →
+    r' ≡ whole
 loud_ends r r' whole n k t e is loud h =
     is
-    ∙ ap (λ l. run_of (r.steps ++ t ∷ l) (machine_run (machine_step r.machine t).machine l)) (sym (loud (until_acts k (machine_step r.machine t).machine t)))
+    ∙ ap (λ l. run_of (r.steps ++ t ∷ l) (machine_run (machine_step r.machine t).machine l))
+    (sym (loud (until_acts k (machine_step r.machine t).machine t)))
     ∙ ap (λ m. gone r (until_acts m r.machine t)) (sym e)
     ∙ h
 
-pub last_ends : (r r' whole : MachineRun) (n t : ℕ) → n ≡ 0 → r' ≡ one_more r t → gone r (until_acts n r.machine t) ≡ whole → r' ≡ whole
+pub last_ends : (r r' whole : MachineRun) (n t : ℕ) →
+    n ≡ 0 →
+    r' ≡ one_more r t →
+    gone r (until_acts n r.machine t) ≡ whole →
+    r' ≡ whole
 last_ends r r' whole n t e is h = is ∙ ap (λ m. gone r (until_acts m r.machine t)) (sym e) ∙ h
 
 -- there is always one more step
@@ -88,22 +115,38 @@ acts_first : (n : ℕ) (m : Machine) (t : ℕ) → until_acts n m t ≡ (t ∷ [
 acts_first zero m t = refl
 acts_first (suc n) m t = refl
 
-pub acts_short : (r whole : MachineRun) (n t : ℕ) (e : TranslationFault) → gone r (until_acts n r.machine t) ≡ whole → CutsShort (r.steps ++ t ∷ []) e → CutsShort whole.steps e
-acts_short r whole n t e h short = cuts_whole r whole (t ∷ []) (later_steps n r.machine t) e (ap (gone r) (sym (acts_first n r.machine t)) ∙ h) short
+pub acts_short : (r whole : MachineRun) (n t : ℕ) (e : TranslationFault) →
+    gone r (until_acts n r.machine t) ≡ whole →
+    CutsShort (r.steps ++ t ∷ []) e →
+    CutsShort whole.steps e
+acts_short r whole n t e h short = cuts_whole r whole (t ∷ []) (later_steps n r.machine t) e
+    (ap (gone r) (sym (acts_first n r.machine t)) ∙ h) short
 
 -- the setup
-over_first : (n k : ℕ) (m : Machine) → n ≡ suc k → setup_ended (slice_get m.threads 0) ≡ false → until_over n m ≡ 0 ∷ until_over k (machine_step m 0).machine
+over_first : (n k : ℕ) (m : Machine) →
+    n ≡ suc k →
+    setup_ended (slice_get m.threads 0) ≡ false →
+    until_over n m ≡ 0 ∷ until_over k (machine_step m 0).machine
 over_first n k m e unended =
     ap (λ i. until_over i m) e ∙ ap (λ b. unless b (0 ∷ until_over k (machine_step m 0).machine)) unended
 
-pub over_goes : (r r' whole : MachineRun) (n k : ℕ) → n ≡ suc k → setup_ended (slice_get r.machine.threads 0) ≡ false → r' ≡ one_more r 0 → gone r (until_over n r.machine) ≡ whole → gone r' (until_over k r'.machine) ≡ whole
+pub over_goes : (r r' whole : MachineRun) (n k : ℕ) →
+    n ≡ suc k →
+    setup_ended (slice_get r.machine.threads 0) ≡ false →
+    r' ≡ one_more r 0 →
+    gone r (until_over n r.machine) ≡ whole →
+    gone r' (until_over k r'.machine) ≡ whole
 over_goes r r' whole n k e unended is h =
     ap (λ q. gone q (until_over k q.machine)) is
     ∙ gone_step r 0 (until_over k (machine_step r.machine 0).machine)
     ∙ ap (gone r) (sym (over_first n k r.machine e unended))
     ∙ h
 
-pub over_ends : (r whole : MachineRun) (n k : ℕ) → n ≡ suc k → setup_ended (slice_get r.machine.threads 0) ≡ true → gone r (until_over n r.machine) ≡ whole → r ≡ whole
+pub over_ends : (r whole : MachineRun) (n k : ℕ) →
+    n ≡ suc k →
+    setup_ended (slice_get r.machine.threads 0) ≡ true →
+    gone r (until_over n r.machine) ≡ whole →
+    r ≡ whole
 over_ends r whole n k e ended h =
     sym (gone_none r)
     ∙ ap (λ b. gone r (unless b (0 ∷ until_over k (machine_step r.machine 0).machine))) (sym ended)
@@ -113,6 +156,12 @@ over_ends r whole n k e ended h =
 pub over_none : (r whole : MachineRun) (n : ℕ) → n ≡ 0 → gone r (until_over n r.machine) ≡ whole → r ≡ whole
 over_none r whole n e h = sym (gone_none r) ∙ ap (λ m. gone r (until_over m r.machine)) (sym e) ∙ h
 
-pub over_short : (r whole : MachineRun) (n k : ℕ) (e : TranslationFault) → n ≡ suc k → setup_ended (slice_get r.machine.threads 0) ≡ false → gone r (until_over n r.machine) ≡ whole → CutsShort (r.steps ++ 0 ∷ []) e → CutsShort whole.steps e
+pub over_short : (r whole : MachineRun) (n k : ℕ) (e : TranslationFault) →
+    n ≡ suc k →
+    setup_ended (slice_get r.machine.threads 0) ≡ false →
+    gone r (until_over n r.machine) ≡ whole →
+    CutsShort (r.steps ++ 0 ∷ []) e →
+    CutsShort whole.steps e
 over_short r whole n k e is unended h short =
-    cuts_whole r whole (0 ∷ []) (until_over k (machine_step r.machine 0).machine) e (ap (gone r) (sym (over_first n k r.machine is unended)) ∙ h) short
+    cuts_whole r whole (0 ∷ []) (until_over k (machine_step r.machine 0).machine) e
+    (ap (gone r) (sym (over_first n k r.machine is unended)) ∙ h) short

@@ -1,5 +1,6 @@
 -- The cells that a schedule of the source takes, step by step.
-use Rattle.std.proofs.Common.{◌≡◌, ℕ, ◌+◌, ◌<◌, ◌≤◌, Bool, true, false, List, [], ◌∷◌, ◌++◌, length, take, get_or, Option, Some, None, slice_get, refl, sym, ap, ◌∙◌, subst, arith}
+use Rattle.std.proofs.Common.{◌≡◌, ℕ, ◌+◌, ◌<◌, ◌≤◌, Bool, true, false, List, [], ◌∷◌, ◌++◌, length, take, get_or}
+use Rattle.std.proofs.Common.{Option, Some, None, slice_get, refl, sym, ap, ◌∙◌, subst, arith}
 use Rattle.std.specs.Prelude.{if◌then◌else◌, IfNone, IfSome}
 use Rattle.std.proofs.lemmas.List.{length-map, take_all}
 use Rattle.ls_events.specs.declared.value.Value.{Value}
@@ -38,21 +39,29 @@ total_is (o ∷ os) = ap (λ n. size_of o + n) (total_is os)
 abbrev Adds : List Class → State → Step → Type 0
 Adds classes s done = total done.after.store.things ≡ total s.store.things + cells_by classes done.did
 
-one_more : (classes : List Class) (s : State) (a : Action Value) (o : Thing) → size_of o ≡ cells_made classes a → total (s.store.things ++ o ∷ []) ≡ total s.store.things + cells_made classes a
+one_more : (classes : List Class) (s : State) (a : Action Value) (o : Thing) →
+    size_of o ≡ cells_made classes a →
+    total (s.store.things ++ o ∷ []) ≡ total s.store.things + cells_made classes a
 one_more classes s a o e = total-append s.store.things o ∙ ap (λ n. total s.store.things + n) e
 
-nothing_made : (classes : List Class) (s : State) (t : ℕ) (a : Action Value) (e : Effect) → cells_made classes a ≡ 0 → Keeps s.store e → Adds classes s (performed s t a e)
+nothing_made : (classes : List Class) (s : State) (t : ℕ) (a : Action Value) (e : Effect) →
+    cells_made classes a ≡ 0 →
+    Keeps s.store e →
+    Adds classes s (performed s t a e)
 nothing_made classes s t a Waits none kept = omega arith
 nothing_made classes s t a (Does store answer) none kept =
-    let same : total store.things ≡ total s.store.things = total_is store.things ∙ ap added kept ∙ sym (total_is s.store.things) in
+    let same : total store.things ≡ total s.store.things = total_is store.things ∙ ap added kept ∙
+    sym (total_is s.store.things) in
     omega (arith, same, none)
 
 as_many_fields : (c : Option Class) → length (fields_in c) ≡ length (fields_by c)
 as_many_fields None = refl
 as_many_fields (Some c) = length-map c.fields start_of
 
-performed_adds : (classes : List Class) (s : State) (t : ℕ) (a : Action Value) → Adds classes s (performed s t a (effect classes s.store t a))
-performed_adds classes s t (New c) = one_more classes s (New c) (Object Free (fields_in (slice_get classes c))) (ap object_cells (as_many_fields (slice_get classes c)))
+performed_adds : (classes : List Class) (s : State) (t : ℕ) (a : Action Value) →
+    Adds classes s (performed s t a (effect classes s.store t a))
+performed_adds classes s t (New c) = one_more classes s (New c) (Object Free (fields_in (slice_get classes c)))
+    (ap object_cells (as_many_fields (slice_get classes c)))
 performed_adds classes s t NewLock = one_more classes s NewLock (LockOf Free) refl
 performed_adds classes s t (NewMarkable v) = one_more classes s (NewMarkable v) (Markable v) refl
 performed_adds classes s t (NewArray n) = one_more classes s (NewArray n) (Array (array_size n) _) refl
@@ -66,22 +75,31 @@ next_adds file s t (Goes action sort) = performed_adds file.classes s t action
 next_adds file s t Ended = idle_adds file.classes s
 next_adds file s t Trapped = idle_adds file.classes s
 
-if_adds : (classes : List Class) (s : State) (b : Bool) (done : Step) → Adds classes s done → Adds classes s (if b then done else idle s)
+if_adds : (classes : List Class) (s : State) (b : Bool) (done : Step) →
+    Adds classes s done →
+    Adds classes s (if b then done else idle s)
 if_adds classes s true done h = h
 if_adds classes s false done h = idle_adds classes s
 
-pub step_adds : (file : File) (program : Program) (s : State) (t : ℕ) → total (step file program s t).after.store.things ≡ total s.store.things + cells_by file.classes (step file program s t).did
+pub step_adds : (file : File) (program : Program) (s : State) (t : ℕ) →
+    total (step file program s t).after.store.things ≡ total s.store.things + cells_by file.classes
+    (step file program s t).did
 step_adds file program s t =
-    if_adds file.classes s (has_started file program s t) (step_of file s t (next file program t (answers_of s t))) (next_adds file s t (next file program t (answers_of s t)))
+    if_adds file.classes s (has_started file program s t) (step_of file s t (next file program t (answers_of s t)))
+    (next_adds file s t (next file program t (answers_of s t)))
 
 -- a run that has taken these steps, what they make having room, and the cells that are free after them
-pub record HasRoom (file : File) (program : Program) (cells : ℕ) (steps : List ℕ) (r : Progress) (free : ℕ) : Type 0 where
-  pub of_file : r.file ≡ file
-  pub of_program : r.program ≡ program
-  pub reached : r.state ≡ source_run file program steps
-  pub room : length program.names + total (source_run file program steps).store.things + free ≡ cells
+pub record HasRoom (file : File) (program : Program) (cells : ℕ) (steps : List ℕ) (r : Progress) (free : ℕ) : Type 0
+  where
+    pub of_file : r.file ≡ file
+    pub of_program : r.program ≡ program
+    pub reached : r.state ≡ source_run file program steps
+    pub room : length program.names + total (source_run file program steps).store.things + free ≡ cells
 
-pub room_begun : (file : File) (program : Program) (cells : ℕ) (r : Progress) (free : ℕ) → r ≡ begun file program → length program.names + free ≡ cells → HasRoom file program cells [] r free
+pub room_begun : (file : File) (program : Program) (cells : ℕ) (r : Progress) (free : ℕ) →
+    r ≡ begun file program →
+    length program.names + free ≡ cells →
+    HasRoom file program cells [] r free
 room_begun file program cells r free is h = record {
   of_file = ap (λ (p : Progress). p.file) is;
   of_program = ap (λ (p : Progress). p.program) is;
@@ -89,7 +107,8 @@ room_begun file program cells r free is h = record {
   room = omega arith;
 }
 
-module _ (file : File) (program : Program) (cells : ℕ) (ts : List ℕ) (i d : ℕ) (r : Progress) (free : ℕ) (within : i < length ts) (h : HasRoom file program cells (take i ts) r free) where
+module _ (file : File) (program : Program) (cells : ℕ) (ts : List ℕ) (i d : ℕ) (r : Progress) (free : ℕ)
+    (within : i < length ts) (h : HasRoom file program cells (take i ts) r free) where
   abbrev before : State
   before = source_run file program (take i ts)
 
@@ -108,13 +127,16 @@ module _ (file : File) (program : Program) (cells : ℕ) (ts : List ℕ) (i d : 
   more : source_run file program (take (i + 1) ts) ≡ done.after
   more = run_more file program ts i d within
 
-  grown : total (source_run file program (take (i + 1) ts)).store.things ≡ total before.store.things + cells_by file.classes done.did
+  grown : total (source_run file program (take (i + 1) ts)).store.things ≡ total before.store.things + cells_by
+      file.classes done.did
   grown = ap (λ (s : State). total s.store.things) more ∙ step_adds file program before (get_or ts i d)
 
   made_is : cells_by file.classes (done_in r).did ≡ cells_by file.classes done.did
   made_is = ap (λ (s : Step). cells_by file.classes s.did) done_is
 
-  by_classes : (classes : List Class) → classes ≡ file.classes → cells_by classes (done_in r).did ≡ cells_by file.classes done.did
+  by_classes : (classes : List Class) →
+      classes ≡ file.classes →
+      cells_by classes (done_in r).did ≡ cells_by file.classes done.did
   by_classes classes e = ap (λ cs. cells_by cs (done_in r).did) e ∙ made_is
 
   pub room_more : (classes : List Class) (r' : Progress) (did : Did) (found : Option ℕ) (left : ℕ) →
@@ -126,7 +148,8 @@ module _ (file : File) (program : Program) (cells : ℕ) (ts : List ℕ) (i d : 
       HasRoom file program cells (take (i + 1) ts) r' left
   room_more classes r' did found left e on done_it is some =
       let fits : left + cells_by classes (done_in r).did ≡ free =
-      subst (λ x. left + cells_by classes x ≡ free) done_it (subst (λ o. IfSome o (λ n. n + cells_by classes did ≡ free)) is some) in
+      subst (λ x. left + cells_by classes x ≡ free) done_it (subst
+      (λ o. IfSome o (λ n. n + cells_by classes did ≡ free)) is some) in
       record {
         of_file = ap (λ (p : Progress). p.file) on ∙ h.of_file;
         of_program = ap (λ (p : Progress). p.program) on ∙ h.of_program;
@@ -150,8 +173,12 @@ module _ (file : File) (program : Program) (cells : ℕ) (ts : List ℕ) (i d : 
         over = λ fits. absurd (omega (arith, h.room, grown, by_classes classes e, over, fits));
       }
 
-pub room_all : (file : File) (program : Program) (cells : ℕ) (ts : List ℕ) (n : ℕ) (r : Progress) (free : ℕ) → length ts ≤ n → HasRoom file program cells (take n ts) r free → Fits file program cells ts
+pub room_all : (file : File) (program : Program) (cells : ℕ) (ts : List ℕ) (n : ℕ) (r : Progress) (free : ℕ) →
+    length ts ≤ n →
+    HasRoom file program cells (take n ts) r free →
+    Fits file program cells ts
 room_all file program cells ts n r free past h =
     let all : length program.names + total (source_run file program ts).store.things + free ≡ cells =
-    ap (λ l. length program.names + total (source_run file program l).store.things + free) (sym (take_all n ts past)) ∙ h.room in
+    ap (λ l. length program.names + total (source_run file program l).store.things + free) (sym (take_all n ts past)) ∙
+    h.room in
     omega (arith, all)

@@ -4,7 +4,8 @@ use Rattle.std.specs.Prelude.{ℕ, ◌<◌, List, length}
 use Rattle.ls_machine.specs.declared.fault.LoadFault.{LoadFault}
 use Rattle.ls_machine.specs.declared.fault.LoadFault.TheVariants as load
 use Rattle.ls_translation.specs.declared.fault.TranslationFault.{TranslationFault}
-use Rattle.ls_translation.specs.declared.fault.TranslationFault.TheVariants.{Memory, BadCells, DoesNotFit, ResultTooLong}
+use Rattle.ls_translation.specs.declared.fault.TranslationFault.TheVariants.{Memory, BadCells, DoesNotFit}
+use Rattle.ls_translation.specs.declared.fault.TranslationFault.TheVariants.{ResultTooLong}
 
 -- the same refusal, of a machine that isn't loaded
 abbrev pub fault_of_load : LoadFault → TranslationFault

@@ -26,7 +26,8 @@ cells_by classes (did.Acted action answer) = cells_made classes action
 cells_by classes did.Waits = 0
 cells_by classes did.Idle = 0
 
--- The first step of a schedule whose making has no room: the setup names, and what the steps before it make, fit in the cells;
+-- The first step of a schedule whose making has no room: the setup names, and what the steps before it make, fit in the
+-- cells;
 -- with what it makes they don't.
 pub record IsFirstUnfit (file : File) (program : Program) (cells : ℕ) (schedule : List ℕ) (step : ℕ) : Type 0 where
   pub there : step < length schedule

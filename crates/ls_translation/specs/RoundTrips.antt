@@ -13,14 +13,19 @@ abbrev pub acting_steps : File → Program → List ℕ → List ℕ
 acting_steps file program schedule = map (λ e. e.thread) (source_trace file program schedule)
 
 pub record TranslatesBack (file : File) (program : Program) (code : Code) (cells : ℕ) : Type 0 where
-  -- a schedule of the source that fits, translated to the machine and back: its acting steps are left, with the same history
+  -- a schedule of the source that fits, translated to the machine and back: its acting steps are left, with the same
+  -- history
   pub to_source_again : (schedule : List ℕ) → Fits file program cells schedule →
       to_source code cells (to_machine file program code cells schedule) ≡ acting_steps file program schedule
   pub source_history_again : (schedule : List ℕ) → Fits file program cells schedule →
-      source_history file program (to_source code cells (to_machine file program code cells schedule)) ≡ source_history file program schedule
-  -- a schedule of the machine, translated to the source and, where that fits, back: it has the same history, and translating once
+      source_history file program (to_source code cells (to_machine file program code cells schedule)) ≡ source_history
+      file program schedule
+  -- a schedule of the machine, translated to the source and, where that fits, back: it has the same history, and
+  -- translating once
   -- more changes nothing
   pub machine_history_again : (schedule : List ℕ) → Fits file program cells (to_source code cells schedule) →
-      machine_history code cells (to_machine file program code cells (to_source code cells schedule)) ≡ machine_history code cells schedule
+      machine_history code cells (to_machine file program code cells (to_source code cells schedule)) ≡ machine_history
+      code cells schedule
   pub once_more : (schedule : List ℕ) → Fits file program cells (to_source code cells schedule) →
-      to_source code cells (to_machine file program code cells (to_source code cells schedule)) ≡ to_source code cells schedule
+      to_source code cells (to_machine file program code cells (to_source code cells schedule)) ≡ to_source code cells
+      schedule

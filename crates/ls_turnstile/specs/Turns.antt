@@ -18,7 +18,8 @@ pub record TurnstileState : Type 0 where
   pub tape : List ℕ
   pub seats : ℕ
 
--- of the seat's turnstile the name, the machine at its start and the tape; its thread, how many entries it has seen done, and how many it did
+-- of the seat's turnstile the name, the machine at its start and the tape; its thread, how many entries it has seen
+-- done, and how many it did
 pub record SeatState : Type 0 where
   pub id : TableId
   pub start : Machine
@@ -31,7 +32,14 @@ abbrev pub turnstile_state : TableId → Code → ℕ → List ℕ → ℕ → T
 turnstile_state id code cells tape seats = record { id = id; code = code; cells = cells; tape = tape; seats = seats }
 
 abbrev pub seat_state : TableId → Machine → List ℕ → ℕ → ℕ → ℕ → SeatState
-seat_state id start tape thread seen steps = record { id = id; start = start; tape = tape; thread = thread; seen = seen; steps = steps }
+seat_state id start tape thread seen steps = record {
+  id = id;
+  start = start;
+  tape = tape;
+  thread = thread;
+  seen = seen;
+  steps = steps;
+}
 
 -- the seat came from the `open` that made the turnstile
 abbrev pub IsSeatOf : TurnstileState → SeatState → Type 0
@@ -43,26 +51,32 @@ new_seat t thread = seat_state t.id (loaded t.code t.cells) t.tape thread 0 0
 
 -- what the step at a place of the tape does in the machine's run of the tape
 abbrev pub did_at : Code → ℕ → List ℕ → ℕ → Did
-did_at code cells tape place = (machine_step (machine_run (loaded code cells) (take place tape)) (slice_index tape place)).did
+did_at code cells tape place = (machine_step (machine_run (loaded code cells) (take place tape))
+    (slice_index tape place)).did
 
 -- the seat once it has seen so many entries done and done so many
 abbrev pub moved : SeatState → ℕ → ℕ → SeatState
 moved c seen steps = seat_state c.id c.start c.tape c.thread seen steps
 
--- What a step of the seat c of the turnstile t answers, with the seat d after it. No less has been done than the seat had seen.
--- Stepped: the entry at the place is its thread's, and what the step did is what it does in the machine's run of the tape.
+-- What a step of the seat c of the turnstile t answers, with the seat d after it. No less has been done than the seat
+-- had seen.
+-- Stepped: the entry at the place is its thread's, and what the step did is what it does in the machine's run of the
+-- tape.
 -- NotYet: the entry at the place is another's. Over: all have been done.
 abbrev pub IsTurn : TurnstileState → SeatState → Turn → SeatState → Type 0
 IsTurn t c (Stepped place did) d =
-    (c.seen ≤ place) × (place < length t.tape) × (slice_index t.tape place ≡ c.thread) × (did ≡ did_at t.code t.cells t.tape place) × (d ≡ moved c (place + 1) (c.steps + 1))
-IsTurn t c (NotYet place) d = (c.seen ≤ place) × (place < length t.tape) × (slice_index t.tape place ≢ c.thread) × (d ≡ moved c place c.steps)
+    (c.seen ≤ place) × (place < length t.tape) × (slice_index t.tape place ≡ c.thread) ×
+    (did ≡ did_at t.code t.cells t.tape place) × (d ≡ moved c (place + 1) (c.steps + 1))
+IsTurn t c (NotYet place) d = (c.seen ≤ place) × (place < length t.tape) × (slice_index t.tape place ≢ c.thread) ×
+    (d ≡ moved c place c.steps)
 IsTurn t c Over d = d ≡ moved c (length t.tape) c.steps
 
 -- how many entries the seats did
 abbrev pub steps_of : List SeatState → ℕ
 steps_of = sum_by (λ c. c.steps)
 
--- all seats are there; the record is that of the tape's first entries, as many as the seats did, and no fewer than any of them had seen
+-- all seats are there; the record is that of the tape's first entries, as many as the seats did, and no fewer than any
+-- of them had seen
 pub record Closes (t : TurnstileState) (seats : List SeatState) (r : Record) : Type 0 where
   pub all : length seats ≡ t.seats
   pub within : steps_of seats ≤ length t.tape

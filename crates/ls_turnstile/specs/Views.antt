@@ -1,5 +1,6 @@
 -- What a seat of the turnstile knows, and the rule of its table.
-use Rattle.std.specs.Prelude.{◌≡◌, ℕ, ◌+◌, ◌*◌, ◌-◌, ◌/◌, ◌<◌, ◌≤◌, ◌==◌, ◌&&◌, zero, suc, max, List, [], ◌∷◌, length, take, Bool, true, false, slice_index, nat_lt}
+use Rattle.std.specs.Prelude.{◌≡◌, ℕ, ◌+◌, ◌*◌, ◌-◌, ◌/◌, ◌<◌, ◌≤◌, ◌==◌, ◌&&◌, zero, suc, max, List, [], ◌∷◌, length}
+use Rattle.std.specs.Prelude.{take, Bool, true, false, slice_index, nat_lt}
 use mathlib.Core.Option.{Option, some, none}
 use lib.ListN.{get_elem?}
 use Rattle.atomic_table.specs.Table.{State, Me, Step}
@@ -14,15 +15,48 @@ total f (v ∷ vs) = f v + total f vs
 
 -- the view of whoever deals the seats, of which it has dealt so many
 abbrev pub dealer : Machine → List ℕ → ℕ → ℕ → View
-dealer start tape parts dealt = record { start = start; tape = tape; parts = parts; dealing = true; live = false; thread = dealt; seen = 0; steps = 0; ready = false; out = 0 }
+dealer start tape parts dealt = record {
+  start = start;
+  tape = tape;
+  parts = parts;
+  dealing = true;
+  live = false;
+  thread = dealt;
+  seen = 0;
+  steps = 0;
+  ready = false;
+  out = 0;
+}
 
 -- the view of the seat of a thread, between its steps
 abbrev pub seated : Machine → List ℕ → ℕ → ℕ → ℕ → View
-seated start tape thread seen steps = record { start = start; tape = tape; parts = 1; dealing = false; live = true; thread = thread; seen = seen; steps = steps; ready = false; out = 0 }
+seated start tape thread seen steps = record {
+  start = start;
+  tape = tape;
+  parts = 1;
+  dealing = false;
+  live = true;
+  thread = thread;
+  seen = seen;
+  steps = steps;
+  ready = false;
+  out = 0;
+}
 
 -- the view of seats that were joined, which can only be joined further
 abbrev pub joined : Machine → List ℕ → ℕ → ℕ → ℕ → View
-joined start tape parts seen steps = record { start = start; tape = tape; parts = parts; dealing = false; live = false; thread = 0; seen = seen; steps = steps; ready = false; out = 0 }
+joined start tape parts seen steps = record {
+  start = start;
+  tape = tape;
+  parts = parts;
+  dealing = false;
+  live = false;
+  thread = 0;
+  seen = seen;
+  steps = steps;
+  ready = false;
+  out = 0;
+}
 
 abbrev pub no_code : Code
 no_code = record { instructions = []; handlers = []; methods = []; sizes = []; starts = []; names = 0 }
@@ -61,17 +95,21 @@ abbrev pub home : Machine → ℕ → Option Machine
 home m zero = some m
 home m (suc n) = none
 
--- what a view has to do with the table: its number there, how many views there are, the entries done, and whether the machine is out
+-- what a view has to do with the table: its number there, how many views there are, the entries done, and whether the
+-- machine is out
 pub record Fits (start : Machine) (tape : List ℕ) (place out count id : ℕ) (v : View) : Type 0 where
   pub same : 0 < v.parts → (v.start ≡ start) × (v.tape ≡ tape)
   pub idle : v.parts ≡ 0 → (v.steps ≡ 0) × (v.out ≡ 0)
   pub seen : v.seen ≤ place
   pub deals : v.dealing ≡ true → (id ≡ 0) × (count ≡ v.thread + 1)
   pub lives : v.live ≡ true → id ≡ v.thread + 1
-  pub ready : v.ready ≡ true → (v.live ≡ true) × (v.seen ≡ place) × (out ≡ 0) × (place < length tape) × (slice_index tape place ≡ v.thread)
-  pub holds : 0 < v.out → (v.live ≡ true) × (v.out ≡ 1) × (v.seen ≡ place) × (out ≡ 1) × (slice_index tape place ≡ v.thread)
+  pub ready : v.ready ≡ true →
+      (v.live ≡ true) × (v.seen ≡ place) × (out ≡ 0) × (place < length tape) × (slice_index tape place ≡ v.thread)
+  pub holds : 0 < v.out →
+      (v.live ≡ true) × (v.out ≡ 1) × (v.seen ≡ place) × (out ≡ 1) × (slice_index tape place ≡ v.thread)
 
--- the word is twice the number of entries done, and one more while the machine is out; at home it is what they made of it
+-- the word is twice the number of entries done, and one more while the machine is out; at home it is what they made of
+-- it
 pub record Keeps (start : Machine) (tape : List ℕ) (seats : ℕ) (s : State Machine View) : Type 0 where
   pub place : ℕ
   pub out : ℕ

@@ -5,9 +5,8 @@ ghost use Rattle.std.specs.Prelude.{All};
 
 use crate::seats::{CELLS, key, opened, step};
 use crate::texts::{STEPPER, TWO_STEP};
-use ls_lent_images::Hoard;
 use ls_image::image::Image;
-use ls_lent_images::with_image;
+use ls_lent_images::{Hoard, with_image};
 use ls_machine::LoadFault;
 use ls_schedule::read_schedule;
 use ls_turnstile::{TurnSeat, Turnstile};

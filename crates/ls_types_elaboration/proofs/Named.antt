@@ -1,5 +1,6 @@
 -- What is found by its name in a list of names.
-use Rattle.std.proofs.Common.{◌≡◌, ℕ, suc, ◌+◌, Bool, true, false, cond, nat_lt, List, [], ◌∷◌, length, Option, None, Some, option_map, refl, ◌∙◌, arith}
+use Rattle.std.proofs.Common.{◌≡◌, ℕ, suc, ◌+◌, Bool, true, false, cond, nat_lt, List, [], ◌∷◌, length, Option, None}
+use Rattle.std.proofs.Common.{Some, option_map, refl, ◌∙◌, arith}
 use Rattle.std.specs.Global.{Global}
 use Rattle.std.specs.List.{position, position_or_len}
 use Rattle.std.specs.Prelude.{if◌then◌else◌, String, string_bytes}

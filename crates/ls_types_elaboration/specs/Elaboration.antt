@@ -14,7 +14,8 @@ pub record Bodies : Type 0 where
 
 abbrev pub one_body : List Text → List ClassSign → Bodies → ClassTree → Elaborated Bodies
 one_body names signs bodies c =
-    with_ok (class_methods (record { names = names; classes = signs; own = bodies.own }) bodies.methods c.members) (λ ms.
+    with_ok (class_methods (record { names = names; classes = signs; own = bodies.own }) bodies.methods c.members)
+    (λ ms.
     Ok (record { methods = ms; own = bodies.own + 1 }))
 
 abbrev pub file_methods : List Text → List ClassSign → List ClassTree → Elaborated Bodies

@@ -1,5 +1,6 @@
 -- What a text declares, and how names find it (JLS 6.3, 6.4.1, 6.5).
-use Rattle.std.specs.Prelude.{ℕ, ◌+◌, Bool, ◌||◌, List, [], ◌∷◌, Option, Some, None, Ok, codes, bytes_eq, if◌then◌else◌, find, option_map, slice_get}
+use Rattle.std.specs.Prelude.{ℕ, ◌+◌, Bool, ◌||◌, List, [], ◌∷◌, Option, Some, None, Ok, codes, bytes_eq, if◌then◌else◌}
+use Rattle.std.specs.Prelude.{find, option_map, slice_get}
 use Rattle.ls_lexer.specs.declared.token.Span.{Span}
 use Rattle.ls_events.specs.declared.value.ValueType.{ValueType}
 use Rattle.ls_events.specs.declared.value.ValueType.TheVariants as types

@@ -4,7 +4,8 @@ use Rattle.ls_lexer.specs.declared.token.Span.{Span}
 use Rattle.ls_events.specs.declared.value.ValueType.{ValueType}
 use Rattle.ls_events.specs.declared.value.ValueType.TheVariants.{Boolean, BooleanArray, Class, Lock, Markable}
 use Rattle.ls_checked.specs.declared.tree.Called.{Called}
-use Rattle.ls_checked.specs.declared.tree.Called.TheVariants.{Method, LockIt, UnlockIt, TryIt, AskIt, GetReference, IsMarked, GetBoth, SetBoth, CompareAndSet, Attempt}
+use Rattle.ls_checked.specs.declared.tree.Called.TheVariants.{Method, LockIt, UnlockIt, TryIt, AskIt, GetReference}
+use Rattle.ls_checked.specs.declared.tree.Called.TheVariants.{IsMarked, GetBoth, SetBoth, CompareAndSet, Attempt}
 use Rattle.ls_checked.specs.CheckedTree as checked
 use Rattle.ls_types_elaboration.specs.declared.rule.Rule.TheVariants.{UnknownName, UnknownType}
 use Rattle.ls_types_elaboration.specs.declared.static_types.Static.{Static}
@@ -44,7 +45,8 @@ markable_member c name =
     else if bytes_eq name (codes "isMarked") then member (IsMarked c) [] (Some Boolean)
     else if bytes_eq name (codes "get") then member (GetBoth c) (BooleanArray ∷ []) (Some (Class c))
     else if bytes_eq name (codes "set") then member SetBoth (Class c ∷ Boolean ∷ []) None
-    else if bytes_eq name (codes "compareAndSet") then member CompareAndSet (Class c ∷ Class c ∷ Boolean ∷ Boolean ∷ []) (Some Boolean)
+    else if bytes_eq name (codes "compareAndSet") then member CompareAndSet (Class c ∷ Class c ∷ Boolean ∷ Boolean ∷ [])
+    (Some Boolean)
     else if bytes_eq name (codes "attemptMark") then member Attempt (Class c ∷ Boolean ∷ []) (Some Boolean)
     else None
 
@@ -72,7 +74,11 @@ made (AMarkable c) es = checked.MakeMarkable c es
 
 abbrev pub object_maker : Known → Option ℕ → Span → Elaborated Maker
 object_maker known None span = broken UnknownType span
-object_maker known (Some c) span = Ok (record { makes = AnObject c; parameters = parameters_of known c; type = Class c })
+object_maker known (Some c) span = Ok (record {
+  makes = AnObject c;
+  parameters = parameters_of known c;
+  type = Class c;
+})
 
 -- `Lock` is not a class that can be made, and no class of the file has its name
 abbrev pub maker_of : Known → Name → Elaborated Maker
@@ -83,4 +89,8 @@ maker_of known n =
 
 abbrev pub markable_maker : Option ℕ → Span → Elaborated Maker
 markable_maker None span = broken UnknownType span
-markable_maker (Some c) span = Ok (record { makes = AMarkable c; parameters = Class c ∷ Boolean ∷ []; type = Markable c })
+markable_maker (Some c) span = Ok (record {
+  makes = AMarkable c;
+  parameters = Class c ∷ Boolean ∷ [];
+  type = Markable c;
+})

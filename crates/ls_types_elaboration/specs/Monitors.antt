@@ -2,7 +2,8 @@
 -- of its own, and its monitor is locked. However the body completes, the monitor is unlocked.
 use Rattle.std.specs.Prelude.{ℕ}
 use Rattle.ls_checked.specs.declared.tree.Called.TheVariants.{HoldMonitor, FreeMonitor}
-use Rattle.ls_checked.specs.CheckedTree.{Expression, Slot, Call, End, Statement, Block, SetSlot, Evaluate, Try, Done, Then}
+use Rattle.ls_checked.specs.CheckedTree.{Expression, Slot, Call, End, Statement, Block, SetSlot, Evaluate, Try, Done}
+use Rattle.ls_checked.specs.CheckedTree.{Then}
 
 abbrev pub synchronized : ℕ → ℕ → Expression → Statement → Statement
 synchronized slot class target body =

@@ -20,7 +20,13 @@ unary_of Minus span x = with_ok (as_type Int span x) (λ e. typed_as Int (checke
 unary_of Not span x = with_ok (as_type Boolean span x) (λ e. typed_as Boolean (checked.Not e))
 
 -- both operands of one type
-abbrev pub of_operands : ValueType → (checked.Expression → checked.Expression → Elaborated Typed) → Span → Span → Typed → Typed → Elaborated Typed
+abbrev pub of_operands : ValueType →
+    (checked.Expression → checked.Expression → Elaborated Typed) →
+    Span →
+    Span →
+    Typed →
+    Typed →
+    Elaborated Typed
 of_operands t make left right x y =
     with_ok (as_type t left x) (λ a. with_ok (as_type t right y) (λ b. make a b))
 
@@ -38,7 +44,8 @@ compared op span left right x y =
 
 abbrev pub binary_of : BinaryOp → Span → Span → Span → Typed → Typed → Elaborated Typed
 binary_of written.Or span left right x y = of_operands Boolean (λ a b. typed_as Boolean (checked.Or a b)) left right x y
-binary_of written.And span left right x y = of_operands Boolean (λ a b. typed_as Boolean (checked.And a b)) left right x y
+binary_of written.And span left right x y = of_operands Boolean (λ a b. typed_as Boolean (checked.And a b)) left right x
+    y
 binary_of written.Equal span left right x y = compared operators.Equal span left right x y
 binary_of written.NotEqual span left right x y = compared operators.NotEqual span left right x y
 binary_of written.Less span left right x y = computed Boolean operators.Less left right x y

@@ -6,4 +6,8 @@ use Rattle.ls_types_elaboration.specs.Elaboration as elaboration
 use Rattle.ls_types_elaboration.specs.Tables.{texts_of, class_sign_of}
 
 abbrev pub outcome_of : Outcome → elaboration.Outcome
-outcome_of o = record { names = texts_of o.names.items; signs = map class_sign_of o.signs.items; file = plain_file o.file }
+outcome_of o = record {
+  names = texts_of o.names.items;
+  signs = map class_sign_of o.signs.items;
+  file = plain_file o.file;
+}

@@ -1,5 +1,6 @@
 -- Blocks as they are checked: their statements, and the locals in scope (JLS 6.3, 6.4, 14.4).
-use Rattle.std.specs.Prelude.{ℕ, ◌+◌, pos, nat_lt, false, not, List, [], ◌∷◌, ◌++◌, length, Option, Some, None, Ok, is_some}
+use Rattle.std.specs.Prelude.{ℕ, ◌+◌, pos, nat_lt, false, not, List, [], ◌∷◌, ◌++◌, length, Option, Some, None, Ok}
+use Rattle.std.specs.Prelude.{is_some}
 use Rattle.ls_lexer.specs.declared.token.Span.{Span}
 use Rattle.ls_events.specs.declared.value.Value.{Value}
 use Rattle.ls_events.specs.declared.value.Value.TheVariants as values
@@ -76,7 +77,8 @@ abbrev pub declared : Body → ValueType → Scope → Declarator → Elaborated
 declared body t scope d =
     may_declare body.span scope d.name (
     initialised body.known t (length scope.slots.types)
-    (with_statement (with_variable scope d.name.text t) (checked.SetSlot (length scope.slots.types) (checked.Literal (start_of t))))
+    (with_statement (with_variable scope d.name.text t) (checked.SetSlot (length scope.slots.types)
+    (checked.Literal (start_of t))))
     d.value)
 
 abbrev pub declaration : Body → Scope → Declaration → Elaborated Scope

@@ -1,11 +1,13 @@
 -- What the classes of a text declare: rules on the declarations themselves (JLS 7.6, 8.1, 8.3, 8.4, 8.8).
-use Rattle.std.specs.Prelude.{ℕ, ◌+◌, nat_lt, Bool, not, ◌||◌, List, [], ◌∷◌, ◌++◌, length, Option, Some, None, Ok, codes, bytes_eq, is_some}
+use Rattle.std.specs.Prelude.{ℕ, ◌+◌, nat_lt, Bool, not, ◌||◌, List, [], ◌∷◌, ◌++◌, length, Option, Some, None, Ok}
+use Rattle.std.specs.Prelude.{codes, bytes_eq, is_some}
 use Rattle.ls_events.specs.declared.value.ValueType.{ValueType}
 use Rattle.ls_types_elaboration.specs.declared.rule.Rule.TheVariants.{TwiceDeclared, UnknownType, ReservedClass, Limit}
 use Rattle.ls_types_elaboration.specs.Trees.{Text, Name, Declarator, Declaration, Parameter, ClassTree}
 use Rattle.ls_types_elaboration.specs.Trees as parsed
 use Rattle.ls_types_elaboration.specs.Elaborated.{Elaborated, with_ok, unless_broken, each}
-use Rattle.ls_types_elaboration.specs.Known.{FieldSign, MethodSign, ClassSign, number_of, field_named, method_named, type_of, result_of}
+use Rattle.ls_types_elaboration.specs.Known.{FieldSign, MethodSign, ClassSign, number_of, field_named, method_named}
+use Rattle.ls_types_elaboration.specs.Known.{type_of, result_of}
 use Rattle.ls_types_elaboration.specs.Scopes.{most_slots}
 
 -- the classes that are there already
@@ -72,7 +74,8 @@ method_met met n parameters result =
     with_room met.next most_methods n (
     Ok (record {
       fields = met.fields;
-      methods = met.methods ++ record { name = n.text; number = met.next; parameters = parameters; result = result } ∷ [];
+      methods = met.methods ++ record { name = n.text; number = met.next; parameters = parameters; result = result } ∷
+          [];
       constructor = met.constructor;
       parameters = met.parameters;
       next = met.next + 1;
@@ -107,7 +110,12 @@ pub record Classes : Type 0 where
 abbrev pub with_class : Classes → Met → ℕ → List ValueType → ℕ → Elaborated Classes
 with_class classes met constructor parameters next =
     Ok (record {
-      signs = classes.signs ++ record { fields = met.fields; methods = met.methods; constructor = constructor; parameters = parameters } ∷ [];
+      signs = classes.signs ++ record {
+        fields = met.fields;
+        methods = met.methods;
+        constructor = constructor;
+        parameters = parameters;
+      } ∷ [];
       next = next;
     })
 

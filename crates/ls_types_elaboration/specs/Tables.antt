@@ -19,7 +19,12 @@ abbrev pub field_sign_of : FieldSign → known.FieldSign
 field_sign_of f = record { name = string_bytes f.name; type = f.value_type }
 
 abbrev pub method_sign_of : MethodSign → known.MethodSign
-method_sign_of m = record { name = string_bytes m.name; number = m.number; parameters = m.parameters.items; result = m.result }
+method_sign_of m = record {
+  name = string_bytes m.name;
+  number = m.number;
+  parameters = m.parameters.items;
+  result = m.result;
+}
 
 -- what a class declares: fields by their numbers
 abbrev pub class_sign_of : ClassSign → known.ClassSign

@@ -1,5 +1,6 @@
 -- Expressions: types, and what their names mean (JLS 6.5.6, 15).
-use Rattle.std.specs.Prelude.{ℕ, ◌+◌, ◌*◌, ◌-◌, ℤ, pos, negsuc, nat_lt, min, Bool, true, false, ◌&&◌, List, [], ◌∷◌, Option, Some, None, Ok, codes, bytes_eq, if◌then◌else◌, is_none}
+use Rattle.std.specs.Prelude.{ℕ, ◌+◌, ◌*◌, ◌-◌, ℤ, pos, negsuc, nat_lt, min, Bool, true, false, ◌&&◌, List, [], ◌∷◌}
+use Rattle.std.specs.Prelude.{Option, Some, None, Ok, codes, bytes_eq, if◌then◌else◌, is_none}
 use Rattle.ls_lexer.specs.declared.token.Span.{Span}
 use Rattle.ls_events.specs.declared.value.Value.TheVariants as values
 use Rattle.ls_events.specs.declared.value.ValueType.{ValueType}
@@ -76,13 +77,17 @@ abbrev mutual
   typed known locals (parsed.Number text span) = typed_as types.Int (number text)
   typed known locals (parsed.True span) = typed_as types.Boolean (checked.Literal (values.Boolean true))
   typed known locals (parsed.False span) = typed_as types.Boolean (checked.Literal (values.Boolean false))
-  typed known locals (parsed.Null span) = Ok (record { expression = checked.Literal (values.Reference 0); static = NullType })
+  typed known locals (parsed.Null span) = Ok (record {
+    expression = checked.Literal (values.Reference 0);
+    static = NullType;
+  })
   typed known locals (parsed.This span) = typed_as (types.Class known.own) (checked.Slot 0)
   -- names (JLS 6.5.6.1), parentheses (JLS 15.8.5)
   typed known locals (parsed.Named n) = name_of known locals n
   typed known locals (parsed.Paren inner span) = with_ok (typed known locals inner) (as_value (span_of inner))
   -- operators (JLS 15.15 to 15.24)
-  typed known locals (parsed.Unary op operand span) = with_ok (typed known locals operand) (unary_of op (span_of operand))
+  typed known locals (parsed.Unary op operand span) = with_ok (typed known locals operand)
+      (unary_of op (span_of operand))
   typed known locals (parsed.Binary op left right span) =
       with_ok (typed known locals left) (λ x. with_ok (typed known locals right) (λ y.
       binary_of op span (span_of left) (span_of right) x y))

@@ -1,5 +1,6 @@
 -- Methods, constructors and field initialisers (JLS 8.3.2, 8.4, 8.8, 12.5).
-use Rattle.std.specs.Prelude.{ℕ, Bool, true, false, ◌&&◌, List, [], ◌∷◌, ◌++◌, length, Option, Some, None, Ok, if◌then◌else◌, is_some}
+use Rattle.std.specs.Prelude.{ℕ, Bool, true, false, ◌&&◌, List, [], ◌∷◌, ◌++◌, length, Option, Some, None, Ok}
+use Rattle.std.specs.Prelude.{if◌then◌else◌, is_some}
 use Rattle.ls_events.specs.declared.value.ValueType.{ValueType}
 use Rattle.ls_events.specs.declared.value.ValueType.TheVariants as types
 use Rattle.ls_checked.specs.CheckedTree as checked
@@ -22,7 +23,11 @@ parameter body scope p =
     with_ok (type_of body.known.names p.type_name) (λ t. Ok (with_variable scope p.name.text t)))
 
 -- a field initialiser is an assignment at the front of the constructor's body; no local is in scope there (JLS 12.5)
-abbrev pub field_set : Known → List checked.Statement → Option FoundField → Option parsed.Expression → Elaborated (List checked.Statement)
+abbrev pub field_set : Known →
+    List checked.Statement →
+    Option FoundField →
+    Option parsed.Expression →
+    Elaborated (List checked.Statement)
 field_set known front (Some f) (Some e) =
     with_ok (fitting known [] f.value_type e) (λ v.
     Ok (front ++ checked.SetField (checked.Slot 0) f.number v ∷ []))
@@ -61,7 +66,11 @@ in_monitor slot class scope = record {
 }
 
 abbrev pub with_unnamed_slot : Scope → ValueType → Scope
-with_unnamed_slot scope t = record { statements = scope.statements; locals = scope.locals; slots = with_unnamed scope.slots t }
+with_unnamed_slot scope t = record {
+  statements = scope.statements;
+  locals = scope.locals;
+  slots = with_unnamed scope.slots t;
+}
 
 abbrev pub all_items : Body → Bool → Scope → parsed.Items → Elaborated Scope
 all_items body false scope block = items body [] scope block
@@ -70,23 +79,49 @@ all_items body true scope block =
     Ok (in_monitor (length scope.slots.types) body.known.own end))
 
 -- slot 0 is `this`; after it come the parameters, then the locals of the body
-abbrev pub method : Known → Bool → Option ValueType → Name → List Parameter → List checked.Statement → parsed.Items → Elaborated checked.Method
+abbrev pub method : Known →
+    Bool →
+    Option ValueType →
+    Name →
+    List Parameter →
+    List checked.Statement →
+    parsed.Items →
+    Elaborated checked.Method
 method known sync result name ps front block =
     let body : Body = record { known = known; result = result; span = name.span } in
-    let start : Scope = record { statements = front; locals = []; slots = record { types = types.Class known.own ∷ []; named = 1 } } in
+    let start : Scope = record {
+      statements = front;
+      locals = [];
+      slots = record { types = types.Class known.own ∷ []; named = 1 };
+    } in
     with_ok (each (parameter body) start ps) (λ scope.
     with_ok (all_items body sync scope block) (finished known result name (length ps)))
 
-abbrev pub written_method : Known → Bool → Option parsed.TypeName → Name → List Parameter → parsed.Items → Elaborated checked.Method
+abbrev pub written_method : Known →
+    Bool →
+    Option parsed.TypeName →
+    Name →
+    List Parameter →
+    parsed.Items →
+    Elaborated checked.Method
 written_method known sync result name ps body =
     with_ok (result_of known.names result) (λ r. method known sync r name ps [] body)
 
-abbrev pub written_constructor : Known → List parsed.Member → Name → List Parameter → parsed.Items → Elaborated checked.Method
+abbrev pub written_constructor : Known →
+    List parsed.Member →
+    Name →
+    List Parameter →
+    parsed.Items →
+    Elaborated checked.Method
 written_constructor known members name ps body =
     with_ok (initialisers known members) (λ front. method known false None name ps front body)
 
 -- a method or constructor, after those before it
-abbrev pub one_method : Known → List parsed.Member → List checked.Method → parsed.Member → Elaborated (List checked.Method)
+abbrev pub one_method : Known →
+    List parsed.Member →
+    List checked.Method →
+    parsed.Member →
+    Elaborated (List checked.Method)
 one_method known members before (parsed.Fields d) = Ok before
 one_method known members before (parsed.Method sync result name ps body) =
     with_ok (written_method known sync result name ps body) (λ m. Ok (before ++ m ∷ []))

@@ -1,5 +1,6 @@
 -- Statements: loops, and what fits where (JLS 14).
-use Rattle.std.specs.Prelude.{ℕ, ◌+◌, nat_eq, pos, negsuc, Bool, true, false, ◌&&◌, List, [], ◌∷◌, ◌++◌, length, Option, Some, None, Ok, bytes_eq, if◌then◌else◌, is_some, option_map}
+use Rattle.std.specs.Prelude.{ℕ, ◌+◌, nat_eq, pos, negsuc, Bool, true, false, ◌&&◌, List, [], ◌∷◌, ◌++◌, length, Option}
+use Rattle.std.specs.Prelude.{Some, None, Ok, bytes_eq, if◌then◌else◌, is_some, option_map}
 use Rattle.ls_lexer.specs.declared.token.Span.{Span}
 use Rattle.ls_events.specs.declared.value.Value.TheVariants as values
 use Rattle.ls_events.specs.declared.value.ValueType.{ValueType}
@@ -9,7 +10,8 @@ use Rattle.ls_checked.specs.CheckedTree as checked
 use Rattle.ls_types_elaboration.specs.declared.loops.LoopPart.{LoopPart}
 use Rattle.ls_types_elaboration.specs.declared.loops.LoopPart.TheVariants as parts
 use Rattle.ls_types_elaboration.specs.declared.rule.Rule.{Rule}
-use Rattle.ls_types_elaboration.specs.declared.rule.Rule.TheVariants.{TwiceDeclared, WrongType, NotAssignable, NoLoop, UnknownLabel}
+use Rattle.ls_types_elaboration.specs.declared.rule.Rule.TheVariants.{TwiceDeclared, WrongType, NotAssignable, NoLoop}
+use Rattle.ls_types_elaboration.specs.declared.rule.Rule.TheVariants.{UnknownLabel}
 use Rattle.ls_types_elaboration.specs.declared.static_types.Static.{Static}
 use Rattle.ls_types_elaboration.specs.declared.static_types.Static.TheVariants.{Of}
 use Rattle.ls_types_elaboration.specs.Trees.{Text, Name, span_of}
@@ -59,7 +61,8 @@ is_target breaking name l = may_leave breaking l.part && is_label name l.label
 abbrev pub loop_named : (breaking : Bool) → Loops → Option Text → Option (ℕ × LoopPart)
 loop_named breaking [] name = None
 loop_named breaking (l ∷ ls) name =
-    if is_target breaking name l then Some (0, l.part) else option_map (λ w. (w.0 + 1, w.1)) (loop_named breaking ls name)
+    if is_target breaking name l then Some (0, l.part) else option_map (λ w. (w.0 + 1, w.1))
+    (loop_named breaking ls name)
 
 abbrev pub found_loop : Option (ℕ × LoopPart) → Rule → Span → Elaborated (ℕ × LoopPart)
 found_loop None rule span = broken rule span
@@ -132,7 +135,11 @@ abbrev pub added : Counter → checked.Expression → checked.Statement
 added (OfSlot n) v = checked.SetSlot n (checked.Binary operators.Add (checked.Slot n) v)
 added (OfField e f) v = checked.AddField e f v
 
-abbrev pub addition : Known → List Local → parsed.Expression → Elaborated checked.Expression → Elaborated checked.Statement
+abbrev pub addition : Known →
+    List Local →
+    parsed.Expression →
+    Elaborated checked.Expression →
+    Elaborated checked.Statement
 addition known locals target value =
     with_ok (typed known locals target) (λ x.
     with_ok (counter (span_of target) x.expression x.static) (λ to.
@@ -150,14 +157,23 @@ simple known locals (parsed.Add target value) = addition known locals target (fi
 simple known locals (parsed.Count up before target) = addition known locals target (Ok (step up))
 simple known locals (parsed.Evaluate e) = with_ok (typed known locals e) (λ x. Ok (checked.Evaluate x.expression))
 
-abbrev pub one_simple : Known → List Local → List checked.Statement → parsed.Simple → Elaborated (List checked.Statement)
+abbrev pub one_simple : Known →
+    List Local →
+    List checked.Statement →
+    parsed.Simple →
+    Elaborated (List checked.Statement)
 one_simple known locals front s = with_ok (simple known locals s) (λ s. Ok (front ++ s ∷ []))
 
 abbrev pub simples : Known → List Local → List parsed.Simple → Elaborated (List checked.Statement)
 simples known locals ss = each (one_simple known locals) [] ss
 
 -- return with or without a value, against the method (JLS 14.17)
-abbrev pub returned : Known → List Local → Option ValueType → Option parsed.Expression → Span → Elaborated checked.Statement
+abbrev pub returned : Known →
+    List Local →
+    Option ValueType →
+    Option parsed.Expression →
+    Span →
+    Elaborated checked.Statement
 returned known locals None None span = Ok checked.ReturnNothing
 returned known locals (Some t) None span = broken WrongType span
 returned known locals None (Some e) span = broken WrongType (span_of e)
@@ -203,11 +219,19 @@ condition known locals (Some c) = fitting known locals types.Boolean c
 
 -- One turn of a `for` is the body of a loop that never turns back. So a `break` of that loop goes on at the updates.
 abbrev pub turn_once : checked.Statement → checked.Statement
-turn_once s = checked.While (checked.Literal (values.Boolean true)) (checked.Block (sequence (s ∷ checked.Break 0 ∷ [])))
+turn_once s = checked.While (checked.Literal (values.Boolean true))
+    (checked.Block (sequence (s ∷ checked.Break 0 ∷ [])))
 
-abbrev pub for_loop : List checked.Statement → checked.Expression → checked.Statement → List checked.Statement → checked.Statement
+abbrev pub for_loop : List checked.Statement →
+    checked.Expression →
+    checked.Statement →
+    List checked.Statement →
+    checked.Statement
 for_loop front c s updates =
-    checked.Block (sequence (front ++ checked.While c (checked.Block (sequence (turn_once s ∷ checked.Block (sequence updates) ∷ []))) ∷ []))
+    checked.Block
+    (sequence
+    (front ++ checked.While c (checked.Block (sequence (turn_once s ∷ checked.Block (sequence updates) ∷ []))) ∷
+    []))
 
 abbrev mutual
   pub statement : Body → Loops → List Local → Slots → parsed.Statement → Elaborated (WithSlots checked.Statement)
@@ -236,7 +260,8 @@ abbrev mutual
       with_ok (opening body locals slots o) (λ front.
       with_ok (condition body.known front.locals c) (λ c.
       with_ok (simples body.known front.locals us) (λ us.
-      with_ok (statement body (loop_of parts.Turn (label_text label) ∷ loop_of parts.For (label_text label) ∷ loops) front.locals front.slots s) (λ s.
+      with_ok (statement body (loop_of parts.Turn (label_text label) ∷ loop_of parts.For (label_text label) ∷ loops)
+      front.locals front.slots s) (λ s.
       with_slots (for_loop front.statements c s.tree us) s.slots)))))
   -- break, continue (JLS 14.15, 14.16)
   statement body loops locals slots (parsed.Break label span) =

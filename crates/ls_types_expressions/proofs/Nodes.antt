@@ -1,7 +1,9 @@
 -- How many nodes an expression has: the measure of the recursion on expressions.
 use Rattle.std.proofs.Common.{◌≡◌, ℕ, ◌+◌, Option, Some, None, refl}
 use Rattle.ls_lexer.specs.declared.token.Span.{Span}
-use Rattle.ls_types_elaboration.specs.Trees.{Name, Expression, Number, True, False, Null, This, Named, Paren, Unary, Binary, Field, Call, CallOn, Item, New, NewMarkable, NewArray, Expressions, End, More}
+use Rattle.ls_types_elaboration.specs.Trees.{Name, Expression, Number, True, False, Null, This, Named, Paren, Unary}
+use Rattle.ls_types_elaboration.specs.Trees.{Binary, Field, Call, CallOn, Item, New, NewMarkable, NewArray, Expressions}
+use Rattle.ls_types_elaboration.specs.Trees.{End, More}
 use Rattle.ls_types_elaboration.specs.Placed.{call_of}
 
 abbrev mutual
@@ -35,6 +37,7 @@ call_nodes None es = all_nodes es
 call_nodes (Some target) es = nodes target + all_nodes es
 
 -- a call has one node more than those below it
-pub nodes-call_of : (o : Option Expression) (n : Name) (es : Expressions) (span : Span) → nodes (call_of o n es span) ≡ call_nodes o es + 1
+pub nodes-call_of : (o : Option Expression) (n : Name) (es : Expressions) (span : Span) →
+    nodes (call_of o n es span) ≡ call_nodes o es + 1
 nodes-call_of None n es span = refl
 nodes-call_of (Some target) n es span = refl

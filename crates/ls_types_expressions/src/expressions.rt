@@ -12,6 +12,7 @@ ghost use Rattle.ls_types_expressions.specs.Views.{locals_of};
 ghost use Rattle.ls_types_elaboration.specs.Answers.{Gives, typed_of, member_of as known_member, plain_typed};
 ghost use Rattle.ls_types_tables.specs.ByName.{known_of};
 
+use crate::operators::{Spans, binary_of, unary_of};
 use crate::places::span_of;
 use crate::site::Site;
 use ls_checked::tree::{Expression, Expressions};
@@ -27,7 +28,6 @@ use ls_types_elaboration::static_types::{
     Static, Typed, as_array, as_type, as_value, result_type, typed_as,
 };
 use ls_types_elaboration::together::also;
-use crate::operators::{Spans, binary_of, unary_of};
 use ls_types_tables::known::{Known, field_of};
 use ls_types_tables::members::{maker_of, markable_maker, member_of, own_member};
 use std::alloc::{AllocError, Global};

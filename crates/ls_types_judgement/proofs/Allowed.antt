@@ -98,7 +98,10 @@ stopped s ss (Continued n) a h = refl
 stopped s ss (Returned v) a h = refl
 stopped s ss (Threw kind) a h = refl
 
-gone_on : (s : Statement) (ss : Statements) (c : Completion Value) → Allows s Normal → AllowsAll ss c → AllowsAll (Then s ss) c
+gone_on : (s : Statement) (ss : Statements) (c : Completion Value) →
+    Allows s Normal →
+    AllowsAll ss c →
+    AllowsAll (Then s ss) c
 gone_on s ss Normal h k = both (can_complete s) (all_complete ss) h k
 gone_on s ss (Broke n) h k = right (breaks n s) (any_breaks n ss) k
 gone_on s ss (Continued n) h k = refl
@@ -134,5 +137,7 @@ pub only_as_allowed : OnlyAsAllowed
 only_as_allowed = always Allows AllowsAll allowed
 
 -- so the ways have a test that is closed under them, the rules themselves
-pub rules_are_closed : Closed (λ s c. allows s c ≡ true) (λ ss c. allows_all ss c ≡ true) × ((s : Statement) (ss : Statements) (n : ℕ) → allows_all ss (Broke n) ≡ true → allows_all (Then s ss) (Broke n) ≡ true)
+pub rules_are_closed : Closed (λ s c. allows s c ≡ true) (λ ss c. allows_all ss c ≡ true) ×
+    ((s : Statement) (ss : Statements) (n : ℕ) → allows_all ss (Broke n) ≡ true →
+    allows_all (Then s ss) (Broke n) ≡ true)
 rules_are_closed = (allowed, λ s ss n h. right (breaks n s) (any_breaks n ss) h)

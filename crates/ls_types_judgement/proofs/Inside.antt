@@ -56,4 +56,5 @@ inside = record {
 -- the law: a statement jumps only to its own loops and to those around it
 pub only_to_its_loops : OnlyToItsLoops
 only_to_its_loops n s j classes calls ls answers =
-    weaker (Stays s) (IsIn n) (execute classes calls s ls answers) (always Stays AllStay inside s classes calls ls answers) (λ c h. h n j)
+    weaker (Stays s) (IsIn n) (execute classes calls s ls answers)
+    (always Stays AllStay inside s classes calls ls answers) (λ c h. h n j)

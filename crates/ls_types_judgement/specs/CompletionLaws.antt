@@ -25,4 +25,5 @@ NoMoreThanWays =
     (p : Statement → Completion Value → Bool) (q : Statements → Completion Value → Bool)
     → Closed (λ s c. p s c ≡ true) (λ ss c. q ss c ≡ true)
     → ((s : Statement) (ss : Statements) (n : ℕ) → q ss (Broke n) ≡ true → q (Then s ss) (Broke n) ≡ true)
-    → (s : Statement) → (can_complete s ≡ true → p s Normal ≡ true) × ((n : ℕ) → breaks n s ≡ true → p s (Broke n) ≡ true)
+    → (s : Statement) → (can_complete s ≡ true → p s Normal ≡ true) ×
+    ((n : ℕ) → breaks n s ≡ true → p s (Broke n) ≡ true)

@@ -16,7 +16,8 @@ Ends P (Completes completion locals rest) = P completion
 
 abbrev pub AlwaysEnds : (Completion Value → Type 0) → Statement → Type 0
 AlwaysEnds P s =
-    (classes : List Class) (calls : Calls) (locals : List Value) (answers : Answers) → Ends P (execute classes calls s locals answers)
+    (classes : List Class) (calls : Calls) (locals : List Value) (answers : Answers) →
+    Ends P (execute classes calls s locals answers)
 
 -- whether the rules of typing allow a statement a completion
 abbrev pub allows : Statement → Completion Value → Bool

@@ -9,4 +9,5 @@ HasItsLoops file = (n : ℕ) (m : Method) → slice_get file.methods n ≡ Some 
 
 -- a body of a method that answers a value can't complete normally (JLS 8.4.7)
 abbrev pub HasItsEnds : File → Type 0
-HasItsEnds file = (n : ℕ) (m : Method) → slice_get file.methods n ≡ Some m → is_some m.result ≡ true → can_complete m.body ≡ false
+HasItsEnds file = (n : ℕ) (m : Method) → slice_get file.methods n ≡ Some m → is_some m.result ≡ true →
+    can_complete m.body ≡ false

@@ -45,7 +45,8 @@ pub record IsTypedMaking (file : File) (program : Program) (name class : ℕ) (a
   pub holds : setup_name.class ≡ class
 
 -- `name.method(values)`, where `result` is what the program takes the call to answer
-pub record IsTypedCalling (file : File) (program : Program) (name method : ℕ) (result : Option ValueType) (arguments : List Value) : Type 0 where
+pub record IsTypedCalling (file : File) (program : Program) (name method : ℕ) (result : Option ValueType)
+    (arguments : List Value) : Type 0 where
   -- the name is a setup name
   pub setup_name : SetupName
   pub named : slice_get program.names name ≡ Some setup_name
@@ -61,10 +62,12 @@ pub record IsTypedCalling (file : File) (program : Program) (name method : ℕ) 
 
 abbrev pub IsTypedCall : File → Program → ProgramCall → Type 0
 IsTypedCall file program (Making name class text arguments) = IsTypedMaking file program name class arguments
-IsTypedCall file program (Calling name method text result arguments) = IsTypedCalling file program name method result arguments
+IsTypedCall file program (Calling name method text result arguments) = IsTypedCalling file program name method result
+    arguments
 
 -- each call of each thread, the setup too
 abbrev pub IsTypedProgram : File → Program → Type 0
 IsTypedProgram file program =
     (number : ℕ) (thread : ThreadProgram) (n : ℕ) (call : ProgramCall) →
-    slice_get program.threads number ≡ Some thread → slice_get thread.calls n ≡ Some call → IsTypedCall file program call
+    slice_get program.threads number ≡ Some thread → slice_get thread.calls n ≡ Some call →
+    IsTypedCall file program call

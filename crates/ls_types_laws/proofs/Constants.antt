@@ -5,14 +5,22 @@ use Rattle.ls_events.specs.declared.value.Value.{Value}
 use Rattle.ls_events.specs.declared.value.Value.TheVariants.{Int, Boolean, Reference, Pair}
 use Rattle.ls_events.specs.declared.value.ValueType.{ValueType}
 use Rattle.ls_events.specs.declared.value.ValueType.TheVariants as types
-use Rattle.ls_checked.specs.declared.tree.Called.TheVariants.{Method as OfMethod, LockIt, UnlockIt, TryIt, AskIt, HoldMonitor, FreeMonitor, GetReference, IsMarked, GetBoth, SetBoth, CompareAndSet, Attempt}
-use Rattle.ls_checked.specs.CheckedTree.{File, Expression, Literal, Slot, Field, Item, Negate, Not, Binary, And, Or, Call, MakeObject, MakeLock, MakeMarkable, MakeArray, Expressions, End, More, Statement, Block, SetSlot, SetField, AddField, SetItem, Evaluate, If, While, Break, Continue, ReturnNothing, ReturnValue, Try, Statements, Done, Then}
+use Rattle.ls_checked.specs.declared.tree.Called.TheVariants.{Method as OfMethod, LockIt, UnlockIt, TryIt, AskIt}
+use Rattle.ls_checked.specs.declared.tree.Called.TheVariants.{HoldMonitor, FreeMonitor, GetReference, IsMarked, GetBoth}
+use Rattle.ls_checked.specs.declared.tree.Called.TheVariants.{SetBoth, CompareAndSet, Attempt}
+use Rattle.ls_checked.specs.CheckedTree.{File, Expression, Literal, Slot, Field, Item, Negate, Not, Binary, And, Or}
+use Rattle.ls_checked.specs.CheckedTree.{Call, MakeObject, MakeLock, MakeMarkable, MakeArray, Expressions, End, More}
+use Rattle.ls_checked.specs.CheckedTree.{Statement, Block, SetSlot, SetField, AddField, SetItem, Evaluate, If, While}
+use Rattle.ls_checked.specs.CheckedTree.{Break, Continue, ReturnNothing, ReturnValue, Try, Statements, Done, Then}
 use Rattle.ls_checked.specs.CheckedProgram.{Program, ProgramCall, Making, Calling}
 use Rattle.ls_meaning.specs.declared.sort.Sort.{Sort}
 use Rattle.ls_meaning.specs.declared.sort.Sort.TheVariants.{NoValue, ValueOf, NewOf, PairOf}
-use Rattle.ls_meaning.specs.Constants.{IsConstant, HasConstants, HaveConstants, UsesConstants, UseConstants, FileHasConstants, AllConstant, CallHasConstants, CallsHaveConstants, ProgramHasConstants}
+use Rattle.ls_meaning.specs.Constants.{IsConstant, HasConstants, HaveConstants, UsesConstants, UseConstants}
+use Rattle.ls_meaning.specs.Constants.{FileHasConstants, AllConstant, CallHasConstants, CallsHaveConstants}
+use Rattle.ls_meaning.specs.Constants.{ProgramHasConstants}
 use Rattle.ls_types_judgement.specs.Sorts.{HasType, HasSort}
-use Rattle.ls_types_judgement.specs.Typing.{IsTyped, AreTyped, IsTypedStatement, AreTypedStatements, IsTypedFile, parameters_of}
+use Rattle.ls_types_judgement.specs.Typing.{IsTyped, AreTyped, IsTypedStatement, AreTypedStatements, IsTypedFile}
+use Rattle.ls_types_judgement.specs.Typing.{parameters_of}
 use Rattle.ls_types_laws.proofs.Pairs.{IsNoPair, EvaluatesNoPair, EvaluateNoPair, HasNoPairs}
 use Rattle.ls_types_judgement.specs.Programs.{IsArgument, AreArguments, IsTypedCall, IsTypedProgram}
 
@@ -70,25 +78,86 @@ module _ (file : File) (slots : List ValueType) where
     constants (Literal v) s p h = of_sort v s p h
     constants (Slot n) s p h = tt
     constants (Field e c f) s p h = constants e (ValueOf (types.Class c)) (no_pair e (types.Class c) h.3) h.3
-    constants (Item a i) s p h = (constants a (ValueOf types.BooleanArray) (no_pair a types.BooleanArray h.1) h.1, constants i (ValueOf types.Int) (no_pair i types.Int h.2) h.2)
+    constants (Item a i) s p h = (
+      constants a (ValueOf types.BooleanArray) (no_pair a types.BooleanArray h.1) h.1,
+      constants i (ValueOf types.Int) (no_pair i types.Int h.2) h.2,
+    )
     constants (Negate e) s p h = constants e (ValueOf types.Int) (no_pair e types.Int h.1) h.1
     constants (Not e) s p h = constants e (ValueOf types.Boolean) (no_pair e types.Boolean h.1) h.1
-    constants (Binary op a b) s p h = (constants a (ValueOf h.0) (no_pair a h.0 h.3) h.3, constants b (ValueOf h.0) (no_pair b h.0 h.4) h.4)
-    constants (And a b) s p h = (constants a (ValueOf types.Boolean) (no_pair a types.Boolean h.1) h.1, constants b (ValueOf types.Boolean) (no_pair b types.Boolean h.2) h.2)
-    constants (Or a b) s p h = (constants a (ValueOf types.Boolean) (no_pair a types.Boolean h.1) h.1, constants b (ValueOf types.Boolean) (no_pair b types.Boolean h.2) h.2)
-    constants (Call e (OfMethod n) es) s p h = (constants e (ValueOf (types.Class h.0.class)) (no_pair e (types.Class h.0.class) h.3) h.3, all_constants es (parameters_of h.0) h.4)
-    constants (Call e LockIt es) s p h = (constants e (ValueOf types.Lock) (no_pair e types.Lock h.1) h.1, all_constants es [] h.2)
-    constants (Call e UnlockIt es) s p h = (constants e (ValueOf types.Lock) (no_pair e types.Lock h.1) h.1, all_constants es [] h.2)
-    constants (Call e TryIt es) s p h = (constants e (ValueOf types.Lock) (no_pair e types.Lock h.1) h.1, all_constants es [] h.2)
-    constants (Call e AskIt es) s p h = (constants e (ValueOf types.Lock) (no_pair e types.Lock h.1) h.1, all_constants es [] h.2)
-    constants (Call e (HoldMonitor c) es) s p h = (constants e (ValueOf (types.Class c)) (no_pair e (types.Class c) h.1) h.1, all_constants es [] h.2)
-    constants (Call e (FreeMonitor c) es) s p h = (constants e (ValueOf (types.Class c)) (no_pair e (types.Class c) h.1) h.1, all_constants es [] h.2)
-    constants (Call e (GetReference c) es) s p h = (constants e (ValueOf (types.Markable c)) (no_pair e (types.Markable c) h.1) h.1, all_constants es [] h.2)
-    constants (Call e (IsMarked c) es) s p h = (constants e (ValueOf (types.Markable c)) (no_pair e (types.Markable c) h.1) h.1, all_constants es [] h.2)
-    constants (Call e (GetBoth c) es) s p h = (constants e (ValueOf (types.Markable c)) (no_pair e (types.Markable c) h.1) h.1, all_constants es (types.BooleanArray ∷ []) h.2)
-    constants (Call e SetBoth es) s p h = (constants e (ValueOf (types.Markable h.0)) (no_pair e (types.Markable h.0) h.2) h.2, all_constants es (types.Class h.0 ∷ types.Boolean ∷ []) h.3)
-    constants (Call e CompareAndSet es) s p h = (constants e (ValueOf (types.Markable h.0)) (no_pair e (types.Markable h.0) h.2) h.2, all_constants es (types.Class h.0 ∷ types.Class h.0 ∷ types.Boolean ∷ types.Boolean ∷ []) h.3)
-    constants (Call e Attempt es) s p h = (constants e (ValueOf (types.Markable h.0)) (no_pair e (types.Markable h.0) h.2) h.2, all_constants es (types.Class h.0 ∷ types.Boolean ∷ []) h.3)
+    constants (Binary op a b) s p h = (
+      constants a (ValueOf h.0) (no_pair a h.0 h.3) h.3,
+      constants b (ValueOf h.0) (no_pair b h.0 h.4) h.4,
+    )
+    constants (And a b) s p h = (
+      constants a (ValueOf types.Boolean) (no_pair a types.Boolean h.1) h.1,
+      constants b (ValueOf types.Boolean) (no_pair b types.Boolean h.2) h.2,
+    )
+    constants (Or a b) s p h = (
+      constants a (ValueOf types.Boolean) (no_pair a types.Boolean h.1) h.1,
+      constants b (ValueOf types.Boolean) (no_pair b types.Boolean h.2) h.2,
+    )
+    constants (Call e (OfMethod n) es) s p h = (
+      constants e (ValueOf (types.Class h.0.class))
+          (no_pair e (types.Class h.0.class) h.3) h.3,
+      all_constants es (parameters_of h.0) h.4,
+    )
+    constants (Call e LockIt es) s p h = (
+      constants e (ValueOf types.Lock) (no_pair e types.Lock h.1) h.1,
+      all_constants es [] h.2,
+    )
+    constants (Call e UnlockIt es) s p h = (
+      constants e (ValueOf types.Lock) (no_pair e types.Lock h.1) h.1,
+      all_constants es [] h.2,
+    )
+    constants (Call e TryIt es) s p h = (
+      constants e (ValueOf types.Lock) (no_pair e types.Lock h.1) h.1,
+      all_constants es [] h.2,
+    )
+    constants (Call e AskIt es) s p h = (
+      constants e (ValueOf types.Lock) (no_pair e types.Lock h.1) h.1,
+      all_constants es [] h.2,
+    )
+    constants (Call e (HoldMonitor c) es) s p h = (
+      constants e (ValueOf (types.Class c)) (no_pair e (types.Class c) h.1)
+          h.1,
+      all_constants es [] h.2,
+    )
+    constants (Call e (FreeMonitor c) es) s p h = (
+      constants e (ValueOf (types.Class c)) (no_pair e (types.Class c) h.1)
+          h.1,
+      all_constants es [] h.2,
+    )
+    constants (Call e (GetReference c) es) s p h = (
+      constants e (ValueOf (types.Markable c))
+          (no_pair e (types.Markable c) h.1) h.1,
+      all_constants es [] h.2,
+    )
+    constants (Call e (IsMarked c) es) s p h = (
+      constants e (ValueOf (types.Markable c))
+          (no_pair e (types.Markable c) h.1) h.1,
+      all_constants es [] h.2,
+    )
+    constants (Call e (GetBoth c) es) s p h = (
+      constants e (ValueOf (types.Markable c))
+          (no_pair e (types.Markable c) h.1) h.1,
+      all_constants es (types.BooleanArray ∷ []) h.2,
+    )
+    constants (Call e SetBoth es) s p h = (
+      constants e (ValueOf (types.Markable h.0))
+          (no_pair e (types.Markable h.0) h.2) h.2,
+      all_constants es (types.Class h.0 ∷ types.Boolean ∷ []) h.3,
+    )
+    constants (Call e CompareAndSet es) s p h = (
+      constants e (ValueOf (types.Markable h.0))
+          (no_pair e (types.Markable h.0) h.2) h.2,
+      all_constants es
+          (types.Class h.0 ∷ types.Class h.0 ∷ types.Boolean ∷ types.Boolean ∷ []) h.3,
+    )
+    constants (Call e Attempt es) s p h = (
+      constants e (ValueOf (types.Markable h.0))
+          (no_pair e (types.Markable h.0) h.2) h.2,
+      all_constants es (types.Class h.0 ∷ types.Boolean ∷ []) h.3,
+    )
     constants (MakeObject c es) s p h = all_constants es (parameters_of h.0) h.4
     constants MakeLock s p h = tt
     constants (MakeMarkable c es) s p h = all_constants es (types.Class c ∷ types.Boolean ∷ []) h.1
@@ -109,7 +178,11 @@ module _ (file : File) (slots : List ValueType) where
       uses (SetSlot n e) p h = value_constants e h.0 h.2
       uses (SetField e f v) p h = (value_constants e (types.Class h.0) h.3, value_constants v h.1 h.4)
       uses (AddField e f v) p h = (value_constants e (types.Class h.0) h.2, value_constants v types.Int h.3)
-      uses (SetItem a i v) p h = (value_constants a types.BooleanArray h.0, value_constants i types.Int h.1, value_constants v types.Boolean h.2)
+      uses (SetItem a i v) p h = (
+        value_constants a types.BooleanArray h.0,
+        value_constants i types.Int h.1,
+        value_constants v types.Boolean h.2,
+      )
       uses (Evaluate e) p h = constants e h.0 p h.1
       uses (If e a b) p h = (value_constants e types.Boolean h.0, uses a p.0 h.1, uses b p.1 h.2)
       uses (While e s) p h = (value_constants e types.Boolean h.0, uses s p h.1)
@@ -153,7 +226,9 @@ module _ (file : File) (program : Program) where
   call_constant (Making name c text vs) is = arguments_constant (parameters_of is.constructor) vs is.fit
   call_constant (Calling name m text r vs) is = arguments_constant (parameters_of is.called) vs is.fit
 
-  calls_constant : (cs : List ProgramCall) → ((i : ℕ) (c : ProgramCall) → slice_get cs i ≡ Some c → IsTypedCall file program c) → CallsHaveConstants cs
+  calls_constant : (cs : List ProgramCall) →
+      ((i : ℕ) (c : ProgramCall) → slice_get cs i ≡ Some c → IsTypedCall file program c) →
+      CallsHaveConstants cs
   calls_constant [] typed = tt
   calls_constant (c ∷ cs) typed = (call_constant c (typed 0 c refl), calls_constant cs (λ i d e. typed (suc i) d e))
 

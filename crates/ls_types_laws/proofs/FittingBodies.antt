@@ -30,10 +30,12 @@ ReturnsAs r (Returned (Some v)) = (t : ValueType) × (r ≡ Some t)
 ReturnsAs r (Threw kind) = Unit {0}
 
 abbrev Returns : Statement → Completion Value → Type 0
-Returns s c = (file : Checked) (slots : List ValueType) (r : Option ValueType) → IsTypedStatement file slots r s → ReturnsAs r c
+Returns s c = (file : Checked) (slots : List ValueType) (r : Option ValueType) → IsTypedStatement file slots r s →
+    ReturnsAs r c
 
 abbrev AllReturn : Statements → Completion Value → Type 0
-AllReturn ss c = (file : Checked) (slots : List ValueType) (r : Option ValueType) → AreTypedStatements file slots r ss → ReturnsAs r c
+AllReturn ss c = (file : Checked) (slots : List ValueType) (r : Option ValueType) → AreTypedStatements file slots r ss →
+    ReturnsAs r c
 
 of_loop : (e : Expression) (s : Statement) (c : Completion Value) → Returns s c → AfterBody (Returns (While e s)) c
 of_loop e s Normal h = tt
@@ -72,14 +74,23 @@ both_end : (P Q : Completion Value → Type 0) (x : Executed) → Ends P x → E
 both_end P Q (AsksFor a s) h k = tt
 both_end P Q (Completes c ls rest) h k = (h, k)
 
-no_value : (r : Option ValueType) (s : Statement) → (is_some r ≡ true → can_complete s ≡ false) → can_complete s ≡ true → r ≡ None
+no_value : (r : Option ValueType) (s : Statement) →
+    (is_some r ≡ true → can_complete s ≡ false) →
+    can_complete s ≡ true →
+    r ≡ None
 no_value None s h k = refl
 no_value (Some t) s h k = let shut : can_complete s ≡ false = h refl in cc (shut, k)
 
 none_low : (n : ℕ) → n < 0 → ⊥
 none_low n h = omega (arith, h)
 
-fits : (r : Option ValueType) (s : Statement) → (is_some r ≡ true → can_complete s ≡ false) → (c : Completion Value) → Allows s c → IsIn 0 c → ReturnsAs r c → FitsMethod r c
+fits : (r : Option ValueType) (s : Statement) →
+    (is_some r ≡ true → can_complete s ≡ false) →
+    (c : Completion Value) →
+    Allows s c →
+    IsIn 0 c →
+    ReturnsAs r c →
+    FitsMethod r c
 fits r s h Normal a i t = no_value r s h a
 fits r s h (Broke n) a i t = none_low n i
 fits r s h (Continued n) a i t = none_low n i
@@ -93,14 +104,20 @@ bodies_fit f o e n m at classes calls ls answers =
     let x : Executed = execute classes calls m.body ls answers in
     weaker (λ c. Allows m.body c × (IsIn 0 c × Returns m.body c)) (FitsMethod m.result) x
     (both_end (Allows m.body) (λ c. IsIn 0 c × Returns m.body c) x (only_as_allowed m.body classes calls ls answers)
-    (both_end (IsIn 0) (Returns m.body) x (only_to_its_loops 0 m.body (elaborated_loops f o e n m at) classes calls ls answers)
+    (both_end (IsIn 0) (Returns m.body) x (only_to_its_loops 0 m.body (elaborated_loops f o e n m at) classes calls ls
+    answers)
     (always Returns AllReturn returning m.body classes calls ls answers)))
-    (λ c h. fits m.result m.body (elaborated_ends f o e n m at) c h.0 h.1.0 (h.1.1 o.file m.slots m.result ((typed_when f o e).typed n m at).body))
+    (λ c h. fits m.result m.body (elaborated_ends f o e n m at) c h.0 h.1.0
+    (h.1.1 o.file m.slots m.result ((typed_when f o e).typed n m at).body))
 
 not_none : (r : Option ValueType) (t : ValueType) → r ≡ Some t → r ≡ None → ⊥
 not_none r t h k = cc (h, k)
 
-left_so : (r : Option ValueType) (t : ValueType) → r ≡ Some t → (other : Value) (x : Executed) → Ends (FitsMethod r) x → leave r x ≡ leave_or other x
+left_so : (r : Option ValueType) (t : ValueType) →
+    r ≡ Some t →
+    (other : Value) (x : Executed) →
+    Ends (FitsMethod r) x →
+    leave r x ≡ leave_or other x
 left_so r t h other (AsksFor a s) f = refl
 left_so r t h other (Completes Normal ls rest) f = absurd (not_none r t h f)
 left_so r t h other (Completes (Broke n) ls rest) f = absurd f
@@ -112,4 +129,5 @@ left_so r t h other (Completes (Threw kind) ls rest) f = refl
 -- the law: the value for bodies that leave none is never used
 pub none_left : (f : File) (o : Outcome) → elaborated f ≡ Ok o → NoneLeft o.file
 none_left f o e n m t at has other classes calls ls answers =
-    left_so m.result t has other (execute classes calls m.body ls answers) (bodies_fit f o e n m at classes calls ls answers)
+    left_so m.result t has other (execute classes calls m.body ls answers)
+    (bodies_fit f o e n m at classes calls ls answers)

@@ -1,5 +1,6 @@
 -- The heads of the methods that a text declares: class, types of the parameters, result.
-use Rattle.std.proofs.Common.{◌≡◌, ℕ, suc, ◌+◌, refl, sym, ◌∙◌, ap, Bool, true, false, List, [], ◌∷◌, ◌++◌, append_assoc, length, map, take, Option, None, Ok, Err, arith}
+use Rattle.std.proofs.Common.{◌≡◌, ℕ, suc, ◌+◌, refl, sym, ◌∙◌, ap, Bool, true, false, List, [], ◌∷◌, ◌++◌}
+use Rattle.std.proofs.Common.{append_assoc, length, map, take, Option, None, Ok, Err, arith}
 use Rattle.ls_events.specs.declared.value.ValueType.{ValueType}
 use Rattle.ls_events.specs.declared.value.ValueType.TheVariants as types
 use Rattle.ls_checked.specs.CheckedTree as checked
@@ -95,10 +96,12 @@ take_front [] ys = refl
 take_front (x ∷ xs) ys = ap (λ l. x ∷ l) (take_front xs ys)
 
 -- the heads of members and one more
-pub members_push : (names : List Text) (own : ℕ) (ms : List Member) (m : Member) → members_heads names own (ms ++ m ∷ []) ≡ members_heads names own ms ++ member_heads names own m
+pub members_push : (names : List Text) (own : ℕ) (ms : List Member) (m : Member) →
+    members_heads names own (ms ++ m ∷ []) ≡ members_heads names own ms ++ member_heads names own m
 members_push names own [] m = append_nil (member_heads names own m)
 members_push names own (x ∷ ms) m =
-    ap (λ l. member_heads names own x ++ l) (members_push names own ms m) ∙ sym (append_assoc (member_heads names own x) (members_heads names own ms) (member_heads names own m))
+    ap (λ l. member_heads names own x ++ l) (members_push names own ms m) ∙
+    sym (append_assoc (member_heads names own x) (members_heads names own ms) (member_heads names own m))
 
 -- the heads of classes and one more
 pub file_push : (names : List Text) (own : ℕ) (cs : List ClassTree) (c : ClassTree) →
@@ -109,5 +112,7 @@ file_push names own [] c = append_nil (class_heads names own c.members) ∙ ap (
     same = omega arith
 file_push names own (x ∷ cs) c =
     let same : suc own + length cs ≡ own + suc (length cs) = omega arith in
-    ap (λ l. class_heads names own x.members ++ l) (file_push names (suc own) cs c ∙ ap (λ n. file_heads names (suc own) cs ++ class_heads names n c.members) same)
-    ∙ sym (append_assoc (class_heads names own x.members) (file_heads names (suc own) cs) (class_heads names (own + suc (length cs)) c.members))
+    ap (λ l. class_heads names own x.members ++ l) (file_push names (suc own) cs c ∙
+    ap (λ n. file_heads names (suc own) cs ++ class_heads names n c.members) same)
+    ∙ sym (append_assoc (class_heads names own x.members) (file_heads names (suc own) cs)
+    (class_heads names (own + suc (length cs)) c.members))

@@ -1,5 +1,6 @@
 -- Lists: what is at a number, and what holds of each item.
-use Rattle.std.proofs.Common.{◌≡◌, ℕ, zero, suc, ◌+◌, arith, refl, sym, ◌∙◌, subst, ap, Bool, true, false, cond, List, [], ◌∷◌, ◌++◌, append_assoc, length, Option, Some, None}
+use Rattle.std.proofs.Common.{◌≡◌, ℕ, zero, suc, ◌+◌, arith, refl, sym, ◌∙◌, subst, ap, Bool, true, false, cond, List}
+use Rattle.std.proofs.Common.{[], ◌∷◌, ◌++◌, append_assoc, length, Option, Some, None}
 use Rattle.std.specs.Prelude.{slice_get, find}
 
 -- a list that begins with another
@@ -43,7 +44,10 @@ at_end [] x = refl
 at_end (y ∷ xs) x = at_end xs x
 
 -- an item of a list that has grown
-pub at_grown : {A : Type 0} (xs ys : List A) (n : ℕ) (x : A) → Grows xs ys → slice_get xs n ≡ Some x → slice_get ys n ≡ Some x
+pub at_grown : {A : Type 0} (xs ys : List A) (n : ℕ) (x : A) →
+    Grows xs ys →
+    slice_get xs n ≡ Some x →
+    slice_get ys n ≡ Some x
 at_grown xs ys n x g e = subst (λ l. slice_get l n ≡ Some x) g.1 (at_front xs g.0 n x e)
 
 -- what holds of each
@@ -72,11 +76,18 @@ each_at P [] n x h e = absurd (some_none x e)
 each_at P (y ∷ xs) zero x h e = subst P (same_some y x e) h.0
 each_at P (y ∷ xs) (suc n) x h e = each_at P xs n x h.1 e
 
-found_in : {A : Type 0} (P : A → Type 0) (b : Bool) (y x : A) (rest : Option A) → P y → (rest ≡ Some x → P x) → cond b (Some y) rest ≡ Some x → P x
+found_in : {A : Type 0} (P : A → Type 0) (b : Bool) (y x : A) (rest : Option A) →
+    P y →
+    (rest ≡ Some x → P x) →
+    cond b (Some y) rest ≡ Some x →
+    P x
 found_in P true y x rest h k e = subst P (same_some y x e) h
 found_in P false y x rest h k e = k e
 
 -- the item that is found has what each item has
-pub each_found : {A : Type 0} (P : A → Type 0) (p : A → Bool) (xs : List A) (x : A) → Each P xs → find p xs ≡ Some x → P x
+pub each_found : {A : Type 0} (P : A → Type 0) (p : A → Bool) (xs : List A) (x : A) →
+    Each P xs →
+    find p xs ≡ Some x →
+    P x
 each_found P p [] x h e = absurd (some_none x e)
 each_found P p (y ∷ xs) x h e = found_in P (p y) y x (find p xs) h.0 (λ e. each_found P p xs x h.1 e) e

@@ -1,7 +1,8 @@
 -- Files in which no pair comes alone.
 use Rattle.std.specs.Prelude.{◌≡◌, ℕ, Some, slice_get}
 use Rattle.ls_events.specs.declared.value.Value.TheVariants.{Pair}
-use Rattle.ls_checked.specs.CheckedTree.{Expression, Literal, Statement, Block, Evaluate, If, While, Try, Statements, Done, Then, Method, File}
+use Rattle.ls_checked.specs.CheckedTree.{Expression, Literal, Statement, Block, Evaluate, If, While, Try, Statements}
+use Rattle.ls_checked.specs.CheckedTree.{Done, Then, Method, File}
 
 -- a markable's pair of a reference and a mark isn't a value that a text can write
 abbrev pub IsNoPair : Expression → Type 0

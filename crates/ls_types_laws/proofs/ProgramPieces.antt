@@ -1,5 +1,7 @@
 -- Values that are read one after another, and what holds of them.
-use Rattle.std.proofs.Common.{◌≡◌, ℕ, zero, suc, ◌+◌, ◌*◌, ◌-◌, ◌<◌, ◌≤◌, refl, Bool, true, false, List, [], ◌∷◌, ◌++◌, length, Option, Some, None, min, pos, negsuc, nat_lt, ◌==◌, ltb-true, eqb-true, lit<, lit≤, arith, if◌then◌else◌}
+use Rattle.std.proofs.Common.{◌≡◌, ℕ, zero, suc, ◌+◌, ◌*◌, ◌-◌, ◌<◌, ◌≤◌, refl, Bool, true, false, List, [], ◌∷◌, ◌++◌}
+use Rattle.std.proofs.Common.{length, Option, Some, None, min, pos, negsuc, nat_lt, ◌==◌, ltb-true, eqb-true, lit<}
+use Rattle.std.proofs.Common.{lit≤, arith, if◌then◌else◌}
 use Rattle.std.specs.Prelude.{slice_get, FitsSigned}
 use mir.Syntax.{w32}
 use Rattle.ls_events.specs.declared.value.Value.{Value}
@@ -31,7 +33,9 @@ digits_small n (d ∷ text) h = digits_small (min (n * 10 + (d - 48)) 2147483648
     at_most : (m : ℕ) → min m 2147483648 ≤ 2147483648
     at_most m = omega arith
 
-plain_ranged : (b : Bool) (n : ℕ) → nat_lt n 2147483648 ≡ b → Reads IsRanged (if b then Some (values.Int (pos n)) else None)
+plain_ranged : (b : Bool) (n : ℕ) →
+    nat_lt n 2147483648 ≡ b →
+    Reads IsRanged (if b then Some (values.Int (pos n)) else None)
 plain_ranged true n e = record { sfits = ltb-true n 2147483648 e }
 plain_ranged false n e = tt
 
@@ -39,7 +43,11 @@ plain_ranged false n e = tt
 pub plain_number_ranged : (text : Text) → Reads IsRanged (plain_number text)
 plain_number_ranged text = plain_ranged (nat_lt (digits_value 0 text) 2147483648) (digits_value 0 text) refl
 
-negated_ranged : (n : ℕ) → n ≤ 2147483648 → (b : Bool) → (n == 0) ≡ b → FitsSigned w32 (if b then pos 0 else negsuc (n - 1))
+negated_ranged : (n : ℕ) →
+    n ≤ 2147483648 →
+    (b : Bool) →
+    (n == 0) ≡ b →
+    FitsSigned w32 (if b then pos 0 else negsuc (n - 1))
 negated_ranged n h true e = record { sfits = lit< tt }
 negated_ranged zero h false e = record { sfits = lit< tt }
 negated_ranged (suc n) h false e = record { sfits = below n h }
@@ -49,7 +57,8 @@ negated_ranged (suc n) h false e = record { sfits = below n h }
 
 -- a number after a minus is an int of 32 bits
 pub minus_number_ranged : (text : Text) → IsRanged (minus_number text)
-minus_number_ranged text = negated_ranged (digits_value 0 text) (digits_small 0 text (lit≤ tt)) (digits_value 0 text == 0) refl
+minus_number_ranged text = negated_ranged (digits_value 0 text) (digits_small 0 text (lit≤ tt))
+    (digits_value 0 text == 0) refl
 
 -- arguments for the first of the parameters
 abbrev pub Front : List ValueType → List Value → Type 0
@@ -63,7 +72,11 @@ fitting types.Boolean (values.Boolean b) e r = tt
 fitting _ _ e r = absurd (no_truth e)
 
 -- one more argument that fits
-pub front_push : (ts : List ValueType) (vs : List Value) (v : Value) → Front ts vs → fits (slice_get ts (length vs)) v ≡ true → IsRanged v → Front ts (vs ++ v ∷ [])
+pub front_push : (ts : List ValueType) (vs : List Value) (v : Value) →
+    Front ts vs →
+    fits (slice_get ts (length vs)) v ≡ true →
+    IsRanged v →
+    Front ts (vs ++ v ∷ [])
 front_push [] [] v h e r = absurd (no_truth (none v e))
   where
     none : (v : Value) → fits None v ≡ true → false ≡ true
@@ -82,7 +95,10 @@ front_full [] (v ∷ vs) h e = absurd h
 front_full (t ∷ ts) (v ∷ vs) h e = (h.0, front_full ts vs h.1 (omega (arith, e)))
 
 -- a call with as many arguments as parameters has all its arguments
-pub is_full_so : (ts : List ValueType) (vs : List Value) → Front ts vs → (length vs == length ts) ≡ true → AreArguments ts vs
+pub is_full_so : (ts : List ValueType) (vs : List Value) →
+    Front ts vs →
+    (length vs == length ts) ≡ true →
+    AreArguments ts vs
 is_full_so ts vs h e = front_full ts vs h (eqb-true (length vs) (length ts) e)
 
 -- a method that answers no reference may be called

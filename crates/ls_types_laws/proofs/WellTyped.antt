@@ -26,7 +26,10 @@ well_typed f o e =
     }
 
 -- the law: a program that is read is well typed
-pub well_typed_program : (f : File) (o : Outcome) (text : Text) (p : Program) → elaborated f ≡ Ok o → program_of o text ≡ Some p → IsWellTypedProgram o.file p
+pub well_typed_program : (f : File) (o : Outcome) (text : Text) (p : Program) →
+    elaborated f ≡ Ok o →
+    program_of o text ≡ Some p →
+    IsWellTypedProgram o.file p
 well_typed_program f o text p e reads =
     let t : IsTypedOutcome o = typed_when f o e in
     record {

@@ -39,4 +39,5 @@ abbrev pub NoneLeft : File → Type 0
 NoneLeft file =
     (n : ℕ) (m : Method) (t : ValueType) → slice_get file.methods n ≡ Some m → m.result ≡ Some t
     → (other : Value) (classes : List Class) (calls : Calls) (locals : List Value) (answers : Answers)
-    → leave m.result (execute classes calls m.body locals answers) ≡ leave_or other (execute classes calls m.body locals answers)
+    → leave m.result (execute classes calls m.body locals answers) ≡ leave_or other
+    (execute classes calls m.body locals answers)

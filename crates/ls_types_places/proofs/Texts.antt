@@ -7,4 +7,5 @@ use Rattle.ls_types_places.proofs.Files.{no_places}
 
 -- the law: if a text has one tree, its files have one answer
 pub one_answer : OneFile → OneAnswer
-one_answer one text f g s t = no_places f g (s.forgotten ∙ ap file_tree (one s.tree t.tree text s.spelled t.spelled) ∙ sym t.forgotten)
+one_answer one text f g s t = no_places f g (s.forgotten ∙ ap file_tree (one s.tree t.tree text s.spelled t.spelled) ∙
+    sym t.forgotten)

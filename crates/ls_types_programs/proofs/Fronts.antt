@@ -1,5 +1,6 @@
 -- Lists: their fronts, and what is in them.
-use Rattle.std.proofs.Common.{◌≡◌, ℕ, zero, suc, ◌<◌, refl, sym, ◌∙◌, ap, subst, map, Bool, true, false, ◌||◌, List, [], ◌∷◌, ◌++◌, length, length-append, Some, None, arith, bytes_eq, ◌==◌}
+use Rattle.std.proofs.Common.{◌≡◌, ℕ, zero, suc, ◌<◌, refl, sym, ◌∙◌, ap, subst, map, Bool, true, false, ◌||◌, List, []}
+use Rattle.std.proofs.Common.{◌∷◌, ◌++◌, length, length-append, Some, None, arith, bytes_eq, ◌==◌}
 use Rattle.std.proofs.lemmas.Bool.{eq-eqb}
 use Rattle.std.specs.Prelude.{slice_get}
 use Rattle.ls_lexer.specs.Lexemes.{Lexeme}
@@ -27,7 +28,10 @@ formed_end [] k f h (suc i) j e = absurd (some_none j e)
 formed_end (x ∷ ks) k f h zero j e = h 0 j e
 formed_end (x ∷ ks) k f h (suc i) j e = formed_end ks k f (λ i. h (suc i)) i j e
 
-front_fewer : (ts : List ValueType) (vs : List Value) → Front ts vs → (length vs ≡ length ts → ⊥) → length vs < length ts
+front_fewer : (ts : List ValueType) (vs : List Value) →
+    Front ts vs →
+    (length vs ≡ length ts → ⊥) →
+    length vs < length ts
 front_fewer [] [] h e = absurd (e refl)
 front_fewer (t ∷ ts) [] h e = omega arith
 front_fewer [] (v ∷ vs) h e = absurd h
@@ -37,11 +41,16 @@ front_fewer (t ∷ ts) (v ∷ vs) h e = more (length vs) (length ts) (front_fewe
     more a b h = omega (arith, h)
 
 -- if there are not all arguments, there are fewer than parameters
-pub front_short : (ts : List ValueType) (vs : List Value) → Front ts vs → (length vs == length ts) ≡ false → length vs < length ts
+pub front_short : (ts : List ValueType) (vs : List Value) →
+    Front ts vs →
+    (length vs == length ts) ≡ false →
+    length vs < length ts
 front_short ts vs h e = front_fewer ts vs h (λ is. no_truth (sym e ∙ eq-eqb (length vs) (length ts) is))
 
 -- if no parameter is left, one more argument is too many
-pub front_over : (ts : List ValueType) (vs : List Value) (v : Value) → slice_get ts (length vs) ≡ None → length ts < length (vs ++ v ∷ [])
+pub front_over : (ts : List ValueType) (vs : List Value) (v : Value) →
+    slice_get ts (length vs) ≡ None →
+    length ts < length (vs ++ v ∷ [])
 front_over [] vs v e = more vs
   where
     more : (vs : List Value) → 0 < length (vs ++ v ∷ [])
@@ -60,19 +69,33 @@ pub record Wanted (ts : List ValueType) (vs : List Value) (t : ValueType) : Type
   pub for : AreFor before vs
 
 -- the type of the next parameter is wanted
-pub wanted : (ts : List ValueType) (vs : List Value) (t : ValueType) → Front ts vs → slice_get ts (length vs) ≡ Some t → Wanted ts vs t
+pub wanted : (ts : List ValueType) (vs : List Value) (t : ValueType) →
+    Front ts vs →
+    slice_get ts (length vs) ≡ Some t →
+    Wanted ts vs t
 wanted [] vs t h e = absurd (some_none t e)
 wanted (u ∷ ts) [] t h e = record { before = []; rest = ts; is = ap (λ x. x ∷ ts) (same_some u t e); for = refl }
 wanted (u ∷ ts) (v ∷ vs) t h e =
     let w = wanted ts vs t h.1 e in
-    record { before = u ∷ w.before; rest = w.rest; is = ap (λ l. u ∷ l) w.is; for = ap (λ x. x ∷ map type_of vs) h.0 ∙ ap (λ l. Some u ∷ l) w.for }
+    record {
+      before = u ∷ w.before;
+      rest = w.rest;
+      is = ap (λ l. u ∷ l) w.is;
+      for = ap (λ x. x ∷ map type_of vs) h.0 ∙
+          ap (λ l. Some u ∷ l) w.for;
+    }
 
 -- a thread with a taken name is among the threads
-pub thread_there : (ts : List ThreadProgram) (name : Text) → thread_named ts name ≡ true → (n : ℕ) × (t : ThreadProgram) × (slice_get ts n ≡ Some t) × (t.name ≡ name)
+pub thread_there : (ts : List ThreadProgram) (name : Text) →
+    thread_named ts name ≡ true →
+    (n : ℕ) × (t : ThreadProgram) × (slice_get ts n ≡ Some t) × (t.name ≡ name)
 thread_there [] name e = absurd (no_truth e)
 thread_there (t ∷ ts) name e = by (thread_there ts name) (bytes_eq t.name name) refl e
   where
-    by : (thread_named ts name ≡ true → (n : ℕ) × (t : ThreadProgram) × (slice_get ts n ≡ Some t) × (t.name ≡ name)) → (b : Bool) → bytes_eq t.name name ≡ b → (b || thread_named ts name) ≡ true
+    by : (thread_named ts name ≡ true → (n : ℕ) × (t : ThreadProgram) × (slice_get ts n ≡ Some t) × (t.name ≡ name)) →
+        (b : Bool) →
+        bytes_eq t.name name ≡ b →
+        (b || thread_named ts name) ≡ true
         → (n : ℕ) × (u : ThreadProgram) × (slice_get (t ∷ ts) n ≡ Some u) × (u.name ≡ name)
     by rec true same e = (0, t, refl, same_bytes t.name name same)
     by rec false same e = let h = rec e in (suc h.0, h.1, h.2, h.3)

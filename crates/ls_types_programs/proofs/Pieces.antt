@@ -1,5 +1,7 @@
 -- Tokens, names and arguments: what the tests of the reading say.
-use Rattle.std.proofs.Common.{◌≡◌, ℕ, zero, suc, ◌+◌, ◌*◌, ◌-◌, ◌<◌, ◌≤◌, refl, sym, ◌∙◌, subst, ap, Bool, true, false, not, ◌&&◌, ◌||◌, List, [], ◌∷◌, ◌++◌, length, map, Option, Some, None, min, pos, negsuc, ◌==◌, eqb-true, arith, nat_le, leb-true, if◌then◌else◌, bytes_eq}
+use Rattle.std.proofs.Common.{◌≡◌, ℕ, zero, suc, ◌+◌, ◌*◌, ◌-◌, ◌<◌, ◌≤◌, refl, sym, ◌∙◌, subst, ap, Bool, true, false}
+use Rattle.std.proofs.Common.{not, ◌&&◌, ◌||◌, List, [], ◌∷◌, ◌++◌, length, map, Option, Some, None, min, pos, negsuc}
+use Rattle.std.proofs.Common.{◌==◌, eqb-true, arith, nat_le, leb-true, if◌then◌else◌, bytes_eq}
 use Rattle.std.specs.Prelude.{slice_get, neg_ℤ, ◌≢◌, is_some, option_map, IsTrue}
 use Rattle.std.proofs.lemmas.Slice.Eq.{bytes_eq-Decides}
 use denote.Enum.Bare.{same_true}
@@ -96,7 +98,8 @@ bytes_other a b n = by (bytes_eq a b) refl
 
 digits_from : (n m : ℕ) (text : Text) → m ≡ min n 2147483648 → digits_value m text ≡ min (value_of n text) 2147483648
 digits_from n m [] e = e
-digits_from n m (d ∷ ds) e = digits_from (10 * n + (d - 48)) (min (m * 10 + (d - 48)) 2147483648) ds (step n m (d - 48) e)
+digits_from n m (d ∷ ds) e = digits_from (10 * n + (d - 48)) (min (m * 10 + (d - 48)) 2147483648) ds
+    (step n m (d - 48) e)
   where
     step : (n m x : ℕ) → m ≡ min n 2147483648 → min (m * 10 + x) 2147483648 ≡ min (10 * n + x) 2147483648
     step n m x e = omega (arith, e)
@@ -130,7 +133,8 @@ negated_is (suc n) = by (suc n == 0) refl
 -- a number in a text is at most 2147483648
 pub number_most : (text : Text) → IsTrue (is_number text) → value_of 0 text ≤ 2147483648
 number_most [] e = absurd (no_truth e)
-number_most (b ∷ bs) e = leb-true (value_of 0 (b ∷ bs)) 2147483648 (both _ (nat_le (value_of 0 (b ∷ bs)) 2147483648) e).1
+number_most (b ∷ bs) e = leb-true (value_of 0 (b ∷ bs)) 2147483648
+    (both _ (nat_le (value_of 0 (b ∷ bs)) 2147483648) e).1
 
 -- ---- arguments for the first of the parameters
 
@@ -146,7 +150,10 @@ fit_type types.Boolean (values.Boolean b) e = refl
 fit_type _ _ e = absurd (no_truth e)
 
 -- one more value that fits
-pub front_push : (ts : List ValueType) (vs : List Value) (v : Value) → Front ts vs → fits (slice_get ts (length vs)) v ≡ true → Front ts (vs ++ v ∷ [])
+pub front_push : (ts : List ValueType) (vs : List Value) (v : Value) →
+    Front ts vs →
+    fits (slice_get ts (length vs)) v ≡ true →
+    Front ts (vs ++ v ∷ [])
 front_push [] [] v h e = absurd (no_truth (none v e))
   where
     none : (v : Value) → fits None v ≡ true → false ≡ true
@@ -162,7 +169,8 @@ front_full : (ts : List ValueType) (vs : List Value) → Front ts vs → length 
 front_full [] [] h e = refl
 front_full (t ∷ ts) [] h e = absurd (omega (arith, e))
 front_full [] (v ∷ vs) h e = absurd h
-front_full (t ∷ ts) (v ∷ vs) h e = ap (λ x. x ∷ map type_of vs) h.0 ∙ ap (λ l. Some t ∷ l) (front_full ts vs h.1 (omega (arith, e)))
+front_full (t ∷ ts) (v ∷ vs) h e = ap (λ x. x ∷ map type_of vs) h.0 ∙
+    ap (λ l. Some t ∷ l) (front_full ts vs h.1 (omega (arith, e)))
 
 -- if all parameters have values, the values are for them
 pub is_full_so : (ts : List ValueType) (vs : List Value) → Front ts vs → (length vs == length ts) ≡ true → AreFor ts vs
@@ -201,19 +209,35 @@ at_end [] x = refl
 at_end (y ∷ xs) x = at_end xs x
 
 -- an element keeps its place in a list that grows
-pub at_grown : {A : Type 0} (xs ys : List A) (n : ℕ) (x : A) → Grows xs ys → slice_get xs n ≡ Some x → slice_get ys n ≡ Some x
+pub at_grown : {A : Type 0} (xs ys : List A) (n : ℕ) (x : A) →
+    Grows xs ys →
+    slice_get xs n ≡ Some x →
+    slice_get ys n ≡ Some x
 at_grown xs ys n x g e = subst (λ l. slice_get l n ≡ Some x) g.1 (at_front xs g.0 n x e)
 
 -- ---- setup names
 
 -- a name that is found is among the names
-pub named_there : (names : List SetupName) (name : Text) (n : ℕ) → setup_named names name ≡ Some n → (s : SetupName) × (slice_get names n ≡ Some s) × (s.name ≡ name)
+pub named_there : (names : List SetupName) (name : Text) (n : ℕ) →
+    setup_named names name ≡ Some n →
+    (s : SetupName) × (slice_get names n ≡ Some s) × (s.name ≡ name)
 named_there [] name n e = absurd (some_none n e)
-named_there (x ∷ names) name n e = by (named_there names name) (bytes_eq x.name name) refl (setup_named names name) refl e
+named_there (x ∷ names) name n e = by (named_there names name) (bytes_eq x.name name) refl (setup_named names name) refl
+    e
   where
-    by : ((j : ℕ) → setup_named names name ≡ Some j → (s : SetupName) × (slice_get names j ≡ Some s) × (s.name ≡ name)) → (b : Bool) → bytes_eq x.name name ≡ b → (i : Option ℕ) → setup_named names name ≡ i → (if b then Some 0 else option_map (λ i. i + 1) i) ≡ Some n
+    by : ((j : ℕ) → setup_named names name ≡ Some j → (s : SetupName) × (slice_get names j ≡ Some s) × (s.name ≡ name))
+        →
+        (b : Bool) →
+        bytes_eq x.name name ≡ b →
+        (i : Option ℕ) →
+        setup_named names name ≡ i →
+        (if b then Some 0 else option_map (λ i. i + 1) i) ≡ Some n
         → (s : SetupName) × (slice_get (x ∷ names) n ≡ Some s) × (s.name ≡ name)
-    by rec true same i found e = (x, subst (λ j. slice_get (x ∷ names) j ≡ Some x) (same_some 0 n e) refl, same_bytes x.name name same)
+    by rec true same i found e = (
+      x,
+      subst (λ j. slice_get (x ∷ names) j ≡ Some x) (same_some 0 n e) refl,
+      same_bytes x.name name same,
+    )
     by rec false same None found e = absurd (some_none n e)
     by rec false same (Some j) found e =
         let h = rec j found in
@@ -230,7 +254,12 @@ pub is_new : (names : List SetupName) (name : Text) → is_some (setup_named nam
 is_new [] name e = tt
 is_new (x ∷ names) name e = by (is_new names name) (bytes_eq x.name name) refl (setup_named names name) refl e
   where
-    by : (is_some (setup_named names name) ≡ false → IsNewName names name) → (b : Bool) → bytes_eq x.name name ≡ b → (i : Option ℕ) → setup_named names name ≡ i → is_some (if b then Some 0 else option_map (λ i. i + 1) i) ≡ false
+    by : (is_some (setup_named names name) ≡ false → IsNewName names name) →
+        (b : Bool) →
+        bytes_eq x.name name ≡ b →
+        (i : Option ℕ) →
+        setup_named names name ≡ i →
+        is_some (if b then Some 0 else option_map (λ i. i + 1) i) ≡ false
         → IsNewName (x ∷ names) name
     by rec true same i found e = absurd (no_truth (sym e))
     by rec false same None found e = (other_bytes x.name name same, rec (ap is_some found))
@@ -243,6 +272,10 @@ pub is_new_thread : (ts : List ThreadProgram) (name : Text) → thread_named ts 
 is_new_thread [] name e = tt
 is_new_thread (t ∷ ts) name e = by (is_new_thread ts name) (bytes_eq t.name name) refl e
   where
-    by : (thread_named ts name ≡ false → IsNewThread ts name) → (b : Bool) → bytes_eq t.name name ≡ b → (b || thread_named ts name) ≡ false → IsNewThread (t ∷ ts) name
+    by : (thread_named ts name ≡ false → IsNewThread ts name) →
+        (b : Bool) →
+        bytes_eq t.name name ≡ b →
+        (b || thread_named ts name) ≡ false →
+        IsNewThread (t ∷ ts) name
     by rec true same e = absurd (no_truth (sym e))
     by rec false same e = (other_bytes t.name name same, rec e)

@@ -16,7 +16,17 @@ m = record { name = codes "m"; number = 1; parameters = types.Boolean ∷ types.
 o : Outcome
 o = record {
   names = codes "C" ∷ [];
-  signs = record { fields = []; methods = m ∷ record { name = codes "r"; number = 2; parameters = []; result = Some (types.Class 0) } ∷ []; constructor = 0; parameters = types.Int ∷ [] } ∷ [];
+  signs = record {
+    fields = [];
+    methods = m ∷ record {
+      name = codes "r";
+      number = 2;
+      parameters = [];
+      result = Some (types.Class 0);
+    } ∷ [];
+    constructor = 0;
+    parameters = types.Int ∷ [];
+  } ∷ [];
   file = record { classes = []; methods = [] };
 }
 
@@ -25,7 +35,11 @@ p = record {
   names = record { name = codes "s"; class = 0 } ∷ [];
   threads =
       record { name = codes "setup"; calls = Making 0 0 (codes "C") (values.Int (negsuc 2147483647) ∷ []) ∷ [] }
-      ∷ record { name = codes "s"; calls = Calling 0 1 (codes "m") (Some types.Int) (values.Boolean true ∷ values.Int (pos 0) ∷ []) ∷ [] }
+      ∷ record {
+        name = codes "s";
+        calls = Calling 0 1 (codes "m") (Some types.Int)
+            (values.Boolean true ∷ values.Int (pos 0) ∷ []) ∷ [];
+      }
       ∷ [];
 }
 
@@ -41,18 +55,32 @@ is_text = record {
   tokens = _;
   lexed = refl;
   spelled = spelled.Whole
-      (spelled.More (spelled.New (record { name = codes "s"; class = 0 }) refl refl (spelled.First (spelled.Minus (codes "2147483648") (lit≤ tt)) spelled.NoOther)) spelled.NoCall)
+      (spelled.More (spelled.New (record { name = codes "s"; class = 0 }) refl refl
+      (spelled.First (spelled.Minus (codes "2147483648") (lit≤ tt)) spelled.NoOther)) spelled.NoCall)
       (spelled.Thread
-      (spelled.More (spelled.On (record { name = codes "s"; class = 0 }) refl (spelled.First spelled.True (spelled.Other (spelled.Minus (codes "0") (lit≤ tt)) spelled.NoOther))) spelled.NoCall)
+      (spelled.More (spelled.On (record { name = codes "s"; class = 0 }) refl
+      (spelled.First spelled.True (spelled.Other (spelled.Minus (codes "0") (lit≤ tt)) spelled.NoOther)))
+      spelled.NoCall)
       spelled.NoThread);
   program = record {
     setup = _;
     threads = _;
     parts = refl;
-    gives = programs.Makes {names = []} (record { name = codes "s"; class = 0 }) (codes "C") (values.Int (negsuc 2147483647) ∷ []) refl tt refl refl programs.End;
+    gives = programs.Makes {names = []} (record { name = codes "s"; class = 0 }) (codes "C")
+        (values.Int (negsuc 2147483647) ∷ []) refl tt refl refl programs.End;
     calls = lit≤ tt;
     few = lit≤ tt;
-    others = programs.Thread {before = record { name = codes "setup"; calls = Making 0 0 (codes "C") (values.Int (negsuc 2147483647) ∷ []) ∷ [] } ∷ []} (record { name = codes "s"; calls = Calling 0 1 (codes "m") (Some types.Int) (values.Boolean true ∷ values.Int (pos 0) ∷ []) ∷ [] }) (λ e. cc) ((λ e. cc), tt) (lit≤ tt) (programs.Calls 0 (record { name = codes "s"; class = 0 }) (codes "m") m (values.Boolean true ∷ values.Int (pos 0) ∷ []) refl refl tt refl programs.End) programs.End;
+    others = programs.Thread {before = record {
+      name = codes "setup";
+      calls = Making 0 0 (codes "C") (values.Int (negsuc 2147483647) ∷ []) ∷ [];
+    } ∷ []}
+        (record {
+          name = codes "s";
+          calls = Calling 0 1 (codes "m") (Some types.Int)
+              (values.Boolean true ∷ values.Int (pos 0) ∷ []) ∷ [];
+        }) (λ e. cc) ((λ e. cc), tt) (lit≤ tt)
+        (programs.Calls 0 (record { name = codes "s"; class = 0 }) (codes "m") m
+        (values.Boolean true ∷ values.Int (pos 0) ∷ []) refl refl tt refl programs.End) programs.End;
   };
 }
 
@@ -109,6 +137,11 @@ no12 : program_of o (codes "setup { s = new C(--1); }") ≡ None
 unfolding lexed m o
 no12 = refl
 
-yes13 : program_of o (codes "setup { } /* x */ thread thread { } // end") ≡ Some (record { names = []; threads = record { name = codes "setup"; calls = [] } ∷ record { name = codes "thread"; calls = [] } ∷ [] })
+yes13 : program_of o (codes "setup { } /* x */ thread thread { } // end") ≡ Some
+    (record {
+      names = [];
+      threads = record { name = codes "setup"; calls = [] } ∷
+          record { name = codes "thread"; calls = [] } ∷ [];
+    })
 unfolding lexed m o
 yes13 = refl

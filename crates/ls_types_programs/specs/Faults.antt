@@ -36,14 +36,19 @@ pub data IsBad (o : Outcome) : List Lexeme → List Lexeme → Type 0 where
       → IsBad o ks (Named name ∷ Marked signs.Assign ∷ [])
   NameTwice : {ks : List Lexeme} (p : Program) (n : ℕ) (s : SetupName) → IsBefore o p ks → slice_get p.names n ≡ Some s
       → IsBad o ks (Named s.name ∷ Marked signs.Assign ∷ [])
-  NamedAll : {ks : List Lexeme} (p : Program) → AreWhole o p ks → IsBad o (ks ++ Named (codes "thread") ∷ []) (Named (codes "all") ∷ [])
-  ThreadTwice : {ks : List Lexeme} (p : Program) (n : ℕ) (t : ThreadProgram) → AreWhole o p ks → slice_get p.threads n ≡ Some t
+  NamedAll : {ks : List Lexeme} (p : Program) →
+      AreWhole o p ks →
+      IsBad o (ks ++ Named (codes "thread") ∷ []) (Named (codes "all") ∷ [])
+  ThreadTwice : {ks : List Lexeme} (p : Program) (n : ℕ) (t : ThreadProgram) →
+      AreWhole o p ks →
+      slice_get p.threads n ≡ Some t
       → IsBad o (ks ++ Named (codes "thread") ∷ []) (Named t.name ∷ [])
 
 -- The beginning of a call, up to its class or method, which exists, and the types of its parameters.
 pub data IsCallee (o : Outcome) (p : Program) : List Lexeme → Text → List ValueType → Type 0 where
   Class : (name class : Text) (c : ℕ) → length p.threads ≡ 1 → IsNewName p.names name → number_of o.names class ≡ Some c
-      → IsCallee o p (Named name ∷ Marked signs.Assign ∷ Reserved words.New ∷ []) class (parameters_in (slice_get o.signs c))
+      → IsCallee o p (Named name ∷ Marked signs.Assign ∷ Reserved words.New ∷ []) class
+      (parameters_in (slice_get o.signs c))
   Method : (n : ℕ) (s : SetupName) (method : Text) (m : MethodSign) → slice_get p.names n ≡ Some s
       → method_named (methods_in (slice_get o.signs s.class)) method ≡ Some m → IsPlain m.result
       → IsCallee o p (Named s.name ∷ Marked signs.Dot ∷ []) method m.parameters
@@ -55,36 +60,52 @@ AreBeforeParen vs ks = Arguments vs (ks ++ Marked signs.CloseParen ∷ []) []
 -- A class, setup name or method that doesn't exist. Or too few or too many arguments; the place is then that of the
 -- class or method. Or the first argument of another type than its parameter.
 pub data IsUnknown (o : Outcome) : List Lexeme → List Lexeme → Type 0 where
-  NoClass : {ks : List Lexeme} (p : Program) (name class : Text) → IsBefore o p ks → length p.threads ≡ 1 → IsNewName p.names name
+  NoClass : {ks : List Lexeme} (p : Program) (name class : Text) →
+      IsBefore o p ks →
+      length p.threads ≡ 1 →
+      IsNewName p.names name
       → number_of o.names class ≡ None
       → IsUnknown o (ks ++ Named name ∷ Marked signs.Assign ∷ Reserved words.New ∷ []) (Named class ∷ [])
   NoName : {ks : List Lexeme} (p : Program) (name : Text) → IsBefore o p ks → IsNewName p.names name
       → IsUnknown o ks (Named name ∷ Marked signs.Dot ∷ [])
-  NoMethod : {ks : List Lexeme} (p : Program) (n : ℕ) (s : SetupName) (method : Text) → IsBefore o p ks → slice_get p.names n ≡ Some s
+  NoMethod : {ks : List Lexeme} (p : Program) (n : ℕ) (s : SetupName) (method : Text) →
+      IsBefore o p ks →
+      slice_get p.names n ≡ Some s
       → method_named (methods_in (slice_get o.signs s.class)) method ≡ None
       → IsUnknown o (ks ++ Named s.name ∷ Marked signs.Dot ∷ []) (Named method ∷ [])
-  TooFew : {ks front js : List Lexeme} (p : Program) (callee : Text) (types : List ValueType) (vs : List Value) → IsBefore o p ks
+  TooFew : {ks front js : List Lexeme} (p : Program) (callee : Text) (types : List ValueType) (vs : List Value) →
+      IsBefore o p ks
       → IsCallee o p front callee types → Arguments vs js [] → length vs < length types
       → IsUnknown o (ks ++ front) (Named callee ∷ Marked signs.OpenParen ∷ js)
-  TooMany : {ks front js : List Lexeme} (p : Program) (callee : Text) (types : List ValueType) (vs : List Value) → IsBefore o p ks
+  TooMany : {ks front js : List Lexeme} (p : Program) (callee : Text) (types : List ValueType) (vs : List Value) →
+      IsBefore o p ks
       → IsCallee o p front callee types → AreBeforeParen vs js → length types < length vs
       → IsUnknown o (ks ++ front) (Named callee ∷ Marked signs.OpenParen ∷ js)
-  WrongType : {ks front : List Lexeme} (js ls : List Lexeme) (p : Program) (callee : Text) (before types : List ValueType) (t : ValueType) (vs : List Value) (v : Value)
-      → IsBefore o p ks → IsCallee o p front callee (before ++ t ∷ types) → AreBeforeParen (vs ++ v ∷ []) (js ++ ls) → Argument v ls []
+  WrongType : {ks front : List Lexeme} (js ls : List Lexeme) (p : Program) (callee : Text)
+      (before types : List ValueType) (t : ValueType) (vs : List Value) (v : Value)
+      → IsBefore o p ks → IsCallee o p front callee (before ++ t ∷ types) → AreBeforeParen (vs ++ v ∷ []) (js ++ ls) →
+      Argument v ls []
       → AreFor before vs → type_of v ≢ Some t
       → IsUnknown o (ks ++ front ++ Named callee ∷ Marked signs.OpenParen ∷ js) ls
 
 -- a method that answers a reference
 pub data IsReference (o : Outcome) : List Lexeme → List Lexeme → Type 0 where
-  Answers : {ks : List Lexeme} (p : Program) (n : ℕ) (s : SetupName) (method : Text) (m : MethodSign) → IsBefore o p ks → slice_get p.names n ≡ Some s
+  Answers : {ks : List Lexeme} (p : Program) (n : ℕ) (s : SetupName) (method : Text) (m : MethodSign) →
+      IsBefore o p ks →
+      slice_get p.names n ≡ Some s
       → method_named (methods_in (slice_get o.signs s.class)) method ≡ Some m → (IsPlain m.result → ⊥)
       → IsReference o (ks ++ Named s.name ∷ Marked signs.Dot ∷ []) (Named method ∷ [])
 
 -- a thread, if the others have reached the limit of threads; or a call, if its thread has reached the limit of calls
 pub data IsPast (o : Outcome) : List Lexeme → Type 0 where
-  Threads : {ks : List Lexeme} (p : Program) → AreWhole o p ks → most_threads < length p.threads → IsPast o (ks ++ Named (codes "thread") ∷ [])
-  Calls : {ks front js : List Lexeme} (p : Program) (ts : List ThreadProgram) (t : ThreadProgram) (callee : Text) (types : List ValueType) (vs : List Value)
-      → IsBefore o p ks → p.threads ≡ ts ++ t ∷ [] → most_calls ≤ length t.calls → IsCallee o p front callee types → Arguments vs js [] → AreFor types vs
+  Threads : {ks : List Lexeme} (p : Program) →
+      AreWhole o p ks →
+      most_threads < length p.threads →
+      IsPast o (ks ++ Named (codes "thread") ∷ [])
+  Calls : {ks front js : List Lexeme} (p : Program) (ts : List ThreadProgram) (t : ThreadProgram) (callee : Text)
+      (types : List ValueType) (vs : List Value)
+      → IsBefore o p ks → p.threads ≡ ts ++ t ∷ [] → most_calls ≤ length t.calls → IsCallee o p front callee types →
+      Arguments vs js [] → AreFor types vs
       → IsPast o (ks ++ front ++ Named callee ∷ Marked signs.OpenParen ∷ js ++ Marked signs.Semicolon ∷ [])
 
 -- the tokens are not the beginning of any program of the file
@@ -93,5 +114,6 @@ GoesNowhere o ks = (p : Program) (more : List Lexeme) → Spells p (ks ++ more) 
 
 abbrev pub FaultsStand : Type 0
 FaultsStand =
-    (o : Outcome) (ks js : List Lexeme) → (IsBad o ks js → GoesNowhere o (ks ++ js)) × (IsUnknown o ks js → GoesNowhere o (ks ++ js))
+    (o : Outcome) (ks js : List Lexeme) → (IsBad o ks js → GoesNowhere o (ks ++ js)) ×
+    (IsUnknown o ks js → GoesNowhere o (ks ++ js))
     × (IsReference o ks js → GoesNowhere o (ks ++ js)) × (IsPast o ks → GoesNowhere o ks)

@@ -15,4 +15,5 @@ OneProgram = (o : Outcome) (text : Text) (p q : Program) → IsTextOf o p text �
 
 -- each thread's name is an identifier, and not a reserved word
 abbrev pub ThreadsAreNamed : Type 0
-ThreadsAreNamed = (o : Outcome) (text : Text) (p : Program) → IsTextOf o p text → (i : ℕ) (t : ThreadProgram) → slice_get p.threads i ≡ Some t → IsName t.name
+ThreadsAreNamed = (o : Outcome) (text : Text) (p : Program) → IsTextOf o p text → (i : ℕ) (t : ThreadProgram) →
+    slice_get p.threads i ≡ Some t → IsName t.name

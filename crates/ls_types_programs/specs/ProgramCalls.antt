@@ -1,5 +1,6 @@
 -- The calls of a thread program against the classes of a file.
-use Rattle.std.specs.Prelude.{ℕ, ◌+◌, ◌-◌, ℤ, pos, negsuc, nat_lt, ◌==◌, Bool, true, false, List, [], ◌∷◌, ◌++◌, length, Option, Some, None, bytes_eq, if◌then◌else◌, slice_get, option_map}
+use Rattle.std.specs.Prelude.{ℕ, ◌+◌, ◌-◌, ℤ, pos, negsuc, nat_lt, ◌==◌, Bool, true, false, List, [], ◌∷◌, ◌++◌, length}
+use Rattle.std.specs.Prelude.{Option, Some, None, bytes_eq, if◌then◌else◌, slice_get, option_map}
 use Rattle.ls_events.specs.declared.value.Value.{Value}
 use Rattle.ls_events.specs.declared.value.Value.TheVariants as values
 use Rattle.ls_events.specs.declared.value.ValueType.{ValueType}
@@ -43,7 +44,8 @@ is_plain (Some _) = false
 
 abbrev pub callable : ℕ → Text → Option MethodSign → Option Pending
 callable n name None = None
-callable n name (Some m) = if is_plain m.result then Some (pending (Method n m.number name m.result) m.parameters) else None
+callable n name (Some m) = if is_plain m.result then Some (pending (Method n m.number name m.result) m.parameters) else
+    None
 
 -- a method of the class of the object that a setup name holds
 abbrev pub method_on : Outcome → Option SetupName → Text → Option MethodSign

@@ -1,5 +1,6 @@
 -- Which programs are programs of a file.
-use Rattle.std.specs.Prelude.{◌≡◌, ◌≢◌, ℕ, ◌≤◌, Bool, true, false, List, [], ◌∷◌, ◌++◌, length, map, Option, Some, None, codes, slice_get}
+use Rattle.std.specs.Prelude.{◌≡◌, ◌≢◌, ℕ, ◌≤◌, Bool, true, false, List, [], ◌∷◌, ◌++◌, length, map, Option, Some, None}
+use Rattle.std.specs.Prelude.{codes, slice_get}
 use Rattle.ls_checked.specs.Limits.{most_threads, most_calls}
 use Rattle.ls_lexer.specs.Lexemes.{Lexeme}
 use Rattle.ls_lexer.specs.Tokens.{tokens_of}
@@ -50,7 +51,8 @@ pub data AreCallsOf (o : Outcome) (in_setup : Bool) : List SetupName → List Pr
       → number_of o.names class_name ≡ Some s.class → AreFor (parameters_in (slice_get o.signs s.class)) vs
       → AreCallsOf o in_setup (names ++ s ∷ []) cs all
       → AreCallsOf o in_setup names (Making (length names) s.class class_name vs ∷ cs) all
-  Calls : {names all : List SetupName} {cs : List ProgramCall} (n : ℕ) (s : SetupName) (name : Text) (m : MethodSign) (vs : List Value)
+  Calls : {names all : List SetupName} {cs : List ProgramCall} (n : ℕ) (s : SetupName) (name : Text) (m : MethodSign)
+      (vs : List Value)
       → slice_get names n ≡ Some s
       → method_named (methods_in (slice_get o.signs s.class)) name ≡ Some m → IsPlain m.result → AreFor m.parameters vs
       → AreCallsOf o in_setup names cs all

@@ -38,7 +38,12 @@ pub record ShowsAt (Fault : List Lexeme → List Lexeme → Type 0) (text : Text
 -- name there is one that can't come.
 pub data IsBadAt (o : Outcome) (text : Text) (at : ℕ) : Type 0 where
   NoToken : (fault : TextFault) → StandsAt text at fault → tokens_of text ≡ None → IsBadAt o text at
-  Ends : (ks : List Lexeme) → tokens_of text ≡ Some ks → at ≡ length text → GoesOn ks → ((p : Program) → Spells p ks → ⊥) → IsBadAt o text at
+  Ends : (ks : List Lexeme) →
+      tokens_of text ≡ Some ks →
+      at ≡ length text →
+      GoesOn ks →
+      ((p : Program) → Spells p ks → ⊥) →
+      IsBadAt o text at
   Within : ShowsAt (IsBad o) text at → IsBadAt o text at
 
 -- more than 262,144 bytes, or too many threads or calls

@@ -1,6 +1,7 @@
 -- Which tokens spell a thread program. For a kind K of phrase, `K vs ks rest` says: the tokens ks are a phrase of vs,
 -- and then the rest.
-use Rattle.std.specs.Prelude.{◌≡◌, ℕ, ◌<◌, ◌≤◌, pos, neg_ℤ, Bool, true, false, List, [], ◌∷◌, Some, codes, slice_get, Option}
+use Rattle.std.specs.Prelude.{◌≡◌, ℕ, ◌<◌, ◌≤◌, pos, neg_ℤ, Bool, true, false, List, [], ◌∷◌, Some, codes, slice_get}
+use Rattle.std.specs.Prelude.{Option}
 use Rattle.ls_lexer.specs.Lexemes.{Lexeme, Named, Numeral, Reserved, Marked}
 use Rattle.ls_lexer.specs.Numbers.{value_of}
 use Rattle.ls_lexer.specs.declared.word.Word.TheVariants as words
@@ -35,11 +36,15 @@ pub data Arguments : List Value → List Lexeme → List Lexeme → Type 0 where
 -- `name = new Class(arguments);`, in the setup alone, or `name.method(arguments);`; the names are among these setup
 -- names
 pub data Call (in_setup : Bool) (names : List SetupName) : ProgramCall → List Lexeme → List Lexeme → Type 0 where
-  New : {n class : ℕ} {class_name : Text} {vs : List Value} {ks rest : List Lexeme} (s : SetupName) → in_setup ≡ true → slice_get names n ≡ Some s
+  New : {n class : ℕ} {class_name : Text} {vs : List Value} {ks rest : List Lexeme} (s : SetupName) →
+      in_setup ≡ true →
+      slice_get names n ≡ Some s
       → Arguments vs ks (Marked signs.Semicolon ∷ rest)
       → Call in_setup names (Making n class class_name vs)
       (Named s.name ∷ Marked signs.Assign ∷ Reserved words.New ∷ Named class_name ∷ Marked signs.OpenParen ∷ ks) rest
-  On : {n method : ℕ} {method_name : Text} {result : Option ValueType} {vs : List Value} {ks rest : List Lexeme} (s : SetupName) → slice_get names n ≡ Some s
+  On : {n method : ℕ} {method_name : Text} {result : Option ValueType} {vs : List Value} {ks rest : List Lexeme}
+      (s : SetupName) →
+      slice_get names n ≡ Some s
       → Arguments vs ks (Marked signs.Semicolon ∷ rest)
       → Call in_setup names (Calling n method method_name result vs)
       (Named s.name ∷ Marked signs.Dot ∷ Named method_name ∷ Marked signs.OpenParen ∷ ks) rest
@@ -47,13 +52,17 @@ pub data Call (in_setup : Bool) (names : List SetupName) : ProgramCall → List 
 -- calls, and `}`
 pub data Calls (in_setup : Bool) (names : List SetupName) : List ProgramCall → List Lexeme → List Lexeme → Type 0 where
   NoCall : {rest : List Lexeme} → Calls in_setup names [] (Marked signs.CloseBrace ∷ rest) rest
-  More : {c : ProgramCall} {cs : List ProgramCall} {ks ls rest : List Lexeme} → Call in_setup names c ks ls → Calls in_setup names cs ls rest
+  More : {c : ProgramCall} {cs : List ProgramCall} {ks ls rest : List Lexeme} →
+      Call in_setup names c ks ls →
+      Calls in_setup names cs ls rest
       → Calls in_setup names (c ∷ cs) ks rest
 
 -- `thread Name { calls }`, any number of them up to the end
 pub data Threads (names : List SetupName) : List ThreadProgram → List Lexeme → Type 0 where
   NoThread : Threads names [] []
-  Thread : {t : ThreadProgram} {ts : List ThreadProgram} {ks rest : List Lexeme} → Calls false names t.calls ks rest → Threads names ts rest
+  Thread : {t : ThreadProgram} {ts : List ThreadProgram} {ks rest : List Lexeme} →
+      Calls false names t.calls ks rest →
+      Threads names ts rest
       → Threads names (t ∷ ts) (Named (codes "thread") ∷ Named t.name ∷ Marked signs.OpenBrace ∷ ks)
 
 -- `setup { calls }` and the threads

@@ -11,7 +11,10 @@ use Rattle.ls_types_elaboration.specs.Trees.{Text}
 use Rattle.ls_types_elaboration.specs.Known.{MethodSign}
 use Rattle.ls_types_elaboration.specs.Elaboration.{Outcome}
 use Rattle.ls_types_programs.specs.ProgramCalls.{Pending, method_on, plain_number}
-use Rattle.ls_types_programs.specs.ThreadPrograms.{Stage, AtSetup, AtBlock, AtCall, AfterName, AfterAssign, AfterNew, AfterDot, AtArguments, AtFirst, AtArgument, AfterMinus, AfterArgument, AtSemicolon, AtThread, AtThreadName, Parts, Reading, stepped, ended, is_sign, is_word, is_text, name_in, number_in}
+use Rattle.ls_types_programs.specs.ThreadPrograms.{Stage, AtSetup, AtBlock, AtCall, AfterName, AfterAssign, AfterNew}
+use Rattle.ls_types_programs.specs.ThreadPrograms.{AfterDot, AtArguments, AtFirst, AtArgument, AfterMinus}
+use Rattle.ls_types_programs.specs.ThreadPrograms.{AfterArgument, AtSemicolon, AtThread, AtThreadName, Parts, Reading}
+use Rattle.ls_types_programs.specs.ThreadPrograms.{stepped, ended, is_sign, is_word, is_text, name_in, number_in}
 
 -- why a token can't come; if an argument doesn't fit, the type that is wanted, if one is
 pub data Why : Type 0 where
@@ -51,7 +54,8 @@ why_number p (Some v) = why_value p
 
 abbrev pub why_argument : Pending → Lexeme → Option Text → Why
 why_argument p k (Some digits) = why_number p (plain_number digits)
-why_argument p k None = if is_word words.True k then why_value p else if is_word words.False k then why_value p else Form
+why_argument p k None = if is_word words.True k then why_value p else if is_word words.False k then why_value p else
+    Form
 
 abbrev pub why_first : Pending → Lexeme → Why
 why_first p k = if is_sign signs.CloseParen k then TooFew else why_argument p k (number_in k)
@@ -161,5 +165,6 @@ goes_on fault on (Some next) = on next
 abbrev pub stops : Outcome → ℕ → Marks → Reading → List Token → Option Fault
 stops o end m q [] = fault_at_end end (ended q.stage)
 stops o end m q (t ∷ ts) =
-    goes_on (fault_for m t.span.start (why o q.parts q.stage (lexeme_of t.kind))) (λ next. stops o end (marked m t.span.start next.stage) next ts)
+    goes_on (fault_for m t.span.start (why o q.parts q.stage (lexeme_of t.kind)))
+    (λ next. stops o end (marked m t.span.start next.stage) next ts)
     (stepped o q.parts q.stage (lexeme_of t.kind))

@@ -1,5 +1,6 @@
 -- Thread programs: `setup { s = new C(1); s.m(true); } thread A { s.m(false); }`, token by token.
-use Rattle.std.specs.Prelude.{ℕ, nat_lt, Bool, true, false, not, ◌&&◌, ◌||◌, List, [], ◌∷◌, ◌++◌, length, Option, Some, None, codes, bytes_eq, if◌then◌else◌, slice_get, is_some, nat_le}
+use Rattle.std.specs.Prelude.{ℕ, nat_lt, Bool, true, false, not, ◌&&◌, ◌||◌, List, [], ◌∷◌, ◌++◌, length, Option, Some}
+use Rattle.std.specs.Prelude.{None, codes, bytes_eq, if◌then◌else◌, slice_get, is_some, nat_le}
 use Rattle.ls_checked.specs.Limits.{most_threads, most_calls}
 use denote.Enum.Bare.{sameb}
 use Rattle.ls_lexer.specs.declared.sign.Sign.{Sign}
@@ -16,7 +17,8 @@ use Rattle.ls_checked.specs.CheckedProgram.{SetupName, ProgramCall, ThreadProgra
 use Rattle.ls_types_elaboration.specs.Trees.{Text}
 use Rattle.ls_types_elaboration.specs.Known.{number_of}
 use Rattle.ls_types_elaboration.specs.Elaboration.{Outcome}
-use Rattle.ls_types_programs.specs.ProgramCalls.{Pending, setup_named, maker, called_on, with_argument, is_full, plain_number, minus_number, call_of, names_after}
+use Rattle.ls_types_programs.specs.ProgramCalls.{Pending, setup_named, maker, called_on, with_argument, is_full}
+use Rattle.ls_types_programs.specs.ProgramCalls.{plain_number, minus_number, call_of, names_after}
 
 -- the most bytes of a text
 abbrev pub most_bytes : ℕ
@@ -166,7 +168,8 @@ at_semicolon r p k =
     when (is_sign signs.Semicolon k && nat_lt (length r.calls) most_calls) (at (with_finished r p) AtCall)
 
 abbrev pub at_thread : Parts → Lexeme → Option Reading
-at_thread r k = when (is_text (codes "thread") (name_in k) && nat_le (length r.threads) most_threads) (at r AtThreadName)
+at_thread r k = when (is_text (codes "thread") (name_in k) && nat_le (length r.threads) most_threads)
+    (at r AtThreadName)
 
 -- whether a thread has the name; the setup is among the threads
 abbrev pub thread_named : List ThreadProgram → Text → Bool

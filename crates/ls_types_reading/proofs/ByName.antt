@@ -1,5 +1,7 @@
 -- What names find among values of which each name keeps its first.
-use Rattle.std.proofs.Common.{◌≡◌, ℕ, suc, ◌+◌, ◌<◌, Bool, true, false, List, [], ◌∷◌, ◌++◌, map, length, Option, None, Some, Bor, option_map, is_some, refl, sym, ap, ap₂, ◌∙◌, arith, slice_get, slice_index_or, take, drop, drop-cons, add-one}
+use Rattle.std.proofs.Common.{◌≡◌, ℕ, suc, ◌+◌, ◌<◌, Bool, true, false, List, [], ◌∷◌, ◌++◌, map, length, Option, None}
+use Rattle.std.proofs.Common.{Some, Bor, option_map, is_some, refl, sym, ap, ap₂, ◌∙◌, arith, slice_get, slice_index_or}
+use Rattle.std.proofs.Common.{take, drop, drop-cons, add-one}
 use Rattle.std.proofs.lemmas.List.{length-map, map-append, take_more}
 use Rattle.std.proofs.lemmas.Option.{slice_get-map}
 use Rattle.std.proofs.lemmas.Slice.Eq.{bytes_eq-Decides}
@@ -35,17 +37,20 @@ abbrev pub entry_seen : {V : Type 0} → String Global × V → Text × V
 entry_seen e = (string_bytes e.0, e.1)
 
 -- a key finds what its name does
-pub value_found : {V : Type 0} (es : List (String Global × V)) (name : Text) → lookup (has name) es ≡ value_named (map entry_seen es) name
+pub value_found : {V : Type 0} (es : List (String Global × V)) (name : Text) →
+    lookup (has name) es ≡ value_named (map entry_seen es) name
 value_found [] name = refl
 value_found (e ∷ es) name = λ j. if swapped name e.0 j then Some e.1 else value_found es name j
 
 -- if a name is given already, nothing changes
-pub given_twice : {V : Type 0} (es : List (String Global × V)) (name : Text) (v : V) → true ≡ is_some (lookup (has name) es)
+pub given_twice : {V : Type 0} (es : List (String Global × V)) (name : Text) (v : V) →
+    true ≡ is_some (lookup (has name) es)
     → map entry_seen es ≡ with_first (map entry_seen es) name v
 given_twice es name v there = rw (sym (there ∙ ap is_some (value_found es name))) refl
 
 -- if a name is new, it is added
-pub given_new : {V : Type 0} (es after : List (String Global × V)) (k : String Global) (name : Text) (v : V) → string_bytes k ≡ name
+pub given_new : {V : Type 0} (es after : List (String Global × V)) (k : String Global) (name : Text) (v : V) →
+    string_bytes k ≡ name
     → false ≡ is_some (lookup (has name) es) → after ≡ insert_entry string_eq es k v
     → map entry_seen after ≡ with_first (map entry_seen es) name v
 given_new es after k name v same absent is =
@@ -57,7 +62,8 @@ value_append : {V : Type 0} (es : List (Text × V)) (k : Text) (v : V) (name : T
 value_append [] k v name = refl
 value_append {V} (e ∷ es) k v name = by (bytes_eq e.0 name) (value_append es k v name)
   where
-    by : (b : Bool) → value_named (es ++ (k, v) ∷ []) name ≡ first_of (value_named es name) (if bytes_eq k name then Some v else None)
+    by : (b : Bool) →
+        value_named (es ++ (k, v) ∷ []) name ≡ first_of (value_named es name) (if bytes_eq k name then Some v else None)
         → (if b then Some e.1 else value_named (es ++ (k, v) ∷ []) name)
         ≡ first_of (if b then Some e.1 else value_named es name) (if bytes_eq k name then Some v else None)
     by true rest = refl
@@ -76,7 +82,8 @@ value_given {V} es k v name = by (value_named es k) refl
     there w e false is = first_alone (value_named es name)
 
     by : (o : Option V) → value_named es k ≡ o
-        → value_named (with_first es k v) name ≡ first_of (value_named es name) (if bytes_eq k name then Some v else None)
+        → value_named (with_first es k v) name ≡ first_of (value_named es name)
+        (if bytes_eq k name then Some v else None)
     by None e = rw e (value_append es k v name)
     by (Some w) e = rw e (there w e (bytes_eq k name) refl)
 
@@ -85,14 +92,19 @@ abbrev next : Option ℕ → Option ℕ
 next i = option_map (λ i. i + 1) i
 
 setup_last : (ns : List SetupName) (n : SetupName) (name : Text)
-    → setup_named (ns ++ n ∷ []) name ≡ first_of (setup_named ns name) (if bytes_eq n.name name then Some (length ns) else None)
+    → setup_named (ns ++ n ∷ []) name ≡ first_of (setup_named ns name)
+    (if bytes_eq n.name name then Some (length ns) else None)
 setup_last [] n name = refl
 setup_last (m ∷ ns) n name =
-    by (bytes_eq m.name name) (setup_last ns n name) ∙ after (setup_named ns name) (bytes_eq n.name name) (bytes_eq m.name name)
+    by (bytes_eq m.name name) (setup_last ns n name) ∙ after (setup_named ns name) (bytes_eq n.name name)
+    (bytes_eq m.name name)
   where
-    by : (b : Bool) → setup_named (ns ++ n ∷ []) name ≡ first_of (setup_named ns name) (if bytes_eq n.name name then Some (length ns) else None)
+    by : (b : Bool) →
+        setup_named (ns ++ n ∷ []) name ≡ first_of (setup_named ns name)
+        (if bytes_eq n.name name then Some (length ns) else None)
         → (if b then Some 0 else next (setup_named (ns ++ n ∷ []) name))
-        ≡ (if b then Some 0 else next (first_of (setup_named ns name) (if bytes_eq n.name name then Some (length ns) else None)))
+        ≡ (if b then Some 0 else next (first_of (setup_named ns name)
+        (if bytes_eq n.name name then Some (length ns) else None)))
     by true rest = refl
     by false rest = ap next rest
 
@@ -107,16 +119,20 @@ setup_last (m ∷ ns) n name =
     after None true false = ap Some (more (length ns))
     after None false false = refl
 
-pub setup_given : (es : List (Text × ℕ)) (ns : List SetupName) (k : Text) (c : ℕ) → ((name : Text) → value_named es name ≡ setup_named ns name)
-    → (name : Text) → value_named (with_first es k (length ns)) name ≡ setup_named (ns ++ record { name = k; class = c } ∷ []) name
+pub setup_given : (es : List (Text × ℕ)) (ns : List SetupName) (k : Text) (c : ℕ) →
+    ((name : Text) → value_named es name ≡ setup_named ns name)
+    → (name : Text) → value_named (with_first es k (length ns)) name ≡ setup_named
+    (ns ++ record { name = k; class = c } ∷ []) name
 setup_given es ns k c is name =
     value_given es k (length ns) name
     ∙ ap (λ o. first_of o (if bytes_eq k name then Some (length ns) else None)) (is name)
     ∙ sym (setup_last ns (record { name = k; class = c }) name)
 
 -- one more name of the setup
-pub setup_pushed : (es after : List (Text × ℕ)) (k : Text) (n : ℕ) (names new : List names.SetupName) (owned : String Global) (c : ℕ)
-    → ((name : Text) → value_named es name ≡ setup_named (map plain_name names) name) → n ≡ length names → string_bytes owned ≡ k
+pub setup_pushed : (es after : List (Text × ℕ)) (k : Text) (n : ℕ) (names new : List names.SetupName)
+    (owned : String Global) (c : ℕ)
+    → ((name : Text) → value_named es name ≡ setup_named (map plain_name names) name) → n ≡ length names →
+    string_bytes owned ≡ k
     → after ≡ with_first es k n → new ≡ names ++ record { name = owned; class = c } ∷ []
     → (name : Text) → value_named after name ≡ setup_named (map plain_name new) name
 setup_pushed es after k n names new owned c is len same given pushed name =
@@ -128,7 +144,8 @@ setup_pushed es after k n names new owned c is len same given pushed name =
     ∙ ap (map plain_name) (sym pushed))
 
 -- a method of a name, after those that are given
-pub method_given : {V : Type 0} (view : V → MethodSign) (es : List (Text × V)) (v : V) (rest : List MethodSign) (name : Text)
+pub method_given : {V : Type 0} (view : V → MethodSign) (es : List (Text × V)) (v : V) (rest : List MethodSign)
+    (name : Text)
     → first_of (option_map view (value_named (with_first es (view v).name v) name)) (method_named rest name)
     ≡ first_of (option_map view (value_named es name)) (method_named (view v ∷ rest) name)
 method_given {V} view es v rest name =
@@ -142,20 +159,28 @@ method_given {V} view es v rest name =
     by None false = refl
     by (Some w) b = refl
 
-left_at : (ms : List declared.MethodSign) (i : ℕ) (m : declared.MethodSign) → i < length ms → m ≡ slice_index_or ms i m → drop i ms ≡ m ∷ drop (i + 1) ms
-left_at ms i m l e = drop-cons ms i m l ∙ ap (λ z. z ∷ drop (suc i) ms) (sym e) ∙ ap (λ n. m ∷ drop n ms) (sym (add-one i))
+left_at : (ms : List declared.MethodSign) (i : ℕ) (m : declared.MethodSign) →
+    i < length ms →
+    m ≡ slice_index_or ms i m →
+    drop i ms ≡ m ∷ drop (i + 1) ms
+left_at ms i m l e = drop-cons ms i m l ∙ ap (λ z. z ∷ drop (suc i) ms) (sym e) ∙
+    ap (λ n. m ∷ drop n ms) (sym (add-one i))
 
 -- one more method of a class is given
-pub one_given : (es after : List (Text × Bor declared.MethodSign)) (k : Text) (v : Bor declared.MethodSign) (ms : List declared.MethodSign) (i : ℕ)
+pub one_given : (es after : List (Text × Bor declared.MethodSign)) (k : Text) (v : Bor declared.MethodSign)
+    (ms : List declared.MethodSign) (i : ℕ)
     → i < length ms → v.now ≡ slice_index_or ms i v.now → k ≡ string_bytes v.now.name → after ≡ with_first es k v
     → (name : Text) (found : Option MethodSign)
     → first_of (option_map sign_seen (value_named es name)) (method_named (map method_sign_of (drop i ms)) name) ≡ found
-    → first_of (option_map sign_seen (value_named after name)) (method_named (map method_sign_of (drop (i + 1) ms)) name) ≡ found
+    → first_of (option_map sign_seen (value_named after name))
+    (method_named (map method_sign_of (drop (i + 1) ms)) name) ≡ found
 one_given es after k v ms i within is key given name found before =
-    ap (λ es. first_of (option_map sign_seen (value_named es name)) (method_named (map method_sign_of (drop (i + 1) ms)) name))
+    ap (λ es. first_of (option_map sign_seen (value_named es name))
+    (method_named (map method_sign_of (drop (i + 1) ms)) name))
     (given ∙ ap (λ k. with_first es k v) key)
     ∙ method_given sign_seen es v (map method_sign_of (drop (i + 1) ms)) name
-    ∙ ap (λ ms. first_of (option_map sign_seen (value_named es name)) (method_named (map method_sign_of ms) name)) (sym (left_at ms i v.now within is))
+    ∙ ap (λ ms. first_of (option_map sign_seen (value_named es name)) (method_named (map method_sign_of ms) name))
+    (sym (left_at ms i v.now within is))
     ∙ before
 
 -- if no method is left, all are given
@@ -173,10 +198,12 @@ pub class_finds : {S : Type 0} (ts : List (IndexMap (String Global) (Bor declare
     → map finds ts ≡ map declares cs → Finds ts cs
 class_finds {S} ts cs is c name =
     sym (of_table (slice_get ts c))
-    ∙ ap (λ o. asked o name) (sym (slice_get-map finds ts c) ∙ ap (λ fs. slice_get fs c) is ∙ slice_get-map declares cs c)
+    ∙ ap (λ o. asked o name) (sym (slice_get-map finds ts c) ∙ ap (λ fs. slice_get fs c) is ∙
+    slice_get-map declares cs c)
     ∙ of_class (slice_get cs c)
   where
-    of_table : (t : Option (IndexMap (String Global) (Bor declared.MethodSign) S)) → asked (option_map finds t) name ≡ finds_in t name
+    of_table : (t : Option (IndexMap (String Global) (Bor declared.MethodSign) S)) →
+        asked (option_map finds t) name ≡ finds_in t name
     of_table None = refl
     of_table (Some t) = refl
 
@@ -185,13 +212,16 @@ class_finds {S} ts cs is c name =
     of_class (Some c) = refl
 
 -- one more class
-pub class_given : {S : Type 0} (ts after : List (IndexMap (String Global) (Bor declared.MethodSign) S)) (t : IndexMap (String Global) (Bor declared.MethodSign) S)
+pub class_given : {S : Type 0} (ts after : List (IndexMap (String Global) (Bor declared.MethodSign) S))
+    (t : IndexMap (String Global) (Bor declared.MethodSign) S)
     (cs : List classes.ClassSign) (i : ℕ) (c : classes.ClassSign) → i < length cs → c ≡ slice_index_or cs i c
     → after ≡ ts ++ t ∷ [] → ((name : Text) → finds t name ≡ method_named (map method_sign_of c.methods.items) name)
-    → map finds ts ≡ map declares (map class_sign_of (take i cs)) → map finds after ≡ map declares (map class_sign_of (take (i + 1) cs))
+    → map finds ts ≡ map declares (map class_sign_of (take i cs)) →
+    map finds after ≡ map declares (map class_sign_of (take (i + 1) cs))
 class_given ts after t cs i c within is pushed found before =
     let same : finds t ≡ declares (class_sign_of c) = λ j name. found name j in
-    let more : take (i + 1) cs ≡ take i cs ++ c ∷ [] = take_more cs i c within ∙ ap (λ x. take i cs ++ x ∷ []) (sym is) in
+    let more : take (i + 1) cs ≡ take i cs ++ c ∷ [] = take_more cs i c within ∙
+    ap (λ x. take i cs ++ x ∷ []) (sym is) in
     ap (map finds) pushed
     ∙ map-append finds ts (t ∷ [])
     ∙ ap₂ (λ fs f. fs ++ f ∷ []) before same

@@ -12,7 +12,9 @@ use Rattle.ls_types_reading.specs.declared.reading.Parts.{Parts}
 use Rattle.ls_types_reading.specs.declared.reading.Stage.{Stage}
 use Rattle.ls_types_reading.specs.declared.reading.Stage.TheVariants as stages
 
-pub few_threads : (o : Outcome) (ks : List Lexeme) (r : Parts) (s : Stage) → after o (Some beginning) ks ≡ Some (reading_of r s) → s ≡ stages.AtThread
+pub few_threads : (o : Outcome) (ks : List Lexeme) (r : Parts) (s : Stage) →
+    after o (Some beginning) ks ≡ Some (reading_of r s) →
+    s ≡ stages.AtThread
     → length r.threads.items ≤ 65
 few_threads o ks r s read is =
     let p : Program = record { names = r.names; threads = map plain_thread r.threads.items } in

@@ -48,20 +48,31 @@ pub program_spelled : (o : Outcome) (text : Text) (p : Program) → program_of o
 program_spelled o text p e = (reads_what_is_spelled o text p).0 e
 
 -- a fault at which the reading stops stands in the text
-pub program_stands : (o : Outcome) (text : Text) (ts : List Token) (e : ProgramFault) → tokens_of text ≡ Some (lexemes ts) → InOrder text 0 ts (length text)
+pub program_stands : (o : Outcome) (text : Text) (ts : List Token) (e : ProgramFault) →
+    tokens_of text ≡ Some (lexemes ts) →
+    InOrder text 0 ts (length text)
     → option_map fault_seen (stops o (length text) unmarked beginning ts) ≡ Some e → Stands o text e
 program_stands o text ts e lexed spans is = by (stops o (length text) unmarked beginning ts) (stops_show o text ts) is
   where
-    by : (x : Option Fault) → ((f : Fault) → tokens_of text ≡ Some (lexemes ts) → InOrder text 0 ts (length text) → x ≡ Some f → Shown o text f) → option_map fault_seen x ≡ Some e → Stands o text e
+    by : (x : Option Fault) →
+        ((f : Fault) → tokens_of text ≡ Some (lexemes ts) → InOrder text 0 ts (length text) → x ≡ Some f →
+        Shown o text f) →
+        option_map fault_seen x ≡ Some e →
+        Stands o text e
     by None h is = absurd (some_none e is)
-    by (Some f) h is = subst (Stands o text) (same_some (fault_seen f) e is) (plain_stands o text f (h f lexed spans refl))
+    by (Some f) h is = subst (Stands o text) (same_some (fault_seen f) e is)
+        (plain_stands o text f (h f lexed spans refl))
 
 -- what isn't read is spelled by no program of the file
 none_spelled : (o : Outcome) (text : Text) → program_of o text ≡ None → (p : Program) → IsTextOf o p text → ⊥
-none_spelled o text none p is = (let some : program_of o text ≡ Some p = (reads_what_is_spelled o text p).1 is in let no : None ≡ Some p = sym none ∙ some in cc)
+none_spelled o text none p is = (let some : program_of o text ≡ Some p = (reads_what_is_spelled o text p).1 is in
+    let no : None ≡ Some p = sym none ∙ some in cc)
 
 -- if a text is refused and its fault stands, no program has that text, or memory is out
-pub no_program : (o : Outcome) (text : Text) (f : ProgramFault) → Refuses f (program_of o text) → Stands o text f → IsNoProgram o text f
+pub no_program : (o : Outcome) (text : Text) (f : ProgramFault) →
+    Refuses f (program_of o text) →
+    Stands o text f →
+    IsNoProgram o text f
 no_program o text faults.Memory r s = record { none = tt; stands = s }
 no_program o text (faults.BadProgram at) r s = record { none = none_spelled o text r; stands = s }
 no_program o text (faults.UnknownThing at) r s = record { none = none_spelled o text r; stands = s }

@@ -1,6 +1,7 @@
 -- Values by name, of each name the first: what an index map of names holds, and what a name finds there.
 use Rattle.std.specs.Global.{Global}
-use Rattle.std.specs.Prelude.{List, [], ◌∷◌, ◌++◌, map, Option, None, Some, String, string_bytes, bytes_eq, if◌then◌else◌, is_some}
+use Rattle.std.specs.Prelude.{List, [], ◌∷◌, ◌++◌, map, Option, None, Some, String, string_bytes, bytes_eq}
+use Rattle.std.specs.Prelude.{if◌then◌else◌, is_some}
 use Rattle.indexmap.specs.IndexMap.{IndexMap}
 use Rattle.ls_types_elaboration.specs.Trees.{Text}
 

@@ -19,7 +19,10 @@ finds methods name = option_map sign_seen (value_named (entries_of methods) name
 abbrev pub declares : known.ClassSign → Text → Option known.MethodSign
 declares c name = known.method_named c.methods name
 
-abbrev pub finds_in : {S : Type 0} → Option (IndexMap (String Global) (Bor MethodSign) S) → Text → Option known.MethodSign
+abbrev pub finds_in : {S : Type 0} →
+    Option (IndexMap (String Global) (Bor MethodSign) S) →
+    Text →
+    Option known.MethodSign
 finds_in None name = None
 finds_in (Some methods) name = finds methods name
 

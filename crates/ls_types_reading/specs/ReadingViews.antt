@@ -7,7 +7,8 @@ use Rattle.ls_types_reading.specs.declared.reading.Stage.TheVariants as stages
 use Rattle.ls_types_reading.specs.declared.reading.Parts.{Parts}
 use Rattle.ls_types_programs.specs.ThreadPrograms as programs
 use Rattle.ls_types.specs.ProgramRefusals.{Says}
-use Rattle.ls_types_programs.specs.Stops.{Marks, unmarked, name_mark, callee_mark, minus_mark, marked, Why, Fault, fault_for, fault_at_end}
+use Rattle.ls_types_programs.specs.Stops.{Marks, unmarked, name_mark, callee_mark, minus_mark, marked, Why, Fault}
+use Rattle.ls_types_programs.specs.Stops.{fault_for, fault_at_end}
 use Rattle.ls_types.specs.ProgramViews.{pending_of, fault_seen, IsFault}
 
 abbrev pub stage_of : Stage → programs.Stage

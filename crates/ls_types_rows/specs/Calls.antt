@@ -6,15 +6,18 @@ use Rattle.ls_checked.specs.CheckedTree as checked
 use Rattle.ls_types_elaboration.specs.declared.rule.Rule.TheVariants as rules
 use Rattle.ls_types_elaboration.specs.declared.static_types.Static.TheVariants.{Of, Void}
 use Rattle.ls_types_elaboration.specs.Trees as parsed
-use Rattle.ls_types_rows.specs.Written.{at, one, yes, nothing, self, named, call, call_on, making, making_markable, int, truth, null, passed, own}
+use Rattle.ls_types_rows.specs.Written.{at, one, yes, nothing, self, named, call, call_on, making, making_markable, int}
+use Rattle.ls_types_rows.specs.Written.{truth, null, passed, own}
 use Rattle.ls_types_rows.specs.Expressions.{Is, Breaks}
 
 -- a method of the object's own class, and a method of another object's class
 abbrev pub Methods : Type 0
 Methods =
-    Is (call (codes "f") (one 1 ∷ yes 2 ∷ []) 8) (checked.Call (checked.Slot 0) (called.Method 1) (passed (int 1 ∷ truth ∷ []))) (Of types.Int)
+    Is (call (codes "f") (one 1 ∷ yes 2 ∷ []) 8) (checked.Call (checked.Slot 0) (called.Method 1)
+    (passed (int 1 ∷ truth ∷ []))) (Of types.Int)
     × Is (call (codes "v") [] 8) (checked.Call (checked.Slot 0) (called.Method 2) checked.End) Void
-    × Is (call_on (named (codes "o") 1) (codes "g") [] 8) (checked.Call (own 6) (called.Method 3) checked.End) (Of (types.Class 0))
+    × Is (call_on (named (codes "o") 1) (codes "g") [] 8) (checked.Call (own 6) (called.Method 3) checked.End)
+    (Of (types.Class 0))
     × Breaks (call (codes "g") [] 8) rules.UnknownName 8
     × Breaks (call (codes "i") [] 8) rules.UnknownName 8
     × Breaks (call_on (named (codes "o") 1) (codes "f") (one 2 ∷ yes 3 ∷ []) 8) rules.UnknownName 8
@@ -39,26 +42,38 @@ abbrev pub Locks : Type 0
 Locks =
     Is (call_on (named (codes "l") 1) (codes "lock") [] 8) (checked.Call (own 4) called.LockIt checked.End) Void
     × Is (call_on (named (codes "l") 1) (codes "unlock") [] 8) (checked.Call (own 4) called.UnlockIt checked.End) Void
-    × Is (call_on (named (codes "l") 1) (codes "tryLock") [] 8) (checked.Call (own 4) called.TryIt checked.End) (Of types.Boolean)
-    × Is (call_on (named (codes "l") 1) (codes "isHeldByCurrentThread") [] 8) (checked.Call (own 4) called.AskIt checked.End) (Of types.Boolean)
+    × Is (call_on (named (codes "l") 1) (codes "tryLock") [] 8) (checked.Call (own 4) called.TryIt checked.End)
+    (Of types.Boolean)
+    × Is (call_on (named (codes "l") 1) (codes "isHeldByCurrentThread") [] 8)
+    (checked.Call (own 4) called.AskIt checked.End) (Of types.Boolean)
     × Breaks (call_on (named (codes "l") 1) (codes "isLocked") [] 8) rules.UnknownName 8
     × Breaks (call_on (named (codes "l") 1) (codes "lock") (one 2 ∷ []) 8) rules.WrongArguments 9
 
 -- the operations of a markable that holds objects of class A
 abbrev pub Markables : Type 0
 Markables =
-    Is (call_on (named (codes "r") 1) (codes "getReference") [] 8) (checked.Call (own 5) (called.GetReference 0) checked.End) (Of (types.Class 0))
-    × Is (call_on (named (codes "q") 1) (codes "getReference") [] 8) (checked.Call (own 7) (called.GetReference 1) checked.End) (Of (types.Class 1))
-    × Is (call_on (named (codes "r") 1) (codes "isMarked") [] 8) (checked.Call (own 5) (called.IsMarked 0) checked.End) (Of types.Boolean)
-    × Is (call_on (named (codes "r") 1) (codes "get") (named (codes "a") 2 ∷ []) 8) (checked.Call (own 5) (called.GetBoth 0) (passed (own 2 ∷ []))) (Of (types.Class 0))
-    × Is (call_on (named (codes "r") 1) (codes "set") (self 2 ∷ yes 3 ∷ []) 8) (checked.Call (own 5) called.SetBoth (passed (checked.Slot 0 ∷ truth ∷ []))) Void
-    × Is (call_on (named (codes "r") 1) (codes "compareAndSet") (self 2 ∷ nothing 3 ∷ yes 4 ∷ yes 5 ∷ []) 8) (checked.Call (own 5) called.CompareAndSet (passed (checked.Slot 0 ∷ null ∷ truth ∷ truth ∷ []))) (Of types.Boolean)
-    × Is (call_on (named (codes "r") 1) (codes "attemptMark") (nothing 2 ∷ yes 3 ∷ []) 8) (checked.Call (own 5) called.Attempt (passed (null ∷ truth ∷ []))) (Of types.Boolean)
+    Is (call_on (named (codes "r") 1) (codes "getReference") [] 8)
+    (checked.Call (own 5) (called.GetReference 0) checked.End) (Of (types.Class 0))
+    × Is (call_on (named (codes "q") 1) (codes "getReference") [] 8)
+    (checked.Call (own 7) (called.GetReference 1) checked.End) (Of (types.Class 1))
+    × Is (call_on (named (codes "r") 1) (codes "isMarked") [] 8) (checked.Call (own 5) (called.IsMarked 0) checked.End)
+    (Of types.Boolean)
+    × Is (call_on (named (codes "r") 1) (codes "get") (named (codes "a") 2 ∷ []) 8)
+    (checked.Call (own 5) (called.GetBoth 0) (passed (own 2 ∷ []))) (Of (types.Class 0))
+    × Is (call_on (named (codes "r") 1) (codes "set") (self 2 ∷ yes 3 ∷ []) 8)
+    (checked.Call (own 5) called.SetBoth (passed (checked.Slot 0 ∷ truth ∷ []))) Void
+    × Is (call_on (named (codes "r") 1) (codes "compareAndSet") (self 2 ∷ nothing 3 ∷ yes 4 ∷ yes 5 ∷ []) 8)
+    (checked.Call (own 5) called.CompareAndSet (passed (checked.Slot 0 ∷ null ∷ truth ∷ truth ∷ [])))
+    (Of types.Boolean)
+    × Is (call_on (named (codes "r") 1) (codes "attemptMark") (nothing 2 ∷ yes 3 ∷ []) 8)
+    (checked.Call (own 5) called.Attempt (passed (null ∷ truth ∷ []))) (Of types.Boolean)
 
 abbrev pub OtherArgumentsOfMarkables : Type 0
 OtherArgumentsOfMarkables =
-    Breaks (call_on (named (codes "r") 1) (codes "compareAndSet") (self 2 ∷ yes 3 ∷ nothing 4 ∷ yes 5 ∷ []) 8) rules.WrongType 3
-    × Breaks (call_on (named (codes "r") 1) (codes "compareAndSet") (self 2 ∷ self 3 ∷ yes 4 ∷ []) 8) rules.WrongArguments 9
+    Breaks (call_on (named (codes "r") 1) (codes "compareAndSet") (self 2 ∷ yes 3 ∷ nothing 4 ∷ yes 5 ∷ []) 8)
+    rules.WrongType 3
+    × Breaks (call_on (named (codes "r") 1) (codes "compareAndSet") (self 2 ∷ self 3 ∷ yes 4 ∷ []) 8)
+    rules.WrongArguments 9
     × Breaks (call_on (named (codes "r") 1) (codes "get") [] 8) rules.WrongArguments 9
     × Breaks (call_on (named (codes "r") 1) (codes "get") (yes 2 ∷ []) 8) rules.WrongType 2
     × Breaks (call_on (named (codes "r") 1) (codes "set") (named (codes "o") 2 ∷ yes 3 ∷ []) 8) rules.WrongType 2
@@ -71,7 +86,8 @@ Makings =
     Is (making (codes "A") (one 1 ∷ []) 8) (checked.MakeObject 0 (passed (int 1 ∷ []))) (Of (types.Class 0))
     × Is (making (codes "B") [] 8) (checked.MakeObject 1 checked.End) (Of (types.Class 1))
     × Is (making (codes "ReentrantLock") [] 8) checked.MakeLock (Of types.Lock)
-    × Is (making_markable (codes "B") (nothing 1 ∷ yes 2 ∷ []) 8) (checked.MakeMarkable 1 (passed (null ∷ truth ∷ []))) (Of (types.Markable 1))
+    × Is (making_markable (codes "B") (nothing 1 ∷ yes 2 ∷ []) 8) (checked.MakeMarkable 1 (passed (null ∷ truth ∷ [])))
+    (Of (types.Markable 1))
     × Breaks (making (codes "A") [] 8) rules.WrongArguments 9
     × Breaks (making (codes "A") (yes 1 ∷ []) 8) rules.WrongType 1
     × Breaks (making (codes "C") [] 8) rules.UnknownType 8

@@ -15,7 +15,8 @@ use Rattle.ls_types_elaboration.specs.declared.static_types.Static.{Static}
 use Rattle.ls_types_elaboration.specs.declared.static_types.Static.TheVariants.{Of, NullType}
 use Rattle.ls_types_elaboration.specs.Trees as parsed
 use Rattle.ls_types_elaboration.specs.TypedExpressions.{typed}
-use Rattle.ls_types_rows.specs.Written.{at, one, yes, nothing, self, named, both, field, call, int, truth, null, known, locals, own}
+use Rattle.ls_types_rows.specs.Written.{at, one, yes, nothing, self, named, both, field, call, int, truth, null, known}
+use Rattle.ls_types_rows.specs.Written.{locals, own}
 
 -- the expression has this checked form and this type
 abbrev pub Is : parsed.Expression → checked.Expression → Static → Type 0
@@ -38,7 +39,8 @@ Literals =
 
 abbrev pub Constants : Type 0
 Constants =
-    Is (field (named (codes "Integer") 1) (codes "MIN_VALUE") 2) (checked.Literal (values.Int (negsuc 2147483647))) (Of types.Int)
+    Is (field (named (codes "Integer") 1) (codes "MIN_VALUE") 2) (checked.Literal (values.Int (negsuc 2147483647)))
+    (Of types.Int)
     × Is (field (named (codes "Integer") 1) (codes "MAX_VALUE") 2) (int 2147483647) (Of types.Int)
     × Breaks (field (named (codes "Integer") 1) (codes "SIZE") 2) rules.UnknownName 2
     × Breaks (named (codes "Integer") 1) rules.UnknownName 1
@@ -46,7 +48,8 @@ Constants =
 -- a local of the name `Integer` hides the class
 abbrev pub IntegerIsALocal : Type 0
 IntegerIsALocal =
-    typed known (record { name = codes "Integer"; type = types.Class 1; slot = 1 } ∷ []) (field (named (codes "Integer") 1) (codes "MAX_VALUE") 2)
+    typed known (record { name = codes "Integer"; type = types.Class 1; slot = 1 } ∷ [])
+    (field (named (codes "Integer") 1) (codes "MAX_VALUE") 2)
     ≡ Err (record { rule = rules.UnknownName; span = at 2 })
 
 -- a local hides a field; a method is not a variable
@@ -75,7 +78,8 @@ Fields =
 
 -- an operator on two ints has this type
 abbrev pub OfInts : BinaryOp → Operator → ValueType → Type 0
-OfInts op operator t = Is (both op (one 1) (named (codes "x") 2) 3) (checked.Binary operator (int 1) (checked.Slot 1)) (Of t)
+OfInts op operator t = Is (both op (one 1) (named (codes "x") 2) 3) (checked.Binary operator (int 1) (checked.Slot 1))
+    (Of t)
 
 abbrev pub Arithmetic : Type 0
 Arithmetic =
@@ -103,8 +107,10 @@ OperandsOfInts =
 
 abbrev pub ShortCircuits : Type 0
 ShortCircuits =
-    Is (both written.And (yes 1) (parsed.False (at 2)) 3) (checked.And truth (checked.Literal (values.Boolean false))) (Of types.Boolean)
-    × Is (both written.Or (parsed.False (at 1)) (yes 2) 3) (checked.Or (checked.Literal (values.Boolean false)) truth) (Of types.Boolean)
+    Is (both written.And (yes 1) (parsed.False (at 2)) 3) (checked.And truth (checked.Literal (values.Boolean false)))
+    (Of types.Boolean)
+    × Is (both written.Or (parsed.False (at 1)) (yes 2) 3) (checked.Or (checked.Literal (values.Boolean false)) truth)
+    (Of types.Boolean)
     × Breaks (both written.And (one 1) (yes 2) 3) rules.WrongType 1
     × Breaks (both written.And (yes 1) (one 2) 3) rules.WrongType 2
     × Breaks (both written.Or (one 1) (one 2) 3) rules.WrongType 1
@@ -132,7 +138,8 @@ Comparable =
     × AreCompared (self 1) (named (codes "n") 2) (checked.Slot 0) (own 3)
     × AreCompared (named (codes "l") 1) (named (codes "l") 2) (own 4) (own 4)
     × AreCompared (named (codes "r") 1) (named (codes "r") 2) (own 5) (own 5)
-    × Is (both written.NotEqual (one 1) (one 2) 9) (checked.Binary operators.NotEqual (int 1) (int 1)) (Of types.Boolean)
+    × Is (both written.NotEqual (one 1) (one 2) 9) (checked.Binary operators.NotEqual (int 1) (int 1))
+    (Of types.Boolean)
 
 -- the whole comparison is refused; only a call without a value is refused at its own place
 abbrev pub NotComparable : Type 0

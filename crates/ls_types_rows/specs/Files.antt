@@ -14,7 +14,8 @@ use Rattle.ls_types_elaboration.specs.Elaborated.{Elaborated, with_ok}
 use Rattle.ls_types_elaboration.specs.Elaboration.{elaborated}
 use Rattle.ls_types_elaboration.specs.Known.{ClassSign}
 use Rattle.ls_types_elaboration.specs.Signs.{class_names, class_signs}
-use Rattle.ls_types_rows.specs.Written.{at, name, assign, evaluate, one, yes, named, call, items, variable, parameter, class, int, truth, block}
+use Rattle.ls_types_rows.specs.Written.{at, name, assign, evaluate, one, yes, named, call, items, variable, parameter}
+use Rattle.ls_types_rows.specs.Written.{class, int, truth, block}
 
 -- the classes are checked, and are this file
 abbrev pub Are : List ClassTree → checked.File → Type 0
@@ -45,7 +46,13 @@ a_constructor k ss = parsed.Constructor (name (codes "A") k) [] (items ss)
 
 -- a checked method of a class, without parameters and further slots
 abbrev pub checked_method : ℕ → Option ValueType → List checked.Statement → checked.Method
-checked_method c result ss = record { class = c; parameters = 0; slots = types.Class c ∷ []; result = result; body = checked.Block (block ss) }
+checked_method c result ss = record {
+  class = c;
+  parameters = 0;
+  slots = types.Class c ∷ [];
+  result = result;
+  body = checked.Block (block ss);
+}
 
 -- ---- names
 
@@ -61,11 +68,16 @@ abbrev pub MembersOfOneName : Type 0
 MembersOfOneName =
     Break (class (codes "A") 1 [] ∷ class (codes "B") 2 [] ∷ class (codes "A") 3 [] ∷ []) rules.TwiceDeclared 3
     × Break (A (an_int (codes "i") 1 ∷ an_int (codes "i") 2 ∷ [])) rules.TwiceDeclared 2
-    × Break (A (an_int (codes "i") 1 ∷ parsed.Fields (variable parsed.Boolean (codes "i") 2 None) ∷ [])) rules.TwiceDeclared 2
+    × Break (A (an_int (codes "i") 1 ∷ parsed.Fields (variable parsed.Boolean (codes "i") 2 None) ∷ []))
+    rules.TwiceDeclared 2
     × Break (A (doing (codes "f") 1 [] ∷ doing (codes "f") 2 [] ∷ [])) rules.TwiceDeclared 2
-    × Break (A (doing (codes "f") 1 [] ∷ parsed.Method false None (name (codes "f") 2) (parameter parsed.Int (codes "x") 3 ∷ []) parsed.NoItem ∷ [])) rules.TwiceDeclared 2
-    × Break (A (a_constructor 1 [] ∷ parsed.Constructor (name (codes "A") 2) (parameter parsed.Int (codes "x") 3 ∷ []) parsed.NoItem ∷ [])) rules.TwiceDeclared 2
-    × Break (A (parsed.Method false None (name (codes "f") 1) (parameter parsed.Int (codes "x") 2 ∷ parameter parsed.Boolean (codes "x") 3 ∷ []) parsed.NoItem ∷ [])) rules.TwiceDeclared 3
+    × Break (A (doing (codes "f") 1 [] ∷ parsed.Method false None (name (codes "f") 2)
+    (parameter parsed.Int (codes "x") 3 ∷ []) parsed.NoItem ∷ [])) rules.TwiceDeclared 2
+    × Break (A (a_constructor 1 [] ∷ parsed.Constructor (name (codes "A") 2) (parameter parsed.Int (codes "x") 3 ∷ [])
+    parsed.NoItem ∷ [])) rules.TwiceDeclared 2
+    × Break (A (parsed.Method false None (name (codes "f") 1)
+    (parameter parsed.Int (codes "x") 2 ∷ parameter parsed.Boolean (codes "x") 3 ∷ []) parsed.NoItem ∷ []))
+    rules.TwiceDeclared 3
 
 -- a field and a method; members of two classes; a method named as its class. A method is called by its name alone only
 -- in its own class.
@@ -78,18 +90,25 @@ OneNameForSeveral =
     })
     × Are (class (codes "A") 1 (an_int (codes "i") 2 ∷ []) ∷ class (codes "B") 3 (an_int (codes "i") 4 ∷ []) ∷ [])
     (record {
-      classes = record { fields = types.Int ∷ []; constructor = 0 } ∷ record { fields = types.Int ∷ []; constructor = 1 } ∷ [];
+      classes = record { fields = types.Int ∷ []; constructor = 0 } ∷
+          record { fields = types.Int ∷ []; constructor = 1 } ∷ [];
       methods = checked_method 0 None [] ∷ checked_method 1 None [] ∷ [];
     })
     × Are (A (doing (codes "A") 1 [] ∷ []))
-    (record { classes = record { fields = []; constructor = 1 } ∷ []; methods = checked_method 0 None [] ∷ checked_method 0 None [] ∷ [] })
-    × Break (class (codes "A") 1 (doing (codes "g") 2 [] ∷ []) ∷ class (codes "B") 3 (doing (codes "f") 4 (evaluate (call (codes "g") [] 5) ∷ []) ∷ []) ∷ []) rules.UnknownName 5
+    (record {
+      classes = record { fields = []; constructor = 1 } ∷ [];
+      methods = checked_method 0 None [] ∷
+          checked_method 0 None [] ∷ [];
+    })
+    × Break (class (codes "A") 1 (doing (codes "g") 2 [] ∷ []) ∷
+    class (codes "B") 3 (doing (codes "f") 4 (evaluate (call (codes "g") [] 5) ∷ []) ∷ []) ∷ []) rules.UnknownName 5
 
 -- a constructor is named as its class is
 abbrev pub OtherConstructors : Type 0
 OtherConstructors =
     Break (A (parsed.Constructor (name (codes "B") 1) [] parsed.NoItem ∷ [])) rules.UnknownType 1
-    × Break (class (codes "A") 1 [] ∷ class (codes "B") 2 (parsed.Constructor (name (codes "A") 3) [] parsed.NoItem ∷ []) ∷ []) rules.UnknownType 3
+    × Break (class (codes "A") 1 [] ∷ class (codes "B") 2 (parsed.Constructor (name (codes "A") 3) [] parsed.NoItem ∷
+    []) ∷ []) rules.UnknownType 3
 
 -- `Lock` and `ReentrantLock` are one type; a class of the file is a type wherever it is declared
 abbrev pub Types : Type 0
@@ -104,14 +123,22 @@ Types =
     ∷ class (codes "B") 4 [] ∷ [])
     (record {
       classes =
-          record { fields = types.Class 1 ∷ types.Lock ∷ types.Lock ∷ types.Markable 0 ∷ types.BooleanArray ∷ types.Boolean ∷ []; constructor = 0 }
+          record {
+            fields = types.Class 1 ∷ types.Lock ∷ types.Lock ∷ types.Markable 0 ∷ types.BooleanArray ∷
+                types.Boolean ∷ [];
+            constructor = 0;
+          }
           ∷ record { fields = []; constructor = 1 } ∷ [];
       methods = checked_method 0 None [] ∷ checked_method 1 None [] ∷ [];
     })
-    × Break (A (parsed.Fields (variable (parsed.Class (name (codes "C") 2)) (codes "b") 3 None) ∷ [])) rules.UnknownType 2
-    × Break (A (parsed.Fields (variable (parsed.Markable (name (codes "Lock") 2)) (codes "b") 3 None) ∷ [])) rules.UnknownType 2
-    × Break (A (parsed.Method false (Some (parsed.Class (name (codes "C") 2))) (name (codes "f") 3) [] parsed.NoItem ∷ [])) rules.UnknownType 2
-    × Break (A (parsed.Method false None (name (codes "f") 3) (parameter (parsed.Class (name (codes "C") 2)) (codes "x") 4 ∷ []) parsed.NoItem ∷ [])) rules.UnknownType 2
+    × Break (A (parsed.Fields (variable (parsed.Class (name (codes "C") 2)) (codes "b") 3 None) ∷ [])) rules.UnknownType
+    2
+    × Break (A (parsed.Fields (variable (parsed.Markable (name (codes "Lock") 2)) (codes "b") 3 None) ∷ []))
+    rules.UnknownType 2
+    × Break (A (parsed.Method false (Some (parsed.Class (name (codes "C") 2))) (name (codes "f") 3) [] parsed.NoItem ∷
+    [])) rules.UnknownType 2
+    × Break (A (parsed.Method false None (name (codes "f") 3)
+    (parameter (parsed.Class (name (codes "C") 2)) (codes "x") 4 ∷ []) parsed.NoItem ∷ [])) rules.UnknownType 2
 
 -- ---- methods
 
@@ -119,7 +146,8 @@ Types =
 abbrev pub Numbers : Type 0
 Numbers =
     Are (class (codes "A") 1 (doing (codes "f") 2 [] ∷ doing (codes "g") 3 (evaluate (call (codes "f") [] 4) ∷ []) ∷ [])
-    ∷ class (codes "B") 5 (parsed.Constructor (name (codes "B") 6) [] parsed.NoItem ∷ doing (codes "f") 7 (evaluate (parsed.New (name (codes "B") 8) parsed.End (at 9)) ∷ []) ∷ []) ∷ [])
+    ∷ class (codes "B") 5 (parsed.Constructor (name (codes "B") 6) [] parsed.NoItem ∷
+    doing (codes "f") 7 (evaluate (parsed.New (name (codes "B") 8) parsed.End (at 9)) ∷ []) ∷ []) ∷ [])
     (record {
       classes = record { fields = []; constructor = 2 } ∷ record { fields = []; constructor = 3 } ∷ [];
       methods =
@@ -133,8 +161,10 @@ Numbers =
 -- `this`, the parameters, and then the locals
 abbrev pub Parameters : Type 0
 Parameters =
-    Are (A (parsed.Method false (Some parsed.Int) (name (codes "f") 1) (parameter parsed.Boolean (codes "y") 2 ∷ parameter parsed.Int (codes "x") 3 ∷ [])
-    (parsed.Declare (variable parsed.Int (codes "z") 4 None) (items (parsed.Return (Some (named (codes "x") 5)) (at 6) ∷ []))) ∷ []))
+    Are (A (parsed.Method false (Some parsed.Int) (name (codes "f") 1)
+    (parameter parsed.Boolean (codes "y") 2 ∷ parameter parsed.Int (codes "x") 3 ∷ [])
+    (parsed.Declare (variable parsed.Int (codes "z") 4 None)
+    (items (parsed.Return (Some (named (codes "x") 5)) (at 6) ∷ []))) ∷ []))
     (record {
       classes = record { fields = []; constructor = 1 } ∷ [];
       methods =
@@ -151,20 +181,26 @@ Parameters =
 -- initialisers of fields come at the front of the constructor, in text order, also of a constructor that isn't written
 abbrev pub Initialisers : Type 0
 Initialisers =
-    Are (A (parsed.Fields (variable parsed.Int (codes "i") 1 (Some (one 2))) ∷ a_constructor 3 (assign (named (codes "i") 4) (named (codes "j") 5) ∷ []) ∷ parsed.Fields (variable parsed.Int (codes "j") 6 (Some (named (codes "i") 7))) ∷ []))
+    Are (A (parsed.Fields (variable parsed.Int (codes "i") 1 (Some (one 2))) ∷
+    a_constructor 3 (assign (named (codes "i") 4) (named (codes "j") 5) ∷ []) ∷
+    parsed.Fields (variable parsed.Int (codes "j") 6 (Some (named (codes "i") 7))) ∷ []))
     (record {
       classes = record { fields = types.Int ∷ types.Int ∷ []; constructor = 0 } ∷ [];
       methods = checked_method 0 None (
-          checked.SetField (checked.Slot 0) 0 (int 1) ∷ checked.SetField (checked.Slot 0) 1 (checked.Field (checked.Slot 0) 0 0)
+          checked.SetField (checked.Slot 0) 0 (int 1) ∷ checked.SetField (checked.Slot 0) 1
+          (checked.Field (checked.Slot 0) 0 0)
           ∷ checked.SetField (checked.Slot 0) 0 (checked.Field (checked.Slot 0) 0 1) ∷ []) ∷ [];
     })
     × Are (A (parsed.Fields (variable parsed.Int (codes "i") 1 (Some (one 2))) ∷ doing (codes "f") 3 [] ∷ []))
     (record {
       classes = record { fields = types.Int ∷ []; constructor = 1 } ∷ [];
-      methods = checked_method 0 None [] ∷ checked_method 0 None (checked.SetField (checked.Slot 0) 0 (int 1) ∷ []) ∷ [];
+      methods = checked_method 0 None [] ∷ checked_method 0 None (checked.SetField (checked.Slot 0) 0 (int 1) ∷ []) ∷
+          [];
     })
     × Break (A (parsed.Fields (variable parsed.Int (codes "i") 1 (Some (yes 2))) ∷ [])) rules.WrongType 2
-    × Break (A (parsed.Fields (variable parsed.Int (codes "i") 1 (Some (named (codes "x") 2))) ∷ parsed.Constructor (name (codes "A") 3) (parameter parsed.Int (codes "x") 4 ∷ []) parsed.NoItem ∷ [])) rules.UnknownName 2
+    × Break (A (parsed.Fields (variable parsed.Int (codes "i") 1 (Some (named (codes "x") 2))) ∷
+    parsed.Constructor (name (codes "A") 3) (parameter parsed.Int (codes "x") 4 ∷ []) parsed.NoItem ∷ []))
+    rules.UnknownName 2
 
 abbrev pub returns : ℕ → parsed.Statement
 returns k = parsed.Return (Some (one k)) (at 90)
@@ -176,18 +212,26 @@ returned = checked.ReturnValue (int 1)
 abbrev pub Returns : parsed.Statement → checked.Statement → Type 0
 Returns s form =
     Are (A (answering (codes "f") 1 (s ∷ []) ∷ []))
-    (record { classes = record { fields = []; constructor = 1 } ∷ []; methods = checked_method 0 (Some types.Int) (form ∷ []) ∷ checked_method 0 None [] ∷ [] })
+    (record {
+      classes = record { fields = []; constructor = 1 } ∷ [];
+      methods = checked_method 0 (Some types.Int) (form ∷ []) ∷ checked_method 0 None [] ∷ [];
+    })
 
 -- a method that answers a value doesn't complete normally
 abbrev pub MissingReturns : Type 0
 MissingReturns =
     Break (A (answering (codes "f") 1 [] ∷ [])) rules.MissingReturn 1
     × Break (A (answering (codes "f") 1 (parsed.If (yes 2) (returns 3) ∷ []) ∷ [])) rules.MissingReturn 1
-    × Break (A (answering (codes "f") 1 (parsed.IfElse (yes 2) (returns 3) parsed.Empty ∷ []) ∷ [])) rules.MissingReturn 1
-    × Break (A (answering (codes "f") 1 (parsed.While None (yes 2) (parsed.Break None (at 3)) ∷ []) ∷ [])) rules.MissingReturn 1
-    × Break (A (answering (codes "f") 1 (parsed.While None (parsed.Unary Not (parsed.False (at 2)) (at 2)) (returns 3) ∷ []) ∷ [])) rules.MissingReturn 1
-    × Break (A (answering (codes "f") 1 (parsed.While (Some (name (codes "p") 2)) (yes 2) (parsed.While None (yes 3) (parsed.Break (Some (name (codes "p") 4)) (at 5))) ∷ []) ∷ [])) rules.MissingReturn 1
-    × Break (A (answering (codes "f") 1 (parsed.Try parsed.NoItem (items (parsed.Empty ∷ [])) ∷ []) ∷ [])) rules.MissingReturn 1
+    × Break (A (answering (codes "f") 1 (parsed.IfElse (yes 2) (returns 3) parsed.Empty ∷ []) ∷ [])) rules.MissingReturn
+    1
+    × Break (A (answering (codes "f") 1 (parsed.While None (yes 2) (parsed.Break None (at 3)) ∷ []) ∷ []))
+    rules.MissingReturn 1
+    × Break (A (answering (codes "f") 1 (parsed.While None (parsed.Unary Not (parsed.False (at 2)) (at 2)) (returns 3) ∷
+    []) ∷ [])) rules.MissingReturn 1
+    × Break (A (answering (codes "f") 1 (parsed.While (Some (name (codes "p") 2)) (yes 2)
+    (parsed.While None (yes 3) (parsed.Break (Some (name (codes "p") 4)) (at 5))) ∷ []) ∷ [])) rules.MissingReturn 1
+    × Break (A (answering (codes "f") 1 (parsed.Try parsed.NoItem (items (parsed.Empty ∷ [])) ∷ []) ∷ []))
+    rules.MissingReturn 1
 
 -- Each of these is enough: a return in both branches, a return in a try block, a return in its finally block, an
 -- endless loop. An endless loop is also enough if it has a loop in it that a `break` leaves, or if a finally block
@@ -196,12 +240,16 @@ abbrev pub EnoughReturns : Type 0
 EnoughReturns =
     Returns (parsed.IfElse (yes 2) (returns 3) (returns 4)) (checked.If truth returned returned)
     × Returns (parsed.While None (yes 2) parsed.Empty) (checked.While truth (checked.Block checked.Done))
-    × Returns (parsed.While None (yes 2) (parsed.While None (yes 3) (parsed.Break None (at 4)))) (checked.While truth (checked.While truth (checked.Break 0)))
+    × Returns (parsed.While None (yes 2) (parsed.While None (yes 3) (parsed.Break None (at 4))))
+    (checked.While truth (checked.While truth (checked.Break 0)))
     × Returns (parsed.While None (yes 2) (parsed.Continue None (at 4))) (checked.While truth (checked.Continue 0))
-    × Returns (parsed.Try (items (returns 3 ∷ [])) parsed.NoItem) (checked.Try (checked.Block (block (returned ∷ []))) (checked.Block checked.Done))
-    × Returns (parsed.Try parsed.NoItem (items (returns 3 ∷ []))) (checked.Try (checked.Block checked.Done) (checked.Block (block (returned ∷ []))))
+    × Returns (parsed.Try (items (returns 3 ∷ [])) parsed.NoItem)
+    (checked.Try (checked.Block (block (returned ∷ []))) (checked.Block checked.Done))
+    × Returns (parsed.Try parsed.NoItem (items (returns 3 ∷ [])))
+    (checked.Try (checked.Block checked.Done) (checked.Block (block (returned ∷ []))))
     × Returns (parsed.While None (yes 2) (parsed.Try (items (parsed.Break None (at 4) ∷ [])) (items (returns 3 ∷ []))))
-    (checked.While truth (checked.Try (checked.Block (block (checked.Break 0 ∷ []))) (checked.Block (block (returned ∷ [])))))
+    (checked.While truth (checked.Try (checked.Block (block (checked.Break 0 ∷ [])))
+    (checked.Block (block (returned ∷ [])))))
 
 -- ---- limits
 
@@ -234,4 +282,5 @@ MostOfAll =
     × (signs_of (many_fields 64) ≡ Ok 64)
     × (signs_of (many_fields 65) ≡ Err (record { rule = rules.Limit; span = at 7 }))
     × (signs_of (parsed.Method false None (name (codes "f") 9) (many_parameters 127) parsed.NoItem ∷ []) ≡ Ok 0)
-    × (signs_of (parsed.Method false None (name (codes "f") 9) (many_parameters 128) parsed.NoItem ∷ []) ≡ Err (record { rule = rules.Limit; span = at 9 }))
+    × (signs_of (parsed.Method false None (name (codes "f") 9) (many_parameters 128) parsed.NoItem ∷ []) ≡ Err
+    (record { rule = rules.Limit; span = at 9 }))

@@ -1,5 +1,6 @@
 -- Texts of thread programs of the classes A and B.
-use Rattle.std.specs.Prelude.{◌≡◌, ◌+◌, ℕ, pos, negsuc, Bool, true, false, List, [], ◌∷◌, ◌++◌, length, replicate, codes, Some, None, is_some, is_none}
+use Rattle.std.specs.Prelude.{◌≡◌, ◌+◌, ℕ, pos, negsuc, Bool, true, false, List, [], ◌∷◌, ◌++◌, length, replicate}
+use Rattle.std.specs.Prelude.{codes, Some, None, is_some, is_none}
 use Rattle.std.specs.List.{flat_map, range_with_len}
 use Rattle.ls_lexer.specs.declared.sign.Sign.TheVariants as signs
 use Rattle.ls_lexer.specs.Lexemes.{Lexeme, Named, Marked}
@@ -16,7 +17,11 @@ use Rattle.ls_types_rows.specs.Written.{first, second}
 
 -- class A { A(int x) int f(int x, boolean y) void v() }, class B { B() A g() }
 abbrev pub outcome : Outcome
-outcome = record { names = codes "A" ∷ codes "B" ∷ []; signs = first ∷ second ∷ []; file = record { classes = []; methods = [] } }
+outcome = record {
+  names = codes "A" ∷ codes "B" ∷ [];
+  signs = first ∷ second ∷ [];
+  file = record { classes = []; methods = [] };
+}
 
 abbrev pub IsRead : Text → Program → Type 0
 IsRead text program = program_of outcome text ≡ Some program
@@ -52,7 +57,8 @@ abbrev pub Wholes : Type 0
 Wholes =
     IsRead (codes "setup { }") (record { names = []; threads = thread (codes "setup") [] ∷ [] })
     × IsRead (behind (codes "s.v(); } thread T { s.f(1, true); s.v(); } thread U { }"))
-    (program (Calling 0 2 (codes "v") None [] ∷ []) (thread (codes "T") (calling one ∷ Calling 0 2 (codes "v") None [] ∷ []) ∷ thread (codes "U") [] ∷ []))
+    (program (Calling 0 2 (codes "v") None [] ∷ []) (thread (codes "T")
+    (calling one ∷ Calling 0 2 (codes "v") None [] ∷ []) ∷ thread (codes "U") [] ∷ []))
 
 -- an int is written as in Java; the least int is written only after a minus
 abbrev pub WrittenNumbers : Type 0
@@ -103,7 +109,12 @@ ThreadNames =
     × IsNone (codes "setup { } thread all { }")
     × IsNone (codes "setup { } thread T { } thread T { }")
     × IsNone (codes "setup { } thread int { }")
-    × IsRead (codes "setup { } thread Setup { } thread thread { }") (record { names = []; threads = thread (codes "setup") [] ∷ thread (codes "Setup") [] ∷ thread (codes "thread") [] ∷ [] })
+    × IsRead (codes "setup { } thread Setup { } thread thread { }")
+    (record {
+      names = [];
+      threads = thread (codes "setup") [] ∷ thread (codes "Setup") [] ∷
+          thread (codes "thread") [] ∷ [];
+    })
 
 -- one setup, which comes first, and whole blocks
 abbrev pub Blocks : Type 0
@@ -123,7 +134,8 @@ Blocks =
 
 -- `thread N { }`, with names by their numbers
 abbrev pub threads : ℕ → List Lexeme
-threads n = flat_map (λ k. Named (codes "thread") ∷ Named ((65 + k) ∷ []) ∷ Marked signs.OpenBrace ∷ Marked signs.CloseBrace ∷ []) (range_with_len 0 n)
+threads n = flat_map (λ k. Named (codes "thread") ∷ Named ((65 + k) ∷ []) ∷ Marked signs.OpenBrace ∷
+    Marked signs.CloseBrace ∷ []) (range_with_len 0 n)
 
 abbrev pub setup_and : List Lexeme → List Lexeme
 setup_and ks = Named (codes "setup") ∷ Marked signs.OpenBrace ∷ Marked signs.CloseBrace ∷ ks
@@ -138,7 +150,12 @@ MostThreads =
 abbrev pub has_room : ℕ → Bool
 has_room n =
     is_some (at_semicolon
-    (record { names = names; threads = []; name = codes "setup"; calls = replicate n (Calling 0 2 (codes "v") None []) })
+    (record {
+      names = names;
+      threads = [];
+      name = codes "setup";
+      calls = replicate n (Calling 0 2 (codes "v") None []);
+    })
     (pending (Method 0 2 (codes "v") None) []) (Marked signs.Semicolon))
 
 -- 256 calls of a thread

@@ -130,7 +130,8 @@ known = record { names = codes "A" ∷ codes "B" ∷ []; classes = first ∷ sec
 
 -- a parameter int x, and a local int b, which has the name of a field
 abbrev pub locals : List Local
-locals = record { name = codes "x"; type = types.Int; slot = 1 } ∷ record { name = codes "b"; type = types.Int; slot = 2 } ∷ []
+locals = record { name = codes "x"; type = types.Int; slot = 1 } ∷
+    record { name = codes "b"; type = types.Int; slot = 2 } ∷ []
 
 -- a field of `this`
 abbrev pub own : ℕ → checked.Expression

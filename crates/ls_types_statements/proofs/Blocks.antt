@@ -13,9 +13,13 @@ in_sequence [] = refl
 in_sequence (s ∷ ss) = ap (checked.Then (plain_statement s)) (in_sequence ss)
 
 -- a block of a row of statements
-pub block_made : (v : Vec Statement) → checked.Block (row_statements (hidden-the_row-Statement-0 v)) ≡ checked.Block (sequence (map plain_statement v.items))
+pub block_made : (v : Vec Statement) →
+    checked.Block (row_statements (hidden-the_row-Statement-0 v)) ≡ checked.Block
+    (sequence (map plain_statement v.items))
 block_made v = checked_rows.block_made v ∙ ap checked.Block (in_sequence v.items)
 
 -- the statements of a row
-pub block_read : (v : Vec Statement) → row_statements (hidden-the_row-Statement-0 v) ≡ sequence (map plain_statement v.items)
-block_read v = checked_rows.row_is_list _ (hidden-the_row-Statement-0 v) ∙ ap statements_of (items_hidden-the_row-Statement-0 v) ∙ in_sequence v.items
+pub block_read : (v : Vec Statement) →
+    row_statements (hidden-the_row-Statement-0 v) ≡ sequence (map plain_statement v.items)
+block_read v = checked_rows.row_is_list _ (hidden-the_row-Statement-0 v) ∙
+    ap statements_of (items_hidden-the_row-Statement-0 v) ∙ in_sequence v.items

@@ -1,9 +1,11 @@
 -- How many nodes a statement has: the measure of the recursion on statements.
-use Rattle.std.proofs.Common.{◌≡◌, ℕ, suc, ◌+◌, Option, Some, None, refl, arith, ap, ◌∙◌, List, length, ◌<◌, drop, get_or, sym, add-one, drop-cons}
+use Rattle.std.proofs.Common.{◌≡◌, ℕ, suc, ◌+◌, Option, Some, None, refl, arith, ap, ◌∙◌, List, length, ◌<◌, drop}
+use Rattle.std.proofs.Common.{get_or, sym, add-one, drop-cons}
 use Rattle.ls_tree.specs.declared.tree.BlockItem.{BlockItem}
 use Rattle.ls_tree.specs.declared.tree.BlockItem.TheVariants as rows
 use Rattle.ls_types_elaboration.specs.PlacedStatements.{if_of, placed_before, placed_items}
-use Rattle.ls_types_elaboration.specs.Trees.{Expression, Statement, Items, Block, Empty, If, IfElse, While, For, Break, Continue, Return, Try, Perform, Synchronized, NoItem, Do, Declare}
+use Rattle.ls_types_elaboration.specs.Trees.{Expression, Statement, Items, Block, Empty, If, IfElse, While, For, Break}
+use Rattle.ls_types_elaboration.specs.Trees.{Continue, Return, Try, Perform, Synchronized, NoItem, Do, Declare}
 
 abbrev mutual
   -- how many nodes a statement has
@@ -32,11 +34,13 @@ abbrev pub other_nodes : Option Statement → ℕ
 other_nodes None = 0
 other_nodes (Some s) = statement_nodes s
 
-pub nodes-if_of : (c : Expression) (s : Statement) (o : Option Statement) → statement_nodes (if_of c s o) ≡ statement_nodes s + other_nodes o + 1
+pub nodes-if_of : (c : Expression) (s : Statement) (o : Option Statement) →
+    statement_nodes (if_of c s o) ≡ statement_nodes s + other_nodes o + 1
 nodes-if_of c s None = omega arith
 nodes-if_of c s (Some t) = refl
 
-pub nodes-before : (item : BlockItem) (rest : Items) → items_nodes (placed_before item rest) ≡ items_nodes (placed_before item NoItem) + items_nodes rest
+pub nodes-before : (item : BlockItem) (rest : Items) →
+    items_nodes (placed_before item rest) ≡ items_nodes (placed_before item NoItem) + items_nodes rest
 nodes-before (rows.Statement s) rest = omega arith
 nodes-before (rows.Declaration d) rest = omega arith
 
@@ -50,5 +54,6 @@ items_at xs i x low is =
 
 -- the nodes of the items from a place on
 pub nodes_at : (xs : List BlockItem) (i : ℕ) (x : BlockItem) → i < length xs → x ≡ get_or xs i x
-    → items_nodes (placed_items (drop i xs)) ≡ items_nodes (placed_before x NoItem) + items_nodes (placed_items (drop (i + 1) xs))
+    → items_nodes (placed_items (drop i xs)) ≡ items_nodes (placed_before x NoItem) + items_nodes
+    (placed_items (drop (i + 1) xs))
 nodes_at xs i x low is = ap items_nodes (items_at xs i x low is) ∙ nodes-before x (placed_items (drop (i + 1) xs))

@@ -29,7 +29,11 @@ abbrev pub slots_of : Slots → scopes.Slots
 slots_of s = record { types = s.types.items; named = s.named }
 
 abbrev pub scope_of : Scope → scopes.Slots → scopes.Scope
-scope_of s slots = record { statements = map plain_statement s.statements.items; locals = map local_of s.locals.items; slots = slots }
+scope_of s slots = record {
+  statements = map plain_statement s.statements.items;
+  locals = map local_of s.locals.items;
+  slots = slots;
+}
 
 abbrev pub formed_of : scopes.Slots → Statement → typing.WithSlots checked.Statement
 formed_of slots s = record { tree = plain_statement s; slots = slots }

@@ -1,5 +1,6 @@
 -- What the tables of names find and take.
-use Rattle.std.proofs.Common.{◌≡◌, ℕ, ◌+◌, Bool, true, false, cond, ◌||◌, List, [], ◌∷◌, ◌++◌, map, Option, None, Some, Bor, option_map, option_copied, is_some, refl, sym, ap, ◌∙◌, position}
+use Rattle.std.proofs.Common.{◌≡◌, ℕ, ◌+◌, Bool, true, false, cond, ◌||◌, List, [], ◌∷◌, ◌++◌, map, Option, None, Some}
+use Rattle.std.proofs.Common.{Bor, option_map, option_copied, is_some, refl, sym, ap, ◌∙◌, position}
 use Rattle.std.proofs.lemmas.List.{map-append}
 use Rattle.std.proofs.lemmas.Slice.Eq.{bytes_eq-Decides}
 use Rattle.std.specs.Cmp.Lexicographic.{nat_list_eq_equiv}
@@ -29,7 +30,8 @@ pub swapped : (name : Text) (k : String Global) → has name k ≡ bytes_eq (str
 swapped name k = nat_list_eq_equiv.symm name (string_bytes k)
 
 -- a name's number
-pub position_number : (ks : List (String Global)) (name : Text) → position (has name) ks ≡ number_of (map string_bytes ks) name
+pub position_number : (ks : List (String Global)) (name : Text) →
+    position (has name) ks ≡ number_of (map string_bytes ks) name
 position_number [] name = refl
 position_number (k ∷ ks) name =
     position_from_first (has name) k ks
@@ -42,14 +44,17 @@ any_step false a None e = e
 any_step false a (Some i) e = e
 
 -- a key of the name is there exactly if the name has a number
-pub any_number : (ks : List (String Global)) (name : Text) → list_any (has name) ks ≡ is_some (number_of (map string_bytes ks) name)
+pub any_number : (ks : List (String Global)) (name : Text) →
+    list_any (has name) ks ≡ is_some (number_of (map string_bytes ks) name)
 any_number [] name = refl
 any_number (k ∷ ks) name =
     any_step (has name k) (list_any (has name) ks) (number_of (map string_bytes ks) name) (any_number ks name)
     ∙ (λ j. is_some (if swapped name k j then Some 0 else next (number_of (map string_bytes ks) name)))
 
 -- a new name goes last
-pub insert_key_new : (ks : List (String Global)) (k : String Global) (name : Text) → string_bytes k ≡ name → list_any (has name) ks ≡ false
+pub insert_key_new : (ks : List (String Global)) (k : String Global) (name : Text) →
+    string_bytes k ≡ name →
+    list_any (has name) ks ≡ false
     → map string_bytes (insert_key string_eq ks k) ≡ map string_bytes ks ++ name ∷ []
 insert_key_new ks k name same absent =
     let new : list_any (string_eq k) ks ≡ false = ap (λ t. list_any (has t) ks) same ∙ absent in
@@ -65,15 +70,19 @@ entry_added view [] k v absent = refl
 entry_added {V} {X} view (e ∷ es) k v absent = one (string_eq k e.0) absent (entry_added view es k v)
   where
     one : (b : Bool) → is_some (cond b (Some e.1) (lookup (string_eq k) es)) ≡ false
-        → (is_some (lookup (string_eq k) es) ≡ false → map view (insert_entry string_eq es k v) ≡ map view es ++ view (k, v) ∷ [])
-        → map view (if b then (e.0, v) ∷ es else e ∷ insert_entry string_eq es k v) ≡ view e ∷ (map view es ++ view (k, v) ∷ [])
+        → (is_some (lookup (string_eq k) es) ≡ false → map view (insert_entry string_eq es k v) ≡ map view es ++
+        view (k, v) ∷ [])
+        → map view (if b then (e.0, v) ∷ es else e ∷ insert_entry string_eq es k v) ≡ view e ∷
+        (map view es ++ view (k, v) ∷ [])
     one true gone rest = absurd cc
     one false gone rest = ap (λ l. view e ∷ l) (rest gone)
 
 -- a new entry goes last
-pub insert_entry_new : {V X : Type 0} (view : Text → V → X) (es : List (String Global × V)) (k : String Global) (v : V) (name : Text)
+pub insert_entry_new : {V X : Type 0} (view : Text → V → X) (es : List (String Global × V)) (k : String Global) (v : V)
+    (name : Text)
     → string_bytes k ≡ name → is_some (lookup (has name) es) ≡ false
-    → map (λ e. view (string_bytes e.0) e.1) (insert_entry string_eq es k v) ≡ map (λ e. view (string_bytes e.0) e.1) es ++ view name v ∷ []
+    → map (λ e. view (string_bytes e.0) e.1) (insert_entry string_eq es k v) ≡ map (λ e. view (string_bytes e.0) e.1) es
+    ++ view name v ∷ []
 insert_entry_new view es k v name same absent =
     entry_added (λ e. view (string_bytes e.0) e.1) es k v (ap (λ t. is_some (lookup (has t) es)) same ∙ absent)
     ∙ ap (λ t. map (λ e. view (string_bytes e.0) e.1) es ++ view t v ∷ []) same
@@ -91,8 +100,10 @@ found_field (Some i) (Some t) = Some (record { number = i; value_type = t })
 abbrev next_field : Option FoundField → Option FoundField
 next_field f = option_map (λ x. record { number = x.number + 1; value_type = x.value_type }) f
 
-field_step : (b : Bool) (i : Option ℕ) (first : ValueType) (t : Option ValueType) (f : Option FoundField) → found_field i t ≡ f
-    → found_field (if b then Some 0 else next i) (cond b (Some first) t) ≡ (if b then Some (record { number = 0; value_type = first }) else next_field f)
+field_step : (b : Bool) (i : Option ℕ) (first : ValueType) (t : Option ValueType) (f : Option FoundField) →
+    found_field i t ≡ f
+    → found_field (if b then Some 0 else next i) (cond b (Some first) t) ≡
+    (if b then Some (record { number = 0; value_type = first }) else next_field f)
 field_step true i first t f e = refl
 field_step false None first t f e = ap next_field e
 field_step false (Some i) first None f e = ap next_field e
@@ -103,8 +114,10 @@ table_field : (es : List (String Global × ValueType)) (name : Text)
 table_field [] name = refl
 table_field (e ∷ es) name =
     ap (λ i. found_field i (lookup (has name) (e ∷ es))) (position_from_first (has name) e.0 (keys_of es))
-    ∙ field_step (has name e.0) (position (has name) (keys_of es)) e.1 (lookup (has name) es) (field_named (map field_at es) name) (table_field es name)
-    ∙ (λ j. if swapped name e.0 j then Some (record { number = 0; value_type = e.1 }) else next_field (field_named (map field_at es) name))
+    ∙ field_step (has name e.0) (position (has name) (keys_of es)) e.1 (lookup (has name) es)
+    (field_named (map field_at es) name) (table_field es name)
+    ∙ (λ j. if swapped name e.0 j then Some (record { number = 0; value_type = e.1 }) else
+    next_field (field_named (map field_at es) name))
 
 -- the field that a table finds
 pub field_there : (es : List (String Global × ValueType)) (name : Text) (i : ℕ) (t : ValueType)
@@ -118,14 +131,17 @@ pub field_missing : (es : List (String Global × ValueType)) (name : Text) → N
 field_missing es name at = (λ j. found_field (at j) (lookup (has name) es)) ∙ table_field es name
 
 -- a field is found exactly if its name is there
-pub any_field : (es : List (String Global × ValueType)) (name : Text) → is_some (lookup (has name) es) ≡ is_some (field_named (map field_at es) name)
+pub any_field : (es : List (String Global × ValueType)) (name : Text) →
+    is_some (lookup (has name) es) ≡ is_some (field_named (map field_at es) name)
 any_field [] name = refl
 any_field (e ∷ es) name =
     one (has name e.0) (lookup (has name) es) (field_named (map field_at es) name) (any_field es name)
-    ∙ (λ j. is_some (if swapped name e.0 j then Some (record { number = 0; value_type = e.1 }) else next_field (field_named (map field_at es) name)))
+    ∙ (λ j. is_some (if swapped name e.0 j then Some (record { number = 0; value_type = e.1 }) else
+    next_field (field_named (map field_at es) name)))
   where
     one : (b : Bool) (t : Option ValueType) (f : Option FoundField) → is_some t ≡ is_some f
-        → is_some (cond b (Some e.1) t) ≡ is_some (if b then Some (record { number = 0; value_type = e.1 }) else next_field f)
+        → is_some (cond b (Some e.1) t) ≡ is_some (if b then Some (record { number = 0; value_type = e.1 }) else
+        next_field f)
     one true t f h = refl
     one false t None h = h
     one false t (Some f) h = h
@@ -144,11 +160,13 @@ table_method (e ∷ es) name = by (has name e.0) refl (table_method es name)
         → option_map (method_entry name) (lookup (has name) es) ≡ method_named (map method_at es) name
         → option_map (method_entry name) (lookup (has name) (e ∷ es)) ≡ method_named (map method_at (e ∷ es)) name
     by true is rest =
-        rw (is, sym (swapped name e.0) ∙ is) (ap (λ n. Some (method_entry n e.1)) ((bytes_eq-Decides name (string_bytes e.0)).0 is))
+        rw (is, sym (swapped name e.0) ∙ is) (ap (λ n. Some (method_entry n e.1))
+        ((bytes_eq-Decides name (string_bytes e.0)).0 is))
     by false is rest = rw (is, sym (swapped name e.0) ∙ is) rest
 
 -- a method is found exactly if its name is there
-pub any_method : (es : List (String Global × MethodEntry)) (name : Text) → is_some (lookup (has name) es) ≡ is_some (method_named (map method_at es) name)
+pub any_method : (es : List (String Global × MethodEntry)) (name : Text) →
+    is_some (lookup (has name) es) ≡ is_some (method_named (map method_at es) name)
 any_method es name = some_seen (lookup (has name) es) ∙ ap is_some (table_method es name)
   where
     some_seen : (m : Option MethodEntry) → is_some m ≡ is_some (option_map (method_entry name) m)
@@ -156,6 +174,7 @@ any_method es name = some_seen (lookup (has name) es) ∙ ap is_some (table_meth
     some_seen (Some m) = refl
 
 -- a method that is found, seen
-pub plain_method : {M X : Type 0} (view : M → X) (m : Option (Bor M)) → option_map (λ m. view m.now) m ≡ option_map view (option_copied m)
+pub plain_method : {M X : Type 0} (view : M → X) (m : Option (Bor M)) →
+    option_map (λ m. view m.now) m ≡ option_map view (option_copied m)
 plain_method view None = refl
 plain_method view (Some m) = refl

@@ -9,7 +9,9 @@ use Rattle.ls_report.specs.Printing.{named}
 use Rattle.ls_verdicts.specs.Verdicts.{IsNamed}
 
 -- if each has a value, these are the values
-pub all_there : {X Y : Type 0} (f : X → Option Y) (xs : List X) (ys : List Y) → map f xs ≡ map Some ys → filter_map f xs ≡ ys
+pub all_there : {X Y : Type 0} (f : X → Option Y) (xs : List X) (ys : List Y) →
+    map f xs ≡ map Some ys →
+    filter_map f xs ≡ ys
 all_there f [] [] e = refl
 all_there f [] (y ∷ ys) e = cc
 all_there f (x ∷ xs) [] e = cc
@@ -19,5 +21,7 @@ all_there {Y = Y} f (x ∷ xs) (y ∷ ys) e =
     rw head (ap (λ l. y ∷ l) (all_there f xs ys tail))
 
 -- the named events of a run's history are the events of that history
-pub named_is : (p : Program) (run : List RunEvent) (events : List Event) → IsNamed p run events → filter_map (named p) run ≡ events
+pub named_is : (p : Program) (run : List RunEvent) (events : List Event) →
+    IsNamed p run events →
+    filter_map (named p) run ≡ events
 named_is p run events h = all_there (named p) run events h.is_named

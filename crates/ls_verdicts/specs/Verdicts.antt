@@ -26,7 +26,8 @@ abbrev pub IsVerdictOn : List Event → Verdict → Type 0
 IsVerdictOn events verdicts.Legal = IsDecided events × HasOrder events
 IsVerdictOn events verdicts.Illegal = IsDecided events × NoneIsLegal events
 IsVerdictOn events verdicts.NotOneSet = (e : Event) × (first_foreign events ≡ Some e)
-IsVerdictOn events verdicts.TooManyTrapped = (first_foreign events ≡ None) × (has_many_trapped (set_calls events) ≡ true)
+IsVerdictOn events verdicts.TooManyTrapped = (first_foreign events ≡ None) ×
+    (has_many_trapped (set_calls events) ≡ true)
 
 -- the verdict on the events with their names
 pub record IsVerdict (p : Program) (run : List RunEvent) (v : Verdict) : Type 0 where

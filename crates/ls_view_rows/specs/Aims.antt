@@ -31,12 +31,14 @@ HalfQuoted =
     × (stop_said (codes ":") ≡ None)
     × (stop_said (codes "!1") ≡ None)
 
--- The setup has seven steps. A call of f has six: its call, two reads round its enter, the lock and its return. The second thread waits
+-- The setup has seven steps. A call of f has six: its call, two reads round its enter, the lock and its return. The
+-- second thread waits
 -- for the lock, which the first keeps.
 abbrev pub Steps : Type 0
 Steps =
     (aimed one_lock (codes "setup! A! B!") ≡ Ok (replicate 7 0 ++ replicate 6 1 ++ replicate 4 2))
-    × (aimed one_lock (codes "setup! A:locks B:2:reads (A B)*1") ≡ Ok (replicate 7 0 ++ replicate 4 1 ++ replicate 3 2 ++ 1 ∷ 2 ∷ []))
+    × (aimed one_lock (codes "setup! A:locks B:2:reads (A B)*1") ≡ Ok
+    (replicate 7 0 ++ replicate 4 1 ++ replicate 3 2 ++ 1 ∷ 2 ∷ []))
 
 -- a thread that hasn't started, one that ends before, one that waits before, and one that is none
 abbrev pub Missed : Type 0

@@ -20,14 +20,23 @@ OtherCharacters =
     ≡ 34 ∷ 47 ∷ 115 ∷ 62 ∷ 195 ∷ 169 ∷ 240 ∷ 159 ∷ 152 ∷ 128 ∷ 34 ∷ []
 
 abbrev pub texts : Texts
-texts = record { classes = codes "class C { int v; }"; program = codes "setup { c = new C(); }"; schedule = codes "setup*5" }
+texts = record {
+  classes = codes "class C { int v; }";
+  program = codes "setup { c = new C(); }";
+  schedule = codes "setup*5";
+}
 
 -- the same as a checked file and a program
 abbrev pub one_object : Names
 one_object = record {
   classes = codes "C" ∷ [];
   signs =
-      record { fields = record { name = codes "v"; type = types.Int } ∷ []; methods = []; constructor = 0; parameters = [] }
+      record {
+        fields = record { name = codes "v"; type = types.Int } ∷ [];
+        methods = [];
+        constructor = 0;
+        parameters = [];
+      }
       ∷ [];
   file = record {
     classes = record { fields = types.Int ∷ []; constructor = 0 } ∷ [];

@@ -1,5 +1,6 @@
 -- What is shown of small states.
-use Rattle.std.specs.Prelude.{◌≡◌, ℕ, ◌==◌, ◌||◌, pos, negsuc, true, false, List, [], ◌∷◌, ◌++◌, None, codes, map, replicate}
+use Rattle.std.specs.Prelude.{◌≡◌, ℕ, ◌==◌, ◌||◌, pos, negsuc, true, false, List, [], ◌∷◌, ◌++◌, None, codes, map}
+use Rattle.std.specs.Prelude.{replicate}
 use Rattle.ls_events.specs.declared.value.Value.{Value}
 use Rattle.ls_events.specs.declared.value.Value.TheVariants.{Int, Boolean, Reference, Pair}
 use Rattle.ls_events.specs.declared.value.ValueType.TheVariants as types
@@ -24,15 +25,32 @@ use Rattle.ls_drawing.specs.Each.{drawings_text}
 
 -- a class with these fields
 abbrev pub sign : List Text → ClassSign
-sign fields = record { fields = map (λ n. record { name = n; type = types.Int }) fields; methods = []; constructor = 0; parameters = [] }
+sign fields = record {
+  fields = map (λ n. record { name = n; type = types.Int }) fields;
+  methods = [];
+  constructor = 0;
+  parameters = [];
+}
 
 -- a class `L`: its constructor makes its one field, a lock, and its method `hold` takes that lock
 abbrev pub locking : File
 locking = record {
   classes = record { fields = types.Lock ∷ []; constructor = 0 } ∷ [];
   methods =
-      record { class = 0; parameters = 0; slots = types.Class 0 ∷ []; result = None; body = Block (Then (SetField (Slot 0) 0 MakeLock) Done) }
-      ∷ record { class = 0; parameters = 0; slots = types.Class 0 ∷ []; result = None; body = Block (Then (Evaluate (Call (Field (Slot 0) 0 0) called.LockIt End)) Done) }
+      record {
+        class = 0;
+        parameters = 0;
+        slots = types.Class 0 ∷ [];
+        result = None;
+        body = Block (Then (SetField (Slot 0) 0 MakeLock) Done);
+      }
+      ∷ record {
+        class = 0;
+        parameters = 0;
+        slots = types.Class 0 ∷ [];
+        result = None;
+        body = Block (Then (Evaluate (Call (Field (Slot 0) 0 0) called.LockIt End)) Done);
+      }
       ∷ [];
 }
 
@@ -78,7 +96,8 @@ some = record {
     answers = [];
   };
   labels =
-      labels.Class 0 ∷ labels.Lock ∷ labels.Class 1 ∷ labels.Markable ∷ labels.Class 1 ∷ labels.Markable ∷ labels.Array ∷ labels.Array
+      labels.Class 0 ∷ labels.Lock ∷ labels.Class 1 ∷ labels.Markable ∷ labels.Class 1 ∷ labels.Markable ∷
+      labels.Array ∷ labels.Array
       ∷ labels.Lock ∷ labels.Lock ∷ labels.Class 2 ∷ [];
   history = [];
 }
@@ -132,8 +151,13 @@ AtFirst = state_text names [] ≡
 abbrev pub held : List (Answer Value) → List (Answer Value) → List Event → Scene
 held a b events = record {
   state = record {
-    store = record { things = Object Free (Reference 2 ∷ []) ∷ LockOf (HeldBy 1 1) ∷ []; names = Reference 1 ∷ Reference 0 ∷ [] };
-    answers = (IsDone ∷ Gives (Reference 1) ∷ IsDone ∷ Gives (Reference 2) ∷ IsDone ∷ IsDone ∷ IsDone ∷ []) ∷ a ∷ b ∷ [];
+    store = record {
+      things = Object Free (Reference 2 ∷ []) ∷ LockOf (HeldBy 1 1) ∷ [];
+      names = Reference 1 ∷
+          Reference 0 ∷ [];
+    };
+    answers = (IsDone ∷ Gives (Reference 1) ∷ IsDone ∷ Gives (Reference 2) ∷ IsDone ∷ IsDone ∷ IsDone ∷ []) ∷ a ∷ b ∷
+        [];
   };
   labels = labels.Class 0 ∷ labels.Lock ∷ [];
   history = events;
@@ -148,17 +172,20 @@ at_the_lock = IsDone ∷ Gives (Reference 1) ∷ IsDone ∷ Gives (Reference 2) 
 
 -- A holds the lock, and B waits for it
 abbrev pub Waiting : Type 0
-Waiting = threads_text names (held (at_the_lock ++ IsDone ∷ []) at_the_lock (called_by 0 ∷ called_by 2 ∷ called_by 1 ∷ [])) ≡
+Waiting = threads_text names (held (at_the_lock ++ IsDone ∷ []) at_the_lock
+    (called_by 0 ∷ called_by 2 ∷ called_by 1 ∷ [])) ≡
     codes "setup has ended\nA.1 return\nB.1 waits for ReentrantLock#2, which A owns\n"
 
 -- A asks for the lock that it holds, and B reads its field
 abbrev pub Reading : Type 0
-Reading = threads_text names (held at_the_lock (IsDone ∷ Gives (Reference 1) ∷ IsDone ∷ []) (called_by 0 ∷ called_by 2 ∷ called_by 1 ∷ [])) ≡
+Reading = threads_text names (held at_the_lock (IsDone ∷ Gives (Reference 1) ∷ IsDone ∷ [])
+    (called_by 0 ∷ called_by 2 ∷ called_by 1 ∷ [])) ≡
     codes "setup has ended\nA.1 locks ReentrantLock#2\nB.1 reads L#1.lock\n"
 
 -- A has ended, and B has ended by a trap
 abbrev pub Over : Type 0
-Over = threads_text names (held (at_the_lock ++ IsDone ∷ IsDone ∷ []) (IsDone ∷ Gives (Reference 0) ∷ IsDone ∷ []) (called_by 0 ∷ called_by 2 ∷ called_by 1 ∷ [])) ≡
+Over = threads_text names (held (at_the_lock ++ IsDone ∷ IsDone ∷ []) (IsDone ∷ Gives (Reference 0) ∷ IsDone ∷ [])
+    (called_by 0 ∷ called_by 2 ∷ called_by 1 ∷ [])) ≡
     codes "setup has ended\nA has ended\nB has ended with a trap\n"
 
 -- the setup's making of its lock has failed
@@ -183,7 +210,11 @@ BeforeACall = threads_text names (held at_the_lock [] (called_by 0 ∷ called_by
 abbrev pub Left : Type 0
 Left = scene_of names (replicate 9 0 ++ replicate 3 1) ≡ record {
   state = record {
-    store = record { things = Object Free (Reference 2 ∷ []) ∷ LockOf Free ∷ []; names = Reference 1 ∷ Reference 0 ∷ [] };
+    store = record {
+      things = Object Free (Reference 2 ∷ []) ∷ LockOf Free ∷ [];
+      names = Reference 1 ∷ Reference 0 ∷
+          [];
+    };
     answers =
         (IsDone ∷ Gives (Reference 1) ∷ IsDone ∷ Gives (Reference 2) ∷ IsDone ∷ IsDone ∷ IsDone ∷ [])
         ∷ (IsDone ∷ Gives (Reference 1) ∷ IsDone ∷ [])

@@ -36,8 +36,20 @@ one_lock = record {
   file = record {
     classes = record { fields = types.Lock ∷ []; constructor = 1 } ∷ [];
     methods =
-        record { class = 0; parameters = 0; slots = types.Class 0 ∷ []; result = None; body = Block (Then (Evaluate (Call (Field (Slot 0) 0 0) called.LockIt End)) Done) }
-        ∷ record { class = 0; parameters = 0; slots = types.Class 0 ∷ []; result = None; body = Block (Then (SetField (Slot 0) 0 MakeLock) Done) }
+        record {
+          class = 0;
+          parameters = 0;
+          slots = types.Class 0 ∷ [];
+          result = None;
+          body = Block (Then (Evaluate (Call (Field (Slot 0) 0 0) called.LockIt End)) Done);
+        }
+        ∷ record {
+          class = 0;
+          parameters = 0;
+          slots = types.Class 0 ∷ [];
+          result = None;
+          body = Block (Then (SetField (Slot 0) 0 MakeLock) Done);
+        }
         ∷ [];
   };
   program = two_threads;

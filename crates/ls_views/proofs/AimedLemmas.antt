@@ -40,7 +40,9 @@ use Rattle.ls_views.specs.Viewed.{names_in}
 use Rattle.ls_views.specs.Aimed.{AimsIn, AimsTo, Aims, Breaks, Checks, IsAim, IsReadBack, NoFile, NoProgram, aim_text}
 use Rattle.ls_views.proofs.ViewedLemmas.{names_are}
 
-pub aim_fails : (names : Names) (targets : Text) (f : AimFault) → aims.Fails f (aimed names targets) → Gives (IsAim names targets) (Failed (lifted_aim f))
+pub aim_fails : (names : Names) (targets : Text) (f : AimFault) →
+    aims.Fails f (aimed names targets) →
+    Gives (IsAim names targets) (Failed (lifted_aim f))
 aim_fails names targets aim.Memory h = tt
 aim_fails names targets (aim.Schedule schedule.Memory) h = tt
 aim_fails names targets (aim.Schedule (schedule.BadItem at)) h = sym (ap (aim_text names) h)
@@ -51,45 +53,70 @@ aim_fails names targets (aim.NotMet at) h = sym (ap (aim_text names) h)
 aim_fails names targets (aim.TooFar at) h = sym (ap (aim_text names) h)
 
 -- the names of the threads
-same_names : (names : Names) (p : code.Program) → names.program ≡ plain_program p → thread_names p ≡ thread_names_of names
+same_names : (names : Names) (p : code.Program) →
+    names.program ≡ plain_program p →
+    thread_names p ≡ thread_names_of names
 same_names names p is = names_are p.threads.items ∙ ap (λ (q : Program). map (λ t. t.name) q.threads) (sym is)
 
-pub aim_shows : (names : Names) (p : code.Program) (targets : Text) (steps : List ℕ) (t : Text) → names.program ≡ plain_program p → aimed names targets ≡ Ok steps
+pub aim_shows : (names : Names) (p : code.Program) (targets : Text) (steps : List ℕ) (t : Text) →
+    names.program ≡ plain_program p →
+    aimed names targets ≡ Ok steps
     → t ≡ schedule_text (thread_names p) steps → Ok t ≡ aim_text names (aimed names targets)
 aim_shows names p targets steps t is e same =
-    ap (λ (x : Text). Ok x) same ∙ ap (λ (ns : List Text). Ok (schedule_text ns steps)) (same_names names p is) ∙ sym (ap (aim_text names) e)
+    ap (λ (x : Text). Ok x) same ∙ ap (λ (ns : List Text). Ok (schedule_text ns steps)) (same_names names p is) ∙
+    sym (ap (aim_text names) e)
 
 -- what is printed reads back
-read_back : SchedulesReadBack → WhatIsReadIsASchedule → (o : Outcome) (said : Text) (p : code.Program) (targets : Text) → IsTextOf o (plain_program p) said
+read_back : SchedulesReadBack →
+    WhatIsReadIsASchedule →
+    (o : Outcome) (said : Text) (p : code.Program) (targets : Text) →
+    IsTextOf o (plain_program p) said
     → IsReadBack (names_in o (plain_program p)) (aimed (names_in o (plain_program p)) targets)
-read_back printed read o said p targets spelled = by_read (aimed (names_in o (plain_program p)) targets) (aimed_fits (names_in o (plain_program p)) says targets)
+read_back printed read o said p targets spelled = by_read (aimed (names_in o (plain_program p)) targets)
+    (aimed_fits (names_in o (plain_program p)) says targets)
   where
     says : SaysThere (names_in o (plain_program p))
     says text steps e =
         subst (λ (ns : List Text). All (λ t. t < length ns) steps) (same_names (names_in o (plain_program p)) p refl)
-        (read p text steps (ap (λ (ns : List Text). schedule_of ns text) (same_names (names_in o (plain_program p)) p refl) ∙ e)).there
+        (read p text steps (ap (λ (ns : List Text). schedule_of ns text)
+        (same_names (names_in o (plain_program p)) p refl) ∙ e)).there
 
-    by_read : (x : Result (List ℕ) AimFault) → Fits (names_in o (plain_program p)) x → IsReadBack (names_in o (plain_program p)) x
+    by_read : (x : Result (List ℕ) AimFault) →
+        Fits (names_in o (plain_program p)) x →
+        IsReadBack (names_in o (plain_program p)) x
     by_read (Ok steps) h =
-        subst (λ (ns : List Text). schedule_of ns (schedule_text ns steps) ≡ Ok steps) (same_names (names_in o (plain_program p)) p refl)
+        subst (λ (ns : List Text). schedule_of ns (schedule_text ns steps) ≡ Ok steps)
+        (same_names (names_in o (plain_program p)) p refl)
         (printed o said p steps spelled
-        (record { there = subst (λ (ns : List Text). All (λ t. t < length ns) steps) (sym (same_names (names_in o (plain_program p)) p refl)) h.0; short = h.1 }))
+        (record {
+          there = subst (λ (ns : List Text). All (λ t. t < length ns) steps)
+              (sym (same_names (names_in o (plain_program p)) p refl)) h.0;
+          short = h.1;
+        }))
     by_read (Err f) h = tt
 
-pub program_aims : SchedulesReadBack → WhatIsReadIsASchedule → (o : Outcome) (said targets : Text) (p : code.Program) (r : Result (String Global) ToolFault)
-    → IsTextOf o (plain_program p) said → Gives (IsAim (names_in o (plain_program p)) targets) r → Gives (AimsIn o said targets) r
+pub program_aims : SchedulesReadBack →
+    WhatIsReadIsASchedule →
+    (o : Outcome) (said targets : Text) (p : code.Program) (r : Result (String Global) ToolFault)
+    → IsTextOf o (plain_program p) said → Gives (IsAim (names_in o (plain_program p)) targets) r →
+    Gives (AimsIn o said targets) r
 program_aims printed read o said targets p r spelled g =
     wider (IsAim (names_in o (plain_program p)) targets) (AimsIn o said targets) r
     (λ a h. Aims (plain_program p) a spelled h (read_back printed read o said p targets spelled)) g
 
-pub no_program_aims : (o : Outcome) (said targets : Text) (f : ProgramFault) → IsNoProgram o said f → Gives (AimsIn o said targets) (Failed (lifted_program f))
+pub no_program_aims : (o : Outcome) (said targets : Text) (f : ProgramFault) →
+    IsNoProgram o said f →
+    Gives (AimsIn o said targets) (Failed (lifted_program f))
 no_program_aims o said targets program.Memory r = tt
 no_program_aims o said targets (program.BadProgram at) r = NoProgram (program.BadProgram at) r
 no_program_aims o said targets (program.UnknownThing at) r = NoProgram (program.UnknownThing at) r
 no_program_aims o said targets (program.ReferenceResult at) r = NoProgram (program.ReferenceResult at) r
 no_program_aims o said targets program.ProgramLimit r = NoProgram program.ProgramLimit r
 
-pub text_aims : (c p s : Text) (f : TextFault) → Refuses f ((file : ParsedFile) → TextSpells file c → ⊥) → Comes c f → Gives (AimsTo c p s) (Failed (lifted_text f))
+pub text_aims : (c p s : Text) (f : TextFault) →
+    Refuses f ((file : ParsedFile) → TextSpells file c → ⊥) →
+    Comes c f →
+    Gives (AimsTo c p s) (Failed (lifted_text f))
 text_aims c p s text.Memory r m = tt
 text_aims c p s text.TooLong r m = NoFile text.TooLong r m
 text_aims c p s (text.BadByte at) r m = NoFile (text.BadByte at) r m
@@ -98,10 +125,15 @@ text_aims c p s (text.BadNumber at) r m = NoFile (text.BadNumber at) r m
 text_aims c p s (text.Syntax at) r m = NoFile (text.Syntax at) r m
 text_aims c p s (text.TooDeep at) r m = NoFile (text.TooDeep at) r m
 
-pub check_aims : (c p s : Text) (file : File) (f : CheckFault) → IsFileOf c file → typing.Fails f (elaborated file) → Gives (AimsTo c p s) (Failed (lifted_check f))
+pub check_aims : (c p s : Text) (file : File) (f : CheckFault) →
+    IsFileOf c file →
+    typing.Fails f (elaborated file) →
+    Gives (AimsTo c p s) (Failed (lifted_check f))
 check_aims c p s file rule.Memory t n = tt
 check_aims c p s file (rule.Broken b) t n = Breaks file (rule.Broken b) t n
 
-pub checked_aims : (c p s : Text) (file : File) (o : Outcome) (r : Result (String Global) ToolFault) → IsFileOf c file → elaborated file ≡ Ok o
+pub checked_aims : (c p s : Text) (file : File) (o : Outcome) (r : Result (String Global) ToolFault) →
+    IsFileOf c file →
+    elaborated file ≡ Ok o
     → Gives (AimsIn o p s) r → Gives (AimsTo c p s) r
 checked_aims c p s file o r t e g = wider (AimsIn o p s) (AimsTo c p s) r (λ a h. Checks file o a t e h) g

@@ -18,17 +18,32 @@ use Rattle.ls_faults.specs.declared.fault.ToolFault.{ToolFault}
 abbrev Failed : ToolFault → Result (String Global) ToolFault
 Failed f = Err f
 
-pub history_fails : (h o t : Text) (f : HistoryFault) → t ≡ with_feed h → Explains t f → Gives (ChecksTo h o) (Failed (lifted_history f))
+pub history_fails : (h o t : Text) (f : HistoryFault) →
+    t ≡ with_feed h →
+    Explains t f →
+    Gives (ChecksTo h o) (Failed (lifted_history f))
 history_fails h o t history_faults.Memory e b = tt
 history_fails h o t (history_faults.BadHistory at) e b = NoHistory at (subst (λ x. BreaksAt x at) e b)
 
-judged_to : (h o t : Text) (es : List Event) (r : Result (List Text) OrderFault) → t ≡ with_feed h → Says t es → order_of o ≡ r → ChecksTo h o (judged_by es r)
+judged_to : (h o t : Text) (es : List Event) (r : Result (List Text) OrderFault) →
+    t ≡ with_feed h →
+    Says t es →
+    order_of o ≡ r →
+    ChecksTo h o (judged_by es r)
 judged_to h o t es r e s is = subst (λ x. ChecksTo h o (judged_by es x)) is (Judged es (subst (λ x. Says x es) e s))
 
-pub order_fails : (h o t : Text) (es : List Event) (f : OrderFault) → t ≡ with_feed h → Says t es → Fails f (order_of o) → Gives (ChecksTo h o) (Failed (lifted_order f))
+pub order_fails : (h o t : Text) (es : List Event) (f : OrderFault) →
+    t ≡ with_feed h →
+    Says t es →
+    Fails f (order_of o) →
+    Gives (ChecksTo h o) (Failed (lifted_order f))
 order_fails h o t es order_faults.Memory e s k = tt
 order_fails h o t es (order_faults.BadOrder at) e s k = judged_to h o t es (Err (order_faults.BadOrder at)) e s k
 
-pub verdict_given : (h o t : Text) (es : List Event) (order : List Text) (text : Text) → t ≡ with_feed h → Says t es → order_of o ≡ Ok order
+pub verdict_given : (h o t : Text) (es : List Event) (order : List Text) (text : Text) →
+    t ≡ with_feed h →
+    Says t es →
+    order_of o ≡ Ok order
     → text ≡ judgement_text (judgement_of es order) → ChecksTo h o (Ok text)
-verdict_given h o t es order text e s k is = subst (λ x. ChecksTo h o (Ok x)) (sym is) (judged_to h o t es (Ok order) e s k)
+verdict_given h o t es order text e s k is = subst (λ x. ChecksTo h o (Ok x)) (sym is)
+    (judged_to h o t es (Ok order) e s k)

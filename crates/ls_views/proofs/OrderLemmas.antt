@@ -22,7 +22,10 @@ Untold f = Err f
 told : (h t : Text) (answer : Result Text SearchFault) → t ≡ with_feed h → Tells t answer → OrdersTo h (lifted answer)
 told h t answer e s = Told answer (subst (λ x. Tells x answer) e s)
 
-pub told_fails : (h t : Text) (f : SearchFault) → t ≡ with_feed h → telling.Gives (Tells t) (Untold f) → Gives (OrdersTo h) (Failed (lifted_search f))
+pub told_fails : (h t : Text) (f : SearchFault) →
+    t ≡ with_feed h →
+    telling.Gives (Tells t) (Untold f) →
+    Gives (OrdersTo h) (Failed (lifted_search f))
 told_fails h t search.Memory e s = tt
 told_fails h t (search.BadHistory at) e s = told h t (Err (search.BadHistory at)) e s
 told_fails h t search.TooManyTrapped e s = told h t (Err search.TooManyTrapped) e s

@@ -14,8 +14,12 @@ use Rattle.ls_views.specs.declared.viewing.View.{View}
 use Rattle.ls_views.specs.declared.viewing.View.TheVariants as views
 use Rattle.ls_faults.specs.declared.fault.ToolFault.{ToolFault}
 
-module _ (readable : SourceIsReadable) (file : File) (o : Outcome) (checks : elaborated file ≡ Ok o) (program schedule : Text) where
-  run_back : (p : Program) → IsTextOf o p program → (read : Result (List ℕ) ScheduleFault) → ReadsBack (viewed_by views.History (names_in o p) read)
+module _ (readable : SourceIsReadable) (file : File) (o : Outcome) (checks : elaborated file ≡ Ok o)
+    (program schedule : Text) where
+  run_back : (p : Program) →
+      IsTextOf o p program →
+      (read : Result (List ℕ) ScheduleFault) →
+      ReadsBack (viewed_by views.History (names_in o p) read)
   run_back p is (Ok steps) = let r = readable file o program p checks is steps in (r.events, r.says)
   run_back p is (Err f) = tt
 

@@ -34,10 +34,12 @@ IsAim names targets answer = answer ≡ aim_text names (aimed names targets)
 
 -- what is printed of steps reads back as these
 abbrev pub IsReadBack : Names → Result (List ℕ) AimFault → Type 0
-IsReadBack names (Ok steps) = schedule_of (thread_names_of names) (schedule_text (thread_names_of names) steps) ≡ Ok steps
+IsReadBack names (Ok steps) = schedule_of (thread_names_of names) (schedule_text (thread_names_of names) steps) ≡ Ok
+    steps
 IsReadBack names (Err f) = Unit {0}
 
--- The program part is a program of the file, and the answer the schedule to which the targets lead, whose text reads back; or it is
+-- The program part is a program of the file, and the answer the schedule to which the targets lead, whose text reads
+-- back; or it is
 -- none.
 pub data AimsIn (o : Outcome) (program targets : Text) : Result Text ToolFault → Type 0 where
   Aims : (p : Program) (answer : Result Text ToolFault) → IsTextOf o p program → IsAim (names_in o p) targets answer →

@@ -1,5 +1,6 @@
 -- What the command `check` says.
-use Rattle.std.specs.Prelude.{◌==◌, ◌-◌, ℕ, length, slice_get, Bool, true, List, [], ◌∷◌, ◌++◌, Option, Some, None, Result, Ok, Err, codes, if◌then◌else◌}
+use Rattle.std.specs.Prelude.{◌==◌, ◌-◌, ℕ, length, slice_get, Bool, true, List, [], ◌∷◌, ◌++◌, Option, Some, None}
+use Rattle.std.specs.Prelude.{Result, Ok, Err, codes, if◌then◌else◌}
 use Rattle.ls_report.specs.Events.{Event, Text}
 use Rattle.ls_report.specs.Reading.{BreaksAt, Says}
 use Rattle.ls_report.specs.declared.fault.HistoryFault.TheVariants as history_faults
@@ -38,8 +39,13 @@ abbrev pub judged_by : List Event → Result (List Text) OrderFault → Result T
 judged_by events (Ok order) = Ok (judgement_text (judgement_of events order))
 judged_by events (Err f) = Err (lifted_order f)
 
--- The history part is a history, and the answer the judgement of the order or the fault of its part; or the history part
+-- The history part is a history, and the answer the judgement of the order or the fault of its part; or the history
+-- part
 -- breaks at a place.
 pub data ChecksTo (history order : Text) : Result Text ToolFault → Type 0 where
-  Judged : (events : List Event) → Says (with_feed history) events → ChecksTo history order (judged_by events (order_of order))
-  NoHistory : (at : ℕ) → BreaksAt (with_feed history) at → ChecksTo history order (Err (faults.History (history_faults.BadHistory at)))
+  Judged : (events : List Event) →
+      Says (with_feed history) events →
+      ChecksTo history order (judged_by events (order_of order))
+  NoHistory : (at : ℕ) →
+      BreaksAt (with_feed history) at →
+      ChecksTo history order (Err (faults.History (history_faults.BadHistory at)))

@@ -1,5 +1,6 @@
 use Rattle.ls_events.specs.Limits.{most_steps}
-use Rattle.std.proofs.Common.{◌≡◌, ◌∙◌, ◌*◌, ◌<◌, ℕ, zero, suc, List, length, refl, sym, ap, subst, arith, cond, replicate, Ok, Err}
+use Rattle.std.proofs.Common.{◌≡◌, ◌∙◌, ◌*◌, ◌<◌, ℕ, zero, suc, List, length, refl, sym, ap, subst, arith, cond}
+use Rattle.std.proofs.Common.{replicate, Ok, Err}
 use Rattle.std.specs.Prelude.{nat_lt}
 use Rattle.std.proofs.lemmas.List.{length-append, length-replicate}
 use Rattle.std.proofs.lemmas.Bool.{lt-ltb}
@@ -21,19 +22,23 @@ repeated_length (suc n) steps = omega (arith, length-append steps (repeated n st
 
 pub returns-clause-counts_in_one_another : goal.returns-clause-counts_in_one_another
 returns-clause-counts_in_one_another c m n steps over =
-    let len : length (repeated m (repeated n steps)) ≡ m * (n * length steps) = repeated_length m (repeated n steps) ∙ ap (λ k. m * k) (repeated_length n steps) in
+    let len : length (repeated m (repeated n steps)) ≡ m * (n * length steps) = repeated_length m (repeated n steps) ∙
+    ap (λ k. m * k) (repeated_length n steps) in
     let more : most_steps < length (repeated m (repeated n steps)) = subst (λ k. most_steps < k) (sym len) over in
-    ap (λ b. cond b (Err TooManySteps) (Ok (repeated m (repeated n steps)))) (lt-ltb most_steps (length (repeated m (repeated n steps))) more)
+    ap (λ b. cond b (Err TooManySteps) (Ok (repeated m (repeated n steps))))
+    (lt-ltb most_steps (length (repeated m (repeated n steps))) more)
 
 pub returns-clause-groups_past_the_limit : goal.returns-clause-groups_past_the_limit
 returns-clause-groups_past_the_limit c ps steps is over =
     ap (λ r. r >>= within) is ∙ ap (λ b. cond b (Err TooManySteps) (Ok steps)) (lt-ltb most_steps (length steps) over)
 
 pub returns-clause-most_steps : goal.returns-clause-most_steps
-returns-clause-most_steps c t = ap (λ n. cond (nat_lt most_steps n) (Err TooManySteps) (Ok (replicate most_steps t))) (length-replicate most_steps t)
+returns-clause-most_steps c t = ap (λ n. cond (nat_lt most_steps n) (Err TooManySteps) (Ok (replicate most_steps t)))
+    (length-replicate most_steps t)
 
 pub returns-clause-one_step_too_many : goal.returns-clause-one_step_too_many
-returns-clause-one_step_too_many c t = ap (λ n. cond (nat_lt most_steps n) (Err TooManySteps) (Ok (replicate 1000001 t))) (length-replicate 1000001 t)
+returns-clause-one_step_too_many c t = ap (λ n. cond (nat_lt most_steps n) (Err TooManySteps)
+    (Ok (replicate 1000001 t))) (length-replicate 1000001 t)
 
 pub returns-clause-faults_before_the_length : goal.returns-clause-faults_before_the_length
 unfolding is_name

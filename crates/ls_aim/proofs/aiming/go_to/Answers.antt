@@ -16,8 +16,10 @@ returns-in-Arrived c =
     let r = run_in c.walk.runner in
     let stop = stop_of c.walk.stop in
     let e : sight names c.args.at r c.args.target.thread stop ≡ Arrived =
-    ap (λ n. sight n c.args.at r c.args.target.thread stop) (sym c.walk.invariant.names) ∙ sym c.in_ok-sight.ensures.sight ∙ ap sight_of c.in-Arrived.is in
-    sym c.walk.invariant.gone ∙ arrives names c.args.at c.args.target.thread r stop c.walk.steps (room_after c.walk.steps) e
+    ap (λ n. sight n c.args.at r c.args.target.thread stop) (sym c.walk.invariant.names) ∙
+    sym c.in_ok-sight.ensures.sight ∙ ap sight_of c.in-Arrived.is in
+    sym c.walk.invariant.gone ∙ arrives names c.args.at c.args.target.thread r stop c.walk.steps
+    (room_after c.walk.steps) e
 
 pub returns-in-Missed : goal.returns-in-Missed
 returns-in-Missed c =
@@ -25,9 +27,11 @@ returns-in-Missed c =
     let r = run_in c.walk.runner in
     let stop = stop_of c.walk.stop in
     let e : sight names c.args.at r c.args.target.thread stop ≡ Missed c.in-Missed.fault =
-    ap (λ n. sight n c.args.at r c.args.target.thread stop) (sym c.walk.invariant.names) ∙ sym c.in_ok-sight.ensures.sight ∙ ap sight_of c.in-Missed.is in
+    ap (λ n. sight n c.args.at r c.args.target.thread stop) (sym c.walk.invariant.names) ∙
+    sym c.in_ok-sight.ensures.sight ∙ ap sight_of c.in-Missed.is in
     fails_of c.in-Missed.fault _
-    (sym c.walk.invariant.gone ∙ misses names c.args.at c.args.target.thread r stop c.walk.steps (room_after c.walk.steps) c.in-Missed.fault e)
+    (sym c.walk.invariant.gone ∙ misses names c.args.at c.args.target.thread r stop c.walk.steps
+    (room_after c.walk.steps) c.in-Missed.fault e)
 
 pub walk-preserved : goal.walk-preserved
 walk-preserved c =
@@ -37,7 +41,8 @@ walk-preserved c =
     let still = stop_of c.in-GoesOn.still in
     let thread = c.args.target.thread in
     let e : sight names c.args.at r thread stop ≡ GoesOn still =
-    ap (λ n. sight n c.args.at r thread stop) (sym c.walk.invariant.names) ∙ sym c.in_ok-sight.ensures.sight ∙ ap sight_of c.in-GoesOn.is in
+    ap (λ n. sight n c.args.at r thread stop) (sym c.walk.invariant.names) ∙ sym c.in_ok-sight.ensures.sight ∙
+    ap sight_of c.in-GoesOn.is in
     let small : length c.walk.steps < most_steps = grind (arith, common_steps) in
     let added = c.in_ok-push-in-GoesOn.ensures.added in
     let run : run_in c.sight.new.self ≡ after_step names r thread =

@@ -10,8 +10,10 @@ invariant-walk l = record {
   names : names_in l.runner ≡ names_in l.fn.runner;
   runs : RunsNamed l.runner;
   few : length l.steps ≤ most_steps;
-  gone : gone_to (names_in l.fn.runner) l.at l.target.thread (run_in l.runner) (stop_of l.stop) l.steps (room_after l.steps)
-      ≡ gone_to (names_in l.fn.runner) l.at l.target.thread (run_in l.fn.runner) (stop_of l.target.stop) l.fn.steps (room_after l.fn.steps);
+  gone : gone_to (names_in l.fn.runner) l.at l.target.thread (run_in l.runner) (stop_of l.stop) l.steps
+      (room_after l.steps)
+      ≡ gone_to (names_in l.fn.runner) l.at l.target.thread (run_in l.fn.runner) (stop_of l.target.stop) l.fn.steps
+      (room_after l.fn.steps);
 }
 
 abbrev pub decreases-walk : goal.decreases-walk

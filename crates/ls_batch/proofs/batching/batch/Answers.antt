@@ -15,5 +15,6 @@ returns-clause-tally g c =
     let few = fits.0 in
     let len = histories_len h first count in
     let same = from_first h first count c.as_slice.result.now (c.as_slice.ensures.value ∙ c.in_ok-seeds.ensures) in
-    rw (← c.code-code.ensures) (c.in_ok-tally.ensures first (histories_of code c.args.cells first count c.args.drawing) (omega arith)
+    rw (← c.code-code.ensures) (c.in_ok-tally.ensures first (histories_of code c.args.cells first count c.args.drawing)
+    (omega arith)
     (subst (λ rs. AreCounts rs c.in_ok-counts.counts) same c.in_ok-counts.ensures))

@@ -12,5 +12,6 @@ returns g c =
     let h : ℕ → History = λ s. history_of c.args.code.now c.args.cells s c.args.drawing in
     let parts = c.in_ok-parts.ensures in
     let groups = chunks_of parts.0 c.args.seeds.now in
-    subst (λ rs. AreCounts rs c.in_ok-counts.counts) (all_runs h groups ∙ ap (map (λ s. run s (h s))) (chunks_of-concat parts.0 c.args.seeds.now parts.1))
+    subst (λ rs. AreCounts rs c.in_ok-counts.counts) (all_runs h groups ∙
+    ap (map (λ s. run s (h s))) (chunks_of-concat parts.0 c.args.seeds.now parts.1))
     (c.in_ok-counts.ensures (map (map (λ s. run s (h s))) groups) (zip_runs h groups _ parts.2))

@@ -17,9 +17,12 @@ loop-seed-preserved c =
     record {
       code = c.one_run.ensures.code ∙ c.loop-seed.invariant.code;
       cells = c.one_run.ensures.cells ∙ c.loop-seed.invariant.cells;
-      counts = seed_counted h seeds k c.loop-seed.counts c.add.new.self c.loop-seed-test.true c.loop-seed.invariant.counts
-          (λ ks. c.in_ok-add.ensures ks ∙ ap (λ g. both (count_at c.loop-seed.counts ks) (cond (are_same ks (key_of g)) (one_of seed) None)) told);
+      counts = seed_counted h seeds k c.loop-seed.counts c.add.new.self c.loop-seed-test.true
+          c.loop-seed.invariant.counts
+          (λ ks. c.in_ok-add.ensures ks ∙ ap (λ g. both (count_at c.loop-seed.counts ks)
+          (cond (are_same ks (key_of g)) (one_of seed) None)) told);
     }
 
 pub returns : goal.returns
-returns c = seeds_counted (λ s. history_of c.args.code.now c.args.cells s c.args.drawing) c.args.seeds.now c.loop-seed.seed-index c.loop-seed.counts c.loop-seed-test.false c.loop-seed.invariant.counts
+returns c = seeds_counted (λ s. history_of c.args.code.now c.args.cells s c.args.drawing) c.args.seeds.now
+    c.loop-seed.seed-index c.loop-seed.counts c.loop-seed-test.false c.loop-seed.invariant.counts

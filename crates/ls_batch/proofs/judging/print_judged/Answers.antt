@@ -6,16 +6,22 @@ use Rattle.ls_batch.proofs.judging.print_judged.Goals as goal
 
 pub verdict_on-requires : goal.verdict_on-requires
 verdict_on-requires c =
-    row_named (plain_program c.args.program.now) c.args.tally.now entry_row c.entries-entry-items.result.now c.loop-entry.entry-index c.entry-item.result
-    c.as_slice.result.now c.entries-entry-items.ensures c.requires c.loop-entry-test.true c.entry-item.is (c.as_slice.ensures.value ∙ c.in_ok-history.ensures)
+    row_named (plain_program c.args.program.now) c.args.tally.now entry_row c.entries-entry-items.result.now
+    c.loop-entry.entry-index c.entry-item.result
+    c.as_slice.result.now c.entries-entry-items.ensures c.requires c.loop-entry-test.true c.entry-item.is
+    (c.as_slice.ensures.value ∙ c.in_ok-history.ensures)
 
 pub loop-entry-preserved : goal.loop-entry-preserved
 loop-entry-preserved c =
-    row_told (plain_program c.args.program.now) c.args.tally.now entry_row c.entries-entry-items.result.now c.loop-entry.entry-index c.entry-item.result
-    c.as_slice.result.now c.in_ok-said.said (string_bytes c.loop-entry.out) (string_bytes c.push_judged.new.out) c.loop-entry-test.true c.entry-item.is
-    (c.as_slice.ensures.value ∙ c.in_ok-history.ensures) c.loop-entry.invariant c.in_ok-said.ensures c.in_ok-push_judged.ensures
+    row_told (plain_program c.args.program.now) c.args.tally.now entry_row c.entries-entry-items.result.now
+    c.loop-entry.entry-index c.entry-item.result
+    c.as_slice.result.now c.in_ok-said.said (string_bytes c.loop-entry.out) (string_bytes c.push_judged.new.out)
+    c.loop-entry-test.true c.entry-item.is
+    (c.as_slice.ensures.value ∙ c.in_ok-history.ensures) c.loop-entry.invariant c.in_ok-said.ensures
+    c.in_ok-push_judged.ensures
 
 pub returns : goal.returns
 returns c =
-    all_told (plain_program c.args.program.now) c.args.tally.now entry_row c.entries-entry-items.result.now c.loop-entry.entry-index (string_bytes c.loop-entry.out)
+    all_told (plain_program c.args.program.now) c.args.tally.now entry_row c.entries-entry-items.result.now
+    c.loop-entry.entry-index (string_bytes c.loop-entry.out)
     c.loop-entry-test.false c.loop-entry.invariant

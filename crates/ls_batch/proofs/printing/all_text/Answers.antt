@@ -16,5 +16,8 @@ loop-part-preserved c =
 pub returns : goal.returns
 returns c =
     let gives = c.into_iter-part-iterator.ensures.into_iter_gives in
-    let end = YieldsList-end (YieldsList-from_vec c.args.parts.items gives.0 (gives.1 ∙ c.args.parts.ok.0)) c.loop-part.yielded c.loop-part.part-iterator c.loop-part.yielded_by c.next.result c.next.new.self c.in-None.is c.next.ensures.steps in
-    subst (λ parts. IsText string_bytes parts (string_bytes c.loop-part.out)) (sym (map-id c.loop-part.yielded) ∙ end.0) c.loop-part.invariant
+    let end = YieldsList-end (YieldsList-from_vec c.args.parts.items gives.0 (gives.1 ∙ c.args.parts.ok.0))
+    c.loop-part.yielded c.loop-part.part-iterator c.loop-part.yielded_by c.next.result c.next.new.self
+    c.in-None.is c.next.ensures.steps in
+    subst (λ parts. IsText string_bytes parts (string_bytes c.loop-part.out)) (sym (map-id c.loop-part.yielded) ∙ end.0)
+    c.loop-part.invariant

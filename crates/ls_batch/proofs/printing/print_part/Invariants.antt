@@ -6,4 +6,5 @@ use Rattle.ls_batch.proofs.printing.print_part.Given as goal
 
 abbrev pub invariant-loop-entry : goal.invariant-loop-entry
 invariant-loop-entry l =
-    string_bytes l.out ++ tally_text (plain_program l.program) (map entry_row (drop l.entry-index l.part)) ≡ tally_text (plain_program l.program) (map entry_row l.part)
+    string_bytes l.out ++ tally_text (plain_program l.program) (map entry_row (drop l.entry-index l.part)) ≡ tally_text
+    (plain_program l.program) (map entry_row l.part)

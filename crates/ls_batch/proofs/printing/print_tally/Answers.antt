@@ -13,5 +13,7 @@ returns g c =
     let entries = c.entries.result.now in
     let parts = c.in_ok-parts.ensures in
     let groups = chunks_of parts.0 entries in
-    c.in_ok-text.ensures (map (λ group. tally_text p (map entry_row group)) groups) (zip_texts string_bytes (λ group. tally_text p (map entry_row group)) groups _ parts.2)
-    ∙ whole_text p entry_row groups ∙ ap (λ es. tally_text p (map entry_row es)) (chunks_of-concat parts.0 entries parts.1) ∙ ap (tally_text p) c.entries.ensures
+    c.in_ok-text.ensures (map (λ group. tally_text p (map entry_row group)) groups)
+    (zip_texts string_bytes (λ group. tally_text p (map entry_row group)) groups _ parts.2)
+    ∙ whole_text p entry_row groups ∙ ap (λ es. tally_text p (map entry_row es))
+    (chunks_of-concat parts.0 entries parts.1) ∙ ap (tally_text p) c.entries.ensures

@@ -20,14 +20,16 @@ loop-taken-preserved c =
     let more = settling_more n k c.loop-taken.machine c.step.new.self one on c.step.ensures.machine in
     let kept = c.loop-taken.invariant.steps in
     record {
-      machine = sym (settled_more n k c.loop-taken.machine c.step.new.self one on c.step.ensures.machine) ∙ c.loop-taken.invariant.machine;
+      machine = sym (settled_more n k c.loop-taken.machine c.step.new.self one on c.step.ensures.machine) ∙
+          c.loop-taken.invariant.machine;
       steps = omega (arith, more, kept);
     }
 
 pub returns-clause-machine : goal.returns-clause-machine
 returns-clause-machine c =
     let none : 0 ≡ c.args.most - c.loop-taken.taken = omega (arith, c.loop-taken-test.false) in
-    sym (settled_none c.loop-taken.machine) ∙ (ap (λ (k : ℕ). settled k c.loop-taken.machine) none ∙ c.loop-taken.invariant.machine)
+    sym (settled_none c.loop-taken.machine) ∙ (ap (λ (k : ℕ). settled k c.loop-taken.machine) none ∙
+    c.loop-taken.invariant.machine)
 
 pub returns-clause-steps : goal.returns-clause-steps
 returns-clause-steps c =

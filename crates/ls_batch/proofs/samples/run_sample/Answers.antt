@@ -6,15 +6,25 @@ use Rattle.ls_batch.proofs.samples.run_sample.Goals as goal
 
 pub loop-preserved : goal.loop-preserved
 loop-preserved c = record {
-  run = run_step c.args.threads c.args.drawing.switch c.loop.last (c.args.drawing.steps - c.loop.counter) (c.args.drawing.steps - (c.loop.counter + 1)) c.loop.rng c.next_thread-last.result c.next_thread-last.new.rng c.loop.machine c.step-did.new.self _ (omega arith)
+  run = run_step c.args.threads c.args.drawing.switch c.loop.last (c.args.drawing.steps - c.loop.counter)
+      (c.args.drawing.steps - (c.loop.counter + 1)) c.loop.rng c.next_thread-last.result c.next_thread-last.new.rng
+      c.loop.machine c.step-did.new.self _ (omega arith)
       c.next_thread-last.ensures.entry c.next_thread-last.ensures.state c.step-did.ensures.machine c.loop.invariant.run;
-  there = subst (λ n. n ≤ c.args.threads) (sym c.next_thread-last.ensures.entry) (next_is_thread c.args.threads c.args.drawing.switch c.loop.last _ (omega arith) c.loop.invariant.there).1;
+  there = subst (λ n. n ≤ c.args.threads) (sym c.next_thread-last.ensures.entry)
+      (next_is_thread c.args.threads c.args.drawing.switch c.loop.last _ (omega arith) c.loop.invariant.there).1;
 }
 
 pub returns-then-is_done : goal.returns-then-is_done
 returns-then-is_done c =
-    let run = run_step c.args.threads c.args.drawing.switch c.loop.last (c.args.drawing.steps - c.loop.counter) (c.args.drawing.steps - (c.loop.counter + 1)) c.loop.rng c.next_thread-last.result c.next_thread-last.new.rng c.loop.machine c.step-did.new.self _ (omega arith)
+    let run = run_step c.args.threads c.args.drawing.switch c.loop.last (c.args.drawing.steps - c.loop.counter)
+    (c.args.drawing.steps - (c.loop.counter + 1)) c.loop.rng c.next_thread-last.result
+    c.next_thread-last.new.rng c.loop.machine c.step-did.new.self _ (omega arith)
     c.next_thread-last.ensures.entry c.next_thread-last.ensures.state c.step-did.ensures.machine c.loop.invariant.run in
-    let there = subst (λ n. n ≤ c.args.threads) (sym c.next_thread-last.ensures.entry) (next_is_thread c.args.threads c.args.drawing.switch c.loop.last _ (omega arith) c.loop.invariant.there).1 in
-    over_run c.args.threads c.args.drawing.switch c.next_thread-last.result (c.args.drawing.steps - (c.loop.counter + 1)) c.next_thread-last.new.rng c.step-did.new.self _ (omega arith) there
-    (c.is_done.ensures c.if-is_done.true) run ∙ ap (machine_run c.args.machine.now) (sample_is c.args.threads c.args.seed c.args.drawing (omega arith))
+    let there = subst (λ n. n ≤ c.args.threads) (sym c.next_thread-last.ensures.entry)
+    (next_is_thread c.args.threads c.args.drawing.switch c.loop.last _ (omega arith) c.loop.invariant.there).1
+    in
+    over_run c.args.threads c.args.drawing.switch c.next_thread-last.result
+    (c.args.drawing.steps - (c.loop.counter + 1)) c.next_thread-last.new.rng c.step-did.new.self _ (omega arith)
+    there
+    (c.is_done.ensures c.if-is_done.true) run ∙ ap (machine_run c.args.machine.now)
+    (sample_is c.args.threads c.args.seed c.args.drawing (omega arith))

@@ -11,8 +11,10 @@ loop-key-init c = c.by_size-all.ensures
 pub loop-key-preserved : goal.loop-key-preserved
 loop-key-preserved c = λ ks.
     ap₂ both (c.in_ok-put.ensures ks) (c.in-Some.ensures.others ks)
-    ∙ put_over (count_at c.loop-key.all) (count_at c.loop-key.rest) (plain_key c.in-Some.key) ks c.in-Some.count c.in-Some.ensures.some ∙ c.loop-key.invariant ks
+    ∙ put_over (count_at c.loop-key.all) (count_at c.loop-key.rest) (plain_key c.in-Some.key) ks c.in-Some.count
+    c.in-Some.ensures.some ∙ c.loop-key.invariant ks
 
 pub returns : goal.returns
 returns c = λ ks.
-    sym (both_none (count_at c.loop-key.all ks)) ∙ ap (both (count_at c.loop-key.all ks)) (sym (c.in_default.ensures.none ks)) ∙ c.loop-key.invariant ks
+    sym (both_none (count_at c.loop-key.all ks)) ∙ ap (both (count_at c.loop-key.all ks))
+    (sym (c.in_default.ensures.none ks)) ∙ c.loop-key.invariant ks

@@ -4,7 +4,8 @@ use Rattle.ls_batch_tally.specs.Numbers.{Key}
 use Rattle.ls_batch_tally.proofs.counting.joined.Given as goal
 
 abbrev pub invariant-loop-key : goal.invariant-loop-key
-invariant-loop-key l = (k : Key) → both (count_at l.all k) (count_at l.rest k) ≡ both (count_at l.fn.left k) (count_at l.fn.right k)
+invariant-loop-key l = (k : Key) → both (count_at l.all k) (count_at l.rest k) ≡ both (count_at l.fn.left k)
+    (count_at l.fn.right k)
 
 abbrev pub decreases-loop-key : goal.decreases-loop-key
 decreases-loop-key l = histories_in l.rest

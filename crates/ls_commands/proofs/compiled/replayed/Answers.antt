@@ -15,7 +15,9 @@ returns-in_err-schedule c =
     let p = err_from_is_err_and c.from_residual.result c.from_residual.ensures.1 in
     let f = c.in_err-schedule.field-0.0 in
     let s = c.args.schedule.now in
-    rw (p.1, p.2) (unread (Replayed c.args.image.now c.args.cells) NoSchedule (schedule_of (thread_names (program_of_image c.args.image.now)) s) f (subst (λ q. Fails f (schedule_of (thread_names q) s)) c.program.ensures c.in_err-schedule.ensures))
+    rw (p.1, p.2) (unread (Replayed c.args.image.now c.args.cells) NoSchedule
+    (schedule_of (thread_names (program_of_image c.args.image.now)) s) f
+    (subst (λ q. Fails f (schedule_of (thread_names q) s)) c.program.ensures c.in_err-schedule.ensures))
 
 pub returns-in_err-record : goal.returns-in_err-record
 returns-in_err-record c =
@@ -24,7 +26,8 @@ returns-in_err-record c =
     let s = c.args.schedule.now in
     let steps = c.in_ok-schedule.schedule in
     let read = subst (λ q. schedule_of (thread_names q) s ≡ Ok steps) c.program.ensures c.in_ok-schedule.ensures in
-    rw (p.1, p.2) (cells_fail image c.args.cells (schedule_of (thread_names (program_of_image image)) s) steps c.in_err-record.field-0.0 read c.in_err-record.ensures.bad)
+    rw (p.1, p.2) (cells_fail image c.args.cells (schedule_of (thread_names (program_of_image image)) s) steps
+    c.in_err-record.field-0.0 read c.in_err-record.ensures.bad)
 
 pub returns : goal.returns
 returns c =
@@ -32,6 +35,8 @@ returns c =
     let s = c.args.schedule.now in
     let steps = c.in_ok-schedule.schedule in
     let read = subst (λ q. schedule_of (thread_names q) s ≡ Ok steps) c.program.ensures c.in_ok-schedule.ensures in
-    let said = c.in_ok-print_history.ensures ∙ ap₂ (λ q es. run_text (plain_program q) es) c.program-2.ensures c.history.ensures in
-    schedule_runs image c.args.cells (schedule_of (thread_names (program_of_image image)) s) steps c.in_ok-record.record _ read
+    let said = c.in_ok-print_history.ensures ∙ ap₂ (λ q es. run_text (plain_program q) es) c.program-2.ensures
+    c.history.ensures in
+    schedule_runs image c.args.cells (schedule_of (thread_names (program_of_image image)) s) steps c.in_ok-record.record
+    _ read
     c.in_ok-record.ensures.bad c.in_ok-record.ensures.record said

@@ -15,12 +15,15 @@ May cells sampling i = Judged i cells sampling
 pub returns-in_err-image : goal.returns-in_err-image
 returns-in_err-image g c =
     let p = err_from_is_err_and c.from_residual.result c.from_residual.ensures.1 in
-    rw (p.1, p.2) (not_compiled c.args.classes.now c.args.program.now (May c.args.cells c.args.sampling) c.in_err-image.field-0.0 c.in_err-image.ensures.refused)
+    rw (p.1, p.2) (not_compiled c.args.classes.now c.args.program.now (May c.args.cells c.args.sampling)
+    c.in_err-image.field-0.0 c.in_err-image.ensures.refused)
 
 pub judged-requires-clause-readable : goal.judged-requires-clause-readable
-judged-requires-clause-readable g c = λ lifetimes outlives. c.compiled_is_readable.ensures c.args.classes.now c.args.program.now c.in_ok-image.image c.in_ok-image.ensures.compiled
+judged-requires-clause-readable g c = λ lifetimes outlives. c.compiled_is_readable.ensures c.args.classes.now
+    c.args.program.now c.in_ok-image.image c.in_ok-image.ensures.compiled
 
 pub returns : goal.returns
 returns g c =
-    on_image c.args.classes.now c.args.program.now (May c.args.cells c.args.sampling) c.in_ok-image.image c.judged.result
+    on_image c.args.classes.now c.args.program.now (May c.args.cells c.args.sampling) c.in_ok-image.image
+    c.judged.result
     c.in_ok-image.ensures.compiled c.in_ok-image.ensures.within c.judged.ensures

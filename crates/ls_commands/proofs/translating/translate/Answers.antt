@@ -17,9 +17,11 @@ May to cells schedule i = Translated i to cells (schedule_of (names_of_image i) 
 pub returns-in_err-image : goal.returns-in_err-image
 returns-in_err-image c =
     let p = err_from_is_err_and c.from_residual.result c.from_residual.ensures.1 in
-    rw (p.1, p.2) (not_compiled c.args.classes.now c.args.program.now (May c.args.to c.args.cells c.args.schedule.now) c.in_err-image.field-0.0 c.in_err-image.ensures.refused)
+    rw (p.1, p.2) (not_compiled c.args.classes.now c.args.program.now (May c.args.to c.args.cells c.args.schedule.now)
+    c.in_err-image.field-0.0 c.in_err-image.ensures.refused)
 
 pub returns : goal.returns
 returns c =
-    on_image c.args.classes.now c.args.program.now (May c.args.to c.args.cells c.args.schedule.now) c.in_ok-image.image c.translated.result
+    on_image c.args.classes.now c.args.program.now (May c.args.to c.args.cells c.args.schedule.now) c.in_ok-image.image
+    c.translated.result
     c.in_ok-image.ensures.compiled c.in_ok-image.ensures.within c.translated.ensures

@@ -15,7 +15,8 @@ returns-in_err-schedule c =
     let p = err_from_is_err_and c.from_residual.result c.from_residual.ensures.1 in
     let f = c.in_err-schedule.field-0.0 in
     let s = c.args.schedule.now in
-    rw (p.1, p.2) (unread (Translated c.args.image.now c.args.to c.args.cells) NoSchedule (schedule_of (names_of_image c.args.image.now) s) f
+    rw (p.1, p.2) (unread (Translated c.args.image.now c.args.to c.args.cells) NoSchedule
+    (schedule_of (names_of_image c.args.image.now) s) f
     (subst (λ q. Fails f (schedule_of (thread_names q) s)) c.program.ensures c.in_err-schedule.ensures))
 
 pub returns-in_err-steps : goal.returns-in_err-steps
@@ -25,7 +26,8 @@ returns-in_err-steps c =
     let s = c.args.schedule.now in
     let steps = c.in_ok-schedule.schedule in
     let read = subst (λ q. schedule_of (thread_names q) s ≡ Ok steps) c.program.ensures c.in_ok-schedule.ensures in
-    rw (p.1, p.2) (turn_fails image c.args.cells steps c.args.to (schedule_of (names_of_image image) s) read c.in_err-steps.field-0.0 c.in_err-steps.ensures)
+    rw (p.1, p.2) (turn_fails image c.args.cells steps c.args.to (schedule_of (names_of_image image) s) read
+    c.in_err-steps.field-0.0 c.in_err-steps.ensures)
 
 pub returns : goal.returns
 returns c =
@@ -33,5 +35,7 @@ returns c =
     let s = c.args.schedule.now in
     let steps = c.in_ok-schedule.schedule in
     let read = subst (λ q. schedule_of (thread_names q) s ≡ Ok steps) c.program.ensures c.in_ok-schedule.ensures in
-    let said = c.in_ok-print_schedule.ensures ∙ ap (λ q. schedule_text (thread_names q) c.in_ok-steps.steps) c.program-2.ensures in
-    turn_told image c.args.cells steps c.args.to (schedule_of (names_of_image image) s) read c.in_ok-steps.steps _ c.in_ok-steps.ensures said
+    let said = c.in_ok-print_schedule.ensures ∙ ap (λ q. schedule_text (thread_names q) c.in_ok-steps.steps)
+    c.program-2.ensures in
+    turn_told image c.args.cells steps c.args.to (schedule_of (names_of_image image) s) read c.in_ok-steps.steps _
+    c.in_ok-steps.ensures said

@@ -15,16 +15,20 @@ new-requires-clause-runs c = c.in_ok-code.ensures.runs
 
 pub new-requires-clause-setup : goal.new-requires-clause-setup
 new-requires-clause-setup c =
-    has_setup c.in_ok-checked.checked c.in_ok-program.program c.new-source.result c.in_ok-code.code c.args.program.now c.new-source.ensures.program c.in_ok-program.ensures.spelled c.in_ok-code.ensures.runs
+    has_setup c.in_ok-checked.checked c.in_ok-program.program c.new-source.result c.in_ok-code.code c.args.program.now
+    c.new-source.ensures.program c.in_ok-program.ensures.spelled c.in_ok-code.ensures.runs
 
 pub returns-clause-compiled : goal.returns-clause-compiled
 returns-clause-compiled c =
-    compiled c.args.classes.now c.args.program.now (placed_file c.in_ok-parsed.parsed) c.in_ok-checked.checked c.in_ok-program.program c.new-source.result c.in_ok-code.code c.new.result
+    compiled c.args.classes.now c.args.program.now (placed_file c.in_ok-parsed.parsed) c.in_ok-checked.checked
+    c.in_ok-program.program c.new-source.result c.in_ok-code.code c.new.result
     c.new.ensures.source c.new.ensures.code c.new-source.ensures.checked c.new-source.ensures.program
-    c.in_ok-parsed.ensures.file c.in_ok-checked.ensures.checked c.in_ok-program.ensures.spelled c.in_ok-code.ensures.runs
+    c.in_ok-parsed.ensures.file c.in_ok-checked.ensures.checked c.in_ok-program.ensures.spelled
+    c.in_ok-code.ensures.runs
 
 pub returns-clause-within : goal.returns-clause-within
-returns-clause-within c = limited c.new-source.result c.in_ok-code.code c.new.result c.new.ensures.source c.new.ensures.code c.in_ok-code.ensures.code c.in_ok-code.ensures.within
+returns-clause-within c = limited c.new-source.result c.in_ok-code.code c.new.result c.new.ensures.source
+    c.new.ensures.code c.in_ok-code.ensures.code c.in_ok-code.ensures.within
 
 pub returns-clause-refused : goal.returns-clause-refused
 returns-clause-refused c = Compiled c.new.result (returns-clause-compiled c)
@@ -32,19 +36,27 @@ returns-clause-refused c = Compiled c.new.result (returns-clause-compiled c)
 pub returns-in_err-parsed-clause-refused : goal.returns-in_err-parsed-clause-refused
 returns-in_err-parsed-clause-refused c =
     let p = err_from_is_err_and c.from_residual.result c.from_residual.ensures.1 in
-    rw (p.1, p.2) (NoFile c.in_err-parsed.field-0.0 c.in_err-parsed.ensures.refused (record { may = c.in_err-parsed.ensures.comes; long = λ l. err_of c.in_err-parsed.field-0.0 (c.in_err-parsed.ensures.long l) }))
+    rw (p.1, p.2) (NoFile c.in_err-parsed.field-0.0 c.in_err-parsed.ensures.refused
+    (record {
+      may = c.in_err-parsed.ensures.comes;
+      long = λ l.
+          err_of c.in_err-parsed.field-0.0 (c.in_err-parsed.ensures.long l);
+    }))
 
 pub returns-in_err-checked-clause-refused : goal.returns-in_err-checked-clause-refused
 returns-in_err-checked-clause-refused c =
     let p = err_from_is_err_and c.from_residual-in_err-checked.result c.from_residual-in_err-checked.ensures.1 in
-    rw (p.1, p.2) (Breaks (placed_file c.in_ok-parsed.parsed) c.in_err-checked.field-0.0 c.in_ok-parsed.ensures.file c.in_err-checked.ensures.refused)
+    rw (p.1, p.2) (Breaks (placed_file c.in_ok-parsed.parsed) c.in_err-checked.field-0.0 c.in_ok-parsed.ensures.file
+    c.in_err-checked.ensures.refused)
 
 pub returns-in_err-program-clause-refused : goal.returns-in_err-program-clause-refused
 returns-in_err-program-clause-refused c =
     let p = err_from_is_err_and c.from_residual-in_err-program.result c.from_residual-in_err-program.ensures.1 in
     rw (p.1, p.2)
-    (NoProgram (placed_file c.in_ok-parsed.parsed) (outcome_of c.in_ok-checked.checked) c.in_err-program.field-0.0 c.in_ok-parsed.ensures.file c.in_ok-checked.ensures.checked
-    (no_program (outcome_of c.in_ok-checked.checked) c.args.program.now c.in_err-program.field-0.0 c.in_err-program.ensures.refused c.in_err-program.ensures.stands))
+    (NoProgram (placed_file c.in_ok-parsed.parsed) (outcome_of c.in_ok-checked.checked) c.in_err-program.field-0.0
+    c.in_ok-parsed.ensures.file c.in_ok-checked.ensures.checked
+    (no_program (outcome_of c.in_ok-checked.checked) c.args.program.now c.in_err-program.field-0.0
+    c.in_err-program.ensures.refused c.in_err-program.ensures.stands))
 
 pub returns-in_err-code-clause-refused : goal.returns-in_err-code-clause-refused
 returns-in_err-code-clause-refused c =
@@ -52,5 +64,7 @@ returns-in_err-code-clause-refused c =
     let o = outcome_of c.in_ok-checked.checked in
     let program = plain_program c.in_ok-program.program in
     rw (p.1, p.2)
-    (PastLimit (placed_file c.in_ok-parsed.parsed) o program c.in_err-code.field-0.0 c.in_ok-parsed.ensures.file c.in_ok-checked.ensures.checked c.in_ok-program.ensures.spelled
-    (past c.in_ok-checked.checked c.in_ok-program.program c.new-source.result c.in_err-code.field-0.0 c.new-source.ensures.checked c.new-source.ensures.program c.in_err-code.ensures.refused))
+    (PastLimit (placed_file c.in_ok-parsed.parsed) o program c.in_err-code.field-0.0 c.in_ok-parsed.ensures.file
+    c.in_ok-checked.ensures.checked c.in_ok-program.ensures.spelled
+    (past c.in_ok-checked.checked c.in_ok-program.program c.new-source.result c.in_err-code.field-0.0
+    c.new-source.ensures.checked c.new-source.ensures.program c.in_err-code.ensures.refused))

@@ -6,5 +6,6 @@ use Rattle.ls_drawing.proofs.drawing.push_field_rows.Given as goal
 
 abbrev pub invariant-loop-field : goal.invariant-loop-field
 invariant-loop-field l =
-    string_bytes l.out ++ numbered (field_row (names_in l.scene) l.scene.labels.items l.object) l.field (drop l.field l.fields)
+    string_bytes l.out ++ numbered (field_row (names_in l.scene) l.scene.labels.items l.object) l.field
+    (drop l.field l.fields)
     ≡ string_bytes l.fn.out ++ numbered (field_row (names_in l.scene) l.scene.labels.items l.object) 0 l.fields

@@ -9,4 +9,5 @@ pub loop-number-preserved : goal.loop-number-preserved
 loop-number-preserved c =
     numbered_step (drawn_name (scene_seen c.args.scene.now).state.store) c.loop-number.number plain_name
     c.as_slice-names.result.now c.loop-number.number c.index-names-number.result (string_bytes c.loop-number.out)
-    (string_bytes c.push_drawn_name.new.out) _ (omega arith) c.index-names-number.is c.in_ok-push_drawn_name.ensures c.loop-number.invariant
+    (string_bytes c.push_drawn_name.new.out) _ (omega arith) c.index-names-number.is c.in_ok-push_drawn_name.ensures
+    c.loop-number.invariant

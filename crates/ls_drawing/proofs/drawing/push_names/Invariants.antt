@@ -7,5 +7,6 @@ use Rattle.ls_drawing.proofs.drawing.push_names.Given as goal
 
 abbrev pub invariant-loop-number : goal.invariant-loop-number
 invariant-loop-number l =
-    string_bytes l.out ++ numbered (drawn_name (scene_seen l.scene).state.store) l.number (map plain_name (drop l.number l.names))
+    string_bytes l.out ++ numbered (drawn_name (scene_seen l.scene).state.store) l.number
+    (map plain_name (drop l.number l.names))
     ≡ string_bytes l.fn.out ++ numbered (drawn_name (scene_seen l.scene).state.store) 0 (map plain_name l.names)

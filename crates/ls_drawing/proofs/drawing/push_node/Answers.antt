@@ -12,5 +12,6 @@ returns c =
     let label : Text = label_text (object_text (names_in c.args.scene.now) c.args.scene.now.labels.items c.args.object
     ++ rows_text (names_in c.args.scene.now) c.args.scene.now.labels.items c.args.object (thing_of c.args.thing.now)) in
     c.in_ok-push_label.ensures
-    ∙ ap (λ w. w ++ label) (c.in_ok-push_head.ensures ∙ ap (λ f. string_bytes c.args.out.now ++ head_text c.args.object f) c.fill_of-fill.ensures)
+    ∙ ap (λ w. w ++ label) (c.in_ok-push_head.ensures ∙ ap (λ f. string_bytes c.args.out.now ++
+    head_text c.args.object f) c.fill_of-fill.ensures)
     ∙ append_assoc (string_bytes c.args.out.now) (head_text c.args.object (fill_text (thing_of c.args.thing.now))) label

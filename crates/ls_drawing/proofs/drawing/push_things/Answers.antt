@@ -7,6 +7,8 @@ use Rattle.ls_drawing.proofs.drawing.push_things.Goals as goal
 
 pub loop-place-preserved : goal.loop-place-preserved
 loop-place-preserved c =
-    numbered_step (drawn_thing (names_in c.args.scene.now) c.args.scene.now.labels.items) (c.loop-place.place + 1) thing_of
+    numbered_step (drawn_thing (names_in c.args.scene.now) c.args.scene.now.labels.items) (c.loop-place.place + 1)
+    thing_of
     c.things-things.result.now c.loop-place.place c.index-things-place.result (string_bytes c.loop-place.out)
-    (string_bytes c.push_thing.new.out) _ (omega arith) c.index-things-place.is c.in_ok-push_thing.ensures c.loop-place.invariant
+    (string_bytes c.push_thing.new.out) _ (omega arith) c.index-things-place.is c.in_ok-push_thing.ensures
+    c.loop-place.invariant

@@ -1,4 +1,5 @@
-use Rattle.std.proofs.Common.{◌≡◌, ◌+◌, ◌<◌, ◌≤◌, ◌++◌, rules, ap, sym, refl, ◌∙◌, arith, length, take, get_or, string_bytes}
+use Rattle.std.proofs.Common.{◌≡◌, ◌+◌, ◌<◌, ◌≤◌, ◌++◌, rules, ap, sym, refl, ◌∙◌, arith, length, take, get_or}
+use Rattle.std.proofs.Common.{string_bytes}
 use Rattle.std.specs.Prelude.{nat_le}
 use Rattle.std.proofs.lemmas.List.{take_min, take_more}
 use Rattle.ls_labels.specs.Names.{names_of}
@@ -32,7 +33,8 @@ loop-place-preserved c =
       names = named;
       own = c.in_ok-step.ensures.own;
       scene = scene;
-      text = each_more (drawing_after names ts) c.args.from i (nat_le c.args.from (i + 1)) old (string_bytes c.if-from-number.out) refl
+      text = each_more (drawing_after names ts) c.args.from i (nat_le c.args.from (i + 1)) old
+          (string_bytes c.if-from-number.out) refl
           (elim c.if-from-number.branch [
             | then-from-number+in_ok-push_headed w ↦
                 ap string_bytes w.out-is
@@ -54,5 +56,6 @@ returns c =
     let inv = c.loop-place.invariant in
     let past : length ts ≤ c.loop-place.place = search rules in
     let all : c.loop-place.place ≡ length ts = omega (arith, past, inv.within) in
-    let whole : ts ≡ take c.args.to c.args.schedule.now = ap (λ n. take n c.args.schedule.now) c.min.ensures ∙ take_min c.args.to c.args.schedule.now in
+    let whole : ts ≡ take c.args.to c.args.schedule.now = ap (λ n. take n c.args.schedule.now) c.min.ensures ∙
+    take_min c.args.to c.args.schedule.now in
     inv.text ∙ ap (each_from (drawing_after names ts) c.args.from) all ∙ ap (drawings_of names c.args.from) whole

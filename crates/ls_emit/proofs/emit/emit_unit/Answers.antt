@@ -11,5 +11,7 @@ emit_statement-requires-clause-sized c =
     let body = plain_statement c.args.method.now.body in
     let listed : List ℕ = statement_size body ∷ sizes_ahead body [] in
     let is : c.deref.result.now ≡ listed = c.deref.ensures.value ∙ c.in_ok-sizes.ensures in
-    let all : take (length listed - 1) (drop 1 listed) ≡ sizes_ahead body [] = take_all (length listed - 1) (sizes_ahead body []) (omega arith) in
-    subst (λ (l : List ℕ). AreAhead body (take (length l - 1) (drop 1 l))) (sym is) (subst (AreAhead body) (sym all) (listed_ahead body []))
+    let all : take (length listed - 1) (drop 1 listed) ≡ sizes_ahead body [] = take_all (length listed - 1)
+    (sizes_ahead body []) (omega arith) in
+    subst (λ (l : List ℕ). AreAhead body (take (length l - 1) (drop 1 l))) (sym is)
+    (subst (AreAhead body) (sym all) (listed_ahead body []))

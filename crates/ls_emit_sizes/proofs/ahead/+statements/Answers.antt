@@ -16,7 +16,8 @@ put_ahead-put_leavable-requires t c =
     let body = c.deref-in-Leavable.result.now in
     let exits = c.deref-in-Leavable-2.result.now in
     let is : plain_statement c.args.s.now ≡ Leavable (plain_statement body) (statements_of exits) =
-    leavable_plain c.args.s.now c.in-Leavable.body c.in-Leavable.exits body exits c.deref-in-Leavable.ensures c.deref-in-Leavable-2.ensures.value c.in-Leavable.is in
+    leavable_plain c.args.s.now c.in-Leavable.body c.in-Leavable.exits body exits c.deref-in-Leavable.ensures
+    c.deref-in-Leavable-2.ensures.value c.in-Leavable.is in
     (omega (arith, ap weight is, c.decreases), omega (arith, ap statement_size is, c.requires))
 
 pub put_ahead-returns-in-Leavable-clause-size : goal.put_ahead-returns-in-Leavable-clause-size
@@ -24,7 +25,8 @@ put_ahead-returns-in-Leavable-clause-size t c =
     let body = c.deref-in-Leavable.result.now in
     let exits = c.deref-in-Leavable-2.result.now in
     let is : plain_statement c.args.s.now ≡ Leavable (plain_statement body) (statements_of exits) =
-    leavable_plain c.args.s.now c.in-Leavable.body c.in-Leavable.exits body exits c.deref-in-Leavable.ensures c.deref-in-Leavable-2.ensures.value c.in-Leavable.is in
+    leavable_plain c.args.s.now c.in-Leavable.body c.in-Leavable.exits body exits c.deref-in-Leavable.ensures
+    c.deref-in-Leavable-2.ensures.value c.in-Leavable.is in
     let Counts = λ (s : lowered.Statement). IfOk c.put_leavable.result (λ n. n ≡ statement_size s) in
     subst Counts (sym is) c.put_leavable.ensures.size
 
@@ -33,8 +35,10 @@ put_ahead-returns-in-Leavable-clause-ahead t c =
     let body = c.deref-in-Leavable.result.now in
     let exits = c.deref-in-Leavable-2.result.now in
     let is : plain_statement c.args.s.now ≡ Leavable (plain_statement body) (statements_of exits) =
-    leavable_plain c.args.s.now c.in-Leavable.body c.in-Leavable.exits body exits c.deref-in-Leavable.ensures c.deref-in-Leavable-2.ensures.value c.in-Leavable.is in
-    let Lists = λ (s : lowered.Statement). OnOk c.put_leavable.result (reverse c.put_leavable.new.out.items ≡ sizes_ahead s (reverse c.args.out.now.items)) in
+    leavable_plain c.args.s.now c.in-Leavable.body c.in-Leavable.exits body exits c.deref-in-Leavable.ensures
+    c.deref-in-Leavable-2.ensures.value c.in-Leavable.is in
+    let Lists = λ (s : lowered.Statement). OnOk c.put_leavable.result
+    (reverse c.put_leavable.new.out.items ≡ sizes_ahead s (reverse c.args.out.now.items)) in
     subst Lists (sym is) c.put_leavable.ensures.ahead
 
 pub put_block-put_ahead-requires : goal.put_block-put_ahead-requires
@@ -94,5 +98,6 @@ put_exits-overflow_add-count-in-loop-i t c =
     let room = room_before xs i s some inside c.index-exits-i.is in
     let count = c.loop-i.invariant.0 in
     let own : c.in_ok-size.size ≡ statement_size (plain_statement s) = search rules in
-    let sum : c.loop-i.count + (1 + c.in_ok-size.size) ≤ most_instructions = omega (arith, room, count, own, c.requires) in
+    let sum : c.loop-i.count + (1 + c.in_ok-size.size) ≤ most_instructions = omega (arith, room, count, own, c.requires)
+    in
     omega (arith, sum)

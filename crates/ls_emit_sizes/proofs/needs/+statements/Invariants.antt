@@ -8,8 +8,10 @@ use Rattle.ls_emit_sizes.proofs.needs.+statements.Given as goal
 
 abbrev pub invariant-statements_need-loop-s : goal.invariant-statements_need-loop-s
 invariant-statements_need-loop-s l =
-    (max l.most (statements_need (statements_of (drop l.s-index l.statements))) ≡ statements_need (statements_of l.statements))
-    × (l.most + statements_size (statements_of (drop l.s-index l.statements)) ≤ statements_size (statements_of l.statements))
+    (max l.most (statements_need (statements_of (drop l.s-index l.statements))) ≡ statements_need
+    (statements_of l.statements))
+    × (l.most + statements_size (statements_of (drop l.s-index l.statements)) ≤ statements_size
+    (statements_of l.statements))
     × (weights (statements_of (drop l.s-index l.statements)) ≤ weights (statements_of l.statements))
 
 abbrev pub decreases-statement_need : goal.decreases-statement_need

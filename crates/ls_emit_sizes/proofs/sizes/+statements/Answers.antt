@@ -10,5 +10,6 @@ count_statement-returns-in-Leavable t c =
     let body = c.deref-in-Leavable.result.now in
     let exits = c.deref-in-Leavable-2.result.now in
     let is : plain_statement c.args.s.now ≡ Leavable (plain_statement body) (statements_of exits) =
-    leavable_plain c.args.s.now c.in-Leavable.body c.in-Leavable.exits body exits c.deref-in-Leavable.ensures c.deref-in-Leavable-2.ensures.value c.in-Leavable.is in
+    leavable_plain c.args.s.now c.in-Leavable.body c.in-Leavable.exits body exits c.deref-in-Leavable.ensures
+    c.deref-in-Leavable-2.ensures.value c.in-Leavable.is in
     omega (arith, ap statement_size is)

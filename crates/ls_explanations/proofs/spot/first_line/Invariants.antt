@@ -4,7 +4,8 @@ use Rattle.ls_explanations.specs.Spots.{is_feed}
 use Rattle.ls_explanations.proofs.spot.first_line.Given as goal
 
 abbrev pub invariant-loop-end : goal.invariant-loop-end
-invariant-loop-end l = (l.end ≤ length l.bytes) × (position_or_len is_feed l.bytes ≡ l.end + position_or_len is_feed (drop l.end l.bytes))
+invariant-loop-end l = (l.end ≤ length l.bytes) × (position_or_len is_feed l.bytes ≡ l.end + position_or_len is_feed
+    (drop l.end l.bytes))
 
 abbrev pub decreases-loop-end : goal.decreases-loop-end
 decreases-loop-end l = length l.bytes - l.end

@@ -6,7 +6,8 @@ use Rattle.ls_explanations.proofs.spot.last_line.Given as goal
 abbrev pub invariant-loop-start : goal.invariant-loop-start
 invariant-loop-start l =
     (l.start ≤ length l.bytes)
-    × (l.start + suffix_len (λ b. not (is_feed b)) l.bytes ≡ length l.bytes + suffix_len (λ b. not (is_feed b)) (take l.start l.bytes))
+    × (l.start + suffix_len (λ b. not (is_feed b)) l.bytes ≡ length l.bytes + suffix_len (λ b. not (is_feed b))
+    (take l.start l.bytes))
 
 abbrev pub decreases-loop-start : goal.decreases-loop-start
 decreases-loop-start l = l.start

@@ -14,32 +14,46 @@ use Rattle.ls_explore.proofs.exploring.explore.Goals as goal
 
 -- the machine after the setup, before and after the search
 module _ (m m' : Machine) (setup : List ℕ) (code : m'.code ≡ m.code) (cells : m'.cells.limit ≡ m.cells.limit) where
-  pub closed_there : (n threads : ℕ) (paths : List (List ℕ)) → IsClosed n threads (led_to n (root_of m setup) paths) → IsClosed n threads (led_to n (root_of m' setup) paths)
-  closed_there n threads paths h = subst (λ r. IsClosed n threads (led_to n r paths)) (sym (root_same m m' setup code cells)) h
+  pub closed_there : (n threads : ℕ) (paths : List (List ℕ)) →
+      IsClosed n threads (led_to n (root_of m setup) paths) →
+      IsClosed n threads (led_to n (root_of m' setup) paths)
+  closed_there n threads paths h = subst (λ r. IsClosed n threads (led_to n r paths))
+      (sym (root_same m m' setup code cells)) h
 
-  pub sound_there : (n threads : ℕ) (paths : List (List ℕ)) (seen : List Seen) → IsSound n threads (root_of m setup) paths seen → IsSound n threads (root_of m' setup) paths seen
-  sound_there n threads paths seen h = subst (λ r. IsSound n threads r paths seen) (sym (root_same m m' setup code cells)) h
+  pub sound_there : (n threads : ℕ) (paths : List (List ℕ)) (seen : List Seen) →
+      IsSound n threads (root_of m setup) paths seen →
+      IsSound n threads (root_of m' setup) paths seen
+  sound_there n threads paths seen h = subst (λ r. IsSound n threads r paths seen)
+      (sym (root_same m m' setup code cells)) h
 
 pub tell-requires-clause-sound : goal.tell-requires-clause-sound
 tell-requires-clause-sound c =
-    sound_there c.in_ok-walker.walker c.search.new.walker c.args.setup.now c.search.ensures.code c.search.ensures.cells c.most_steps.result c.args.threads (paths_of c.in_ok-found.found.paths.items) c.in_ok-found.found.seen.items c.in_ok-found.ensures.sound
+    sound_there c.in_ok-walker.walker c.search.new.walker c.args.setup.now c.search.ensures.code c.search.ensures.cells
+    c.most_steps.result c.args.threads (paths_of c.in_ok-found.found.paths.items) c.in_ok-found.found.seen.items
+    c.in_ok-found.ensures.sound
 
 pub tell-requires-clause-saves : goal.tell-requires-clause-saves
 tell-requires-clause-saves c =
-    subst (λ r. AreSaved c.most_steps.result r (paths_of c.in_ok-found.found.paths.items) c.in_ok-found.found.saved.items)
-    (sym (root_same c.in_ok-walker.walker c.search.new.walker c.args.setup.now c.search.ensures.code c.search.ensures.cells)) c.in_ok-found.ensures.saves
+    subst (λ r. AreSaved c.most_steps.result r (paths_of c.in_ok-found.found.paths.items)
+    c.in_ok-found.found.saved.items)
+    (sym (root_same c.in_ok-walker.walker c.search.new.walker c.args.setup.now c.search.ensures.code
+    c.search.ensures.cells)) c.in_ok-found.ensures.saves
 
 pub returns-clause-told : goal.returns-clause-told
 returns-clause-told c =
     let setup : List ℕ = c.args.setup.now in
-    let er = root_same c.in_ok-walker.walker c.search.new.walker setup c.search.ensures.code c.search.ensures.cells ∙ ap (λ (m : Machine). root_of m setup) c.in_ok-walker.ensures.loaded in
-    tells_truth c.args.code.now c.args.cells setup c.args.threads c.most_steps.result (root_of c.search.new.walker setup) c.in_ok-rows.rows.items c.most_steps.ensures er c.in_ok-rows.ensures.told
+    let er = root_same c.in_ok-walker.walker c.search.new.walker setup c.search.ensures.code c.search.ensures.cells ∙
+    ap (λ (m : Machine). root_of m setup) c.in_ok-walker.ensures.loaded in
+    tells_truth c.args.code.now c.args.cells setup c.args.threads c.most_steps.result
+    (root_of c.search.new.walker setup) c.in_ok-rows.rows.items c.most_steps.ensures er c.in_ok-rows.ensures.told
 
 pub returns-clause-over : goal.returns-clause-over
 returns-clause-over c =
     let setup : List ℕ = c.args.setup.now in
-    let er = root_same c.in_ok-walker.walker c.search.new.walker setup c.search.ensures.code c.search.ensures.cells ∙ ap (λ (m : Machine). root_of m setup) c.in_ok-walker.ensures.loaded in
-    tells_over c.args.code.now c.args.cells setup c.args.threads c.most_steps.result (root_of c.search.new.walker setup) c.in_ok-rows.rows.items c.most_steps.ensures er c.in_ok-rows.ensures.told
+    let er = root_same c.in_ok-walker.walker c.search.new.walker setup c.search.ensures.code c.search.ensures.cells ∙
+    ap (λ (m : Machine). root_of m setup) c.in_ok-walker.ensures.loaded in
+    tells_over c.args.code.now c.args.cells setup c.args.threads c.most_steps.result (root_of c.search.new.walker setup)
+    c.in_ok-rows.rows.items c.most_steps.ensures er c.in_ok-rows.ensures.told
 
 pub returns-clause-tells : goal.returns-clause-tells
 returns-clause-tells c = λ yes.
@@ -47,12 +61,18 @@ returns-clause-tells c = λ yes.
     let n : ℕ = c.most_steps.result in
     let root : Machine = root_of c.search.new.walker setup in
     let paths : List (List ℕ) = paths_of c.in_ok-found.found.paths.items in
-    let er = root_same c.in_ok-walker.walker c.search.new.walker setup c.search.ensures.code c.search.ensures.cells ∙ ap (λ (m : Machine). root_of m setup) c.in_ok-walker.ensures.loaded in
-    let sound = sound_there c.in_ok-walker.walker c.search.new.walker setup c.search.ensures.code c.search.ensures.cells n c.args.threads paths c.in_ok-found.found.seen.items c.in_ok-found.ensures.sound in
-    let closed = closed_there c.in_ok-walker.walker c.search.new.walker setup c.search.ensures.code c.search.ensures.cells n c.args.threads paths (c.in_ok-found.ensures.closed yes) in
-    let first : Contains (led_to n root paths) root = first_there n c.args.threads root paths sound.first (walked_none n root) in
-    let past : length paths ≤ length c.in_ok-found.found.paths.items = omega (arith, length-map c.in_ok-found.found.paths.items (λ (w : Vec ℕ Global). w.items)) in
-    tells_all c.args.code.now c.args.cells setup c.args.threads n root c.in_ok-rows.rows.items c.most_steps.ensures er paths first closed (length c.in_ok-found.found.paths.items) past c.in_ok-rows.ensures.begun
+    let er = root_same c.in_ok-walker.walker c.search.new.walker setup c.search.ensures.code c.search.ensures.cells ∙
+    ap (λ (m : Machine). root_of m setup) c.in_ok-walker.ensures.loaded in
+    let sound = sound_there c.in_ok-walker.walker c.search.new.walker setup c.search.ensures.code c.search.ensures.cells
+    n c.args.threads paths c.in_ok-found.found.seen.items c.in_ok-found.ensures.sound in
+    let closed = closed_there c.in_ok-walker.walker c.search.new.walker setup c.search.ensures.code
+    c.search.ensures.cells n c.args.threads paths (c.in_ok-found.ensures.closed yes) in
+    let first : Contains (led_to n root paths) root = first_there n c.args.threads root paths sound.first
+    (walked_none n root) in
+    let past : length paths ≤ length c.in_ok-found.found.paths.items = omega
+    (arith, length-map c.in_ok-found.found.paths.items (λ (w : Vec ℕ Global). w.items)) in
+    tells_all c.args.code.now c.args.cells setup c.args.threads n root c.in_ok-rows.rows.items c.most_steps.ensures er
+    paths first closed (length c.in_ok-found.found.paths.items) past c.in_ok-rows.ensures.begun
 
 pub returns-clause-ends : goal.returns-clause-ends
 returns-clause-ends c = λ yes.
@@ -61,11 +81,16 @@ returns-clause-ends c = λ yes.
     let root : Machine = root_of c.search.new.walker setup in
     let paths : List (List ℕ) = paths_of c.in_ok-found.found.paths.items in
     let seen = c.in_ok-found.found.seen.items in
-    let er = root_same c.in_ok-walker.walker c.search.new.walker setup c.search.ensures.code c.search.ensures.cells ∙ ap (λ (m : Machine). root_of m setup) c.in_ok-walker.ensures.loaded in
-    let sound = sound_there c.in_ok-walker.walker c.search.new.walker setup c.search.ensures.code c.search.ensures.cells n c.args.threads paths seen c.in_ok-found.ensures.sound in
-    let closed = closed_there c.in_ok-walker.walker c.search.new.walker setup c.search.ensures.code c.search.ensures.cells n c.args.threads paths (c.in_ok-found.ensures.closed yes) in
-    let first : Contains (led_to n root paths) root = first_there n c.args.threads root paths sound.first (walked_none n root) in
-    tells_ends c.args.code.now c.args.cells setup c.args.threads n root c.in_ok-rows.rows.items c.most_steps.ensures er paths first closed seen (c.in_ok-found.ensures.count yes) sound c.in_ok-rows.ensures.ends
+    let er = root_same c.in_ok-walker.walker c.search.new.walker setup c.search.ensures.code c.search.ensures.cells ∙
+    ap (λ (m : Machine). root_of m setup) c.in_ok-walker.ensures.loaded in
+    let sound = sound_there c.in_ok-walker.walker c.search.new.walker setup c.search.ensures.code c.search.ensures.cells
+    n c.args.threads paths seen c.in_ok-found.ensures.sound in
+    let closed = closed_there c.in_ok-walker.walker c.search.new.walker setup c.search.ensures.code
+    c.search.ensures.cells n c.args.threads paths (c.in_ok-found.ensures.closed yes) in
+    let first : Contains (led_to n root paths) root = first_there n c.args.threads root paths sound.first
+    (walked_none n root) in
+    tells_ends c.args.code.now c.args.cells setup c.args.threads n root c.in_ok-rows.rows.items c.most_steps.ensures er
+    paths first closed seen (c.in_ok-found.ensures.count yes) sound c.in_ok-rows.ensures.ends
 
 pub returns-clause-whole : goal.returns-clause-whole
 returns-clause-whole c = λ yes room.
@@ -74,13 +99,20 @@ returns-clause-whole c = λ yes room.
     let root : Machine = root_of c.search.new.walker setup in
     let paths : List (List ℕ) = paths_of c.in_ok-found.found.paths.items in
     let seen = c.in_ok-found.found.seen.items in
-    let er = root_same c.in_ok-walker.walker c.search.new.walker setup c.search.ensures.code c.search.ensures.cells ∙ ap (λ (m : Machine). root_of m setup) c.in_ok-walker.ensures.loaded in
-    let sound = sound_there c.in_ok-walker.walker c.search.new.walker setup c.search.ensures.code c.search.ensures.cells n c.args.threads paths seen c.in_ok-found.ensures.sound in
-    let closed = closed_there c.in_ok-walker.walker c.search.new.walker setup c.search.ensures.code c.search.ensures.cells n c.args.threads paths (c.in_ok-found.ensures.closed yes) in
-    let first : Contains (led_to n root paths) root = first_there n c.args.threads root paths sound.first (walked_none n root) in
-    let past : length paths ≤ length c.in_ok-found.found.paths.items = omega (arith, length-map c.in_ok-found.found.paths.items (λ (w : Vec ℕ Global). w.items)) in
-    tells_whole c.args.code.now c.args.cells setup c.args.threads n root c.in_ok-rows.rows.items c.most_steps.ensures er paths first closed seen (c.in_ok-found.ensures.count yes) sound
-    (subst (λ s. All (λ (x : Seen). x.stops ≡ false) s) c.as_slice.ensures.value (c.are_roomy.ensures room)) c.in_ok-rows.ensures.ends (length c.in_ok-found.found.paths.items) past c.in_ok-rows.ensures.begun
+    let er = root_same c.in_ok-walker.walker c.search.new.walker setup c.search.ensures.code c.search.ensures.cells ∙
+    ap (λ (m : Machine). root_of m setup) c.in_ok-walker.ensures.loaded in
+    let sound = sound_there c.in_ok-walker.walker c.search.new.walker setup c.search.ensures.code c.search.ensures.cells
+    n c.args.threads paths seen c.in_ok-found.ensures.sound in
+    let closed = closed_there c.in_ok-walker.walker c.search.new.walker setup c.search.ensures.code
+    c.search.ensures.cells n c.args.threads paths (c.in_ok-found.ensures.closed yes) in
+    let first : Contains (led_to n root paths) root = first_there n c.args.threads root paths sound.first
+    (walked_none n root) in
+    let past : length paths ≤ length c.in_ok-found.found.paths.items = omega
+    (arith, length-map c.in_ok-found.found.paths.items (λ (w : Vec ℕ Global). w.items)) in
+    tells_whole c.args.code.now c.args.cells setup c.args.threads n root c.in_ok-rows.rows.items c.most_steps.ensures er
+    paths first closed seen (c.in_ok-found.ensures.count yes) sound
+    (subst (λ s. All (λ (x : Seen). x.stops ≡ false) s) c.as_slice.ensures.value (c.are_roomy.ensures room))
+    c.in_ok-rows.ensures.ends (length c.in_ok-found.found.paths.items) past c.in_ok-rows.ensures.begun
 
 pub returns-clause-found : goal.returns-clause-found
 returns-clause-found c =
@@ -88,9 +120,14 @@ returns-clause-found c =
     let n : ℕ = c.most_steps.result in
     let paths : List (List ℕ) = paths_of c.in_ok-found.found.paths.items in
     let seen = c.in_ok-found.found.seen.items in
-    let er = root_same c.in_ok-walker.walker c.search.new.walker setup c.search.ensures.code c.search.ensures.cells ∙ ap (λ (m : Machine). root_of m setup) c.in_ok-walker.ensures.loaded in
-    let sound = sound_there c.in_ok-walker.walker c.search.new.walker setup c.search.ensures.code c.search.ensures.cells n c.args.threads paths seen c.in_ok-found.ensures.sound in
-    let count : length paths ≡ length c.in_ok-found.found.paths.items = length-map c.in_ok-found.found.paths.items (λ (w : Vec ℕ Global). w.items) in
+    let er = root_same c.in_ok-walker.walker c.search.new.walker setup c.search.ensures.code c.search.ensures.cells ∙
+    ap (λ (m : Machine). root_of m setup) c.in_ok-walker.ensures.loaded in
+    let sound = sound_there c.in_ok-walker.walker c.search.new.walker setup c.search.ensures.code c.search.ensures.cells
+    n c.args.threads paths seen c.in_ok-found.ensures.sound in
+    let count : length paths ≡ length c.in_ok-found.found.paths.items = length-map c.in_ok-found.found.paths.items
+    (λ (w : Vec ℕ Global). w.items) in
     let past : length paths ≤ length c.in_ok-found.found.paths.items = omega (arith, count) in
     let many : length paths ≡ c.len.result = omega (arith, count) in
-    tells_states c.args.code.now c.args.cells setup c.args.threads n (root_of c.search.new.walker setup) c.in_ok-rows.rows.items c.most_steps.ensures er paths seen c.len.result (length c.in_ok-found.found.paths.items) many c.in_ok-found.ensures.once sound past c.in_ok-rows.ensures.begun
+    tells_states c.args.code.now c.args.cells setup c.args.threads n (root_of c.search.new.walker setup)
+    c.in_ok-rows.rows.items c.most_steps.ensures er paths seen c.len.result (length c.in_ok-found.found.paths.items)
+    many c.in_ok-found.ensures.once sound past c.in_ok-rows.ensures.begun

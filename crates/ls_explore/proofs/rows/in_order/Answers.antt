@@ -7,4 +7,5 @@ use Rattle.ls_explore.proofs.rows.in_order.Goals as goal
 
 pub returns-clause-order : goal.returns-clause-order
 returns-clause-order c =
-    c.sort_unstable_by.ensures.sorted (λ r s. is_lt (row_order r s)) (ranks_by order_total (λ (r : Told). r)) (answers_always _ _ _ (λ f a r g h. search rules))
+    c.sort_unstable_by.ensures.sorted (λ r s. is_lt (row_order r s)) (ranks_by order_total (λ (r : Told). r))
+    (answers_always _ _ _ (λ f a r g h. search rules))

@@ -8,7 +8,9 @@ abbrev pub invariant-loop-at : goal.invariant-loop-at
 invariant-loop-at l =
     AreKept l.fn.walker l.fn.other l.walker l.other
     × (length l.nodes.seen.items ≡ l.at)
-    × IsSound l.ground.most l.ground.threads (root_of l.fn.walker l.ground.setup.now) (paths_of l.nodes.paths.items) l.nodes.seen.items
-    × IsClosedTo l.ground.most l.ground.threads (root_of l.fn.walker l.ground.setup.now) (paths_of l.nodes.paths.items) l.at 0
+    × IsSound l.ground.most l.ground.threads (root_of l.fn.walker l.ground.setup.now) (paths_of l.nodes.paths.items)
+    l.nodes.seen.items
+    × IsClosedTo l.ground.most l.ground.threads (root_of l.fn.walker l.ground.setup.now) (paths_of l.nodes.paths.items)
+    l.at 0
     × AreSaved l.ground.most (root_of l.fn.walker l.ground.setup.now) (paths_of l.nodes.paths.items) l.nodes.saved.items
     × AreDistinct (paths_of l.nodes.paths.items) l.at 0

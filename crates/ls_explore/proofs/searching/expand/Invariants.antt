@@ -8,6 +8,7 @@ abbrev pub invariant-loop-thread : goal.invariant-loop-thread
 invariant-loop-thread l =
     AreKept l.fn.walker l.fn.other l.walker l.other
     × (l.nodes.seen.items ≡ l.fn.nodes.seen.items)
-    × IsOn l.ground.most l.ground.threads (root_of l.fn.walker l.ground.setup.now) (paths_of l.nodes.paths.items) l.nodes.seen.items l.at l.thread l.seen
+    × IsOn l.ground.most l.ground.threads (root_of l.fn.walker l.ground.setup.now) (paths_of l.nodes.paths.items)
+    l.nodes.seen.items l.at l.thread l.seen
     × AreSaved l.ground.most (root_of l.fn.walker l.ground.setup.now) (paths_of l.nodes.paths.items) l.nodes.saved.items
     × AreDistinct (paths_of l.nodes.paths.items) l.at l.thread

@@ -13,7 +13,8 @@ some_is h = cc
 
 pub returns-then-not-is_end-clause-has : goal.returns-then-not-is_end-clause-has
 returns-then-not-is_end-clause-has c = λ path s there here stands.
-    absurd (c.is_end.ensures.none c.if-not-is_end.true (subst IsEnd (sym (c.ending_of-ending.ensures ∙ ap ending_of (c.seen_at.ensures ∙ here))) (is_end s stands)))
+    absurd (c.is_end.ensures.none c.if-not-is_end.true (subst IsEnd
+    (sym (c.ending_of-ending.ensures ∙ ap ending_of (c.seen_at.ensures ∙ here))) (is_end s stands)))
 
 pub returns-clause-told : goal.returns-clause-told
 returns-clause-told c = λ all.
@@ -21,29 +22,43 @@ returns-clause-told c = λ all.
     let threads : ℕ = c.args.ground.now.threads in
     let root : Machine = root_of c.args.walker.now c.args.ground.now.setup.now in
     let path : List ℕ = c.as_slice-path.result.now in
-    let here : slice_get (paths_of c.args.found.now.paths.items) c.args.at ≡ Some path = path_is c.args.found.now.paths.items c.args.at c.index.result.now path c.requires.at c.index.ensures c.as_slice-path.ensures.value in
-    let is : c.history.result.now ≡ (walked most root path).history = c.history.ensures ∙ ap (λ (m : Machine). m.history) c.stand.ensures.at in
-    c.in_ok-add.ensures.told most threads root all (told_row most threads root (paths_of c.args.found.now.paths.items) c.args.found.now.seen.items c.args.at path c.history.result.now c.ending_of-ending.result c.requires.sound here is (c.ending_of-ending.ensures ∙ ap ending_of c.seen_at.ensures))
+    let here : slice_get (paths_of c.args.found.now.paths.items) c.args.at ≡ Some path = path_is
+    c.args.found.now.paths.items c.args.at c.index.result.now path c.requires.at c.index.ensures
+    c.as_slice-path.ensures.value in
+    let is : c.history.result.now ≡ (walked most root path).history = c.history.ensures ∙
+    ap (λ (m : Machine). m.history) c.stand.ensures.at in
+    c.in_ok-add.ensures.told most threads root all (told_row most threads root (paths_of c.args.found.now.paths.items)
+    c.args.found.now.seen.items c.args.at path c.history.result.now c.ending_of-ending.result c.requires.sound here
+    is (c.ending_of-ending.ensures ∙ ap ending_of c.seen_at.ensures))
 
 pub returns-clause-has : goal.returns-clause-has
 returns-clause-has c = λ p s there seen_there stands.
     let most : ℕ = c.args.ground.now.most in
     let root : Machine = root_of c.args.walker.now c.args.ground.now.setup.now in
     let path : List ℕ = c.as_slice-path.result.now in
-    let here : slice_get (paths_of c.args.found.now.paths.items) c.args.at ≡ Some path = path_is c.args.found.now.paths.items c.args.at c.index.result.now path c.requires.at c.index.ensures c.as_slice-path.ensures.value in
-    let is : c.history.result.now ≡ (walked most root path).history = c.history.ensures ∙ ap (λ (m : Machine). m.history) c.stand.ensures.at in
-    subst (λ q. HasRow c.add.new.self.rows.items (walked most root q).history) (some_is (sym here ∙ there)) (subst (HasRow c.add.new.self.rows.items) is c.in_ok-add.ensures.has)
+    let here : slice_get (paths_of c.args.found.now.paths.items) c.args.at ≡ Some path = path_is
+    c.args.found.now.paths.items c.args.at c.index.result.now path c.requires.at c.index.ensures
+    c.as_slice-path.ensures.value in
+    let is : c.history.result.now ≡ (walked most root path).history = c.history.ensures ∙
+    ap (λ (m : Machine). m.history) c.stand.ensures.at in
+    subst (λ q. HasRow c.add.new.self.rows.items (walked most root q).history) (some_is (sym here ∙ there))
+    (subst (HasRow c.add.new.self.rows.items) is c.in_ok-add.ensures.has)
 
 pub returns-clause-ends : goal.returns-clause-ends
 returns-clause-ends c = λ all. c.in_ok-add.ensures.ends all (c.is_end.ensures.is c.if-not-is_end.false)
 
 pub index-requires-2 : goal.index-requires-2
 index-requires-2 c =
-    let within = saves_within c.args.ground.now.most (root_of c.args.walker.now c.args.ground.now.setup.now) c.args.found.now.paths.items c.args.found.now.saved.items c.args.at c.requires.saves c.requires.at in
+    let within = saves_within c.args.ground.now.most (root_of c.args.walker.now c.args.ground.now.setup.now)
+    c.args.found.now.paths.items c.args.found.now.saved.items c.args.at c.requires.saves c.requires.at in
     omega (arith, within, c.args.found.now.saved.ok.0)
 
 pub stand-requires : goal.stand-requires
 stand-requires c =
     let path : List ℕ = c.as_slice-path.result.now in
-    let here : slice_get (paths_of c.args.found.now.paths.items) c.args.at ≡ Some path = path_is c.args.found.now.paths.items c.args.at c.index.result.now path c.requires.at c.index.ensures c.as_slice-path.ensures.value in
-    saved_there c.args.ground.now.most (root_of c.args.walker.now c.args.ground.now.setup.now) c.args.found.now.paths.items c.args.found.now.saved.items c.args.at path c.index-2.result.now c.requires.saves c.requires.at here c.index-2.ensures
+    let here : slice_get (paths_of c.args.found.now.paths.items) c.args.at ≡ Some path = path_is
+    c.args.found.now.paths.items c.args.at c.index.result.now path c.requires.at c.index.ensures
+    c.as_slice-path.ensures.value in
+    saved_there c.args.ground.now.most (root_of c.args.walker.now c.args.ground.now.setup.now)
+    c.args.found.now.paths.items c.args.found.now.saved.items c.args.at path c.index-2.result.now c.requires.saves
+    c.requires.at here c.index-2.ensures

@@ -9,7 +9,8 @@ abbrev pub invariant-loop-at : goal.invariant-loop-at
 invariant-loop-at l =
     All (IsTold l.ground.most l.ground.threads (root_of l.fn.walker l.ground.setup.now)) l.table.rows.items
     × AllEnd l.table.rows.items
-    × HaveEnds l.ground.most (root_of l.fn.walker l.ground.setup.now) (paths_of l.found.paths.items) l.found.seen.items l.at l.table.rows.items
+    × HaveEnds l.ground.most (root_of l.fn.walker l.ground.setup.now) (paths_of l.found.paths.items) l.found.seen.items
+    l.at l.table.rows.items
     × (l.walker.code ≡ l.fn.walker.code)
     × (l.walker.cells.limit ≡ l.fn.walker.cells.limit)
     × AreApart l.table.rows.items

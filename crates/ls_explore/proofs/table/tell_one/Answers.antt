@@ -16,9 +16,13 @@ returns-then-begins-clause-begun c = λ p there.
     let most : ℕ = c.args.ground.now.most in
     let root : Machine = root_of c.args.walker.now c.args.ground.now.setup.now in
     let path : List ℕ = c.as_slice-path.result.now in
-    let here : slice_get (paths_of c.args.found.now.paths.items) c.args.at ≡ Some path = path_is c.args.found.now.paths.items c.args.at c.index.result.now path c.requires.at c.index.ensures c.as_slice-path.ensures.value in
-    let is : c.history.result.now ≡ (walked most root path).history = c.history.ensures ∙ ap (λ (m : Machine). m.history) c.stand.ensures.at in
-    subst (λ q. IsToldBy c.args.table.now.rows.items (walked most root q).history) (some_is (sym here ∙ there)) (subst (IsToldBy c.args.table.now.rows.items) is (c.begins.ensures c.if-begins.true))
+    let here : slice_get (paths_of c.args.found.now.paths.items) c.args.at ≡ Some path = path_is
+    c.args.found.now.paths.items c.args.at c.index.result.now path c.requires.at c.index.ensures
+    c.as_slice-path.ensures.value in
+    let is : c.history.result.now ≡ (walked most root path).history = c.history.ensures ∙
+    ap (λ (m : Machine). m.history) c.stand.ensures.at in
+    subst (λ q. IsToldBy c.args.table.now.rows.items (walked most root q).history) (some_is (sym here ∙ there))
+    (subst (IsToldBy c.args.table.now.rows.items) is (c.begins.ensures c.if-begins.true))
 
 pub returns-clause-told : goal.returns-clause-told
 returns-clause-told c = λ all.
@@ -26,26 +30,41 @@ returns-clause-told c = λ all.
     let threads : ℕ = c.args.ground.now.threads in
     let root : Machine = root_of c.args.walker.now c.args.ground.now.setup.now in
     let path : List ℕ = c.as_slice-path.result.now in
-    let here : slice_get (paths_of c.args.found.now.paths.items) c.args.at ≡ Some path = path_is c.args.found.now.paths.items c.args.at c.index.result.now path c.requires.at c.index.ensures c.as_slice-path.ensures.value in
-    let is : c.history-2.result.now ≡ (walked most root path).history = c.history-2.ensures ∙ ap (λ (m : Machine). m.history) c.stand.ensures.at in
-    c.in_ok-add.ensures.told most threads root all (told_row most threads root (paths_of c.args.found.now.paths.items) c.args.found.now.seen.items c.args.at path c.history-2.result.now c.ending_of-ending.result c.requires.sound here is (c.ending_of-ending.ensures ∙ ap ending_of c.seen_at.ensures))
+    let here : slice_get (paths_of c.args.found.now.paths.items) c.args.at ≡ Some path = path_is
+    c.args.found.now.paths.items c.args.at c.index.result.now path c.requires.at c.index.ensures
+    c.as_slice-path.ensures.value in
+    let is : c.history-2.result.now ≡ (walked most root path).history = c.history-2.ensures ∙
+    ap (λ (m : Machine). m.history) c.stand.ensures.at in
+    c.in_ok-add.ensures.told most threads root all (told_row most threads root (paths_of c.args.found.now.paths.items)
+    c.args.found.now.seen.items c.args.at path c.history-2.result.now c.ending_of-ending.result c.requires.sound
+    here is (c.ending_of-ending.ensures ∙ ap ending_of c.seen_at.ensures))
 
 pub returns-clause-begun : goal.returns-clause-begun
 returns-clause-begun c = λ p there.
     let most : ℕ = c.args.ground.now.most in
     let root : Machine = root_of c.args.walker.now c.args.ground.now.setup.now in
     let path : List ℕ = c.as_slice-path.result.now in
-    let here : slice_get (paths_of c.args.found.now.paths.items) c.args.at ≡ Some path = path_is c.args.found.now.paths.items c.args.at c.index.result.now path c.requires.at c.index.ensures c.as_slice-path.ensures.value in
-    let is : c.history-2.result.now ≡ (walked most root path).history = c.history-2.ensures ∙ ap (λ (m : Machine). m.history) c.stand.ensures.at in
-    subst (λ q. IsToldBy c.add.new.self.rows.items (walked most root q).history) (some_is (sym here ∙ there)) (has_told c.add.new.self.rows.items (walked most root path).history (subst (HasRow c.add.new.self.rows.items) is c.in_ok-add.ensures.has))
+    let here : slice_get (paths_of c.args.found.now.paths.items) c.args.at ≡ Some path = path_is
+    c.args.found.now.paths.items c.args.at c.index.result.now path c.requires.at c.index.ensures
+    c.as_slice-path.ensures.value in
+    let is : c.history-2.result.now ≡ (walked most root path).history = c.history-2.ensures ∙
+    ap (λ (m : Machine). m.history) c.stand.ensures.at in
+    subst (λ q. IsToldBy c.add.new.self.rows.items (walked most root q).history) (some_is (sym here ∙ there))
+    (has_told c.add.new.self.rows.items (walked most root path).history
+    (subst (HasRow c.add.new.self.rows.items) is c.in_ok-add.ensures.has))
 
 pub index-requires-2 : goal.index-requires-2
 index-requires-2 c =
-    let within = saves_within c.args.ground.now.most (root_of c.args.walker.now c.args.ground.now.setup.now) c.args.found.now.paths.items c.args.found.now.saved.items c.args.at c.requires.saves c.requires.at in
+    let within = saves_within c.args.ground.now.most (root_of c.args.walker.now c.args.ground.now.setup.now)
+    c.args.found.now.paths.items c.args.found.now.saved.items c.args.at c.requires.saves c.requires.at in
     omega (arith, within, c.args.found.now.saved.ok.0)
 
 pub stand-requires : goal.stand-requires
 stand-requires c =
     let path : List ℕ = c.as_slice-path.result.now in
-    let here : slice_get (paths_of c.args.found.now.paths.items) c.args.at ≡ Some path = path_is c.args.found.now.paths.items c.args.at c.index.result.now path c.requires.at c.index.ensures c.as_slice-path.ensures.value in
-    saved_there c.args.ground.now.most (root_of c.args.walker.now c.args.ground.now.setup.now) c.args.found.now.paths.items c.args.found.now.saved.items c.args.at path c.index-2.result.now c.requires.saves c.requires.at here c.index-2.ensures
+    let here : slice_get (paths_of c.args.found.now.paths.items) c.args.at ≡ Some path = path_is
+    c.args.found.now.paths.items c.args.at c.index.result.now path c.requires.at c.index.ensures
+    c.as_slice-path.ensures.value in
+    saved_there c.args.ground.now.most (root_of c.args.walker.now c.args.ground.now.setup.now)
+    c.args.found.now.paths.items c.args.found.now.saved.items c.args.at path c.index-2.result.now c.requires.saves
+    c.requires.at here c.index-2.ensures

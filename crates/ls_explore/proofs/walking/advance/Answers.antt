@@ -7,7 +7,8 @@ use Rattle.ls_explore.proofs.Walks.{tried_keeps}
 use Rattle.ls_explore.proofs.walking.advance.Goals as goal
 
 pub returns-clause-machine : goal.returns-clause-machine
-returns-clause-machine c = c.try_thread.ensures.machine ∙ ap (λ m. (tried c.args.count m c.args.thread).machine) c.stand.ensures.at
+returns-clause-machine c = c.try_thread.ensures.machine ∙ ap (λ m. (tried c.args.count m c.args.thread).machine)
+    c.stand.ensures.at
 
 pub returns-clause-did : goal.returns-clause-did
 returns-clause-did c = c.try_thread.ensures.did ∙ ap (λ m. (tried c.args.count m c.args.thread).did) c.stand.ensures.at
@@ -15,8 +16,10 @@ returns-clause-did c = c.try_thread.ensures.did ∙ ap (λ m. (tried c.args.coun
 pub returns-clause-code : goal.returns-clause-code
 returns-clause-code c =
     let code : Machine → Code = λ m. m.code in
-    ap code c.try_thread.ensures.machine ∙ (tried_keeps runs_keep c.args.count c.stand.new.machine c.args.thread).0 ∙ c.stand.ensures.code
+    ap code c.try_thread.ensures.machine ∙ (tried_keeps runs_keep c.args.count c.stand.new.machine c.args.thread).0 ∙
+    c.stand.ensures.code
 
 pub returns-clause-cells : goal.returns-clause-cells
 returns-clause-cells c =
-    ap (λ (m : Machine). m.cells.limit) c.try_thread.ensures.machine ∙ (tried_keeps runs_keep c.args.count c.stand.new.machine c.args.thread).1 ∙ c.stand.ensures.cells
+    ap (λ (m : Machine). m.cells.limit) c.try_thread.ensures.machine ∙
+    (tried_keeps runs_keep c.args.count c.stand.new.machine c.args.thread).1 ∙ c.stand.ensures.cells

@@ -8,10 +8,14 @@ pub returns-clause-code : goal.returns-clause-code
 returns-clause-code c =
     let code : Machine → Code = λ m. m.code in
     let keep = c.runs_keep.ensures in
-    ap code c.walk.ensures ∙ ((walked_keeps keep c.args.ground.now.most c.run.new.self c.args.path.now).0 ∙ (ap code c.run.ensures ∙ ((keep c.set_back.new.self c.args.ground.now.setup.now).0 ∙ ap code c.set_back.ensures)))
+    ap code c.walk.ensures ∙ ((walked_keeps keep c.args.ground.now.most c.run.new.self c.args.path.now).0 ∙
+    (ap code c.run.ensures ∙ ((keep c.set_back.new.self c.args.ground.now.setup.now).0 ∙
+    ap code c.set_back.ensures)))
 
 pub returns-clause-cells : goal.returns-clause-cells
 returns-clause-cells c =
     let limit = λ (m : Machine). m.cells.limit in
     let keep = c.runs_keep.ensures in
-    ap limit c.walk.ensures ∙ ((walked_keeps keep c.args.ground.now.most c.run.new.self c.args.path.now).1 ∙ (ap limit c.run.ensures ∙ ((keep c.set_back.new.self c.args.ground.now.setup.now).1 ∙ ap limit c.set_back.ensures)))
+    ap limit c.walk.ensures ∙ ((walked_keeps keep c.args.ground.now.most c.run.new.self c.args.path.now).1 ∙
+    (ap limit c.run.ensures ∙ ((keep c.set_back.new.self c.args.ground.now.setup.now).1 ∙
+    ap limit c.set_back.ensures)))

@@ -11,10 +11,14 @@ pub returns-then-set_as-clause-at : goal.returns-then-set_as-clause-at
 returns-then-set_as-clause-at c =
     let old : Machine = c.args.machine.now in
     let setup : List ℕ = c.args.ground.now.setup.now in
-    let code = (walked_keeps runs_keep c.args.ground.now.most (root_of old setup) c.args.place.now.path.now).0 ∙ (runs_keep (loaded old.code old.cells.limit) setup).0 in
-    stood old c.set_as.new.self (walked c.args.ground.now.most (root_of old setup) c.args.place.now.path.now) c.args.place.now.saved.now (c.set_as.ensures.same c.if-set_as.true) c.requires (sym code)
+    let code = (walked_keeps runs_keep c.args.ground.now.most (root_of old setup) c.args.place.now.path.now).0 ∙
+    (runs_keep (loaded old.code old.cells.limit) setup).0 in
+    stood old c.set_as.new.self (walked c.args.ground.now.most (root_of old setup) c.args.place.now.path.now)
+    c.args.place.now.saved.now (c.set_as.ensures.same c.if-set_as.true) c.requires (sym code)
 
 pub returns-clause-at : goal.returns-clause-at
 returns-clause-at c =
     c.go_to.ensures.at
-    ∙ ap (λ r. walked c.args.ground.now.most r c.args.place.now.path.now) (root_same c.args.machine.now c.set_as.new.self c.args.ground.now.setup.now c.set_as.ensures.code c.set_as.ensures.cells)
+    ∙ ap (λ r. walked c.args.ground.now.most r c.args.place.now.path.now)
+    (root_same c.args.machine.now c.set_as.new.self c.args.ground.now.setup.now c.set_as.ensures.code
+    c.set_as.ensures.cells)

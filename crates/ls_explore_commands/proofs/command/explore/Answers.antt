@@ -18,13 +18,15 @@ May e i = Explored i e
 pub returns-in_err-image : goal.returns-in_err-image
 returns-in_err-image c =
     let p = err_from_is_err_and c.from_residual.result c.from_residual.ensures.1 in
-    rw (p.1, p.2) (not_compiled c.args.classes.now c.args.program.now (May c.args.exploring) c.in_err-image.field-0.0 c.in_err-image.ensures.refused)
+    rw (p.1, p.2) (not_compiled c.args.classes.now c.args.program.now (May c.args.exploring) c.in_err-image.field-0.0
+    c.in_err-image.ensures.refused)
 
 pub explored-requires : goal.explored-requires
 explored-requires c =
     let i = c.in_ok-image.image in
     let is = c.in_ok-image.ensures.compiled in
-    c.source_is_readable.ensures is.file (outcome_of (checked_of i)) c.args.program.now (plain_program (program_of_image i)) is.elaborates is.reads
+    c.source_is_readable.ensures is.file (outcome_of (checked_of i)) c.args.program.now
+    (plain_program (program_of_image i)) is.elaborates is.reads
 
 pub returns : goal.returns
 returns c =

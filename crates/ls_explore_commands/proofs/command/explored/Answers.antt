@@ -15,13 +15,17 @@ use Rattle.ls_explore_commands.proofs.command.explored.Goals as goal
 pub returns-in_err-found : goal.returns-in_err-found
 returns-in_err-found c =
     let p = err_from_is_err_and c.from_residual.result c.from_residual.ensures.1 in
-    rw (p.1, p.2) (explore_fails c.args.image.now c.args.exploring c.in_err-found.field-0.0 c.in_err-found.ensures.states c.in_err-found.ensures.cells c.in_err-found.ensures.endless c.in_err-found.ensures.setup)
+    rw (p.1, p.2) (explore_fails c.args.image.now c.args.exploring c.in_err-found.field-0.0
+    c.in_err-found.ensures.states c.in_err-found.ensures.cells c.in_err-found.ensures.endless
+    c.in_err-found.ensures.setup)
 
 pub judge_rows-requires : goal.judge_rows-requires
 judge_rows-requires c =
     let found = c.in_ok-found.found in
     subst (λ (q : Program). AreHistories (plain_program q) c.as_slice.result.now) (sym c.program.ensures)
-    (subst (λ rows. AreHistories (plain_program (program_of_image c.args.image.now)) rows) (sym c.as_slice.ensures.value) (rows_named c.args.image.now found.setup found.rows.items c.requires c.in_ok-found.ensures.told))
+    (subst (λ rows. AreHistories (plain_program (program_of_image c.args.image.now)) rows)
+    (sym c.as_slice.ensures.value) (rows_named c.args.image.now found.setup found.rows.items c.requires
+    c.in_ok-found.ensures.told))
 
 pub returns-in_err-text : goal.returns-in_err-text
 returns-in_err-text c =
@@ -29,13 +33,19 @@ returns-in_err-text c =
     let found = c.in_ok-found.found in
     let judged = c.in_ok-judged.judged.items in
     let of_rows = c.in_ok-judged.ensures.rows ∙ c.as_slice.ensures.value in
-    let verdicts = subst (λ (q : Program). All (IsJudged (plain_program q)) judged) c.program.ensures c.in_ok-judged.ensures.verdicts in
+    let verdicts = subst (λ (q : Program). All (IsJudged (plain_program q)) judged) c.program.ensures
+    c.in_ok-judged.ensures.verdicts in
     let so =
-    judged_so i c.args.exploring.cells c.args.exploring.states found.setup found.rows.items judged found.states found.complete found.roomy of_rows c.in_ok-found.ensures.told c.in_ok-found.ensures.found c.in_ok-found.ensures.cut c.in_ok-found.ensures.tells c.in_ok-found.ensures.whole c.in_ok-found.ensures.apart c.in_ok-found.ensures.order verdicts
+    judged_so i c.args.exploring.cells c.args.exploring.states found.setup found.rows.items judged found.states
+    found.complete found.roomy of_rows c.in_ok-found.ensures.told c.in_ok-found.ensures.found
+    c.in_ok-found.ensures.cut c.in_ok-found.ensures.tells c.in_ok-found.ensures.whole c.in_ok-found.ensures.apart
+    c.in_ok-found.ensures.order verdicts
     in
     let p = err_from_is_err_and c.from_residual-in_err-text.result c.from_residual-in_err-text.ensures.1 in
     rw (p.1, p.2)
-    (long_fails i c.args.exploring c.in_err-text.field-0.0 found.setup found.states judged c.as_slice-2.result.now found.complete found.roomy c.in_err-text.ensures.only c.in_ok-found.ensures.good so c.as_slice-2.ensures.value c.in_err-text.ensures.long)
+    (long_fails i c.args.exploring c.in_err-text.field-0.0 found.setup found.states judged c.as_slice-2.result.now
+    found.complete found.roomy c.in_err-text.ensures.only c.in_ok-found.ensures.good so c.as_slice-2.ensures.value
+    c.in_err-text.ensures.long)
 
 pub returns : goal.returns
 returns c =
@@ -45,10 +55,17 @@ returns c =
     let judged = c.in_ok-judged.judged.items in
     let t = string_bytes c.in_ok-text.text in
     let of_rows = c.in_ok-judged.ensures.rows ∙ c.as_slice.ensures.value in
-    let verdicts = subst (λ (q : Program). All (IsJudged (plain_program q)) judged) c.program.ensures c.in_ok-judged.ensures.verdicts in
-    let first = subst (λ (ns : Names). t ≡ explored_text ns (thread_names c.names_in.result.program.now) found.setup c.as_slice-2.result.now found.states found.complete found.roomy e) c.names_in.ensures.names c.in_ok-text.ensures.text in
-    let next = subst (λ (q : Program). t ≡ explored_text (names_in i) (thread_names q) found.setup c.as_slice-2.result.now found.states found.complete found.roomy e) c.names_in.ensures.program first in
-    let said = subst (λ js. t ≡ explored_text (names_in i) (thread_names (program_of_image i)) found.setup js found.states found.complete found.roomy e) c.as_slice-2.ensures.value next in
+    let verdicts = subst (λ (q : Program). All (IsJudged (plain_program q)) judged) c.program.ensures
+    c.in_ok-judged.ensures.verdicts in
+    let first = subst (λ (ns : Names). t ≡ explored_text ns (thread_names c.names_in.result.program.now) found.setup
+    c.as_slice-2.result.now found.states found.complete found.roomy e) c.names_in.ensures.names
+    c.in_ok-text.ensures.text in
+    let next = subst (λ (q : Program). t ≡ explored_text (names_in i) (thread_names q) found.setup
+    c.as_slice-2.result.now found.states found.complete found.roomy e) c.names_in.ensures.program first in
+    let said = subst (λ js. t ≡ explored_text (names_in i) (thread_names (program_of_image i)) found.setup js
+    found.states found.complete found.roomy e) c.as_slice-2.ensures.value next in
     explore_tells i e found.setup judged found.states found.complete found.roomy t c.in_ok-found.ensures.good
-    (judged_so i e.cells e.states found.setup found.rows.items judged found.states found.complete found.roomy of_rows c.in_ok-found.ensures.told c.in_ok-found.ensures.found c.in_ok-found.ensures.cut c.in_ok-found.ensures.tells c.in_ok-found.ensures.whole c.in_ok-found.ensures.apart c.in_ok-found.ensures.order verdicts)
+    (judged_so i e.cells e.states found.setup found.rows.items judged found.states found.complete found.roomy of_rows
+    c.in_ok-found.ensures.told c.in_ok-found.ensures.found c.in_ok-found.ensures.cut c.in_ok-found.ensures.tells
+    c.in_ok-found.ensures.whole c.in_ok-found.ensures.apart c.in_ok-found.ensures.order verdicts)
     said

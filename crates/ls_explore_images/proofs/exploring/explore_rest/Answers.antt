@@ -15,7 +15,8 @@ returns-clause-told c =
     let setup : List ℕ = c.in_ok-steps.steps in
     let threads : ℕ = c.count_threads-threads.result in
     let rows = c.in_ok-rows.field-0.rows.items in
-    tell_truth file program code c.args.cells c.args.image.now.kept c.requires.cells setup c.args.count threads rows c.acts_in_time.ensures c.in_ok-steps.ensures.steps c.count_threads-threads.ensures
+    tell_truth file program code c.args.cells c.args.image.now.kept c.requires.cells setup c.args.count threads rows
+    c.acts_in_time.ensures c.in_ok-steps.ensures.steps c.count_threads-threads.ensures
     (subst (λ (p : Code). TellsTruth p c.args.cells setup rows) c.code.ensures c.in_ok-rows.ensures.told)
     (subst (λ (p : Code). TellsOver p c.args.cells setup threads rows) c.code.ensures c.in_ok-rows.ensures.over)
 
@@ -27,7 +28,8 @@ returns-clause-tells c = λ yes.
     let setup : List ℕ = c.in_ok-steps.steps in
     let threads : ℕ = c.count_threads-threads.result in
     let rows = c.in_ok-rows.field-0.rows.items in
-    tell_all file program code c.args.cells c.args.image.now.kept c.requires.cells setup c.args.count threads rows c.acts_in_time.ensures c.in_ok-steps.ensures.steps c.count_threads-threads.ensures
+    tell_all file program code c.args.cells c.args.image.now.kept c.requires.cells setup c.args.count threads rows
+    c.acts_in_time.ensures c.in_ok-steps.ensures.steps c.count_threads-threads.ensures
     (subst (λ (p : Code). TellsAll p c.args.cells setup threads rows) c.code.ensures (c.in_ok-rows.ensures.tells yes))
     (subst (λ (p : Code). TellsEnds p c.args.cells setup threads rows) c.code.ensures (c.in_ok-rows.ensures.ends yes))
 
@@ -39,8 +41,10 @@ returns-clause-whole c = λ yes room.
     let setup : List ℕ = c.in_ok-steps.steps in
     let threads : ℕ = c.count_threads-threads.result in
     let rows = c.in_ok-rows.field-0.rows.items in
-    tell_whole file program code c.args.cells c.args.image.now.kept c.requires.cells setup c.args.count threads rows c.acts_in_time.ensures c.in_ok-steps.ensures.steps c.count_threads-threads.ensures
-    (subst (λ (p : Code). TellsWhole p c.args.cells setup threads rows) c.code.ensures (c.in_ok-rows.ensures.whole yes room))
+    tell_whole file program code c.args.cells c.args.image.now.kept c.requires.cells setup c.args.count threads rows
+    c.acts_in_time.ensures c.in_ok-steps.ensures.steps c.count_threads-threads.ensures
+    (subst (λ (p : Code). TellsWhole p c.args.cells setup threads rows) c.code.ensures
+    (c.in_ok-rows.ensures.whole yes room))
 
 pub returns-clause-found : goal.returns-clause-found
 returns-clause-found c =
@@ -50,5 +54,7 @@ returns-clause-found c =
     let setup : List ℕ = c.in_ok-steps.steps in
     let rows = c.in_ok-rows.field-0.rows.items in
     let states : ℕ = c.in_ok-rows.field-0.states in
-    tell_states file program code c.args.cells c.args.image.now.kept c.requires.cells setup c.args.count c.count_threads-threads.result rows c.acts_in_time.ensures c.in_ok-steps.ensures.steps c.count_threads-threads.ensures states
+    tell_states file program code c.args.cells c.args.image.now.kept c.requires.cells setup c.args.count
+    c.count_threads-threads.result rows c.acts_in_time.ensures c.in_ok-steps.ensures.steps
+    c.count_threads-threads.ensures states
     (subst (λ (p : Code). TellsStates p c.args.cells setup rows states) c.code.ensures c.in_ok-rows.ensures.found)

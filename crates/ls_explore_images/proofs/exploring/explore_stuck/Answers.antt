@@ -5,7 +5,8 @@ use Rattle.ls_meaning.specs.Runs.{source_history}
 use Rattle.ls_translation.specs.Texts.{file_of, program_of}
 use Rattle.ls_explore.specs.Rows.{TellStates, Told}
 use Rattle.ls_explore_images.specs.Tellings.{TellAll, TellTruth, TellWhole}
-use Rattle.ls_explore_images.proofs.Tellings.{one_apart, one_in_order, stuck_all, stuck_states, stuck_truth, stuck_whole}
+use Rattle.ls_explore_images.proofs.Tellings.{one_apart, one_in_order, stuck_all, stuck_states, stuck_truth}
+use Rattle.ls_explore_images.proofs.Tellings.{stuck_whole}
 use Rattle.ls_explore_images.proofs.exploring.explore_stuck.Goals as goal
 
 pub returns-clause-tells : goal.returns-clause-tells
@@ -14,9 +15,11 @@ returns-clause-tells c = λ cells yes.
     let program : Program = program_of c.args.image.now in
     let row : Told = c.in_ok-row.row in
     let has : row.history ≡ source_history file program (replicate c.args.count 0) =
-    ap (λ (r : Told). r.history) c.in_ok-row.ensures ∙ c.as_slice.ensures.value ∙ c.in_ok-history.ensures ∙ ap (source_history file program) c.in_ok-steps.ensures in
+    ap (λ (r : Told). r.history) c.in_ok-row.ensures ∙ c.as_slice.ensures.value ∙ c.in_ok-history.ensures ∙
+    ap (source_history file program) c.in_ok-steps.ensures in
     subst (TellAll file program cells) (sym c.in_ok-vec.ensures.items)
-    (stuck_all file program c.args.count (c.stuck_covers.ensures file program c.args.count c.requires.stuck.stuck) row (ap (λ (r : Told). r.path) c.in_ok-row.ensures) has (ap (λ (r : Told). r.ending) c.in_ok-row.ensures) cells)
+    (stuck_all file program c.args.count (c.stuck_covers.ensures file program c.args.count c.requires.stuck.stuck) row
+    (ap (λ (r : Told). r.path) c.in_ok-row.ensures) has (ap (λ (r : Told). r.ending) c.in_ok-row.ensures) cells)
 
 pub returns-clause-whole : goal.returns-clause-whole
 returns-clause-whole c = λ yes room.
@@ -24,9 +27,11 @@ returns-clause-whole c = λ yes room.
     let program : Program = program_of c.args.image.now in
     let row : Told = c.in_ok-row.row in
     let has : row.history ≡ source_history file program (replicate c.args.count 0) =
-    ap (λ (r : Told). r.history) c.in_ok-row.ensures ∙ c.as_slice.ensures.value ∙ c.in_ok-history.ensures ∙ ap (source_history file program) c.in_ok-steps.ensures in
+    ap (λ (r : Told). r.history) c.in_ok-row.ensures ∙ c.as_slice.ensures.value ∙ c.in_ok-history.ensures ∙
+    ap (source_history file program) c.in_ok-steps.ensures in
     subst (TellWhole file program) (sym c.in_ok-vec.ensures.items)
-    (stuck_whole file program c.args.count (c.stuck_covers.ensures file program c.args.count c.requires.stuck.stuck) row (ap (λ (r : Told). r.path) c.in_ok-row.ensures) has (ap (λ (r : Told). r.ending) c.in_ok-row.ensures))
+    (stuck_whole file program c.args.count (c.stuck_covers.ensures file program c.args.count c.requires.stuck.stuck) row
+    (ap (λ (r : Told). r.path) c.in_ok-row.ensures) has (ap (λ (r : Told). r.ending) c.in_ok-row.ensures))
 
 pub returns-clause-apart : goal.returns-clause-apart
 returns-clause-apart c = one_apart _ c.in_ok-row.row c.in_ok-vec.ensures.items
@@ -40,9 +45,11 @@ returns-clause-told c =
     let program : Program = program_of c.args.image.now in
     let row : Told = c.in_ok-row.row in
     let has : row.history ≡ source_history file program (replicate c.args.count 0) =
-    ap (λ (r : Told). r.history) c.in_ok-row.ensures ∙ c.as_slice.ensures.value ∙ c.in_ok-history.ensures ∙ ap (source_history file program) c.in_ok-steps.ensures in
+    ap (λ (r : Told). r.history) c.in_ok-row.ensures ∙ c.as_slice.ensures.value ∙ c.in_ok-history.ensures ∙
+    ap (source_history file program) c.in_ok-steps.ensures in
     subst (TellTruth file program c.args.count) (sym c.in_ok-vec.ensures.items)
-    (stuck_truth file program c.args.count (c.stuck_covers.ensures file program c.args.count c.requires.stuck.stuck) row (ap (λ (r : Told). r.path) c.in_ok-row.ensures) has (ap (λ (r : Told). r.ending) c.in_ok-row.ensures))
+    (stuck_truth file program c.args.count (c.stuck_covers.ensures file program c.args.count c.requires.stuck.stuck) row
+    (ap (λ (r : Told). r.path) c.in_ok-row.ensures) has (ap (λ (r : Told). r.ending) c.in_ok-row.ensures))
 
 pub returns-clause-found : goal.returns-clause-found
 returns-clause-found c =
@@ -50,6 +57,9 @@ returns-clause-found c =
     let program : Program = program_of c.args.image.now in
     let row : Told = c.in_ok-row.row in
     let has : row.history ≡ source_history file program (replicate c.args.count 0) =
-    ap (λ (r : Told). r.history) c.in_ok-row.ensures ∙ c.as_slice.ensures.value ∙ c.in_ok-history.ensures ∙ ap (source_history file program) c.in_ok-steps.ensures in
+    ap (λ (r : Told). r.history) c.in_ok-row.ensures ∙ c.as_slice.ensures.value ∙ c.in_ok-history.ensures ∙
+    ap (source_history file program) c.in_ok-steps.ensures in
     subst (λ rows. TellStates file program c.args.count rows 1) (sym c.in_ok-vec.ensures.items)
-    (stuck_states file program c.args.count (c.stuck_covers.ensures file program c.args.count c.requires.stuck.stuck) row (ap (λ (r : Told). r.path) c.in_ok-row.ensures) has (ap (λ (r : Told). r.ending) c.in_ok-row.ensures) c.requires.stuck.acts)
+    (stuck_states file program c.args.count (c.stuck_covers.ensures file program c.args.count c.requires.stuck.stuck)
+    row (ap (λ (r : Told). r.path) c.in_ok-row.ensures) has (ap (λ (r : Told). r.ending) c.in_ok-row.ensures)
+    c.requires.stuck.acts)

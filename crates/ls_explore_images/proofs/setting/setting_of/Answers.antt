@@ -8,11 +8,15 @@ use Rattle.ls_explore_images.proofs.setting.setting_of.Goals as goal
 
 pub loop-count-preserved : goal.loop-count-preserved
 loop-count-preserved c =
-    after_more (plain_file c.args.file.now) (plain_program c.args.program.now) c.loop-count.count (progress_of c.loop-count.run) c.loop-count.invariant
-    c.in_ok-has_setup_ended.field-0 c.in_ok-did.did (progress_of c.step.new.self) c.in_ok-has_setup_ended.ensures c.if-branch.false c.in_ok-did.ensures.did (sym c.has_acted.ensures ∙ c.if-not-has_acted.false) c.in_ok-did.ensures.run
+    after_more (plain_file c.args.file.now) (plain_program c.args.program.now) c.loop-count.count
+    (progress_of c.loop-count.run) c.loop-count.invariant
+    c.in_ok-has_setup_ended.field-0 c.in_ok-did.did (progress_of c.step.new.self) c.in_ok-has_setup_ended.ensures
+    c.if-branch.false c.in_ok-did.ensures.did (sym c.has_acted.ensures ∙ c.if-not-has_acted.false)
+    c.in_ok-did.ensures.run
 
 pub returns-clause-setting : goal.returns-clause-setting
 returns-clause-setting c =
     let all : c.loop-count.count ≡ 100001 = omega arith in
     subst (GoesOnFor (plain_file c.args.file.now) (plain_program c.args.program.now)) all
-    (goes_all (plain_file c.args.file.now) (plain_program c.args.program.now) c.loop-count.count (progress_of c.loop-count.run) c.loop-count.invariant)
+    (goes_all (plain_file c.args.file.now) (plain_program c.args.program.now) c.loop-count.count
+    (progress_of c.loop-count.run) c.loop-count.invariant)

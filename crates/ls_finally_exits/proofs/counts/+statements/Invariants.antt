@@ -15,4 +15,5 @@ decreases-put_all_numbers l = 4 * sizes (statements_of l.statements.now) + 1
 
 abbrev pub invariant-put_all_numbers-loop-s : goal.invariant-put_all_numbers-loop-s
 invariant-put_all_numbers-loop-s l =
-    vec_len l.out + all_numbers (statements_of (drop l.s-index l.statements)) ≡ vec_len l.initial.out + all_numbers (statements_of l.statements)
+    vec_len l.out + all_numbers (statements_of (drop l.s-index l.statements)) ≡ vec_len l.initial.out + all_numbers
+    (statements_of l.statements)

@@ -1,4 +1,5 @@
-use Rattle.std.proofs.Common.{◌≡◌, ◌+◌, ◌<◌, ◌^◌, ◌∷◌, ◌++◌, append_assoc, drop, IfOk, List, ap, subst, rules, arith, ◌∙◌}
+use Rattle.std.proofs.Common.{◌≡◌, ◌+◌, ◌<◌, ◌^◌, ◌∷◌, ◌++◌, append_assoc, drop, IfOk, List, ap, subst, rules, arith}
+use Rattle.std.proofs.Common.{◌∙◌}
 use Rattle.ls_lowered.specs.declared.tree.Statement.{Statement}
 use Rattle.ls_lowered.specs.LoweredTree as lowered
 use Rattle.ls_lowered.specs.LoweredTree.{Leavable}
@@ -15,7 +16,8 @@ pub collect_block-collect_exits-requires : goal.collect_block-collect_exits-requ
 collect_block-collect_exits-requires t c =
     let xs : List Statement = c.args.statements.now in
     let i = c.loop-s.s-index in
-    let split : drop i xs ≡ c.s-item.result ∷ drop (i + 1) xs = left_at xs i c.s-item.result (search rules) c.s-item.is in
+    let split : drop i xs ≡ c.s-item.result ∷ drop (i + 1) xs = left_at xs i c.s-item.result (search rules) c.s-item.is
+    in
     let less = size_at xs i c.s-item.result split in
     let low = numbers_at xs i c.s-item.result split in
     (omega (arith, less), omega (arith, low, c.requires))
@@ -24,14 +26,18 @@ pub collect_exits-collect_leavable-requires : goal.collect_exits-collect_leavabl
 collect_exits-collect_leavable-requires t c =
     let body = c.deref-in-Leavable.result.now in
     let own = c.deref-in-Leavable-2.result.now in
-    let e : plain_statement c.args.s.now ≡ Leavable (plain_statement body) (statements_of own) = leavable_read c.args.s.now c.in-Leavable.body c.in-Leavable.own body own c.deref-in-Leavable.ensures c.deref-in-Leavable-2.ensures.value c.in-Leavable.is in
+    let e : plain_statement c.args.s.now ≡ Leavable (plain_statement body) (statements_of own) = leavable_read
+    c.args.s.now c.in-Leavable.body c.in-Leavable.own body own c.deref-in-Leavable.ensures
+    c.deref-in-Leavable-2.ensures.value c.in-Leavable.is in
     (omega (arith, ap size e), subst (λ (x : lowered.Statement). c.args.inside + numbers x < 2 ^ 63) e c.requires)
 
 pub collect_exits-returns-in-Leavable : goal.collect_exits-returns-in-Leavable
 collect_exits-returns-in-Leavable t c =
     let body = c.deref-in-Leavable.result.now in
     let own = c.deref-in-Leavable-2.result.now in
-    let e : plain_statement c.args.s.now ≡ Leavable (plain_statement body) (statements_of own) = leavable_read c.args.s.now c.in-Leavable.body c.in-Leavable.own body own c.deref-in-Leavable.ensures c.deref-in-Leavable-2.ensures.value c.in-Leavable.is in
+    let e : plain_statement c.args.s.now ≡ Leavable (plain_statement body) (statements_of own) = leavable_read
+    c.args.s.now c.in-Leavable.body c.in-Leavable.own body own c.deref-in-Leavable.ensures
+    c.deref-in-Leavable-2.ensures.value c.in-Leavable.is in
     rw e c.collect_leavable.ensures
 
 pub collect_leavable-returns : goal.collect_leavable-returns
@@ -44,4 +50,5 @@ collect_leavable-returns t c =
     ap (λ (xs : List Exit). xs ++ others) c.in_ok-collect_exits.ensures
     ∙ append_assoc before (exits c.within.result body) others
     ∙ ap (λ n. before ++ (exits n body ++ others)) c.within.ensures in
-    subst (λ (xs : List Exit). IfOk c.collect_block.result (λ _. plain_exits c.collect_block.new.out.items ≡ xs)) both c.collect_block.ensures
+    subst (λ (xs : List Exit). IfOk c.collect_block.result (λ _. plain_exits c.collect_block.new.out.items ≡ xs)) both
+    c.collect_block.ensures

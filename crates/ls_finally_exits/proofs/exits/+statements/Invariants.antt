@@ -16,4 +16,5 @@ decreases-collect_block l = 4 * sizes (statements_of l.statements.now) + 1
 
 abbrev pub invariant-collect_block-loop-s : goal.invariant-collect_block-loop-s
 invariant-collect_block-loop-s l =
-    plain_exits l.out.items ++ all_exits l.inside (statements_of (drop l.s-index l.statements)) ≡ plain_exits l.initial.out.items ++ all_exits l.inside (statements_of l.statements)
+    plain_exits l.out.items ++ all_exits l.inside (statements_of (drop l.s-index l.statements)) ≡ plain_exits
+    l.initial.out.items ++ all_exits l.inside (statements_of l.statements)

@@ -18,34 +18,53 @@ replace_in_all-replace_exits-requires t c =
     let s = c.s-item.result in
     let split : drop i xs ≡ s ∷ drop (i + 1) xs = left_at xs i s (search rules) c.s-item.is in
     let less = size_at xs i s split in
-    let low = numbers_at xs i s split in
-    (omega (arith, less), (one_fits c.args.kept c.args.inside c.args.next.now xs c.loop-s.out.items c.loop-s.next (drop i xs) (drop (i + 1) xs) s split c.loop-s.invariant, omega (arith, low, c.requires.low)))
+    let low = numbers_at xs i s split in (
+      omega (arith, less),
+      (
+        one_fits c.args.kept c.args.inside c.args.next.now xs c.loop-s.out.items c.loop-s.next
+            (drop i xs) (drop (i + 1) xs) s split c.loop-s.invariant,
+        omega (arith, low, c.requires.low),
+      ),
+    )
 
 pub replace_in_all-loop-s-preserved : goal.replace_in_all-loop-s-preserved
 replace_in_all-loop-s-preserved t c =
     let xs : List Statement = c.args.statements.now in
     let i = c.loop-s.s-index in
-    let split : drop i xs ≡ c.s-item.result ∷ drop (i + 1) xs = left_at xs i c.s-item.result (search rules) c.s-item.is in
-    goes_on c.args.kept c.args.inside c.args.next.now xs c.loop-s.out.items c.put.new.items.items c.loop-s.next c.replace_exits.new.next (drop i xs) (drop (i + 1) xs) c.s-item.result c.in_ok-replace_exits.field-0
+    let split : drop i xs ≡ c.s-item.result ∷ drop (i + 1) xs = left_at xs i c.s-item.result (search rules) c.s-item.is
+    in
+    goes_on c.args.kept c.args.inside c.args.next.now xs c.loop-s.out.items c.put.new.items.items c.loop-s.next
+    c.replace_exits.new.next (drop i xs) (drop (i + 1) xs) c.s-item.result c.in_ok-replace_exits.field-0
     split c.in_ok-put.ensures c.in_ok-replace_exits.ensures.tree c.in_ok-replace_exits.ensures.next c.loop-s.invariant
 
 pub replace_exits-replace_in_leavable-requires : goal.replace_exits-replace_in_leavable-requires
 replace_exits-replace_in_leavable-requires t c =
     let body = c.deref-in-Leavable.result.now in
     let own = c.deref-in-Leavable-2.result.now in
-    let e : plain_statement c.args.s.now ≡ Leavable (plain_statement body) (statements_of own) = leavable_read c.args.s.now c.in-Leavable.body c.in-Leavable.own body own c.deref-in-Leavable.ensures c.deref-in-Leavable-2.ensures.value c.in-Leavable.is in
-    (omega (arith, ap size e), (omega (arith, ap (λ (x : lowered.Statement). length (exits c.args.inside x)) e), subst (λ (x : lowered.Statement). c.args.inside + numbers x < 2 ^ 63) e c.requires.low))
+    let e : plain_statement c.args.s.now ≡ Leavable (plain_statement body) (statements_of own) = leavable_read
+    c.args.s.now c.in-Leavable.body c.in-Leavable.own body own c.deref-in-Leavable.ensures
+    c.deref-in-Leavable-2.ensures.value c.in-Leavable.is in (
+      omega (arith, ap size e),
+      (
+        omega (arith, ap (λ (x : lowered.Statement). length (exits c.args.inside x)) e),
+        subst (λ (x : lowered.Statement). c.args.inside + numbers x < 2 ^ 63) e c.requires.low,
+      ),
+    )
 
 pub replace_exits-returns-in-Leavable-clause-tree : goal.replace_exits-returns-in-Leavable-clause-tree
 replace_exits-returns-in-Leavable-clause-tree t c =
     let body = c.deref-in-Leavable.result.now in
     let own = c.deref-in-Leavable-2.result.now in
-    let e : plain_statement c.args.s.now ≡ Leavable (plain_statement body) (statements_of own) = leavable_read c.args.s.now c.in-Leavable.body c.in-Leavable.own body own c.deref-in-Leavable.ensures c.deref-in-Leavable-2.ensures.value c.in-Leavable.is in
+    let e : plain_statement c.args.s.now ≡ Leavable (plain_statement body) (statements_of own) = leavable_read
+    c.args.s.now c.in-Leavable.body c.in-Leavable.own body own c.deref-in-Leavable.ensures
+    c.deref-in-Leavable-2.ensures.value c.in-Leavable.is in
     rw e c.replace_in_leavable.ensures.tree
 
 pub replace_exits-returns-in-Leavable-clause-next : goal.replace_exits-returns-in-Leavable-clause-next
 replace_exits-returns-in-Leavable-clause-next t c =
     let body = c.deref-in-Leavable.result.now in
     let own = c.deref-in-Leavable-2.result.now in
-    let e : plain_statement c.args.s.now ≡ Leavable (plain_statement body) (statements_of own) = leavable_read c.args.s.now c.in-Leavable.body c.in-Leavable.own body own c.deref-in-Leavable.ensures c.deref-in-Leavable-2.ensures.value c.in-Leavable.is in
+    let e : plain_statement c.args.s.now ≡ Leavable (plain_statement body) (statements_of own) = leavable_read
+    c.args.s.now c.in-Leavable.body c.in-Leavable.own body own c.deref-in-Leavable.ensures
+    c.deref-in-Leavable-2.ensures.value c.in-Leavable.is in
     rw e c.replace_in_leavable.ensures.next

@@ -20,4 +20,5 @@ abbrev pub decreases-replace_in_leavable : goal.decreases-replace_in_leavable
 decreases-replace_in_leavable l = 4 * (size (plain_statement l.body.now) + sizes (statements_of l.own.now)) + 2
 
 abbrev pub invariant-replace_in_all-loop-s : goal.invariant-replace_in_all-loop-s
-invariant-replace_in_all-loop-s l = Going l.kept l.inside l.fn.next l.statements l.out.items l.next (drop l.s-index l.statements)
+invariant-replace_in_all-loop-s l = Going l.kept l.inside l.fn.next l.statements l.out.items l.next
+    (drop l.s-index l.statements)

@@ -8,4 +8,5 @@ use Rattle.ls_finally_exits.proofs.replace.all_ways.Given as goal
 abbrev pub invariant-loop-exit : goal.invariant-loop-exit
 invariant-loop-exit l =
     in_front l.out.items (ways (l.free + 1) (plain_statement l.finally) (plain_exits (drop l.exit-index l.found)))
-    ≡ first_ways l.free (plain_statement l.finally) (ways (l.free + 1) (plain_statement l.finally) (plain_exits l.found))
+    ≡ first_ways l.free (plain_statement l.finally) (ways (l.free + 1) (plain_statement l.finally)
+    (plain_exits l.found))

@@ -3,4 +3,9 @@ use Rattle.ls_headline.proofs.ExampleSound.{example_sound, example_constants}
 use Rattle.ls_headline.proofs.laws.example.Goals as goal
 
 pub returns : goal.returns
-returns c = record { asks = example_asks; constants = example_constants; sound = example_sound; exchanged = example_exchanged }
+returns c = record {
+  asks = example_asks;
+  constants = example_constants;
+  sound = example_sound;
+  exchanged = example_exchanged;
+}

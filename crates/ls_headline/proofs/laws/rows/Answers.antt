@@ -11,7 +11,13 @@ returns c = record {
   to_machine = refl;
   births = refl;
   numbers = (refl, refl, refl);
-  kinds = ((λ h. h.1.0.0 refl), (λ h. h.1.0), (λ h. h.1.0), (refl, (((λ e. absurd (omega arith)), omega arith), tt)), (refl, (omega arith, tt)));
+  kinds = (
+    (λ h. h.1.0.0 refl),
+    (λ h. h.1.0),
+    (λ h. h.1.0),
+    (refl, (((λ e. absurd (omega arith)), omega arith), tt)),
+    (refl, (omega arith, tt)),
+  );
   by_words = refl;
   room = (omega arith, λ h. absurd (omega arith));
 }

@@ -24,7 +24,8 @@ lower_refs-requires-clause-slots c =
     let file = plain_file c.file-file.result.now in
     let here = sym c.file-file.ensures in
     let slotted : IsProp (AllSlotted file.methods) = hlevel props in
-    ∥∥₁_elim c.source_is_well_typed.ensures.file slotted (λ well. c.has_slots.ensures file (subst IsWellTyped here well).typed)
+    ∥∥₁_elim c.source_is_well_typed.ensures.file slotted (λ well.
+    c.has_slots.ensures file (subst IsWellTyped here well).typed)
 
 pub lower_refs-requires-clause-loops : goal.lower_refs-requires-clause-loops
 lower_refs-requires-clause-loops c =
@@ -36,14 +37,17 @@ pub lower_finally-requires : goal.lower_finally-requires
 lower_finally-requires c =
     let file = plain_file c.file-file.result.now in
     let well = subst (λ f. ∥ IsWellTyped f ∥₁) (sym c.file-file.ensures) c.source_is_well_typed.ensures.file in
-    placed_here file (lowered.plain_file c.in_ok-refs.refs) c.in_ok-refs.ensures.tree (c.typed_is_placed.ensures file well)
+    placed_here file (lowered.plain_file c.in_ok-refs.refs) c.in_ok-refs.ensures.tree
+    (c.typed_is_placed.ensures file well)
 
 pub emit-requires : goal.emit-requires
 emit-requires c =
     let file = plain_file c.file-file.result.now in
     let well = subst (λ f. ∥ IsWellTyped f ∥₁) (sym c.file-file.ensures) c.source_is_well_typed.ensures.file in
-    emittable_here file (plain_program c.program-program.result.now) (lowered.plain_file c.in_ok-refs.refs) (lowered.plain_file c.in_ok-flat.flat)
-    c.in_ok-refs.ensures.tree c.in_ok-flat.ensures.tree (c.ranged_is_emittable.ensures file well c.in_ok-refs.ensures.fits)
+    emittable_here file (plain_program c.program-program.result.now) (lowered.plain_file c.in_ok-refs.refs)
+    (lowered.plain_file c.in_ok-flat.flat)
+    c.in_ok-refs.ensures.tree c.in_ok-flat.ensures.tree (c.ranged_is_emittable.ensures file well
+    c.in_ok-refs.ensures.fits)
 
 pub link-requires : goal.link-requires
 link-requires c =
@@ -54,9 +58,11 @@ link-requires c =
     let r = c.in_ok-refs.ensures.tree in
     let f = c.in_ok-flat.ensures.tree in
     let well = subst (λ f. ∥ IsWellTyped f ∥₁) (sym c.file-file.ensures) c.source_is_well_typed.ensures.file in
-    let reads = both (λ f p. ∥ IsWellTypedProgram f p ∥₁) (sym c.file-file.ensures) (sym (ap plain_program c.program-program.ensures)) c.source_is_well_typed.ensures.program in
+    let reads = both (λ f p. ∥ IsWellTypedProgram f p ∥₁) (sym c.file-file.ensures)
+    (sym (ap plain_program c.program-program.ensures)) c.source_is_well_typed.ensures.program in
     links_here file program refs flat r f c.deref.result.now (c.deref.ensures.value ∙ c.in_ok-units.ensures.units)
-    (c.ranged_links.ensures file program well reads c.in_ok-refs.ensures.fits (short_here file program refs flat r f c.in_ok-units.ensures.short))
+    (c.ranged_links.ensures file program well reads c.in_ok-refs.ensures.fits
+    (short_here file program refs flat r f c.in_ok-units.ensures.short))
 
 pub returns-clause-runs : goal.returns-clause-runs
 returns-clause-runs c =
@@ -67,8 +73,10 @@ returns-clause-runs c =
     let r = c.in_ok-refs.ensures.tree in
     let f = c.in_ok-flat.ensures.tree in
     let well = subst (λ f. ∥ IsWellTyped f ∥₁) (sym c.file-file.ensures) c.source_is_well_typed.ensures.file in
-    let reads = both (λ f p. ∥ IsWellTypedProgram f p ∥₁) (sym c.file-file.ensures) (sym (ap plain_program c.program-program.ensures)) c.source_is_well_typed.ensures.program in
-    let code = code_here file program refs flat r f c.deref.result.now c.in_ok-code.code (c.deref.ensures.value ∙ c.in_ok-units.ensures.units) c.in_ok-code.ensures.code in
+    let reads = both (λ f p. ∥ IsWellTypedProgram f p ∥₁) (sym c.file-file.ensures)
+    (sym (ap plain_program c.program-program.ensures)) c.source_is_well_typed.ensures.program in
+    let code = code_here file program refs flat r f c.deref.result.now c.in_ok-code.code
+    (c.deref.ensures.value ∙ c.in_ok-units.ensures.units) c.in_ok-code.ensures.code in
     both (λ f p. Runs f p c.in_ok-code.code) c.file-file.ensures (ap plain_program c.program-program.ensures)
     (subst (Runs file program) (sym code)
     (c.compiled_runs.ensures file program well reads
@@ -79,27 +87,36 @@ pub returns-in_err-measure-clause-refused : goal.returns-in_err-measure-clause-r
 returns-in_err-measure-clause-refused c =
     let p = err_from_is_err_and c.from_residual-in_err-measure.result c.from_residual-in_err-measure.ensures.1 in
     rw (p.1, p.2)
-    (both (λ f q. GoesPast f q (of_counts c.in_err-measure.field-0.0)) c.file-file.ensures (ap plain_program c.program-program.ensures)
-    (counts_past (plain_file c.file-file.result.now) (plain_program c.program-program.result.now) (lowered.plain_file c.in_ok-refs.refs)
-    c.in_ok-refs.ensures.tree c.in_err-measure.field-0.0 c.sizes.ensures.methods c.sizes.ensures.floor c.in_ok-refs.ensures.fits c.in_err-measure.ensures.refused))
+    (both (λ f q. GoesPast f q (of_counts c.in_err-measure.field-0.0)) c.file-file.ensures
+    (ap plain_program c.program-program.ensures)
+    (counts_past (plain_file c.file-file.result.now) (plain_program c.program-program.result.now)
+    (lowered.plain_file c.in_ok-refs.refs)
+    c.in_ok-refs.ensures.tree c.in_err-measure.field-0.0 c.sizes.ensures.methods c.sizes.ensures.floor
+    c.in_ok-refs.ensures.fits c.in_err-measure.ensures.refused))
 
 pub returns-in_err-flat-clause-refused : goal.returns-in_err-flat-clause-refused
 returns-in_err-flat-clause-refused c =
     let file = plain_file c.file-file.result.now in
     let slotted : IsProp (AllSlotted file.methods) = hlevel props in
-    let slots = ∥∥₁_elim c.source_is_well_typed.ensures.file slotted (λ well. c.has_slots.ensures file (subst IsWellTyped (sym c.file-file.ensures) well).typed) in
+    let slots = ∥∥₁_elim c.source_is_well_typed.ensures.file slotted
+    (λ well. c.has_slots.ensures file (subst IsWellTyped (sym c.file-file.ensures) well).typed) in
     let p = err_from_is_err_and c.from_residual-in_err-flat.result c.from_residual-in_err-flat.ensures.1 in
     rw (p.1, p.2)
-    (both (λ f q. GoesPast f q (Lower c.in_err-flat.field-0.0)) c.file-file.ensures (ap plain_program c.program-program.ensures)
+    (both (λ f q. GoesPast f q (Lower c.in_err-flat.field-0.0)) c.file-file.ensures
+    (ap plain_program c.program-program.ensures)
     (finally_past file (plain_program c.program-program.result.now) (lowered.plain_file c.in_ok-refs.refs)
-    c.in_ok-refs.ensures.tree c.in_err-flat.field-0.0 c.in_ok-refs.ensures.fits (c.fits_lowered.ensures file slots c.in_ok-refs.ensures.fits)
+    c.in_ok-refs.ensures.tree c.in_err-flat.field-0.0 c.in_ok-refs.ensures.fits
+    (c.fits_lowered.ensures file slots c.in_ok-refs.ensures.fits)
     c.in_err-flat.ensures.refused))
 
 pub returns-in_err-code-clause-refused : goal.returns-in_err-code-clause-refused
 returns-in_err-code-clause-refused c =
     let p = err_from_is_err_and c.from_residual-in_err-code.result c.from_residual-in_err-code.ensures.1 in
     rw (p.1, p.2)
-    (both (λ f q. GoesPast f q (Link c.in_err-code.field-0.0)) c.file-file.ensures (ap plain_program c.program-program.ensures)
-    (link_past (plain_file c.file-file.result.now) (plain_program c.program-program.result.now) (lowered.plain_file c.in_ok-refs.refs) c.in_ok-refs.ensures.tree (lowered.plain_file c.in_ok-flat.flat)
+    (both (λ f q. GoesPast f q (Link c.in_err-code.field-0.0)) c.file-file.ensures
+    (ap plain_program c.program-program.ensures)
+    (link_past (plain_file c.file-file.result.now) (plain_program c.program-program.result.now)
+    (lowered.plain_file c.in_ok-refs.refs) c.in_ok-refs.ensures.tree (lowered.plain_file c.in_ok-flat.flat)
     c.deref.result.now c.in_err-code.field-0.0 c.sizes.ensures.floor c.in_ok-refs.ensures.fits c.in_ok-flat.ensures.few
-    c.in_ok-flat.ensures.tree c.in_ok-units.ensures.short (c.deref.ensures.value ∙ c.in_ok-units.ensures.units) (λ e. c.in_err-code.ensures.long (ap Err e))))
+    c.in_ok-flat.ensures.tree c.in_ok-units.ensures.short (c.deref.ensures.value ∙ c.in_ok-units.ensures.units)
+    (λ e. c.in_err-code.ensures.long (ap Err e))))

@@ -18,13 +18,17 @@ returns c = λ file program merely_well merely_reads placed emittable short.
     let program_constants = reads.constants in
     let flat = flat_of file in
     let words = words_of (units_of flat) in
-    let asks = c.linked_asks.ensures file program flat (lowered_asks file typed (c.suited_in_call.ensures file typed) c.keeps_courses.ensures placed) emittable (c.units_ask.ensures flat emittable) reads.typed in
+    let asks = c.linked_asks.ensures file program flat (lowered_asks file typed (c.suited_in_call.ensures file typed)
+    c.keeps_courses.ensures placed) emittable (c.units_ask.ensures flat emittable) reads.typed in
     let sound = c.is_sound.ensures file program typed well.classes reads.typed in
-    let lies = lie_in (code_of file program) flat (threads_code file.classes program.threads) (threads_rows file.classes words program.threads) (threads_from file.classes program.threads words) refl refl refl in
+    let lies = lie_in (code_of file program) flat (threads_code file.classes program.threads)
+    (threads_rows file.classes words program.threads) (threads_from file.classes program.threads words) refl
+    refl refl in
     record {
       same = c.same_traces.ensures file program (code_of file program) asks constants program_constants sound;
       asks = asks;
-      words = c.asks_by_words.ensures file program (code_of file program) asks (c.linked_exchanges.ensures file program flat);
+      words = c.asks_by_words.ensures file program (code_of file program) asks
+          (c.linked_exchanges.ensures file program flat);
       acts = c.acts_in_time.ensures file program (code_of file program) asks constants program_constants sound;
       ends = c.ends_in_time.ensures file program (code_of file program) asks constants program_constants sound;
       frames = c.frames_are_quick.ensures flat emittable (code_of file program) words lies;

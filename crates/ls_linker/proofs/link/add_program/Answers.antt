@@ -8,6 +8,9 @@ use Rattle.ls_linker.proofs.link.add_program.Goals as goal
 
 pub add_threads-requires : goal.add_threads-requires
 add_threads-requires c =
-    subst (λ cs. All (λ thread. ThreadLinks (map plain_class cs) (plain_thread thread)) c.deref-2.result.now) (sym c.deref.ensures.value)
-    (subst (λ ts. All (λ thread. ThreadLinks (plain_file c.args.file.now).classes (plain_thread thread)) ts) (sym c.deref-2.ensures.value)
-    (all_unmapped (ThreadLinks (plain_file c.args.file.now).classes) plain_thread c.args.program.now.threads.items c.requires))
+    subst (λ cs. All (λ thread. ThreadLinks (map plain_class cs) (plain_thread thread)) c.deref-2.result.now)
+    (sym c.deref.ensures.value)
+    (subst (λ ts. All (λ thread. ThreadLinks (plain_file c.args.file.now).classes (plain_thread thread)) ts)
+    (sym c.deref-2.ensures.value)
+    (all_unmapped (ThreadLinks (plain_file c.args.file.now).classes) plain_thread c.args.program.now.threads.items
+    c.requires))

@@ -7,4 +7,5 @@ use Rattle.ls_linker.proofs.link.link.Goals as goal
 
 pub unwrap-requires : goal.unwrap-requires
 unwrap-requires c =
-    c.new.ensures.small.1 (subst IsSmall (sym c.in_ok-parts.ensures) (small_linked (plain_file c.args.file.now) (plain_program c.args.program.now) c.args.units.now c.requires))
+    c.new.ensures.small.1 (subst IsSmall (sym c.in_ok-parts.ensures)
+    (small_linked (plain_file c.args.file.now) (plain_program c.args.program.now) c.args.units.now c.requires))

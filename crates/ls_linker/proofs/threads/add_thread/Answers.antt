@@ -9,4 +9,5 @@ use Rattle.ls_linker.proofs.threads.add_thread.Goals as goal
 pub push_thread-requires-clause-links : goal.push_thread-requires-clause-links
 push_thread-requires-clause-links c =
     let classes = map plain_class c.args.classes.now in
-    subst (λ calls. All (λ call. CallLinks classes (plain_call call)) calls) (sym c.deref-3.ensures.value) (all_unmapped (CallLinks classes) plain_call c.args.thread.now.calls.items c.requires.calls)
+    subst (λ calls. All (λ call. CallLinks classes (plain_call call)) calls) (sym c.deref-3.ensures.value)
+    (all_unmapped (CallLinks classes) plain_call c.args.thread.now.calls.items c.requires.calls)

@@ -3,4 +3,5 @@ use Rattle.ls_emit_laws.specs.Units.{moved}
 use Rattle.ls_linker.proofs.units.add_instructions.Given as goal
 
 abbrev pub invariant-loop-instruction : goal.invariant-loop-instruction
-invariant-loop-instruction l = l.code.items ≡ l.fn.code.items ++ map (moved l.start) (take l.instruction-index l.instructions)
+invariant-loop-instruction l = l.code.items ≡ l.fn.code.items ++
+    map (moved l.start) (take l.instruction-index l.instructions)

@@ -9,4 +9,6 @@ use Rattle.ls_linker_bounds.proofs.in_range.ranged_links.Goals as goal
 pub returns : goal.returns
 returns c = λ file program well reads fit short.
     let once = links_once file program (units_of (flat_file (lowered_file file))) in
-    ∥∥₁_elim well once (λ w. ∥∥₁_elim reads once (λ r. all_link file program w.limits r.typed r.limits w.typed w.classes w.loops fit short))
+    ∥∥₁_elim well once
+    (λ w. ∥∥₁_elim reads once (λ r. all_link file program w.limits r.typed r.limits w.typed w.classes w.loops fit
+    short))

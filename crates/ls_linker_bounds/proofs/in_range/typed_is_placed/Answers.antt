@@ -5,4 +5,5 @@ use Rattle.ls_linker_bounds.proofs.Placed.{file_placed}
 use Rattle.ls_linker_bounds.proofs.in_range.typed_is_placed.Goals as goal
 
 pub returns : goal.returns
-returns c = λ file well. ∥∥₁_elim well (placed_once (lowered_file file) (lowered_file file)) (λ w. file_placed file w.typed)
+returns c = λ file well. ∥∥₁_elim well (placed_once (lowered_file file) (lowered_file file))
+    (λ w. file_placed file w.typed)

@@ -6,7 +6,13 @@ use Rattle.ls_linker_counts.proofs.files.are_short.Goals as goal
 
 pub loop-length-preserved : goal.loop-length-preserved
 loop-length-preserved c =
-    all_more (λ n. n ≤ most_instructions) c.args.lengths.now c.loop-length.length-index (slice_index c.args.lengths.now c.loop-length.length-index) (search rules) (search rules) c.loop-length.invariant (search rules)
+    all_more (λ n. n ≤ most_instructions) c.args.lengths.now c.loop-length.length-index
+    (slice_index c.args.lengths.now c.loop-length.length-index) (search rules) (search rules)
+    c.loop-length.invariant (search rules)
 
 pub returns : goal.returns
-returns c = (λ _. all_done (λ n. n ≤ most_instructions) c.args.lengths.now c.loop-length.length-index (search rules) c.loop-length.invariant, λ _. search rules)
+returns c = (
+  λ _. all_done (λ n. n ≤ most_instructions) c.args.lengths.now c.loop-length.length-index (search rules)
+      c.loop-length.invariant,
+  λ _. search rules,
+)

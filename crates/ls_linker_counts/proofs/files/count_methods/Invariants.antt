@@ -6,4 +6,5 @@ use Rattle.ls_linker_counts.proofs.files.count_methods.Given as goal
 
 abbrev pub invariant-loop-method : goal.invariant-loop-method
 invariant-loop-method l =
-    (l.out.items ≡ map (λ m. counted_size (plain_statement m.body)) (take l.method-index l.methods)) × All (λ m. copied (plain_statement m.body) ≤ 4096) (take l.method-index l.methods)
+    (l.out.items ≡ map (λ m. counted_size (plain_statement m.body)) (take l.method-index l.methods)) ×
+    All (λ m. copied (plain_statement m.body) ≤ 4096) (take l.method-index l.methods)

@@ -3,4 +3,5 @@ use Rattle.ls_linker_counts.specs.Counts.{scaled}
 use Rattle.ls_linker_counts.proofs.ways.put_scaled.Given as goal
 
 abbrev pub invariant-loop-way : goal.invariant-loop-way
-invariant-loop-way l = l.out.items ++ scaled l.times (drop l.way-index l.ways) ≡ l.initial.out.items ++ scaled l.times l.ways
+invariant-loop-way l = l.out.items ++ scaled l.times (drop l.way-index l.ways) ≡ l.initial.out.items ++
+    scaled l.times l.ways

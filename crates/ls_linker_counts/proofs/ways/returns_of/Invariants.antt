@@ -4,4 +4,5 @@ use Rattle.ls_linker_counts.specs.Counts.{returned}
 use Rattle.ls_linker_counts.proofs.ways.returns_of.Given as goal
 
 abbrev pub invariant-loop-way : goal.invariant-loop-way
-invariant-loop-way l = (min (l.all + returned (drop l.way-index l.ways)) 4097 ≡ min (returned l.ways) 4097) × (l.all ≤ 4097)
+invariant-loop-way l = (min (l.all + returned (drop l.way-index l.ways)) 4097 ≡ min (returned l.ways) 4097) ×
+    (l.all ≤ 4097)

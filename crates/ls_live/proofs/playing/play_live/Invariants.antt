@@ -6,4 +6,8 @@ abbrev pub ghosts-played-L-Ledger : goal.ghosts-played-L-Ledger
 ghosts-played-L-Ledger g a = record { name = a.blank.name; parts = a.blank.parts }
 
 abbrev pub ghosts-played-L-Session : goal.ghosts-played-L-Session
-ghosts-played-L-Session g a = record { start = loaded (code_of_image a.image.now) a.bounds.cells; limit = a.bounds.limit; seats = a.blank.parts }
+ghosts-played-L-Session g a = record {
+  start = loaded (code_of_image a.image.now) a.bounds.cells;
+  limit = a.bounds.limit;
+  seats = a.blank.parts;
+}

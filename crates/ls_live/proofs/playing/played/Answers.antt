@@ -16,14 +16,18 @@ returns-in-Ok-close-clause-there g c =
     let code = code_of_image c.args.image.now in
     let count : length g.L.Session.start.threads ≡ length code.starts =
     ap (λ (m : Machine). length m.threads) c.requires.start ∙ length-map code.starts _ in
-    subst (λ (n : ℕ). All (λ t. t < n) (scheduled c.in-Ok-close.record)) count c.in-Ok-close.ensures.closed.record_from.there
+    subst (λ (n : ℕ). All (λ t. t < n) (scheduled c.in-Ok-close.record)) count
+    c.in-Ok-close.ensures.closed.record_from.there
 
 pub returns-in-Ok-close-clause-due : goal.returns-in-Ok-close-clause-due
 returns-in-Ok-close-clause-due g c =
-    subst (λ (m : Machine). AreDue m (scheduled c.in-Ok-close.record)) c.requires.start c.in-Ok-close.ensures.closed.record_from.due
+    subst (λ (m : Machine). AreDue m (scheduled c.in-Ok-close.record)) c.requires.start
+    c.in-Ok-close.ensures.closed.record_from.due
 
 pub returns-in-Ok-close-clause-done : goal.returns-in-Ok-close-clause-done
 returns-in-Ok-close-clause-done g c =
     let closed = c.in-Ok-close.ensures.closed in
-    all_done g.L.Session.start g.L.Session.limit (code_of_image c.args.image.now) c.args.bounds.cells c.args.bounds.limit c.in-Ok-close.record c.in-Ok-run_live.worked.items
-    c.requires.start c.requires.limit (closed.whole ∙ c.requires.seats.1) c.in-Ok-run_live.ensures.order closed.agreed c.in-Ok-run_live.ensures.told
+    all_done g.L.Session.start g.L.Session.limit (code_of_image c.args.image.now) c.args.bounds.cells
+    c.args.bounds.limit c.in-Ok-close.record c.in-Ok-run_live.worked.items
+    c.requires.start c.requires.limit (closed.whole ∙ c.requires.seats.1) c.in-Ok-run_live.ensures.order closed.agreed
+    c.in-Ok-run_live.ensures.told

@@ -6,4 +6,8 @@ abbrev pub ghosts-first_answer-L-Ledger : goal.ghosts-first_answer-L-Ledger
 ghosts-first_answer-L-Ledger g a = record { name = a.blank.name; parts = a.blank.parts }
 
 abbrev pub ghosts-first_answer-L-Session : goal.ghosts-first_answer-L-Session
-ghosts-first_answer-L-Session g a = record { start = loaded (code_of_image a.image.now) 1000; limit = a.limit; seats = a.blank.parts }
+ghosts-first_answer-L-Session g a = record {
+  start = loaded (code_of_image a.image.now) 1000;
+  limit = a.limit;
+  seats = a.blank.parts;
+}

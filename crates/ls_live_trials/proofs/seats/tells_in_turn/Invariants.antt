@@ -6,4 +6,8 @@ abbrev pub ghosts-is_told_in_turn-L-Ledger : goal.ghosts-is_told_in_turn-L-Ledge
 ghosts-is_told_in_turn-L-Ledger g a = record { name = a.blank.name; parts = a.blank.parts }
 
 abbrev pub ghosts-is_told_in_turn-L-Session : goal.ghosts-is_told_in_turn-L-Session
-ghosts-is_told_in_turn-L-Session g a = record { start = loaded (code_of_image a.image.now) 1000; limit = 100; seats = a.blank.parts }
+ghosts-is_told_in_turn-L-Session g a = record {
+  start = loaded (code_of_image a.image.now) 1000;
+  limit = 100;
+  seats = a.blank.parts;
+}

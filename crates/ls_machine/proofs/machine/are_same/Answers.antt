@@ -7,5 +7,6 @@ pub is_same-requires : goal.is_same-requires
 is_same-requires c =
     let within : c.loop-i.i < length c.args.others.now = omega arith in
     ap (λ (t : KeptThread). t.thread.calls) c.index-threads-i.is
-    ∙ same_at (λ (t : KeptThread). t.thread.calls) c.args.threads.now c.args.others.now c.loop-i.i c.index-threads-i.result c.index-others-i.result c.requires c.loop-i-test.true within
+    ∙ same_at (λ (t : KeptThread). t.thread.calls) c.args.threads.now c.args.others.now c.loop-i.i
+    c.index-threads-i.result c.index-others-i.result c.requires c.loop-i-test.true within
     ∙ sym (ap (λ (t : KeptThread). t.thread.calls) c.index-others-i.is)

@@ -3,4 +3,5 @@ use Rattle.ls_code.specs.declared.code.Method.{Method}
 use Rattle.ls_machine.proofs.machine.most_locals.Given as goal
 
 abbrev pub invariant-loop-method : goal.invariant-loop-method
-invariant-loop-method l = (k : ℕ) (d : Method) → k < l.method-index → (slice_index_or l.methods k d).arguments + (slice_index_or l.methods k d).more ≤ l.most
+invariant-loop-method l = (k : ℕ) (d : Method) → k < l.method-index →
+    (slice_index_or l.methods k d).arguments + (slice_index_or l.methods k d).more ≤ l.most

@@ -3,4 +3,5 @@ use Rattle.ls_machine_threads.specs.Memory.{started_kept}
 use Rattle.ls_machine.proofs.machine.start_all.Given as goal
 
 abbrev pub invariant-loop-start : goal.invariant-loop-start
-invariant-loop-start l = l.threads.items ≡ map (started_kept l.locals_room l.operands_room) (take l.start-index l.starts)
+invariant-loop-start l = l.threads.items ≡ map (started_kept l.locals_room l.operands_room)
+    (take l.start-index l.starts)

@@ -2,4 +2,7 @@ use Rattle.std.proofs.Common.{◌≡◌, ◌+◌, ◌++◌, take, replicate, len
 use Rattle.ls_machine_moves.proofs.frame.clear.Given as goal
 
 abbrev pub invariant-loop-i : goal.invariant-loop-i
-invariant-loop-i l = record { cleared : take (l.from + l.i) l.locals ≡ take l.from l.initial.locals ++ replicate l.i 0; long : length l.locals ≡ length l.initial.locals }
+invariant-loop-i l = record {
+  cleared : take (l.from + l.i) l.locals ≡ take l.from l.initial.locals ++ replicate l.i 0;
+  long : length l.locals ≡ length l.initial.locals;
+}

@@ -4,4 +4,5 @@ use Rattle.ls_events.specs.declared.kind.Kind.{Kind}
 use Rattle.ls_machine_threads.proofs.thread.find_catcher.Given as goal
 
 abbrev pub invariant-loop-at : goal.invariant-loop-at
-invariant-loop-at l = (kind : Kind) → thrown l.rows kind (map (λ k. k.frame) (drop l.at l.frames)) ≡ thrown l.rows kind (map (λ k. k.frame) (drop l.from l.frames))
+invariant-loop-at l = (kind : Kind) → thrown l.rows kind (map (λ k. k.frame) (drop l.at l.frames)) ≡ thrown l.rows kind
+    (map (λ k. k.frame) (drop l.from l.frames))

@@ -2,4 +2,5 @@ use Rattle.ls_meaning.proofs.RenamesThreads.{next_other}
 use Rattle.ls_meaning.proofs.laws.next_renames.Goals as goal
 
 pub returns : goal.returns
-returns c = λ file program constants values names is thread answers. next_other names is file constants program values thread answers
+returns c = λ file program constants values names is thread answers.
+    next_other names is file constants program values thread answers

@@ -6,4 +6,8 @@ abbrev pub ghosts-run_noted-L-Ledger : goal.ghosts-run_noted-L-Ledger
 ghosts-run_noted-L-Ledger g a = record { name = a.blank.name; parts = a.blank.parts }
 
 abbrev pub ghosts-run_noted-L-Session : goal.ghosts-run_noted-L-Session
-ghosts-run_noted-L-Session g a = record { start = loaded (code_of_image a.image.now) 1000; limit = 250000; seats = a.blank.parts }
+ghosts-run_noted-L-Session g a = record {
+  start = loaded (code_of_image a.image.now) 1000;
+  limit = 250000;
+  seats = a.blank.parts;
+}

@@ -8,15 +8,18 @@ use Rattle.ls_order_search.proofs.finding.find_order.Goals as goal
 
 pub find_calls-requires : goal.find_calls-requires
 find_calls-requires c =
-    calls_of_history (map plain_event c.args.events.now) _ _ (sym (length-map c.args.events.now plain_event)) (c.as_slice.ensures.value ∙ c.in_ok-calls.ensures)
+    calls_of_history (map plain_event c.args.events.now) _ _ (sym (length-map c.args.events.now plain_event))
+    (c.as_slice.ensures.value ∙ c.in_ok-calls.ensures)
 
 pub legal_names-requires-clause-way : goal.legal_names-requires-clause-way
 legal_names-requires-clause-way c =
-    let some = subst (λ o. IfSome o (λ p. Way [] c.as_slice.result.now p.items)) c.in-Some.is c.in_ok-order.ensures.some in
+    let some = subst (λ o. IfSome o (λ p. Way [] c.as_slice.result.now p.items)) c.in-Some.is c.in_ok-order.ensures.some
+    in
     subst (λ (l : Calls). Way [] l c.as_slice-in-Some.result.now) (c.as_slice.ensures.value ∙ c.in_ok-calls.ensures)
     (subst (λ (l : Calls). Way [] c.as_slice.result.now l) (sym c.as_slice-in-Some.ensures.value) some)
 
 pub returns-clause-none : goal.returns-clause-none
 returns-clause-none c = λ order.
     never_legal (map plain_event c.args.events.now) order
-    (subst NoOrder (c.as_slice.ensures.value ∙ c.in_ok-calls.ensures) (subst (λ o. IfNone o (NoOrder c.as_slice.result.now)) c.in-None.is c.in_ok-order.ensures.none))
+    (subst NoOrder (c.as_slice.ensures.value ∙ c.in_ok-calls.ensures)
+    (subst (λ o. IfNone o (NoOrder c.as_slice.result.now)) c.in-None.is c.in_ok-order.ensures.none))

@@ -10,4 +10,5 @@ pub returns : goal.returns
 returns c =
     let h = map plain_event c.args.events.now in
     let small : length h < 2 ^ 64 = omega (arith, length-map c.args.events.now plain_event) in
-    IfOk-weaker c.names_of.result _ _ (λ names e. subst (IsLegal h) (sym e) (names_legal h c.args.order.now c.requires.history small c.requires.one_set c.requires.way)) c.names_of.ensures
+    IfOk-weaker c.names_of.result _ _ (λ names e. subst (IsLegal h) (sym e)
+    (names_legal h c.args.order.now c.requires.history small c.requires.one_set c.requires.way)) c.names_of.ensures

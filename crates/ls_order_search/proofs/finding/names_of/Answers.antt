@@ -12,4 +12,5 @@ loop-call-preserved c =
     let i = c.loop-call.call-index in
     let lt : i < length order = omega arith in
     ap (map string_bytes) c.in_ok-push.ensures.items ∙ map_push string_bytes c.loop-call.names.items c.in_ok-name.name
-    ∙ ap₂ (λ xs x. xs ++ x ∷ []) c.loop-call.invariant c.in_ok-name.ensures ∙ sym (map_more (named_by h) order i no_call lt)
+    ∙ ap₂ (λ xs x. xs ++ x ∷ []) c.loop-call.invariant c.in_ok-name.ensures ∙
+    sym (map_more (named_by h) order i no_call lt)

@@ -4,4 +4,5 @@ use Rattle.ls_orders.specs.Rules.{named_by}
 use Rattle.ls_order_search.proofs.finding.names_of.Given as goal
 
 abbrev pub invariant-loop-call : goal.invariant-loop-call
-invariant-loop-call l = map string_bytes l.names.items ≡ map (named_by (map plain_event l.events)) (take l.call-index l.order)
+invariant-loop-call l = map string_bytes l.names.items ≡ map (named_by (map plain_event l.events))
+    (take l.call-index l.order)

@@ -8,7 +8,9 @@ loop-call-preserved c =
     let order = c.args.order.now in
     let i = c.loop-call.call-index in
     let lt : i < length order = omega arith in
-    marked_more c.args.marks.now.items c.loop-call.marks.items c.mark.new.marks.items order i no_call lt c.loop-call.invariant c.in_ok-mark.ensures
+    marked_more c.args.marks.now.items c.loop-call.marks.items c.mark.new.marks.items order i no_call lt
+    c.loop-call.invariant c.in_ok-mark.ensures
 
 pub returns : goal.returns
-returns c = marked_all c.args.marks.now.items c.loop-call.marks.items c.args.order.now c.loop-call.call-index (omega arith) c.loop-call.invariant
+returns c = marked_all c.args.marks.now.items c.loop-call.marks.items c.args.order.now c.loop-call.call-index
+    (omega arith) c.loop-call.invariant

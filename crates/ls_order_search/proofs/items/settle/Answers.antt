@@ -9,7 +9,8 @@ use Rattle.ls_order_search.proofs.items.settle.Goals as goal
 
 pub loop-at-init : goal.loop-at-init
 loop-at-init c =
-    settling_start c.args.calls.now (held c.new-items.result) c.new-marks.result.items (λ z. ap (λ ks. list_any (is_at (int_cmp z)) ks) c.new-items.ensures.empty) c.new-marks.ensures.items
+    settling_start c.args.calls.now (held c.new-items.result) c.new-marks.result.items
+    (λ z. ap (λ ks. list_any (is_at (int_cmp z)) ks) c.new-items.ensures.empty) c.new-marks.ensures.items
 
 pub loop-at-preserved : goal.loop-at-preserved
 loop-at-preserved c = MatchBool-at_true _ _ c.if-not-branch.false c.in_ok-settle_call.ensures
@@ -18,4 +19,5 @@ pub returns-then-not-branch-clause-none : goal.returns-then-not-branch-clause-no
 returns-then-not-branch-clause-none c = MatchBool-at_false _ _ c.if-not-branch.true c.in_ok-settle_call.ensures
 
 pub returns-clause-some : goal.returns-clause-some
-returns-clause-some c = settled c.args.calls.now c.loop-at.at (held c.loop-at.items) c.loop-at.marks.items (omega arith) c.loop-at.invariant
+returns-clause-some c = settled c.args.calls.now c.loop-at.at (held c.loop-at.items) c.loop-at.marks.items (omega arith)
+    c.loop-at.invariant

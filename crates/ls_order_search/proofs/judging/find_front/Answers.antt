@@ -11,13 +11,17 @@ use Rattle.ls_order_search.proofs.judging.find_front.Goals as goal
 
 pub find_order-requires : goal.find_order-requires
 find_order-requires c =
-    ap is_history (sym (take-map plain_event c.args.count c.args.events.now)) ∙ history_front (map plain_event c.args.events.now) c.args.count c.requires.history
+    ap is_history (sym (take-map plain_event c.args.count c.args.events.now)) ∙
+    history_front (map plain_event c.args.events.now) c.args.count c.requires.history
 
 pub returns-clause-some : goal.returns-clause-some
 returns-clause-some c =
     IfOk-weaker c.find_order.result _ _ (λ found h. if_some_more found _ _
-    (λ order l. subst (λ es. IsLegal es (map string_bytes order.items)) (sym (take-map plain_event c.args.count c.args.events.now)) l) h) c.find_order.ensures.some
+    (λ order l. subst (λ es. IsLegal es (map string_bytes order.items))
+    (sym (take-map plain_event c.args.count c.args.events.now)) l) h) c.find_order.ensures.some
 
 pub returns-clause-none : goal.returns-clause-none
 returns-clause-none c =
-    IfOk-weaker c.find_order.result _ _ (λ found h. if_none_more found _ _ (λ n. subst NoneIsLegal (sym (take-map plain_event c.args.count c.args.events.now)) n) h) c.find_order.ensures.none
+    IfOk-weaker c.find_order.result _ _ (λ found h. if_none_more found _ _
+    (λ n. subst NoneIsLegal (sym (take-map plain_event c.args.count c.args.events.now)) n) h)
+    c.find_order.ensures.none

@@ -1,4 +1,5 @@
-use Rattle.std.proofs.Common.{sym, subst, arith, le_of_eq, length, map, take, take_all, string_bytes, List, String, Global}
+use Rattle.std.proofs.Common.{sym, subst, arith, le_of_eq, length, map, take, take_all, string_bytes, List, String}
+use Rattle.std.proofs.Common.{Global}
 use Rattle.std.proofs.lemmas.List.{length-map}
 use Rattle.ls_report.specs.Plain.{plain_event}
 use Rattle.ls_orders.specs.Legal.{IsLegal}
@@ -14,7 +15,8 @@ halves-init c =
     record {
       apart = omega arith;
       within = omega arith;
-      before = subst (λ (l : List (String Global)). IsLegal (take 0 h) (map string_bytes l)) (sym c.new-order.ensures.items) empty_legal;
+      before = subst (λ (l : List (String Global)). IsLegal (take 0 h) (map string_bytes l))
+          (sym c.new-order.ensures.items) empty_legal;
       after = subst NoneIsLegal (sym (take_all (length c.args.events.now) h (le_of_eq len))) c.requires.none;
     }
 
@@ -23,6 +25,7 @@ returns c =
     let h = map plain_event c.args.events.now in
     let i = c.halves.invariant in (
       c.requires.decided,
-      hopeless_at h (length c.args.events.now) c.halves.at c.halves.illegal _ (sym (length-map c.args.events.now plain_event)) i.apart i.within (omega arith) i.before i.after,
+      hopeless_at h (length c.args.events.now) c.halves.at c.halves.illegal _
+          (sym (length-map c.args.events.now plain_event)) i.apart i.within (omega arith) i.before i.after,
       i.before,
     )

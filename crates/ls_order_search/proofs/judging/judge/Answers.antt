@@ -9,4 +9,8 @@ pub returns-then-many : goal.returns-then-many
 returns-then-many c = (sym c.in_default.ensures, sym c.in_ok-many.ensures ∙ c.if-many.true)
 
 pub decide-requires-clause-decided : goal.decide-requires-clause-decided
-decide-requires-clause-decided c = record { one_set = sym c.in_default.ensures; few = sym c.in_ok-many.ensures ∙ c.if-many.false }
+decide-requires-clause-decided c = record {
+  one_set = sym c.in_default.ensures;
+  few = sym c.in_ok-many.ensures ∙
+      c.if-many.false;
+}

@@ -4,4 +4,5 @@ use Rattle.ls_order_search.specs.OrderLines.{spaced}
 use Rattle.ls_order_search.proofs.printing.push_spaced.Given as goal
 
 abbrev pub invariant-loop-call : goal.invariant-loop-call
-invariant-loop-call l = string_bytes l.text ++ flat_map spaced (map string_bytes (drop l.call-index l.calls)) ≡ string_bytes l.fn.text ++ flat_map spaced (map string_bytes l.calls)
+invariant-loop-call l = string_bytes l.text ++ flat_map spaced (map string_bytes (drop l.call-index l.calls)) ≡
+    string_bytes l.fn.text ++ flat_map spaced (map string_bytes l.calls)

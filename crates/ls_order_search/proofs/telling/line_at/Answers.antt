@@ -12,7 +12,8 @@ pub loop-past-preserved : goal.loop-past-preserved
 loop-past-preserved c = (
   search rules,
   λ events says within.
-      cut_next c.args.text.now c.loop-past.rest.now events c.loop-past.past c.after_line-rest.result.now (omega arith) says (omega arith) (c.loop-past.invariant.1 events says within) c.after_line-rest.ensures,
+      cut_next c.args.text.now c.loop-past.rest.now events c.loop-past.past c.after_line-rest.result.now (omega arith)
+      says (omega arith) (c.loop-past.invariant.1 events says within) c.after_line-rest.ensures,
 )
 
 pub returns : goal.returns
@@ -20,4 +21,5 @@ returns c = λ events e says there.
     let within = slice_get_within events c.args.at e there in
     let same = c.loop-past.invariant.1 events says (omega arith) in
     let last : c.loop-past.past ≡ c.args.at = omega arith in
-    c.first_line.ensures _ _ (ap (cut 10) (same ∙ ap (λ n. history_text (drop n events)) last) ∙ cut_there c.args.text.now events c.args.at e (omega arith) says there)
+    c.first_line.ensures _ _ (ap (cut 10) (same ∙ ap (λ n. history_text (drop n events)) last) ∙
+    cut_there c.args.text.now events c.args.at e (omega arith) says there)

@@ -14,4 +14,5 @@ pub judge-requires : goal.judge-requires
 judge-requires c = ap is_history c.events-events.ensures ∙ c.in_ok-history.ensures.found.history
 
 pub outcome_text-requires-clause-says : goal.outcome_text-requires-clause-says
-outcome_text-requires-clause-says c = subst (Says c.args.text.now) (sym c.events-events.ensures) c.in_ok-history.ensures.found
+outcome_text-requires-clause-says c = subst (Says c.args.text.now) (sym c.events-events.ensures)
+    c.in_ok-history.ensures.found

@@ -8,7 +8,8 @@ pub returns-in-Pending : goal.returns-in-Pending
 returns-in-Pending c =
     record {
       behind = c.take_end.ensures.behind;
-      put = put_there (ended c.args.ends.now) (ended c.take_end.new.ends) _ _ _ _ _ refl (sym c.in-Pending.is ∙ c.end_at.ensures) c.take_end.ensures.put;
+      put = put_there (ended c.args.ends.now) (ended c.take_end.new.ends) _ _ _ _ _ refl
+          (sym c.in-Pending.is ∙ c.end_at.ensures) c.take_end.ensures.put;
     }
 
 pub returns-in_default : goal.returns-in_default
@@ -16,5 +17,6 @@ returns-in_default c =
     record {
       behind = c.put_end.ensures.behind;
       put = IfOk-weaker c.put_end.result _ _
-          (λ v h. put_there (ended c.args.ends.now) (ended c.put_end.new.ends) _ _ _ _ _ refl c.end_at.ensures h) c.put_end.ensures.put;
+          (λ v h. put_there (ended c.args.ends.now) (ended c.put_end.new.ends) _ _ _ _ _ refl c.end_at.ensures h)
+          c.put_end.ensures.put;
     }

@@ -8,6 +8,7 @@ use Rattle.ls_orders.proofs.finding.set_calls.Given as goal
 
 abbrev pub invariant-loop-at : goal.invariant-loop-at
 invariant-loop-at l = record {
-  ends : (thread : Text) (call : ℕ) → ended l.ends thread call ≡ end_of thread call l.at (drop l.at (map plain_event l.events));
+  ends : (thread : Text) (call : ℕ) →
+      ended l.ends thread call ≡ end_of thread call l.at (drop l.at (map plain_event l.events));
   calls : reverse l.calls.items ≡ calls_from l.at (drop l.at (map plain_event l.events));
 }

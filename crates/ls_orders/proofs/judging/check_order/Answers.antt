@@ -7,4 +7,8 @@ pub returns-clause-legal : goal.returns-clause-legal
 returns-clause-legal c =
     let history = c.args.history.now in
     let order = c.args.order.now in
-    IfOk-weaker c.judged.result _ _ (λ v e. (λ k. legal_is history order (sym e ∙ k), λ l. e ∙ is_legal history order l)) c.judged.ensures
+    IfOk-weaker c.judged.result _ _ (λ v e. (
+      λ k. legal_is history order (sym e ∙ k),
+      λ l. e ∙
+          is_legal history order l,
+    )) c.judged.ensures

@@ -17,7 +17,10 @@ returns c =
     let order = c.as_slice-in-Calls-2.result.now in
     let find : Text → Option SetCall = λ q. option_copied (get_by_text c.in_ok-names.names q) in
     let look : Text → Result SetCall Text = λ q. ok_or (find q) q in
-    let said : Ok (map plain_call order) ≡ each look c.args.order.now = ap (λ cs. Ok (map plain_call cs)) c.as_slice-in-Calls-2.ensures.value ∙ ap plain_named (sym c.in-Calls.is) ∙ c.in_ok-call-2.ensures ∙ ap (each look) c.calls.ensures in
-    let same = judged_so es c.args.history.now c.args.order.now find c.as_slice.result.now (Ok (map plain_call order)) c.events-events.ensures c.in_default.ensures
+    let said : Ok (map plain_call order) ≡ each look c.args.order.now = ap (λ cs. Ok (map plain_call cs))
+    c.as_slice-in-Calls-2.ensures.value ∙ ap plain_named (sym c.in-Calls.is) ∙ c.in_ok-call-2.ensures ∙
+    ap (each look) c.calls.ensures in
+    let same = judged_so es c.args.history.now c.args.order.now find c.as_slice.result.now (Ok (map plain_call order))
+    c.events-events.ensures c.in_default.ensures
     (c.as_slice.ensures.value ∙ c.in_ok-calls.ensures) c.in_ok-names.ensures said in
     IfOk-weaker c.judge_calls.result _ _ (λ v h. h ∙ same) c.judge_calls.ensures

@@ -23,7 +23,8 @@ returns-in-None c =
     let split = ap (map plain_text) (drop_more order i no_text c.loop-name-test.true) in
     let none = ap (λ o. ok_or (option_copied o) name) (sym c.in-None.ensures.value) in
     ap Err c.in_ok-from_str-in-None.ensures.ok
-    ∙ sym (ends look front name name rest _ none (ap (λ xs. with_front front (each look xs)) (sym split) ∙ c.loop-name.invariant))
+    ∙ sym (ends look front name name rest _ none (ap (λ xs. with_front front (each look xs)) (sym split) ∙
+    c.loop-name.invariant))
 
 pub loop-name-preserved : goal.loop-name-preserved
 loop-name-preserved c =
@@ -37,5 +38,7 @@ loop-name-preserved c =
     let call = c.in-Some.call.now in
     let split = ap (map plain_text) (drop_more order i no_text c.loop-name-test.true) in
     let some = ap (λ o. ok_or (option_copied o) name) (sym c.in-Some.ensures.value) in
-    ap (λ xs. with_front xs (each look rest)) (ap (map plain_call) c.in_ok-push-in-Some.ensures.items ∙ map_push plain_call calls call)
-    ∙ goes_on look front name call.now rest _ some (ap (λ xs. with_front front (each look xs)) (sym split) ∙ c.loop-name.invariant)
+    ap (λ xs. with_front xs (each look rest)) (ap (map plain_call) c.in_ok-push-in-Some.ensures.items ∙
+    map_push plain_call calls call)
+    ∙ goes_on look front name call.now rest _ some (ap (λ xs. with_front front (each look xs)) (sym split) ∙
+    c.loop-name.invariant)

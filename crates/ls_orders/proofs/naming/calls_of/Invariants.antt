@@ -9,5 +9,6 @@ use Rattle.ls_orders.proofs.ItemLemmas.{with_front}
 use Rattle.ls_orders.proofs.naming.calls_of.Given as goal
 
 abbrev pub invariant-loop-name : goal.invariant-loop-name
-invariant-loop-name l = with_front (map plain_call l.calls.items) (each (λ name. ok_or (option_copied (get_by_text l.names name)) name) (map plain_text (drop l.name-index l.order)))
+invariant-loop-name l = with_front (map plain_call l.calls.items)
+    (each (λ name. ok_or (option_copied (get_by_text l.names name)) name) (map plain_text (drop l.name-index l.order)))
     ≡ each (λ name. ok_or (option_copied (get_by_text l.names name)) name) (map plain_text l.order)

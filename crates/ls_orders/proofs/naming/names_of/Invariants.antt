@@ -7,4 +7,5 @@ use Rattle.ls_orders.specs.SetCalls.{call_named}
 use Rattle.ls_orders.proofs.naming.names_of.Given as goal
 
 abbrev pub invariant-loop-i : goal.invariant-loop-i
-invariant-loop-i l = (q : Text) → option_copied (get_by_text l.names q) ≡ call_named (map plain_event l.events) (drop l.i l.calls) q
+invariant-loop-i l = (q : Text) → option_copied (get_by_text l.names q) ≡ call_named (map plain_event l.events)
+    (drop l.i l.calls) q

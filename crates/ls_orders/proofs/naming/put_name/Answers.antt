@@ -10,4 +10,5 @@ returns c =
     let old = c.args.names.now in
     let new = c.insert.new.self in
     let name = string_bytes c.args.name in
-    name_put (get_by_text old) (get_by_text new) name c.args.call (λ q. hash_map_updates_text name old new (Some c.args.call) c.in_ok-insert.ensures.updates q)
+    name_put (get_by_text old) (get_by_text new) name c.args.call
+    (λ q. hash_map_updates_text name old new (Some c.args.call) c.in_ok-insert.ensures.updates q)

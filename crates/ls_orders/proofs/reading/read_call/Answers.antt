@@ -7,5 +7,6 @@ use Rattle.ls_orders.proofs.reading.read_call.Goals as goal
 
 pub returns-in_default : goal.returns-in_default
 returns-in_default c =
-    let no = false_from_ne_true (is_call c.args.item.now) (λ h. c.in_default.ensures.cases.0 (call_is_text c.args.item.now h)) in
+    let no = false_from_ne_true (is_call c.args.item.now) (λ h.
+    c.in_default.ensures.cases.0 (call_is_text c.args.item.now h)) in
     ap (λ b. cond b (Ok c.args.item.now) (Err (faults.BadOrder c.args.at))) no

@@ -7,6 +7,8 @@ use Rattle.ls_orders.proofs.rules.first_late.Given as goal
 
 abbrev pub invariant-loop-i : goal.invariant-loop-i
 invariant-loop-i l = record {
-  latest : (end : End) → list_any (λ y. ended_before end y.called) (map plain_call (take l.i l.order)) ≡ ended_before end l.latest;
-  found : first_where is_late (map plain_call (take l.i l.order)) (map plain_call (drop l.i l.order)) ≡ first_where is_late [] (map plain_call l.order);
+  latest : (end : End) →
+      list_any (λ y. ended_before end y.called) (map plain_call (take l.i l.order)) ≡ ended_before end l.latest;
+  found : first_where is_late (map plain_call (take l.i l.order)) (map plain_call (drop l.i l.order)) ≡ first_where
+      is_late [] (map plain_call l.order);
 }

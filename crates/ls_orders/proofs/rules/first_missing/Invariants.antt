@@ -5,4 +5,5 @@ use Rattle.ls_orders.specs.Rules.{is_missing}
 use Rattle.ls_orders.proofs.rules.first_missing.Given as goal
 
 abbrev pub invariant-loop-call : goal.invariant-loop-call
-invariant-loop-call l = find (is_missing (map plain_call l.order)) (drop l.call-index l.calls) ≡ find (is_missing (map plain_call l.order)) l.calls
+invariant-loop-call l = find (is_missing (map plain_call l.order)) (drop l.call-index l.calls) ≡ find
+    (is_missing (map plain_call l.order)) l.calls

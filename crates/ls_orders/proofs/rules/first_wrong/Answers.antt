@@ -9,8 +9,11 @@ loop-i-preserved c =
     let i = c.loop-i.i in
     let call = at xs i in
     record {
-      same = λ z. c.in_ok-apply.ensures z ∙ ap (λ b. after_call z b call) (c.loop-i.invariant.same z) ∙ sym (present_more z xs i c.loop-i-test.true);
+      same = λ z. c.in_ok-apply.ensures z ∙ ap (λ b. after_call z b call) (c.loop-i.invariant.same z) ∙
+          sym (present_more z xs i c.loop-i-test.true);
       found = goes_on has_wrong_reply xs i _ c.loop-i-test.true
-          (ap (λ b. differs call.end (answer_of call.operation b)) (sym (c.contains-was.ensures ∙ c.loop-i.invariant.same call.item))
-          ∙ ap (differs call.end) (sym c.answer_of.ensures) ∙ sym c.differs.ensures ∙ c.if-differs.false) c.loop-i.invariant.found;
+          (ap (λ b. differs call.end (answer_of call.operation b))
+          (sym (c.contains-was.ensures ∙ c.loop-i.invariant.same call.item))
+          ∙ ap (differs call.end) (sym c.answer_of.ensures) ∙ sym c.differs.ensures ∙ c.if-differs.false)
+          c.loop-i.invariant.found;
     }

@@ -8,5 +8,6 @@ use Rattle.ls_orders.proofs.rules.first_wrong.Given as goal
 abbrev pub invariant-loop-i : goal.invariant-loop-i
 invariant-loop-i l = record {
   same : (z : ℤ) → contains int_cmp l.set z ≡ is_present z (map plain_call (take l.i l.order));
-  found : first_where has_wrong_reply (map plain_call (take l.i l.order)) (map plain_call (drop l.i l.order)) ≡ first_where has_wrong_reply [] (map plain_call l.order);
+  found : first_where has_wrong_reply (map plain_call (take l.i l.order)) (map plain_call (drop l.i l.order)) ≡
+      first_where has_wrong_reply [] (map plain_call l.order);
 }

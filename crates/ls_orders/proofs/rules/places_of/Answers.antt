@@ -6,4 +6,5 @@ pub loop-call-preserved : goal.loop-call-preserved
 loop-call-preserved c = λ k.
     let xs = c.args.order.now in
     let i = c.loop-call.call-index in
-    c.in_ok-mark.ensures k ∙ ap (λ b. (at xs i).called == k || b) (c.loop-call.invariant k) ∙ sym (any_more (λ y. y.called == k) xs i c.loop-call-test.true)
+    c.in_ok-mark.ensures k ∙ ap (λ b. (at xs i).called == k || b) (c.loop-call.invariant k) ∙
+    sym (any_more (λ y. y.called == k) xs i c.loop-call-test.true)

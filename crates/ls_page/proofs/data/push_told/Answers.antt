@@ -10,5 +10,6 @@ returns c =
     let before : Text = before_text (names_of c.args.names) (take (c.args.window.from - 1) c.args.steps.now) in
     let rest : Text = rest_text (names_of c.args.names) c.args.steps.now c.args.window.from c.args.window.to in
     c.in_ok-push_rest.ensures
-    ∙ ap (λ w. w ++ rest) (c.in_ok-push_before.ensures ∙ ap (λ s. string_bytes c.args.out.now ++ before_text (names_of c.args.names) s) c.steps_before.ensures)
+    ∙ ap (λ w. w ++ rest) (c.in_ok-push_before.ensures ∙ ap (λ s. string_bytes c.args.out.now ++
+    before_text (names_of c.args.names) s) c.steps_before.ensures)
     ∙ append_assoc (string_bytes c.args.out.now) before rest

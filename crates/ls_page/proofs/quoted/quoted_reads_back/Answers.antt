@@ -9,7 +9,10 @@ use Rattle.ls_page.proofs.Characters.{all_safe, reads_all}
 use Rattle.ls_page.proofs.quoted.quoted_reads_back.Goals as goal
 
 pub returns-clause-safe : goal.returns-clause-safe
-returns-clause-safe c = λ text. rw (list_all-append is_safe (flat_map escaped (chars text)) (34 ∷ []), all_safe (chars text)) refl
+returns-clause-safe c = λ text. rw (
+  list_all-append is_safe (flat_map escaped (chars text)) (34 ∷ []),
+  all_safe (chars text),
+) refl
 
 pub returns-clause-back : goal.returns-clause-back
 returns-clause-back c = λ text rest utf8.

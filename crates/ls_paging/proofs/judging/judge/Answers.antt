@@ -20,4 +20,5 @@ returns-in_err-order c =
 pub returns : goal.returns
 returns c =
     verdict_given c.args.history.now c.args.order.now c.in_ok-history.history c.in_ok-order.order _
-    c.in_ok-history.ensures.found c.in_ok-order.ensures (c.in_ok-verdict_text.ensures ∙ ap judgement_text c.in_ok-verdict.ensures.exact)
+    c.in_ok-history.ensures.found c.in_ok-order.ensures (c.in_ok-verdict_text.ensures ∙
+    ap judgement_text c.in_ok-verdict.ensures.exact)

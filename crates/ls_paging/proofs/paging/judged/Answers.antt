@@ -10,14 +10,16 @@ use Rattle.ls_paging.proofs.paging.judged.Goals as goal
 pub judge-requires : goal.judge-requires
 judge-requires c =
     subst IsHistoryText
-    (sym (c.as_str.ensures.value ∙ c.in_ok-history.ensures ∙ ap (history_text (names_of c.args.names)) c.first_steps.ensures))
+    (sym (c.as_str.ensures.value ∙ c.in_ok-history.ensures ∙
+    ap (history_text (names_of c.args.names)) c.first_steps.ensures))
     (c.requires (take c.args.wanted.window.to c.args.steps.now))
 
 pub returns-in_err-verdict : goal.returns-in_err-verdict
 returns-in_err-verdict c =
     let p = err_from_is_err_and c.from_residual-in_err-verdict.result c.from_residual-in_err-verdict.ensures.1 in
     rw (p.1, p.2)
-    (verdict_fails (wanted_of c.args.wanted) (names_of c.args.names) c.args.steps.now c.args.order.now c.as_str.result.now
+    (verdict_fails (wanted_of c.args.wanted) (names_of c.args.names) c.args.steps.now c.args.order.now
+    c.as_str.result.now
     (c.as_str.ensures.value ∙ c.in_ok-history.ensures ∙ ap (history_text (names_of c.args.names)) c.first_steps.ensures)
     c.in_err-verdict.field-0.0 c.in_err-verdict.ensures)
 
@@ -31,4 +33,5 @@ returns c =
     (c.as_str.ensures.value ∙ c.in_ok-history.ensures ∙ ap (history_text names) c.first_steps.ensures)
     (string_bytes c.in_ok-verdict.verdict) _ c.in_ok-verdict.ensures
     (c.in_ok-page.ensures
-    ∙ ap (λ v. ordered_page_text names w.texts steps w.from w.to (record { order = order; verdict = v })) c.as_str-verdict.ensures.value)
+    ∙ ap (λ v. ordered_page_text names w.texts steps w.from w.to (record { order = order; verdict = v }))
+    c.as_str-verdict.ensures.value)

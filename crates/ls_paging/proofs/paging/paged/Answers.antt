@@ -24,11 +24,13 @@ returns-in_err-checked c =
 
 pub run-requires : goal.run-requires
 run-requires c =
-    programs_read c.source_is_readable.ensures (placed_file c.in_ok-parsed.parsed) (outcome_of c.in_ok-checked.checked) c.in_ok-checked.ensures.checked
+    programs_read c.source_is_readable.ensures (placed_file c.in_ok-parsed.parsed) (outcome_of c.in_ok-checked.checked)
+    c.in_ok-checked.ensures.checked
 
 pub returns : goal.returns
 returns c =
     let w = wanted_of c.args.wanted in
     let o = outcome_of c.in_ok-checked.checked in
     wider (RunsTo w o) (Pages w) c.run.result
-    (λ a h. Checks (placed_file c.in_ok-parsed.parsed) o a c.in_ok-parsed.ensures.file c.in_ok-checked.ensures.checked h) c.run.ensures
+    (λ a h. Checks (placed_file c.in_ok-parsed.parsed) o a c.in_ok-parsed.ensures.file c.in_ok-checked.ensures.checked
+    h) c.run.ensures

@@ -15,8 +15,10 @@ pub returns-in_err-program : goal.returns-in_err-program
 returns-in_err-program c =
     let p = err_from_is_err_and c.from_residual.result c.from_residual.ensures.1 in
     let o = outcome_of c.args.checked.now in
-    rw (p.1, p.2) (fails (RunsTo (wanted_of c.args.wanted) o) (lifted_program c.in_err-program.field-0.0) (NoProgram c.in_err-program.field-0.0
-    (no_program o c.args.wanted.texts.program.now c.in_err-program.field-0.0 c.in_err-program.ensures.refused c.in_err-program.ensures.stands)))
+    rw (p.1, p.2) (fails (RunsTo (wanted_of c.args.wanted) o) (lifted_program c.in_err-program.field-0.0)
+    (NoProgram c.in_err-program.field-0.0
+    (no_program o c.args.wanted.texts.program.now c.in_err-program.field-0.0 c.in_err-program.ensures.refused
+    c.in_err-program.ensures.stands)))
 
 pub played-requires : goal.played-requires
 played-requires c =

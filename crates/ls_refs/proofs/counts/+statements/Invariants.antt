@@ -6,4 +6,5 @@ use Rattle.ls_refs.proofs.counts.+statements.Given as goal
 
 abbrev pub invariant-count_statements-loop-s : goal.invariant-count_statements-loop-s
 invariant-count_statements-loop-s l =
-    (l.count ≤ most_locals) × (l.count + block_taken (statements_of (drop l.s-index l.statements)) ≡ l.so_far + block_taken (statements_of l.statements))
+    (l.count ≤ most_locals) × (l.count + block_taken (statements_of (drop l.s-index l.statements)) ≡ l.so_far +
+    block_taken (statements_of l.statements))

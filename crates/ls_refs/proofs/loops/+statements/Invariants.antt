@@ -5,4 +5,5 @@ use Rattle.ls_refs.proofs.loops.+statements.Given as goal
 
 abbrev pub invariant-put_block_loops-loop-s : goal.invariant-put_block_loops-loop-s
 invariant-put_block_loops-loop-s l =
-    vec_len l.out + block_loops (statements_of (drop l.s-index l.statements)) ≡ vec_len l.initial.out + block_loops (statements_of l.statements)
+    vec_len l.out + block_loops (statements_of (drop l.s-index l.statements)) ≡ vec_len l.initial.out + block_loops
+    (statements_of l.statements)

@@ -5,4 +5,5 @@ use Rattle.ls_refs.proofs.lower.lower_method.Goals as goal
 
 pub lower_statement-requires-clause-jumps : goal.lower_statement-requires-clause-jumps
 lower_statement-requires-clause-jumps c =
-    below (2 ^ 63) 0 (checked_statement c.args.method.now.body) (omega (arith, c.in_ok-count_loops.ensures.low)) c.requires.loops
+    below (2 ^ 63) 0 (checked_statement c.args.method.now.body) (omega (arith, c.in_ok-count_loops.ensures.low))
+    c.requires.loops

@@ -5,4 +5,6 @@ use Rattle.ls_refs_expressions.specs.Lowered.{lowered_method}
 use Rattle.ls_refs.proofs.lower.lower_refs.Given as goal
 
 abbrev pub invariant-loop-method : goal.invariant-loop-method
-invariant-loop-method l = map plain_method l.methods.items ≡ map (λ m. lowered_method (map plain_class l.file.classes.items) (checked_method m)) (take l.method-index l.file.methods.items)
+invariant-loop-method l = map plain_method l.methods.items ≡ map
+    (λ m. lowered_method (map plain_class l.file.classes.items) (checked_method m))
+    (take l.method-index l.file.methods.items)

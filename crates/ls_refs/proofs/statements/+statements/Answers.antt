@@ -11,10 +11,14 @@ pub lower_statement-loop-s-init : goal.lower_statement-loop-s-init
 lower_statement-loop-s-init t c =
     let classes = map plain_class c.args.classes.now in
     let items = c.deref-s-items.result.now in (
-      ap (λ n. c.args.free + n) (block_counted c.args.s.now c.in-Block.statements items c.deref-s-items.ensures.value c.in-Block.is),
-      ap (λ l. Block (in_front l (lowered_block classes c.args.free (checked_statements items)))) c.new-lowered.ensures.items
-          ∙ block_lowered classes c.args.free c.args.s.now c.in-Block.statements items c.deref-s-items.ensures.value c.in-Block.is,
-      block_below (2 ^ 63) c.args.s.now c.in-Block.statements items c.deref-s-items.ensures.value c.in-Block.is c.requires.jumps,
+      ap (λ n. c.args.free + n) (block_counted c.args.s.now c.in-Block.statements items c.deref-s-items.ensures.value
+          c.in-Block.is),
+      ap (λ l. Block (in_front l (lowered_block classes c.args.free (checked_statements items))))
+          c.new-lowered.ensures.items
+          ∙ block_lowered classes c.args.free c.args.s.now c.in-Block.statements items c.deref-s-items.ensures.value
+          c.in-Block.is,
+      block_below (2 ^ 63) c.args.s.now c.in-Block.statements items c.deref-s-items.ensures.value c.in-Block.is
+          c.requires.jumps,
     )
 
 pub lower_statement-loop-s-preserved : goal.lower_statement-loop-s-preserved
@@ -22,9 +26,13 @@ lower_statement-loop-s-preserved t c =
     let classes = map plain_class c.args.classes.now in
     let items = c.deref-s-items.result.now in
     let after = c.in_ok-s-in-Block.s.free in
-    let split : drop c.loop-s.s-index items ≡ c.s-item.result ∷ drop (c.loop-s.s-index + 1) items = left_at items c.loop-s.s-index c.s-item.result (search rules) c.s-item.is in (
+    let split : drop c.loop-s.s-index items ≡ c.s-item.result ∷
+    drop (c.loop-s.s-index + 1) items = left_at items c.loop-s.s-index c.s-item.result (search rules)
+    c.s-item.is in (
       one_counted c.loop-s.next after c.s-item.result _ _ _ split c.in_ok-s-in-Block.ensures.free c.loop-s.invariant.0,
-      ap Block (one_lowered classes c.loop-s.lowered.items c.put.new.out.items c.in_ok-s-in-Block.s.tree c.loop-s.next after c.s-item.result _ _ c.in_ok-put-in-Block.ensures split c.in_ok-s-in-Block.ensures.tree c.in_ok-s-in-Block.ensures.free)
+      ap Block (one_lowered classes c.loop-s.lowered.items c.put.new.out.items c.in_ok-s-in-Block.s.tree c.loop-s.next
+          after c.s-item.result _ _ c.in_ok-put-in-Block.ensures split c.in_ok-s-in-Block.ensures.tree
+          c.in_ok-s-in-Block.ensures.free)
           ∙ c.loop-s.invariant.1,
       (left_below (2 ^ 63) c.s-item.result _ _ split c.loop-s.invariant.2).1,
     )

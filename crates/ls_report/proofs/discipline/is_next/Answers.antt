@@ -14,4 +14,5 @@ returns-then-is_well_formed c =
     c.may_follow.ensures
     ∙ ap (λ o. may_follow o event) (ap (option_map plain_event) c.last_of.ensures
     ∙ sym (last-map (λ (e : Event). bytes_eq e.thread event.thread) plain_event events))
-    ∙ ap (λ b. b && may_follow (last_of event.thread (map plain_event events)) event) (sym c.if-is_well_formed.true ∙ c.is_well_formed.ensures)
+    ∙ ap (λ b. b && may_follow (last_of event.thread (map plain_event events)) event)
+    (sym c.if-is_well_formed.true ∙ c.is_well_formed.ensures)

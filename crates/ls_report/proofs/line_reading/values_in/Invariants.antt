@@ -13,7 +13,8 @@ invariant-loop-first l = record {
   text : shadow (Utf8 l.rest);
   read : l.text ≡ led l.values.items ++ l.rest;
   left : (vs : List Value) → list_all is_shown vs ≡ true → l.text ≡ arguments_text vs
-      → (back : List Value) × (vs ≡ l.values.items ++ back) × (0 < length back) × (list_all is_shown back ≡ true) × (l.rest ≡ arguments_text back);
+      → (back : List Value) × (vs ≡ l.values.items ++ back) × (0 < length back) × (list_all is_shown back ≡ true) ×
+      (l.rest ≡ arguments_text back);
 }
 
 abbrev pub decreases-loop-first : goal.decreases-loop-first

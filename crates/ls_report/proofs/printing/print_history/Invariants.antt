@@ -4,4 +4,5 @@ use Rattle.ls_report.specs.Printing.{run_text}
 use Rattle.ls_report.proofs.printing.print_history.Given as goal
 
 abbrev pub invariant-loop-event : goal.invariant-loop-event
-invariant-loop-event l = string_bytes l.out ++ run_text (plain_program l.program) (drop l.event-index l.events) ≡ run_text (plain_program l.program) l.events
+invariant-loop-event l = string_bytes l.out ++ run_text (plain_program l.program) (drop l.event-index l.events) ≡
+    run_text (plain_program l.program) l.events

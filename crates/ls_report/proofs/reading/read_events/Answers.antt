@@ -16,13 +16,19 @@ returns-in_default-2-clause-fault c =
     let inv = c.loop-line.invariant in
     let shorter = cut_shorter 10 rest c.in-Some.line.now c.in-Some.after.now c.in-Some.ensures in
     let small : length es < 2 ^ 63 = omega (arith, length-map c.loop-line.front.events.items plain_event) in
-    let place : c.args.length - length rest + length rest ≡ length text = omega (arith, ap length inv.lines, length-append (history_text es) rest) in
+    let place : c.args.length - length rest + length rest ≡ length text = omega
+    (arith, ap length inv.lines, length-append (history_text es) rest) in
     let none = rw c.in_default-2.is at c.in_ok-event.ensures.none in
-    breaks text rest _ es inv.history inv.lines place (omega arith) (no_line rest c.in-Some.line.now c.in-Some.after.now es inv.history small c.in-Some.ensures
+    breaks text rest _ es inv.history inv.lines place (omega arith)
+    (no_line rest c.in-Some.line.now c.in-Some.after.now es inv.history small c.in-Some.ensures
     none)
 
 pub loop-line-smaller : goal.loop-line-smaller
-loop-line-smaller c = omega (arith, cut_shorter 10 c.loop-line.rest.now c.in-Some.line.now c.in-Some.after.now c.in-Some.ensures)
+loop-line-smaller c = omega (
+  arith,
+  cut_shorter 10 c.loop-line.rest.now c.in-Some.line.now c.in-Some.after.now
+      c.in-Some.ensures,
+)
 
 pub loop-line-preserved : goal.loop-line-preserved
 loop-line-preserved c =
@@ -38,7 +44,8 @@ loop-line-preserved c =
       text = search rules;
       indexed = c.in_ok-push.ensures.indexed;
       history = ap is_history more ∙ history_push es event inv.history found.0;
-      lines = lines_push c.args.text.now rest c.in-Some.line.now after es event inv.lines c.in-Some.ensures found.1 ∙ ap (λ xs. history_text xs ++ after) (sym more);
+      lines = lines_push c.args.text.now rest c.in-Some.line.now after es event inv.lines c.in-Some.ensures found.1 ∙
+          ap (λ xs. history_text xs ++ after) (sym more);
     }
 
 pub returns-then-not-is_empty-clause-fault : goal.returns-then-not-is_empty-clause-fault
@@ -49,5 +56,6 @@ returns-then-not-is_empty-clause-fault c =
     let inv = c.loop-line.invariant in
     let small : length es < 2 ^ 63 = omega (arith, length-map c.loop-line.front.events.items plain_event) in
     let some : 0 < length rest = grind (arith, nat_tests) in
-    let place : c.args.length - length rest + length rest ≡ length text = omega (arith, ap length inv.lines, length-append (history_text es) rest) in
+    let place : c.args.length - length rest + length rest ≡ length text = omega
+    (arith, ap length inv.lines, length-append (history_text es) rest) in
     breaks text rest _ es inv.history inv.lines place some (no_feed rest es inv.history small c.in_default.ensures)

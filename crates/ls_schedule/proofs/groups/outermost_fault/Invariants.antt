@@ -6,7 +6,8 @@ abbrev pub invariant-bytes : goal.invariant-bytes
 invariant-bytes l = record {
   left : l.outside.left ≤ length l.groups;
   deeper : l.outside.deeper + length l.rest ≤ length l.text;
-  first : outer_fault (last_first (places l.groups) l.outside.left) l.outside.deeper l.outside.fault l.rest ≡ outer_fault (last_first (places l.groups) (length l.groups)) 0 l.fn.fault l.text;
+  first : outer_fault (last_first (places l.groups) l.outside.left) l.outside.deeper l.outside.fault l.rest ≡
+      outer_fault (last_first (places l.groups) (length l.groups)) 0 l.fn.fault l.text;
 }
 
 abbrev pub decreases-bytes : goal.decreases-bytes

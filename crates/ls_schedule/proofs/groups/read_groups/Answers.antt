@@ -18,17 +18,21 @@ pieces-preserved c =
 pub returns-in_err-len : goal.returns-in_err-len
 returns-in_err-len c =
     let p = err_from_is_err_and c.from_residual-in_err-len.result c.from_residual-in_err-len.ensures.1 in
-    rw (p.1, p.2) (subst (Fails _) c.pieces.invariant.read (c.in_err-len.ensures.passes (c.as_slice-all.ensures.value ∙ c.in_ok-numbers.ensures)))
+    rw (p.1, p.2)
+    (subst (Fails _) c.pieces.invariant.read (c.in_err-len.ensures.passes
+    (c.as_slice-all.ensures.value ∙ c.in_ok-numbers.ensures)))
 
 pub returns : goal.returns
 returns c =
     let none : length c.pieces.rest.now ≡ 0 = grind (arith, common_steps) in
-    subst (Gives (λ s. s) _) (finished_is (map thread_name c.args.threads.now) c.pieces.reader c.pieces.at c.pieces.rest.now none _ c.pieces.invariant.read) c.finish.ensures
+    subst (Gives (λ s. s) _) (finished_is (map thread_name c.args.threads.now) c.pieces.reader c.pieces.at
+    c.pieces.rest.now none _ c.pieces.invariant.read) c.finish.ensures
 
 pub pieces-init : goal.pieces-init
 pieces-init c = record {
   place = omega (arith, c.split_at.ensures.back_len);
   few = omega (arith, ap length c.new-reader.ensures.schedule);
-  read = begun (map thread_name c.args.threads.now) c.new-reader.result c.args.start _ _ c.new-reader.ensures.groups c.new-reader.ensures.filled c.new-reader.ensures.fits c.new-reader.ensures.schedule
+  read = begun (map thread_name c.args.threads.now) c.new-reader.result c.args.start _ _ c.new-reader.ensures.groups
+      c.new-reader.ensures.filled c.new-reader.ensures.fits c.new-reader.ensures.schedule
       c.split_at.ensures.back;
 }

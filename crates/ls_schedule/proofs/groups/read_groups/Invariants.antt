@@ -9,7 +9,8 @@ abbrev pub invariant-pieces : goal.invariant-pieces
 invariant-pieces l = record {
   place : l.at + length l.rest ≡ length l.text;
   few : length l.reader.schedule ≤ most_steps;
-  read : going (map thread_name l.threads) l.reader (pieces l.at l.rest) ≡ group_schedule (map thread_name l.threads) (pieces l.start (drop l.start l.text));
+  read : going (map thread_name l.threads) l.reader (pieces l.at l.rest) ≡ group_schedule (map thread_name l.threads)
+      (pieces l.start (drop l.start l.text));
 }
 
 abbrev pub decreases-pieces : goal.decreases-pieces

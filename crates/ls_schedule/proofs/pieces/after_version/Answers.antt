@@ -6,12 +6,16 @@ use Rattle.ls_schedule.proofs.pieces.after_version.Goals as goal
 
 pub returns-then-is_version-clause-version : goal.returns-then-is_version-clause-version
 returns-then-is_version-clause-version c =
-    sym (version_read c.args.text.now c.gap_len-gaps.result c.word_len-len.result _ _ _ _ c.gap_len-gaps.ensures.len c.split_at.ensures.back c.word_len-len.ensures.len
+    sym (version_read c.args.text.now c.gap_len-gaps.result c.word_len-len.result _ _ _ _ c.gap_len-gaps.ensures.len
+    c.split_at.ensures.back c.word_len-len.ensures.len
     c.split_at-2.ensures.front c.split_at-2.ensures.back c.is_version.ensures
-    ∙ ap (λ b. if b then Some (pieces (c.gap_len-gaps.result + c.word_len-len.result) (drop (c.gap_len-gaps.result + c.word_len-len.result) c.args.text.now)) else None) c.if-is_version.true)
+    ∙ ap (λ b. if b then Some (pieces (c.gap_len-gaps.result + c.word_len-len.result)
+    (drop (c.gap_len-gaps.result + c.word_len-len.result) c.args.text.now)) else None) c.if-is_version.true)
 
 pub returns-else-is_version-clause-version : goal.returns-else-is_version-clause-version
 returns-else-is_version-clause-version c =
-    sym (version_read c.args.text.now c.gap_len-gaps.result c.word_len-len.result _ _ _ _ c.gap_len-gaps.ensures.len c.split_at.ensures.back c.word_len-len.ensures.len
+    sym (version_read c.args.text.now c.gap_len-gaps.result c.word_len-len.result _ _ _ _ c.gap_len-gaps.ensures.len
+    c.split_at.ensures.back c.word_len-len.ensures.len
     c.split_at-2.ensures.front c.split_at-2.ensures.back c.is_version.ensures
-    ∙ ap (λ b. if b then Some (pieces (c.gap_len-gaps.result + c.word_len-len.result) (drop (c.gap_len-gaps.result + c.word_len-len.result) c.args.text.now)) else None) c.if-is_version.false)
+    ∙ ap (λ b. if b then Some (pieces (c.gap_len-gaps.result + c.word_len-len.result)
+    (drop (c.gap_len-gaps.result + c.word_len-len.result) c.args.text.now)) else None) c.if-is_version.false)

@@ -5,7 +5,8 @@ use Rattle.ls_schedule.proofs.printing.print_schedule.Given as goal
 
 abbrev pub invariant-items : goal.invariant-items
 invariant-items l =
-    string_bytes l.out ++ more_text (map thread_name l.threads) (runs_of l.rest) ≡ codes "@2" ++ more_text (map thread_name l.threads) (runs_of l.schedule)
+    string_bytes l.out ++ more_text (map thread_name l.threads) (runs_of l.rest) ≡ codes "@2" ++
+    more_text (map thread_name l.threads) (runs_of l.schedule)
 
 abbrev pub decreases-items : goal.decreases-items
 decreases-items l = length l.rest

@@ -4,4 +4,5 @@ use Rattle.ls_schedule.proofs.reading.all_threads.Goals as goal
 
 pub loop-before-preserved : goal.loop-before-preserved
 loop-before-preserved c =
-    c.in_ok-push.ensures.items ∙ ap (λ xs. xs ++ (c.loop-before.before + 1) ∷ []) c.loop-before.invariant ∙ sym (range_more c.loop-before.before)
+    c.in_ok-push.ensures.items ∙ ap (λ xs. xs ++ (c.loop-before.before + 1) ∷ []) c.loop-before.invariant ∙
+    sym (range_more c.loop-before.before)

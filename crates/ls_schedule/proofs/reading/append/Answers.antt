@@ -10,8 +10,10 @@ returns-then-is_empty-clause-ok c =
 pub returns-in_err-push_all-clause-err : goal.returns-in_err-push_all-clause-err
 returns-in_err-push_all-clause-err c =
     let p = err_from_is_err_and c.from_residual.result c.from_residual.ensures.1 in
-    rw (p.1, p.2) (λ e. too_many c.args.schedule.now c.args.threads.now (c.loop.schedule ++ c.args.threads.now) c.loop.counter c.args.count
-    (appended c.args.schedule.now c.args.threads.now c.loop.schedule _ c.loop.counter c.loop.invariant.done refl) c.loop-test.true (c.in_err-push_all.ensures.err e))
+    rw (p.1, p.2) (λ e. too_many c.args.schedule.now c.args.threads.now (c.loop.schedule ++ c.args.threads.now)
+    c.loop.counter c.args.count
+    (appended c.args.schedule.now c.args.threads.now c.loop.schedule _ c.loop.counter c.loop.invariant.done refl)
+    c.loop-test.true (c.in_err-push_all.ensures.err e))
 
 pub loop-preserved : goal.loop-preserved
 loop-preserved c = record {

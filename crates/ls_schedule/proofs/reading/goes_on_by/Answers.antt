@@ -6,4 +6,5 @@ pub returns-then-count-room-clause-more : goal.returns-then-count-room-clause-mo
 returns-then-count-room-clause-more c = by_over c.args.schedule.now c.args.thread c.args.count (omega arith)
 
 pub returns-clause-more : goal.returns-clause-more
-returns-clause-more c = by_fits c.args.schedule.now _ c.args.thread c.args.count (omega arith) c.in_ok-push_run.ensures.added
+returns-clause-more c = by_fits c.args.schedule.now _ c.args.thread c.args.count (omega arith)
+    c.in_ok-push_run.ensures.added

@@ -14,23 +14,29 @@ returns-in_err-said c =
     let p = err_from_is_err_and c.from_residual-in_err-said.result c.from_residual-in_err-said.ensures.1 in
     let f = capped_turns (map thread_name c.args.threads.now) in
     let state = so_far c.loop-all.fits c.loop-all.schedule in
-    let split = items_split c.loop-all.at _ c.loop-all.rest.now _ _ c.item_len-len.ensures c.if-len-eq0.false c.split_at-else-len-eq0.ensures.front c.split_at-else-len-eq0.ensures.back in
+    let split = items_split c.loop-all.at _ c.loop-all.rest.now _ _ c.item_len-len.ensures c.if-len-eq0.false
+    c.split_at-else-len-eq0.ensures.front c.split_at-else-len-eq0.ensures.back in
     let item : Item = (c.loop-all.at, c.split_at-else-len-eq0.result.0.now) in
     let more = items (c.loop-all.at + c.item_len-len.result) c.split_at-else-len-eq0.result.1.now in
-    rw (p.1, p.2) (fails_of _ _ (ends_with f state item _ more _ c.in_err-said.ensures (ap (λ is. goes_to state (each f is)) (sym split) ∙ c.loop-all.invariant.read)))
+    rw (p.1, p.2)
+    (fails_of _ _ (ends_with f state item _ more _ c.in_err-said.ensures
+    (ap (λ is. goes_to state (each f is)) (sym split) ∙ c.loop-all.invariant.read)))
 
 pub loop-all-preserved : goal.loop-all-preserved
 loop-all-preserved c =
     let f = capped_turns (map thread_name c.args.threads.now) in
     let state = so_far c.loop-all.fits c.loop-all.schedule in
-    let split = items_split c.loop-all.at _ c.loop-all.rest.now _ _ c.item_len-len.ensures c.if-len-eq0.false c.split_at-else-len-eq0.ensures.front c.split_at-else-len-eq0.ensures.back in
+    let split = items_split c.loop-all.at _ c.loop-all.rest.now _ _ c.item_len-len.ensures c.if-len-eq0.false
+    c.split_at-else-len-eq0.ensures.front c.split_at-else-len-eq0.ensures.back in
     let item : Item = (c.loop-all.at, c.split_at-else-len-eq0.result.0.now) in
     let more = items (c.loop-all.at + c.item_len-len.result) c.split_at-else-len-eq0.result.1.now in
-    let now = c.in_ok-fits-2.ensures.more (length c.args.threads.now) (c.as_slice-all.ensures.value ∙ c.in_ok-numbers.ensures) in
+    let now = c.in_ok-fits-2.ensures.more (length c.args.threads.now)
+    (c.as_slice-all.ensures.value ∙ c.in_ok-numbers.ensures) in
     record {
       place = omega (arith, c.split_at-else-len-eq0.ensures.back_len);
       few = c.in_ok-fits-2.ensures.few;
-      read = goes_on_to f state _ item _ more _ c.in_ok-said.ensures now (ap (λ is. goes_to state (each f is)) (sym split) ∙ c.loop-all.invariant.read);
+      read = goes_on_to f state _ item _ more _ c.in_ok-said.ensures now
+          (ap (λ is. goes_to state (each f is)) (sym split) ∙ c.loop-all.invariant.read);
     }
 
 pub loop-all-preserved-in-Some : goal.loop-all-preserved-in-Some
@@ -48,5 +54,6 @@ loop-all-preserved-in-Some c =
     record {
       place = omega (arith, c.split_at.ensures.back_len, short.two);
       few = c.in_ok-fits.ensures.few;
-      read = rw c.split_at.ensures.back (goes_on_to f state _ item (c.in-Some.thread ∷ [], 1) more _ said c.in_ok-fits.ensures.more (ap (λ is. goes_to state (each f is)) (sym split) ∙ c.loop-all.invariant.read));
+      read = rw c.split_at.ensures.back (goes_on_to f state _ item (c.in-Some.thread ∷ [], 1) more _ said
+          c.in_ok-fits.ensures.more (ap (λ is. goes_to state (each f is)) (sym split) ∙ c.loop-all.invariant.read));
     }

@@ -10,7 +10,8 @@ abbrev pub invariant-loop-all : goal.invariant-loop-all
 invariant-loop-all l = record {
   place : l.at + length l.rest ≡ length l.text;
   few : length l.schedule ≤ most_steps;
-  read : goes_to (so_far l.fits l.schedule) (each (capped_turns (map thread_name l.threads)) (items l.at l.rest)) ≡ capped_schedule (map thread_name l.threads) l.text;
+  read : goes_to (so_far l.fits l.schedule) (each (capped_turns (map thread_name l.threads)) (items l.at l.rest)) ≡
+      capped_schedule (map thread_name l.threads) l.text;
 }
 
 abbrev pub decreases-loop-all : goal.decreases-loop-all

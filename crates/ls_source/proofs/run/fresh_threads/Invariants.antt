@@ -6,4 +6,6 @@ use Rattle.ls_source.specs.SeenThread.{thread_of}
 use Rattle.ls_source.proofs.run.fresh_threads.Given as goal
 
 abbrev pub invariant-loop-program : goal.invariant-loop-program
-invariant-loop-program l = map thread_of l.threads.items ≡ map (λ t. begun (record { number = 0; left = map plain_call t.calls.items; phase = Starts })) (take l.program-index l.programs)
+invariant-loop-program l = map thread_of l.threads.items ≡ map
+    (λ t. begun (record { number = 0; left = map plain_call t.calls.items; phase = Starts }))
+    (take l.program-index l.programs)

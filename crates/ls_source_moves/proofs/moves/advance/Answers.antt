@@ -1,7 +1,8 @@
 use Rattle.ls_source_moves.proofs.moves.advance.Goals as goal
 
 pub returns-in-Evaluates-clause-ok : goal.returns-in-Evaluates-clause-ok
-returns-in-Evaluates-clause-ok c = rw c.in-Evaluates.is (rw (c.reserve.ensures.items, c.deref.ensures.value) at c.evaluate.ensures)
+returns-in-Evaluates-clause-ok c = rw c.in-Evaluates.is (rw (c.reserve.ensures.items, c.deref.ensures.value) at
+    c.evaluate.ensures)
 
 pub returns-in-Executes-clause-ok : goal.returns-in-Executes-clause-ok
 returns-in-Executes-clause-ok c = rw c.in-Executes.is (rw c.reserve.ensures.items at c.execute.ensures)

@@ -34,7 +34,8 @@ pub returns-in_ok-argue-in-Argues-clause-ok : goal.returns-in_ok-argue-in-Argues
 returns-in_ok-argue-in-Argues-clause-ok c = rw (← c.in-Argues.ensures.value) c.in_ok-argue-in-Argues.ensures.ok
 
 pub returns-in-Applies-clause-ok : goal.returns-in-Applies-clause-ok
-returns-in-Applies-clause-ok c = rw (← c.in-Applies.ensures.value) (rw c.deref-in-Applies.ensures.value at c.apply.ensures)
+returns-in-Applies-clause-ok c = rw (← c.in-Applies.ensures.value)
+    (rw c.deref-in-Applies.ensures.value at c.apply.ensures)
 
 pub returns-in-Invokes-clause-ok : goal.returns-in-Invokes-clause-ok
 returns-in-Invokes-clause-ok c = rw (← c.in-Invokes.ensures.value) c.invoke.ensures
@@ -52,7 +53,8 @@ pub returns-in-Loops-clause-ok : goal.returns-in-Loops-clause-ok
 returns-in-Loops-clause-ok c = rw (← c.in-Loops.ensures.value) c.loops.ensures
 
 pub returns-in_ok-give-in-Gives-clause-ok : goal.returns-in_ok-give-in-Gives-clause-ok
-returns-in_ok-give-in-Gives-clause-ok c = rw (← c.in-Gives.ensures.value) (rw c.deref-in-Gives.ensures.value at c.in_ok-give-in-Gives.ensures.ok)
+returns-in_ok-give-in-Gives-clause-ok c = rw (← c.in-Gives.ensures.value)
+    (rw c.deref-in-Gives.ensures.value at c.in_ok-give-in-Gives.ensures.ok)
 
 pub returns-in-Ends-clause-ok : goal.returns-in-Ends-clause-ok
 returns-in-Ends-clause-ok c = rw (← c.in-Ends.ensures.value) c.end_anyhow.ensures

@@ -9,8 +9,10 @@ use Rattle.ls_source_moves.proofs.settling.settle.Goals as goal
 
 pub moves-smaller : goal.moves-smaller
 moves-smaller c =
-    let P : State → Type 0 = λ s. burden (plain_file c.args.file.now) s < burden (plain_file c.args.file.now) (state_of c.moves.pending) in
-    subst P (sym c.in_ok-advance.ensures.ok) (moved_less (plain_file c.args.file.now) (state_of c.moves.pending) (sym c.moves-test.ensures))
+    let P : State → Type 0 = λ s. burden (plain_file c.args.file.now) s < burden (plain_file c.args.file.now)
+    (state_of c.moves.pending) in
+    subst P (sym c.in_ok-advance.ensures.ok) (moved_less (plain_file c.args.file.now) (state_of c.moves.pending)
+    (sym c.moves-test.ensures))
 
 pub moves-preserved : goal.moves-preserved
 moves-preserved c = λ base q.

@@ -7,7 +7,8 @@ use Rattle.ls_source_moves.proofs.Measure.{burden}
 use Rattle.ls_source_moves.proofs.settling.settle.Given as goal
 
 abbrev pub invariant-moves : goal.invariant-moves
-invariant-moves l = (base : Rest) (q : Answers) → meaning (plain_file l.fn.file) base (state_of l.pending) q ≡ meaning (plain_file l.fn.file) base (state_of l.fn.pending) q
+invariant-moves l = (base : Rest) (q : Answers) → meaning (plain_file l.fn.file) base (state_of l.pending) q ≡ meaning
+    (plain_file l.fn.file) base (state_of l.fn.pending) q
 
 abbrev pub decreases-moves : goal.decreases-moves
 decreases-moves l = burden (plain_file l.fn.file) (state_of l.pending)

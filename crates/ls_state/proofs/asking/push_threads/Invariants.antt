@@ -7,5 +7,7 @@ use Rattle.ls_state.proofs.asking.push_threads.Given as goal
 
 abbrev pub invariant-loop-thread : goal.invariant-loop-thread
 invariant-loop-thread l =
-    string_bytes l.out ++ numbered (thread_line (names_in l.scene) (scene_seen l.scene)) l.thread (map plain_thread (drop l.thread l.threads))
-    ≡ string_bytes l.fn.out ++ numbered (thread_line (names_in l.scene) (scene_seen l.scene)) 0 (map plain_thread l.threads)
+    string_bytes l.out ++ numbered (thread_line (names_in l.scene) (scene_seen l.scene)) l.thread
+    (map plain_thread (drop l.thread l.threads))
+    ≡ string_bytes l.fn.out ++ numbered (thread_line (names_in l.scene) (scene_seen l.scene)) 0
+    (map plain_thread l.threads)

@@ -7,5 +7,6 @@ use Rattle.ls_state.proofs.objects.push_things.Given as goal
 
 abbrev pub invariant-loop-place : goal.invariant-loop-place
 invariant-loop-place l =
-    string_bytes l.out ++ numbered (thing_line (names_in l.scene) l.scene.labels.items) (l.place + 1) (map thing_of (drop l.place l.things))
+    string_bytes l.out ++ numbered (thing_line (names_in l.scene) l.scene.labels.items) (l.place + 1)
+    (map thing_of (drop l.place l.things))
     ≡ string_bytes l.fn.out ++ numbered (thing_line (names_in l.scene) l.scene.labels.items) 1 (map thing_of l.things)

@@ -10,6 +10,8 @@ loop-row-preserved c =
     let lt = c.loop-row-test.true in
     record {
       indexed = c.in_ok-add.ensures.indexed;
-      rows = gathered_more rows i _ lt (get_or_default rows i _ _ lt) (rows_of c.loop-row.all) (rows_of c.add.new.self) _ c.in_ok-add.ensures.rows c.loop-row.invariant.rows;
-      total = total_more rows i _ lt (get_or_default rows i _ _ lt) (rows_of c.loop-row.all) (rows_of c.add.new.self) _ c.in_ok-add.ensures.rows c.loop-row.invariant.total;
+      rows = gathered_more rows i _ lt (get_or_default rows i _ _ lt) (rows_of c.loop-row.all) (rows_of c.add.new.self)
+          _ c.in_ok-add.ensures.rows c.loop-row.invariant.rows;
+      total = total_more rows i _ lt (get_or_default rows i _ _ lt) (rows_of c.loop-row.all) (rows_of c.add.new.self) _
+          c.in_ok-add.ensures.rows c.loop-row.invariant.total;
     }

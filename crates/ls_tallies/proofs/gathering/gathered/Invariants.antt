@@ -8,5 +8,6 @@ abbrev pub invariant-loop-row : goal.invariant-loop-row
 invariant-loop-row l = record {
   indexed : IsIndexed l.all;
   rows : gathered_onto (rows_of l.all) (map plain_row (drop l.row-index l.rows)) ≡ gathered (map plain_row l.rows);
-  total : total_of (rows_of l.all) + total_of (map plain_row (drop l.row-index l.rows)) ≡ total_of (map plain_row l.rows);
+  total : total_of (rows_of l.all) + total_of (map plain_row (drop l.row-index l.rows)) ≡ total_of
+      (map plain_row l.rows);
 }

@@ -9,6 +9,8 @@ use Rattle.ls_tallies.proofs.merging.merged.Goals as goal
 pub returns : goal.returns
 returns c =
     record {
-      gathers = subst (λ rows. IsPermutation rows (map plain_row c.sort.new.self.items)) c.in_ok-all.ensures (IsPermutation-map plain_row c.in_ok-all.all.items c.sort.new.self.items c.in_ok-sort.ensures.permutation);
-      order = sorted_map plain_row (λ x y. is_lt ((row_ord.ghosts).cmp x y)) (λ x y. is_lt (row_cmp x y)) c.sort.new.self.items (λ x y. refl) c.in_ok-sort.ensures.sorted;
+      gathers = subst (λ rows. IsPermutation rows (map plain_row c.sort.new.self.items)) c.in_ok-all.ensures
+          (IsPermutation-map plain_row c.in_ok-all.all.items c.sort.new.self.items c.in_ok-sort.ensures.permutation);
+      order = sorted_map plain_row (λ x y. is_lt ((row_ord.ghosts).cmp x y)) (λ x y. is_lt (row_cmp x y))
+          c.sort.new.self.items (λ x y. refl) c.in_ok-sort.ensures.sorted;
     }

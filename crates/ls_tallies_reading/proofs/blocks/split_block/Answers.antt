@@ -28,5 +28,6 @@ returns-clause-cut c =
     let len = c.in_ok-len.len in
     let e : block_len true text ≡ Some len = sym (c.in_ok-len.ensures ∙ ap (block_len true) c.as_bytes.ensures.value) in
     let f = cut_at_feed true text len e in
-    let after = second_of_two c.in_ok-after.field-0-0.now c.in_ok-after.after.now [] (drop (len + 1) text) (c.in_ok-after.ensures ∙ ap (cut 10) (c.split_at.ensures.back ∙ f.back)) in
+    let after = second_of_two c.in_ok-after.field-0-0.now c.in_ok-after.after.now [] (drop (len + 1) text)
+    (c.in_ok-after.ensures ∙ ap (cut 10) (c.split_at.ensures.back ∙ f.back)) in
     parts_are text c.split_at.result.0.now c.in_ok-after.after.now len e c.split_at.ensures.front after

@@ -6,21 +6,28 @@ use Rattle.ls_tallies_reading.proofs.HeadLemmas.{fields_back}
 use Rattle.ls_tallies_reading.proofs.heads.numbers_in.Goals as goal
 
 pub returns-in_default : goal.returns-in_default
-returns-in_default c = λ s n fits fits' e. absurd (none_is (c.in_default.ensures ∙ ap fields_of e ∙ fields_back s n fits))
+returns-in_default c = λ s n fits fits' e.
+    absurd (none_is (c.in_default.ensures ∙ ap fields_of e ∙ fields_back s n fits))
 
 pub returns-in_default-number_in : goal.returns-in_default-number_in
 returns-in_default-number_in c = λ s n fits fits' e.
     let both = c.in-Some.ensures ∙ ap fields_of e ∙ fields_back s n fits in
-    absurd (none_is (c.in_default-number_in.ensures s fits (first_of_two c.in-Some.first.now c.in-Some.second.now (decimal s) (decimal n) both)))
+    absurd (none_is
+    (c.in_default-number_in.ensures s fits (first_of_two c.in-Some.first.now c.in-Some.second.now (decimal s)
+    (decimal n) both)))
 
 pub returns-in_default-number_in-2 : goal.returns-in_default-number_in-2
 returns-in_default-number_in-2 c = λ s n fits fits' e.
     let both = c.in-Some.ensures ∙ ap fields_of e ∙ fields_back s n fits in
-    absurd (none_is (c.in_default-number_in-2.ensures n fits' (second_of_two c.in-Some.first.now c.in-Some.second.now (decimal s) (decimal n) both)))
+    absurd (none_is (c.in_default-number_in-2.ensures n fits'
+    (second_of_two c.in-Some.first.now c.in-Some.second.now (decimal s) (decimal n) both)))
 
 pub returns : goal.returns
 returns c = λ s n fits fits' e.
     let both = c.in-Some.ensures ∙ ap fields_of e ∙ fields_back s n fits in
-    let seed = some_is (c.in-Some-number_in.ensures s fits (first_of_two c.in-Some.first.now c.in-Some.second.now (decimal s) (decimal n) both)) in
-    let count = some_is (c.in-Some-number_in-2.ensures n fits' (second_of_two c.in-Some.first.now c.in-Some.second.now (decimal s) (decimal n) both)) in
+    let seed = some_is
+    (c.in-Some-number_in.ensures s fits (first_of_two c.in-Some.first.now c.in-Some.second.now (decimal s)
+    (decimal n) both)) in
+    let count = some_is (c.in-Some-number_in-2.ensures n fits'
+    (second_of_two c.in-Some.first.now c.in-Some.second.now (decimal s) (decimal n) both)) in
     λ i. Some (seed i, count i)

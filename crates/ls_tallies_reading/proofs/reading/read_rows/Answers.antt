@@ -6,18 +6,25 @@ use Rattle.ls_report.proofs.CutLemmas.{none_is}
 use Rattle.ls_report.proofs.Values.{cut_shorter}
 use Rattle.ls_tallies.specs.Plain.{plain_row}
 use Rattle.ls_tallies_reading.specs.Reading.{plain_entry}
-use Rattle.ls_tallies_reading.proofs.Listed.{breaks, head_of, is_mark, is_marks, IsHead, IsOnly, IsReading, IsStopped, no_marks, not_listed, nothing_left, of_head, only_one, only_rows, past_mark, past_row, starts, stopped_end, stopped_line}
+use Rattle.ls_tallies_reading.proofs.Listed.{breaks, head_of, is_mark, is_marks, IsHead, IsOnly, IsReading, IsStopped}
+use Rattle.ls_tallies_reading.proofs.Listed.{no_marks, not_listed, nothing_left, of_head, only_one, only_rows}
+use Rattle.ls_tallies_reading.proofs.Listed.{past_mark, past_row, starts, stopped_end, stopped_line}
 use Rattle.ls_tallies_reading.proofs.reading.read_rows.Goals as goal
 
 pub loop-line-init : goal.loop-line-init
 loop-line-init c =
     record {
       text = search rules;
-      reading = subst (λ items. IsReading c.args.text.now c.args.text.now (map plain_row items)) (sym c.new-rows.ensures.items) (starts c.args.text.now);
+      reading = subst (λ items. IsReading c.args.text.now c.args.text.now (map plain_row items))
+          (sym c.new-rows.ensures.items) (starts c.args.text.now);
     }
 
 pub loop-line-smaller-then-eq : goal.loop-line-smaller-then-eq
-loop-line-smaller-then-eq c = omega (arith, cut_shorter 10 c.loop-line.rest.now c.in-Some.line.now c.in-Some.after.now c.in-Some.ensures)
+loop-line-smaller-then-eq c = omega (
+  arith,
+  cut_shorter 10 c.loop-line.rest.now c.in-Some.line.now c.in-Some.after.now
+      c.in-Some.ensures,
+)
 
 pub loop-line-preserved-then-eq : goal.loop-line-preserved-then-eq
 loop-line-preserved-then-eq c =
@@ -25,7 +32,8 @@ loop-line-preserved-then-eq c =
     let after = c.in-Some.after.now in
     record {
       text = search rules;
-      reading = past_mark c.args.text.now rest after (map plain_row c.loop-line.rows.items) c.loop-line.invariant.reading
+      reading = past_mark c.args.text.now rest after (map plain_row c.loop-line.rows.items)
+          c.loop-line.invariant.reading
           (is_mark rest c.in-Some.line.now after c.in-Some.ensures (is_marks c.in-Some.line.now c.if-eq.ensures));
     }
 
@@ -33,9 +41,11 @@ pub returns-in_default-2-clause-accepts : goal.returns-in_default-2-clause-accep
 returns-in_default-2-clause-accepts c = λ all listed.
     let rest = c.loop-line.rest.now in
     let none = ap (option_map plain_entry) (sym c.in_default-2.is) in
-    let stopped : IsStopped rest = stopped_line rest c.in-Some.line.now c.in-Some.after.now c.in-Some.ensures (no_marks c.in-Some.line.now c.if-eq.ensures)
+    let stopped : IsStopped rest = stopped_line rest c.in-Some.line.now c.in-Some.after.now c.in-Some.ensures
+    (no_marks c.in-Some.line.now c.if-eq.ensures)
     (λ r a is h. none_is (none ∙ c.in_ok-row.ensures.reads r a is h.head h.behind_is)) in
-    absurd (not_listed c.args.text.now rest (map plain_row c.loop-line.rows.items) all c.loop-line.invariant.reading stopped listed)
+    absurd (not_listed c.args.text.now rest (map plain_row c.loop-line.rows.items) all c.loop-line.invariant.reading
+    stopped listed)
 
 pub returns-in_default-2-clause-fault : goal.returns-in_default-2-clause-fault
 returns-in_default-2-clause-fault c =
@@ -43,9 +53,11 @@ returns-in_default-2-clause-fault c =
     let rest = c.loop-line.rest.now in
     let reading = c.loop-line.invariant.reading in
     let none = ap (option_map plain_entry) (sym c.in_default-2.is) in
-    let stopped : IsStopped rest = stopped_line rest c.in-Some.line.now c.in-Some.after.now c.in-Some.ensures (no_marks c.in-Some.line.now c.if-eq.ensures)
+    let stopped : IsStopped rest = stopped_line rest c.in-Some.line.now c.in-Some.after.now c.in-Some.ensures
+    (no_marks c.in-Some.line.now c.if-eq.ensures)
     (λ r a is h. none_is (none ∙ c.in_ok-row.ensures.reads r a is h.head h.behind_is)) in
-    let place : (length text - length rest) + length rest ≡ length text = omega (arith, ap length reading.parts, length-append reading.read rest) in
+    let place : (length text - length rest) + length rest ≡ length text = omega
+    (arith, ap length reading.parts, length-append reading.read rest) in
     breaks text rest (map plain_row c.loop-line.rows.items) (length text - length rest) reading stopped place
 
 pub loop-line-smaller : goal.loop-line-smaller
@@ -75,14 +87,16 @@ loop-line-preserved c =
     record {
       text = search rules;
       reading = subst (IsReading text after) (sym more)
-          (past_row text rest after (map plain_row items) (plain_row row) c.loop-line.invariant.reading (of_head rest line behind after (plain_row row) c.in-Some.ensures head) found.0 only);
+          (past_row text rest after (map plain_row items) (plain_row row) c.loop-line.invariant.reading
+          (of_head rest line behind after (plain_row row) c.in-Some.ensures head) found.0 only);
     }
 
 pub returns-then-not-is_empty-clause-accepts : goal.returns-then-not-is_empty-clause-accepts
 returns-then-not-is_empty-clause-accepts c = λ all listed.
     let rest = c.loop-line.rest.now in
     let some : 0 < length rest = grind (arith, nat_tests) in
-    absurd (not_listed c.args.text.now rest (map plain_row c.loop-line.rows.items) all c.loop-line.invariant.reading (stopped_end rest c.in_default.ensures some) listed)
+    absurd (not_listed c.args.text.now rest (map plain_row c.loop-line.rows.items) all c.loop-line.invariant.reading
+    (stopped_end rest c.in_default.ensures some) listed)
 
 pub returns-then-not-is_empty-clause-fault : goal.returns-then-not-is_empty-clause-fault
 returns-then-not-is_empty-clause-fault c =
@@ -90,11 +104,14 @@ returns-then-not-is_empty-clause-fault c =
     let rest = c.loop-line.rest.now in
     let reading = c.loop-line.invariant.reading in
     let some : 0 < length rest = grind (arith, nat_tests) in
-    let place : (length text - length rest) + length rest ≡ length text = omega (arith, ap length reading.parts, length-append reading.read rest) in
-    breaks text rest (map plain_row c.loop-line.rows.items) (length text - length rest) reading (stopped_end rest c.in_default.ensures some) place
+    let place : (length text - length rest) + length rest ≡ length text = omega
+    (arith, ap length reading.parts, length-append reading.read rest) in
+    breaks text rest (map plain_row c.loop-line.rows.items) (length text - length rest) reading
+    (stopped_end rest c.in_default.ensures some) place
 
 pub returns-clause-only : goal.returns-clause-only
 returns-clause-only c = λ all listed.
     let rest = c.loop-line.rest.now in
     let none : length rest ≡ 0 = grind (arith, nat_tests) in
-    only_rows c.args.text.now rest (map plain_row c.loop-line.rows.items) all c.loop-line.invariant.reading (nothing_left rest none) listed
+    only_rows c.args.text.now rest (map plain_row c.loop-line.rows.items) all c.loop-line.invariant.reading
+    (nothing_left rest none) listed

@@ -7,7 +7,8 @@ use Rattle.ls_tool.proofs.answer.answer.Goals as goal
 pub returns-in_err-line : goal.returns-in_err-line
 returns-in_err-line g c =
     let p = err_from_is_err_and c.from_residual.result c.from_residual.ensures.1 in
-    rw (p.1, p.2) (refused (map string_bytes c.args.words.now) c.args.input.now c.in_err-line.field-0.0 c.in_err-line.ensures)
+    rw (p.1, p.2) (refused (map string_bytes c.args.words.now) c.args.input.now c.in_err-line.field-0.0
+    c.in_err-line.ensures)
 
 pub returns : goal.returns
 returns g c = c.answer_line.ensures.decides (map string_bytes c.args.words.now) c.in_ok-line.ensures

@@ -11,7 +11,8 @@ returns-in_err-line g c =
     let words = map string_bytes c.args.words.now in
     rw (p.1, p.2)
     (record {
-      responds = always (g.R.Read.remaining c.args.reader.now) _ (λ input. Decided _ (refused words input c.in_err-line.field-0.0 c.in_err-line.ensures));
+      responds = always (g.R.Read.remaining c.args.reader.now) _
+          (λ input. Decided _ (refused words input c.in_err-line.field-0.0 c.in_err-line.ensures));
       unread = is_unread c.args.reader.now c.in_err-line.field-0.0;
     })
 
@@ -21,7 +22,9 @@ returns-in_err-input g c =
     let words = map string_bytes c.args.words.now in
     rw (p.1, p.2)
     (record {
-      responds = always (g.R.Read.remaining c.args.reader.now) _ (λ input. unreadable words input c.in_ok-line.line c.in_err-input.field-0.0 c.in_ok-line.ensures c.in_err-input.ensures.err);
+      responds = always (g.R.Read.remaining c.args.reader.now) _
+          (λ input. unreadable words input c.in_ok-line.line c.in_err-input.field-0.0 c.in_ok-line.ensures
+          c.in_err-input.ensures.err);
       unread = tt;
     })
 
@@ -30,7 +33,8 @@ returns g c =
     let words = map string_bytes c.args.words.now in
     let decided = Decided _ (c.answer_line.ensures.decides words c.in_ok-line.ensures) in
     record {
-      responds = of_bytes (g.R.Read.remaining c.args.reader.now) c.in_ok-input.input.items (λ input. Responds words input c.answer_line.result) c.in_ok-input.ensures.ok
+      responds = of_bytes (g.R.Read.remaining c.args.reader.now) c.in_ok-input.input.items
+          (λ input. Responds words input c.answer_line.result) c.in_ok-input.ensures.ok
           (subst (λ bytes. Responds words bytes c.answer_line.result) c.as_slice.ensures.value decided);
       unread = is_read c.args.reader.now _ c.answer_line.result c.answer_line.ensures.taken;
     }

@@ -17,8 +17,10 @@ loop-place-init c =
       names = start.names;
       runs = start.runs;
       room = none_at_first c.in_ok-folder.folder.counts.items names.program.threads start.counts;
-      text = at_start names c.args.from c.in_ok-folder.folder.counts.items (map (λ t. 0) names.program.threads) (told_of c.in_ok-folder.folder.teller) (begun names.program)
-          (string_bytes c.new-text.result) (open_of c.in_ok-folder.folder) (take c.min.result c.args.schedule.now) start.counts start.run c.new-text.ensures.bytes start.open;
+      text = at_start names c.args.from c.in_ok-folder.folder.counts.items (map (λ t. 0) names.program.threads)
+          (told_of c.in_ok-folder.folder.teller) (begun names.program)
+          (string_bytes c.new-text.result) (open_of c.in_ok-folder.folder) (take c.min.result c.args.schedule.now)
+          start.counts start.run c.new-text.ensures.bytes start.open;
     }
 
 pub loop-place-preserved : goal.loop-place-preserved
@@ -33,12 +35,14 @@ loop-place-preserved c =
     let before = string_bytes c.loop-place.text in
     let inv = c.loop-place.invariant in
     let same = inv.names in
-    let step : Names → Fold = λ n. step_told n (i + 1) (counted old.counts.items t) (told_of old.teller) (after_step n (told_of old.teller) t) t in
+    let step : Names → Fold = λ n. step_told n (i + 1) (counted old.counts.items t) (told_of old.teller)
+    (after_step n (told_of old.teller) t) t in
     record {
       names = c.step.ensures.names ∙ same;
       runs = c.in_ok-step.ensures.runs;
       room = counted_at_most old.counts.items new.counts.items t i c.in_ok-step.ensures.counts inv.room;
-      text = rest_after names from (i + 1) i 0 old.counts.items new.counts.items (told_of old.teller) (told_of new.teller) (nat_le from (i + 1)) (open_of old) (open_of new) ts
+      text = rest_after names from (i + 1) i 0 old.counts.items new.counts.items (told_of old.teller)
+          (told_of new.teller) (nat_le from (i + 1)) (open_of old) (open_of new) ts
           before (string_bytes c.step.new.out) _ (search rules) refl
           c.in_ok-step.ensures.counts
           (c.in_ok-step.ensures.run ∙ ap (λ n. after_step n (told_of old.teller) t) same)
@@ -51,8 +55,11 @@ pub returns : goal.returns
 returns c =
     let names = names_of c.args.names in
     let ts = take c.min.result c.args.schedule.now in
-    at_end names c.args.from (c.loop-place.place + 1) c.loop-place.place c.loop-place.folder.counts.items (told_of c.loop-place.folder.teller)
-    (string_bytes c.loop-place.text) (string_bytes c.push_open.new.out) (open_of c.loop-place.folder) ts (search rules) c.in_ok-push_open.ensures
+    at_end names c.args.from (c.loop-place.place + 1) c.loop-place.place c.loop-place.folder.counts.items
+    (told_of c.loop-place.folder.teller)
+    (string_bytes c.loop-place.text) (string_bytes c.push_open.new.out) (open_of c.loop-place.folder) ts (search rules)
+    c.in_ok-push_open.ensures
     ∙ c.loop-place.invariant.text
-    ∙ ap (λ l. flat_map fold_line (folded (steps_told names c.args.from 1 (map (λ t. 0) names.program.threads) (begun names.program) l)))
+    ∙ ap (λ l. flat_map fold_line
+    (folded (steps_told names c.args.from 1 (map (λ t. 0) names.program.threads) (begun names.program) l)))
     (ap (λ n. take n c.args.schedule.now) c.min.ensures ∙ take_min c.args.to c.args.schedule.now)

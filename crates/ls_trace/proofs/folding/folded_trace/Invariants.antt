@@ -13,6 +13,9 @@ invariant-loop-place l = record {
   names : names_in l.folder.teller ≡ names_of l.fn.names;
   runs : RunsNamed l.folder.teller;
   room : (t : ℕ) → get_or l.folder.counts.items t 0 ≤ l.place;
-  text : rest_of (names_of l.fn.names) l.from (l.place + 1) l.folder.counts.items (told_of l.folder.teller) (string_bytes l.text) (open_of l.folder) (drop l.place l.steps)
-      ≡ flat_map fold_line (folded (steps_told (names_of l.fn.names) l.from 1 (map (λ t. 0) (names_of l.fn.names).program.threads) (begun (names_of l.fn.names).program) l.steps));
+  text : rest_of (names_of l.fn.names) l.from (l.place + 1) l.folder.counts.items (told_of l.folder.teller)
+      (string_bytes l.text) (open_of l.folder) (drop l.place l.steps)
+      ≡ flat_map fold_line
+      (folded (steps_told (names_of l.fn.names) l.from 1 (map (λ t. 0) (names_of l.fn.names).program.threads)
+      (begun (names_of l.fn.names).program) l.steps));
 }

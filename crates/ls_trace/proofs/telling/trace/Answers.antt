@@ -22,7 +22,8 @@ loop-place-preserved c =
     record {
       names = named;
       runs = c.in_ok-did.ensures.runs;
-      text = rest_after names c.args.from (i + 1) i 0 old new did ts (string_bytes c.loop-place.text) (string_bytes c.if-from-number.text) _ (search rules)
+      text = rest_after names c.args.from (i + 1) i 0 old new did ts (string_bytes c.loop-place.text)
+          (string_bytes c.if-from-number.text) _ (search rules)
           (c.in_ok-did.ensures.run ∙ ap (λ n. after_step n old t) same)
           (c.in_ok-did.ensures.did ∙ ap (λ n. (step_in n old t).did) same)
           (elim c.if-from-number.branch [
@@ -42,6 +43,8 @@ pub returns : goal.returns
 returns c =
     let names = names_of c.args.names in
     let ts = take c.min.result c.args.schedule.now in
-    at_end names c.args.from (c.loop-place.place + 1) c.loop-place.place (told_of c.loop-place.teller) (string_bytes c.loop-place.text) ts (search rules)
+    at_end names c.args.from (c.loop-place.place + 1) c.loop-place.place (told_of c.loop-place.teller)
+    (string_bytes c.loop-place.text) ts (search rules)
     ∙ c.loop-place.invariant.text
-    ∙ ap (lines names c.args.from 1 (begun names.program)) (ap (λ n. take n c.args.schedule.now) c.min.ensures ∙ take_min c.args.to c.args.schedule.now)
+    ∙ ap (lines names c.args.from 1 (begun names.program)) (ap (λ n. take n c.args.schedule.now) c.min.ensures ∙
+    take_min c.args.to c.args.schedule.now)

@@ -10,6 +10,7 @@ abbrev pub invariant-loop-place : goal.invariant-loop-place
 invariant-loop-place l = record {
   names : names_in l.teller ≡ names_of l.fn.names;
   runs : RunsNamed l.teller;
-  text : rest_of (names_of l.fn.names) l.from (l.place + 1) (told_of l.teller) (string_bytes l.text) (drop l.place l.steps)
+  text : rest_of (names_of l.fn.names) l.from (l.place + 1) (told_of l.teller) (string_bytes l.text)
+      (drop l.place l.steps)
       ≡ lines (names_of l.fn.names) l.from 1 (begun (names_of l.fn.names).program) l.steps;
 }

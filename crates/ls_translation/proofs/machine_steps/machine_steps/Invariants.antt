@@ -11,4 +11,6 @@ use Rattle.ls_translation.proofs.machine_steps.machine_steps.Given as goal
 abbrev pub invariant-loop-step : goal.invariant-loop-step
 invariant-loop-step l =
     (HasRoom (file_of l.image) (program_of l.image) l.cells (take l.step l.thread-items) (progress_of l.source) l.free)
-    × (IsFollowed (progress_of l.source) l.run (gone (begun l.fn.machine) (steps_all (file_of l.image) (program_of l.image) l.most (start (program_of l.image)) l.fn.machine l.thread-items)) l.most (drop l.step l.thread-items) l.is_long)
+    × (IsFollowed (progress_of l.source) l.run (gone (begun l.fn.machine)
+    (steps_all (file_of l.image) (program_of l.image) l.most (start (program_of l.image)) l.fn.machine
+    l.thread-items)) l.most (drop l.step l.thread-items) l.is_long)

@@ -7,17 +7,21 @@ use Rattle.ls_turnstile.proofs.turnstile.finish.Goals as goal
 pub returns-clause-bounds : goal.returns-clause-bounds
 returns-clause-bounds c =
     let k = c.args.table.shared.key in
-    let f = closes (loaded k.code.value k.cells) k.tape.value.items _ _ _ _ _ c.requires.all.0 c.requires.all.1 c.close_with-closed.ensures.values.2 in
+    let f = closes (loaded k.code.value k.cells) k.tape.value.items _ _ _ _ _ c.requires.all.0 c.requires.all.1
+    c.close_with-closed.ensures.values.2 in
     (subst (λ (xs : List ℕ). c.args.all.me.0.steps ≤ length xs) (sym c.requires.tape) f.2, f.3, f.4)
 
 pub returns-clause-record : goal.returns-clause-record
 returns-clause-record c =
     let k = c.args.table.shared.key in
     let start = loaded k.code.value k.cells in
-    let f = closes start k.tape.value.items _ _ _ _ _ c.requires.all.0 c.requires.all.1 c.close_with-closed.ensures.values.2 in
+    let f = closes start k.tape.value.items _ _ _ _ _ c.requires.all.0 c.requires.all.1
+    c.close_with-closed.ensures.values.2 in
     let word : c.word.result ≡ 2 * c.args.all.me.0.steps = some-injective _ _ (sym c.word.ensures ∙ f.1) in
-    let machine = some-injective _ _ (sym c.take-machine.ensures.value ∙ f.0) ∙ ap (λ (xs : List ℕ). machine_run start (take c.args.all.me.0.steps xs)) (sym c.requires.tape) in
+    let machine = some-injective _ _ (sym c.take-machine.ensures.value ∙ f.0) ∙
+    ap (λ (xs : List ℕ). machine_run start (take c.args.all.me.0.steps xs)) (sym c.requires.tape) in
     record {
-      schedule = c.new.ensures.schedule ∙ (c.of.ensures ∙ (c.truncate.ensures.items ∙ ap (λ (n : ℕ). take n c.args.tape.items) (omega arith)));
+      schedule = c.new.ensures.schedule ∙
+          (c.of.ensures ∙ (c.truncate.ensures.items ∙ ap (λ (n : ℕ). take n c.args.tape.items) (omega arith)));
       history = c.new.ensures.history ∙ ap (λ (m : Machine). m.history) machine;
     }

@@ -3,4 +3,9 @@ use Rattle.ls_turnstile.proofs.Moves.{deal_at}
 use Rattle.ls_turnstile.proofs.turnstile.seat_of.Goals as goal
 
 pub split_seat-seat-requires : goal.split_seat-seat-requires
-split_seat-seat-requires c = (c.requires.id.0, omega arith, deal_at _ _ _ _ _ _ _ (ap (λ m. m.0) c.requires.hand) c.requires.some)
+split_seat-seat-requires c = (
+  c.requires.id.0,
+  omega arith,
+  deal_at _ _ _ _ _ _ _ (ap (λ m. m.0) c.requires.hand)
+      c.requires.some,
+)

@@ -4,4 +4,5 @@ use Rattle.ls_types.proofs.laws.well_typed.Goals as goal
 
 pub returns : goal.returns
 returns c =
-    ∥∥₁_elim c.args.checked.now.kept squash₁ (λ k. ∣ c.elaborates_well_typed.ensures k.tree (outcome_of c.args.checked.now) k.is ∣₁)
+    ∥∥₁_elim c.args.checked.now.kept squash₁ (λ k. ∣ c.elaborates_well_typed.ensures k.tree
+    (outcome_of c.args.checked.now) k.is ∣₁)

@@ -9,5 +9,6 @@ use Rattle.ls_types_expressions.proofs.simples.simples.Given as goal
 
 abbrev pub invariant-loop-s : goal.invariant-loop-s
 invariant-loop-s l =
-    each (one_simple (known_of l.site.known) (locals_of l.site)) (map plain_statement l.front.items) (map placed_simple (drop l.s-index l.ss))
+    each (one_simple (known_of l.site.known) (locals_of l.site)) (map plain_statement l.front.items)
+    (map placed_simple (drop l.s-index l.ss))
     ≡ each (one_simple (known_of l.site.known) (locals_of l.site)) [] (map placed_simple l.ss)

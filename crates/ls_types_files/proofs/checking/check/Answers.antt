@@ -8,4 +8,5 @@ use Rattle.ls_types_files.proofs.checking.check.Goals as goal
 pub returns-clause-typed : goal.returns-clause-typed
 returns-clause-typed c =
     subst (λ f. IsWellTyped (plain_file f)) (sym c.new.ensures.file)
-    (c.elaborates_well_typed.ensures (placed_file c.args.parsed) (outcome_of c.in_ok-outcome.outcome) c.in_ok-outcome.ensures)
+    (c.elaborates_well_typed.ensures (placed_file c.args.parsed) (outcome_of c.in_ok-outcome.outcome)
+    c.in_ok-outcome.ensures)

@@ -7,5 +7,7 @@ use Rattle.ls_types_files.proofs.completion.+completion.Given as goal
 
 abbrev pub invariant-all_ways-loop-s : goal.invariant-all_ways-loop-s
 invariant-all_ways-loop-s l =
-    ((l.all && all_complete (sequence (map plain_statement (drop l.s-index l.ss)))) ≡ all_complete (sequence (map plain_statement l.ss)))
-    × (l.left.items ++ all_left (sequence (map plain_statement (drop l.s-index l.ss))) ≡ l.initial.left.items ++ all_left (sequence (map plain_statement l.ss)))
+    ((l.all && all_complete (sequence (map plain_statement (drop l.s-index l.ss)))) ≡ all_complete
+    (sequence (map plain_statement l.ss)))
+    × (l.left.items ++ all_left (sequence (map plain_statement (drop l.s-index l.ss))) ≡ l.initial.left.items ++
+    all_left (sequence (map plain_statement l.ss)))

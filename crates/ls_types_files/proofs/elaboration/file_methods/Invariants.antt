@@ -8,5 +8,7 @@ use Rattle.ls_types_files.proofs.elaboration.file_methods.Given as goal
 
 abbrev pub invariant-loop-own : goal.invariant-loop-own
 invariant-loop-own l =
-    each (one_body (keys_of l.names) (map class_entry_of l.tables)) (record { methods = map plain_method l.methods.items; own = l.own }) (map placed_class (drop l.own l.classes))
-    ≡ each (one_body (keys_of l.names) (map class_entry_of l.tables)) (record { methods = map plain_method l.initial.methods.items; own = 0 }) (map placed_class l.classes)
+    each (one_body (keys_of l.names) (map class_entry_of l.tables))
+    (record { methods = map plain_method l.methods.items; own = l.own }) (map placed_class (drop l.own l.classes))
+    ≡ each (one_body (keys_of l.names) (map class_entry_of l.tables))
+    (record { methods = map plain_method l.initial.methods.items; own = 0 }) (map placed_class l.classes)

@@ -8,5 +8,7 @@ use Rattle.ls_types_files.proofs.methods.class_methods.Given as goal
 
 abbrev pub invariant-loop-m : goal.invariant-loop-m
 invariant-loop-m l =
-    each (one_method (known_of l.known) (map placed_member l.members)) (map plain_method l.methods.items) (map placed_member (drop l.m-index l.members))
-    ≡ each (one_method (known_of l.known) (map placed_member l.members)) (map plain_method l.initial.methods.items) (map placed_member l.members)
+    each (one_method (known_of l.known) (map placed_member l.members)) (map plain_method l.methods.items)
+    (map placed_member (drop l.m-index l.members))
+    ≡ each (one_method (known_of l.known) (map placed_member l.members)) (map plain_method l.initial.methods.items)
+    (map placed_member l.members)

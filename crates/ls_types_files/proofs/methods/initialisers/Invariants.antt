@@ -8,5 +8,6 @@ use Rattle.ls_types_files.proofs.methods.initialisers.Given as goal
 
 abbrev pub invariant-loop-m : goal.invariant-loop-m
 invariant-loop-m l =
-    each (member_set (known_of l.known)) (map plain_statement l.front.items) (map placed_member (drop l.m-index l.members))
+    each (member_set (known_of l.known)) (map plain_statement l.front.items)
+    (map placed_member (drop l.m-index l.members))
     ≡ each (member_set (known_of l.known)) (map plain_statement l.initial.front.items) (map placed_member l.members)

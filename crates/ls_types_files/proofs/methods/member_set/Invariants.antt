@@ -8,5 +8,7 @@ use Rattle.ls_types_files.proofs.methods.member_set.Given as goal
 
 abbrev pub invariant-loop-d : goal.invariant-loop-d
 invariant-loop-d l =
-    each (declarator_set (known_of l.known)) (map plain_statement l.front.items) (map placed_declarator (drop l.d-index l.d-items))
-    ≡ each (declarator_set (known_of l.known)) (map plain_statement l.initial.front.items) (map placed_declarator l.d-items)
+    each (declarator_set (known_of l.known)) (map plain_statement l.front.items)
+    (map placed_declarator (drop l.d-index l.d-items))
+    ≡ each (declarator_set (known_of l.known)) (map plain_statement l.initial.front.items)
+    (map placed_declarator l.d-items)

@@ -10,6 +10,8 @@ invariant-loop-p l =
     record {
       room : l.slots.named ≤ 128;
       same :
-          each (parameter (body_of l.context)) (scope_of l.scope (slots_of l.slots)) (map placed_parameter (drop l.p-index l.ps))
-          ≡ each (parameter (body_of l.context)) (scope_of l.initial.scope (slots_of l.initial.slots)) (map placed_parameter l.ps);
+          each (parameter (body_of l.context)) (scope_of l.scope (slots_of l.slots))
+          (map placed_parameter (drop l.p-index l.ps))
+          ≡ each (parameter (body_of l.context)) (scope_of l.initial.scope (slots_of l.initial.slots))
+          (map placed_parameter l.ps);
     }

@@ -11,11 +11,13 @@ loop-m-init c = λ name. (let e : c.new-all.result.entries ≡ [] = c.new-all.en
 
 pub loop-m-preserved : goal.loop-m-preserved
 loop-m-preserved c = λ name.
-    one_given _ _ _ _ c.args.methods.now c.loop-m.m-index (search rules) c.m-item.is (search rules) c.in_ok-give.ensures.given name
+    one_given _ _ _ _ c.args.methods.now c.loop-m.m-index (search rules) c.m-item.is (search rules)
+    c.in_ok-give.ensures.given name
     (method_named (map method_sign_of c.args.methods.now) name) (c.loop-m.invariant name)
 
 pub returns : goal.returns
 returns c = λ name.
     sym (all_given (finds c.loop-m.all name) name)
-    ∙ ap (λ ms. first_of (finds c.loop-m.all name) (method_named (map method_sign_of ms) name)) (sym (drop_all c.loop-m.m-index c.args.methods.now c.loop-m-test.false))
+    ∙ ap (λ ms. first_of (finds c.loop-m.all name) (method_named (map method_sign_of ms) name))
+    (sym (drop_all c.loop-m.m-index c.args.methods.now c.loop-m-test.false))
     ∙ c.loop-m.invariant name

@@ -5,7 +5,8 @@ use Rattle.ls_types_reading.proofs.program.read_program.Goals as goal
 
 pub returns-clause-typed : goal.returns-clause-typed
 returns-clause-typed c = λ f is.
-    c.reads_well_typed.ensures f (outcome_of c.args.checked.now) c.args.text.now (plain_program c.in_ok-program.program) is c.in_ok-program.ensures.read
+    c.reads_well_typed.ensures f (outcome_of c.args.checked.now) c.args.text.now (plain_program c.in_ok-program.program)
+    is c.in_ok-program.ensures.read
 
 pub returns-clause-kept : goal.returns-clause-kept
 returns-clause-kept c = ∥∥₁_elim c.args.checked.now.kept squash₁ (λ k. ∣ returns-clause-typed c k.tree k.is ∣₁)

@@ -8,7 +8,9 @@ use Rattle.ls_types_reading.proofs.program.read_tokens.Given as goal
 
 abbrev pub invariant-loop-token : goal.invariant-loop-token
 invariant-loop-token l =
-    (after (outcome_of l.methods.checked.now) (Some (reading_of l.parts l.stage)) (lexemes (drop l.token-index l.tokens))
+    (after (outcome_of l.methods.checked.now) (Some (reading_of l.parts l.stage))
+    (lexemes (drop l.token-index l.tokens))
     ≡ after (outcome_of l.methods.checked.now) (Some beginning) (lexemes l.tokens))
-    × ((end : ℕ) → stops (outcome_of l.methods.checked.now) end (marks_of l.stage) (reading_of l.parts l.stage) (drop l.token-index l.tokens)
+    × ((end : ℕ) → stops (outcome_of l.methods.checked.now) end (marks_of l.stage) (reading_of l.parts l.stage)
+    (drop l.token-index l.tokens)
     ≡ stops (outcome_of l.methods.checked.now) end unmarked beginning l.tokens)

@@ -9,9 +9,11 @@ returns-then-contains_key c =
 
 pub returns-then-len-ge-MOST_FIELDS : goal.returns-then-len-ge-MOST_FIELDS
 returns-then-len-ge-MOST_FIELDS c =
-    let e = field_over c.args.t c.args.met.now (placed_declarator c.args.d.now) (search rules) (search rules) in search rules
+    let e = field_over c.args.t c.args.met.now (placed_declarator c.args.d.now) (search rules) (search rules) in
+    search rules
 
 pub returns : goal.returns
 returns c =
-    let e = field_added c.args.t c.args.met.now (placed_declarator c.args.d.now) (search rules) c.in_ok-from_str.field-0 c.insert.new.self.entries (search rules) (search rules) c.in_ok-insert.ensures.entries in
+    let e = field_added c.args.t c.args.met.now (placed_declarator c.args.d.now) (search rules) c.in_ok-from_str.field-0
+    c.insert.new.self.entries (search rules) (search rules) c.in_ok-insert.ensures.entries in
     cc

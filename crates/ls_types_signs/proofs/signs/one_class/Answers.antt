@@ -17,6 +17,8 @@ returns-in_err-member_met c =
     let items = c.args.c.now.members.items in
     let all = each step (nothing_met c.args.classes.now.next) (map placed_member items) in
     rw (p.1, p.2)
-    (fails_on c.in_err-member_met.field-0.0 all (λ met. class_met (classes_of c.args.classes.now) (placed_name c.args.c.now.name) met met.constructor)
-    (fails_within step placed_member items c.loop-m.m-index c.m-item.result (met_of c.loop-m.met) all c.in_err-member_met.field-0.0
+    (fails_on c.in_err-member_met.field-0.0 all (λ met. class_met (classes_of c.args.classes.now)
+    (placed_name c.args.c.now.name) met met.constructor)
+    (fails_within step placed_member items c.loop-m.m-index c.m-item.result (met_of c.loop-m.met) all
+    c.in_err-member_met.field-0.0
     (search rules) (search rules) (search rules) (search rules)))

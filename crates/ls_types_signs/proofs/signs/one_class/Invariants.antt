@@ -9,5 +9,7 @@ use Rattle.ls_types_signs.proofs.signs.one_class.Given as goal
 
 abbrev pub invariant-loop-m : goal.invariant-loop-m
 invariant-loop-m l =
-    each (member_met (keys_of l.names) (string_bytes l.c.name.text)) (met_of l.met) (map placed_member (drop l.m-index l.m-items))
-    ≡ each (member_met (keys_of l.names) (string_bytes l.c.name.text)) (met_of l.initial.met) (map placed_member l.m-items)
+    each (member_met (keys_of l.names) (string_bytes l.c.name.text)) (met_of l.met)
+    (map placed_member (drop l.m-index l.m-items))
+    ≡ each (member_met (keys_of l.names) (string_bytes l.c.name.text)) (met_of l.initial.met)
+    (map placed_member l.m-items)

@@ -9,10 +9,12 @@ returns-then-contains c =
 
 pub returns-then-len-ge-MOST_CLASSES : goal.returns-then-len-ge-MOST_CLASSES
 returns-then-len-ge-MOST_CLASSES c =
-    let e = name_over c.args.names.now.keys (placed_class c.args.c.now) (search rules) (search rules) (search rules) in search rules
+    let e = name_over c.args.names.now.keys (placed_class c.args.c.now) (search rules) (search rules) (search rules) in
+    search rules
 
 pub returns : goal.returns
 returns c =
-    let e = name_added c.args.names.now.keys (placed_class c.args.c.now) (search rules) (search rules) c.in_ok-from_str.field-0 (search rules) (search rules) in
+    let e = name_added c.args.names.now.keys (placed_class c.args.c.now) (search rules) (search rules)
+    c.in_ok-from_str.field-0 (search rules) (search rules) in
     let k = c.in_ok-insert.ensures.keys in
     cc

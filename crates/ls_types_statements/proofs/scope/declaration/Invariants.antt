@@ -9,6 +9,8 @@ abbrev pub invariant-loop-d : goal.invariant-loop-d
 invariant-loop-d l = record {
   room : l.slots.named ≤ 128;
   same :
-      each (declared (body_of l.context) l.t) (scope_of l.scope (slots_of l.slots)) (map placed_declarator (drop l.d-index l.d-items))
-      ≡ each (declared (body_of l.context) l.t) (scope_of l.initial.scope (slots_of l.initial.slots)) (map placed_declarator l.d-items);
+      each (declared (body_of l.context) l.t) (scope_of l.scope (slots_of l.slots))
+      (map placed_declarator (drop l.d-index l.d-items))
+      ≡ each (declared (body_of l.context) l.t) (scope_of l.initial.scope (slots_of l.initial.slots))
+      (map placed_declarator l.d-items);
 }

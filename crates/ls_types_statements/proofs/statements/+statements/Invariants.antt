@@ -10,7 +10,8 @@ abbrev pub decreases-statement : goal.decreases-statement
 decreases-statement l = 4 * statement_nodes (placed_statement l.s.now)
 
 abbrev pub decreases-branches : goal.decreases-branches
-decreases-branches l = 4 * (statement_nodes (placed_statement l.then.now) + other_nodes (placed_other l.otherwise.now)) + 1
+decreases-branches l = 4 * (statement_nodes (placed_statement l.then.now) + other_nodes (placed_other l.otherwise.now))
+    + 1
 
 abbrev pub decreases-while_loop : goal.decreases-while_loop
 decreases-while_loop l = 4 * statement_nodes (placed_statement l.body.now) + 2
@@ -47,6 +48,8 @@ invariant-all_items-loop-item l = record {
   room : l.slots.named ≤ 128;
   few : items_nodes (placed_items (drop l.item-index l.items)) ≤ items_nodes (placed_items l.items);
   same :
-      items (body_of l.round.context) (loops_of l.round) (scope_of l.scope (slots_of l.slots)) (placed_items (drop l.item-index l.items))
-      ≡ items (body_of l.round.context) (loops_of l.round) (scope_of l.initial.scope (slots_of l.initial.slots)) (placed_items l.items);
+      items (body_of l.round.context) (loops_of l.round) (scope_of l.scope (slots_of l.slots))
+      (placed_items (drop l.item-index l.items))
+      ≡ items (body_of l.round.context) (loops_of l.round) (scope_of l.initial.scope (slots_of l.initial.slots))
+      (placed_items l.items);
 }

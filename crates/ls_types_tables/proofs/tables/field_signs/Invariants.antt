@@ -6,4 +6,5 @@ use Rattle.ls_types_tables.proofs.tables.field_signs.Given as goal
 
 abbrev pub invariant-loop-name : goal.invariant-loop-name
 invariant-loop-name l =
-    map field_sign_of l.signs.items ++ map (λ f. field_entry (string_bytes f.0) f.1) l.name-iterator ≡ field_entries_of l.fn.fields
+    map field_sign_of l.signs.items ++ map (λ f. field_entry (string_bytes f.0) f.1) l.name-iterator ≡ field_entries_of
+    l.fn.fields

@@ -6,4 +6,5 @@ use Rattle.ls_types_tables.proofs.tables.method_signs.Given as goal
 
 abbrev pub invariant-loop-name : goal.invariant-loop-name
 invariant-loop-name l =
-    map method_sign_of l.signs.items ++ map (λ m. method_entry (string_bytes m.0) m.1) l.name-iterator ≡ method_entries_of l.fn.methods
+    map method_sign_of l.signs.items ++ map (λ m. method_entry (string_bytes m.0) m.1) l.name-iterator ≡
+    method_entries_of l.fn.methods

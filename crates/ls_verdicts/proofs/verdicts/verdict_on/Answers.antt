@@ -12,16 +12,19 @@ use Rattle.ls_verdicts.proofs.verdicts.verdict_on.Goals as goal
 pub judge-requires : goal.judge-requires
 judge-requires c =
     let h = c.requires in
-    let same = ap (map plain_event) c.as_slice.ensures.value ∙ c.in_ok-events.ensures ∙ named_is (plain_program c.args.program.now) c.args.history.now h.0 h.1 in
+    let same = ap (map plain_event) c.as_slice.ensures.value ∙ c.in_ok-events.ensures ∙
+    named_is (plain_program c.args.program.now) c.args.history.now h.0 h.1 in
     ap is_history same ∙ h.1.history
 
 pub returns : goal.returns
 returns c =
     let h = c.requires in
-    let same = ap (map plain_event) c.as_slice.ensures.value ∙ c.in_ok-events.ensures ∙ named_is (plain_program c.args.program.now) c.args.history.now h.0 h.1 in
+    let same = ap (map plain_event) c.as_slice.ensures.value ∙ c.in_ok-events.ensures ∙
+    named_is (plain_program c.args.program.now) c.args.history.now h.0 h.1 in
     let outcome = c.in_ok-outcome.outcome in
     record {
       events = h.0;
       named = h.1;
-      verdict = subst (IsVerdictOn h.0) (sym c.verdict_of.ensures) (outcome_told h.0 outcome (subst (λ es. IsOutcome es outcome) same c.in_ok-outcome.ensures));
+      verdict = subst (IsVerdictOn h.0) (sym c.verdict_of.ensures)
+          (outcome_told h.0 outcome (subst (λ es. IsOutcome es outcome) same c.in_ok-outcome.ensures));
     }

@@ -11,9 +11,14 @@ use Rattle.ls_views.proofs.viewing.run.Goals as goal
 pub returns-in_err-program : goal.returns-in_err-program
 returns-in_err-program c =
     let p = err_from_is_err_and c.from_residual.result c.from_residual.ensures.1 in
-    rw (p.1, p.2) (program_fails c.args.view (outcome_of c.args.checked.now) c.args.program.now c.args.schedule.now c.in_err-program.field-0.0
-    (no_program (outcome_of c.args.checked.now) c.args.program.now c.in_err-program.field-0.0 c.in_err-program.ensures.refused c.in_err-program.ensures.stands))
+    rw (p.1, p.2) (program_fails c.args.view (outcome_of c.args.checked.now) c.args.program.now c.args.schedule.now
+    c.in_err-program.field-0.0
+    (no_program (outcome_of c.args.checked.now) c.args.program.now c.in_err-program.field-0.0
+    c.in_err-program.ensures.refused c.in_err-program.ensures.stands))
 
 pub returns : goal.returns
 returns c =
-    program_runs c.args.view (outcome_of c.args.checked.now) c.args.program.now c.args.schedule.now (plain_program c.in_ok-program.program) c.viewed.result c.in_ok-program.ensures.spelled (subst (λ names. Gives (λ a. a ≡ viewed c.args.view names c.args.schedule.now) c.viewed.result) c.names_in.ensures c.viewed.ensures)
+    program_runs c.args.view (outcome_of c.args.checked.now) c.args.program.now c.args.schedule.now
+    (plain_program c.in_ok-program.program) c.viewed.result c.in_ok-program.ensures.spelled
+    (subst (λ names. Gives (λ a. a ≡ viewed c.args.view names c.args.schedule.now) c.viewed.result)
+    c.names_in.ensures c.viewed.ensures)

@@ -8,5 +8,6 @@ abbrev pub invariant-loop-thread : goal.invariant-loop-thread
 invariant-loop-thread l = record {
   names : names_in l.runner ≡ names_of l.fn.names;
   runs : RunsNamed l.runner;
-  run : after (names_of l.fn.names) (run_in l.runner) (drop l.thread-index l.steps) ≡ run_of (names_of l.fn.names) l.steps;
+  run : after (names_of l.fn.names) (run_in l.runner) (drop l.thread-index l.steps) ≡ run_of (names_of l.fn.names)
+      l.steps;
 }

@@ -7,5 +7,6 @@ use Rattle.ls_batch_tally.proofs.counting.Counts.add.Goals as goal
 pub returns : goal.returns
 returns c = λ other.
     let old = count_at c.args.self.now in
-    c.in_ok-put.ensures other ∙ ap (λ key. cond (are_same other key) (both (old key) (one_of c.args.seed)) (old other)) c.in_ok-key.ensures
+    c.in_ok-put.ensures other ∙ ap (λ key. cond (are_same other key) (both (old key) (one_of c.args.seed)) (old other))
+    c.in_ok-key.ensures
     ∙ put_more old (key_of c.args.history.now) other (record { count = 1; seed = c.args.seed })

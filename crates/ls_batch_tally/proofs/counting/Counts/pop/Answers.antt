@@ -5,4 +5,5 @@ use Rattle.ls_batch_tally.proofs.Put.{updated}
 use Rattle.ls_batch_tally.proofs.counting.Counts.pop.Goals as goal
 
 pub returns-clause-others : goal.returns-clause-others
-returns-clause-others c = IfSome_then c.pop_first.result c.pop_first.ensures.updates (λ p updates. λ other. updated plain_key c.args.self.now.counts c.pop_first.new.self p.0 _ updates other)
+returns-clause-others c = IfSome_then c.pop_first.result c.pop_first.ensures.updates
+    (λ p updates. λ other. updated plain_key c.args.self.now.counts c.pop_first.new.self p.0 _ updates other)

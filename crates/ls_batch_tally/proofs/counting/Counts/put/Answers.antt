@@ -9,6 +9,8 @@ returns c = λ other.
     let self = c.args.self.now in
     let key = plain_key c.args.key in
     let old : c.copied.result ≡ count_at self key = c.copied.ensures ∙ c.get.ensures.value in
-    let new : Some c.with-count.result ≡ both (count_at self key) (Some c.args.more) = c.with-count.ensures ∙ ap (λ o. both o (Some c.args.more)) old in
-    updated plain_key self.counts c.insert.new.self c.args.key (Some c.with-count.result) c.in_ok-insert.ensures.updates other
+    let new : Some c.with-count.result ≡ both (count_at self key) (Some c.args.more) = c.with-count.ensures ∙
+    ap (λ o. both o (Some c.args.more)) old in
+    updated plain_key self.counts c.insert.new.self c.args.key (Some c.with-count.result) c.in_ok-insert.ensures.updates
+    other
     ∙ ap (λ o. cond (are_same other key) o (count_at self other)) new

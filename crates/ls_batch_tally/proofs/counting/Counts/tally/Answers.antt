@@ -6,7 +6,8 @@ use Rattle.ls_batch_tally.proofs.Tallied.{is_tally, says_moved, times_moved}
 use Rattle.ls_batch_tally.proofs.counting.Counts.tally.Goals as goal
 
 pub loop-key-init : goal.loop-key-init
-loop-key-init c = subst (AreTaken (count_at c.args.self) (count_at c.args.self)) (sym c.new-entries.ensures.items) (none_taken (count_at c.args.self))
+loop-key-init c = subst (AreTaken (count_at c.args.self) (count_at c.args.self)) (sym c.new-entries.ensures.items)
+    (none_taken (count_at c.args.self))
 
 pub loop-key-smaller : goal.loop-key-smaller
 loop-key-smaller c = c.in-Some.ensures.fewer
@@ -14,7 +15,8 @@ loop-key-smaller c = c.in-Some.ensures.fewer
 pub loop-key-preserved : goal.loop-key-preserved
 loop-key-preserved c =
     subst (AreTaken (count_at c.args.self) (count_at c.pop.new.self)) (sym c.in_ok-push.ensures.items)
-    (one_taken (count_at c.args.self) (count_at c.loop-key.rest) (count_at c.pop.new.self) c.loop-key.entries.items _ c.loop-key.invariant c.in-Some.ensures.some c.in-Some.ensures.others)
+    (one_taken (count_at c.args.self) (count_at c.loop-key.rest) (count_at c.pop.new.self) c.loop-key.entries.items _
+    c.loop-key.invariant c.in-Some.ensures.some c.in-Some.ensures.others)
 
 pub returns : goal.returns
 returns c = λ first histories few counts.

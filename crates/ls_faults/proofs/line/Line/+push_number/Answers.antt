@@ -32,10 +32,12 @@ returns t c =
     let digit = (48 + n % 10) ∷ [] in
     elim c.if-number-ge10.branch [
       | then-number-ge10 w ↦
-          c.push.ensures ∙ ap (λ xs. xs ++ digit) (w.self-is ∙ w.push_number.ensures) ∙ append_assoc c.args.self.now (decimal (n / 10)) digit
+          c.push.ensures ∙ ap (λ xs. xs ++ digit) (w.self-is ∙ w.push_number.ensures) ∙
+          append_assoc c.args.self.now (decimal (n / 10)) digit
           ∙ ap (λ xs. c.args.self.now ++ xs) (sym (decimal_step n (omega arith) (omega arith)))
       | else-number-ge10 w ↦
           let small : n < 10 = omega arith in
           let same : n % 10 ≡ n = omega arith in
-          c.push.ensures ∙ ap (λ xs. xs ++ digit) w.self-is ∙ ap (λ m. c.args.self.now ++ (48 + m) ∷ []) same ∙ ap (λ xs. c.args.self.now ++ xs) (sym (decimal_digit n small))
+          c.push.ensures ∙ ap (λ xs. xs ++ digit) w.self-is ∙ ap (λ m. c.args.self.now ++ (48 + m) ∷ []) same ∙
+          ap (λ xs. c.args.self.now ++ xs) (sym (decimal_digit n small))
     ]

@@ -14,48 +14,68 @@ flat_all-flatten-requires t c =
     let i = c.loop-s.s-index in
     let s = c.s-item.result in
     let split : drop i xs ≡ s ∷ drop (i + 1) xs = left_at xs i s (search rules) c.s-item.is in
-    let less = size_at xs i s split in
-    (omega (arith, less), (one_fits c.args.self.now.free c.args.self.now.count xs c.loop-s.out.items c.loop-s.self.free c.loop-s.self.count (drop i xs) (drop (i + 1) xs) s split c.loop-s.invariant c.requires.room, search rules))
+    let less = size_at xs i s split in (
+      omega (arith, less),
+      (
+        one_fits c.args.self.now.free c.args.self.now.count xs c.loop-s.out.items c.loop-s.self.free
+            c.loop-s.self.count (drop i xs) (drop (i + 1) xs) s split c.loop-s.invariant c.requires.room,
+        search rules,
+      ),
+    )
 
 pub flat_all-loop-s-preserved : goal.flat_all-loop-s-preserved
 flat_all-loop-s-preserved t c =
     let xs : List Statement = c.args.statements.now in
     let i = c.loop-s.s-index in
-    let split : drop i xs ≡ c.s-item.result ∷ drop (i + 1) xs = left_at xs i c.s-item.result (search rules) c.s-item.is in
-    goes_on c.args.self.now.free c.args.self.now.count xs c.loop-s.out.items c.put.new.items.items c.loop-s.self.free c.flatten.new.self.free c.loop-s.self.count c.flatten.new.self.count (drop i xs) (drop (i + 1) xs) c.s-item.result c.in_ok-flatten.field-0
-    split c.in_ok-put.ensures c.in_ok-flatten.ensures.tree c.in_ok-flatten.ensures.free c.in_ok-flatten.ensures.count (search rules) c.loop-s.invariant
+    let split : drop i xs ≡ c.s-item.result ∷ drop (i + 1) xs = left_at xs i c.s-item.result (search rules) c.s-item.is
+    in
+    goes_on c.args.self.now.free c.args.self.now.count xs c.loop-s.out.items c.put.new.items.items c.loop-s.self.free
+    c.flatten.new.self.free c.loop-s.self.count c.flatten.new.self.count (drop i xs) (drop (i + 1) xs)
+    c.s-item.result c.in_ok-flatten.field-0
+    split c.in_ok-put.ensures c.in_ok-flatten.ensures.tree c.in_ok-flatten.ensures.free c.in_ok-flatten.ensures.count
+    (search rules) c.loop-s.invariant
 
 pub flatten-flat_leavable-requires : goal.flatten-flat_leavable-requires
 flatten-flat_leavable-requires t c =
     let body = c.deref-in-Leavable.result.now in
     let own = c.deref-in-Leavable-2.result.now in
-    let e : plain_statement c.args.s.now ≡ Leavable (plain_statement body) (statements_of own) = leavable_read c.args.s.now c.in-Leavable.body c.in-Leavable.own body own c.deref-in-Leavable.ensures c.deref-in-Leavable-2.ensures.value c.in-Leavable.is in
+    let e : plain_statement c.args.s.now ≡ Leavable (plain_statement body) (statements_of own) = leavable_read
+    c.args.s.now c.in-Leavable.body c.in-Leavable.own body own c.deref-in-Leavable.ensures
+    c.deref-in-Leavable-2.ensures.value c.in-Leavable.is in
     (omega (arith, ap size e), (omega (arith, ap tries e), c.requires.few))
 
 pub flatten-returns-in-Leavable-clause-tree : goal.flatten-returns-in-Leavable-clause-tree
 flatten-returns-in-Leavable-clause-tree t c =
     let body = c.deref-in-Leavable.result.now in
     let own = c.deref-in-Leavable-2.result.now in
-    let e : plain_statement c.args.s.now ≡ Leavable (plain_statement body) (statements_of own) = leavable_read c.args.s.now c.in-Leavable.body c.in-Leavable.own body own c.deref-in-Leavable.ensures c.deref-in-Leavable-2.ensures.value c.in-Leavable.is in
+    let e : plain_statement c.args.s.now ≡ Leavable (plain_statement body) (statements_of own) = leavable_read
+    c.args.s.now c.in-Leavable.body c.in-Leavable.own body own c.deref-in-Leavable.ensures
+    c.deref-in-Leavable-2.ensures.value c.in-Leavable.is in
     rw e c.flat_leavable.ensures.tree
 
 pub flatten-returns-in-Leavable-clause-free : goal.flatten-returns-in-Leavable-clause-free
 flatten-returns-in-Leavable-clause-free t c =
     let body = c.deref-in-Leavable.result.now in
     let own = c.deref-in-Leavable-2.result.now in
-    let e : plain_statement c.args.s.now ≡ Leavable (plain_statement body) (statements_of own) = leavable_read c.args.s.now c.in-Leavable.body c.in-Leavable.own body own c.deref-in-Leavable.ensures c.deref-in-Leavable-2.ensures.value c.in-Leavable.is in
+    let e : plain_statement c.args.s.now ≡ Leavable (plain_statement body) (statements_of own) = leavable_read
+    c.args.s.now c.in-Leavable.body c.in-Leavable.own body own c.deref-in-Leavable.ensures
+    c.deref-in-Leavable-2.ensures.value c.in-Leavable.is in
     rw e c.flat_leavable.ensures.free
 
 pub flatten-returns-in-Leavable-clause-count : goal.flatten-returns-in-Leavable-clause-count
 flatten-returns-in-Leavable-clause-count t c =
     let body = c.deref-in-Leavable.result.now in
     let own = c.deref-in-Leavable-2.result.now in
-    let e : plain_statement c.args.s.now ≡ Leavable (plain_statement body) (statements_of own) = leavable_read c.args.s.now c.in-Leavable.body c.in-Leavable.own body own c.deref-in-Leavable.ensures c.deref-in-Leavable-2.ensures.value c.in-Leavable.is in
+    let e : plain_statement c.args.s.now ≡ Leavable (plain_statement body) (statements_of own) = leavable_read
+    c.args.s.now c.in-Leavable.body c.in-Leavable.own body own c.deref-in-Leavable.ensures
+    c.deref-in-Leavable-2.ensures.value c.in-Leavable.is in
     rw e c.flat_leavable.ensures.count
 
 pub flatten-returns-in-Leavable-clause-few : goal.flatten-returns-in-Leavable-clause-few
 flatten-returns-in-Leavable-clause-few t c =
     let body = c.deref-in-Leavable.result.now in
     let own = c.deref-in-Leavable-2.result.now in
-    let e : plain_statement c.args.s.now ≡ Leavable (plain_statement body) (statements_of own) = leavable_read c.args.s.now c.in-Leavable.body c.in-Leavable.own body own c.deref-in-Leavable.ensures c.deref-in-Leavable-2.ensures.value c.in-Leavable.is in
+    let e : plain_statement c.args.s.now ≡ Leavable (plain_statement body) (statements_of own) = leavable_read
+    c.args.s.now c.in-Leavable.body c.in-Leavable.own body own c.deref-in-Leavable.ensures
+    c.deref-in-Leavable-2.ensures.value c.in-Leavable.is in
     rw e c.flat_leavable.ensures.few

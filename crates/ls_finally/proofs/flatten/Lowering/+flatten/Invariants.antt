@@ -23,4 +23,5 @@ abbrev pub decreases-flat_try : goal.decreases-flat_try
 decreases-flat_try l = 4 * (size (plain_statement l.body.now) + size (plain_statement l.finally.now)) + 3
 
 abbrev pub invariant-flat_all-loop-s : goal.invariant-flat_all-loop-s
-invariant-flat_all-loop-s l = Flattening l.fn.self.free l.fn.self.count l.statements l.out.items l.self.free l.self.count (drop l.s-index l.statements)
+invariant-flat_all-loop-s l = Flattening l.fn.self.free l.fn.self.count l.statements l.out.items l.self.free
+    l.self.count (drop l.s-index l.statements)

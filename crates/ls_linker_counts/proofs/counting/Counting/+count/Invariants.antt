@@ -22,8 +22,11 @@ decreases-count_try l = 4 * (size (plain_statement l.body.now) + size (plain_sta
 
 abbrev pub invariant-count_all-loop-s : goal.invariant-count_all-loop-s
 invariant-count_all-loop-s l =
-    (l.out.items ++ all_ways (statements_of (drop l.s-index l.statements)) ≡ l.initial.out.items ++ all_ways (statements_of l.statements))
-    × (l.self.copies + all_copied (statements_of (drop l.s-index l.statements)) ≡ l.fn.self.copies + all_copied (statements_of l.statements))
-    × (min (l.self.length + all_flat_size (statements_of (drop l.s-index l.statements))) 65537 ≡ min (l.fn.self.length + all_flat_size (statements_of l.statements)) 65537)
+    (l.out.items ++ all_ways (statements_of (drop l.s-index l.statements)) ≡ l.initial.out.items ++
+    all_ways (statements_of l.statements))
+    × (l.self.copies + all_copied (statements_of (drop l.s-index l.statements)) ≡ l.fn.self.copies + all_copied
+    (statements_of l.statements))
+    × (min (l.self.length + all_flat_size (statements_of (drop l.s-index l.statements))) 65537 ≡ min
+    (l.fn.self.length + all_flat_size (statements_of l.statements)) 65537)
     × (l.self.copies ≤ 4096)
     × (l.self.length ≤ 65537)

@@ -16,7 +16,8 @@ returns-clause-length c =
     let r : ℕ = c.returns_of.result in
     let few : before + n * (1 + copies) ≤ 4096 = omega (arith, c.in-Some.ensures) in
     let all : n ≡ 2 + total ways = all_counted before (total ways) n copies c.blocks_of-count.ensures few in
-    let back : r ≡ returned ways = returns_counted before copies r ways c.returns_of.ensures (subst (λ k. before + k * (1 + copies) ≤ 4096) all few) in
+    let back : r ≡ returned ways = returns_counted before copies r ways c.returns_of.ensures
+    (subst (λ k. before + k * (1 + copies) ≤ 4096) all few) in
     c.with_length-self.ensures
     ∙ ap (λ k. min (first + k * (long + 2) + 2 * r + 4) 65537) all
     ∙ ap (λ k. min (first + (2 + total ways) * (long + 2) + 2 * k + 4) 65537) back

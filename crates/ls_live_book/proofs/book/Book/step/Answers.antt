@@ -8,7 +8,8 @@ pub invariant_of-self : goal.invariant_of-self
 invariant_of-self g c =
     let over : is_over (machine_run g.L.Session.start c.self.inside.schedule.items) c.args.thread ≡ false =
     rw c.self.view_is (sym c.is_over.ensures ∙ c.if-is_over.false) in
-    let started : is_not_started (machine_state (machine_run g.L.Session.start c.self.inside.schedule.items) c.args.thread) ≡ false =
+    let started : is_not_started (machine_state (machine_run g.L.Session.start c.self.inside.schedule.items)
+    c.args.thread) ≡ false =
     rw c.self.view_is (sym c.is_not_started.ensures ∙ c.if-is_not_started.false) in
     let less : length c.self.inside.schedule.items ≢ c.self.inside.limit = omega arith in
     let kept = kept_on _ _ _ _ _ _ _ c.self.invariant.0 c.step-did.ensures.machine over started less in

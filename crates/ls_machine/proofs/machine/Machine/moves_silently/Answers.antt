@@ -19,42 +19,82 @@ unseen = (refl, λ p thread. refl)
 inside : (c : Then-move_silently) → c.args.number < length c.self.inside.threads.items
 inside c = search rules
 
-thread_is : (c : Then-move_silently) → c.index_mut-thread.result.now ≡ get_or c.self.inside.threads.items c.args.number no_thread
+thread_is : (c : Then-move_silently) →
+    c.index_mut-thread.result.now ≡ get_or c.self.inside.threads.items c.args.number no_thread
 thread_is c = get_or_read _ _ _ (inside c) c.index_mut-thread.ensures.value no_thread
 
-came : (c : Then-move_silently) → let k = get_or c.self.inside.threads.items c.args.number no_thread in Came (performed c.self.inside.cells c.args.number k.thread (thread_move c.self.inside.code k.thread)) k c.move_silently.new.thread c.self.inside.cells did.Silent
-came c = subst (λ (k : KeptThread). IsSilentMove c.self.inside.code k c.move_silently.new.thread) (thread_is c) (c.move_silently.ensures.silent c.if-move_silently.true) c.self.inside.cells c.args.number
+came : (c : Then-move_silently) →
+    let k = get_or c.self.inside.threads.items c.args.number no_thread in
+    Came (performed c.self.inside.cells c.args.number k.thread (thread_move c.self.inside.code k.thread)) k
+    c.move_silently.new.thread c.self.inside.cells did.Silent
+came c = subst (λ (k : KeptThread). IsSilentMove c.self.inside.code k c.move_silently.new.thread) (thread_is c)
+    (c.move_silently.ensures.silent c.if-move_silently.true) c.self.inside.cells c.args.number
 
-takes : (c : Then-move_silently) → TakesEvents c.self.inside.code c.args.number did.Silent (get_or c.self.inside.threads.items c.args.number no_thread).thread c.move_silently.new.thread.thread
+takes : (c : Then-move_silently) →
+    TakesEvents c.self.inside.code c.args.number did.Silent (get_or c.self.inside.threads.items c.args.number
+    no_thread).thread c.move_silently.new.thread.thread
 takes c =
-    let less : events_left c.move_silently.new.thread.thread ≤ events_left (get_or c.self.inside.threads.items c.args.number no_thread).thread = subst (λ (k : KeptThread). events_left c.move_silently.new.thread.thread ≤ events_left k.thread) (thread_is c) c.move_silently.ensures.events in
+    let less : events_left c.move_silently.new.thread.thread ≤ events_left
+    (get_or c.self.inside.threads.items c.args.number no_thread).thread = subst
+    (λ (k : KeptThread). events_left c.move_silently.new.thread.thread ≤ events_left k.thread) (thread_is c)
+    c.move_silently.ensures.events in
     omega (arith, less)
 
 pub invariant_of-self : goal.invariant_of-self
 invariant_of-self c = (
-  memory_unseen c.self.inside.code c.self.inside.threads.items _ c.self.inside.limit c.args.number c.move_silently.new.thread _ c.self.inside.cells did.Silent (inside c) c.self.invariant.0 (came c) (takes c) unseen,
+  memory_unseen c.self.inside.code c.self.inside.threads.items _ c.self.inside.limit c.args.number
+      c.move_silently.new.thread _ c.self.inside.cells did.Silent (inside c) c.self.invariant.0 (came c) (takes c)
+      unseen,
   search rules,
-  of_kept c.self.inside.code c.self.inside.threads.items c.self.inside.cells c.self.inside.limit c.args.number c.move_silently.new.thread c.self.inside.cells did.Silent (inside c) c.self.invariant.2 (came c),
+  of_kept c.self.inside.code c.self.inside.threads.items c.self.inside.cells c.self.inside.limit c.args.number
+      c.move_silently.new.thread c.self.inside.cells did.Silent (inside c) c.self.invariant.2 (came c),
 )
 
 -- where nothing was done, the threads are as they were
-same : (c : Else-move_silently) → set c.self.inside.threads.items c.args.number c.move_silently.new.thread ≡ c.self.inside.threads.items
+same : (c : Else-move_silently) →
+    set c.self.inside.threads.items c.args.number c.move_silently.new.thread ≡ c.self.inside.threads.items
 same c =
     let within : c.args.number < length c.self.inside.threads.items = search rules in
-    let thread : c.move_silently.new.thread ≡ get_or c.self.inside.threads.items c.args.number no_thread = c.move_silently.ensures.left c.if-move_silently.false ∙ get_or_read _ _ _ within c.index_mut-thread.ensures.value no_thread in
+    let thread : c.move_silently.new.thread ≡ get_or c.self.inside.threads.items c.args.number no_thread =
+    c.move_silently.ensures.left c.if-move_silently.false ∙
+    get_or_read _ _ _ within c.index_mut-thread.ensures.value no_thread in
     same_threads c.self.inside.threads.items c.args.number c.move_silently.new.thread thread
 
 pub invariant_of-self-2 : goal.invariant_of-self-2
 invariant_of-self-2 c = rw (same c) c.self.invariant
 
-due : (c : Then-move_silently) → is_due (the_view c.self.inside).threads c.args.number (get_or c.self.inside.threads.items c.args.number no_thread).thread ≡ true
+due : (c : Then-move_silently) →
+    is_due (the_view c.self.inside).threads c.args.number (get_or c.self.inside.threads.items c.args.number
+    no_thread).thread ≡ true
 due c = rw c.deref.ensures.value at (sym c.is_due.ensures ∙ c.if-not-is_due.false)
 
-stepped : (c : Then-move_silently) → machine_step (the_view c.self.inside) c.args.number ≡ stepped_by (the_view (record { code = c.self.inside.code; threads = with_item c.self.inside.threads c.args.number c.move_silently.new.thread; cells = c.self.inside.cells; stopped = c.self.inside.stopped; history = c.self.inside.history; limit = c.self.inside.limit })) did.Silent
-stepped c = step_unseen (the_view c.self.inside) c.args.number c.self.inside.threads.items c.move_silently.new.thread c.self.inside.cells did.Silent (inside c) refl c.if-self.false (due c) (came c) unseen
+stepped : (c : Then-move_silently) →
+    machine_step (the_view c.self.inside) c.args.number ≡ stepped_by
+    (the_view
+    (record {
+      code = c.self.inside.code;
+      threads = with_item c.self.inside.threads c.args.number
+          c.move_silently.new.thread;
+      cells = c.self.inside.cells;
+      stopped = c.self.inside.stopped;
+      history = c.self.inside.history;
+      limit = c.self.inside.limit;
+    })) did.Silent
+stepped c = step_unseen (the_view c.self.inside) c.args.number c.self.inside.threads.items c.move_silently.new.thread
+    c.self.inside.cells did.Silent (inside c) refl c.if-self.false (due c) (came c) unseen
 
 pub returns-then-move_silently-clause-silent : goal.returns-then-move_silently-clause-silent
-returns-then-move_silently-clause-silent c = λ _. subst (λ (m : Machine). the_view (record { code = c.self.inside.code; threads = with_item c.self.inside.threads c.args.number c.move_silently.new.thread; cells = c.self.inside.cells; stopped = c.self.inside.stopped; history = c.self.inside.history; limit = c.self.inside.limit }) ≡ (machine_step m c.args.number).machine) c.self.view_is (sym (ap (λ (s : Stepped). s.machine) (stepped c)))
+returns-then-move_silently-clause-silent c = λ _. subst (λ (m : Machine).
+    the_view (record {
+      code = c.self.inside.code;
+      threads = with_item c.self.inside.threads c.args.number
+          c.move_silently.new.thread;
+      cells = c.self.inside.cells;
+      stopped = c.self.inside.stopped;
+      history = c.self.inside.history;
+      limit = c.self.inside.limit;
+    }) ≡ (machine_step m c.args.number).machine)
+    c.self.view_is (sym (ap (λ (s : Stepped). s.machine) (stepped c)))
 
 pub is_due-requires : goal.is_due-requires
 is_due-requires c = omega (arith, c.if-number-len.false, c.len.ensures, c.deref.ensures.len)

@@ -18,9 +18,11 @@ count_left-left-requires c =
     let operands = c.set_threads-threads.ensures.operands ∙ ap (map (λ (t : KeptThread). t.operands_room)) was in
     let count = c.set_threads-threads.ensures.count ∙ ap length was in
     let items = with_items_is s.threads new (omega (arith, count, s.threads.ok.0)) in
-    let small = left_small s.code s.threads.items new s.cells c.set_as-cells.new.self s.limit c.self.invariant.2 calls locals operands in
+    let small = left_small s.code s.threads.items new s.cells c.set_as-cells.new.self s.limit c.self.invariant.2 calls
+    locals operands in
     let limit : s.limit < 18446744073709551616 = search rules in
-    subst (λ (ts : List KeptThread). sum_by (λ t. events_left t.thread) ts < 18446744073709551616) (sym (c.deref.ensures.value ∙ items)) (omega (arith, small, limit))
+    subst (λ (ts : List KeptThread). sum_by (λ t. events_left t.thread) ts < 18446744073709551616)
+    (sym (c.deref.ensures.value ∙ items)) (omega (arith, small, limit))
 
 pub remember-history-requires-clause-left : goal.remember-history-requires-clause-left
 remember-history-requires-clause-left c =
@@ -32,8 +34,10 @@ remember-history-requires-clause-left c =
     let operands = c.set_threads-threads.ensures.operands ∙ ap (map (λ (t : KeptThread). t.operands_room)) was in
     let count = c.set_threads-threads.ensures.count ∙ ap length was in
     let items = with_items_is s.threads new (omega (arith, count, s.threads.ok.0)) in
-    let small = left_small s.code s.threads.items new s.cells c.set_as-cells.new.self s.limit c.self.invariant.2 calls locals operands in
-    let is = c.count_left-left.ensures ∙ ap (λ (ts : List KeptThread). sum_by (λ t. events_left t.thread) ts) (c.deref.ensures.value ∙ items) in
+    let small = left_small s.code s.threads.items new s.cells c.set_as-cells.new.self s.limit c.self.invariant.2 calls
+    locals operands in
+    let is = c.count_left-left.ensures ∙ ap (λ (ts : List KeptThread). sum_by (λ t. events_left t.thread) ts)
+    (c.deref.ensures.value ∙ items) in
     omega (arith, is, small)
 
 pub invariant_of-self : goal.invariant_of-self
@@ -46,12 +50,17 @@ invariant_of-self c =
     let operands = c.set_threads-threads.ensures.operands ∙ ap (map (λ (t : KeptThread). t.operands_room)) was in
     let count = c.set_threads-threads.ensures.count ∙ ap length was in
     let items = with_items_is s.threads new (omega (arith, count, s.threads.ok.0)) in
-    let small = left_small s.code s.threads.items new s.cells c.set_as-cells.new.self s.limit c.self.invariant.2 calls locals operands in
-    let is = c.count_left-left.ensures ∙ ap (λ (ts : List KeptThread). sum_by (λ t. events_left t.thread) ts) (c.deref.ensures.value ∙ items) in
+    let small = left_small s.code s.threads.items new s.cells c.set_as-cells.new.self s.limit c.self.invariant.2 calls
+    locals operands in
+    let is = c.count_left-left.ensures ∙ ap (λ (ts : List KeptThread). sum_by (λ t. events_left t.thread) ts)
+    (c.deref.ensures.value ∙ items) in
     let kept = c.set_as-cells.ensures.kept in (
       subst (λ (ts : List KeptThread). HasMemory s.code ts (vec_len c.remember-history.new.history) s.limit) (sym items)
-          (memory_set s.code s.threads.items new s.cells c.set_as-cells.new.self s.limit c.self.invariant.2 calls locals operands (vec_len c.remember-history.new.history) _ c.count_left-left.result c.self.invariant.0 is c.remember-history.ensures.room),
+          (memory_set s.code s.threads.items new s.cells c.set_as-cells.new.self s.limit c.self.invariant.2 calls locals
+          operands (vec_len c.remember-history.new.history) _ c.count_left-left.result c.self.invariant.0 is
+          c.remember-history.ensures.room),
       search rules,
       subst (λ (ts : List KeptThread). IsOf s.code ts c.set_as-cells.new.self s.limit) (sym items)
-          (of_set s.code s.threads.items new s.cells c.set_as-cells.new.self s.limit c.self.invariant.2 calls locals operands kept.1 kept.2 kept.0),
+          (of_set s.code s.threads.items new s.cells c.set_as-cells.new.self s.limit c.self.invariant.2 calls locals
+          operands kept.1 kept.2 kept.0),
     )

@@ -9,15 +9,18 @@ pub loop-left-preserved : goal.loop-left-preserved
 loop-left-preserved c = λ rest.
     let a = c.stay-left.result in
     let l = c.loop-left.left in
-    let first = turn_rest c.loop-left.self c.stay-left.new.self c.args.number l a (l - a) rest (omega (arith, c.stay-left.ensures.few)) c.stay-left.ensures.same in
-    let one = turn_one c.stay-left.new.self c.any_step.new.self c.args.number (l - a) (l - a - 1) rest (omega (arith, c.if-left-eq0.false)) c.any_step.ensures.machine in
+    let first = turn_rest c.loop-left.self c.stay-left.new.self c.args.number l a (l - a) rest
+    (omega (arith, c.stay-left.ensures.few)) c.stay-left.ensures.same in
+    let one = turn_one c.stay-left.new.self c.any_step.new.self c.args.number (l - a) (l - a - 1) rest
+    (omega (arith, c.if-left-eq0.false)) c.any_step.ensures.machine in
     sym one ∙ (sym first ∙ c.loop-left.invariant rest)
 
 pub returns-then-left-eq0 : goal.returns-then-left-eq0
 returns-then-left-eq0 c = λ rest.
     let a = c.stay-left.result in
     let l = c.loop-left.left in
-    sym (c.loop-left.invariant rest) ∙ turn_rest c.loop-left.self c.stay-left.new.self c.args.number l a 0 rest (omega (arith, c.stay-left.ensures.few, c.if-left-eq0.true)) c.stay-left.ensures.same
+    sym (c.loop-left.invariant rest) ∙ turn_rest c.loop-left.self c.stay-left.new.self c.args.number l a 0 rest
+    (omega (arith, c.stay-left.ensures.few, c.if-left-eq0.true)) c.stay-left.ensures.same
 
 pub returns : goal.returns
 returns c = λ rest.

@@ -15,20 +15,27 @@ loop-i-preserved c =
     let same = ap (λ (t : KeptThread). t.thread) (c.set_as.ensures.same c.if-not-set_as.false) ∙ c.as_ref.ensures in
     record {
       count = length-set ts i new ∙ c.loop-i.invariant.count;
-      same = written (λ (t : KeptThread). t.thread) (λ t. t.value) ts c.args.saved.now i new c.index-saved-i.result there (omega arith) c.loop-i.invariant.same (same ∙ ap (λ t. t.value) c.index-saved-i.is);
-      calls = map-set_same (λ (t : KeptThread). t.thread.calls) ts i new old c.set_as.ensures.calls ∙ c.loop-i.invariant.calls;
-      locals = map-set_same (λ (t : KeptThread). t.locals_room) ts i new old c.set_as.ensures.locals ∙ c.loop-i.invariant.locals;
-      operands = map-set_same (λ (t : KeptThread). t.operands_room) ts i new old c.set_as.ensures.operands ∙ c.loop-i.invariant.operands;
+      same = written (λ (t : KeptThread). t.thread) (λ t. t.value) ts c.args.saved.now i new c.index-saved-i.result
+          there (omega arith) c.loop-i.invariant.same (same ∙ ap (λ t. t.value) c.index-saved-i.is);
+      calls = map-set_same (λ (t : KeptThread). t.thread.calls) ts i new old c.set_as.ensures.calls ∙
+          c.loop-i.invariant.calls;
+      locals = map-set_same (λ (t : KeptThread). t.locals_room) ts i new old c.set_as.ensures.locals ∙
+          c.loop-i.invariant.locals;
+      operands = map-set_same (λ (t : KeptThread). t.operands_room) ts i new old c.set_as.ensures.operands ∙
+          c.loop-i.invariant.operands;
     }
 
 pub returns-then-not-set_as-clause-calls : goal.returns-then-not-set_as-clause-calls
 returns-then-not-set_as-clause-calls c =
-    map-set_same (λ (t : KeptThread). t.thread.calls) c.loop-i.threads c.loop-i.i c.set_as.new.self c.index-threads-i.result c.set_as.ensures.calls ∙ c.loop-i.invariant.calls
+    map-set_same (λ (t : KeptThread). t.thread.calls) c.loop-i.threads c.loop-i.i c.set_as.new.self
+    c.index-threads-i.result c.set_as.ensures.calls ∙ c.loop-i.invariant.calls
 
 pub returns-then-not-set_as-clause-locals : goal.returns-then-not-set_as-clause-locals
 returns-then-not-set_as-clause-locals c =
-    map-set_same (λ (t : KeptThread). t.locals_room) c.loop-i.threads c.loop-i.i c.set_as.new.self c.index-threads-i.result c.set_as.ensures.locals ∙ c.loop-i.invariant.locals
+    map-set_same (λ (t : KeptThread). t.locals_room) c.loop-i.threads c.loop-i.i c.set_as.new.self
+    c.index-threads-i.result c.set_as.ensures.locals ∙ c.loop-i.invariant.locals
 
 pub returns-then-not-set_as-clause-operands : goal.returns-then-not-set_as-clause-operands
 returns-then-not-set_as-clause-operands c =
-    map-set_same (λ (t : KeptThread). t.operands_room) c.loop-i.threads c.loop-i.i c.set_as.new.self c.index-threads-i.result c.set_as.ensures.operands ∙ c.loop-i.invariant.operands
+    map-set_same (λ (t : KeptThread). t.operands_room) c.loop-i.threads c.loop-i.i c.set_as.new.self
+    c.index-threads-i.result c.set_as.ensures.operands ∙ c.loop-i.invariant.operands

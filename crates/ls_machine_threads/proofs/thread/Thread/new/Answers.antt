@@ -13,4 +13,5 @@ pub returns : goal.returns
 returns c =
     let a = lowest c.in_ok-frames.frames.items c.in_ok-new.field-0 c.in_ok-frames.ensures.count in
     let b = nothing c.in_ok-frames.frames.items c.in_ok-new.field-0 c.in_ok-frames.ensures.count in
-    rw (c.in_ok-push.ensures.items, a, b, c.in_ok-new.ensures, c.place.ensures, c.need.ensures, c.in_ok-calls.ensures) refl
+    rw (c.in_ok-push.ensures.items, a, b, c.in_ok-new.ensures, c.place.ensures, c.need.ensures, c.in_ok-calls.ensures)
+    refl

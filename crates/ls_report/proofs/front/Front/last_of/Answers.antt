@@ -6,11 +6,13 @@ use Rattle.ls_report.proofs.front.Front.last_of.Goals as goal
 pub returns-in_err-place : goal.returns-in_err-place
 returns-in_err-place c =
     let none : option_copied c.from_residual.result ≡ None = search rules in
-    none ∙ ap (option_and_then (slice_get c.args.self.now.events.items)) c.in_err-place.ensures.value ∙ c.requires.last c.args.thread.now
+    none ∙ ap (option_and_then (slice_get c.args.self.now.events.items)) c.in_err-place.ensures.value ∙
+    c.requires.last c.args.thread.now
 
 pub returns : goal.returns
 returns c =
     let place = c.in_ok-place.field-0.now in
     looked_up c.deref.result.now place c.get-2.result c.get-2.ensures.lookup.0 c.get-2.ensures.lookup.1
     ∙ ap (λ xs. slice_get xs place) c.deref.ensures.value
-    ∙ ap (option_and_then (slice_get c.args.self.now.events.items)) c.in_ok-place.ensures.value ∙ c.requires.last c.args.thread.now
+    ∙ ap (option_and_then (slice_get c.args.self.now.events.items)) c.in_ok-place.ensures.value ∙
+    c.requires.last c.args.thread.now

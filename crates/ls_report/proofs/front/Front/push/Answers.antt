@@ -11,5 +11,7 @@ returns-clause-indexed c =
     let event = c.args.event in
     let count : c.len.result ≡ length old.events.items = search rules in
     let place : (t : Text) → place_of c.put_place.new.places t ≡ place_after old event t =
-    λ t. c.in_ok-put_place.ensures t ∙ ap (λ n. cond (bytes_eq event.thread.now t) (Some n) (place_of old.places t)) count in
-    indexed_after old (record { events = c.push.new.self; places = c.put_place.new.places }) event c.requires c.in_ok-push.ensures.items place
+    λ t. c.in_ok-put_place.ensures t ∙ ap (λ n. cond (bytes_eq event.thread.now t) (Some n) (place_of old.places t))
+    count in
+    indexed_after old (record { events = c.push.new.self; places = c.put_place.new.places }) event c.requires
+    c.in_ok-push.ensures.items place

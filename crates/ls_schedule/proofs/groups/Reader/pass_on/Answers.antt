@@ -4,4 +4,5 @@ use Rattle.ls_schedule.proofs.groups.Reader.pass_on.Goals as goal
 
 pub returns-in-Some-clause-passes : goal.returns-in-Some-clause-passes
 returns-in-Some-clause-passes c all =
-    c.pass_short.ensures.passes (map thread_name c.args.threads.now) c.args.table.now c.args.at c.args.text.now c.requires.table c.in-Some.ensures
+    c.pass_short.ensures.passes (map thread_name c.args.threads.now) c.args.table.now c.args.at c.args.text.now
+    c.requires.table c.in-Some.ensures

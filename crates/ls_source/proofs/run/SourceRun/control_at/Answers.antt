@@ -15,6 +15,7 @@ returns-in-Some-control c =
     let file = plain_file r.file.now in
     let program = plain_program r.program.now in
     let ts = r.threads.items in
-    let within : i < length ts = subst (λ l. i < length l) c.deref.ensures.value (ltb-true i (length c.deref.result.now) (sym c.get.ensures.lookup.0 ∙ ap is_some c.in-Some.is)) in
+    let within : i < length ts = subst (λ l. i < length l) c.deref.ensures.value
+    (ltb-true i (length c.deref.result.now) (sym c.get.ensures.lookup.0 ∙ ap is_some c.in-Some.is)) in
     let is : v ≡ get_or ts i v = c.in-Some.ensures.lookup.1 ∙ ap (λ l. get_or l i v) c.deref.ensures.value in
     ap (asked_at program) (thread_at file program ts i v within is) ∙ c.in-Some-control.ensures program

@@ -17,9 +17,11 @@ invariant_of-result c =
     let program = plain_program c.args.program.now in
     let had : List Answers = map (λ t. []) program.threads in
     let lists : lists_of c.in_ok-stage.stage.answers.items ≡ had = ap (λ s. s.answers) c.in_ok-stage.ensures.state in
-    let made : map thread_of c.in_ok-threads.threads.items ≡ fresh_threads ps = c.in_ok-threads.ensures ∙ ap fresh_threads c.deref.ensures.value in
+    let made : map thread_of c.in_ok-threads.threads.items ≡ fresh_threads ps = c.in_ok-threads.ensures ∙
+    ap fresh_threads c.deref.ensures.value in
     record {
-      answers = sym (length-map c.in_ok-stage.stage.answers.items (λ v. v.items)) ∙ ap length lists ∙ length-map program.threads (λ t. []) ∙ length-map ps plain_thread;
+      answers = sym (length-map c.in_ok-stage.stage.answers.items (λ v. v.items)) ∙ ap length lists ∙
+          length-map program.threads (λ t. []) ∙ length-map ps plain_thread;
       works = sym (length-map c.in_ok-threads.threads.items thread_of) ∙ ap length made ∙ length-map ps _;
       kept = subst (λ l. IsKept file program l (lists_of c.in_ok-stage.stage.answers.items)) (sym made)
           (subst (λ l. IsKept file program (fresh_threads ps) l) (sym lists) (starts file program ps refl));

@@ -15,17 +15,20 @@ use Rattle.ls_source.proofs.run.SourceRun.next_at_once.Goals as goal
 pub returns-in-Some-Asks-clause-next : goal.returns-in-Some-Asks-clause-next
 returns-in-Some-Asks-clause-next c =
     let r = c.args.self.now in
-    now_is (plain_file r.file.now) (plain_program r.program.now) (map thread_of r.threads.items) (lists_of r.stage.answers.items) c.args.thread (Goes c.in-Some-Asks.action c.in-Some-Asks.sort) r.kept
+    now_is (plain_file r.file.now) (plain_program r.program.now) (map thread_of r.threads.items)
+    (lists_of r.stage.answers.items) c.args.thread (Goes c.in-Some-Asks.action c.in-Some-Asks.sort) r.kept
     (c.in-Some-Asks.ensures ∙ ap (λ k. asked_by (control_of k)) c.in-Some-Asks.field-0-is)
 
 pub returns-in-Some-Enters-clause-next : goal.returns-in-Some-Enters-clause-next
 returns-in-Some-Enters-clause-next c =
     let r = c.args.self.now in
-    now_is (plain_file r.file.now) (plain_program r.program.now) (map thread_of r.threads.items) (lists_of r.stage.answers.items) c.args.thread (Goes (Enter c.in-Some-Enters.m) NoValue) r.kept
+    now_is (plain_file r.file.now) (plain_program r.program.now) (map thread_of r.threads.items)
+    (lists_of r.stage.answers.items) c.args.thread (Goes (Enter c.in-Some-Enters.m) NoValue) r.kept
     (c.in-Some-Enters.ensures ∙ ap (λ k. asked_by (control_of k)) c.in-Some-Enters.field-0-is)
 
 pub returns-in-Some-Turns-clause-next : goal.returns-in-Some-Turns-clause-next
 returns-in-Some-Turns-clause-next c =
     let r = c.args.self.now in
-    now_is (plain_file r.file.now) (plain_program r.program.now) (map thread_of r.threads.items) (lists_of r.stage.answers.items) c.args.thread (Goes Turn NoValue) r.kept
+    now_is (plain_file r.file.now) (plain_program r.program.now) (map thread_of r.threads.items)
+    (lists_of r.stage.answers.items) c.args.thread (Goes Turn NoValue) r.kept
     (c.in-Some-Turns.ensures ∙ ap (λ k. asked_by (control_of k)) c.in-Some-Turns.field-0-is)

@@ -17,8 +17,11 @@ returns-in-Some-asked-clause-next c =
     let file = plain_file r.file.now in
     let program = plain_program r.program.now in
     let ts = r.threads.items in
-    let within : i < length ts = subst (λ l. i < length l) c.deref.ensures.value (ltb-true i (length c.deref.result.now) (sym c.get.ensures.lookup.0 ∙ ap is_some c.in-Some.is)) in
+    let within : i < length ts = subst (λ l. i < length l) c.deref.ensures.value
+    (ltb-true i (length c.deref.result.now) (sym c.get.ensures.lookup.0 ∙ ap is_some c.in-Some.is)) in
     let is : v ≡ get_or ts i v = c.in-Some.ensures.lookup.1 ∙ ap (λ l. get_or l i v) c.deref.ensures.value in
     let asks : asked_at program (slice_get (map thread_of ts) i) ≡ Some (plain_next c.in-Some-asked.next) =
-    ap (asked_at program) (thread_at file program ts i v within is) ∙ sym c.asked.ensures ∙ ap (option_map plain_next) c.in-Some-asked.is in
-    now_is file program (map thread_of ts) (lists_of r.stage.answers.items) i (plain_next c.in-Some-asked.next) r.kept asks
+    ap (asked_at program) (thread_at file program ts i v within is) ∙ sym c.asked.ensures ∙
+    ap (option_map plain_next) c.in-Some-asked.is in
+    now_is file program (map thread_of ts) (lists_of r.stage.answers.items) i (plain_next c.in-Some-asked.next) r.kept
+    asks

@@ -13,5 +13,7 @@ invariant_of-self c =
     record {
       answers = r.answers;
       works = length-set r.threads.items c.args.thread c.settle.new.self ∙ r.works;
-      kept = settled (plain_file r.file.now) (plain_program r.program.now) r.threads.items (lists_of r.stage.answers.items) c.args.thread c.index_mut.result.now c.settle.new.self r.kept within c.index_mut.ensures.value c.settle.ensures;
+      kept = settled (plain_file r.file.now) (plain_program r.program.now) r.threads.items
+          (lists_of r.stage.answers.items) c.args.thread c.index_mut.result.now c.settle.new.self r.kept within
+          c.index_mut.ensures.value c.settle.ensures;
     }

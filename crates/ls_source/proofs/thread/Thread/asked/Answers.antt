@@ -10,4 +10,5 @@ pub returns-then-n-self : goal.returns-then-n-self
 returns-then-n-self c =
     let t = c.args.self.now in
     let within : t.begun < length t.calls.now = search rules in
-    sym (ap (λ p. asked_in (plain_program c.args.program.now) t.begun (drop t.begun (map plain_call t.calls.now)) (phase_of p (state_of t.work))) c.in-Starts.is ∙ some_left t.calls.now t.begun within)
+    sym (ap (λ p. asked_in (plain_program c.args.program.now) t.begun (drop t.begun (map plain_call t.calls.now))
+    (phase_of p (state_of t.work))) c.in-Starts.is ∙ some_left t.calls.now t.begun within)

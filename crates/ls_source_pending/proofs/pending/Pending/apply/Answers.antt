@@ -10,4 +10,10 @@ pub returns-in-Make : goal.returns-in-Make
 returns-in-Make c = rw c.in-Make.is c.construct.ensures
 
 pub returns-in-Mark : goal.returns-in-Mark
-returns-in-Mark c = rw c.in-Mark.is (rw (c.pair_of-pair.ensures, c.value_at-in-Mark.ensures, c.deref-in-Mark.ensures.value, c.value_at.ensures, c.deref.ensures.value) at c.asks.ensures)
+returns-in-Mark c = rw c.in-Mark.is (rw (
+  c.pair_of-pair.ensures,
+  c.value_at-in-Mark.ensures,
+  c.deref-in-Mark.ensures.value,
+  c.value_at.ensures,
+  c.deref.ensures.value,
+) at c.asks.ensures)

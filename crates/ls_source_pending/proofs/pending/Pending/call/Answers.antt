@@ -37,13 +37,33 @@ pub returns-in-IsMarked : goal.returns-in-IsMarked
 returns-in-IsMarked c = rw c.in-IsMarked.is (rw c.reference_of-n.ensures at c.read_pair-in-IsMarked.ensures)
 
 pub returns-in-GetBoth : goal.returns-in-GetBoth
-returns-in-GetBoth c = rw c.in-GetBoth.is (rw (c.reference_of-array.ensures, c.value_at.ensures, c.deref.ensures.value, c.reference_of-n.ensures) at c.read_pair-in-GetBoth.ensures)
+returns-in-GetBoth c = rw c.in-GetBoth.is (rw (
+  c.reference_of-array.ensures,
+  c.value_at.ensures,
+  c.deref.ensures.value,
+  c.reference_of-n.ensures,
+) at c.read_pair-in-GetBoth.ensures)
 
 pub returns-in-SetBoth : goal.returns-in-SetBoth
-returns-in-SetBoth c = rw c.in-SetBoth.is (rw (c.pair_of-pair.ensures, c.value_at-in-SetBoth-2.ensures, c.deref-in-SetBoth-2.ensures.value, c.value_at-in-SetBoth.ensures, c.deref-in-SetBoth.ensures.value, c.reference_of-n.ensures) at c.asks-in-SetBoth.ensures)
+returns-in-SetBoth c = rw c.in-SetBoth.is (rw (
+  c.pair_of-pair.ensures,
+  c.value_at-in-SetBoth-2.ensures,
+  c.deref-in-SetBoth-2.ensures.value,
+  c.value_at-in-SetBoth.ensures,
+  c.deref-in-SetBoth.ensures.value,
+  c.reference_of-n.ensures,
+) at c.asks-in-SetBoth.ensures)
 
 pub returns-in-CompareAndSet : goal.returns-in-CompareAndSet
-returns-in-CompareAndSet c = rw c.in-CompareAndSet.is (rw (c.swap.ensures, c.deref-in-CompareAndSet.ensures.value, c.reference_of-n.ensures) at c.asks-in-CompareAndSet.ensures)
+returns-in-CompareAndSet c = rw c.in-CompareAndSet.is (rw (
+  c.swap.ensures,
+  c.deref-in-CompareAndSet.ensures.value,
+  c.reference_of-n.ensures,
+) at c.asks-in-CompareAndSet.ensures)
 
 pub returns-in-Attempt : goal.returns-in-Attempt
-returns-in-Attempt c = rw c.in-Attempt.is (rw (c.attempt.ensures, c.deref-in-Attempt.ensures.value, c.reference_of-n.ensures) at c.asks-in-Attempt.ensures)
+returns-in-Attempt c = rw c.in-Attempt.is (rw (
+  c.attempt.ensures,
+  c.deref-in-Attempt.ensures.value,
+  c.reference_of-n.ensures,
+) at c.asks-in-Attempt.ensures)

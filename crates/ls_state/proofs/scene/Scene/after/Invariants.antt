@@ -12,9 +12,11 @@ abbrev pub invariant-loop-thread : goal.invariant-loop-thread
 invariant-loop-thread l = record {
   file : (progress_of l.run).file ≡ plain_file l.names.file.now;
   program : (progress_of l.run).program ≡ plain_program l.names.program.now;
-  state : end_of (plain_file l.names.file.now) (plain_program l.names.program.now) (progress_of l.run).state (drop l.thread-index l.steps)
+  state : end_of (plain_file l.names.file.now) (plain_program l.names.program.now) (progress_of l.run).state
+      (drop l.thread-index l.steps)
       ≡ source_run (plain_file l.names.file.now) (plain_program l.names.program.now) l.steps;
-  labels : labels_after (plain_file l.names.file.now) (plain_program l.names.program.now) (progress_of l.run).state l.labels.items (drop l.thread-index l.steps)
+  labels : labels_after (plain_file l.names.file.now) (plain_program l.names.program.now) (progress_of l.run).state
+      l.labels.items (drop l.thread-index l.steps)
       ≡ labels_of (source_trace (plain_file l.names.file.now) (plain_program l.names.program.now) l.steps);
   history : rest_of (progress_of l.run) (drop l.thread-index l.steps)
       ≡ source_history (plain_file l.names.file.now) (plain_program l.names.program.now) l.steps;

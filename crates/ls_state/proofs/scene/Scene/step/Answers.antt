@@ -5,5 +5,6 @@ use Rattle.ls_state.proofs.scene.Scene.step.Goals as goal
 
 pub returns-clause-scene : goal.returns-clause-scene
 returns-clause-scene c =
-    scene_step (names_in c.args.self.now) (progress_of c.args.self.now.run) (progress_of c.step.new.self) c.args.self.now.labels.items c.keep_label.new.labels.items c.in_ok-did.did c.args.thread
+    scene_step (names_in c.args.self.now) (progress_of c.args.self.now.run) (progress_of c.step.new.self)
+    c.args.self.now.labels.items c.keep_label.new.labels.items c.in_ok-did.did c.args.thread
     c.requires.file c.requires.program c.in_ok-did.ensures.run c.in_ok-did.ensures.did c.in_ok-keep_label.ensures

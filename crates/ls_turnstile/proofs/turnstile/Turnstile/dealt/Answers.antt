@@ -13,18 +13,25 @@ loop-thread-preserved c =
     let n = c.loop-thread.thread in
     let k = c.self.inside.table.shared.key in
     let seats = c.self.invariant.1 in
-    let seat : c.seat_of-seat.result ≡ new_seat t n = c.seat_of-seat.ensures.seat ∙ ap (λ (s : TurnstileState). new_seat s n) c.self.view_is in
-    let of : IsSeatOf t c.seat_of-seat.result = (ap (λ (s : SeatState). s.id) seat, ap (λ (s : SeatState). s.start) seat, ap (λ (s : SeatState). s.tape) seat) in
+    let seat : c.seat_of-seat.result ≡ new_seat t n = c.seat_of-seat.ensures.seat ∙
+    ap (λ (s : TurnstileState). new_seat s n) c.self.view_is in
+    let of : IsSeatOf t c.seat_of-seat.result = (
+      ap (λ (s : SeatState). s.id) seat,
+      ap (λ (s : SeatState). s.start) seat,
+      ap (λ (s : SeatState). s.tape) seat,
+    ) in
     record {
       id = c.seat_of-seat.ensures.id ∙ c.loop-thread.invariant.id;
       hand = c.seat_of-seat.ensures.hand
           ∙ (ap (λ (m : ℕ). (dealer (loaded k.code.value k.cells) k.tape.value.items m (n + 1), [])) (omega arith)
-          ∙ ap (λ (s : TurnstileState). (dealer (loaded s.code s.cells) s.tape (s.seats - (n + 1)) (n + 1), [])) c.self.view_is);
+          ∙ ap (λ (s : TurnstileState). (dealer (loaded s.code s.cells) s.tape (s.seats - (n + 1)) (n + 1), []))
+          c.self.view_is);
       seats = c.push_reserved.ensures.items
           ∙ (ap (λ (xs : List SeatState). xs ++ c.seat_of-seat.result ∷ []) c.loop-thread.invariant.seats
           ∙ (ap (λ (y : SeatState). map (new_seat t) (range_with_len 0 n) ++ y ∷ []) seat
           ∙ sym (map-range_with_len_more (new_seat t) 0 n n (omega arith))));
-      of = subst (λ (xs : List SeatState). All (IsSeatOf t) xs) (sym c.push_reserved.ensures.items) (All-push (IsSeatOf t) c.loop-thread.row.items c.seat_of-seat.result c.loop-thread.invariant.of of);
+      of = subst (λ (xs : List SeatState). All (IsSeatOf t) xs) (sym c.push_reserved.ensures.items)
+          (All-push (IsSeatOf t) c.loop-thread.row.items c.seat_of-seat.result c.loop-thread.invariant.of of);
       count = search rules;
       room = search rules;
     }

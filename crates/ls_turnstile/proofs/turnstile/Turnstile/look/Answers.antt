@@ -5,5 +5,8 @@ use Rattle.ls_turnstile.proofs.Moves.{look_moves}
 use Rattle.ls_turnstile.proofs.turnstile.Turnstile.look.Goals as goal
 
 pub load-requires : goal.load-requires
-load-requires c = let i = c.self.invariant in let v = c.requires.view in
-    (c.requires.id ∙ ap (λ s. s.id) (sym c.self.view_is), omega arith, look_moves _ _ _ _ _ _ (step 0 0 0 0 none) v.0 v.1 v.2)
+load-requires c = let i = c.self.invariant in let v = c.requires.view in (
+  c.requires.id ∙ ap (λ s. s.id) (sym c.self.view_is),
+  omega arith,
+  look_moves _ _ _ _ _ _ (step 0 0 0 0 none) v.0 v.1 v.2,
+)

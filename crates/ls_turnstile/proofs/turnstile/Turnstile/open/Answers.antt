@@ -16,7 +16,8 @@ invariant_of-turnstile c =
     )
 
 pub returns-clause-threads : goal.returns-clause-threads
-returns-clause-threads c = ap (λ k. k.seats) c.in_ok-table.ensures.key ∙ ap length (c.starts-seats.ensures.starts ∙ ap (λ p. p.starts) c.code-2.ensures)
+returns-clause-threads c = ap (λ k. k.seats) c.in_ok-table.ensures.key ∙
+    ap length (c.starts-seats.ensures.starts ∙ ap (λ p. p.starts) c.code-2.ensures)
 
 pub returns-clause-some : goal.returns-clause-some
 returns-clause-some c =

@@ -6,5 +6,6 @@ use Rattle.ls_types_reading.proofs.methods.Methods.new.Goals as goal
 
 pub invariant_of-result : goal.invariant_of-result
 invariant_of-result c = record {
-  kept = class_finds c.in_ok-classes.classes.items (signs_of c.args.checked.now) (c.in_ok-classes.ensures ∙ ap (map declares) c.class_signs.ensures);
+  kept = class_finds c.in_ok-classes.classes.items (signs_of c.args.checked.now)
+      (c.in_ok-classes.ensures ∙ ap (map declares) c.class_signs.ensures);
 }
