@@ -1,11 +1,12 @@
-"""What the comparisons share that count: the processor's instructions of a run, by callgrind, and the program without
-proofs of a crate."""
+"""What the comparisons share: the processor's instructions of a run, by callgrind; the least time of some runs; and the
+program without proofs of a crate."""
 import contextlib
 import importlib.machinery
 import importlib.util
 import os
 import pathlib
 import re
+import resource
 import shutil
 import subprocess
 import sys
@@ -19,6 +20,22 @@ def counted(words, text):
     """Returns how many instructions a run takes, and what it prints. It must end with status 0."""
     done = subprocess.run([*VALGRIND, *map(str, words)], input=text, capture_output=True, check=True)
     return int(re.search(rb'Collected : (\d+)', done.stderr)[1]), done.stdout
+
+
+def spent():
+    """Returns the user and system time of all runs so far, in seconds."""
+    usage = resource.getrusage(resource.RUSAGE_CHILDREN)
+    return usage.ru_utime + usage.ru_stime
+
+
+def least(words, text, runs):
+    """Returns the least user and system time of some runs, in seconds. Each must end with status 0."""
+    times = []
+    for _ in range(runs):
+        before = spent()
+        subprocess.run([*map(str, words)], input=text, stdout=subprocess.DEVNULL, stderr=subprocess.DEVNULL, check=True)
+        times.append(spent() - before)
+    return min(times)
 
 
 def build_script():

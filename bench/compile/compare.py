@@ -10,38 +10,21 @@ thread.
 """
 import os
 import pathlib
-import re
-import resource
 import subprocess
 import sys
 import tempfile
 
-from shapes import SHAPES
+sys.path.insert(0, str(pathlib.Path(__file__).resolve().parents[1]))
+from counting import counted, least  # pylint: disable=wrong-import-position
+from shapes import SHAPES  # pylint: disable=wrong-import-position
 
 JAVA = pathlib.Path(__file__).resolve().parent / 'Compiles.java'
 REST = '\n%%\nsetup { }\nthread A { }\n'
-VALGRIND = ['valgrind', '--tool=callgrind', '--callgrind-out-file=/dev/null']
 
 
-def counted(program, text):
-    """The instructions of `compile`."""
-    run = subprocess.run([*VALGRIND, program, 'compile'], input=(text + REST).encode(), capture_output=True, check=True)
-    return int(re.search(rb'Collected : (\d+)', run.stderr)[1])
-
-
-def spent():
-    usage = resource.getrusage(resource.RUSAGE_CHILDREN)
-    return usage.ru_utime + usage.ru_stime
-
-
-def least(program, text, runs):
-    """The least time of `compile`, in seconds."""
-    times = []
-    for _ in range(runs):
-        before = spent()
-        subprocess.run([program, 'compile'], input=(text + REST).encode(), capture_output=True, check=True)
-        times.append(spent() - before)
-    return min(times)
+def whole(text):
+    """The input of `compile` for a class text."""
+    return (text + REST).encode()
 
 
 def javac(texts, runs):
@@ -63,12 +46,13 @@ def main():
     program, runs = os.path.abspath(sys.argv[1]), int(sys.argv[2]) if len(sys.argv) > 2 else 20
     texts = {name: make() for name, make in SHAPES.items()}
     java = javac(list(texts.values()), runs)
-    none, start = counted(program, ''), least(program, '', runs)
+    words = [program, 'compile']
+    none, start = counted(words, whole(''))[0], least(words, whole(''), runs)
     print('| Shape | Bytes | Instructions a byte | Time | javac | Ratio |\n|---|---|---|---|---|---|')
     for (name, text), other in zip(texts.items(), java):
         bytes_of = len(text.encode())
-        a_byte = (counted(program, text) - none) / bytes_of
-        time = least(program, text, runs) - start
+        a_byte = (counted(words, whole(text))[0] - none) / bytes_of
+        time = least(words, whole(text), runs) - start
         times = f'{1000 * time:.1f} ms | {1000 * other:.1f} ms | {time / other:.2f}'
         print(f'| {name} | {bytes_of:,} | {a_byte:,.0f} | {times} |', flush=True)
 

@@ -7,9 +7,11 @@ LISTSET is the built program. Each row is the least user and system time of RUNS
 with an empty schedule, which is the program's start with one small compilation, and of `replay` with 1,000,000 steps.
 """
 import os
-import resource
-import subprocess
+import pathlib
 import sys
+
+sys.path.insert(0, str(pathlib.Path(__file__).resolve().parents[1]))
+from counting import least  # pylint: disable=wrong-import-position
 
 ROWS = [
     ('a loop', 'class W { void f() { while (true) { } } }', 'setup { w = new W(); } thread A { w.f(); }', 'setup*100 A*999900'),
@@ -20,28 +22,14 @@ ROWS = [
 ]
 
 
-def spent():
-    usage = resource.getrusage(resource.RUSAGE_CHILDREN)
-    return usage.ru_utime + usage.ru_stime
-
-
-def least(program, text, runs):
-    times = []
-    for _ in range(runs):
-        before = spent()
-        subprocess.run([program, 'replay'], input=text.encode(), stdout=subprocess.DEVNULL, check=True)
-        times.append(spent() - before)
-    return 1000 * min(times)
-
-
 def main():
     if len(sys.argv) < 2:
         sys.exit(__doc__)
     program, runs = os.path.abspath(sys.argv[1]), int(sys.argv[2]) if len(sys.argv) > 2 else 20
     print('| Run | Start | 1,000,000 steps | Beyond the start |\n|---|---|---|---|')
     for name, classes, threads, schedule in ROWS:
-        start = least(program, f'{classes}\n%%\n{threads}\n%%\n\n', runs)
-        whole = least(program, f'{classes}\n%%\n{threads}\n%%\n{schedule}\n', runs)
+        head = f'{classes}\n%%\n{threads}\n%%\n'
+        start, whole = (1000 * least([program, 'replay'], f'{head}{steps}\n'.encode(), runs) for steps in ('', schedule))
         print(f'| {name} | {start:.1f} ms | {whole:.1f} ms | {whole - start:.1f} ms |')
 
 

@@ -10,12 +10,14 @@ threads add one to a local for ever, too.
 """
 import os
 import pathlib
-import resource
 import shutil
 import subprocess
 import sys
 import tempfile
 import time
+
+sys.path.insert(0, str(pathlib.Path(__file__).resolve().parents[1]))
+from counting import spent  # pylint: disable=wrong-import-position
 
 HERE = pathlib.Path(__file__).resolve().parent
 CLASSES = 'class W { void f() { int i = 0; while (true) { i = i + 1; } } }'
@@ -34,18 +36,13 @@ def text_of(threads, run, steps):
     return f'{CLASSES}\n%%\n{program}\n%%\nsetup*100 {turns}\n'
 
 
-def used():
-    usage = resource.getrusage(resource.RUSAGE_CHILDREN)
-    return usage.ru_utime + usage.ru_stime
-
-
 def least(words, text, runs):
     rows = []
     for _ in range(runs):
-        start, before = time.perf_counter(), used()
+        start, before = time.perf_counter(), spent()
         done = subprocess.run([str(word) for word in words], input=text.encode(), stdout=subprocess.DEVNULL)
         if done.returncode == 0:
-            rows.append((time.perf_counter() - start, used() - before))
+            rows.append((time.perf_counter() - start, spent() - before))
     if not rows:
         return 'refused', 'refused'
     wall, processor = min(rows)

@@ -15,7 +15,9 @@ CRATES = HERE.parents[2] / "crates"
 OUT = pathlib.Path(sys.argv[1])
 NAMES = ("ls_lexer", "ls_events", "ls_tree", "ls_parser_tokens", "ls_parser_expressions", "ls_parser_declarations",
          "ls_parser_statements", "ls_parser", "ls_checked", "ls_types_elaboration", "ls_types_tables", "ls_types_signs",
-         "ls_types_expressions", "ls_types_expressions", "ls_types_statements", "ls_types", "ls_types_files")
+         "ls_together", "ls_types_expressions", "ls_types_statements", "ls_types", "ls_types_files")
+# crates whose code stands in their root
+ROOTS = ("ls_together",)
 KEPT = {"ls_events": ("value",), "ls_checked": ("tree",), "ls_types": ("check",)}
 
 
@@ -61,10 +63,10 @@ def placed(text, crate):
 def main():
     for crate in NAMES:
         paths = sorted((CRATES / crate / "src").glob("*.rt"))
-        files = [path for path in paths if path.stem not in ("lib", "tests", "laws", "spelling") and path.stem in KEPT.get(crate, [path.stem])]
+        files = [path for path in paths if (path.stem not in ("lib", "tests", "laws", "spelling") or crate in ROOTS) and path.stem in KEPT.get(crate, [path.stem])]
         for path in files:
             write(OUT / f"src/{crate}/{path.stem}.rs", placed(plain(path.read_text()), crate))
-        write(OUT / f"src/{crate}/mod.rs", "".join(f"pub mod {path.stem};\n" for path in files))
+        write(OUT / f"src/{crate}/mod.rs", "".join(f"pub mod {path.stem};\n" for path in files) + "pub use lib::*;\n" * (crate in ROOTS))
     for path in HERE.glob("*.rs"):
         write(OUT / f"src/{path.name}", path.read_text())
     write(OUT / "Cargo.toml", MANIFEST.format(name="plain_typing"))

@@ -21,6 +21,7 @@ def plain(text, crate):
     # nothing that is timed saves a machine
     text = re.sub(r"^pub (mod saving|use machine::saving)\b.*\n", "", text, flags=re.M)
     text = text.replace(".to_vec(alloc)?", ".to_vec()")
+    text = text.replace(".push_reserved(", ".push(")
     text = re.sub(r"^#\[tactic.*\n", "", text, flags=re.M)
     text = without_blocks(text, r"^impl Model for ")
     text = without_blocks(text, r"^impl From<AllocError> for LoadFault")

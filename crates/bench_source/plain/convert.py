@@ -29,6 +29,7 @@ FILES = {
 def plain(text):
     text = re.sub(r"^ *#!?\[(tactic|cycle).*\n", "", text, flags=re.M)
     text = without_blocks(text, r"^impl(<[^\n]*>)? Clone for ")
+    text = re.sub(r"^( *///.*\n)+( *pub ghost )", r"\2", text, flags=re.M)
     text = re.sub(r"^ *(pub )?ghost .*\n", "", text, flags=re.M)
     text = re.sub(r"^ *(requires|ensures)\b.*\n", "", text, flags=re.M)
     text = re.sub(r"^use std::alloc.*\n", "", text, flags=re.M)
