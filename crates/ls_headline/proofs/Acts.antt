@@ -149,7 +149,7 @@ module _ (file : File) (program : Program) (code : Code) (asks : Asks file progr
         Acting (roomy st) (first_did (suc bound) m t)
     acts_by is_open (Paused b go) stood w st y does =
         let stood' : stands t each.3 ≡ Paused (acts_as s a) go = stood ∙ ap (λ z. Paused z go) w in
-        acts_first (roomy st) code t (suc bound) m x h.image is_open.0 is_open.1 there
+        acts_first (roomy st) code t (suc bound) m x h.same_code is_open.0 is_open.1 there
         (in_middle (roomy st) code t m.cells (acts_as s a) go (replies go stood' st y does) word each.3 x each.5
         stood')
     acts_by is_open (Passes u) stood w st y does = absurd w

@@ -119,7 +119,7 @@ module _ (setting : Setting) where
   -- hold the store, and each thread is where its answers have led it.
   pub record Follows (s : State) (m : Machine) : Type 0 where
     pub sorts : List ValueType
-    pub image : m.code ≡ code
+    pub same_code : m.code ≡ code
     pub holds : StoreHolds sorts s.store m.cells
     pub count : length s.answers ≡ length program.threads
     pub each : (t : ℕ) → Each sorts (renaming names s.store) t (slice_get s.answers t) (slice_get m.threads t)
@@ -207,7 +207,7 @@ module _ (setting : Setting) where
       Follows s (went m t x' m.cells stopped events)
   went_on s m h t had x x' stopped events at there each' = record {
     sorts = h.sorts;
-    image = h.image;
+    same_code = h.same_code;
     holds = h.holds;
     count = h.count;
     each = λ u. subst (λ l. Each h.sorts (renaming names s.store) u (slice_get l u)
@@ -473,7 +473,7 @@ module _ (setting : Setting) where
     plain_acts m h unstopped ready x there go em stood cells.Stops ee ag k none_ = absurd (omega arith)
     plain_acts m h unstopped ready x there go em stood (cells.Answers c' w) ee ag k none_ =
         let each = each_here s m h t had x at there in
-        acts_gen m h.sorts h.image h.holds h.count (λ u d. h.each u) unstopped ready x there (running m h x there)
+        acts_gen m h.sorts h.same_code h.holds h.count (λ u d. h.each u) unstopped ready x there (running m h x there)
         each.0 each.1 each.2 go (sym each.3 ∙ stood) c' w ee (λ z. z) (λ y' e. refl)
         (λ y' e. ap (machine_steps.performed m.cells t x) em ∙ ap (machine_steps.settled m.cells x (acts_as s a) go) ee
         ∙ ap (machine_steps.replied c' x (acts_as s a) w) e) k none_
@@ -491,7 +491,7 @@ module _ (setting : Setting) where
     see_then n m h unstopped ready x there w is rest =
         let m1 = went m t (seen x w) m.cells false (m.history ++ []) in
         let r : machine.Stepped = machine.stepped_by m1 did.Silent in
-        let eq : machine_step m t ≡ r = machine_goes m t x (thread_move code x) h.image unstopped (running m h x there)
+        let eq : machine_step m t ≡ r = machine_goes m t x (thread_move code x) h.same_code unstopped (running m h x there)
         ready there refl ∙ ap (moved m t) is in
         let then_ = by_bound n in (
           then_.0,
@@ -531,7 +531,7 @@ module _ (setting : Setting) where
           ((y' : Thread) → go w ≡ Some y' → one code t c x ≡ machine_steps.outcome_of (x_of y') c' (did.Acted b w)) →
           Acting m k
       at_see b eb stood c' w ee x_of steady is =
-          acts_gen m h.sorts h.image h.holds h.count (λ u d. h.each u) unstopped ready x there runs each.0 each.1 each.2
+          acts_gen m h.sorts h.same_code h.holds h.count (λ u d. h.each u) unstopped ready x there runs each.0 each.1 each.2
           go (sym each.3 ∙ stood ∙ ap (λ z. Paused z go) eb) c' w (ap (cells.effect c t) (sym eb) ∙ ee) x_of steady
           (λ y' e. is y' e ∙ ap (λ z. machine_steps.outcome_of (x_of y') c' (did.Acted z w)) eb) k (λ m' c w. refl)
 
@@ -547,7 +547,7 @@ module _ (setting : Setting) where
           Acting m k
       at_take b eb stood v is1 c' w ee is =
           see_then n m h unstopped ready x there v is1
-          (λ k none_. acts_gen (went m t (seen x v) c false (m.history ++ [])) h.sorts h.image h.holds h.count
+          (λ k none_. acts_gen (went m t (seen x v) c false (m.history ++ [])) h.sorts h.same_code h.holds h.count
           (λ u d. subst (Each h.sorts (renaming names s.store) u (slice_get s.answers u))
           (sym (set_other m.threads t u (seen x v) d)) (h.each u))
           refl (still_ready m t (seen x v) (nat_eq t 0) refl ready) (seen x v) (set_same m.threads t x (seen x v) there)
@@ -845,7 +845,7 @@ module _ (setting : Setting) where
     burst_more n ih m h unstopped ready x there (Silent x') em loud =
         let runs = running m h x there in
         let r : machine.Stepped = moved m t (machine_steps.outcome_of x' m.cells did.Silent) in
-        let eq : machine_step m t ≡ r = machine_goes m t x (thread_move code x) h.image unstopped runs ready there refl
+        let eq : machine_step m t ≡ r = machine_goes m t x (thread_move code x) h.same_code unstopped runs ready there refl
         ∙ ap (moved m t) (silent_is code t x x' m.cells em) in
         let h1 : Follows s r.machine = went_on s m h t had x x' false _ at there
         (keeps h.sorts s.store m.cells h.holds t had x x' (each_here s m h t had x at there) runs em) in

@@ -112,7 +112,7 @@ module _ (setting : Setting) where
   -- hold the store, whose things have the types `sorts`. Each thread is between its last answer and its next question.
   pub record Follows (s : State) (m : Machine) : Type 0 where
     pub sorts : List ValueType
-    pub image : m.code ≡ code
+    pub same_code : m.code ≡ code
     pub holds : StoreHolds sorts s.store m.cells
     pub count : length s.answers ≡ length program.threads
     pub each : (t : ℕ) → Each m.cells sorts (renaming names s.store) t (slice_get s.answers t) (slice_get m.threads t)
@@ -468,7 +468,7 @@ module _ (setting : Setting) where
       Follows s (went m t x' m.cells stopped events)
   went_on s m h t had x x' stopped events at there each' = record {
     sorts = h.sorts;
-    image = h.image;
+    same_code = h.same_code;
     holds = h.holds;
     count = h.count;
     each = λ u. subst (λ l. Each m.cells h.sorts (renaming names s.store) u (slice_get l u)
@@ -535,7 +535,7 @@ module _ (setting : Setting) where
         leads.1,
         (λ stopped events. record {
           sorts = σ';
-          image = h.image;
+          same_code = h.same_code;
           holds = done.holds;
           count = length-set s.answers t (had ++ y ∷ []) ∙ h.count;
           each = each_set (Each c' σ' ρ') s.answers m.threads t had (had ++ y ∷ []) x (x_of leads.0) at there

@@ -347,7 +347,7 @@ module _ (file : File) (program : Program) (code : Code) (asks : Asks file progr
       Stood (next file program t had) m t
   in_time_at s m h t is_open had at None there each = absurd each
   in_time_at s m h t is_open had at (Some x) there each =
-      in_time_by _ m t h.image is_open each.3 x there each.5 (next file program t had)
+      in_time_by _ m t h.same_code is_open each.3 x there each.5 (next file program t had)
       (Following.stands setting t each.3) refl
       (Following.stands_so setting h.sorts s.store m.cells h.holds t had x each)
 

@@ -740,7 +740,7 @@ module _ (setting : Setting) where
   back_due s m h t x there true eb =
       let start = Following.started_back setting s m h t x eb in
       subst (λ p. BackStep s m t (so t (moved m t (machine_steps.performed m.cells t x (thread_move p x)))))
-      (sym h.image)
+      (sym h.same_code)
       (back_had s m h t x start.0 start.1 there (slice_get s.answers t) refl
       (subst (λ p. Each m.cells h.sorts (renaming names s.store) t (slice_get s.answers t) p) there (h.each t)))
 
