@@ -338,7 +338,7 @@ module _ (setting : Setting) where
         leads.1,
         (λ stopped events. record {
           sorts = σ';
-          image = image;
+          same_code = image;
           holds = done.holds;
           count = length-set s.answers t (had ++ y ∷ []) ∙ count;
           each = each_set (Each σ' ρ') s.answers m.threads t had (had ++ y ∷ []) x (x_of leads.0) at there

@@ -125,7 +125,7 @@ module _ (file : File) (program : Program) (code : Code) (asks : Asks file progr
   steady_start : Bursts.Follows setting s0 m0
   steady_start = record {
     sorts = [];
-    image = refl;
+    same_code = refl;
     holds = record {
       words = ap (λ n. replicate n 0) asks.names ∙ names_zero (renaming names s0.store) refl program.names ∙
           sym (append-nil (map (written (renaming names s0.store)) s0.store.names));
@@ -155,7 +155,7 @@ module _ (file : File) (program : Program) (code : Code) (asks : Asks file progr
   pub follows_start : Follows s0 m0
   follows_start = record {
     sorts = steady_start.sorts;
-    image = refl;
+    same_code = refl;
     holds = steady_start.holds;
     count = steady_start.count;
     each = λ t. back_each steady_start.sorts t (slice_get s0.answers t) (slice_get m0.threads t) (steady_start.each t);
