@@ -491,7 +491,8 @@ module _ (setting : Setting) where
     see_then n m h unstopped ready x there w is rest =
         let m1 = went m t (seen x w) m.cells false (m.history ++ []) in
         let r : machine.Stepped = machine.stepped_by m1 did.Silent in
-        let eq : machine_step m t ≡ r = machine_goes m t x (thread_move code x) h.same_code unstopped (running m h x there)
+        let eq : machine_step m t ≡ r =
+        machine_goes m t x (thread_move code x) h.same_code unstopped (running m h x there)
         ready there refl ∙ ap (moved m t) is in
         let then_ = by_bound n in (
           then_.0,
@@ -531,7 +532,8 @@ module _ (setting : Setting) where
           ((y' : Thread) → go w ≡ Some y' → one code t c x ≡ machine_steps.outcome_of (x_of y') c' (did.Acted b w)) →
           Acting m k
       at_see b eb stood c' w ee x_of steady is =
-          acts_gen m h.sorts h.same_code h.holds h.count (λ u d. h.each u) unstopped ready x there runs each.0 each.1 each.2
+          acts_gen m h.sorts h.same_code h.holds h.count (λ u d. h.each u)
+          unstopped ready x there runs each.0 each.1 each.2
           go (sym each.3 ∙ stood ∙ ap (λ z. Paused z go) eb) c' w (ap (cells.effect c t) (sym eb) ∙ ee) x_of steady
           (λ y' e. is y' e ∙ ap (λ z. machine_steps.outcome_of (x_of y') c' (did.Acted z w)) eb) k (λ m' c w. refl)
 
@@ -845,7 +847,8 @@ module _ (setting : Setting) where
     burst_more n ih m h unstopped ready x there (Silent x') em loud =
         let runs = running m h x there in
         let r : machine.Stepped = moved m t (machine_steps.outcome_of x' m.cells did.Silent) in
-        let eq : machine_step m t ≡ r = machine_goes m t x (thread_move code x) h.same_code unstopped runs ready there refl
+        let eq : machine_step m t ≡ r =
+        machine_goes m t x (thread_move code x) h.same_code unstopped runs ready there refl
         ∙ ap (moved m t) (silent_is code t x x' m.cells em) in
         let h1 : Follows s r.machine = went_on s m h t had x x' false _ at there
         (keeps h.sorts s.store m.cells h.holds t had x x' (each_here s m h t had x at there) runs em) in

@@ -178,7 +178,8 @@ module _ (setting : Setting) where
   quiet_step n s ih m h unstopped x there runs (Plans go) em e = absurd (cc)
   quiet_step n s ih m h unstopped x there runs (Silent x') em e =
       let r : machine.Stepped = moved m 0 (machine_steps.outcome_of x' m.cells did.Silent) in
-      let eq : machine_step m 0 ≡ r = Bursts.machine_goes setting m 0 x (thread_move code x) h.same_code unstopped runs refl
+      let eq : machine_step m 0 ≡ r =
+      Bursts.machine_goes setting m 0 x (thread_move code x) h.same_code unstopped runs refl
       there refl ∙ ap (moved m 0) (silent_is code 0 x x' m.cells em) in
       let on : setup_ended (slice_get m.threads 0) ≡ false = ap setup_ended there ∙ ap machine.has_ended runs in
       let h1 : Follows s r.machine = by_had (slice_get s.answers 0) refl
