@@ -21,8 +21,8 @@ FILES = {
     "ls_source_values": ("lookups", "value"),
     "ls_source_store": ("store", "thing"),
     "ls_source_pending": ("calls", "expressions", "onward", "operands", "pending", "stack", "tables", "work"),
-    "ls_source_moves": ("moves", "settling", "statements"),
-    "ls_source": ("next", "run", "stage", "thread"),
+    "ls_source_moves": ("endings", "moves", "settling", "statements"),
+    "ls_source": ("next", "playing", "run", "stage", "thread"),
 }
 
 
@@ -34,7 +34,7 @@ def plain(text):
     text = re.sub(r"^ *(requires|ensures)\b.*\n", "", text, flags=re.M)
     text = re.sub(r"^use std::alloc.*\n", "", text, flags=re.M)
     text = re.sub(r"#\[derive\((.*?)\)\]", derived, text)
-    text = re.sub(r"^ *\S*\.reserve\(1\)\?;\n", "", text, flags=re.M)
+    text = re.sub(r"^ *\S*\.reserve\(\d\)\?;\n", "", text, flags=re.M)
     text = re.sub(r"\b(Vec|BTreeMap)::new\(alloc\)", r"\1::new()", text)
     text = re.sub(r"(\.(?:push|insert|extend_from_slice)\([^;]*?\))\?;", r"\1;", text)
     text = re.sub(r"match (\w+\.push\(\w+\)) \{", r"match Ok::<(), AllocError>(\1) {", text)

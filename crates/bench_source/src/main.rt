@@ -8,7 +8,7 @@ mod timing;
 use crate::part::{CLASSES, Part, part_of, program_text};
 use crate::timing::{Taken, take_steps};
 use ls_parser::parse::parse_text;
-use ls_types_files::checking::check;
+use ls_types_files::check::check;
 use ls_types_reading::program::read_program;
 use std::alloc::Global;
 use std::{env, io};

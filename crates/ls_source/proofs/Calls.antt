@@ -18,7 +18,7 @@ use Rattle.ls_meaning.specs.Course.{Answers, Evaluated, Asks as EAsks, Results, 
 use Rattle.ls_meaning.specs.Expressions.{constructor_of}
 use Rattle.ls_meaning.specs.Methods.{invoke, depth_limit}
 use Rattle.ls_meaning.specs.Threads.{Next, Goes, Ended, Trapped, result_of, named, one_call, all_calls}
-use Rattle.ls_source_pending.specs.Pending.{State, Control, Evaluates, Argues, Applies, Invokes, Opens, Executes, Runs}
+use Rattle.ls_source_pending.specs.Pending.{State, Control, Evaluates, Argues, Invokes, Opens, Executes}
 use Rattle.ls_source_pending.specs.Pending.{Loops, Gives, Ends, Asks, Enters, Turns, Frame}
 use Rattle.ls_source_pending.specs.Machine.{Rest, evaluated, at, meaning, is_left, done_now, rest_of}
 use Rattle.ls_source_moves.proofs.Fusion.{taken_keeps, IsAsking}
@@ -105,11 +105,9 @@ module _ (file : File) (program : Program) (n : ℕ) (cs : List ProgramCall) whe
   worked_keeps (OfCalling m) (Turns e s) fs ls d q h = refl
   worked_keeps b (Evaluates e) fs ls d q h = cc
   worked_keeps b (Argues p vs es) fs ls d q h = cc
-  worked_keeps b (Applies p vs) fs ls d q h = cc
   worked_keeps b (Invokes m vs) fs ls d q h = cc
   worked_keeps b (Opens m vs) fs ls d q h = cc
   worked_keeps b (Executes s) fs ls d q h = cc
-  worked_keeps b (Runs ss) fs ls d q h = cc
   worked_keeps b (Loops e s) fs ls d q h = cc
 
   finished_if : (l : Bool) (b : Bottom) (w : State) (q : Answers) →
@@ -152,11 +150,9 @@ module _ (file : File) (program : Program) (n : ℕ) (cs : List ProgramCall) whe
   working_is b w (Turns e s) r h = same_next (Goes Turn NoValue) r h
   working_is b w (Evaluates e) r h = cc
   working_is b w (Argues p vs es) r h = cc
-  working_is b w (Applies p vs) r h = cc
   working_is b w (Invokes m vs) r h = cc
   working_is b w (Opens m vs) r h = cc
   working_is b w (Executes s) r h = cc
-  working_is b w (Runs ss) r h = cc
   working_is b w (Loops e s) r h = cc
   working_is b w (Gives v) r h = cc
   working_is b w (Ends c) r h = cc
@@ -180,11 +176,9 @@ module _ (file : File) (program : Program) (n : ℕ) (cs : List ProgramCall) whe
   waits base (Turns e s) act h = tt
   waits base (Evaluates e) act h = cc
   waits base (Argues p vs es) act h = cc
-  waits base (Applies p vs) act h = cc
   waits base (Invokes m vs) act h = cc
   waits base (Opens m vs) act h = cc
   waits base (Executes s) act h = cc
-  waits base (Runs ss) act h = cc
   waits base (Loops e s) act h = cc
   waits base (Gives v) act h = cc
   waits base (Ends c) act h = cc

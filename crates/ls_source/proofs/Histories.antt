@@ -82,8 +82,8 @@ either_way : (b : Bool) (s : Step) → (if b then s else s) ≡ s
 either_way true s = refl
 either_way false s = refl
 
--- a step of the number of no thread changes nothing
-none_is_idle : (file : File) (program : Program) (s : State) (thread : ℕ) →
+-- a step of the number of no thread does nothing
+pub none_is_idle : (file : File) (program : Program) (s : State) (thread : ℕ) →
     length program.threads ≤ thread →
     step file program s thread ≡ idle s
 none_is_idle file program s thread past =
@@ -100,8 +100,10 @@ after_step r thread st = record {
   history = r.history ++ history_of (traced (stepped thread st.did st.after) []);
 }
 
--- a thread that isn't there does nothing
-pub none_stays : (r : Progress) (thread : ℕ) → length r.program.threads ≤ thread → r ≡ gone_on r thread
-none_stays r thread past = sym (
-    ap (after_step r thread) (none_is_idle r.file r.program r.state thread past)
+-- a step that does nothing changes nothing
+pub idle_stays : (r : Progress) (thread : ℕ) →
+    step r.file r.program r.state thread ≡ idle r.state →
+    r ≡ gone_on r thread
+idle_stays r thread is = sym (
+    ap (after_step r thread) is
     ∙ ap (λ h. record { file = r.file; program = r.program; state = r.state; history = h }) (append-nil r.history))

@@ -4,3 +4,4 @@ pub mod Histories
 pub mod Lefts
 pub mod Calls
 pub mod Kept
+pub mod Standing

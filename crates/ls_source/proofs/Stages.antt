@@ -1,39 +1,25 @@
--- The state that is kept, seen as the state of the definitions.
+-- The answers that are kept, seen as those of the definitions.
 use Rattle.std.proofs.Common.{◌≡◌, ℕ, ◌<◌, List, [], ◌∷◌, ◌++◌, length, get_or, sym, ap, ◌∙◌}
-use Rattle.std.specs.Prelude.{slice_set, slice_index_or}
+use Rattle.std.proofs.Common.{◌+◌, ◌≤◌, arith, Result, Ok, Err}
+use Rattle.std.specs.Prelude.{slice_set, slice_index_or, OnErr, IfOk, is_ok, if◌then◌else◌}
 use Rattle.std.specs.declared.vec.Vec.{Vec}
 use Rattle.std.specs.declared.alloc.Global.{Global}
 use Rattle.std.proofs.lemmas.List.{map-set, get_or-map}
 use Rattle.std.proofs.Math.Seq.{map-set_same}
 use Rattle.ls_events.specs.declared.value.Value.{Value}
-use Rattle.ls_events.specs.declared.action.Action.{Action}
 use Rattle.ls_events.specs.declared.action.Answer.{Answer}
-use Rattle.ls_meaning.specs.Course.{Answers}
-use Rattle.ls_meaning.specs.Store.{Store}
-use Rattle.ls_meaning.specs.Effect.{Effect}
-use Rattle.ls_meaning.specs.Runs.{State, answers_of, performed}
-use Rattle.ls_source_store.specs.declared.thing.Effect.{Effect as Outcome}
-use Rattle.ls_source_store.specs.declared.thing.Effect.TheVariants.{Waits as HasToWait, Does as HasDone}
-use Rattle.ls_source_store.specs.SeenStore.{plain_effect}
 use Rattle.ls_source.specs.SeenRun.{lists_of}
 
 -- the answers of a thread, as they are kept
 abbrev pub Kept : Type 0
 Kept = Vec (Answer Value) Global
 
--- a state by its store and its answers
-abbrev pub state : Store → List Answers → State
-state store answers = record { store = store; answers = answers }
-
 -- a thread's answers are kept in another place
-pub stays : (s s' : Store) (xs : List Kept) (i : ℕ) (v v' : Kept) →
-    s' ≡ s →
+pub stays : (xs : List Kept) (i : ℕ) (v v' : Kept) →
     v'.items ≡ v.items →
     v ≡ get_or xs i v →
-    state s' (lists_of (slice_set xs i v')) ≡ state s (lists_of xs)
-stays s s' xs i v v' e same is =
-    ap (λ q. state q (lists_of (slice_set xs i v'))) e
-    ∙ ap (state s) (map-set_same (λ w. w.items) xs i v' v (same ∙ ap (λ w. w.items) is))
+    lists_of (slice_set xs i v') ≡ lists_of xs
+stays xs i v v' same is = map-set_same (λ w. w.items) xs i v' v (same ∙ ap (λ w. w.items) is)
 
 -- one more answer of a thread
 pub grown : (xs : List Kept) (i : ℕ) (v v' w : Kept) (answer : Answer Value) →
@@ -47,19 +33,19 @@ grown xs i v v' w answer within is same h =
     ∙ ap (slice_set (lists_of xs) i) (h ∙ ap (λ l. l ++ answer ∷ [])
     (same ∙ ap (λ u. u.items) is ∙ sym (get_or-map (λ u. u.items) xs i v [] within)))
 
--- an action that is performed, and one that waits
-pub acts : (st : State) (thread : ℕ) (action : Action Value) (e : Effect) (s' : Store) (r : Outcome)
-    (answer : Answer Value) (xs : List Answers) →
-    plain_effect s' r ≡ e →
-    r ≡ HasDone answer →
-    xs ≡ slice_set st.answers thread (answers_of st thread ++ answer ∷ []) →
-    state s' xs ≡ (performed st thread action e).after
-acts st thread action e s' r answer xs h is g =
-    ap (state s') g ∙ ap (λ q. (performed st thread action q).after) (ap (plain_effect s') (sym is) ∙ h)
+-- a push finds the room that was made for it
+pub pushed : {X A E : Type 0} (r : Result A E) (xs ys : List X) (x : X) (capacity len : ℕ) →
+    OnErr r (capacity ≤ len) →
+    len + 1 ≤ capacity →
+    ys ≡ (if is_ok r then xs ++ x ∷ [] else xs) →
+    ys ≡ xs ++ x ∷ []
+pushed (Ok v) xs ys x capacity len full room h = h
+pushed (Err e) xs ys x capacity len full room h = absurd (past full room)
+  where
+    past : capacity ≤ len → len + 1 ≤ capacity → ⊥
+    past full room = omega (arith, full, room)
 
--- an action that has to wait
-pub waits : (st : State) (thread : ℕ) (action : Action Value) (e : Effect) (s' : Store) (r : Outcome) →
-    plain_effect s' r ≡ e →
-    r ≡ HasToWait →
-    st ≡ (performed st thread action e).after
-waits st thread action e s' r h is = ap (λ q. (performed st thread action q).after) (ap (plain_effect s') (sym is) ∙ h)
+-- what follows from a fact of an answer holds of that answer
+pub ok_follows : {A E : Type 0} (r : Result A E) (P Q : A → Type 0) → ((a : A) → P a → Q a) → IfOk r P → IfOk r Q
+ok_follows (Ok a) P Q f h = f a h
+ok_follows (Err e) P Q f h = tt

@@ -4,5 +4,6 @@ pub mod Kept
 pub mod Progress
 pub mod GoneBy
 pub mod SeenRun
+pub mod Stands
 pub mod Shown
 pub mod Ends

@@ -1,4 +1,4 @@
--- The state of a run that the code keeps, in the terms of the definitions.
+-- The state of a run, in the terms of the definitions.
 use Rattle.std.specs.Prelude.{ℕ, List, [], ◌∷◌, Option, Some, None, map}
 use Rattle.std.specs.declared.vec.Vec.{Vec}
 use Rattle.std.specs.declared.alloc.Global.{Global}
@@ -19,8 +19,9 @@ use Rattle.ls_source_store.specs.SeenStore.{store_of}
 abbrev pub lists_of : List (Vec (Answer Value) Global) → List Answers
 lists_of answers = map (λ v. v.items) answers
 
-abbrev pub state_of : Stage → State
-state_of s = record { store = store_of s.store; answers = lists_of s.answers.items }
+-- a store, with answers that the threads may have had
+abbrev pub state_of : Stage → List Answers → State
+state_of s had = record { store = store_of s.store; answers = had }
 
 -- what a step did that performed an action, by what the action did
 abbrev pub did_by : Action Value → Outcome → Did

@@ -2,6 +2,7 @@
 #![tactic(auto)]
 
 mod next;
+mod playing;
 pub mod run;
 mod stage;
 mod thread;

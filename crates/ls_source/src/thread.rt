@@ -117,7 +117,8 @@ impl<'a> Thread<'a> {
     ghost use Rattle.ls_checked.specs.PlainProgram.{plain_call};
     ghost use Rattle.ls_meaning.specs.Course.{Answers};
     ghost use Rattle.ls_source_pending.specs.SeenPending.{state_of};
-    ghost use Rattle.ls_source.specs.Calls.{Starts, begun, finished, answered, object_made, object_fetched, announced, asked_now, thread_meaning};
+    ghost use Rattle.ls_source.specs.Calls.{Starts, begun, finished, answered, object_made, object_fetched};
+    ghost use Rattle.ls_source.specs.Calls.{announced, asked_now, thread_meaning};
     ghost use Rattle.ls_source.specs.SeenThread.{bottom_of, phase_of, thread_of};
 
     /// A thread that has done nothing, up to its first question.
@@ -190,12 +191,15 @@ impl<'a> Thread<'a> {
 
     // The work of a body, up to its next question or its end.
     fn work_on(&mut self, alloc: Global, file: &'a File) -> Result<(), AllocError>
-        ensures { (program : PlainProgram) (q : Answers) → thread_meaning (plain_file file.now) program (thread_of self.new) q ≡ thread_meaning (plain_file file.now) program (thread_of self.old) q }
+        ensures { (program : PlainProgram) (q : Answers) →
+            thread_meaning (plain_file file.now) program (thread_of self.new) q ≡
+            thread_meaning (plain_file file.now) program (thread_of self.old) q }
     {
         settle(&mut self.work, alloc, file)
     }
 
     // A body that has come to its end.
+    #[inline(always)]
     fn finish(&mut self, file: &File)
         ensures { thread_of self.new ≡ finished (plain_file file.now) (thread_of self.old) }
     {
@@ -221,9 +225,12 @@ impl<'a> Thread<'a> {
         }
     }
 
-    /// Goes on to the next question, or to the end. If memory runs out, the thread still does what it did before.
-    pub fn settle(&mut self, alloc: Global, file: &'a File) -> Result<(), AllocError>
-        ensures { (program : PlainProgram) (q : Answers) → thread_meaning (plain_file file.now) program (thread_of self.new) q ≡ thread_meaning (plain_file file.now) program (thread_of self.old) q }
+    // Goes on with its call, or with the next.
+    #[inline(never)]
+    fn go_on(&mut self, alloc: Global, file: &'a File) -> Result<(), AllocError>
+        ensures { (program : PlainProgram) (q : Answers) →
+            thread_meaning (plain_file file.now) program (thread_of self.new) q ≡
+            thread_meaning (plain_file file.now) program (thread_of self.old) q }
     {
         self.begin_call();
         self.begin_body(alloc)?;
@@ -232,9 +239,40 @@ impl<'a> Thread<'a> {
         Ok(())
     }
 
+    /// Goes on to the next question, or to the end. If memory runs out, the thread still does what it did before. What
+    /// asks for something waits for the answer.
+    #[inline(always)]
+    pub fn settle(&mut self, alloc: Global, file: &'a File) -> Result<(), AllocError>
+        ensures { (program : PlainProgram) (q : Answers) →
+            thread_meaning (plain_file file.now) program (thread_of self.new) q ≡
+            thread_meaning (plain_file file.now) program (thread_of self.old) q }
+    {
+        match self.phase {
+            Phase::Starts => {
+                if self.begun < self.calls.len() {
+                    self.go_on(alloc, file)
+                } else {
+                    Ok(())
+                }
+            }
+            Phase::Begins(_, _, _, _) => self.go_on(alloc, file),
+            Phase::Works(_) => match &self.work.control {
+                Control::Asks(_, _) | Control::Enters(_, _, _) | Control::Turns(_, _) => Ok(()),
+                _ => self.go_on(alloc, file),
+            },
+            _ => Ok(()),
+        }
+    }
+
     // A call is announced.
     fn announce(&mut self, call: &'a ProgramCall)
-        ensures { thread_of self.new ≡ record { number = self.old.begun; left = drop self.old.begun (map plain_call self.old.calls.now); phase = announced (plain_call call.now) } }
+        ensures { thread_of self.new ≡
+            record {
+              number = self.old.begun;
+              left = drop self.old.begun (map plain_call self.old.calls.now);
+              phase =
+                  announced (plain_call call.now);
+            } }
     {
         self.phase = match call {
             ProgramCall::Making {
@@ -261,7 +299,13 @@ impl<'a> Thread<'a> {
         values: &'a [Value],
         answer: Answer<Value>,
     )
-        ensures { thread_of self.new ≡ record { number = self.old.begun; left = drop self.old.begun (map plain_call self.old.calls.now); phase = object_made (plain_file file.now) name class values.now answer } }
+        ensures { thread_of self.new ≡
+            record {
+              number = self.old.begun;
+              left = drop self.old.begun (map plain_call self.old.calls.now);
+              phase =
+                  object_made (plain_file file.now) name class values.now answer;
+            } }
     {
         let m = constructor_of(&file.classes, class);
         self.phase = match answer {
@@ -276,7 +320,13 @@ impl<'a> Thread<'a> {
 
     // The object of a call is read.
     fn fetch(&mut self, file: &File, method: usize, values: &'a [Value], answer: Answer<Value>)
-        ensures { thread_of self.new ≡ record { number = self.old.begun; left = drop self.old.begun (map plain_call self.old.calls.now); phase = object_fetched (plain_file file.now) method values.now answer } }
+        ensures { thread_of self.new ≡
+            record {
+              number = self.old.begun;
+              left = drop self.old.begun (map plain_call self.old.calls.now);
+              phase =
+                  object_fetched (plain_file file.now) method values.now answer;
+            } }
     {
         let o = match answer {
             Answer::Done => Value::Reference(0),
@@ -314,7 +364,8 @@ impl<'a> Thread<'a> {
     /// What its work does now, if the thread is in a body.
     #[inline(always)]
     pub fn control(&self) -> Option<&Control<'a>>
-        ensures { IfSome result (λ c. (program : PlainProgram) → asked_now program (thread_of self.now) ≡ asked_by (control_of c.now)) }
+        ensures { IfSome result (λ c. (program : PlainProgram) → asked_now program (thread_of self.now) ≡
+            asked_by (control_of c.now)) }
     {
         match self.phase {
             Phase::Works(_) => Some(&self.work.control),

@@ -17,7 +17,8 @@ pub fn settle<'a>(
     alloc: Global,
     file: &'a File,
 ) -> Result<(), AllocError>
-    ensures same { (base : Rest) (q : Answers) → meaning (plain_file file.now) base (state_of pending.new) q ≡ meaning (plain_file file.now) base (state_of pending.old) q }
+    ensures same { (base : Rest) (q : Answers) → meaning (plain_file file.now) base (state_of pending.new) q ≡
+        meaning (plain_file file.now) base (state_of pending.old) q }
     ensures settled { OnOk result (is_left (state_of pending.new).control (state_of pending.new).frames ≡ false) }
 {
     'moves: while pending.is_left() {

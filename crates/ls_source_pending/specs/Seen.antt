@@ -74,11 +74,9 @@ frames_of fs = reverse (map frame_of fs)
 abbrev pub control_of : Control → pending.Control
 control_of (controls.Evaluates e) = pending.Evaluates (plain e.now)
 control_of (controls.Argues p before es) = pending.Argues (purpose_of p) before.items (all_plain es.now)
-control_of (controls.Applies p vs) = pending.Applies (purpose_of p) vs.items
 control_of (controls.Invokes m o vs) = pending.Invokes m (o ∷ vs.items)
 control_of (controls.Opens m o vs) = pending.Opens m (o ∷ vs.items)
 control_of (controls.Executes s) = pending.Executes (plain_statement s.now)
-control_of (controls.Runs ss) = pending.Runs (statements_of ss.now)
 control_of (controls.Loops e s) = pending.Loops (plain e.now) (plain_statement s.now)
 control_of (controls.Gives v) = pending.Gives v
 control_of (controls.Ends c) = pending.Ends c

@@ -19,7 +19,8 @@ impl<'a> Pending<'a> {
     /// On to something else.
     #[inline(always)]
     pub fn go(&mut self, control: Control<'a>)
-        ensures state { state_of self.new ≡ at (control_of control.entry) (frames_of self.old.frames.items) self.old.locals.items self.old.depth }
+        ensures state { state_of self.new ≡ at (control_of control.entry) (frames_of self.old.frames.items)
+            self.old.locals.items self.old.depth }
     {
         self.control = control;
     }
@@ -28,7 +29,9 @@ impl<'a> Pending<'a> {
     #[inline(always)]
     pub fn inside(&mut self, frame: Frame<'a>, control: Control<'a>)
         requires { vec_len self.old.frames < vec_capacity self.old.frames }
-        ensures { state_of self.new ≡ at (control_of control.entry) (frame_of frame.entry ∷ frames_of self.old.frames.items) self.old.locals.items self.old.depth }
+        ensures { state_of self.new ≡
+            at (control_of control.entry) (frame_of frame.entry ∷ frames_of self.old.frames.items) self.old.locals.items
+            self.old.depth }
     {
         push(&mut self.frames, frame);
         self.control = control;
@@ -37,7 +40,8 @@ impl<'a> Pending<'a> {
     /// On to a value.
     #[inline(always)]
     pub fn gives(&mut self, v: Value)
-        ensures { state_of self.new ≡ at (PlainGives v) (frames_of self.old.frames.items) self.old.locals.items self.old.depth }
+        ensures { state_of self.new ≡ at (PlainGives v) (frames_of self.old.frames.items) self.old.locals.items
+            self.old.depth }
     {
         self.go(Control::Gives(v))
     }
@@ -45,7 +49,8 @@ impl<'a> Pending<'a> {
     /// On to the end of a statement.
     #[inline(always)]
     pub fn completes(&mut self, completion: Completion<Value>)
-        ensures { state_of self.new ≡ at (PlainEnds completion) (frames_of self.old.frames.items) self.old.locals.items self.old.depth }
+        ensures { state_of self.new ≡ at (PlainEnds completion) (frames_of self.old.frames.items) self.old.locals.items
+            self.old.depth }
     {
         self.go(Control::Ends(completion))
     }
@@ -53,7 +58,8 @@ impl<'a> Pending<'a> {
     /// On to an action.
     #[inline(always)]
     pub fn asks(&mut self, action: Action<Value>, sort: Sort)
-        ensures { state_of self.new ≡ at (PlainAsks action sort) (frames_of self.old.frames.items) self.old.locals.items self.old.depth }
+        ensures { state_of self.new ≡ at (PlainAsks action sort) (frames_of self.old.frames.items) self.old.locals.items
+            self.old.depth }
     {
         self.go(Control::Asks(action, sort))
     }
@@ -61,7 +67,9 @@ impl<'a> Pending<'a> {
     /// On to an action on an object. If the object is null, it throws.
     #[inline(always)]
     pub fn asks_of(&mut self, object: u64, action: Action<Value>, sort: Sort)
-        ensures { state_of self.new ≡ at (thrown_on_null object (PlainAsks action sort)) (frames_of self.old.frames.items) self.old.locals.items self.old.depth }
+        ensures { state_of self.new ≡
+            at (thrown_on_null object (PlainAsks action sort)) (frames_of self.old.frames.items) self.old.locals.items
+            self.old.depth }
     {
         if object == 0 {
             self.completes(Completion::Threw(Kind::NullPointer))

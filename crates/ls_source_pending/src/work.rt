@@ -105,11 +105,9 @@ pub enum Frame<'a> {
 pub enum Control<'a> {
     Evaluates(&'a Expression),
     Argues(Purpose, Vec<Value>, &'a Expressions),
-    Applies(Purpose, Vec<Value>),
     Invokes(usize, Value, Vec<Value>),
     Opens(usize, Value, Vec<Value>),
     Executes(&'a Statement),
-    Runs(&'a [Statement]),
     Loops(&'a Expression, &'a Statement),
     Gives(Value),
     Ends(Completion<Value>),

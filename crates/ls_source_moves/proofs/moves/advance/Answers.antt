@@ -5,10 +5,10 @@ returns-in-Evaluates-clause-ok c = rw c.in-Evaluates.is (rw (c.reserve.ensures.i
     c.evaluate.ensures)
 
 pub returns-in-Executes-clause-ok : goal.returns-in-Executes-clause-ok
-returns-in-Executes-clause-ok c = rw c.in-Executes.is (rw c.reserve.ensures.items at c.execute.ensures)
-
-pub returns-in-Runs-clause-ok : goal.returns-in-Runs-clause-ok
-returns-in-Runs-clause-ok c = rw c.in-Runs.is (rw c.reserve.ensures.items at c.run.ensures)
+returns-in-Executes-clause-ok c =
+    rw c.in-Executes.is (rw (c.reserve.ensures.items, c.deref-in-Executes.ensures.value) at
+    c.execute.ensures)
 
 pub returns-in-Loops-clause-ok : goal.returns-in-Loops-clause-ok
-returns-in-Loops-clause-ok c = rw c.in-Loops.is (rw c.reserve.ensures.items at c.loops.ensures)
+returns-in-Loops-clause-ok c = rw c.in-Loops.is (rw (c.reserve.ensures.items, c.deref-in-Loops.ensures.value) at
+    c.loops.ensures)

@@ -4,7 +4,8 @@ use Rattle.ls_source_pending.specs.Pending.{State}
 use Rattle.ls_source_pending.specs.Machine.{meaning}
 use Rattle.ls_source_pending.specs.SeenPending.{state_of}
 use Rattle.ls_source_moves.proofs.Fusion.{moved_keeps}
-use Rattle.ls_source_moves.proofs.Measure.{burden, moved_less}
+use Rattle.ls_source_moves.proofs.Weights.{burden}
+use Rattle.ls_source_moves.proofs.Measure.{moved_less}
 use Rattle.ls_source_moves.proofs.settling.settle.Goals as goal
 
 pub moves-smaller : goal.moves-smaller

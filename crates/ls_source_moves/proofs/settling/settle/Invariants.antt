@@ -3,7 +3,7 @@ use Rattle.ls_checked.specs.Plain.{plain_file}
 use Rattle.ls_meaning.specs.Course.{Answers}
 use Rattle.ls_source_pending.specs.Machine.{meaning, Rest}
 use Rattle.ls_source_pending.specs.SeenPending.{state_of}
-use Rattle.ls_source_moves.proofs.Measure.{burden}
+use Rattle.ls_source_moves.proofs.Weights.{burden}
 use Rattle.ls_source_moves.proofs.settling.settle.Given as goal
 
 abbrev pub invariant-moves : goal.invariant-moves

@@ -1,27 +1,20 @@
-use Rattle.std.proofs.Common.{◌≡◌, ◌<◌, length, get_or, Some, sym, ap, subst, ◌∙◌}
-use Rattle.std.proofs.lemmas.Bool.{ltb-true}
-use Rattle.std.specs.Prelude.{is_some, slice_get, map, option_map}
-use Rattle.ls_checked.specs.Plain.{plain_file}
-use Rattle.ls_checked.specs.PlainProgram.{plain_program}
-use Rattle.ls_source.specs.Kept.{asked_at}
-use Rattle.ls_source.specs.SeenThread.{thread_of, plain_next}
-use Rattle.ls_source.specs.SeenRun.{lists_of}
-use Rattle.ls_source.proofs.Kept.{now_is, thread_at}
+use Rattle.std.proofs.Common.{◌≡◌}
+use Rattle.ls_meaning.specs.Runs.{answers_of}
+use Rattle.ls_meaning.specs.Threads.{next}
+use Rattle.ls_source.specs.Progress.{Progress}
+use Rattle.ls_source.specs.SeenThread.{plain_next}
+use Rattle.ls_source.specs.Shown.{progress_of}
+use Rattle.ls_source.specs.Stands.{StandsFor}
+use Rattle.ls_source.proofs.Stages.{ok_follows}
+use Rattle.ls_source.proofs.Standing.{of_run}
 use Rattle.ls_source.proofs.run.SourceRun.next_of_thread.Goals as goal
 
-pub returns-in-Some-asked-clause-next : goal.returns-in-Some-asked-clause-next
-returns-in-Some-asked-clause-next c =
+pub returns : goal.returns
+returns c =
     let r = c.args.self.now in
-    let i = c.args.thread in
-    let v = c.in-Some.t.now in
-    let file = plain_file r.file.now in
-    let program = plain_program r.program.now in
-    let ts = r.threads.items in
-    let within : i < length ts = subst (λ l. i < length l) c.deref.ensures.value
-    (ltb-true i (length c.deref.result.now) (sym c.get.ensures.lookup.0 ∙ ap is_some c.in-Some.is)) in
-    let is : v ≡ get_or ts i v = c.in-Some.ensures.lookup.1 ∙ ap (λ l. get_or l i v) c.deref.ensures.value in
-    let asks : asked_at program (slice_get (map thread_of ts) i) ≡ Some (plain_next c.in-Some-asked.next) =
-    ap (asked_at program) (thread_at file program ts i v within is) ∙ sym c.asked.ensures ∙
-    ap (option_map plain_next) c.in-Some-asked.is in
-    now_is file program (map thread_of ts) (lists_of r.stage.answers.items) i (plain_next c.in-Some-asked.next) r.kept
-    asks
+    ok_follows c.next_of_thread.result
+    (λ b. (p : Progress) → StandsFor r.playing p →
+    plain_next b ≡ next p.file p.program c.args.thread (answers_of p.state c.args.thread))
+    (λ b. plain_next b ≡ next (progress_of r).file (progress_of r).program c.args.thread
+    (answers_of (progress_of r).state c.args.thread))
+    (λ b h. h (progress_of r) (of_run r)) c.next_of_thread.ensures.next

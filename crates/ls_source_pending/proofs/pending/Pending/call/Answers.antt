@@ -10,7 +10,7 @@ pub read_pair-requires-in-GetBoth : goal.read_pair-requires-in-GetBoth
 read_pair-requires-in-GetBoth c = c.requires
 
 pub returns-in-Method : goal.returns-in-Method
-returns-in-Method c = rw c.in-Method.is c.go.ensures.state
+returns-in-Method c = rw c.in-Method.is c.invoke.ensures
 
 pub returns-in-LockIt : goal.returns-in-LockIt
 returns-in-LockIt c = rw c.in-LockIt.is (rw c.reference_of-n.ensures at c.asks.ensures)

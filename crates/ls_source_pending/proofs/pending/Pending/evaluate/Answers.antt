@@ -24,6 +24,9 @@ left_of_or-requires c = c.requires
 pub object-requires : goal.object-requires
 object-requires c = c.requires
 
+pub make_markable-requires : goal.make_markable-requires
+make_markable-requires c = c.requires
+
 pub make_object-requires : goal.make_object-requires
 make_object-requires c = c.requires
 

@@ -6,6 +6,12 @@ index-requires c = c.requires
 pub right-requires : goal.right-requires
 right-requires c = c.requires
 
+pub begin_call-requires : goal.begin_call-requires
+begin_call-requires c = c.requires
+
+pub begin_make-requires : goal.begin_make-requires
+begin_make-requires c = c.requires
+
 pub write_mark-requires : goal.write_mark-requires
 write_mark-requires c = c.requires
 

@@ -3,7 +3,7 @@ use Rattle.ls_checked.specs.Plain.{plain_file}
 use Rattle.ls_source.specs.Calls.{thread_meaning}
 use Rattle.ls_source.specs.SeenThread.{thread_of}
 use Rattle.ls_source.proofs.Calls.{begun_keeps, finished_keeps}
-use Rattle.ls_source.proofs.thread.Thread.settle.Goals as goal
+use Rattle.ls_source.proofs.thread.Thread.go_on.Goals as goal
 
 pub returns : goal.returns
 returns c = λ program q.

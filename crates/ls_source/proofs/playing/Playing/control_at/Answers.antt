@@ -5,7 +5,7 @@ use Rattle.ls_checked.specs.Plain.{plain_file}
 use Rattle.ls_checked.specs.PlainProgram.{plain_program}
 use Rattle.ls_source.specs.Kept.{asked_at}
 use Rattle.ls_source.proofs.Kept.{thread_at}
-use Rattle.ls_source.proofs.run.SourceRun.control_at.Goals as goal
+use Rattle.ls_source.proofs.playing.Playing.control_at.Goals as goal
 
 pub returns-in-Some-control : goal.returns-in-Some-control
 returns-in-Some-control c =

@@ -3,7 +3,7 @@ use Rattle.std.specs.Prelude.{map}
 use Rattle.ls_checked.specs.PlainProgram.{plain_call}
 use Rattle.ls_source.specs.Calls.{Starts, begun}
 use Rattle.ls_source.specs.SeenThread.{thread_of}
-use Rattle.ls_source.proofs.run.fresh_threads.Given as goal
+use Rattle.ls_source.proofs.playing.fresh_threads.Given as goal
 
 abbrev pub invariant-loop-program : goal.invariant-loop-program
 invariant-loop-program l = map thread_of l.threads.items ≡ map
