@@ -1,3 +1,4 @@
+pub mod Labelled
 pub mod Labels
 pub mod Names
 pub mod Objects

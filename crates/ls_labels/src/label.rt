@@ -8,7 +8,7 @@ use ls_events::value::Value;
 use std::alloc::AllocError;
 
 /// What an object is called, without its number: its class by number, or a type of the library or of the language.
-#[derive(Copy)]
+#[derive(Copy, PartialEq, Eq)]
 pub enum Label {
     Class(usize),
     Lock,

@@ -3,6 +3,7 @@
 
 pub mod label;
 pub mod names;
+pub mod numbers;
 pub mod objects;
 pub mod threads;
 pub mod words;

@@ -80,7 +80,11 @@ pub fn push_method(out: &mut String, names: Names, number: usize) -> Result<(), 
     };
     let class = class_name(names, method.class);
     match method_found(&sign.methods, number) {
-        Some(name) => write!(out, "{class}.{name}"),
+        Some(name) => {
+            out.push_str(class)?;
+            out.push('.')?;
+            out.push_str(name)
+        }
         None => write!(out, "new {class}"),
     }
 }

@@ -10,14 +10,13 @@ ghost use Rattle.ls_labels.specs.Threads.{awaited_text, end_text, owner_of, star
 
 use crate::label::Label;
 use crate::names::Names;
-use crate::objects::push_object;
+use crate::objects::add_object;
 use ls_checked::program::Program;
 use ls_events::action::Action;
 use ls_events::value::Value;
 use ls_source::run::SourceRun;
 use ls_source_store::thing::{Hold, Thing};
 use std::alloc::AllocError;
-use std::fmt::Write;
 
 /// The name of a thread, by its number; the setup is thread 0.
 pub fn thread_name(program: &Program, thread: usize) -> &str
@@ -70,18 +69,51 @@ pub fn owner_of(thing: Option<&Thing>) -> Option<usize>
 // Adds what a thread waits for: a lock or a monitor that another thread owns.
 fn push_awaited(
     out: &mut String,
-    names: Names,
+    names: &Names,
     labels: &[Label],
     what: &str,
     lock: u64,
     owner: usize,
 ) -> Result<(), AllocError>
-    ensures { OnOk result (string_bytes out.new ≡ string_bytes out.old ++ awaited_text (names_of names.entry) labels.now what.now lock owner) }
+    ensures { OnOk result (string_bytes out.new
+        ≡ string_bytes out.old ++ awaited_text (names_of names.now) labels.now what.now lock owner) }
 {
     out.push_str(what)?;
-    push_object(out, names, labels, lock)?;
-    let name = thread_name(names.program, owner);
-    write!(out, ", which {name} owns")
+    add_object(out, names, labels, lock)?;
+    out.push_str(", which ")?;
+    out.push_str(thread_name(names.program, owner))?;
+    out.push_str(" owns")
+}
+
+/// As `push_wait`.
+pub fn add_wait(
+    out: &mut String,
+    names: &Names,
+    labels: &[Label],
+    run: &SourceRun,
+    action: &Action<Value>,
+) -> Result<(), AllocError>
+    ensures { OnOk result (string_bytes out.new
+        ≡ string_bytes out.old ++ wait_text (names_of names.now) labels.now (progress_of run.now).state.store action.now) }
+{
+    match action {
+        Action::Lock(lock) => match owner_of(run.thing(*lock)) {
+            Some(owner) => push_awaited(out, names, labels, "waits for ", *lock, owner),
+            None => Ok(()),
+        },
+        Action::LockMonitor(object) => match owner_of(run.thing(*object)) {
+            Some(owner) => push_awaited(
+                out,
+                names,
+                labels,
+                "waits for the monitor of ",
+                *object,
+                owner,
+            ),
+            None => Ok(()),
+        },
+        _ => Ok(()),
+    }
 }
 
 /// Adds what a thread waits for, by the action that it asks for, as `waits for ReentrantLock#2, which A owns`. If the
@@ -96,22 +128,5 @@ pub fn push_wait(
     ensures { OnOk result (string_bytes out.new
         ≡ string_bytes out.old ++ wait_text (names_of names.entry) labels.now (progress_of run.now).state.store action) }
 {
-    match action {
-        Action::Lock(lock) => match owner_of(run.thing(lock)) {
-            Some(owner) => push_awaited(out, names, labels, "waits for ", lock, owner),
-            None => Ok(()),
-        },
-        Action::LockMonitor(object) => match owner_of(run.thing(object)) {
-            Some(owner) => push_awaited(
-                out,
-                names,
-                labels,
-                "waits for the monitor of ",
-                object,
-                owner,
-            ),
-            None => Ok(()),
-        },
-        _ => Ok(()),
-    }
+    add_wait(out, &names, labels, run, &action)
 }

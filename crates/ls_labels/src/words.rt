@@ -3,98 +3,121 @@
 ghost use Rattle.std.specs.Prelude.{◌≡◌, ◌++◌, OnOk, string_bytes};
 ghost use Rattle.ls_labels.specs.Names.{names_of};
 ghost use Rattle.ls_labels.specs.Objects.{object_text, value_text};
+ghost use Rattle.ls_labels.specs.Labelled.{labelled_field};
 ghost use Rattle.ls_report.specs.Printing.{run_words};
-ghost use Rattle.ls_labels.specs.Words.{action_text, answer_text, field_text, item_text, move_text, operation_text, performed_text, phrase_text};
+ghost use Rattle.ls_labels.specs.Words.{action_text, answer_text, field_text, item_text, move_text, operation_text};
+ghost use Rattle.ls_labels.specs.Words.{performed_text, phrase_text};
 
 use crate::label::Label;
 use crate::names::{Names, class_name, field_name, push_method};
-use crate::objects::{label_at, push_object, push_value};
+use crate::numbers::push_int;
+use crate::objects::{add_labelled, add_object, add_value, boolean_words, label_at};
 use ls_events::action::{Action, Answer};
 use ls_events::event::{Event, Happening};
 use ls_events::value::Value;
 use ls_report::{kind_name, object_name, push_words};
 use std::alloc::AllocError;
-use std::fmt::Write;
+
+/// Adds a field of an object with this label, as `Node#3.next`. The only refusal is that memory ran out.
+pub fn add_labelled_field(
+    out: &mut String,
+    names: &Names,
+    label: Option<Label>,
+    object: u64,
+    field: usize,
+) -> Result<(), AllocError>
+    ensures { OnOk result (string_bytes out.new
+        ≡ string_bytes out.old ++ labelled_field (names_of names.now) label object field) }
+{
+    add_labelled(out, names, label, object)?;
+    out.push('.')?;
+    match label {
+        Some(Label::Class(class)) => out.push_str(field_name(*names, class, field)),
+        _ => Ok(()),
+    }
+}
 
 // A field of an object, as `Node#3.next`.
-fn push_field(
+fn add_field(
     out: &mut String,
-    names: Names,
+    names: &Names,
     labels: &[Label],
     object: u64,
     field: usize,
 ) -> Result<(), AllocError>
-    ensures { OnOk result (string_bytes out.new ≡ string_bytes out.old ++ field_text (names_of names.entry) labels.now object field) }
+    ensures { OnOk result (string_bytes out.new
+        ≡ string_bytes out.old ++ field_text (names_of names.now) labels.now object field) }
 {
-    push_object(out, names, labels, object)?;
-    out.push_str(".")?;
-    match label_at(labels, object) {
-        Some(Label::Class(class)) => out.push_str(field_name(names, class, field)),
-        _ => Ok(()),
-    }
+    add_labelled_field(out, names, label_at(labels, object), object, field)
 }
 
 // An item of an array, as `boolean[]#7[2]`.
 fn push_item(
     out: &mut String,
-    names: Names,
+    names: &Names,
     labels: &[Label],
     array: u64,
     index: i32,
 ) -> Result<(), AllocError>
-    ensures { OnOk result (string_bytes out.new ≡ string_bytes out.old ++ item_text (names_of names.entry) labels.now array index) }
+    ensures { OnOk result (string_bytes out.new
+        ≡ string_bytes out.old ++ item_text (names_of names.now) labels.now array index) }
 {
-    push_object(out, names, labels, array)?;
-    write!(out, "[{index}]")
+    add_object(out, names, labels, array)?;
+    out.push('[')?;
+    push_int(out, index)?;
+    out.push(']')
 }
 
 // `verb` and an object.
 fn push_on(
     out: &mut String,
-    names: Names,
+    names: &Names,
     labels: &[Label],
     verb: &str,
     object: u64,
 ) -> Result<(), AllocError>
-    ensures { OnOk result (string_bytes out.new ≡ string_bytes out.old ++ (verb.now ++ object_text (names_of names.entry) labels.now object)) }
+    ensures { OnOk result (string_bytes out.new
+        ≡ string_bytes out.old ++ (verb.now ++ object_text (names_of names.now) labels.now object)) }
 {
     out.push_str(verb)?;
-    push_object(out, names, labels, object)
+    add_object(out, names, labels, object)
 }
 
 // `verb` and a value.
 fn push_with(
     out: &mut String,
-    names: Names,
+    names: &Names,
     labels: &[Label],
     verb: &str,
-    value: Value,
+    value: &Value,
 ) -> Result<(), AllocError>
-    ensures { OnOk result (string_bytes out.new ≡ string_bytes out.old ++ (verb.now ++ value_text (names_of names.entry) labels.now value)) }
+    ensures { OnOk result (string_bytes out.new
+        ≡ string_bytes out.old ++ (verb.now ++ value_text (names_of names.now) labels.now value.now)) }
 {
     out.push_str(verb)?;
-    push_value(out, names, labels, value)
+    add_value(out, names, labels, value)
 }
 
 // An operation of a lock, a monitor or a markable.
 fn push_operation(
     out: &mut String,
-    names: Names,
+    names: &Names,
     labels: &[Label],
-    action: Action<Value>,
+    action: &Action<Value>,
 ) -> Result<(), AllocError>
-    ensures { OnOk result (string_bytes out.new ≡ string_bytes out.old ++ operation_text (names_of names.entry) labels.now action) }
+    ensures { OnOk result (string_bytes out.new
+        ≡ string_bytes out.old ++ operation_text (names_of names.now) labels.now action.now) }
 {
     match action {
-        Action::Lock(o) => push_on(out, names, labels, "locks ", o),
-        Action::Unlock(o) => push_on(out, names, labels, "unlocks ", o),
-        Action::TryLock(o) => push_on(out, names, labels, "tries ", o),
-        Action::IsHeld(o) => push_on(out, names, labels, "asks whether it holds ", o),
-        Action::LockMonitor(o) => push_on(out, names, labels, "locks the monitor of ", o),
-        Action::UnlockMonitor(o) => push_on(out, names, labels, "unlocks the monitor of ", o),
-        Action::ReadPair(o) => push_on(out, names, labels, "reads ", o),
+        Action::Lock(o) => push_on(out, names, labels, "locks ", *o),
+        Action::Unlock(o) => push_on(out, names, labels, "unlocks ", *o),
+        Action::TryLock(o) => push_on(out, names, labels, "tries ", *o),
+        Action::IsHeld(o) => push_on(out, names, labels, "asks whether it holds ", *o),
+        Action::LockMonitor(o) => push_on(out, names, labels, "locks the monitor of ", *o),
+        Action::UnlockMonitor(o) => push_on(out, names, labels, "unlocks the monitor of ", *o),
+        Action::ReadPair(o) => push_on(out, names, labels, "reads ", *o),
         Action::SetPair(o, pair) => {
-            push_on(out, names, labels, "sets ", o)?;
+            push_on(out, names, labels, "sets ", *o)?;
             push_with(out, names, labels, " to ", pair)
         }
         Action::SwapPair {
@@ -102,7 +125,7 @@ fn push_operation(
             expected,
             new,
         } => {
-            push_on(out, names, labels, "exchanges ", markable)?;
+            push_on(out, names, labels, "exchanges ", *markable)?;
             push_with(out, names, labels, " from ", expected)?;
             push_with(out, names, labels, " to ", new)
         }
@@ -111,9 +134,10 @@ fn push_operation(
             reference,
             mark,
         } => {
-            push_on(out, names, labels, "marks ", markable)?;
-            write!(out, " {mark}")?;
-            push_on(out, names, labels, " if it refers to ", reference)
+            push_on(out, names, labels, "marks ", *markable)?;
+            out.push(' ')?;
+            out.push_str(boolean_words(*mark))?;
+            push_on(out, names, labels, " if it refers to ", *reference)
         }
         _ => Ok(()),
     }
@@ -122,14 +146,18 @@ fn push_operation(
 // A making, an entered method, a turn of a loop, or an operation.
 fn push_move(
     out: &mut String,
-    names: Names,
+    names: &Names,
     labels: &[Label],
-    action: Action<Value>,
+    action: &Action<Value>,
 ) -> Result<(), AllocError>
-    ensures { OnOk result (string_bytes out.new ≡ string_bytes out.old ++ move_text (names_of names.entry) labels.now action) }
+    ensures { OnOk result (string_bytes out.new
+        ≡ string_bytes out.old ++ move_text (names_of names.now) labels.now action.now) }
 {
     match action {
-        Action::New(class) => write!(out, "makes {}", class_name(names, class)),
+        Action::New(class) => {
+            out.push_str("makes ")?;
+            out.push_str(class_name(*names, *class))
+        }
         Action::NewLock => out.push_str("makes ReentrantLock"),
         Action::NewMarkable(pair) => {
             push_with(
@@ -140,11 +168,15 @@ fn push_move(
                 pair,
             )
         }
-        Action::NewArray(size) => write!(out, "makes boolean[{size}]"),
+        Action::NewArray(size) => {
+            out.push_str("makes boolean[")?;
+            push_int(out, *size)?;
+            out.push(']')
+        }
         Action::Turn => out.push_str("goes round a loop"),
         Action::Enter(method) => {
             out.push_str("enters ")?;
-            push_method(out, names, method)
+            push_method(out, *names, *method)
         }
         _ => push_operation(out, names, labels, action),
     }
@@ -153,16 +185,17 @@ fn push_move(
 // A read or write of a field, an item or a setup name, or another action that is no event.
 fn push_phrase(
     out: &mut String,
-    names: Names,
+    names: &Names,
     labels: &[Label],
-    action: Action<Value>,
+    action: &Action<Value>,
 ) -> Result<(), AllocError>
-    ensures { OnOk result (string_bytes out.new ≡ string_bytes out.old ++ phrase_text (names_of names.entry) labels.now action) }
+    ensures { OnOk result (string_bytes out.new
+        ≡ string_bytes out.old ++ phrase_text (names_of names.now) labels.now action.now) }
 {
     match action {
         Action::ReadField { object, field } => {
             out.push_str("reads ")?;
-            push_field(out, names, labels, object, field)
+            add_field(out, names, labels, *object, *field)
         }
         Action::WriteField {
             object,
@@ -170,12 +203,12 @@ fn push_phrase(
             value,
         } => {
             out.push_str("writes ")?;
-            push_field(out, names, labels, object, field)?;
+            add_field(out, names, labels, *object, *field)?;
             push_with(out, names, labels, ": ", value)
         }
         Action::ReadItem { array, index } => {
             out.push_str("reads ")?;
-            push_item(out, names, labels, array, index)
+            push_item(out, names, labels, *array, *index)
         }
         Action::WriteItem {
             array,
@@ -183,12 +216,16 @@ fn push_phrase(
             value,
         } => {
             out.push_str("writes ")?;
-            push_item(out, names, labels, array, index)?;
+            push_item(out, names, labels, *array, *index)?;
             push_with(out, names, labels, ": ", value)
         }
-        Action::ReadName(n) => write!(out, "reads {}", object_name(names.program, n)),
+        Action::ReadName(n) => {
+            out.push_str("reads ")?;
+            out.push_str(object_name(names.program, *n))
+        }
         Action::WriteName(n, value) => {
-            write!(out, "writes {}", object_name(names.program, n))?;
+            out.push_str("writes ")?;
+            out.push_str(object_name(names.program, *n))?;
             push_with(out, names, labels, ": ", value)
         }
         _ => push_move(out, names, labels, action),
@@ -198,12 +235,13 @@ fn push_phrase(
 // The event of a history that an action is.
 fn push_event(
     out: &mut String,
-    names: Names,
+    names: &Names,
     thread: usize,
     call: usize,
     happening: Happening,
 ) -> Result<(), AllocError>
-    ensures { OnOk result (string_bytes out.new ≡ string_bytes out.old ++ run_words (names_of names.entry).program (record { thread = thread; call = call; happening = happening })) }
+    ensures { OnOk result (string_bytes out.new
+        ≡ string_bytes out.old ++ run_words (names_of names.now).program (record { thread = thread; call = call; happening = happening })) }
 {
     let event = Event {
         thread,
@@ -211,6 +249,29 @@ fn push_event(
         happening,
     };
     push_words(out, names.program, event)
+}
+
+/// As `push_action`.
+pub fn add_action(
+    out: &mut String,
+    names: &Names,
+    labels: &[Label],
+    thread: usize,
+    action: &Action<Value>,
+) -> Result<(), AllocError>
+    ensures { OnOk result (string_bytes out.new
+        ≡ string_bytes out.old ++ action_text (names_of names.now) labels.now thread action.now) }
+{
+    match action {
+        Action::Call(call) => push_event(out, names, thread, *call, Happening::Called),
+        Action::Return(call, value) => {
+            push_event(out, names, thread, *call, Happening::Returned(*value))
+        }
+        Action::Trap(call, kind) => {
+            push_event(out, names, thread, *call, Happening::Trapped(*kind))
+        }
+        _ => push_phrase(out, names, labels, action),
+    }
 }
 
 /// Adds what a thread's action is, as `reads Node#3.next`. The only refusal is that memory ran out.
@@ -221,38 +282,50 @@ pub fn push_action(
     thread: usize,
     action: Action<Value>,
 ) -> Result<(), AllocError>
-    ensures { OnOk result (string_bytes out.new ≡ string_bytes out.old ++ action_text (names_of names.entry) labels.now thread action) }
+    ensures { OnOk result (string_bytes out.new
+        ≡ string_bytes out.old ++ action_text (names_of names.entry) labels.now thread action) }
 {
-    match action {
-        Action::Call(call) => push_event(out, names, thread, call, Happening::Called),
-        Action::Return(call, value) => {
-            push_event(out, names, thread, call, Happening::Returned(value))
-        }
-        Action::Trap(call, kind) => {
-            push_event(out, names, thread, call, Happening::Trapped(kind))
-        }
-        _ => push_phrase(out, names, labels, action),
-    }
+    add_action(out, &names, labels, thread, &action)
 }
 
-/// Adds an action's answer after a colon, as `: Node#4`. If the action is just done, nothing is added. The only
-/// refusal is that memory ran out.
-pub fn push_answer(
+// Adds an action's answer after a colon, as `: Node#4`. If the action is just done, nothing is added.
+pub fn add_answer(
     out: &mut String,
-    names: Names,
+    names: &Names,
     labels: &[Label],
-    answer: Answer<Value>,
+    answer: &Answer<Value>,
 ) -> Result<(), AllocError>
-    ensures { OnOk result (string_bytes out.new ≡ string_bytes out.old ++ answer_text (names_of names.entry) labels.now answer) }
+    ensures { OnOk result (string_bytes out.new
+        ≡ string_bytes out.old ++ answer_text (names_of names.now) labels.now answer.now) }
 {
     match answer {
         Answer::Done => Ok(()),
-        Answer::Gives(value) => push_with(out, names, labels, ": ", value),
+        Answer::Gives(value) => {
+            out.push(':')?;
+            out.push(' ')?;
+            add_value(out, names, labels, value)
+        }
         Answer::Fails(kind) => {
             out.push_str(": ")?;
-            out.push_str(kind_name(kind))
+            out.push_str(kind_name(*kind))
         }
     }
+}
+
+/// As `push_performed`.
+pub fn add_performed(
+    out: &mut String,
+    names: &Names,
+    labels: &[Label],
+    thread: usize,
+    action: &Action<Value>,
+    answer: &Answer<Value>,
+) -> Result<(), AllocError>
+    ensures { OnOk result (string_bytes out.new
+        ≡ string_bytes out.old ++ performed_text (names_of names.now) labels.now thread action.now answer.now) }
+{
+    add_action(out, names, labels, thread, action)?;
+    add_answer(out, names, labels, answer)
 }
 
 /// Adds an action of a thread with its answer, as `reads Node#3.next: Node#4`. The labels are those after the action.
@@ -265,8 +338,8 @@ pub fn push_performed(
     action: Action<Value>,
     answer: Answer<Value>,
 ) -> Result<(), AllocError>
-    ensures { OnOk result (string_bytes out.new ≡ string_bytes out.old ++ performed_text (names_of names.entry) labels.now thread action answer) }
+    ensures { OnOk result (string_bytes out.new
+        ≡ string_bytes out.old ++ performed_text (names_of names.entry) labels.now thread action answer) }
 {
-    push_action(out, names, labels, thread, action)?;
-    push_answer(out, names, labels, answer)
+    add_performed(out, &names, labels, thread, &action, &answer)
 }

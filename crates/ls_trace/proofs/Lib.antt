@@ -1,4 +1,6 @@
 pub mod Calls
+pub mod Digits
+pub mod Wholes
 pub mod Rests
 pub mod LinesLeft
 pub mod Quiet

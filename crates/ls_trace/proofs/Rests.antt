@@ -1,9 +1,8 @@
 -- The lines of the steps that are left.
-use Rattle.std.proofs.Common.{◌≡◌, ℕ, ◌+◌, ◌<◌, ◌≤◌, true, false, List, [], ◌∷◌, ◌++◌, length, drop, get_or, refl, sym}
-use Rattle.std.proofs.Common.{ap, ◌∙◌, arith}
+use Rattle.std.proofs.Common.{◌≡◌, ℕ, ◌+◌, ◌<◌, ◌≤◌, List, [], ◌∷◌, ◌++◌, length, drop, get_or, sym}
+use Rattle.std.proofs.Common.{ap, ◌∙◌}
 use Rattle.std.specs.Prelude.{nat_le, if◌then◌else◌}
 use Rattle.std.proofs.lemmas.List.{append_assoc, append-nil, drop_all, drop_more}
-use Rattle.std.proofs.lemmas.Bool.Decides.{nat_tests}
 use Rattle.ls_meaning.specs.declared.step.Did.{Did}
 use Rattle.ls_report.specs.Events.{Text}
 use Rattle.ls_labels.specs.Names.{Names}
@@ -42,20 +41,6 @@ rest_after names from number i d r r' did ts text text' whole within er ed et h 
     ∙ one_more names from number (get_or ts i d) r r' did (drop (i + 1) ts) text er ed
     ∙ ap (rest_of names from number r text) (sym (drop_more ts i d within))
     ∙ h
-
-pub is_told : (names : Names) (from number : ℕ) (r : Told) (thread : ℕ) (did : Did) (text : Text) →
-    from ≤ number →
-    text ++ line names number r thread did ≡ text ++ told_line names from number r thread did
-is_told names from number r thread did text h =
-    let b : nat_le from number ≡ true = grind (arith, nat_tests) in
-    rw b refl
-
-pub is_untold : (names : Names) (from number : ℕ) (r : Told) (thread : ℕ) (did : Did) (text : Text) →
-    number < from →
-    text ≡ text ++ told_line names from number r thread did
-is_untold names from number r thread did text h =
-    let b : nat_le from number ≡ false = grind (arith, nat_tests) in
-    rw b (sym (append-nil text))
 
 -- where no steps are left
 pub at_end : (names : Names) (from number i : ℕ) (r : Told) (text : Text) (ts : List ℕ) →

@@ -3,5 +3,7 @@ pub mod Lines
 pub mod Manners
 pub mod Folds
 pub mod Laws
+pub mod Deeds
+pub mod SeenTens
 pub mod SeenTeller
 pub mod SeenFolder

@@ -6,6 +6,7 @@ ghost use Rattle.ls_trace.specs.Manners.{same_manner};
 ghost use Rattle.ls_trace.specs.SeenFolder.{fold_of};
 
 use crate::manner::Manner;
+use ls_labels::numbers::push_number;
 use std::alloc::AllocError;
 use std::fmt::Write;
 
@@ -42,7 +43,15 @@ pub(crate) fn takes_in(span: Span, next: Span) -> bool
 
 /// The same steps and the next one.
 pub(crate) fn with_next(span: Span, next: Span) -> Span
-    ensures { result ≡ record { number = span.number; last = next.last; own = span.own; own_last = next.own_last; thread = span.thread; manner = span.manner } }
+    ensures { result ≡ record {
+      number = span.number;
+      last = next.last;
+      own = span.own;
+      own_last =
+          next.own_last;
+      thread = span.thread;
+      manner = span.manner;
+    } }
 {
     Span {
         number: span.number,
@@ -58,10 +67,12 @@ pub(crate) fn with_next(span: Span, next: Span) -> Span
 fn push_range(out: &mut String, first: usize, last: usize) -> Result<(), AllocError>
     ensures { OnOk result (string_bytes out.new ≡ string_bytes out.old ++ range_text first last) }
 {
+    push_number(out, first as u64)?;
     if first == last {
-        return write!(out, "{first}");
+        return Ok(());
     }
-    write!(out, "{first}-{last}")
+    out.push('-')?;
+    push_number(out, last as u64)
 }
 
 // Adds what is told of so many steps.
@@ -104,5 +115,5 @@ pub(crate) fn push_fold(out: &mut String, span: Span, words: &str) -> Result<(),
     push_numbers(out, span)?;
     out.push_str(words)?;
     push_count(out, span)?;
-    out.push_str("\n")
+    out.push('\n')
 }

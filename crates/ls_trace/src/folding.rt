@@ -1,6 +1,7 @@
 // A trace in which neighbouring steps that change nothing are one line.
 
-ghost use Rattle.std.specs.Prelude.{◌≡◌, ◌<◌, ◌++◌, ◌^◌, [], None, Some, IfOk, OnOk, if◌then◌else◌, map, option_map, slice_index_or, string_bytes};
+ghost use Rattle.std.specs.Prelude.{◌≡◌, ◌<◌, ◌++◌, ◌^◌, [], None, Some, IfOk, OnOk, if◌then◌else◌, map, option_map};
+ghost use Rattle.std.specs.Prelude.{slice_index_or, string_bytes};
 ghost use Rattle.ls_labels.specs.Names.{names_of};
 ghost use Rattle.ls_report.specs.Events.{Text};
 ghost use Rattle.ls_trace.specs.Folds.{counted, folded_text};
@@ -41,7 +42,15 @@ fn count_step(counts: &mut Vec<usize>, thread: usize) -> usize
 
 // A step by itself.
 fn span_of(number: usize, own: usize, thread: usize, did: Did) -> Span
-    ensures { result ≡ record { number = number; last = number; own = own; own_last = own; thread = thread; manner = manner_of did } }
+    ensures { result ≡ record {
+      number = number;
+      last = number;
+      own = own;
+      own_last = own;
+      thread = thread;
+      manner =
+          manner_of did;
+    } }
 {
     Span {
         number,
@@ -53,7 +62,8 @@ fn span_of(number: usize, own: usize, thread: usize, did: Did) -> Span
     }
 }
 
-// The steps whose line isn't written once the next step is told; the line of those before it is, unless they take it in.
+// The steps whose line isn't written once the next step is told; the line of those before it is, unless they take it
+// in.
 fn taken_in(
     out: &mut String,
     span: Option<Span>,
@@ -110,7 +120,8 @@ impl<'a> Folder<'a> {
     ) -> Result<(), AllocError>
         requires runs { RunsNamed self.old.teller }
         requires room { slice_index_or self.old.counts.items thread 0 < 2 ^ 63 }
-        ensures run { OnOk result (told_of self.new.teller ≡ after_step (names_in self.old.teller) (told_of self.old.teller) thread) }
+        ensures run { OnOk result (told_of self.new.teller ≡
+            after_step (names_in self.old.teller) (told_of self.old.teller) thread) }
         ensures names { names_in self.new.teller ≡ names_in self.old.teller }
         ensures runs { OnOk result (RunsNamed self.new.teller) }
         ensures counts { OnOk result (self.new.counts.items ≡ counted self.old.counts.items thread) }
@@ -128,7 +139,7 @@ impl<'a> Folder<'a> {
         let span = taken_in(out, self.span, self.words.as_str(), next)?;
         self.span = Some(span);
         self.words.clear();
-        self.teller.push_step(alloc, &mut self.words, thread, did)?;
+        self.teller.push_step(alloc, &mut self.words, thread, &did)?;
         Ok(())
     }
 
@@ -143,8 +154,9 @@ impl<'a> Folder<'a> {
     }
 }
 
-/// A line for the steps of a schedule whose numbers, counted from 1, lie in `from..=to`. Neighbouring steps of one thread that change
-/// nothing are one line. Beside each step's number stands its number among the steps of its thread. Steps after `to` aren't made.
+/// A line for the steps of a schedule whose numbers, counted from 1, lie in `from..=to`. Neighbouring steps of one
+/// thread that change nothing are one line. Beside each step's number stands its number among the steps of its thread.
+/// Steps after `to` aren't made.
 pub fn folded_trace(
     alloc: Global,
     names: Names,
@@ -166,7 +178,8 @@ pub fn folded_trace(
     Ok(text)
 }
 
-/// What is folded are the steps that `trace` tells. Only steps are folded that leave the store as it was and of which no event comes.
+/// What is folded are the steps that `trace` tells. Only steps are folded that leave the store as it was and of which
+/// no event comes.
 pub fn folds_are_of_the_trace()
     ensures trace { FoldsTheTrace }
     ensures nothing { FoldedChangeNothing }

@@ -8,8 +8,8 @@ use crate::teller::Teller;
 use ls_labels::names::Names;
 use std::alloc::{AllocError, Global};
 
-/// A line for each step of a schedule whose number, counted from 1, lies in `from..=to`: what its thread does, or why that does
-/// nothing. Steps after `to` aren't made.
+/// A line for each step of a schedule whose number, counted from 1, lies in `from..=to`: what its thread does, or why
+/// that does nothing. Steps after `to` aren't made.
 pub fn trace(
     alloc: Global,
     names: Names,
@@ -23,12 +23,7 @@ pub fn trace(
     let mut text = String::new(alloc);
     let steps = &schedule[..to.min(schedule.len())];
     for (place, thread) in steps.iter().enumerate() {
-        let thread = *thread as usize;
-        let did = teller.step(alloc, thread)?;
-        let number = place + 1;
-        if from <= number {
-            teller.push_line(alloc, &mut text, number, thread, did)?;
-        }
+        teller.tell(alloc, &mut text, from, place + 1, *thread as usize)?;
     }
     Ok(text)
 }
