@@ -15,7 +15,8 @@ use Rattle.ls_report.proofs.Histories.{line_cut}
 use Rattle.ls_order_search.specs.Answers.{IsOutcome}
 use Rattle.ls_order_search.specs.Faults.{lifted_history}
 use Rattle.ls_order_search.specs.OrderLines.{order_line}
-use Rattle.ls_order_search.specs.Telling.{Foreign, Gives, Hopeless, Legal, ManyTrapped, NoHistory, Tells, foreign_text}
+use Rattle.ls_order_search.specs.Telling.{Foreign, GivesText, Hopeless, Legal, ManyTrapped, NoHistory, Tells}
+use Rattle.ls_order_search.specs.Telling.{foreign_text}
 use Rattle.ls_order_search.specs.Telling.{hopeless_text}
 use Rattle.ls_order_search.specs.declared.fault.SearchFault.{SearchFault}
 use Rattle.ls_order_search.specs.declared.fault.SearchFault.TheVariants as faults
@@ -74,7 +75,7 @@ abbrev pub Failed : SearchFault → Result (String Global) SearchFault
 Failed f = Err f
 
 -- a text that is no history
-pub no_history : (text : Text) (f : HistoryFault) → Explains text f → Gives (Tells text) (Failed (lifted_history f))
+pub no_history : (text : Text) (f : HistoryFault) → Explains text f → GivesText (Tells text) (Failed (lifted_history f))
 no_history text history_faults.Memory h = tt
 no_history text (history_faults.BadHistory at) h = NoHistory at h
 

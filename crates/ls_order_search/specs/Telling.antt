@@ -1,5 +1,7 @@
 -- The verdict on the text of a history.
-use Rattle.std.specs.Prelude.{◌≡◌, ◌+◌, ℕ, true, List, [], ◌∷◌, ◌++◌, Some, None, Result, Ok, Err, String, codes}
+use Rattle.std.specs.Prelude.{◌≡◌, ◌+◌, ℕ, true, List, [], ◌∷◌, ◌++◌, Option, Some, None, Result, Ok, Err, String}
+use Rattle.std.specs.Prelude.{codes}
+use Rattle.ls_answers.specs.Answers as answers
 use Rattle.std.specs.Prelude.{slice_get, string_bytes, take}
 use Rattle.std.specs.Fmt.{decimal}
 use Rattle.std.specs.Global.{Global}
@@ -48,8 +50,11 @@ pub data Tells (text : Text) : Result Text SearchFault → Type 0 where
       → IsLegal (take at events) order → Tells text (Ok (hopeless_text at (event_text e) order))
   NoHistory : (at : ℕ) → BreaksAt text at → Tells text (Err (faults.BadHistory at))
 
+-- what a fault says of a text; "out of memory" says nothing
+abbrev pub meant : SearchFault → Option SearchFault
+meant faults.Memory = None
+meant f = Some f
+
 -- the answer is a verdict, or memory ran out
-abbrev pub Gives : (Result Text SearchFault → Type 0) → Result (String Global) SearchFault → Type 0
-Gives May (Ok text) = May (Ok (string_bytes text))
-Gives May (Err faults.Memory) = Unit {0}
-Gives May (Err f) = May (Err f)
+abbrev pub GivesText : (Result Text SearchFault → Type 0) → Result (String Global) SearchFault → Type 0
+GivesText May answer = answers.GivesOne meant string_bytes May answer

@@ -1,9 +1,11 @@
 // The choice of the call that is placed next.
 
-ghost use Rattle.std.specs.Prelude.{◌≡◌, ℕ, ◌<◌, ◌⊎◌, IfNone, IfSome, Decides, MatchBool, length, slice_index_or, Some, false, true, ◌+◌};
+ghost use Rattle.std.specs.Prelude.{◌≡◌, ℕ, ◌<◌, ◌⊎◌, IfNone, IfSome, Decides, MatchBool, length, slice_index_or};
+ghost use Rattle.std.specs.Prelude.{Some, false, true, ◌+◌};
 ghost use Rattle.ls_orders.specs.declared.calls.SetCall.{SetCall};
 ghost use Rattle.ls_order_search.specs.Plans.{Among, needed, turns, want};
-ghost use Rattle.ls_order_search.specs.Search.{Best, BestSoFar, Choice, Fits, Keeps, NoLater, Place, Turns, comes_first, ends_at};
+ghost use Rattle.ls_order_search.specs.Search.{Best, BestSoFar, Choice, Fits, Keeps, NoLater, Place, Turns};
+ghost use Rattle.ls_order_search.specs.Search.{comes_first, ends_at};
 
 use ls_orders::calls::{End, Operation, SetCall};
 
@@ -118,8 +120,10 @@ fn sooner_of(pool: &[SetCall], b: usize, i: usize) -> usize
     requires i_in { i < length pool.now }
     requires b_in { b < length pool.now }
     ensures one { (result ≡ i) ⊎ (result ≡ b) }
-    ensures before_i { (d : SetCall) → NoLater (slice_index_or pool.now result d).end (slice_index_or pool.now i d).end }
-    ensures before_b { (d : SetCall) → NoLater (slice_index_or pool.now result d).end (slice_index_or pool.now b d).end }
+    ensures before_i { (d : SetCall) →
+        NoLater (slice_index_or pool.now result d).end (slice_index_or pool.now i d).end }
+    ensures before_b { (d : SetCall) →
+        NoLater (slice_index_or pool.now result d).end (slice_index_or pool.now b d).end }
 {
     if is_sooner(pool[i].end, pool[b].end) {
         i

@@ -21,7 +21,8 @@ fn names_of(
     events: &[NamedEvent<'_>],
     order: &[SetCall],
 ) -> Result<Vec<String>, AllocError>
-    ensures { IfOk result (λ names. map string_bytes names.items ≡ map (named_by (map plain_event events.now)) order.now) }
+    ensures { IfOk result (λ names. map string_bytes names.items ≡
+        map (named_by (map plain_event events.now)) order.now) }
 {
     let mut names = Vec::with_capacity(alloc, order.len())?;
     for call in order {
@@ -45,6 +46,29 @@ fn legal_names(
     names_of(alloc, events, order)
 }
 
+/// A legal order of a history of one set, whose set calls these are, by the texts of its calls. None if no order is
+/// legal.
+pub(crate) fn order_of(
+    alloc: Global,
+    events: &[NamedEvent<'_>],
+    calls: &[SetCall],
+) -> Result<Option<Vec<String>>, AllocError>
+    requires history { is_history (map plain_event events.now) ≡ true }
+    requires one_set { first_foreign (map plain_event events.now) ≡ None }
+    requires calls { calls.now ≡ set_calls (map plain_event events.now) }
+    ensures some { IfOk result
+        (λ found. IfSome found (λ order. IsLegal (map plain_event events.now) (map string_bytes order.items))) }
+    ensures none { IfOk result (λ found. IfNone found (NoneIsLegal (map plain_event events.now))) }
+{
+    match find_calls(alloc, calls, events.len())? {
+        Some(order) => {
+            let names = legal_names(alloc, events, order.as_slice())?;
+            Ok(Some(names))
+        }
+        None => Ok(None),
+    }
+}
+
 /// A legal order of the history's set calls, by the texts of its calls. None if no order is legal. The only refusal is
 /// that memory ran out.
 pub fn find_order(
@@ -52,18 +76,13 @@ pub fn find_order(
     events: &[NamedEvent<'_>],
 ) -> Result<Option<Vec<String>>, AllocError>
     requires { is_history (map plain_event events.now) ≡ true }
-    ensures some { IfOk result (λ found. IfSome found (λ order. IsLegal (map plain_event events.now) (map string_bytes order.items))) }
+    ensures some { IfOk result
+        (λ found. IfSome found (λ order. IsLegal (map plain_event events.now) (map string_bytes order.items))) }
     ensures none { IfOk result (λ found. IfNone found (NoneIsLegal (map plain_event events.now))) }
 {
     if first_foreign(events).is_some() {
         return Ok(None);
     }
     let calls = set_calls(alloc, events)?;
-    match find_calls(alloc, calls.as_slice(), events.len())? {
-        Some(order) => {
-            let names = legal_names(alloc, events, order.as_slice())?;
-            Ok(Some(names))
-        }
-        None => Ok(None),
-    }
+    order_of(alloc, events, calls.as_slice())
 }

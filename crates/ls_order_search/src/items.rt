@@ -1,10 +1,12 @@
 // Which trapped calls stay, settled for each item alone.
 
-ghost use Rattle.std.specs.Prelude.{◌≡◌, ◌==◌, ◌||◌, ◌+◌, ◌<◌, [], ℕ, ℤ, IfNone, IfOk, IfSome, MatchBool, OnOk, false, filter, length, true};
+ghost use Rattle.std.specs.Prelude.{◌≡◌, ◌==◌, ◌||◌, ◌+◌, ◌<◌, [], ℕ, ℤ, IfNone, IfOk, IfSome, MatchBool, OnOk};
+ghost use Rattle.std.specs.Prelude.{false, filter, length, true};
 ghost use Rattle.std.specs.List.{list_any};
 ghost use Rattle.std.specs.Ordering.{int_eq};
 ghost use Rattle.ls_orders.specs.Places.{is_marked};
-ghost use Rattle.ls_order_search.specs.Search.{CallsOf, NoOrder, NoWay, Settled, Settling, Way, held, is_item, on_items, stays};
+ghost use Rattle.ls_order_search.specs.Search.{CallsOf, NoOrder, NoWay, Settled, Settling, Way, held, is_item};
+ghost use Rattle.ls_order_search.specs.Search.{on_items, stays};
 ghost use Rattle.ls_order_search.specs.Trapped.{is_trapped};
 
 use crate::search::search;
@@ -48,7 +50,8 @@ fn staying(alloc: Global, calls: &[SetCall], marks: &[bool]) -> Result<Vec<SetCa
 
 /// Marks the calls, by the places of their call events.
 fn mark_all(marks: &mut Vec<bool>, order: &[SetCall]) -> Result<(), AllocError>
-    ensures { OnOk result ((k : ℕ) → is_marked marks.new.items k ≡ (list_any (λ c. c.called == k) order.now || is_marked marks.old.items k)) }
+    ensures { OnOk result ((k : ℕ) →
+        is_marked marks.new.items k ≡ (list_any (λ c. c.called == k) order.now || is_marked marks.old.items k)) }
 {
     for call in order {
         mark(marks, call.called)?;
@@ -66,7 +69,8 @@ fn put(items: &mut BTreeSet<i32>, item: &i32) -> Result<(), AllocError>
 
 /// Whether the call is trapped, on an item that isn't among those.
 fn is_new(items: &BTreeSet<i32>, call: SetCall) -> bool
-    ensures { MatchBool result ((is_trapped call.end ≡ true) × (held items.now call.item ≡ false)) (is_trapped call.end ≡ true → held items.now call.item ≡ true) }
+    ensures { MatchBool result ((is_trapped call.end ≡ true) × (held items.now call.item ≡ false))
+        (is_trapped call.end ≡ true → held items.now call.item ≡ true) }
 {
     is_trapped(call.end) && !items.contains(&call.item)
 }
@@ -80,7 +84,8 @@ fn try_item(
 ) -> Result<Option<Vec<SetCall>>, AllocError>
     requires { CallsOf events calls.now }
     ensures none { IfOk result (λ found. IfNone found (NoWay [] (on_items (is_item item.now) calls.now))) }
-    ensures some { IfOk result (λ found. IfSome found (λ order. Way [] (on_items (is_item item.now) calls.now) order.items)) }
+    ensures some { IfOk result
+        (λ found. IfSome found (λ order. Way [] (on_items (is_item item.now) calls.now) order.items)) }
 {
     let own = of_item(alloc, calls, item)?;
     tries(alloc, Vec::new(alloc), own.as_slice(), events)
@@ -98,7 +103,8 @@ fn settle_call(
     requires calls { CallsOf events calls.now }
     requires place { at < length calls.now }
     requires so { Settling calls.now at (held items.old) marks.old.items }
-    ensures { IfOk result (λ goes. MatchBool goes (Settling calls.now (at + 1) (held items.new) marks.new.items) (NoOrder calls.now)) }
+    ensures { IfOk result
+        (λ goes. MatchBool goes (Settling calls.now (at + 1) (held items.new) marks.new.items) (NoOrder calls.now)) }
 {
     let call = calls[at];
     if !is_new(items, call) {

@@ -5,11 +5,11 @@ ghost use Rattle.ls_report.specs.Discipline.{is_history};
 ghost use Rattle.ls_report.specs.Plain.{plain_event};
 ghost use Rattle.ls_orders.specs.Legal.{IsLegal};
 ghost use Rattle.ls_order_search.specs.Answers.{IsDecided, IsOutcome, NoneIsLegal};
-ghost use Rattle.ls_order_search.specs.Trapped.{has_many_trapped};
 ghost use Rattle.ls_orders.specs.SetCalls.{set_calls};
 
-use crate::finding::find_order;
+use crate::finding::{find_order, order_of};
 use crate::trapped::has_many_trapped;
+use ls_orders::calls::SetCall;
 use ls_orders::finding::{first_foreign, name_of, set_calls};
 use ls_report::history::NamedEvent;
 use std::alloc::{AllocError, Global};
@@ -28,14 +28,6 @@ pub enum Outcome {
     Hopeless { at: usize, order: Vec<String> },
 }
 
-/// Whether an item of the history has more than 12 trapped calls.
-fn has_many(alloc: Global, events: &[NamedEvent<'_>]) -> Result<bool, AllocError>
-    ensures { IfOk result (λ many. many ≡ has_many_trapped (set_calls (map plain_event events.now))) }
-{
-    let calls = set_calls(alloc, events)?;
-    Ok(has_many_trapped(calls.as_slice()))
-}
-
 /// A legal order of the first events, by the texts of its calls. None if no order is legal.
 fn find_front(
     alloc: Global,
@@ -44,7 +36,9 @@ fn find_front(
 ) -> Result<Option<Vec<String>>, AllocError>
     requires history { is_history (map plain_event events.now) ≡ true }
     requires count { count ≤ length events.now }
-    ensures some { IfOk result (λ found. IfSome found (λ order. IsLegal (take count (map plain_event events.now)) (map string_bytes order.items))) }
+    ensures some { IfOk result
+        (λ found. IfSome found
+        (λ order. IsLegal (take count (map plain_event events.now)) (map string_bytes order.items))) }
     ensures none { IfOk result (λ found. IfNone found (NoneIsLegal (take count (map plain_event events.now)))) }
 {
     find_order(alloc, &events[..count])
@@ -75,12 +69,17 @@ fn find_hopeless(alloc: Global, events: &[NamedEvent<'_>]) -> Result<Outcome, Al
 }
 
 /// Whether a history with few trapped calls has a legal order, or else the event with which it ceases to have one.
-fn decide(alloc: Global, events: &[NamedEvent<'_>]) -> Result<Outcome, AllocError>
+fn decide(
+    alloc: Global,
+    events: &[NamedEvent<'_>],
+    calls: &[SetCall],
+) -> Result<Outcome, AllocError>
     requires history { is_history (map plain_event events.now) ≡ true }
+    requires calls { calls.now ≡ set_calls (map plain_event events.now) }
     requires decided { IsDecided (map plain_event events.now) }
     ensures { IfOk result (λ outcome. IsOutcome (map plain_event events.now) outcome) }
 {
-    match find_order(alloc, events)? {
+    match order_of(alloc, events, calls)? {
         Some(order) => Ok(Outcome::Legal(order)),
         None => find_hopeless(alloc, events),
     }
@@ -96,9 +95,9 @@ pub fn judge(alloc: Global, events: &[NamedEvent<'_>]) -> Result<Outcome, AllocE
         let call = name_of(alloc, event)?;
         return Ok(Outcome::NotOneSet(call));
     }
-    let many = has_many(alloc, events)?;
-    if many {
+    let calls = set_calls(alloc, events)?;
+    if has_many_trapped(calls.as_slice()) {
         return Ok(Outcome::TooManyTrapped);
     }
-    decide(alloc, events)
+    decide(alloc, events, calls.as_slice())
 }

@@ -8,7 +8,8 @@ use std::alloc::{AllocError, Global};
 
 /// Pushes the calls, each with a space before it.
 fn push_spaced(text: &mut String, calls: &[String]) -> Result<(), AllocError>
-    ensures { OnOk result (string_bytes text.new ≡ string_bytes text.old ++ flat_map spaced (map string_bytes calls.now)) }
+    ensures { OnOk result (string_bytes text.new ≡ string_bytes text.old ++
+        flat_map spaced (map string_bytes calls.now)) }
 {
     for call in calls {
         text.push_str(" ")?;

@@ -27,7 +27,9 @@ pub(crate) fn search(
 ) -> Result<Option<Vec<SetCall>>, AllocError>
     requires { Rising calls.now }
     ensures none { IfOk result (λ found. IfNone found (NoPlanOn calls.now)) }
-    ensures some { IfOk result (λ found. IfSome found (λ order. Within events calls.now → Lasting calls.now → IsPlan empty calls.now order.items)) }
+    ensures some { IfOk result
+        (λ found. IfSome found (λ order. Within events calls.now → Lasting calls.now →
+        IsPlan empty calls.now order.items)) }
 {
     let mut set = BTreeSet::new(alloc);
     let mut pool = Vec::new(alloc);

@@ -1,13 +1,14 @@
 // The verdict on the text of a history, as text.
 
-ghost use Rattle.std.specs.Prelude.{◌≡◌, ◌<◌, ◌++◌, ◌∷◌, [], IfOk, List, Some, drop, length, map, slice_get, string_bytes};
+ghost use Rattle.std.specs.Prelude.{◌≡◌, ◌<◌, ◌++◌, ◌∷◌, [], IfOk, List, Some, drop, length, map, slice_get};
+ghost use Rattle.std.specs.Prelude.{string_bytes};
 ghost use Rattle.ls_report.specs.Cut.{cut};
 ghost use Rattle.ls_report.specs.Events.{Event, Text};
 ghost use Rattle.ls_report.specs.Lines.{event_text};
 ghost use Rattle.ls_report.specs.Plain.{plain_event};
 ghost use Rattle.ls_report.specs.Reading.{Says};
 ghost use Rattle.ls_order_search.specs.Answers.{IsOutcome};
-ghost use Rattle.ls_order_search.specs.Telling.{Gives, Tells, foreign_text, hopeless_text};
+ghost use Rattle.ls_order_search.specs.Telling.{GivesText, Tells, foreign_text, hopeless_text};
 
 use crate::fault::SearchFault;
 use crate::judging::{Outcome, judge};
@@ -47,7 +48,8 @@ fn first_line(text: &str) -> &str
 
 /// The line of the event at the place.
 fn line_at(text: &str, at: usize) -> &str
-    ensures { (events : List Event) (e : Event) → Says text.now events → slice_get events at ≡ Some e → result.now ≡ event_text e }
+    ensures { (events : List Event) (e : Event) → Says text.now events → slice_get events at ≡ Some e →
+        result.now ≡ event_text e }
 {
     let mut rest = text;
     for past in 0..at {
@@ -81,7 +83,7 @@ fn outcome_text(
 ) -> Result<String, SearchFault>
     requires says { Says text.now (map plain_event events.now) }
     requires outcome { IsOutcome (map plain_event events.now) outcome.now }
-    ensures { Gives (Tells text.now) result }
+    ensures { GivesText (Tells text.now) result }
 {
     match outcome {
         Outcome::NotOneSet(call) => {
@@ -105,7 +107,7 @@ fn outcome_text(
 /// is none any more, and a legal order of the events before that event. Refused if the text is no history, if an item
 /// has more than 12 trapped calls, or if memory runs out.
 pub fn tell(alloc: Global, text: &str) -> Result<String, SearchFault>
-    ensures { Gives (Tells text.now) result }
+    ensures { GivesText (Tells text.now) result }
 {
     let history = read_history(alloc, text)?;
     let events = history.events();

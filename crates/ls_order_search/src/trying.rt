@@ -35,7 +35,9 @@ pub(crate) fn tries(
 ) -> Result<Option<Vec<SetCall>>, AllocError>
     requires { Rising (front.items ++ back.now) }
     ensures none { IfOk result (λ found. IfNone found (NoWay front.items back.now)) }
-    ensures some { IfOk result (λ found. IfSome found (λ order. Within events (front.items ++ back.now) → Lasting (front.items ++ back.now) → Way front.items back.now order.items)) }
+    ensures some { IfOk result
+        (λ found. IfSome found (λ order. Within events (front.items ++ back.now) → Lasting (front.items ++ back.now) →
+        Way front.items back.now order.items)) }
 {
     let mut front = front;
     for i in 0..back.len() {

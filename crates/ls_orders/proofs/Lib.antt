@@ -7,3 +7,4 @@ pub mod RuleLemmas
 pub mod NamingLemmas
 pub mod JudgingLemmas
 pub mod LegalLemmas
+pub mod NameLemmas

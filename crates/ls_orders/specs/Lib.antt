@@ -6,3 +6,4 @@ pub mod Places
 pub mod Rules
 pub mod Legal
 pub mod Named
+pub mod Names

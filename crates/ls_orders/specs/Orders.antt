@@ -1,5 +1,7 @@
 -- What an order's text says.
-use Rattle.std.specs.Prelude.{◌≡◌, ◌==◌, ◌&&◌, ℕ, Bool, false, not, List, [], ◌∷◌, Result, Ok, Err, if◌then◌else◌}
+use Rattle.std.specs.Prelude.{◌==◌, ◌&&◌, ℕ, Bool, false, not, List, [], ◌∷◌, Option, Some, None, Result, Ok, Err}
+use Rattle.std.specs.Prelude.{if◌then◌else◌}
+use Rattle.ls_answers.specs.Answers as answers
 use Rattle.std.specs.List.{list_all}
 use Rattle.std.specs.Option.{option_map_or}
 use denote.Ref.{Bor}
@@ -32,11 +34,14 @@ call_at item = if is_call item.1 then Ok item.1 else Err (faults.BadOrder item.0
 abbrev pub order_of : Text → Result (List Text) OrderFault
 order_of text = each call_at (items 0 text)
 
+-- what a fault says of an order; "out of memory" says nothing
+abbrev pub meant : OrderFault → Option OrderFault
+meant faults.Memory = None
+meant f = Some f
+
 -- seen by `view`, the answer is what the definition says, or memory ran out
 abbrev pub Fails : {Y : Type 0} → OrderFault → Result Y OrderFault → Type 0
-Fails faults.Memory said = Unit {0}
-Fails e said = said ≡ Err e
+Fails f said = answers.Refuses (meant f) said
 
 abbrev pub Gives : {X Y : Type 0} → (X → Y) → Result X OrderFault → Result Y OrderFault → Type 0
-Gives view (Ok x) said = said ≡ Ok (view x)
-Gives view (Err e) said = Fails e said
+Gives view result said = answers.Gives meant view result said

@@ -37,7 +37,8 @@ fn judge_calls(
     order: &[&SetCall],
 ) -> Result<Verdict, AllocError>
     requires { calls.now ≡ set_calls (map plain_event events.now) }
-    ensures { IfOk result (λ v. plain_verdict v ≡ judgement_of_calls (map plain_event events.now) (map plain_call order.now)) }
+    ensures { IfOk result
+        (λ v. plain_verdict v ≡ judgement_of_calls (map plain_event events.now) (map plain_call order.now)) }
 {
     if let Some(call) = first_repeated(alloc, order)? {
         return broken(alloc, events, Rule::Repeated, call);
@@ -80,7 +81,7 @@ fn judged(alloc: Global, history: &History<'_>, order: &Order<'_>) -> Result<Ver
     }
     let calls = set_calls(alloc, events)?;
     let names = names_of(alloc, events, calls.as_slice())?;
-    match calls_of(alloc, &names, order.calls())? {
+    match calls_of(alloc, &names, calls.as_slice(), order.calls())? {
         Named::Unknown(call) => Ok(Verdict::Broken {
             rule: Rule::UnknownCall,
             call,

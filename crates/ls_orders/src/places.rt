@@ -13,7 +13,8 @@ pub fn is_marked(marks: &[bool], place: usize) -> bool
 }
 
 fn fill(marks: &mut Vec<bool>, place: usize) -> Result<(), AllocError>
-    ensures { OnOk result ((place < length marks.new.items) × ((k : ℕ) → is_marked marks.new.items k ≡ is_marked marks.old.items k)) }
+    ensures { OnOk result ((place < length marks.new.items) ×
+        ((k : ℕ) → is_marked marks.new.items k ≡ is_marked marks.old.items k)) }
 {
     'marks: while marks.len() <= place {
         marks.push(false)?;

@@ -11,15 +11,10 @@ ghost use Rattle.ls_orders.specs.Orders.{call_at, Gives, is_call, is_number, ord
 use crate::fault::OrderFault;
 use crate::order::Order;
 use ls_items::item_len;
+use ls_lexer::characters::is_digit;
 use ls_lexer::names::is_name;
 use ls_report::cuts::cut;
 use std::alloc::Global;
-
-fn is_digit(b: u8) -> bool
-    ensures { result ≡ is_digit b }
-{
-    b >= b'0' && b <= b'9'
-}
 
 fn are_digits(text: &[u8]) -> bool
     ensures { result ≡ list_all is_digit text.now }

@@ -60,7 +60,8 @@ fn differs(end: End, wanted: bool) -> bool
 
 /// The places of the calls.
 fn places_of(alloc: Global, order: &[&SetCall]) -> Result<Vec<bool>, AllocError>
-    ensures { IfOk result (λ places. (k : ℕ) → is_marked places.items k ≡ list_any (λ y. y.called == k) (map plain_call order.now)) }
+    ensures { IfOk result (λ places. (k : ℕ) →
+        is_marked places.items k ≡ list_any (λ y. y.called == k) (map plain_call order.now)) }
 {
     let mut places = Vec::new(alloc);
     for call in order {

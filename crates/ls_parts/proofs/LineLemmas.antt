@@ -1,5 +1,6 @@
 -- The lines of a text, one after the other.
-use Rattle.std.proofs.Common.{◌≡◌, ◌∙◌, ◌+◌, ◌<◌, ◌==◌, ℕ, suc, Bool, true, false, cond, eqb, List, [], ◌∷◌, length, take, drop, refl, sym, ap, arith}
+use Rattle.std.proofs.Common.{◌≡◌, ◌∙◌, ◌+◌, ◌<◌, ◌==◌, ℕ, suc, Bool, true, false, cond, eqb, List, [], ◌∷◌, length}
+use Rattle.std.proofs.Common.{take, drop, refl, sym, ap, arith}
 use Rattle.std.specs.List.{position_or_len}
 use Rattle.ls_parts.specs.Parts.{lines_of, onto_first}
 
@@ -19,11 +20,15 @@ one_line (b ∷ bs) e = go (b == 10) refl (one_line bs)
         ap (λ t. cond t ([] ∷ lines_of bs) (onto_first b (lines_of bs))) g ∙ ap (onto_first b) (next (omega arith))
 
 -- a text with a line feed: the first line and the others
-pub first_line : (bs : List ℕ) → feed bs < length bs → lines_of bs ≡ take (feed bs) bs ∷ lines_of (drop (feed bs + 1) bs)
+pub first_line : (bs : List ℕ) →
+    feed bs < length bs →
+    lines_of bs ≡ take (feed bs) bs ∷ lines_of (drop (feed bs + 1) bs)
 first_line [] e = absurd (omega arith)
 first_line (b ∷ bs) e = go (b == 10) refl (first_line bs)
   where
-    go : (t : Bool) → (b == 10) ≡ t → (feed bs < length bs → lines_of bs ≡ take (feed bs) bs ∷ lines_of (drop (feed bs + 1) bs))
+    go : (t : Bool) →
+        (b == 10) ≡ t →
+        (feed bs < length bs → lines_of bs ≡ take (feed bs) bs ∷ lines_of (drop (feed bs + 1) bs))
         → lines_of (b ∷ bs) ≡ take (feed (b ∷ bs)) (b ∷ bs) ∷ lines_of (drop (feed (b ∷ bs) + 1) (b ∷ bs))
     go true g next =
         let none : feed (b ∷ bs) ≡ 0 = rw g refl in

@@ -1,8 +1,8 @@
 // The parts of an input.
 
-ghost use Rattle.std.specs.Prelude.{◌≡◌, ◌++◌, ◌∷◌, ℕ, IfNone, IfOk, IfSome, List, [], false, map, option_map, string_bytes, true, unwrap_or};
-ghost use Rattle.ls_parts.specs.Cutting.{open_with};
-ghost use Rattle.ls_parts.specs.Parts.{groups_of, grown, is_text, parts_of};
+ghost use Rattle.std.specs.Prelude.{◌≡◌, IfNone, IfOk, IfSome, false, map, true};
+ghost use Rattle.ls_parts.specs.Cutting.{plain_text};
+ghost use Rattle.ls_parts.specs.Parts.{is_text, parts_of};
 
 use std::alloc::{AllocError, Global};
 
@@ -17,58 +17,30 @@ pub fn text_of(bytes: &[u8]) -> Option<&str>
     }
 }
 
-/// The part with one line more. The only refusal is that memory ran out.
-fn with_line(alloc: Global, part: Option<String>, line: &str) -> Result<String, AllocError>
-    ensures { IfOk result (λ text. string_bytes text ≡ grown (option_map string_bytes part) line.now) }
-{
-    match part {
-        None => String::from_str(alloc, line),
-        Some(mut text) => {
-            text.push_str("\n")?;
-            text.push_str(line)?;
-            Ok(text)
-        }
-    }
-}
-
-fn closed(alloc: Global, part: Option<String>) -> String
-    ensures { string_bytes result ≡ unwrap_or (option_map string_bytes part) [] }
-{
-    match part {
-        None => String::new(alloc),
-        Some(text) => text,
-    }
-}
-
-/// The open part after one line more. A line that is exactly `%%` closes it.
-fn cut(
-    alloc: Global,
-    parts: &mut Vec<String>,
-    part: Option<String>,
-    line: &str,
-) -> Result<Option<String>, AllocError>
-    ensures { IfOk result (λ next. (ls : List (List ℕ)) → map string_bytes parts.new.items ++ open_with (option_map string_bytes next) (groups_of ls)
-        ≡ map string_bytes parts.old.items ++ open_with (option_map string_bytes part) (groups_of (line.now ∷ ls))) }
-{
-    if line == "%%" {
-        parts.push(closed(alloc, part))?;
-        return Ok(None);
-    }
-    Ok(Some(with_line(alloc, part, line)?))
-}
-
-/// The parts of the text, cut at the lines that are exactly `%%`. The only refusal is that memory ran out.
-pub fn parts_of(alloc: Global, text: &str) -> Result<Vec<String>, AllocError>
-    ensures { IfOk result (λ parts. map string_bytes parts.items ≡ parts_of text.now) }
+/// The parts of the text, cut at the lines that are exactly `%%`. A part is a place in the text, so it has no memory of
+/// its own. The only refusal is that memory ran out.
+pub fn parts_of<'a>(alloc: Global, text: &'a str) -> Result<Vec<&'a str>, AllocError>
+    ensures { IfOk result (λ parts. map plain_text parts.items ≡ parts_of text.now) }
 {
     let mut parts = Vec::new(alloc);
-    let mut part: Option<String> = None;
+    // The text from where the open part begins, and how far that part goes so far.
+    let mut part = text;
+    let mut len = 0;
     let mut rest = text;
     while let Some((line, after)) = rest.split_once('\n') {
-        part = cut(alloc, &mut parts, part, line)?;
+        if line == "%%" {
+            parts.push(part.split_at(len).0)?;
+            part = after;
+            len = 0;
+        } else {
+            len = part.len() - after.len() - 1;
+        }
         rest = after;
     }
-    let last = cut(alloc, &mut parts, part, rest)?;
-    parts.push(closed(alloc, last))?;
+    if rest == "%%" {
+        parts.push(part.split_at(len).0)?;
+        part = "";
+    }
+    parts.push(part)?;
     Ok(parts)
 }

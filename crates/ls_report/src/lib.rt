@@ -13,6 +13,7 @@ mod reading;
 
 pub use fault::HistoryFault;
 pub use history::{History, NamedEvent, Occurrence};
+pub use line_reading::number_in;
 pub use lines::kind_name;
 pub use printing::{object_name, print_history, push_words};
 pub use reading::read_history;

@@ -1,6 +1,7 @@
 // Taking the lines of a history apart.
 
-ghost use Rattle.std.specs.Prelude.{◌≡◌, ◌<◌, ◌≤◌, ◌+◌, ◌/◌, ◌^◌, ℕ, ℤ, FitsSigned, List, Some, true, IfOk, IfSome, length as list_length, option_map};
+ghost use Rattle.std.specs.Prelude.{◌≡◌, ◌<◌, ◌≤◌, ◌+◌, ◌/◌, ◌^◌, ℕ, ℤ, FitsSigned, List, Some, true, IfOk, IfSome};
+ghost use Rattle.std.specs.Prelude.{length as list_length, option_map};
 ghost use Rattle.std.specs.Fmt.{decimal, signed_decimal};
 ghost use Rattle.std.specs.Int.{w32};
 ghost use Rattle.std.specs.List.{list_all};
@@ -174,7 +175,7 @@ fn is_plain_int(text: &[u8]) -> bool
 }
 
 /// The number that is printed as this text, or none.
-fn number_in(text: &str) -> Option<usize>
+pub fn number_in(text: &str) -> Option<usize>
     ensures reads { (n : ℕ) → n < 2 ^ 64 → text.now ≡ decimal n → result ≡ Some n }
     ensures exact { IfSome result (λ n. text.now ≡ decimal n) }
 {
@@ -279,7 +280,9 @@ fn made_in<'a>(
 ) -> Result<Option<Occurrence<'a>>, AllocError>
     ensures reads { (vs : List ghost_Value) → list_all is_shown vs ≡ true → arguments.now ≡ arguments_text vs
         → IfOk result (λ r. option_map plain_occurrence r ≡ Some (Made object.now class.now vs)) }
-    ensures exact { IfOk result (λ r. IfSome r (λ o. parts_text (Making object.now class.now arguments.now) ≡ occurrence_text (plain_occurrence o))) }
+    ensures exact { IfOk result
+        (λ r. IfSome r (λ o. parts_text (Making object.now class.now arguments.now) ≡
+        occurrence_text (plain_occurrence o))) }
 {
     let Some(arguments) = values_in(alloc, arguments)? else {
         return Ok(None);
@@ -300,7 +303,9 @@ fn called_in<'a>(
 ) -> Result<Option<Occurrence<'a>>, AllocError>
     ensures reads { (vs : List ghost_Value) → list_all is_shown vs ≡ true → arguments.now ≡ arguments_text vs
         → IfOk result (λ r. option_map plain_occurrence r ≡ Some (Called object.now method.now vs)) }
-    ensures exact { IfOk result (λ r. IfSome r (λ o. parts_text (Calling object.now method.now arguments.now) ≡ occurrence_text (plain_occurrence o))) }
+    ensures exact { IfOk result
+        (λ r. IfSome r (λ o. parts_text (Calling object.now method.now arguments.now) ≡
+        occurrence_text (plain_occurrence o))) }
 {
     let Some(arguments) = values_in(alloc, arguments)? else {
         return Ok(None);

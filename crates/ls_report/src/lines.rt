@@ -77,7 +77,8 @@ pub(crate) fn push_made(
     class: &str,
     arguments: &[Value],
 ) -> Result<(), AllocError>
-    ensures { OnOk result (string_bytes out.new ≡ string_bytes out.old ++ occurrence_text (Made object.now class.now arguments.now)) }
+    ensures { OnOk result (string_bytes out.new ≡ string_bytes out.old ++
+        occurrence_text (Made object.now class.now arguments.now)) }
 {
     out.push_str("call ")?;
     out.push_str(object)?;
@@ -95,7 +96,8 @@ pub(crate) fn push_called(
     method: &str,
     arguments: &[Value],
 ) -> Result<(), AllocError>
-    ensures { OnOk result (string_bytes out.new ≡ string_bytes out.old ++ occurrence_text (Called object.now method.now arguments.now)) }
+    ensures { OnOk result (string_bytes out.new ≡ string_bytes out.old ++
+        occurrence_text (Called object.now method.now arguments.now)) }
 {
     out.push_str("call ")?;
     out.push_str(object)?;
@@ -128,7 +130,8 @@ pub(crate) fn push_trapped(out: &mut String, kind: Kind) -> Result<(), AllocErro
 }
 
 fn push_occurrence(out: &mut String, occurrence: &Occurrence<'_>) -> Result<(), AllocError>
-    ensures { OnOk result (string_bytes out.new ≡ string_bytes out.old ++ occurrence_text (plain_occurrence occurrence.now)) }
+    ensures { OnOk result (string_bytes out.new ≡ string_bytes out.old ++
+        occurrence_text (plain_occurrence occurrence.now)) }
 {
     match occurrence {
         Occurrence::Made {

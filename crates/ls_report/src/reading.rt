@@ -1,6 +1,7 @@
 // Reading a history.
 
-ghost use Rattle.std.specs.Prelude.{◌≡◌, ◌<◌, ◌≤◌, ◌^◌, List, true, length as list_length, map, IfErr, IfNone, IfOk, IfSome};
+ghost use Rattle.std.specs.Prelude.{◌≡◌, ◌<◌, ◌≤◌, ◌^◌, List, true, length as list_length, map, IfErr, IfNone, IfOk};
+ghost use Rattle.std.specs.Prelude.{IfSome};
 ghost use Rattle.ls_report.specs.Discipline.{is_history, is_next};
 ghost use Rattle.ls_report.specs.Events.{Event};
 ghost use Rattle.ls_report.specs.Front.{IsIndexed};
@@ -37,12 +38,9 @@ fn next_in<'a>(
     Ok(Some(event))
 }
 
-/// How many events the text may have. Each has a line of at least eleven bytes, as `A.1 return`.
-fn most_events(text: &str) -> usize
-    ensures { result ≤ list_length text.now }
-{
-    let feeds = text.as_bytes().iter().filter(|b| **b == b'\n').count();
-    feeds.min(text.len() / 11)
+/// Room for the events of most texts of this length. Most lines have 20 bytes or more.
+fn usual_events(text: &str) -> usize {
+    text.len() / 20
 }
 
 fn read_events(
@@ -55,7 +53,7 @@ fn read_events(
     ensures found { IfOk result (λ events. Says text.now (map plain_event events.items)) }
     ensures fault { IfErr result (Explains text.now) }
 {
-    let mut front = Front::with_room(alloc, most_events(text))?;
+    let mut front = Front::with_room(alloc, usual_events(text))?;
     let mut rest = text;
     while let Some((line, after)) = cut(rest, '\n') {
         let at = length - rest.len();

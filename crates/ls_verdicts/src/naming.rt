@@ -66,7 +66,8 @@ fn occurrence_of<'a>(
     call: &'a ProgramCall,
     happening: Happening,
 ) -> Result<Occurrence<'a>, AllocError>
-    ensures { IfOk result (λ o. plain_occurrence o ≡ occurrence_of (plain_program program.now) (plain_call call.now) happening) }
+    ensures { IfOk result (λ o. plain_occurrence o ≡ occurrence_of (plain_program program.now) (plain_call call.now)
+        happening) }
 {
     match happening {
         Happening::Called => called(alloc, program, call),
@@ -83,7 +84,8 @@ fn event_of<'a>(
     event: Event,
     call: &'a ProgramCall,
 ) -> Result<NamedEvent<'a>, AllocError>
-    ensures { IfOk result (λ e. plain_event e ≡ event_of (plain_program program.now) (plain_thread thread.now) event (plain_call call.now)) }
+    ensures { IfOk result (λ e. plain_event e ≡ event_of (plain_program program.now) (plain_thread thread.now) event
+        (plain_call call.now)) }
 {
     let occurrence = occurrence_of(alloc, program, call, event.happening)?;
     Ok(NamedEvent {
@@ -130,7 +132,8 @@ pub(crate) fn named_events<'a>(
     history: &[Event],
     program: &'a Program,
 ) -> Result<Vec<NamedEvent<'a>>, AllocError>
-    ensures { IfOk result (λ events. map plain_event events.items ≡ filter_map (named (plain_program program.now)) history.now) }
+    ensures { IfOk result (λ events. map plain_event events.items ≡
+        filter_map (named (plain_program program.now)) history.now) }
 {
     let mut events = Vec::with_capacity(alloc, history.len())?;
     for event in history {
