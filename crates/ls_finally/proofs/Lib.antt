@@ -6,5 +6,7 @@ pub mod Replaced
 pub mod Copies
 pub mod Fitting
 pub mod Flats
+pub mod Kept
+pub mod InPlace
 pub mod Calls
 pub mod Methods

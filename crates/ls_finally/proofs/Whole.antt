@@ -1,19 +1,15 @@
 -- The methods of a file.
 use Rattle.ls_lowered.specs.Limits.{most_locals}
-use Rattle.std.proofs.Common.{◌≡◌, ℕ, ◌+◌, ◌<◌, ◌≤◌, length, take, map, refl, sym, ap, ◌∙◌, subst, arith, Result, Ok}
-use Rattle.std.proofs.Common.{Err, List, [], ◌∷◌, ◌++◌}
+use Rattle.std.proofs.Common.{◌≡◌, ℕ, ◌<◌, ◌≤◌, length, map, refl, sym, subst, arith, Result, Ok, Err, List}
 use Rattle.std.specs.Prelude.{All, slice_index_or, IfErr}
-use Rattle.std.proofs.lemmas.List.{take_all}
 use Rattle.std.proofs.lemmas.List.Elements.{All-map}
-use Rattle.std.proofs.lemmas.Simd.{map-map}
 use Rattle.ls_lowered.specs.declared.tree.Method.{Method}
 use Rattle.ls_lowered.specs.declared.fault.LowerFault.{LowerFault}
 use Rattle.ls_lowered.specs.declared.fault.LowerFault.TheVariants.{Memory, TooManyLocals, TooManyCopies}
 use Rattle.ls_lowered.specs.Plain.{plain_method}
-use Rattle.ls_finally.specs.Flat.{flat_method, flat_file}
 use Rattle.ls_finally.specs.Code.{TooMany}
 use Rattle.ls_finally.specs.Counts.{locals_of, copies_of, FewLocals, FewCopies, Refused}
-use Rattle.ls_lowered.proofs.Taken.{all_of_map, mapped_more}
+use Rattle.ls_lowered.proofs.Taken.{all_of_map}
 
 -- the methods that the code sees and those of the file
 pub few_locals : (methods items : List Method) →
@@ -51,15 +47,6 @@ too_many methods i m l e big = λ h.
     let few : copies_of (plain_method m) ≤ 4096 = subst (λ x. copies_of (plain_method x) ≤ 4096) (sym e) (all i m l) in
     omega (arith, few, big)
 
--- if the locals fit, memory may still run out
-pub wants_memory : {A : Type 0} (methods : List Method) (r : Result A LowerFault) →
-    All (λ m. locals_of (plain_method m) ≤ most_locals) methods →
-    IfErr r (λ e. e ≡ Memory) →
-    IfErr r (Refused (map plain_method methods))
-wants_memory methods (Ok x) fits e = tt
-wants_memory methods (Err e) fits is = subst (λ z. Refused (map plain_method methods) z) (sym is)
-    (few_locals methods methods refl fits)
-
 -- a method is refused
 one_refused : (methods : List Method) (i : ℕ) (m : Method) (e : LowerFault) →
     i < length methods →
@@ -78,21 +65,3 @@ pub passes_on : {A : Type 0} (methods : List Method) (i : ℕ) (m : Method) (r :
     IfErr r (λ e. TooMany e (copies_of (plain_method m))) → IfErr r (Refused (map plain_method methods))
 passes_on methods i m (Ok x) l is fits h = tt
 passes_on methods i m (Err e) l is fits h = one_refused methods i m e l is fits h
-
--- all methods are lowered
-pub all_lowered_so : (file : List Method) (methods : List Method) (i : ℕ) → length methods ≤ i →
-    map plain_method file ≡ map (λ m. flat_method (plain_method m)) (take i methods) →
-    map plain_method file ≡ flat_file (map plain_method methods)
-all_lowered_so file methods i l h =
-    h ∙ ap (map (λ m. flat_method (plain_method m))) (take_all i methods l) ∙
-    sym (map-map flat_method plain_method methods)
-
--- one method more
-pub one_lowered_more : (old new : List Method) (x : Method) (methods : List Method) (i : ℕ) (m : Method) →
-    i < length methods →
-    m ≡ slice_index_or methods i m →
-    new ≡ old ++ x ∷ [] → plain_method x ≡ flat_method (plain_method m) →
-    map plain_method old ≡ map (λ m. flat_method (plain_method m)) (take i methods) →
-    map plain_method new ≡ map (λ m. flat_method (plain_method m)) (take (i + 1) methods)
-one_lowered_more old new x methods i m l e pushed is h = mapped_more plain_method (λ m. flat_method (plain_method m))
-    old new x methods i m l e pushed is h

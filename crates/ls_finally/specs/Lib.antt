@@ -5,3 +5,4 @@ pub mod Counts
 pub mod Code
 pub mod Laws
 pub mod Cases
+pub mod Stays

@@ -29,7 +29,8 @@ fn more(so_far: usize, count: usize) -> Option<usize>
 #[tactic(auto, using(ls_finally_copies::proofs::Fronts::block_read))]
 fn count_tries(s: &Statement, so_far: usize) -> Option<usize>
     requires { so_far ≤ most_locals }
-    ensures { SomeIff result (so_far + 2 * tries (plain_statement s.now) ≤ most_locals) (so_far + 2 * tries (plain_statement s.now)) }
+    ensures { SomeIff result (so_far + 2 * tries (plain_statement s.now) ≤ most_locals)
+        (so_far + 2 * tries (plain_statement s.now)) }
 {
     match s {
         Statement::Block(statements) => count_in_block(statements, so_far),
@@ -56,7 +57,8 @@ fn count_tries(s: &Statement, so_far: usize) -> Option<usize>
 #[cycle(statements)]
 fn count_in_block(statements: &[Statement], so_far: usize) -> Option<usize>
     requires { so_far ≤ most_locals }
-    ensures { SomeIff result (so_far + 2 * all_tries (statements_of statements.now) ≤ most_locals) (so_far + 2 * all_tries (statements_of statements.now)) }
+    ensures { SomeIff result (so_far + 2 * all_tries (statements_of statements.now) ≤ most_locals)
+        (so_far + 2 * all_tries (statements_of statements.now)) }
 {
     let mut count = so_far;
     for s in statements {

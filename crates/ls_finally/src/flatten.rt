@@ -10,6 +10,7 @@ ghost use Rattle.ls_finally.specs.Flat.{tries, all_tries, flat, all_flat};
 ghost use Rattle.ls_finally.specs.Counts.{copies, all_copies};
 ghost use Rattle.ls_finally.specs.Code.{Fits};
 
+use crate::stays::is_flat;
 use ls_finally_copies::copy::{block_of, copy_expression, copy_statement, leavable_of};
 use ls_finally_exits::exits::exits_of;
 use ls_finally_exits::replace::by_copies;
@@ -108,9 +109,11 @@ impl Lowering {
     ) -> Result<Vec<Statement>, LowerFault>
         requires room { self.old.free + 2 * all_tries (statements_of statements.now) ≤ most_locals }
         requires few { self.old.count ≤ 4096 }
-        ensures tree { IfOk result (λ v. statements_of v.items ≡ all_flat self.old.free (statements_of statements.now)) }
+        ensures tree { IfOk result (λ v. statements_of v.items ≡
+            all_flat self.old.free (statements_of statements.now)) }
         ensures free { OnOk result (self.new.free ≡ self.old.free + 2 * all_tries (statements_of statements.now)) }
-        ensures count { OnOk result (self.new.count ≡ self.old.count + all_copies self.old.free (statements_of statements.now)) }
+        ensures count { OnOk result
+            (self.new.count ≡ self.old.count + all_copies self.old.free (statements_of statements.now)) }
         ensures few { Fits result (self.old.count + all_copies self.old.free (statements_of statements.now)) }
     {
         let mut out = Vec::new(alloc);
@@ -144,13 +147,24 @@ impl Lowering {
         first: &Statement,
         second: &Statement,
     ) -> Result<(Box<Statement>, Box<Statement>), LowerFault>
-        requires room { self.old.free + 2 * (tries (plain_statement first.now) + tries (plain_statement second.now)) ≤ most_locals }
+        requires room { self.old.free + 2 * (tries (plain_statement first.now) + tries (plain_statement second.now)) ≤
+            most_locals }
         requires few { self.old.count ≤ 4096 }
         ensures first { IfOk result (λ p. plain_statement p.0.value ≡ flat self.old.free (plain_statement first.now)) }
-        ensures second { IfOk result (λ p. plain_statement p.1.value ≡ flat (self.old.free + 2 * tries (plain_statement first.now)) (plain_statement second.now)) }
-        ensures free { OnOk result (self.new.free ≡ self.old.free + 2 * (tries (plain_statement first.now) + tries (plain_statement second.now))) }
-        ensures count { OnOk result (self.new.count ≡ self.old.count + (copies self.old.free (plain_statement first.now) + copies (self.old.free + 2 * tries (plain_statement first.now)) (plain_statement second.now))) }
-        ensures few { Fits result (self.old.count + (copies self.old.free (plain_statement first.now) + copies (self.old.free + 2 * tries (plain_statement first.now)) (plain_statement second.now))) }
+        ensures second { IfOk result (λ p. plain_statement p.1.value ≡
+            flat (self.old.free + 2 * tries (plain_statement first.now)) (plain_statement second.now)) }
+        ensures free { OnOk result
+            (self.new.free ≡
+            self.old.free + 2 * (tries (plain_statement first.now) + tries (plain_statement second.now))) }
+        ensures count { OnOk result
+            (self.new.count ≡
+            self.old.count +
+            (copies self.old.free (plain_statement first.now) + copies
+            (self.old.free + 2 * tries (plain_statement first.now)) (plain_statement second.now))) }
+        ensures few { Fits result
+            (self.old.count +
+            (copies self.old.free (plain_statement first.now) + copies
+            (self.old.free + 2 * tries (plain_statement first.now)) (plain_statement second.now))) }
     {
         let first = self.flat_part(alloc, first)?;
         beside(first, self.flat_part(alloc, second))
@@ -165,12 +179,19 @@ impl Lowering {
         body: &Statement,
         own: &[Statement],
     ) -> Result<Statement, LowerFault>
-        requires room { self.old.free + 2 * (tries (plain_statement body.now) + all_tries (statements_of own.now)) ≤ most_locals }
+        requires room { self.old.free + 2 * (tries (plain_statement body.now) + all_tries (statements_of own.now)) ≤
+            most_locals }
         requires few { self.old.count ≤ 4096 }
-        ensures tree { IfOk result (λ t. plain_statement t ≡ flat self.old.free (Leavable (plain_statement body.now) (statements_of own.now))) }
-        ensures free { OnOk result (self.new.free ≡ self.old.free + 2 * (tries (plain_statement body.now) + all_tries (statements_of own.now))) }
-        ensures count { OnOk result (self.new.count ≡ self.old.count + copies self.old.free (Leavable (plain_statement body.now) (statements_of own.now))) }
-        ensures few { Fits result (self.old.count + copies self.old.free (Leavable (plain_statement body.now) (statements_of own.now))) }
+        ensures tree { IfOk result (λ t. plain_statement t ≡
+            flat self.old.free (Leavable (plain_statement body.now) (statements_of own.now))) }
+        ensures free { OnOk result
+            (self.new.free ≡
+            self.old.free + 2 * (tries (plain_statement body.now) + all_tries (statements_of own.now))) }
+        ensures count { OnOk result
+            (self.new.count ≡
+            self.old.count + copies self.old.free (Leavable (plain_statement body.now) (statements_of own.now))) }
+        ensures few { Fits result
+            (self.old.count + copies self.old.free (Leavable (plain_statement body.now) (statements_of own.now))) }
     {
         if own.len() > MOST_COPIES - self.count {
             return Err(LowerFault::TooManyCopies);
@@ -190,13 +211,23 @@ impl Lowering {
         body: &Statement,
         finally: &Statement,
     ) -> Result<Statement, LowerFault>
-        requires room { self.old.free + 2 * (tries (plain_statement body.now) + tries (plain_statement finally.now) + 1) ≤ most_locals }
+        requires room { self.old.free + 2 * (tries (plain_statement body.now) + tries (plain_statement finally.now) + 1)
+            ≤ most_locals }
         requires few { self.old.count ≤ 4096 }
-        ensures tree { IfOk result (λ t. plain_statement t ≡ flat self.old.free (Try (plain_statement body.now) (plain_statement finally.now))) }
-        ensures free { OnOk result (self.new.free ≡ self.old.free + 2 * (tries (plain_statement body.now) + tries (plain_statement finally.now) + 1)) }
-        ensures count { OnOk result (self.new.count ≡ self.old.count + copies self.old.free (Try (plain_statement body.now) (plain_statement finally.now))) }
-        ensures few { Fits result (self.old.count + copies self.old.free (Try (plain_statement body.now) (plain_statement finally.now))) }
+        ensures tree { IfOk result (λ t. plain_statement t ≡
+            flat self.old.free (Try (plain_statement body.now) (plain_statement finally.now))) }
+        ensures free { OnOk result
+            (self.new.free ≡
+            self.old.free + 2 * (tries (plain_statement body.now) + tries (plain_statement finally.now) + 1)) }
+        ensures count { OnOk result
+            (self.new.count ≡
+            self.old.count + copies self.old.free (Try (plain_statement body.now) (plain_statement finally.now))) }
+        ensures few { Fits result
+            (self.old.count + copies self.old.free (Try (plain_statement body.now) (plain_statement finally.now))) }
     {
+        if is_flat(body) && is_flat(finally) {
+            return self.with_copies(alloc, body, finally, 0);
+        }
         let body = self.flatten(alloc, body)?;
         let mut inside = Lowering {
             free: self.free,
@@ -218,9 +249,11 @@ impl Lowering {
     ) -> Result<Statement, LowerFault>
         requires few { within ≤ 4096 }
         requires room { self.old.free ≤ most_locals }
-        ensures tree { IfOk result (λ t. plain_statement t ≡ finally_of self.old.free (plain_statement body.now) (plain_statement finally.now)) }
+        ensures tree { IfOk result (λ t. plain_statement t ≡
+            finally_of self.old.free (plain_statement body.now) (plain_statement finally.now)) }
         ensures free { OnOk result (self.new.free ≡ self.old.free + 2) }
-        ensures count { OnOk result (self.new.count ≡ self.old.count + (2 + length (exits 0 (plain_statement body.now))) * (1 + within)) }
+        ensures count { OnOk result
+            (self.new.count ≡ self.old.count + (2 + length (exits 0 (plain_statement body.now))) * (1 + within)) }
         ensures few { Fits result (self.old.count + (2 + length (exits 0 (plain_statement body.now))) * (1 + within)) }
     {
         let ways = exits_of(alloc, body)?;

@@ -6,3 +6,4 @@ mod counts;
 pub mod files;
 mod flatten;
 pub mod laws;
+mod stays;

@@ -46,7 +46,8 @@ pub fn first_ways(
     finally: &Statement,
     free: usize,
 ) -> Result<Vec<Statement>, AllocError>
-    ensures { IfOk result (λ v. (rest : Statements) → in_front v.items rest ≡ first_ways free (plain_statement finally.now) rest) }
+    ensures { IfOk result (λ v. (rest : Statements) →
+        in_front v.items rest ≡ first_ways free (plain_statement finally.now) rest) }
 {
     let normally = copy_statement(alloc, finally)?;
     let thrown = copied_before(alloc, finally, Statement::Throw(free));

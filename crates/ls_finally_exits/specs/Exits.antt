@@ -1,6 +1,5 @@
 -- `try b finally f` by copies of f, where b and f have no `try` left (JLS 14.20.2). Each exit of b gets its own copy,
--- and
--- none of them lies in the region that is guarded.
+-- and none of them lies in the region that is guarded.
 use Rattle.std.specs.Prelude.{ℕ, zero, suc, ◌+◌, List, [], ◌∷◌, ◌++◌, length, Option, Some, None}
 use Rattle.ls_finally_copies.specs.Ways.{both, guarded, first_ways}
 use Rattle.ls_lowered.specs.LoweredTree.{Statement, Block, SetLocal, SetField, AddField, SetItem, Evaluate, If, While}
@@ -53,8 +52,7 @@ or_leave None n j = Leave n
 or_leave (Some beyond) n j = Leave j
 
 -- a statement inside so many numbers, with each of its exits as a leave of its own, numbered from j on beyond these; a
--- value that
--- is returned is kept in local r
+-- value that is returned is kept in local r
 abbrev mutual
   pub replaced : ℕ → ℕ → ℕ → Statement → Statement
   replaced r l j (Block ss) = Block (all_replaced r l j ss)
@@ -88,8 +86,7 @@ ways r f [] = Done
 ways r f (x ∷ xs) = Then (both f (exit_of r x)) (ways r f xs)
 
 -- Locals k and k + 1 keep the kind of a throw and a value that is returned while f runs. Exit 0 is where b completes
--- normally,
--- exit 1 where it throws, and the others are the exits of b.
+-- normally, exit 1 where it throws, and the others are the exits of b.
 abbrev pub finally_of : ℕ → Statement → Statement → Statement
 finally_of k b f =
     Leavable (guarded k (replaced (k + 1) 0 2 b)) (first_ways k f (ways (k + 1) f (exits 0 b)))

@@ -38,7 +38,8 @@ fn put_numbers(s: &Statement, out: &mut Vec<u8>) -> Result<(), AllocError>
 
 #[cycle(statements)]
 fn put_leavable(body: &Statement, own: &[Statement], out: &mut Vec<u8>) -> Result<(), AllocError>
-    ensures { OnOk result (vec_len out.new ≡ vec_len out.old + numbers (Leavable (plain_statement body.now) (statements_of own.now))) }
+    ensures { OnOk result
+        (vec_len out.new ≡ vec_len out.old + numbers (Leavable (plain_statement body.now) (statements_of own.now))) }
 {
     put_own(own, out)?;
     put_numbers(body, out)?;
@@ -67,8 +68,8 @@ fn put_own(own: &[Statement], out: &mut Vec<u8>) -> Result<(), AllocError>
     Ok(())
 }
 
-/// How many numbers the leavable statements in a statement have. A byte stands for each while they are counted, so memory
-/// ends before machine words do.
+/// How many numbers the leavable statements in a statement have. A byte stands for each while they are counted, so
+/// memory ends before machine words do.
 pub fn count_numbers(alloc: Global, s: &Statement) -> Result<usize, AllocError>
     ensures count { IfOk result (λ n. n ≡ numbers (plain_statement s.now)) }
     ensures low { OnOk result (numbers (plain_statement s.now) < 2 ^ 63) }

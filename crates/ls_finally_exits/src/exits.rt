@@ -50,7 +50,8 @@ pub fn within(inside: usize, own: &[Statement]) -> usize
 #[tactic(auto, using(ls_finally_copies::proofs::Fronts::block_read))]
 pub fn collect_exits(s: &Statement, inside: usize, out: &mut Vec<Exit>) -> Result<(), AllocError>
     requires { inside + numbers (plain_statement s.now) < 2 ^ 63 }
-    ensures { IfOk result (λ _. plain_exits out.new.items ≡ plain_exits out.old.items ++ exits inside (plain_statement s.now)) }
+    ensures { IfOk result (λ _. plain_exits out.new.items ≡ plain_exits out.old.items ++
+        exits inside (plain_statement s.now)) }
 {
     match s {
         Statement::Block(statements) => collect_block(statements, inside, out),
@@ -90,7 +91,8 @@ fn collect_leavable(
     out: &mut Vec<Exit>,
 ) -> Result<(), AllocError>
     requires { inside + numbers (Leavable (plain_statement body.now) (statements_of own.now)) < 2 ^ 63 }
-    ensures { IfOk result (λ _. plain_exits out.new.items ≡ plain_exits out.old.items ++ exits inside (Leavable (plain_statement body.now) (statements_of own.now))) }
+    ensures { IfOk result (λ _. plain_exits out.new.items ≡ plain_exits out.old.items ++
+        exits inside (Leavable (plain_statement body.now) (statements_of own.now))) }
 {
     collect_exits(body, within(inside, own), out)?;
     collect_block(own, inside, out)
@@ -103,7 +105,8 @@ fn collect_block(
     out: &mut Vec<Exit>,
 ) -> Result<(), AllocError>
     requires { inside + all_numbers (statements_of statements.now) < 2 ^ 63 }
-    ensures { IfOk result (λ _. plain_exits out.new.items ≡ plain_exits out.old.items ++ all_exits inside (statements_of statements.now)) }
+    ensures { IfOk result (λ _. plain_exits out.new.items ≡ plain_exits out.old.items ++
+        all_exits inside (statements_of statements.now)) }
 {
     for s in statements {
         collect_exits(s, inside, out)?;

@@ -1,13 +1,14 @@
 // A statement without `try` inside copies of a finally block.
 //
-// A tree can be hundreds of levels high: what isn't recursive is kept out of the recursive functions, whose frames have to be
-// small.
+// A tree can be hundreds of levels high: what isn't recursive is kept out of the recursive functions, whose frames have
+// to be small.
 
 ghost use Rattle.ls_lowered.specs.Limits.{most_locals};
 ghost use Rattle.std.specs.Prelude.{◌≡◌, ℕ, suc, ◌+◌, ◌<◌, ◌≤◌, ◌^◌, ◌++◌, length, IfOk, OnOk};
 ghost use Rattle.ls_lowered.specs.LoweredTree.{Statements, SetLocal, Leavable, Leave};
 ghost use Rattle.ls_lowered.specs.Plain.{plain, plain_statement, statements_of};
-ghost use Rattle.ls_finally_exits.specs.Exits.{count, exits, all_exits, exit_of, replaced, all_replaced, ways, finally_of};
+ghost use Rattle.ls_finally_exits.specs.Exits.{count, exits, all_exits, exit_of, replaced, all_replaced, ways};
+ghost use Rattle.ls_finally_exits.specs.Exits.{finally_of};
 ghost use Rattle.ls_finally_exits.specs.Numbers.{numbers, all_numbers};
 ghost use Rattle.ls_finally_copies.specs.Ways.{both, first_ways};
 ghost use Rattle.ls_finally_exits.specs.PlainExits.{plain_exit, plain_exits};
@@ -42,7 +43,8 @@ fn leave_with(
 ) -> Result<Statement, AllocError>
     requires few { next.old < 10000 }
     requires low { inside < 2 ^ 63 }
-    ensures tree { IfOk result (λ t. plain_statement t ≡ both (SetLocal kept (plain e.now)) (Leave (inside + next.old))) }
+    ensures tree { IfOk result (λ t. plain_statement t ≡
+        both (SetLocal kept (plain e.now)) (Leave (inside + next.old))) }
     ensures next { OnOk result (next.new ≡ next.old + 1) }
 {
     let keep = Statement::SetLocal(kept, copy_expression(alloc, e)?);
@@ -97,11 +99,17 @@ fn replace_in_two(
     kept: usize,
     next: &mut usize,
 ) -> Result<(Box<Statement>, Box<Statement>), AllocError>
-    requires few { next.old + length (exits inside (plain_statement first.now) ++ exits inside (plain_statement second.now)) ≤ 10000 }
+    requires few { next.old + length (exits inside (plain_statement first.now) ++
+        exits inside (plain_statement second.now)) ≤ 10000 }
     requires low { inside + (numbers (plain_statement first.now) + numbers (plain_statement second.now)) < 2 ^ 63 }
-    ensures first { IfOk result (λ p. plain_statement p.0.value ≡ replaced kept inside next.old (plain_statement first.now)) }
-    ensures second { IfOk result (λ p. plain_statement p.1.value ≡ replaced kept inside (next.old + length (exits inside (plain_statement first.now))) (plain_statement second.now)) }
-    ensures next { OnOk result (next.new ≡ next.old + length (exits inside (plain_statement first.now) ++ exits inside (plain_statement second.now))) }
+    ensures first { IfOk result (λ p. plain_statement p.0.value ≡
+        replaced kept inside next.old (plain_statement first.now)) }
+    ensures second { IfOk result (λ p. plain_statement p.1.value ≡
+        replaced kept inside (next.old + length (exits inside (plain_statement first.now)))
+        (plain_statement second.now)) }
+    ensures next { OnOk result
+        (next.new ≡ next.old + length (exits inside (plain_statement first.now) ++
+        exits inside (plain_statement second.now))) }
 {
     let first = replace_in_part(alloc, first, inside, kept, next)?;
     also(first, replace_in_part(alloc, second, inside, kept, next))
@@ -118,10 +126,14 @@ fn replace_in_leavable(
     kept: usize,
     next: &mut usize,
 ) -> Result<Statement, AllocError>
-    requires few { next.old + length (exits (suc (count (statements_of own.now)) + inside) (plain_statement body.now) ++ all_exits inside (statements_of own.now)) ≤ 10000 }
+    requires few { next.old + length (exits (suc (count (statements_of own.now)) + inside) (plain_statement body.now) ++
+        all_exits inside (statements_of own.now)) ≤ 10000 }
     requires low { inside + numbers (Leavable (plain_statement body.now) (statements_of own.now)) < 2 ^ 63 }
-    ensures tree { IfOk result (λ t. plain_statement t ≡ replaced kept inside next.old (Leavable (plain_statement body.now) (statements_of own.now))) }
-    ensures next { OnOk result (next.new ≡ next.old + length (exits (suc (count (statements_of own.now)) + inside) (plain_statement body.now) ++ all_exits inside (statements_of own.now))) }
+    ensures tree { IfOk result (λ t. plain_statement t ≡
+        replaced kept inside next.old (Leavable (plain_statement body.now) (statements_of own.now))) }
+    ensures next { OnOk result
+        (next.new ≡ next.old + length (exits (suc (count (statements_of own.now)) + inside) (plain_statement body.now)
+        ++ all_exits inside (statements_of own.now))) }
 {
     let body = replace_in_part(alloc, body, within(inside, own), kept, next)?;
     let (body, own) = also(body, replace_in_all(alloc, own, inside, kept, next))?;
@@ -139,7 +151,8 @@ fn replace_in_all(
 ) -> Result<Vec<Statement>, AllocError>
     requires few { next.old + length (all_exits inside (statements_of statements.now)) ≤ 10000 }
     requires low { inside + all_numbers (statements_of statements.now) < 2 ^ 63 }
-    ensures tree { IfOk result (λ v. statements_of v.items ≡ all_replaced kept inside next.old (statements_of statements.now)) }
+    ensures tree { IfOk result (λ v. statements_of v.items ≡
+        all_replaced kept inside next.old (statements_of statements.now)) }
     ensures next { OnOk result (next.new ≡ next.old + length (all_exits inside (statements_of statements.now))) }
 {
     let mut out = Vec::new(alloc);
@@ -219,7 +232,9 @@ fn all_ways(
     free: usize,
 ) -> Result<Vec<Statement>, AllocError>
     requires { free ≤ most_locals }
-    ensures { IfOk result (λ v. statements_of v.items ≡ first_ways free (plain_statement finally.now) (ways (free + 1) (plain_statement finally.now) (plain_exits found.now))) }
+    ensures { IfOk result (λ v. statements_of v.items ≡
+        first_ways free (plain_statement finally.now)
+        (ways (free + 1) (plain_statement finally.now) (plain_exits found.now))) }
 {
     let mut out = first_ways(alloc, finally, free)?;
     for exit in found {
@@ -243,7 +258,8 @@ pub fn by_copies(
     requires few { length (exits 0 (plain_statement body.now)) ≤ 4096 }
     requires low { numbers (plain_statement body.now) < 2 ^ 63 }
     requires room { free ≤ most_locals }
-    ensures { IfOk result (λ t. plain_statement t ≡ finally_of free (plain_statement body.now) (plain_statement finally.now)) }
+    ensures { IfOk result (λ t. plain_statement t ≡
+        finally_of free (plain_statement body.now) (plain_statement finally.now)) }
 {
     let mut next = 2;
     let inside = replace_exits(alloc, body, 0, free + 1, &mut next)?;

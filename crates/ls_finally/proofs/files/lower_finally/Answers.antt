@@ -1,4 +1,6 @@
-use Rattle.std.proofs.Common.{rules, ap, ◌≡◌, ◌∙◌, map}
+use Rattle.std.proofs.Common.{rules, ap, ◌≡◌, ◌∙◌, List, length, map}
+use Rattle.std.proofs.lemmas.List.{with_items_is}
+use Rattle.ls_lowered.specs.declared.tree.Method.{Method}
 use Rattle.ls_lowered.specs.LoweredTree as lowered
 use Rattle.ls_lowered.specs.Plain.{plain_method, plain_file}
 use Rattle.ls_lowered.specs.Methods.{invoke}
@@ -16,6 +18,10 @@ returns-then-not-have_few_locals-clause-refused c =
 
 pub returns-clause-asks : goal.returns-clause-asks
 returns-clause-asks c = λ depth m arguments answers takes.
-    let e : map plain_method c.in_ok-methods.methods.items ≡ flat_file (plain_file c.args.tree) = search rules in
-    ap (λ (f : lowered.File). invoke f depth m arguments answers) e ∙
-    keeps (plain_file c.args.tree) c.requires depth m arguments answers takes
+    let v = c.args.tree.methods in
+    let new = c.lower_methods.new.methods in
+    let long : length new ≡ v.len = search rules in
+    let e : map plain_method new ≡ flat_file (plain_file c.args.tree) = search rules in
+    ap (λ (ms : List Method). invoke (map plain_method ms) depth m arguments answers) (with_items_is v new long)
+    ∙ ap (λ (f : lowered.File). invoke f depth m arguments answers) e
+    ∙ keeps (plain_file c.args.tree) c.requires depth m arguments answers takes

@@ -1,8 +1,11 @@
-use Rattle.std.proofs.Common.{◌≡◌, ◌+◌, ◌∷◌, drop, ap, rules, arith, List}
+use Rattle.std.proofs.Common.{◌≡◌, ◌+◌, ◌*◌, ◌∷◌, drop, ap, sym, subst, rules, arith, List}
+use Rattle.std.specs.Prelude.{IfOk, OnOk}
 use Rattle.ls_lowered.specs.declared.tree.Statement.{Statement}
 use Rattle.ls_lowered.specs.LoweredTree.{Leavable}
 use Rattle.ls_lowered.specs.Plain.{plain_statement, statements_of}
 use Rattle.ls_finally.specs.Flat.{tries}
+use Rattle.ls_finally.specs.Code.{Fits}
+use Rattle.ls_finally.proofs.Kept.{no_tries, try_stays, try_copies}
 use Rattle.ls_finally_copies.proofs.Fronts.{left_at, leavable_read}
 use Rattle.ls_finally.proofs.Flattening.{goes_on, one_fits}
 use Rattle.ls_finally_copies.proofs.Weights.{size, size_at}
@@ -79,3 +82,38 @@ flatten-returns-in-Leavable-clause-few t c =
     c.args.s.now c.in-Leavable.body c.in-Leavable.own body own c.deref-in-Leavable.ensures
     c.deref-in-Leavable-2.ensures.value c.in-Leavable.is in
     rw e c.flat_leavable.ensures.few
+
+pub flat_try-returns-then-is_flat-2-clause-tree : goal.flat_try-returns-then-is_flat-2-clause-tree
+flat_try-returns-then-is_flat-2-clause-tree t c =
+    let b = plain_statement c.args.body.now in
+    let f = plain_statement c.args.finally.now in
+    let e = try_stays c.args.self.now.free b f (c.is_flat.ensures c.if-is_flat.true)
+    (c.is_flat-then-is_flat.ensures c.if-is_flat-2.true) in
+    subst (λ z. IfOk c.with_copies.result (λ x. plain_statement x ≡ z)) (sym e) c.with_copies.ensures.tree
+
+pub flat_try-returns-then-is_flat-2-clause-free : goal.flat_try-returns-then-is_flat-2-clause-free
+flat_try-returns-then-is_flat-2-clause-free t c =
+    let k = c.args.self.now.free in
+    let b = plain_statement c.args.body.now in
+    let f = plain_statement c.args.finally.now in
+    let p = no_tries b (c.is_flat.ensures c.if-is_flat.true) in
+    let q = no_tries f (c.is_flat-then-is_flat.ensures c.if-is_flat-2.true) in
+    let e : k + 2 ≡ k + 2 * (tries b + tries f + 1) = omega (arith, p, q) in
+    subst (λ n. OnOk c.with_copies.result (c.with_copies.new.self.free ≡ n)) e c.with_copies.ensures.free
+
+pub flat_try-returns-then-is_flat-2-clause-count : goal.flat_try-returns-then-is_flat-2-clause-count
+flat_try-returns-then-is_flat-2-clause-count t c =
+    let b = plain_statement c.args.body.now in
+    let f = plain_statement c.args.finally.now in
+    let e = try_copies c.args.self.now.free b f (c.is_flat.ensures c.if-is_flat.true)
+    (c.is_flat-then-is_flat.ensures c.if-is_flat-2.true) in
+    subst (λ n. OnOk c.with_copies.result (c.with_copies.new.self.count ≡ c.args.self.now.count + n)) (sym e)
+    c.with_copies.ensures.count
+
+pub flat_try-returns-then-is_flat-2-clause-few : goal.flat_try-returns-then-is_flat-2-clause-few
+flat_try-returns-then-is_flat-2-clause-few t c =
+    let b = plain_statement c.args.body.now in
+    let f = plain_statement c.args.finally.now in
+    let e = try_copies c.args.self.now.free b f (c.is_flat.ensures c.if-is_flat.true)
+    (c.is_flat-then-is_flat.ensures c.if-is_flat-2.true) in
+    subst (λ n. Fits c.with_copies.result (c.args.self.now.count + n)) (sym e) c.with_copies.ensures.few
