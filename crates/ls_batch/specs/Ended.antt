@@ -12,8 +12,7 @@ takes_steps state.Trapped = false
 takes_steps state.Stopped = false
 
 -- none of the threads 1, 2, .., of which there are so many, takes steps: each has ended or trapped, or hasn't started,
--- or the machine has
--- stopped
+-- or the machine has stopped
 abbrev pub IsOver : Machine → ℕ → Type 0
 IsOver m threads = (t : ℕ) → 0 < t → t ≤ threads → takes_steps (machine_state m t) ≡ false
 

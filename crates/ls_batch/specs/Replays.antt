@@ -6,8 +6,7 @@ use Rattle.ls_batch.specs.Samples.{history_of, seed_schedule, settling}
 use Rattle.ls_batch.specs.declared.samples.Drawing.{Drawing}
 
 -- The setup takes at most 100,000 steps, the machine's history of the seed's schedule is that of its run, and the
--- schedule's
--- steps are of threads that are there.
+-- schedule's steps are of threads that are there.
 pub record Replays (code : Code) (cells seed : ℕ) (d : Drawing) : Type 0 where
   pub few : settling 100000 (loaded code cells) ≤ 100000
   pub history : history_of code cells seed d ≡ machine_history code cells (seed_schedule code cells seed d)

@@ -78,8 +78,10 @@ pub fn batch(
     drawing: Drawing,
 ) -> Result<Tally, BatchFault>
     ensures bad_cells { IsErrOf result BatchFault.BadCells ↔ AreBadCells (code_of_image image.now).names cells }
-    ensures bad_count { IsErrOf result BatchFault.BadCount ↔ (¬ AreBadCells (code_of_image image.now).names cells × IsBadCount first_seed count drawing) }
-    ensures tally { IfOk result (λ tally. IsTally (histories_of (code_of_image image.now) cells first_seed count drawing) first_seed tally) }
+    ensures bad_count { IsErrOf result BatchFault.BadCount ↔ (¬ AreBadCells (code_of_image image.now).names cells ×
+        IsBadCount first_seed count drawing) }
+    ensures tally { IfOk result
+        (λ tally. IsTally (histories_of (code_of_image image.now) cells first_seed count drawing) first_seed tally) }
     ensures image { ∥ RunsAsItsTexts image.now ∥₁ }
 {
     runs(image);

@@ -14,7 +14,8 @@ pub enum BatchFault {
     /// No cells, more than 4,194,304, or fewer than setup names.
     #[error("bad number of cells")]
     BadCells,
-    /// No seeds, more than 100,000, a seed past the greatest `u64`, more than 900,000 steps, or a chance that isn't 1 in 1 to 900,000.
+    /// No seeds, more than 100,000, a seed past the greatest `u64`, more than 900,000 steps, or a chance that isn't 1
+    /// in 1 to 900,000.
     #[error("bad number of seeds or steps")]
     BadCount,
 }

@@ -16,11 +16,12 @@ use rayon::prelude::*;
 use std::alloc::{AllocError, Global};
 use std::thread::Threads;
 
-/// The fewest seeds that are run one after the other on one machine: a machine takes as long to load as some seeds to run.
+/// The fewest seeds that are run one after the other on one machine: a machine takes as long to load as some seeds to
+/// run.
 const LEAST_PART: usize = 16;
 
-/// How many seeds are run one after the other, as a part of all. There are two parts for each processor, since parts differ
-/// in length.
+/// How many seeds are run one after the other, as a part of all. There are two parts for each processor, since parts
+/// differ in length.
 fn seeds_at_once(rt: &impl Threads, count: usize) -> usize
     ensures { 0 < result }
 {
@@ -28,7 +29,8 @@ fn seeds_at_once(rt: &impl Threads, count: usize) -> usize
     count.div_ceil(parts).max(LEAST_PART)
 }
 
-/// The counts of the histories of a part of the seeds. They are run on one machine, and each history is counted before the next run.
+/// The counts of the histories of a part of the seeds. They are run on one machine, and each history is counted before
+/// the next run.
 fn run_part(
     alloc: Global,
     code: &Code,
@@ -61,7 +63,9 @@ fn run_parts(
 ) -> Result<Vec<Result<Counts, AllocError>>, AllocError>
     requires cells { ¬ AreBadCells code.now.names cells }
     requires chance { 0 < drawing.switch }
-    ensures { IfOk result (λ parts. (size : ℕ) × (0 < size) × AllZip (λ group part. IfOk part (AreCounts (runs_of code.now cells drawing group))) (chunks_of size seeds.now) parts.items) }
+    ensures { IfOk result (λ parts. (size : ℕ) × (0 < size) ×
+        AllZip (λ group part. IfOk part (AreCounts (runs_of code.now cells drawing group))) (chunks_of size seeds.now)
+        parts.items) }
 {
     seeds
         .par_chunks(seeds_at_once(rt, seeds.len()))
@@ -78,7 +82,8 @@ fn run_parts(
 
 /// The counts of all parts together, where none was refused memory.
 fn all_counts(alloc: Global, parts: Vec<Result<Counts, AllocError>>) -> Result<Counts, AllocError>
-    ensures { (groups : List (List Run)) → AllZip (λ group part. IfOk part (AreCounts group)) groups parts.items → IfOk result (AreCounts (flat_map (λ group. group) groups)) }
+    ensures { (groups : List (List Run)) → AllZip (λ group part. IfOk part (AreCounts group)) groups parts.items →
+        IfOk result (AreCounts (flat_map (λ group. group) groups)) }
 {
     let mut all = Counts::new(alloc);
     for part in parts {

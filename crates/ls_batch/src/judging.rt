@@ -14,7 +14,8 @@ use std::alloc::{AllocError, Global};
 use std::fmt::Write;
 
 fn push_judged_head(out: &mut String, entry: &Entry, verdict: Verdict) -> Result<(), AllocError>
-    ensures { OnOk result (string_bytes out.new ≡ string_bytes out.old ++ judged_head_text (entry_row entry.now) verdict) }
+    ensures { OnOk result (string_bytes out.new ≡ string_bytes out.old ++
+        judged_head_text (entry_row entry.now) verdict) }
 {
     let seed = entry.seed();
     let count = entry.count();
@@ -32,7 +33,8 @@ fn push_judged(
     program: &Program,
 ) -> Result<(), AllocError>
     requires { history.now ≡ (entry_row entry.now).history }
-    ensures { OnOk result (string_bytes out.new ≡ string_bytes out.old ++ judged_entry_text (plain_program program.now) (entry_row entry.now) verdict) }
+    ensures { OnOk result (string_bytes out.new ≡ string_bytes out.old ++
+        judged_entry_text (plain_program program.now) (entry_row entry.now) verdict) }
 {
     let text = print_history(alloc, history, program)?;
     push_judged_head(out, entry, verdict)?;
@@ -40,8 +42,8 @@ fn push_judged(
     out.push_str("\n")
 }
 
-/// The text of a tally with the verdict on each history: for each a line with its least seed, its count and the verdict's word, its
-/// lines, and an empty line.
+/// The text of a tally with the verdict on each history: for each a line with its least seed, its count and the
+/// verdict's word, its lines, and an empty line.
 pub fn print_judged(alloc: Global, tally: &Tally, program: &Program) -> Result<String, AllocError>
     requires { AreHistoriesOf (plain_program program.now) tally.now }
     ensures { IfOk result (λ text. IsJudged (plain_program program.now) tally.now (string_bytes text)) }

@@ -1,4 +1,5 @@
-//! Samples of schedules by number, their runs in many threads, and the tally of the runs, also with a verdict on each history.
+//! Samples of schedules by number, their runs in many threads, and the tally of the runs, also with a verdict on each
+//! history.
 #![tactic(auto)]
 
 mod batching;

@@ -4,27 +4,8 @@ ghost use Rattle.std.specs.Prelude.{◌≡◌, true};
 ghost use Rattle.ls_code.specs.Machine.{machine_state};
 ghost use Rattle.ls_batch.specs.Ended.{IsOver, takes_steps};
 
-use ls_code::step::{Did, ThreadState};
+use ls_code::step::ThreadState;
 use ls_machine::Machine;
-
-/// Whether a step found nothing to do: its thread is over, hasn't started, or the machine has stopped.
-#[inline]
-fn is_idle(did: Did) -> bool {
-    match did {
-        Did::Idle | Did::Stopped => true,
-        Did::Silent | Did::Acted(_, _) | Did::Waits => false,
-    }
-}
-
-/// How many steps one after the other found nothing to do, after one more. After as many as there are threads the count begins again.
-#[inline]
-pub(crate) fn idle_after(did: Did, idle: usize, threads: usize) -> usize {
-    if is_idle(did) && idle < threads {
-        idle + 1
-    } else {
-        0
-    }
-}
 
 /// Whether the thread takes steps: it has started, and hasn't ended, trapped or stopped.
 #[inline]
@@ -53,10 +34,13 @@ fn is_over(machine: &Machine, threads: usize) -> bool
     true
 }
 
-/// Whether as many steps as there are threads found nothing to do, and none of the threads takes steps.
+/// After how many steps a run looks whether it is over.
+const LOOKS: usize = 64;
+
+/// Whether a run that has taken so many steps before the last looks whether it is over, and is.
 #[inline]
-pub(crate) fn is_done(machine: &Machine, threads: usize, idle: usize) -> bool
+pub(crate) fn is_done(machine: &Machine, threads: usize, taken: usize) -> bool
     ensures { result ≡ true → IsOver machine.now threads }
 {
-    idle == threads && is_over(machine, threads)
+    taken % LOOKS == LOOKS - 1 && is_over(machine, threads)
 }

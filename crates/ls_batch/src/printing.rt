@@ -35,7 +35,8 @@ fn push_entry(
     entry: &Entry,
     program: &Program,
 ) -> Result<(), AllocError>
-    ensures { OnOk result (string_bytes out.new ≡ string_bytes out.old ++ entry_text (plain_program program.now) (entry_row entry.now)) }
+    ensures { OnOk result (string_bytes out.new ≡ string_bytes out.old ++
+        entry_text (plain_program program.now) (entry_row entry.now)) }
 {
     let history = entry.history(alloc)?;
     let text = print_history(alloc, history.as_slice(), program)?;
@@ -54,7 +55,8 @@ fn entries_at_once(rt: &impl Threads, count: usize) -> usize
 
 /// The text of a part of the entries.
 fn print_part(alloc: Global, part: &[Entry], program: &Program) -> Result<String, AllocError>
-    ensures { IfOk result (λ text. string_bytes text ≡ tally_text (plain_program program.now) (map entry_row part.now)) }
+    ensures { IfOk result (λ text. string_bytes text ≡
+        tally_text (plain_program program.now) (map entry_row part.now)) }
 {
     let mut out = String::new(alloc);
     for entry in part {
@@ -70,14 +72,17 @@ fn print_parts(
     entries: &[Entry],
     program: &Program,
 ) -> Result<Vec<Result<String, AllocError>>, AllocError>
-    ensures { IfOk result (λ parts. (size : ℕ) × (0 < size) × AllZip (λ group part. IfOk part (λ text. string_bytes text ≡ tally_text (plain_program program.now) (map entry_row group))) (chunks_of size entries.now) parts.items) }
+    ensures { IfOk result (λ parts. (size : ℕ) × (0 < size) ×
+        AllZip (λ group part. IfOk part (λ text. string_bytes text ≡
+        tally_text (plain_program program.now) (map entry_row group))) (chunks_of size entries.now) parts.items) }
 {
     entries
         .par_chunks(entries_at_once(rt, entries.len()))
         .with_min_len(1)
         .map(
             |part: &[Entry]| -> Result<String, AllocError>
-                ensures { IfOk result (λ text. string_bytes text ≡ tally_text (plain_program program.entry.now) (map entry_row part.now)) }
+                ensures { IfOk result (λ text. string_bytes text ≡
+                    tally_text (plain_program program.entry.now) (map entry_row part.now)) }
             { print_part(alloc, part, program) },
         )
         .collect(rt, alloc)
@@ -85,7 +90,8 @@ fn print_parts(
 
 /// The texts one after another, where none was refused memory.
 fn all_text(alloc: Global, parts: Vec<Result<String, AllocError>>) -> Result<String, AllocError>
-    ensures { (texts : List Text) → AllZip (λ text part. IfOk part (λ said. string_bytes said ≡ text)) texts parts.items → IfOk result (λ all. string_bytes all ≡ flat_map (λ text. text) texts) }
+    ensures { (texts : List Text) → AllZip (λ text part. IfOk part (λ said. string_bytes said ≡ text)) texts parts.items
+        → IfOk result (λ all. string_bytes all ≡ flat_map (λ text. text) texts) }
 {
     let mut out = String::new(alloc);
     for part in parts {
@@ -95,8 +101,8 @@ fn all_text(alloc: Global, parts: Vec<Result<String, AllocError>>) -> Result<Str
     Ok(out)
 }
 
-/// The text of a tally: for each history a line with its least seed and its count, its lines, and an empty line. It is the same
-/// for every number of processors, each of which prints a part.
+/// The text of a tally: for each history a line with its least seed and its count, its lines, and an empty line. It is
+/// the same for every number of processors, each of which prints a part.
 pub fn print_tally(
     rt: &(impl Threads + Sync),
     alloc: Global,

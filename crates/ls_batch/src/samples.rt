@@ -6,7 +6,7 @@ ghost use Rattle.rand_xoshiro.specs.SplitMix64.{mix_u64};
 ghost use Rattle.ls_code.specs.Machine.{machine_run};
 ghost use Rattle.ls_batch.specs.Samples.{next_thread, sample_of};
 
-use crate::over::{idle_after, is_done};
+use crate::over::is_done;
 use ls_events::schedule::Schedule;
 use ls_machine::Machine;
 use rand_core::SeedableRng;
@@ -14,8 +14,8 @@ use rand_core::utils::NextWord;
 use rand_xoshiro::SplitMix64;
 use std::alloc::{AllocError, Global};
 
-/// How samples are drawn: how many steps each has, and by which chance a step's thread is drawn anew, 1 in `switch`. With 1 each
-/// step's thread is.
+/// How samples are drawn: how many steps each has, and by which chance a step's thread is drawn anew, 1 in `switch`.
+/// With 1 each step's thread is.
 #[derive(Copy)]
 pub struct Drawing {
     pub steps: usize,
@@ -49,10 +49,10 @@ fn next_thread(rng: &mut SplitMix64, threads: usize, switch: u64, last: usize) -
     }
 }
 
-/// The sample of a seed: steps of the threads 1, 2, .., of which there are so many. The first step's thread is drawn, and each other's
-/// by chance 1 in `switch`; else the thread of the step before goes on. Each step takes one word of SplitMix64, whose state is the seed:
-/// a thread is drawn where `switch` divides the word, and is one more than the remainder of the quotient by the threads.
-/// Where there are no threads there are no steps.
+/// The sample of a seed: steps of the threads 1, 2, .., of which there are so many. The first step's thread is drawn,
+/// and each other's by chance 1 in `switch`; else the thread of the step before goes on. Each step takes one word of
+/// SplitMix64, whose state is the seed: a thread is drawn where `switch` divides the word, and is one more than the
+/// remainder of the quotient by the threads. Where there are no threads there are no steps.
 #[tactic(auto, using(crate::proofs::Drawn::drawn_all))]
 pub fn sample(
     alloc: Global,
@@ -78,8 +78,8 @@ pub fn sample(
     Ok(Schedule::of(entries))
 }
 
-/// Takes the steps of a seed's sample, until none of the threads takes steps any more: the rest would change nothing. Whether one does is
-/// looked at after as many steps with nothing to do, one after the other, as there are threads. It takes no memory.
+/// Takes the steps of a seed's sample, until none of the threads takes steps any more: the rest would change nothing.
+/// Whether one does is looked at after each 64 steps. It takes no memory.
 #[tactic(auto, using(crate::proofs::Drawn::drawn_run))]
 pub(crate) fn run_sample(machine: &mut Machine, seed: u64, threads: usize, drawing: Drawing)
     requires { 0 < drawing.switch }
@@ -90,12 +90,10 @@ pub(crate) fn run_sample(machine: &mut Machine, seed: u64, threads: usize, drawi
     }
     let mut rng = SplitMix64::seed_from_u64(seed);
     let mut last = 0;
-    let mut idle = 0;
-    for _ in 0..drawing.steps {
+    for taken in 0..drawing.steps {
         last = next_thread(&mut rng, threads, drawing.switch, last);
-        let did = machine.step(last);
-        idle = idle_after(did, idle, threads);
-        if is_done(machine, threads, idle) {
+        machine.take_step(last);
+        if is_done(machine, threads, taken) {
             return;
         }
     }

@@ -54,9 +54,9 @@ fn schedule_of(
     Ok(Schedule::of(all))
 }
 
-/// The schedule of machine instructions that `batch` runs for a seed on so many cells: steps of the setup until it has ended,
-/// trapped or stopped, at most 100,000, then the seed's sample of the other threads, drawn so. The machine's history of it
-/// is that of the seed. It is refused as `batch` is for that one seed.
+/// The schedule of machine instructions that `batch` runs for a seed on so many cells: steps of the setup until it has
+/// ended, trapped or stopped, at most 100,000, then the seed's sample of the other threads, drawn so. The machine's
+/// history of it is that of the seed. It is refused as `batch` is for that one seed.
 pub fn sampled(
     alloc: Global,
     image: &Image,
@@ -65,9 +65,11 @@ pub fn sampled(
     drawing: Drawing,
 ) -> Result<Schedule, BatchFault>
     ensures bad_cells { IsErrOf result BatchFault.BadCells ↔ AreBadCells (code_of_image image.now).names cells }
-    ensures bad_count { IsErrOf result BatchFault.BadCount ↔ (¬ AreBadCells (code_of_image image.now).names cells × IsBadCount seed 1 drawing) }
+    ensures bad_count { IsErrOf result BatchFault.BadCount ↔ (¬ AreBadCells (code_of_image image.now).names cells ×
+        IsBadCount seed 1 drawing) }
     ensures schedule { IfOk result (λ schedule. schedule ≡ seed_schedule (code_of_image image.now) cells seed drawing) }
-    ensures history { IfOk result (λ schedule. machine_history (code_of_image image.now) cells schedule ≡ history_of (code_of_image image.now) cells seed drawing) }
+    ensures history { IfOk result (λ schedule. machine_history (code_of_image image.now) cells schedule ≡
+        history_of (code_of_image image.now) cells seed drawing) }
 {
     seeds_replay();
     let code = image.code();

@@ -51,9 +51,9 @@ impl Machine {
         next
     }
 
-    /// Takes a step of a thread, and doesn't say what it did.
+    /// Takes a step of a thread, and doesn't say what it did. It takes no memory, and always succeeds.
     #[inline(always)]
-    fn take_step(&mut self, number: usize)
+    pub fn take_step(&mut self, number: usize)
         ensures { self.new ≡ (machine_step self.old number).machine }
     {
         if self.moves_silently(number) {
