@@ -10,23 +10,30 @@ use Rattle.ls_command_line.specs.declared.words.Request.TheVariants as request
 abbrev plainly : Request → CommandLine
 plainly r = record { request = r; explain = false }
 
-nine_cells : (p : ValueParser) → request_of p (codes "listset" ∷ codes "replay" ∷ codes "--cells" ∷ codes "9" ∷ []) ≡ Some (plainly (request.Replay 9 false))
+nine_cells : (p : ValueParser) →
+    request_of p (codes "listset" ∷ codes "replay" ∷ codes "--cells" ∷ codes "9" ∷ []) ≡
+    Some (plainly (request.Replay 9 false))
 unfolding clap_on_literals
 nine_cells p = refl
 
-live_turns : (p : ValueParser) → request_of p (codes "listset" ∷ codes "replay" ∷ codes "--live" ∷ []) ≡ Some (plainly (request.Replay 65536 true))
+live_turns : (p : ValueParser) →
+    request_of p (codes "listset" ∷ codes "replay" ∷ codes "--live" ∷ []) ≡ Some (plainly (request.Replay 65536 true))
 unfolding clap_on_literals
 live_turns p = refl
 
-default_limit : (p : ValueParser) → request_of p (codes "listset" ∷ codes "live" ∷ []) ≡ Some (plainly (request.Live 65536 5000))
+default_limit : (p : ValueParser) →
+    request_of p (codes "listset" ∷ codes "live" ∷ []) ≡ Some (plainly (request.Live 65536 5000))
 unfolding clap_on_literals
 default_limit p = refl
 
-a_batch : (p : ValueParser) → request_of p (codes "listset" ∷ codes "batch" ∷ codes "--seed" ∷ codes "7" ∷ codes "--count=3" ∷ codes "--steps" ∷ codes "5" ∷ []) ≡ Some (plainly (request.Batch 7 3 5 1 65536 false))
+a_batch : (p : ValueParser) →
+    request_of p (codes "listset" ∷ codes "batch" ∷ codes "--seed" ∷ codes "7" ∷ codes "--count=3" ∷ codes "--steps" ∷
+    codes "5" ∷ []) ≡ Some (plainly (request.Batch 7 3 5 1 65536 false))
 unfolding clap_on_literals
 a_batch p = refl
 
-no_steps : (p : ValueParser) → request_of p (codes "listset" ∷ codes "batch" ∷ codes "--seed" ∷ codes "7" ∷ codes "--count=3" ∷ []) ≡ None
+no_steps : (p : ValueParser) →
+    request_of p (codes "listset" ∷ codes "batch" ∷ codes "--seed" ∷ codes "7" ∷ codes "--count=3" ∷ []) ≡ None
 unfolding clap_on_literals
 no_steps p = refl
 
@@ -38,11 +45,13 @@ nothing : (p : ValueParser) → request_of p (codes "listset" ∷ []) ≡ None
 unfolding clap_on_literals
 nothing p = refl
 
-twice : (p : ValueParser) → request_of p (codes "listset" ∷ codes "replay" ∷ codes "--cells=9" ∷ codes "--cells=9" ∷ []) ≡ None
+twice : (p : ValueParser) →
+    request_of p (codes "listset" ∷ codes "replay" ∷ codes "--cells=9" ∷ codes "--cells=9" ∷ []) ≡ None
 unfolding clap_on_literals
 twice p = refl
 
-too_large : (p : ValueParser) → request_of p (codes "listset" ∷ codes "live" ∷ codes "--limit" ∷ codes "18446744073709551616" ∷ []) ≡ None
+too_large : (p : ValueParser) →
+    request_of p (codes "listset" ∷ codes "live" ∷ codes "--limit" ∷ codes "18446744073709551616" ∷ []) ≡ None
 unfolding clap_on_literals
 too_large p = refl
 
@@ -50,15 +59,20 @@ help : (p : ValueParser) → request_of p (codes "listset" ∷ codes "--help" �
 unfolding clap_on_literals
 help p = refl
 
-explained : (p : ValueParser) → request_of p (codes "listset" ∷ codes "source" ∷ codes "--explain" ∷ []) ≡ Some (record { request = request.Source; explain = true })
+explained : (p : ValueParser) →
+    request_of p (codes "listset" ∷ codes "source" ∷ codes "--explain" ∷ []) ≡
+    Some (record { request = request.Source; explain = true })
 unfolding clap_on_literals
 explained p = refl
 
-some_steps : (p : ValueParser) → request_of p (codes "listset" ∷ codes "trace" ∷ codes "--from" ∷ codes "12" ∷ []) ≡ Some (plainly (request.Trace 12 1000000 false))
+some_steps : (p : ValueParser) →
+    request_of p (codes "listset" ∷ codes "trace" ∷ codes "--from" ∷ codes "12" ∷ []) ≡
+    Some (plainly (request.Trace 12 1000000 false))
 unfolding clap_on_literals
 some_steps p = refl
 
-a_drawing : (p : ValueParser) → request_of p (codes "listset" ∷ codes "state" ∷ codes "--dot" ∷ []) ≡ Some (plainly (request.State true 1000000))
+a_drawing : (p : ValueParser) →
+    request_of p (codes "listset" ∷ codes "state" ∷ codes "--dot" ∷ []) ≡ Some (plainly (request.State true 1000000))
 unfolding clap_on_literals
 a_drawing p = refl
 
@@ -66,24 +80,34 @@ version : (p : ValueParser) → request_of p (codes "listset" ∷ codes "--versi
 unfolding clap_on_literals
 version p = refl
 
-few_states : (p : ValueParser) → request_of p (codes "listset" ∷ codes "explore" ∷ codes "--states" ∷ codes "12" ∷ []) ≡ Some (plainly (request.Explore 65536 12 false false))
+few_states : (p : ValueParser) →
+    request_of p (codes "listset" ∷ codes "explore" ∷ codes "--states" ∷ codes "12" ∷ []) ≡
+    Some (plainly (request.Explore 65536 12 false false false))
 unfolding clap_on_literals
 few_states p = refl
 
-judged : (p : ValueParser) → request_of p (codes "listset" ∷ codes "batch" ∷ codes "--judge" ∷ codes "--seed=1" ∷ codes "--count=3" ∷ codes "--steps=5" ∷ [])
+judged : (p : ValueParser) →
+    request_of p (codes "listset" ∷ codes "batch" ∷ codes "--judge" ∷ codes "--seed=1" ∷ codes "--count=3" ∷
+    codes "--steps=5" ∷ [])
     ≡ Some (plainly (request.Batch 1 3 5 1 65536 true))
 unfolding clap_on_literals
 judged p = refl
 
-a_sample : (p : ValueParser) → request_of p (codes "listset" ∷ codes "sample" ∷ codes "--seed" ∷ codes "7" ∷ codes "--steps=5" ∷ []) ≡ Some (plainly (request.Sample 7 5 1 65536))
+a_sample : (p : ValueParser) →
+    request_of p (codes "listset" ∷ codes "sample" ∷ codes "--seed" ∷ codes "7" ∷ codes "--steps=5" ∷ []) ≡
+    Some (plainly (request.Sample 7 5 1 65536))
 unfolding clap_on_literals
 a_sample p = refl
 
-rarely : (p : ValueParser) → request_of p (codes "listset" ∷ codes "sample" ∷ codes "--seed" ∷ codes "7" ∷ codes "--steps=5" ∷ codes "--switch" ∷ codes "20" ∷ []) ≡ Some (plainly (request.Sample 7 5 20 65536))
+rarely : (p : ValueParser) →
+    request_of p (codes "listset" ∷ codes "sample" ∷ codes "--seed" ∷ codes "7" ∷ codes "--steps=5" ∷ codes "--switch" ∷
+    codes "20" ∷ []) ≡ Some (plainly (request.Sample 7 5 20 65536))
 unfolding clap_on_literals
 rarely p = refl
 
-rarely_judged : (p : ValueParser) → request_of p (codes "listset" ∷ codes "batch" ∷ codes "--switch=20" ∷ codes "--seed=1" ∷ codes "--count=3" ∷ codes "--steps=5" ∷ codes "--judge" ∷ [])
+rarely_judged : (p : ValueParser) →
+    request_of p (codes "listset" ∷ codes "batch" ∷ codes "--switch=20" ∷ codes "--seed=1" ∷ codes "--count=3" ∷
+    codes "--steps=5" ∷ codes "--judge" ∷ [])
     ≡ Some (plainly (request.Batch 1 3 5 20 65536 true))
 unfolding clap_on_literals
 rarely_judged p = refl
@@ -92,38 +116,58 @@ no_seed : (p : ValueParser) → request_of p (codes "listset" ∷ codes "sample"
 unfolding clap_on_literals
 no_seed p = refl
 
-first_illegal : (p : ValueParser) → request_of p (codes "listset" ∷ codes "explore" ∷ codes "--illegal" ∷ codes "--first" ∷ []) ≡ Some (plainly (request.Explore 65536 1000000 true true))
+first_illegal : (p : ValueParser) →
+    request_of p (codes "listset" ∷ codes "explore" ∷ codes "--illegal" ∷ codes "--first" ∷ []) ≡
+    Some (plainly (request.Explore 65536 1000000 true true false))
 unfolding clap_on_literals
 first_illegal p = refl
+
+with_progress : (p : ValueParser) →
+    request_of p (codes "listset" ∷ codes "explore" ∷ codes "--progress" ∷ codes "--states=70000" ∷ []) ≡
+    Some (plainly (request.Explore 65536 70000 false false true))
+unfolding clap_on_literals
+with_progress p = refl
 
 an_aim : (p : ValueParser) → request_of p (codes "listset" ∷ codes "aim" ∷ []) ≡ Some (plainly request.Aim)
 unfolding clap_on_literals
 an_aim p = refl
 
-a_page : (p : ValueParser) → request_of p (codes "listset" ∷ codes "page" ∷ codes "--to=9" ∷ []) ≡ Some (plainly (request.Page 1 9))
+a_page : (p : ValueParser) →
+    request_of p (codes "listset" ∷ codes "page" ∷ codes "--to=9" ∷ []) ≡ Some (plainly (request.Page 1 9))
 unfolding clap_on_literals
 a_page p = refl
 
-a_fold : (p : ValueParser) → request_of p (codes "listset" ∷ codes "trace" ∷ codes "--fold" ∷ codes "--to=9" ∷ []) ≡ Some (plainly (request.Trace 1 9 true))
+a_fold : (p : ValueParser) →
+    request_of p (codes "listset" ∷ codes "trace" ∷ codes "--fold" ∷ codes "--to=9" ∷ []) ≡
+    Some (plainly (request.Trace 1 9 true))
 unfolding clap_on_literals
 a_fold p = refl
 
-each_state : (p : ValueParser) → request_of p (codes "listset" ∷ codes "state" ∷ codes "--each" ∷ codes "--to" ∷ codes "7" ∷ []) ≡ Some (plainly (request.States false 1 7))
+each_state : (p : ValueParser) →
+    request_of p (codes "listset" ∷ codes "state" ∷ codes "--each" ∷ codes "--to" ∷ codes "7" ∷ []) ≡
+    Some (plainly (request.States false 1 7))
 unfolding clap_on_literals
 each_state p = refl
 
-states_from : (p : ValueParser) → request_of p (codes "listset" ∷ codes "state" ∷ codes "--from" ∷ codes "3" ∷ []) ≡ Some (plainly (request.States false 3 1000000))
+states_from : (p : ValueParser) →
+    request_of p (codes "listset" ∷ codes "state" ∷ codes "--from" ∷ codes "3" ∷ []) ≡
+    Some (plainly (request.States false 3 1000000))
 unfolding clap_on_literals
 states_from p = refl
 
-state_to : (p : ValueParser) → request_of p (codes "listset" ∷ codes "state" ∷ codes "--to" ∷ codes "7" ∷ []) ≡ Some (plainly (request.State false 7))
+state_to : (p : ValueParser) →
+    request_of p (codes "listset" ∷ codes "state" ∷ codes "--to" ∷ codes "7" ∷ []) ≡
+    Some (plainly (request.State false 7))
 unfolding clap_on_literals
 state_to p = refl
 
-a_merge : (p : ValueParser) → request_of p (codes "listset" ∷ codes "merge" ∷ codes "--count=80000" ∷ []) ≡ Some (plainly (request.Merge (Some 80000)))
+a_merge : (p : ValueParser) →
+    request_of p (codes "listset" ∷ codes "merge" ∷ codes "--count=80000" ∷ []) ≡
+    Some (plainly (request.Merge (Some 80000)))
 unfolding clap_on_literals
 a_merge p = refl
 
-any_merge : (p : ValueParser) → request_of p (codes "listset" ∷ codes "merge" ∷ []) ≡ Some (plainly (request.Merge None))
+any_merge : (p : ValueParser) →
+    request_of p (codes "listset" ∷ codes "merge" ∷ []) ≡ Some (plainly (request.Merge None))
 unfolding clap_on_literals
 any_merge p = refl

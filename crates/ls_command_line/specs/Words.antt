@@ -1,8 +1,10 @@
 -- What the command line may be, and what it asks for.
-use Rattle.std.specs.Prelude.{◌≡◌, ◌||◌, ℕ, Bool, true, false, is_some, List, [], ◌∷◌, map, codes, Option, Some, None, Result, Ok, Err, bytes_eq, if◌then◌else◌}
+use Rattle.std.specs.Prelude.{◌≡◌, ◌||◌, ℕ, Bool, true, false, is_some, List, [], ◌∷◌, map, codes, Option, Some, None}
+use Rattle.std.specs.Prelude.{Result, Ok, Err, bytes_eq, if◌then◌else◌}
 use Rattle.std.specs.Option.{option_map_or}
 use Rattle.std.specs.Str.Parse.{digits_value, without_leading_plus}
-use Rattle.clap.specs.Words.{App, Row, Rule, Text, fault_of, first_of, new_app, new_rule, one_of, subcommand_of, with_rule, with_subcommand}
+use Rattle.clap.specs.Words.{App, Row, Rule, Text, fault_of, first_of, new_app, new_rule, one_of, subcommand_of}
+use Rattle.clap.specs.Words.{with_rule, with_subcommand}
 use Rattle.clap.specs.Simple.{on_top}
 use Rattle.clap.specs.ValueTests.{accepts}
 use Rattle.clap.specs.declared.builder.action.ArgAction.TheVariants.{SetTrue}
@@ -66,7 +68,8 @@ trace_line =
     (flag_rule (codes "fold"))
 
 abbrev pub page_line : App
-page_line = with_rule (with_rule (with_explain (codes "page")) (number_rule false (codes "from"))) (number_rule false (codes "to"))
+page_line = with_rule (with_rule (with_explain (codes "page")) (number_rule false (codes "from")))
+    (number_rule false (codes "to"))
 
 abbrev pub state_line : App
 state_line =
@@ -117,10 +120,12 @@ explore_line =
     with_rule
     (with_rule
     (with_rule
+    (with_rule
     (with_rule (with_explain (codes "explore")) cells_rule)
     (number_rule false (codes "states")))
     (flag_rule (codes "illegal")))
-    (flag_rule (codes "first"))
+    (flag_rule (codes "first")))
+    (flag_rule (codes "progress"))
 
 abbrev pub merge_line : App
 merge_line = with_rule (with_explain (codes "merge")) (number_rule false (codes "count"))
@@ -165,7 +170,8 @@ line p =
 -- the number that a text writes, and else the default
 abbrev pub number_or : ℕ → Option Text → ℕ
 number_or default None = default
-number_or default (Some text) = if accepts false u64_parser text then digits_value 10 (without_leading_plus text) else default
+number_or default (Some text) = if accepts false u64_parser text then digits_value 10 (without_leading_plus text)
+    else default
 
 -- the number of the option of this name
 abbrev pub number_of : Text → ℕ → List Row → ℕ
@@ -174,7 +180,8 @@ number_of name default rows = number_or default (one_of name rows)
 -- the number that a text writes, if there is a text
 abbrev pub number_in : Option Text → Option ℕ
 number_in None = None
-number_in (Some text) = if accepts false u64_parser text then Some (digits_value 10 (without_leading_plus text)) else None
+number_in (Some text) = if accepts false u64_parser text then Some (digits_value 10 (without_leading_plus text))
+    else None
 
 abbrev pub number_asked : Text → List Row → Option ℕ
 number_asked name rows = number_in (one_of name rows)
@@ -202,7 +209,8 @@ is_given name rows = is_some (first_of name rows)
 abbrev pub asked_state : List Row → Request
 asked_state rows =
     if flag_of (codes "each") rows || is_given (codes "from") rows
-    then requests.States (flag_of (codes "dot") rows) (number_of (codes "from") 1 rows) (number_of (codes "to") 1000000 rows)
+    then requests.States (flag_of (codes "dot") rows) (number_of (codes "from") 1 rows)
+    (number_of (codes "to") 1000000 rows)
     else requests.State (flag_of (codes "dot") rows) (number_of (codes "to") 1000000 rows)
 
 -- what a command of this name with these options asks for
@@ -213,19 +221,24 @@ asked name rows =
     else (if bytes_eq name (codes "replay") then requests.Replay (cells_of rows) (flag_of (codes "live") rows)
     else (if bytes_eq name (codes "source") then requests.Source
     else (if bytes_eq name (codes "trace")
-    then requests.Trace (number_of (codes "from") 1 rows) (number_of (codes "to") 1000000 rows) (flag_of (codes "fold") rows)
-    else (if bytes_eq name (codes "page") then requests.Page (number_of (codes "from") 1 rows) (number_of (codes "to") 1000000 rows)
+    then requests.Trace (number_of (codes "from") 1 rows) (number_of (codes "to") 1000000 rows)
+    (flag_of (codes "fold") rows)
+    else (if bytes_eq name (codes "page") then requests.Page (number_of (codes "from") 1 rows)
+    (number_of (codes "to") 1000000 rows)
     else (if bytes_eq name (codes "state") then asked_state rows
     else (if bytes_eq name (codes "aim") then requests.Aim
     else (if bytes_eq name (codes "translate") then requests.Translate (side_of rows) (cells_of rows)
     else (if bytes_eq name (codes "live") then requests.Live (cells_of rows) (number_of (codes "limit") 5000 rows)
     else (if bytes_eq name (codes "batch")
-    then requests.Batch (number_of (codes "seed") 0 rows) (number_of (codes "count") 0 rows) (number_of (codes "steps") 0 rows) (switch_of rows) (cells_of rows)
+    then requests.Batch (number_of (codes "seed") 0 rows) (number_of (codes "count") 0 rows)
+    (number_of (codes "steps") 0 rows) (switch_of rows) (cells_of rows)
     (flag_of (codes "judge") rows)
     else (if bytes_eq name (codes "sample")
-    then requests.Sample (number_of (codes "seed") 0 rows) (number_of (codes "steps") 0 rows) (switch_of rows) (cells_of rows)
+    then requests.Sample (number_of (codes "seed") 0 rows) (number_of (codes "steps") 0 rows) (switch_of rows)
+    (cells_of rows)
     else (if bytes_eq name (codes "explore")
-    then requests.Explore (cells_of rows) (number_of (codes "states") 1000000 rows) (flag_of (codes "illegal") rows) (flag_of (codes "first") rows)
+    then requests.Explore (cells_of rows) (number_of (codes "states") 1000000 rows) (flag_of (codes "illegal") rows)
+    (flag_of (codes "first") rows) (flag_of (codes "progress") rows)
     else (if bytes_eq name (codes "merge") then requests.Merge (number_asked (codes "count") rows)
     else requests.Check)))))))))))))
 

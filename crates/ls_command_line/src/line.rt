@@ -3,7 +3,10 @@
 ghost use Rattle.std.specs.Prelude.{◌≡◌, IfOk, codes, false};
 ghost use Rattle.clap.specs.Words.{App, Rule, app_of, rule_of, with_rule, with_subcommand};
 ghost use Rattle.clap.specs.declared.builder.command.Command.TheViews.{out-Command};
-ghost use Rattle.ls_command_line.specs.Words.{NamesSides, batch_line, explore_line, flag_rule, line, live_line, merge_line, number_rule, page_line, replay_line, sample_line, side_rule, state_line, switch_rule, top_line, trace_line, translate_line, u64_parser, with_explain};
+ghost use Rattle.ls_command_line.specs.Words.{NamesSides, batch_line, explore_line, flag_rule, line, live_line};
+ghost use Rattle.ls_command_line.specs.Words.{merge_line, number_rule, page_line, replay_line, sample_line};
+ghost use Rattle.ls_command_line.specs.Words.{side_rule, state_line, switch_rule, top_line, trace_line};
+ghost use Rattle.ls_command_line.specs.Words.{translate_line, u64_parser, with_explain};
 
 use clap::{Arg, ArgAction, Command};
 use std::alloc::{AllocError, Global};
@@ -49,7 +52,8 @@ fn with_option<'a>(
 ) -> Result<Command<'a>, AllocError>
     requires command { IfOk command (λ c. (out-Command c).has_globals ≡ false) }
     requires option { option.global ≡ false }
-    ensures shape { (a : App) (r : Rule) → IfOk command.entry (λ c. app_of c ≡ a) → rule_of option.entry ≡ r → IfOk result (λ c. app_of c ≡ with_rule a r) }
+    ensures shape { (a : App) (r : Rule) → IfOk command.entry (λ c. app_of c ≡ a) → rule_of option.entry ≡ r →
+        IfOk result (λ c. app_of c ≡ with_rule a r) }
     ensures local { IfOk result (λ c. (out-Command c).has_globals ≡ false) }
 {
     command?.arg(option)
@@ -61,7 +65,8 @@ fn with_command<'a>(
     command: Result<Command<'a>, AllocError>,
 ) -> Result<Command<'a>, AllocError>
     requires { IfOk command (λ c. (out-Command c).has_globals ≡ false) }
-    ensures { (a b : App) → IfOk program.entry (λ c. app_of c ≡ a) → IfOk command.entry (λ c. app_of c ≡ b) → IfOk result (λ c. app_of c ≡ with_subcommand a b.top) }
+    ensures { (a b : App) → IfOk program.entry (λ c. app_of c ≡ a) → IfOk command.entry (λ c. app_of c ≡ b) →
+        IfOk result (λ c. app_of c ≡ with_subcommand a b.top) }
 {
     program?.subcommand(command?)
 }
@@ -271,7 +276,13 @@ fn explore_command<'a>(alloc: Global) -> Result<Command<'a>, AllocError>
     );
     let command = with_option(command, illegal);
     let first = flag_option(alloc, "first", "prints only the first of the histories");
-    with_option(command, first)
+    let command = with_option(command, first);
+    let progress = flag_option(
+        alloc,
+        "progress",
+        "tells on standard error of each 65536 states that are kept",
+    );
+    with_option(command, progress)
 }
 
 fn merge_command<'a>(alloc: Global) -> Result<Command<'a>, AllocError>

@@ -2,7 +2,8 @@
 
 ghost use Rattle.std.specs.Prelude.{◌≡◌, codes, map, string_bytes};
 ghost use Rattle.clap.specs.Words.{found_of, rows_of, subcommand_rows_of};
-ghost use Rattle.ls_command_line.specs.Words.{IsWordsAnswer, asked, asked_by, asked_state, flag_of, is_given, named_side, number_asked, number_of, side_of};
+ghost use Rattle.ls_command_line.specs.Words.{IsWordsAnswer, asked, asked_by, asked_state, flag_of, is_given};
+ghost use Rattle.ls_command_line.specs.Words.{named_side, number_asked, number_of, side_of};
 
 use crate::line::program;
 use clap::error::ErrorKind;
@@ -90,6 +91,8 @@ pub enum Request {
         illegal: bool,
         /// Only the first of them.
         first: bool,
+        /// Whether it tells on standard error how many states it keeps.
+        progress: bool,
     },
     /// The number that the counts are to come to, if one is wanted.
     Merge {
@@ -293,6 +296,7 @@ fn asked(name: &str, options: &ArgMatches<'_>) -> Request
             states: number(options, "states", STATES),
             illegal: flag(options, "illegal"),
             first: flag(options, "first"),
+            progress: flag(options, "progress"),
         },
         "merge" => Request::Merge {
             count: number_asked(options, "count"),

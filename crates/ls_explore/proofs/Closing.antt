@@ -1,7 +1,6 @@
 -- A list of paths that is closed, thread by thread and path by path.
-use Rattle.std.proofs.Common.{◌≡◌, ◌⊎◌, inl, inr, ℕ, zero, suc, ◌+◌, ◌<◌, ◌≤◌, List, [], ◌∷◌, ◌++◌, length, map, Some}
-use Rattle.std.proofs.Common.{None, refl, sym, ap, ◌∙◌, subst, arith, slice_get, slice_index_or, length-append, get_or}
-use Rattle.std.proofs.Common.{Vec, Global}
+use Rattle.std.proofs.Common.{◌≡◌, ◌⊎◌, inl, inr, ℕ, zero, suc, ◌+◌, ◌<◌, ◌≤◌, List, [], ◌∷◌, ◌++◌, length, Some}
+use Rattle.std.proofs.Common.{None, refl, sym, ap, ◌∙◌, subst, arith, slice_get, slice_index_or, length-append}
 use Rattle.std.specs.Prelude.{Contains}
 use Rattle.std.proofs.lemmas.Bool.{cases_lt}
 use Rattle.std.proofs.lemmas.List.{map-append, length-map}
@@ -267,29 +266,3 @@ module _ (n threads : ℕ) (root : Machine) where
   pub grows_at : (old new : List (List ℕ)) (i : ℕ) → Grows old new → i < length old → slice_get new i ≡ slice_get old i
   grows_at old new i (inl e) lt = ap (λ ps. slice_get ps i) e
   grows_at old new i (inr (p, e)) lt = ap (λ ps. slice_get ps i) e ∙ get_left old (p ∷ []) i lt
-
-  -- the machine that the path at a place leads to
-  pub found : (paths : List (Vec ℕ Global)) (place : ℕ) (v : Vec ℕ Global) (path : List ℕ) (m m' : Machine) →
-      place < length paths →
-      v ≡ get_or paths place v →
-      path ≡ v.items →
-      m' ≡ walked n root path →
-      m ≡ m' →
-      Contains (led_to n root (map (λ (w : Vec ℕ Global). w.items) paths)) m
-  found paths place v path m m' lt at is leads same =
-      let items = λ (w : Vec ℕ Global). w.items in
-      let here : slice_get paths place ≡ Some v = index_get paths place v v lt (sym at) in
-      let of_path : slice_get (led_to n root (map items paths)) place ≡ Some (walked n root v.items) = get_map
-      (walked n root) (map items paths) place v.items (get_map items paths place v here) in
-      let e : walked n root v.items ≡ m = ap (walked n root) (sym is) ∙ sym leads ∙ sym same in
-      subst (Contains (led_to n root (map items paths))) e (there_at (led_to n root (map items paths)) place
-      (walked n root v.items) of_path)
-
--- the path at a place
-pub path_is : (paths : List (Vec ℕ Global)) (at : ℕ) (v : Vec ℕ Global) (path : List ℕ) →
-    at < length paths →
-    v ≡ get_or paths at v →
-    path ≡ v.items →
-    slice_get (map (λ (w : Vec ℕ Global). w.items) paths) at ≡ Some path
-path_is paths at v path lt e is = get_map (λ (w : Vec ℕ Global). w.items) paths at v (index_get paths at v v lt (sym e))
-    ∙ ap Some (sym is)

@@ -1,4 +1,5 @@
 pub mod Walks
+pub mod Paths
 pub mod Closing
 pub mod Distinct
 pub mod Seeing

@@ -43,8 +43,7 @@ root_same m m' setup code cells = ap (λ p. machine_run (loaded p m'.cells.limit
     ap (λ n. machine_run (loaded m.code n) setup) cells
 
 -- What stands before each thread that is looked at after the path at a place: what was seen of those before it, and
--- that they lead to machines that
--- the paths lead to.
+-- that they lead to machines that the paths lead to.
 pub record IsOn (n threads : ℕ) (root : Machine) (paths : List (List ℕ)) (known : List Seen) (at thread : ℕ)
     (s : Seen) : Type 0 where
   pub there : at < length paths

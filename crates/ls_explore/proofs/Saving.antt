@@ -1,15 +1,17 @@
 -- What was saved of the machines to which paths lead.
 use Rattle.std.proofs.Common.{◌≡◌, ℕ, ◌<◌, List, [], ◌∷◌, ◌++◌, length, map, Some, sym, ap, ◌∙◌, arith, slice_get}
-use Rattle.std.proofs.Common.{get_or, Vec, Global}
+use Rattle.std.proofs.Common.{get_or}
 use Rattle.std.specs.Prelude.{Contains}
 use Rattle.std.proofs.lemmas.List.{map-append, length-map}
 use Rattle.ls_code.specs.Code.{Code}
 use Rattle.ls_code.specs.Machine.{Machine}
 use Rattle.ls_machine.specs.Saved.{Standing, standing, standing_so}
-use Rattle.ls_headline.proofs.Lists.{get_there, get_map, index_there}
+use Rattle.ls_headline.proofs.Lists.{get_there, get_map}
 use Rattle.ls_explore.specs.Searches.{AreSaved, paths_of}
 use Rattle.ls_explore.specs.Walks.{led_to, walked}
-use Rattle.ls_explore.proofs.Closing.{index_get, path_is, there_at}
+use Rattle.ls_explore.specs.declared.links.Link.{Link}
+use Rattle.ls_explore.proofs.Closing.{index_get, there_at}
+use Rattle.ls_explore.proofs.Paths.{length-paths}
 
 some_is : {A : Type 0} {x y : A} → Some x ≡ Some y → x ≡ y
 some_is h = cc
@@ -74,22 +76,21 @@ module _ (n : ℕ) (root : Machine) where
       ∙ ap (map (λ (path : List ℕ). standing (walked n root path))) (sym more)
 
   -- as many were saved as there are paths
-  pub saves_within : (paths : List (Vec ℕ Global)) (saved : List Standing) (at : ℕ) →
+  pub saves_within : (paths : List Link) (saved : List Standing) (at : ℕ) →
       AreSaved n root (paths_of paths) saved →
       at < length paths →
       at < length saved
   saves_within paths saved at are lt =
-      let items = λ (w : Vec ℕ Global). w.items in
       omega (
         arith,
         lt,
         ap length are,
         length-map (paths_of paths) (λ (path : List ℕ). standing (walked n root path)),
-        length-map paths items,
+        length-paths paths,
       )
 
   -- what was saved at the place of a path
-  pub saved_there : (paths : List (Vec ℕ Global)) (saved : List Standing) (at : ℕ) (path : List ℕ) (s : Standing) →
+  pub saved_there : (paths : List Link) (saved : List Standing) (at : ℕ) (path : List ℕ) (s : Standing) →
       AreSaved n root (paths_of paths) saved →
       at < length paths →
       slice_get (paths_of paths) at ≡ Some path →
@@ -98,17 +99,3 @@ module _ (n : ℕ) (root : Machine) where
   saved_there paths saved at path s are lt there is =
       saved_at (paths_of paths) saved at path s are there (index_get saved at s s (saves_within paths saved at are lt)
       (sym is))
-
--- the path at a place, from its vector
-pub place_get : (paths : List (Vec ℕ Global)) (at : ℕ) (v : Vec ℕ Global) (path : List ℕ) →
-    at < length paths →
-    v ≡ get_or paths at v →
-    path ≡ v.items →
-    get_or (paths_of paths) at [] ≡ path
-place_get paths at v path lt e is = index_there (paths_of paths) at path [] (path_is paths at v path lt e is)
-
--- one vector more
-pub paths_more : (old new : List (Vec ℕ Global)) (v : Vec ℕ Global) →
-    new ≡ old ++ v ∷ [] →
-    paths_of new ≡ paths_of old ++ v.items ∷ []
-paths_more old new v is = ap paths_of is ∙ map-append (λ (w : Vec ℕ Global). w.items) old (v ∷ [])

@@ -110,8 +110,7 @@ HaveBegun n root paths i rows =
     IsToldBy rows (walked n root path).history
 
 -- So many paths, no two the same: after the setup's steps one step of each thread of a path acts, and the history of
--- these steps is the beginning of a
--- row's.
+-- these steps is the beginning of a row's.
 pub record TellStates (file : File) (program : Program) (k : ℕ) (rows : List Told) (states : ℕ) : Type 0 where
   pub paths : List (List ℕ)
   pub many : length paths ≡ states
@@ -129,8 +128,7 @@ TellsStates code cells setup rows states =
     IsSetUp file program code cells k (machine_run (loaded code cells) setup) → TellStates file program k rows states
 
 -- Each row's history is that of a schedule of source steps: those of the setup, and then one of each thread of its
--- path; for each file and
--- program that the code runs as, and whose setup these steps are.
+-- path; for each file and program that the code runs as, and whose setup these steps are.
 abbrev pub TellsTruth : Code → ℕ → List ℕ → List Told → Type 0
 TellsTruth code cells setup rows =
     (file : File) (program : Program) (k : ℕ) → HasHistories file program code cells →
@@ -146,8 +144,7 @@ TellsOver code cells setup threads rows =
     Contains rows r → r.ending ≡ ending.Over → IsOver file program (source_run file program (replicate k 0 ++ r.path))
 
 -- For each file and program that the code runs as, and whose setup these steps are: the history of each schedule of
--- source steps that fits
--- the cells, of any length, is the beginning of a row's.
+-- source steps that fits the cells, of any length, is the beginning of a row's.
 abbrev pub TellsAll : Code → ℕ → List ℕ → ℕ → List Told → Type 0
 TellsAll code cells setup threads rows =
     (file : File) (program : Program) (k : ℕ) → IsCells code cells → ActsInTime file program code →

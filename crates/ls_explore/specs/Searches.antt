@@ -1,7 +1,7 @@
 -- How far a list of paths is closed.
+pub use Rattle.ls_explore.specs.Paths.{paths_of}
 use Rattle.std.specs.Prelude.{◌≡◌, ℕ, ◌<◌, ◌≤◌, ◌⊎◌, ◌||◌, true, false, List, [], ◌∷◌, ◌++◌, length, map, None, Some}
 use Rattle.std.specs.Prelude.{slice_get, Contains}
-use Rattle.std.specs.Global.{Vec}
 use Rattle.ls_code.specs.Machine.{Machine, stops}
 use Rattle.ls_code.specs.declared.step.Did.{Did}
 use Rattle.ls_machine.specs.Saved.{Standing, standing}
@@ -10,10 +10,6 @@ use Rattle.ls_headline.specs.Acting.{first_did}
 use Rattle.ls_explore_laws.specs.Bursts.{ActsAlong, burst}
 use Rattle.ls_explore.specs.declared.searching.Seen.{Seen}
 use Rattle.ls_explore.specs.Walks.{has_acted, led_to, walked}
-
--- the paths that a list of vectors holds
-abbrev pub paths_of : List (Vec ℕ) → List (List ℕ)
-paths_of vectors = map (λ v. v.items) vectors
 
 -- where a thread acts after a path, the machine after that is one of those that the paths lead to
 abbrev pub Leads : ℕ → Machine → List (List ℕ) → List ℕ → ℕ → Type 0

@@ -4,18 +4,22 @@ ghost use Rattle.ls_code.specs.Limits.{most_instructions};
 ghost use Rattle.std.specs.Prelude.{◌≡◌, ◌+◌, All, IfOk, IsSorted, IsTrue, IsErrOf, ◌↔◌, ◌≤◌, false, length};
 ghost use Rattle.ls_headline.specs.Translations.{most_silent};
 ghost use Rattle.ls_machine.specs.Room.{AreBadCells};
-ghost use Rattle.ls_explore.specs.Rows.{AreApart, TellsAll, TellsEnds, TellsOver, TellsStates, TellsTruth, TellsWhole, row_order};
+ghost use Rattle.ls_explore.specs.Rows.{AreApart, TellsAll, TellsEnds, TellsOver, TellsStates, TellsTruth};
+ghost use Rattle.ls_explore.specs.Rows.{TellsWhole, row_order};
+ghost use Rattle.ls_explore.specs.Watching.{GoesOn};
 
 use crate::rows::Row;
 use crate::searching::{Seen, search};
 use crate::table::tell;
 use crate::walking::Ground;
+use crate::watching::Watch;
 use ls_code::code::Code;
 use ls_events::schedule::Schedule;
 use ls_machine::{LoadFault, Machine};
-use std::alloc::Global;
+use std::alloc::{AllocError, Global};
 
-/// Histories with paths that lead to them, whether they are all, whether no machine ran out of cells, and how many states were kept.
+/// Histories with paths that lead to them, whether they are all, whether no machine ran out of cells, and how many
+/// states were kept.
 #[derive(Drop)]
 pub struct Exploration {
     pub rows: Vec<Row>,
@@ -39,9 +43,23 @@ fn are_roomy(seen: &[Seen]) -> bool
     seen.iter().all(|s| !s.stops)
 }
 
+/// How many threads there are, the setup with them, and how many states are kept at the most.
+#[derive(Copy)]
+pub struct Extent {
+    pub threads: u8,
+    pub limit: usize,
+}
+
+impl Clone for Extent {
+    fn clone(&self) -> Result<Extent, AllocError> {
+        Ok(*self)
+    }
+}
+
 /// Explores all that so many threads lead to from the machine after the setup's steps, on so many cells. At most so
-/// many states are kept. Each row's history is that of a schedule of source steps: the steps of the setup, and then
-/// one step of each thread of the row's path. After the schedule of a row that is over, no thread of the source acts.
+/// many states are kept, and while it goes on it tells how many there are. Each row's history is that of a schedule of
+/// source steps: the steps of the setup, and then one step of each thread of the row's path. After the schedule of a
+/// row that is over, no thread of the source acts.
 ///
 /// If the rows are complete, take a schedule of source steps that fits the cells, of any length. Its history is the
 /// beginning of a row's. If no thread acts after the schedule, its history is that of a row that ends. This is so for
@@ -53,25 +71,29 @@ fn are_roomy(seen: &[Seen]) -> bool
 ///
 /// No history stands twice. The row of the shortest path comes first, and of those of one length the row of the
 /// least.
-pub fn explore(
+pub fn explore<W: Watch>(
     alloc: Global,
     code: &Code,
     cells: usize,
     setup: &Schedule,
-    threads: u8,
-    limit: usize,
+    extent: Extent,
+    watch: &mut W,
 ) -> Result<Exploration, LoadFault>
     requires { length code.now.instructions ≤ most_instructions }
     ensures bad { IsErrOf result LoadFault.BadCells ↔ AreBadCells code.now.names cells }
     ensures told { IfOk result (λ e. TellsTruth code.now cells setup.now e.rows.items) }
     ensures found { IfOk result (λ e. TellsStates code.now cells setup.now e.rows.items e.states) }
-    ensures cut { IfOk result (λ e. e.complete ≡ false → limit ≤ e.states) }
-    ensures over { IfOk result (λ e. TellsOver code.now cells setup.now threads e.rows.items) }
-    ensures tells { IfOk result (λ e. IsTrue e.complete → TellsAll code.now cells setup.now threads e.rows.items) }
-    ensures ends { IfOk result (λ e. IsTrue e.complete → TellsEnds code.now cells setup.now threads e.rows.items) }
-    ensures whole { IfOk result (λ e. IsTrue e.complete → IsTrue e.roomy → TellsWhole code.now cells setup.now threads e.rows.items) }
+    ensures cut { IfOk result (λ e. e.complete ≡ false → extent.limit ≤ e.states) }
+    ensures over { IfOk result (λ e. TellsOver code.now cells setup.now extent.threads e.rows.items) }
+    ensures tells { IfOk result (λ e. IsTrue e.complete →
+        TellsAll code.now cells setup.now extent.threads e.rows.items) }
+    ensures ends { IfOk result (λ e. IsTrue e.complete →
+        TellsEnds code.now cells setup.now extent.threads e.rows.items) }
+    ensures whole { IfOk result (λ e. IsTrue e.complete → IsTrue e.roomy →
+        TellsWhole code.now cells setup.now extent.threads e.rows.items) }
     ensures apart { IfOk result (λ e. AreApart e.rows.items) }
     ensures order { IfOk result (λ e. IsSorted row_order e.rows.items) }
+    ensures watched { GoesOn W.Since watch.old watch.new }
 {
     let mut walker = Machine::load(alloc, code, cells)?;
     let mut other = Machine::load(alloc, code, cells)?;
@@ -79,10 +101,10 @@ pub fn explore(
         alloc,
         setup,
         most: most_steps(code),
-        threads,
-        limit,
+        threads: extent.threads,
+        limit: extent.limit,
     };
-    let found = search(&mut walker, &mut other, &ground)?;
+    let found = search(&mut walker, &mut other, &ground, watch)?;
     let rows = tell(&mut walker, &ground, &found)?;
     Ok(Exploration {
         rows,

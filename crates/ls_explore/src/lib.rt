@@ -2,11 +2,15 @@
 #![tactic(auto)]
 
 mod exploring;
+mod hints;
+mod links;
 mod rows;
 mod same;
 mod searching;
 mod table;
 mod walking;
+mod watching;
 
-pub use exploring::{Exploration, explore};
+pub use exploring::{Exploration, Extent, explore};
 pub use rows::{Ending, Row};
+pub use watching::{Nobody, Watch};

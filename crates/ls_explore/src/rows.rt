@@ -80,8 +80,8 @@ fn begin_so(events: &[Event], first: &[Event]) -> bool
     are_same_events(part, first)
 }
 
-/// A history, a path that leads to a machine of that history, and what the threads do after it. A path has the thread of each source
-/// step after the setup's.
+/// A history, a path that leads to a machine of that history, and what the threads do after it. A path has the thread
+/// of each source step after the setup's.
 #[derive(Drop)]
 pub struct Row {
     path: Vec<u8>,

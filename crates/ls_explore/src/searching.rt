@@ -1,23 +1,28 @@
 // The search for all that threads lead to.
 
-ghost use Rattle.std.specs.Prelude.{◌≡◌, ℕ, ◌<◌, ◌≤◌, ◌+◌, ◌⊎◌, ◌++◌, [], ◌∷◌, false, length, IfNone, IfOk, IfSome, OnOk, IsTrue, Contains, slice_index_or};
+ghost use Rattle.std.specs.Prelude.{◌≡◌, ℕ, ◌<◌, ◌≤◌, ◌+◌, ◌⊎◌, ◌++◌, [], ◌∷◌, false, length, IfNone, IfOk, IfSome};
+ghost use Rattle.std.specs.Prelude.{OnOk, IsTrue, Contains, slice_index_or};
 ghost use Rattle.ls_code.specs.Machine.{Machine as MachineValue};
 ghost use Rattle.ls_machine.specs.Saved.{standing};
 ghost use Rattle.ls_headline.specs.Acting.{first_did};
 ghost use Rattle.ls_explore_laws.specs.Bursts.{IsClosed};
 ghost use Rattle.ls_explore.specs.Walks.{led_to, root_of, walked};
-ghost use Rattle.ls_explore.specs.Searches.{AllAct, AreDistinct, AreSaved, Grows, IsClosedTo, IsSound, Leads, StandOnce, paths_of, seen_with};
+ghost use Rattle.ls_explore.specs.Watching.{GoesOn};
+ghost use Rattle.ls_explore.specs.Searches.{AllAct, AreDistinct, AreSaved, Grows, IsClosedTo, IsSound, Leads};
+ghost use Rattle.ls_explore.specs.Searches.{StandOnce, paths_of, seen_with};
 
+use crate::hints::Hints;
+use crate::links::{Link, Path};
 use crate::table::number_of;
-use crate::walking::{Ground, Place, go_to, has_acted, see};
+use crate::walking::{Ground, Place, go_back, has_acted, see};
+use crate::watching::Watch;
 use ls_code::step::{Did, is_stop};
 use ls_machine::{Machine, Saved, Shelf};
 use ls_machine_moves::stirring::stir;
 use std::alloc::{AllocError, Global};
-use std::collections::HashMap;
 
-/// What is seen of all threads after a path: whether one of them acts, and whether one of them would stop the machine for want of
-/// cells.
+/// What is seen of all threads after a path: whether one of them acts, and whether one of them would stop the machine
+/// for want of cells.
 #[derive(Copy)]
 pub(crate) struct Seen {
     pub(crate) acts: bool,
@@ -40,25 +45,20 @@ fn seen_with(seen: Seen, did: Did) -> Seen
     }
 }
 
-/// The paths so far, the machines that they lead to as they were saved, and what is seen after the first of them. For a number that is made of the machine to which one leads, a place
-/// where that path may be; nothing rests on that.
+/// The paths so far, the machines that they lead to as they were saved, and what is seen after the first of them. For a
+/// number that is made of the machine to which one leads, the places where that path may be; nothing rests on those.
 #[derive(Drop)]
 pub(crate) struct Nodes {
-    pub(crate) paths: Vec<Vec<u8>>,
+    pub(crate) paths: Vec<Link>,
     pub(crate) saved: Vec<Saved>,
     pub(crate) seen: Vec<Seen>,
     shelf: Shelf,
-    hints: HashMap<u64, usize>,
+    hints: Hints,
 }
 
-/// A path and one more thread.
-fn longer(alloc: Global, path: &[u8], thread: u8) -> Result<Vec<u8>, AllocError>
-    ensures { IfOk result (λ v. v.items ≡ path.now ++ thread ∷ []) }
-{
-    let mut more = Vec::with_capacity(alloc, path.len() + 1)?;
-    more.extend_from_slice(path)?;
-    more.push(thread)?;
-    Ok(more)
+/// A number made of a machine.
+fn number_of_machine(machine: &Machine) -> u64 {
+    stir(machine.mix(), number_of(machine.history()))
 }
 
 /// Whether a machine is the one that was saved at a place. True only where it is.
@@ -80,13 +80,15 @@ impl Nodes {
         let mut saved = Vec::new(alloc);
         saved.push(first)?;
         let mut paths = Vec::new(alloc);
-        paths.push(Vec::new(alloc))?;
+        paths.push(Link::first())?;
+        let mut hints = Hints::new(alloc);
+        hints.add(alloc, number_of_machine(machine))?;
         Ok(Nodes {
             paths,
             saved,
             seen: Vec::new(alloc),
             shelf,
-            hints: HashMap::new(alloc),
+            hints,
         })
     }
 
@@ -94,14 +96,21 @@ impl Nodes {
     fn has(&self, machine: &Machine, number: u64) -> bool
         ensures { IsTrue result → Contains self.now.saved.items (standing machine.now) }
     {
-        match self.hints.get(&number).copied() {
-            None => false,
-            Some(place) => is_there(machine, self.saved.as_slice(), place),
+        let mut hint = self.hints.last(number);
+        for _ in 0..self.hints.len() {
+            let Some(place) = hint else {
+                return false;
+            };
+            if is_there(machine, self.saved.as_slice(), place) {
+                return true;
+            }
+            hint = self.hints.before(place);
         }
+        false
     }
 
-    /// Keeps the path at a place and one more thread, which leads to this machine of this number. Answers false where there are as many
-    /// paths as there may be.
+    /// Keeps the path at a place and one more thread, which leads to this machine of this number. Answers false where
+    /// there are as many paths as there may be.
     fn keep(
         &mut self,
         ground: &Ground<'_>,
@@ -114,19 +123,25 @@ impl Nodes {
         ensures seen { self.new.seen.items ≡ self.old.seen.items }
         ensures full { IfOk result (λ kept. kept ≡ false → self.new.paths.items ≡ self.old.paths.items) }
         ensures cut { IfOk result (λ kept. kept ≡ false → ground.now.limit ≤ length self.new.paths.items) }
-        ensures grown { OnOk result ((paths_of self.new.paths.items ≡ paths_of self.old.paths.items) ⊎ (paths_of self.new.paths.items ≡ paths_of self.old.paths.items ++ (slice_index_or (paths_of self.old.paths.items) at [] ++ thread ∷ []) ∷ [])) }
-        ensures saved { OnOk result ((n : ℕ) (root : MachineValue) → machine.now ≡ walked n root (slice_index_or (paths_of self.old.paths.items) at [] ++ thread ∷ []) → AreSaved n root (paths_of self.old.paths.items) self.old.saved.items → AreSaved n root (paths_of self.new.paths.items) self.new.saved.items) }
-        ensures kept { IfOk result (λ kept. IsTrue kept → paths_of self.new.paths.items ≡ paths_of self.old.paths.items ++ (slice_index_or (paths_of self.old.paths.items) at [] ++ thread ∷ []) ∷ []) }
+        ensures grown { OnOk result ((paths_of self.new.paths.items ≡ paths_of self.old.paths.items) ⊎
+            (paths_of self.new.paths.items ≡ paths_of self.old.paths.items ++
+            (slice_index_or (paths_of self.old.paths.items) at [] ++ thread ∷ []) ∷ [])) }
+        ensures saved { OnOk result ((n : ℕ) (root : MachineValue) →
+            machine.now ≡ walked n root (slice_index_or (paths_of self.old.paths.items) at [] ++ thread ∷ []) →
+            AreSaved n root (paths_of self.old.paths.items) self.old.saved.items →
+            AreSaved n root (paths_of self.new.paths.items) self.new.saved.items) }
+        ensures kept { IfOk result (λ kept. IsTrue kept → paths_of self.new.paths.items ≡ paths_of self.old.paths.items
+            ++ (slice_index_or (paths_of self.old.paths.items) at [] ++ thread ∷ []) ∷ []) }
     {
         let count = self.paths.len();
         if count >= ground.limit {
             return Ok(false);
         }
-        let more = longer(ground.alloc, self.paths[at].as_slice(), thread)?;
+        let link = Link::new(at, thread);
         let history = number_of(machine.history());
         let saved = machine.saved(ground.alloc, &mut self.shelf, history)?;
-        self.hints.insert(number, count)?;
-        self.paths.push(more)?;
+        self.hints.add(ground.alloc, number)?;
+        self.paths.push(link)?;
         self.saved.push(saved)?;
         Ok(true)
     }
@@ -145,13 +160,27 @@ fn look(
     requires at { at < length nodes.old.paths.items }
     requires code { walker.old.code ≡ other.old.code }
     requires cells { walker.old.cells.limit ≡ other.old.cells.limit }
-    requires saves { AreSaved ground.now.most (root_of walker.old ground.now.setup.now) (paths_of nodes.old.paths.items) nodes.old.saved.items }
-    ensures saves { OnOk result (AreSaved ground.now.most (root_of walker.old ground.now.setup.now) (paths_of nodes.new.paths.items) nodes.new.saved.items) }
+    requires saves { AreSaved ground.now.most (root_of walker.old ground.now.setup.now) (paths_of nodes.old.paths.items)
+        nodes.old.saved.items }
+    ensures saves { OnOk result
+        (AreSaved ground.now.most (root_of walker.old ground.now.setup.now) (paths_of nodes.new.paths.items)
+        nodes.new.saved.items) }
     ensures grows { OnOk result (Grows (paths_of nodes.old.paths.items) (paths_of nodes.new.paths.items)) }
-    ensures acts { OnOk result (AllAct ground.now.most (root_of walker.old ground.now.setup.now) (paths_of nodes.old.paths.items) → AllAct ground.now.most (root_of walker.old ground.now.setup.now) (paths_of nodes.new.paths.items)) }
-    ensures leads { IfOk result (λ found. IfSome found (λ did. Leads ground.now.most (root_of walker.old ground.now.setup.now) (paths_of nodes.new.paths.items) (slice_index_or (paths_of nodes.old.paths.items) at []) thread)) }
-    ensures did { IfOk result (λ found. IfSome found (λ did. did ≡ first_did ground.now.most (walked ground.now.most (root_of walker.old ground.now.setup.now) (slice_index_or (paths_of nodes.old.paths.items) at [])) thread)) }
-    ensures distinct { OnOk result (AreDistinct (paths_of nodes.old.paths.items) at thread → AreDistinct (paths_of nodes.new.paths.items) at (thread + 1)) }
+    ensures acts { OnOk result
+        (AllAct ground.now.most (root_of walker.old ground.now.setup.now) (paths_of nodes.old.paths.items) →
+        AllAct ground.now.most (root_of walker.old ground.now.setup.now) (paths_of nodes.new.paths.items)) }
+    ensures leads { IfOk result
+        (λ found. IfSome found
+        (λ did. Leads ground.now.most (root_of walker.old ground.now.setup.now) (paths_of nodes.new.paths.items)
+        (slice_index_or (paths_of nodes.old.paths.items) at []) thread)) }
+    ensures did { IfOk result
+        (λ found. IfSome found
+        (λ did. did ≡
+        first_did ground.now.most
+        (walked ground.now.most (root_of walker.old ground.now.setup.now)
+        (slice_index_or (paths_of nodes.old.paths.items) at [])) thread)) }
+    ensures distinct { OnOk result (AreDistinct (paths_of nodes.old.paths.items) at thread →
+        AreDistinct (paths_of nodes.new.paths.items) at (thread + 1)) }
     ensures cut { IfOk result (λ found. IfNone found (ground.now.limit ≤ length nodes.new.paths.items)) }
     ensures seen { nodes.new.seen.items ≡ nodes.old.seen.items }
     ensures walker_code { walker.new.code ≡ walker.old.code }
@@ -160,14 +189,14 @@ fn look(
     ensures other_cells { other.new.cells.limit ≡ other.old.cells.limit }
 {
     let place = Place {
-        path: nodes.paths[at].as_slice(),
+        path: Path::new(nodes.paths.as_slice(), at),
         saved: &nodes.saved[at],
     };
     let did = see(walker, other, ground, &place, thread);
     if !has_acted(did) {
         return Ok(Some(did));
     }
-    let number = stir(walker.mix(), number_of(walker.history()));
+    let number = number_of_machine(walker);
     if nodes.has(walker, number) {
         return Ok(Some(did));
     }
@@ -177,7 +206,8 @@ fn look(
     Ok(Some(did))
 }
 
-/// Looks at what each thread does after the path at a place. Answers false where there are as many paths as there may be.
+/// Looks at what each thread does after the path at a place. Answers false where there are as many paths as there may
+/// be.
 fn expand(
     walker: &mut Machine,
     other: &mut Machine,
@@ -189,16 +219,25 @@ fn expand(
     requires count { length nodes.old.seen.items ≡ at }
     requires code { walker.old.code ≡ other.old.code }
     requires cells { walker.old.cells.limit ≡ other.old.cells.limit }
-    requires saves { AreSaved ground.now.most (root_of walker.old ground.now.setup.now) (paths_of nodes.old.paths.items) nodes.old.saved.items }
-    requires sound { IsSound ground.now.most ground.now.threads (root_of walker.old ground.now.setup.now) (paths_of nodes.old.paths.items) nodes.old.seen.items }
-    requires closed { IsClosedTo ground.now.most ground.now.threads (root_of walker.old ground.now.setup.now) (paths_of nodes.old.paths.items) at 0 }
+    requires saves { AreSaved ground.now.most (root_of walker.old ground.now.setup.now) (paths_of nodes.old.paths.items)
+        nodes.old.saved.items }
+    requires sound { IsSound ground.now.most ground.now.threads (root_of walker.old ground.now.setup.now)
+        (paths_of nodes.old.paths.items) nodes.old.seen.items }
+    requires closed { IsClosedTo ground.now.most ground.now.threads (root_of walker.old ground.now.setup.now)
+        (paths_of nodes.old.paths.items) at 0 }
     requires distinct { AreDistinct (paths_of nodes.old.paths.items) at 0 }
     ensures distinct { OnOk result (AreDistinct (paths_of nodes.new.paths.items) (at + 1) 0) }
     ensures cut { IfOk result (λ found. found ≡ false → ground.now.limit ≤ length nodes.new.paths.items) }
-    ensures saves { OnOk result (AreSaved ground.now.most (root_of walker.old ground.now.setup.now) (paths_of nodes.new.paths.items) nodes.new.saved.items) }
-    ensures sound { OnOk result (IsSound ground.now.most ground.now.threads (root_of walker.old ground.now.setup.now) (paths_of nodes.new.paths.items) nodes.new.seen.items) }
+    ensures saves { OnOk result
+        (AreSaved ground.now.most (root_of walker.old ground.now.setup.now) (paths_of nodes.new.paths.items)
+        nodes.new.saved.items) }
+    ensures sound { OnOk result
+        (IsSound ground.now.most ground.now.threads (root_of walker.old ground.now.setup.now)
+        (paths_of nodes.new.paths.items) nodes.new.seen.items) }
     ensures count { IfOk result (λ found. IsTrue found → length nodes.new.seen.items ≡ at + 1) }
-    ensures closed { IfOk result (λ found. IsTrue found → IsClosedTo ground.now.most ground.now.threads (root_of walker.old ground.now.setup.now) (paths_of nodes.new.paths.items) (at + 1) 0) }
+    ensures closed { IfOk result (λ found. IsTrue found →
+        IsClosedTo ground.now.most ground.now.threads (root_of walker.old ground.now.setup.now)
+        (paths_of nodes.new.paths.items) (at + 1) 0) }
     ensures walker_code { walker.new.code ≡ walker.old.code }
     ensures walker_cells { walker.new.cells.limit ≡ walker.old.cells.limit }
     ensures other_code { other.new.code ≡ other.old.code }
@@ -218,25 +257,48 @@ fn expand(
     Ok(true)
 }
 
-/// Looks at what each thread does after each path. Answers false where there are as many paths as there may be.
-fn close(
+/// Tells how many paths there are, and how long the one at a place is.
+fn tell_progress<W: Watch>(watch: &mut W, nodes: &Nodes, at: usize)
+    requires { at < length nodes.now.paths.items }
+    ensures { GoesOn W.Since watch.old watch.new }
+{
+    let states = nodes.paths.len();
+    if watch.wants(states) {
+        watch.note(states, Path::new(nodes.paths.as_slice(), at).len());
+    }
+}
+
+/// Looks at what each thread does after each path, and tells how many paths there are. Answers false where there are as
+/// many paths as there may be.
+fn close<W: Watch>(
     walker: &mut Machine,
     other: &mut Machine,
     ground: &Ground<'_>,
     nodes: &mut Nodes,
+    watch: &mut W,
 ) -> Result<bool, AllocError>
     requires code { walker.old.code ≡ other.old.code }
     requires cells { walker.old.cells.limit ≡ other.old.cells.limit }
-    requires saves { AreSaved ground.now.most (root_of walker.old ground.now.setup.now) (paths_of nodes.old.paths.items) nodes.old.saved.items }
+    requires saves { AreSaved ground.now.most (root_of walker.old ground.now.setup.now) (paths_of nodes.old.paths.items)
+        nodes.old.saved.items }
     requires none { nodes.old.seen.items ≡ [] }
-    requires sound { IsSound ground.now.most ground.now.threads (root_of walker.old ground.now.setup.now) (paths_of nodes.old.paths.items) nodes.old.seen.items }
+    requires sound { IsSound ground.now.most ground.now.threads (root_of walker.old ground.now.setup.now)
+        (paths_of nodes.old.paths.items) nodes.old.seen.items }
     requires distinct { AreDistinct (paths_of nodes.old.paths.items) 0 0 }
+    ensures watched { GoesOn W.Since watch.old watch.new }
     ensures once { OnOk result (StandOnce (paths_of nodes.new.paths.items)) }
     ensures cut { IfOk result (λ found. found ≡ false → ground.now.limit ≤ length nodes.new.paths.items) }
-    ensures saves { OnOk result (AreSaved ground.now.most (root_of walker.old ground.now.setup.now) (paths_of nodes.new.paths.items) nodes.new.saved.items) }
-    ensures sound { OnOk result (IsSound ground.now.most ground.now.threads (root_of walker.old ground.now.setup.now) (paths_of nodes.new.paths.items) nodes.new.seen.items) }
-    ensures count { IfOk result (λ found. IsTrue found → length nodes.new.seen.items ≡ length (paths_of nodes.new.paths.items)) }
-    ensures closed { IfOk result (λ found. IsTrue found → IsClosed ground.now.most ground.now.threads (led_to ground.now.most (root_of walker.old ground.now.setup.now) (paths_of nodes.new.paths.items))) }
+    ensures saves { OnOk result
+        (AreSaved ground.now.most (root_of walker.old ground.now.setup.now) (paths_of nodes.new.paths.items)
+        nodes.new.saved.items) }
+    ensures sound { OnOk result
+        (IsSound ground.now.most ground.now.threads (root_of walker.old ground.now.setup.now)
+        (paths_of nodes.new.paths.items) nodes.new.seen.items) }
+    ensures count { IfOk result (λ found. IsTrue found →
+        length nodes.new.seen.items ≡ length (paths_of nodes.new.paths.items)) }
+    ensures closed { IfOk result (λ found. IsTrue found →
+        IsClosed ground.now.most ground.now.threads
+        (led_to ground.now.most (root_of walker.old ground.now.setup.now) (paths_of nodes.new.paths.items))) }
     ensures walker_code { walker.new.code ≡ walker.old.code }
     ensures walker_cells { walker.new.cells.limit ≡ walker.old.cells.limit }
     ensures other_code { other.new.code ≡ other.old.code }
@@ -246,6 +308,7 @@ fn close(
         if at >= nodes.paths.len() {
             return Ok(true);
         }
+        tell_progress(watch, nodes, at);
         if !expand(walker, other, ground, nodes, at)? {
             return Ok(false);
         }
@@ -253,10 +316,11 @@ fn close(
     Ok(nodes.paths.len() <= ground.limit)
 }
 
-/// What a search has found: paths, the machines that they lead to as they were saved, what is seen after the first of them, and whether they are all.
+/// What a search has found: paths, the machines that they lead to as they were saved, what is seen after the first of
+/// them, and whether they are all.
 #[derive(Drop)]
 pub(crate) struct Searched {
-    pub(crate) paths: Vec<Vec<u8>>,
+    pub(crate) paths: Vec<Link>,
     pub(crate) saved: Vec<Saved>,
     pub(crate) seen: Vec<Seen>,
     pub(crate) complete: bool,
@@ -264,25 +328,34 @@ pub(crate) struct Searched {
 
 /// Looks for all that the threads lead to from the machine after the setup. The shortest paths come first, and of
 /// those of one length the least. Two machines of the same code and number of cells take turns.
-pub(crate) fn search(
+pub(crate) fn search<W: Watch>(
     walker: &mut Machine,
     other: &mut Machine,
     ground: &Ground<'_>,
+    watch: &mut W,
 ) -> Result<Searched, AllocError>
     requires code { walker.old.code ≡ other.old.code }
     requires cells { walker.old.cells.limit ≡ other.old.cells.limit }
+    ensures watched { GoesOn W.Since watch.old watch.new }
     ensures once { IfOk result (λ found. StandOnce (paths_of found.paths.items)) }
     ensures cut { IfOk result (λ found. found.complete ≡ false → ground.now.limit ≤ length found.paths.items) }
-    ensures saves { IfOk result (λ found. AreSaved ground.now.most (root_of walker.old ground.now.setup.now) (paths_of found.paths.items) found.saved.items) }
-    ensures sound { IfOk result (λ found. IsSound ground.now.most ground.now.threads (root_of walker.old ground.now.setup.now) (paths_of found.paths.items) found.seen.items) }
-    ensures count { IfOk result (λ found. IsTrue found.complete → length found.seen.items ≡ length (paths_of found.paths.items)) }
-    ensures closed { IfOk result (λ found. IsTrue found.complete → IsClosed ground.now.most ground.now.threads (led_to ground.now.most (root_of walker.old ground.now.setup.now) (paths_of found.paths.items))) }
+    ensures saves { IfOk result
+        (λ found. AreSaved ground.now.most (root_of walker.old ground.now.setup.now) (paths_of found.paths.items)
+        found.saved.items) }
+    ensures sound { IfOk result
+        (λ found. IsSound ground.now.most ground.now.threads (root_of walker.old ground.now.setup.now)
+        (paths_of found.paths.items) found.seen.items) }
+    ensures count { IfOk result (λ found. IsTrue found.complete →
+        length found.seen.items ≡ length (paths_of found.paths.items)) }
+    ensures closed { IfOk result (λ found. IsTrue found.complete →
+        IsClosed ground.now.most ground.now.threads
+        (led_to ground.now.most (root_of walker.old ground.now.setup.now) (paths_of found.paths.items))) }
     ensures code { walker.new.code ≡ walker.old.code }
     ensures cells { walker.new.cells.limit ≡ walker.old.cells.limit }
 {
-    go_to(other, ground, &[]);
+    go_back(other, ground);
     let mut nodes = Nodes::new(ground.alloc, other)?;
-    let complete = close(walker, other, ground, &mut nodes)?;
+    let complete = close(walker, other, ground, &mut nodes, watch)?;
     let Nodes {
         paths,
         saved,

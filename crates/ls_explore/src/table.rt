@@ -1,13 +1,16 @@
 // The rows of all paths.
 
-ghost use Rattle.std.specs.Prelude.{◌≡◌, ◌<◌, ℕ, List, [], Some, Decides, IfOk, IsSorted, OnOk, IsTrue, false, length, slice_get};
+ghost use Rattle.std.specs.Prelude.{◌≡◌, ◌<◌, ℕ, List, [], Some, Decides, IfOk, IsSorted, OnOk, IsTrue, false};
+ghost use Rattle.std.specs.Prelude.{length, slice_get};
 ghost use Rattle.std.specs.List.{All};
 ghost use Rattle.ls_code.specs.Machine.{Machine as MachineValue};
-ghost use Rattle.ls_explore.specs.Rows.{AllEnd, AreApart, HasRow, HaveBegun, HaveEnds, IsEnd, IsTold, IsToldBy, Keeps, row_of, row_order};
+ghost use Rattle.ls_explore.specs.Rows.{AllEnd, AreApart, HasRow, HaveBegun, HaveEnds, IsEnd, IsTold, IsToldBy};
+ghost use Rattle.ls_explore.specs.Rows.{Keeps, row_of, row_order};
 ghost use Rattle.ls_explore.specs.declared.searching.Seen.{Seen as SeenValue};
 ghost use Rattle.ls_explore.specs.Searches.{AreSaved, IsSound, paths_of};
 ghost use Rattle.ls_explore.specs.Walks.{root_of, walked};
 
+use crate::links::Path;
 use crate::rows::{Ending, Row, ending_of, in_order, is_end};
 use crate::searching::{Searched, Seen};
 use crate::walking::{Ground, Place, stand};
@@ -146,7 +149,10 @@ impl Table {
     ) -> Result<(), AllocError>
         ensures keeps { OnOk result (Keeps self.old.rows.items self.new.rows.items) }
         ensures has { OnOk result (HasRow self.new.rows.items history.now) }
-        ensures told { OnOk result ((n threads : ℕ) (root : MachineValue) → All (IsTold n threads root) self.old.rows.items → IsTold n threads root (row_of path.now history.now ending) → All (IsTold n threads root) self.new.rows.items) }
+        ensures told { OnOk result ((n threads : ℕ) (root : MachineValue) →
+            All (IsTold n threads root) self.old.rows.items →
+            IsTold n threads root (row_of path.now history.now ending) →
+            All (IsTold n threads root) self.new.rows.items) }
         ensures ends { OnOk result (AllEnd self.old.rows.items → IsEnd ending → AllEnd self.new.rows.items) }
         ensures apart { OnOk result (AreApart self.old.rows.items → AreApart self.new.rows.items) }
     {
@@ -177,13 +183,20 @@ fn tell_end(
     table: &mut Table,
 ) -> Result<(), AllocError>
     requires at { at < length found.now.paths.items }
-    requires saves { AreSaved ground.now.most (root_of walker.old ground.now.setup.now) (paths_of found.now.paths.items) found.now.saved.items }
-    requires sound { IsSound ground.now.most ground.now.threads (root_of walker.old ground.now.setup.now) (paths_of found.now.paths.items) found.now.seen.items }
-    ensures told { OnOk result (All (IsTold ground.now.most ground.now.threads (root_of walker.old ground.now.setup.now)) table.old.rows.items → All (IsTold ground.now.most ground.now.threads (root_of walker.old ground.now.setup.now)) table.new.rows.items) }
+    requires saves { AreSaved ground.now.most (root_of walker.old ground.now.setup.now) (paths_of found.now.paths.items)
+        found.now.saved.items }
+    requires sound { IsSound ground.now.most ground.now.threads (root_of walker.old ground.now.setup.now)
+        (paths_of found.now.paths.items) found.now.seen.items }
+    ensures told { OnOk result
+        (All (IsTold ground.now.most ground.now.threads (root_of walker.old ground.now.setup.now)) table.old.rows.items
+        → All (IsTold ground.now.most ground.now.threads (root_of walker.old ground.now.setup.now))
+        table.new.rows.items) }
     ensures keeps { OnOk result (Keeps table.old.rows.items table.new.rows.items) }
     ensures ends { OnOk result (AllEnd table.old.rows.items → AllEnd table.new.rows.items) }
     ensures apart { OnOk result (AreApart table.old.rows.items → AreApart table.new.rows.items) }
-    ensures has { OnOk result ((path : List ℕ) (s : SeenValue) → slice_get (paths_of found.now.paths.items) at ≡ Some path → slice_get found.now.seen.items at ≡ Some s → s.acts ≡ false → HasRow table.new.rows.items (walked ground.now.most (root_of walker.old ground.now.setup.now) path).history) }
+    ensures has { OnOk result ((path : List ℕ) (s : SeenValue) → slice_get (paths_of found.now.paths.items) at ≡
+        Some path → slice_get found.now.seen.items at ≡ Some s → s.acts ≡ false →
+        HasRow table.new.rows.items (walked ground.now.most (root_of walker.old ground.now.setup.now) path).history) }
     ensures code { walker.new.code ≡ walker.old.code }
     ensures cells { walker.new.cells.limit ≡ walker.old.cells.limit }
 {
@@ -191,13 +204,13 @@ fn tell_end(
     if !is_end(ending) {
         return Ok(());
     }
-    let path = found.paths[at].as_slice();
     let place = Place {
-        path,
+        path: Path::new(found.paths.as_slice(), at),
         saved: &found.saved[at],
     };
     stand(walker, ground, &place);
-    table.add(ground.alloc, path, walker.history(), ending)?;
+    let path = place.path.to_vec(ground.alloc)?;
+    table.add(ground.alloc, path.as_slice(), walker.history(), ending)?;
     Ok(())
 }
 
@@ -207,11 +220,17 @@ fn tell_ends(
     ground: &Ground<'_>,
     found: &Searched,
 ) -> Result<Table, AllocError>
-    requires saves { AreSaved ground.now.most (root_of walker.old ground.now.setup.now) (paths_of found.now.paths.items) found.now.saved.items }
-    requires sound { IsSound ground.now.most ground.now.threads (root_of walker.old ground.now.setup.now) (paths_of found.now.paths.items) found.now.seen.items }
-    ensures told { IfOk result (λ table. All (IsTold ground.now.most ground.now.threads (root_of walker.old ground.now.setup.now)) table.rows.items) }
+    requires saves { AreSaved ground.now.most (root_of walker.old ground.now.setup.now) (paths_of found.now.paths.items)
+        found.now.saved.items }
+    requires sound { IsSound ground.now.most ground.now.threads (root_of walker.old ground.now.setup.now)
+        (paths_of found.now.paths.items) found.now.seen.items }
+    ensures told { IfOk result
+        (λ table. All (IsTold ground.now.most ground.now.threads (root_of walker.old ground.now.setup.now))
+        table.rows.items) }
     ensures apart { IfOk result (λ table. AreApart table.rows.items) }
-    ensures ends { IfOk result (λ table. HaveEnds ground.now.most (root_of walker.old ground.now.setup.now) (paths_of found.now.paths.items) found.now.seen.items (length found.now.seen.items) table.rows.items) }
+    ensures ends { IfOk result
+        (λ table. HaveEnds ground.now.most (root_of walker.old ground.now.setup.now) (paths_of found.now.paths.items)
+        found.now.seen.items (length found.now.seen.items) table.rows.items) }
     ensures code { walker.new.code ≡ walker.old.code }
     ensures cells { walker.new.cells.limit ≡ walker.old.cells.limit }
 {
@@ -231,18 +250,23 @@ fn tell_one(
     table: &mut Table,
 ) -> Result<(), AllocError>
     requires at { at < length found.now.paths.items }
-    requires saves { AreSaved ground.now.most (root_of walker.old ground.now.setup.now) (paths_of found.now.paths.items) found.now.saved.items }
-    requires sound { IsSound ground.now.most ground.now.threads (root_of walker.old ground.now.setup.now) (paths_of found.now.paths.items) found.now.seen.items }
-    ensures told { OnOk result (All (IsTold ground.now.most ground.now.threads (root_of walker.old ground.now.setup.now)) table.old.rows.items → All (IsTold ground.now.most ground.now.threads (root_of walker.old ground.now.setup.now)) table.new.rows.items) }
+    requires saves { AreSaved ground.now.most (root_of walker.old ground.now.setup.now) (paths_of found.now.paths.items)
+        found.now.saved.items }
+    requires sound { IsSound ground.now.most ground.now.threads (root_of walker.old ground.now.setup.now)
+        (paths_of found.now.paths.items) found.now.seen.items }
+    ensures told { OnOk result
+        (All (IsTold ground.now.most ground.now.threads (root_of walker.old ground.now.setup.now)) table.old.rows.items
+        → All (IsTold ground.now.most ground.now.threads (root_of walker.old ground.now.setup.now))
+        table.new.rows.items) }
     ensures keeps { OnOk result (Keeps table.old.rows.items table.new.rows.items) }
     ensures apart { OnOk result (AreApart table.old.rows.items → AreApart table.new.rows.items) }
-    ensures begun { OnOk result ((path : List ℕ) → slice_get (paths_of found.now.paths.items) at ≡ Some path → IsToldBy table.new.rows.items (walked ground.now.most (root_of walker.old ground.now.setup.now) path).history) }
+    ensures begun { OnOk result ((path : List ℕ) → slice_get (paths_of found.now.paths.items) at ≡ Some path →
+        IsToldBy table.new.rows.items (walked ground.now.most (root_of walker.old ground.now.setup.now) path).history) }
     ensures code { walker.new.code ≡ walker.old.code }
     ensures cells { walker.new.cells.limit ≡ walker.old.cells.limit }
 {
-    let path = found.paths[at].as_slice();
     let place = Place {
-        path,
+        path: Path::new(found.paths.as_slice(), at),
         saved: &found.saved[at],
     };
     stand(walker, ground, &place);
@@ -250,7 +274,8 @@ fn tell_one(
         return Ok(());
     }
     let ending = ending_of(seen_at(found, at));
-    table.add(ground.alloc, path, walker.history(), ending)?;
+    let path = place.path.to_vec(ground.alloc)?;
+    table.add(ground.alloc, path.as_slice(), walker.history(), ending)?;
     Ok(())
 }
 
@@ -261,13 +286,20 @@ fn tell_rest(
     found: &Searched,
     table: &mut Table,
 ) -> Result<(), AllocError>
-    requires saves { AreSaved ground.now.most (root_of walker.old ground.now.setup.now) (paths_of found.now.paths.items) found.now.saved.items }
-    requires sound { IsSound ground.now.most ground.now.threads (root_of walker.old ground.now.setup.now) (paths_of found.now.paths.items) found.now.seen.items }
-    requires told { All (IsTold ground.now.most ground.now.threads (root_of walker.old ground.now.setup.now)) table.old.rows.items }
-    ensures told { OnOk result (All (IsTold ground.now.most ground.now.threads (root_of walker.old ground.now.setup.now)) table.new.rows.items) }
+    requires saves { AreSaved ground.now.most (root_of walker.old ground.now.setup.now) (paths_of found.now.paths.items)
+        found.now.saved.items }
+    requires sound { IsSound ground.now.most ground.now.threads (root_of walker.old ground.now.setup.now)
+        (paths_of found.now.paths.items) found.now.seen.items }
+    requires told { All (IsTold ground.now.most ground.now.threads (root_of walker.old ground.now.setup.now))
+        table.old.rows.items }
+    ensures told { OnOk result
+        (All (IsTold ground.now.most ground.now.threads (root_of walker.old ground.now.setup.now))
+        table.new.rows.items) }
     ensures keeps { OnOk result (Keeps table.old.rows.items table.new.rows.items) }
     ensures apart { OnOk result (AreApart table.old.rows.items → AreApart table.new.rows.items) }
-    ensures begun { OnOk result (HaveBegun ground.now.most (root_of walker.old ground.now.setup.now) (paths_of found.now.paths.items) (length found.now.paths.items) table.new.rows.items) }
+    ensures begun { OnOk result
+        (HaveBegun ground.now.most (root_of walker.old ground.now.setup.now) (paths_of found.now.paths.items)
+        (length found.now.paths.items) table.new.rows.items) }
 {
     let count = found.paths.len();
     for back in 0..count {
@@ -283,13 +315,20 @@ pub(crate) fn tell(
     ground: &Ground<'_>,
     found: &Searched,
 ) -> Result<Vec<Row>, AllocError>
-    requires saves { AreSaved ground.now.most (root_of walker.old ground.now.setup.now) (paths_of found.now.paths.items) found.now.saved.items }
-    requires sound { IsSound ground.now.most ground.now.threads (root_of walker.old ground.now.setup.now) (paths_of found.now.paths.items) found.now.seen.items }
-    ensures told { IfOk result (λ rows. All (IsTold ground.now.most ground.now.threads (root_of walker.old ground.now.setup.now)) rows.items) }
-    ensures ends { IfOk result (λ rows. HaveEnds ground.now.most (root_of walker.old ground.now.setup.now) (paths_of found.now.paths.items) found.now.seen.items (length found.now.seen.items) rows.items) }
+    requires saves { AreSaved ground.now.most (root_of walker.old ground.now.setup.now) (paths_of found.now.paths.items)
+        found.now.saved.items }
+    requires sound { IsSound ground.now.most ground.now.threads (root_of walker.old ground.now.setup.now)
+        (paths_of found.now.paths.items) found.now.seen.items }
+    ensures told { IfOk result
+        (λ rows. All (IsTold ground.now.most ground.now.threads (root_of walker.old ground.now.setup.now)) rows.items) }
+    ensures ends { IfOk result
+        (λ rows. HaveEnds ground.now.most (root_of walker.old ground.now.setup.now) (paths_of found.now.paths.items)
+        found.now.seen.items (length found.now.seen.items) rows.items) }
     ensures apart { IfOk result (λ rows. AreApart rows.items) }
     ensures order { IfOk result (λ rows. IsSorted row_order rows.items) }
-    ensures begun { IfOk result (λ rows. HaveBegun ground.now.most (root_of walker.old ground.now.setup.now) (paths_of found.now.paths.items) (length found.now.paths.items) rows.items) }
+    ensures begun { IfOk result
+        (λ rows. HaveBegun ground.now.most (root_of walker.old ground.now.setup.now) (paths_of found.now.paths.items)
+        (length found.now.paths.items) rows.items) }
 {
     let mut table = tell_ends(walker, ground, found)?;
     tell_rest(walker, ground, found, &mut table)?;

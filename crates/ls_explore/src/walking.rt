@@ -7,6 +7,7 @@ ghost use Rattle.ls_headline.specs.Acting.{first_did};
 ghost use Rattle.ls_explore_laws.specs.Bursts.{IsSilentTo, burst};
 ghost use Rattle.ls_explore.specs.Walks.{has_acted, is_silent, root_of, tried, walked};
 
+use crate::links::Path;
 use ls_code::step::Did;
 use ls_events::schedule::Schedule;
 use ls_machine::laws::runs_keep;
@@ -30,7 +31,7 @@ pub(crate) struct Ground<'a> {
 /// A path, and the machine to which it leads as it was saved.
 #[derive(Drop)]
 pub(crate) struct Place<'a> {
-    pub(crate) path: &'a [u8],
+    pub(crate) path: Path<'a>,
     pub(crate) saved: &'a Saved,
 }
 
@@ -54,7 +55,8 @@ pub(crate) fn has_acted(did: Did) -> bool
     }
 }
 
-/// Takes a thread's steps up to and with the first that isn't silent, at most so many. Answers what the last of them did.
+/// Takes a thread's steps up to and with the first that isn't silent, at most so many. Answers what the last of them
+/// did.
 fn try_thread(machine: &mut Machine, most: u64, thread: usize) -> Did
     ensures machine { machine.new ≡ (tried most machine.old thread).machine }
     ensures did { result ≡ (tried most machine.old thread).did }
@@ -68,42 +70,43 @@ fn try_thread(machine: &mut Machine, most: u64, thread: usize) -> Did
     Did::Silent
 }
 
-/// Takes such steps of these threads, one after another.
-fn walk(machine: &mut Machine, most: u64, path: &[u8])
+/// Takes such steps of a path's threads, one after another.
+fn walk(machine: &mut Machine, most: u64, path: &Path<'_>)
     ensures { machine.new ≡ walked most machine.old path.now }
 {
-    for thread in path {
-        let _ = try_thread(machine, most, *thread as usize);
+    for number in 0..path.len() {
+        let _ = try_thread(machine, most, path.thread(number) as usize);
     }
 }
 
-/// Goes back to the start, and from there by the setup's steps and by a path.
-pub(crate) fn go_to(machine: &mut Machine, ground: &Ground<'_>, path: &[u8])
-    ensures at { machine.new ≡ walked ground.now.most (root_of machine.old ground.now.setup.now) path.now }
+/// Goes back to the start, and from there by the setup's steps.
+pub(crate) fn go_back(machine: &mut Machine, ground: &Ground<'_>)
+    ensures at { machine.new ≡ root_of machine.old ground.now.setup.now }
     ensures code { machine.new.code ≡ machine.old.code }
     ensures cells { machine.new.cells.limit ≡ machine.old.cells.limit }
 {
     runs_keep();
     machine.set_back();
     machine.run(ground.setup);
-    walk(machine, ground.most, path);
 }
 
 /// Goes to where a path leads: takes what was saved there, or else goes along the path.
 pub(crate) fn stand(machine: &mut Machine, ground: &Ground<'_>, place: &Place<'_>)
-    requires { place.now.saved.now ≡ standing (walked ground.now.most (root_of machine.old ground.now.setup.now) place.now.path.now) }
-    ensures at { machine.new ≡ walked ground.now.most (root_of machine.old ground.now.setup.now) place.now.path.now }
+    requires { place.now.saved.now ≡
+        standing (walked ground.now.most (root_of machine.old ground.now.setup.now) place.now.path) }
+    ensures at { machine.new ≡ walked ground.now.most (root_of machine.old ground.now.setup.now) place.now.path }
     ensures code { machine.new.code ≡ machine.old.code }
     ensures cells { machine.new.cells.limit ≡ machine.old.cells.limit }
 {
     if machine.set_as(place.saved) {
         return;
     }
-    go_to(machine, ground, place.path);
+    go_back(machine, ground);
+    walk(machine, ground.most, &place.path);
 }
 
-/// Goes to where a path leads, and then takes a thread's steps up to and with the first that isn't silent, at most so many. Answers
-/// what the last of them did.
+/// Goes to where a path leads, and then takes a thread's steps up to and with the first that isn't silent, at most so
+/// many. Answers what the last of them did.
 fn advance(
     machine: &mut Machine,
     ground: &Ground<'_>,
@@ -111,9 +114,13 @@ fn advance(
     place: &Place<'_>,
     thread: u8,
 ) -> Did
-    requires { place.now.saved.now ≡ standing (walked ground.now.most (root_of machine.old ground.now.setup.now) place.now.path.now) }
-    ensures machine { machine.new ≡ (tried count (walked ground.now.most (root_of machine.old ground.now.setup.now) place.now.path.now) thread).machine }
-    ensures did { result ≡ (tried count (walked ground.now.most (root_of machine.old ground.now.setup.now) place.now.path.now) thread).did }
+    requires { place.now.saved.now ≡
+        standing (walked ground.now.most (root_of machine.old ground.now.setup.now) place.now.path) }
+    ensures machine { machine.new ≡
+        (tried count (walked ground.now.most (root_of machine.old ground.now.setup.now) place.now.path)
+        thread).machine }
+    ensures did { result ≡
+        (tried count (walked ground.now.most (root_of machine.old ground.now.setup.now) place.now.path) thread).did }
     ensures code { machine.new.code ≡ machine.old.code }
     ensures cells { machine.new.cells.limit ≡ machine.old.cells.limit }
 {
@@ -121,7 +128,8 @@ fn advance(
     try_thread(machine, count, thread as usize)
 }
 
-/// How many silent steps a thread is given before it is asked whether it waits, and how many to come back where it stood.
+/// How many silent steps a thread is given before it is asked whether it waits, and how many to come back where it
+/// stood.
 const FEW: u64 = 64;
 
 /// Takes so many steps of a thread, as long as they are silent. Answers whether they all are.
@@ -168,9 +176,13 @@ fn goes_round(
     thread: u8,
 ) -> bool
     requires code { machine.old.code ≡ other.old.code }
-    requires saves { place.now.saved.now ≡ standing (walked ground.now.most (root_of other.old ground.now.setup.now) place.now.path.now) }
-    requires silent { IsSilentTo count (walked ground.now.most (root_of other.old ground.now.setup.now) place.now.path.now) thread machine.old }
-    ensures never { IsTrue result → (n : ℕ) → (burst n (walked ground.now.most (root_of other.old ground.now.setup.now) place.now.path.now) thread ≡ None) × (first_did n (walked ground.now.most (root_of other.old ground.now.setup.now) place.now.path.now) thread ≡ Silent) }
+    requires saves { place.now.saved.now ≡
+        standing (walked ground.now.most (root_of other.old ground.now.setup.now) place.now.path) }
+    requires silent { IsSilentTo count (walked ground.now.most (root_of other.old ground.now.setup.now) place.now.path)
+        thread machine.old }
+    ensures never { IsTrue result → (n : ℕ) →
+        (burst n (walked ground.now.most (root_of other.old ground.now.setup.now) place.now.path) thread ≡ None) ×
+        (first_did n (walked ground.now.most (root_of other.old ground.now.setup.now) place.now.path) thread ≡ Silent) }
     ensures code { machine.new.code ≡ machine.old.code }
     ensures cells { machine.new.cells.limit ≡ machine.old.cells.limit }
     ensures other_code { other.new.code ≡ other.old.code }
@@ -183,8 +195,8 @@ fn goes_round(
     comes_back(machine, other, FEW, thread as usize)
 }
 
-/// What a thread does after a path that isn't silent, in as many steps as one may take that acts. Where it acts, the machine stands
-/// after that.
+/// What a thread does after a path that isn't silent, in as many steps as one may take that acts. Where it acts, the
+/// machine stands after that.
 pub(crate) fn see(
     machine: &mut Machine,
     other: &mut Machine,
@@ -194,11 +206,20 @@ pub(crate) fn see(
 ) -> Did
     requires code { machine.old.code ≡ other.old.code }
     requires cells { machine.old.cells.limit ≡ other.old.cells.limit }
-    requires saves { place.now.saved.now ≡ standing (walked ground.now.most (root_of machine.old ground.now.setup.now) place.now.path.now) }
-    ensures did { result ≡ first_did ground.now.most (walked ground.now.most (root_of machine.old ground.now.setup.now) place.now.path.now) thread }
-    ensures acts { has_acted result ≡ true → burst ground.now.most (walked ground.now.most (root_of machine.old ground.now.setup.now) place.now.path.now) thread ≡ Some machine.new }
-    ensures at { has_acted result ≡ true → machine.new ≡ walked ground.now.most (root_of machine.old ground.now.setup.now) (place.now.path.now ++ thread ∷ []) }
-    ensures none { has_acted result ≡ false → burst ground.now.most (walked ground.now.most (root_of machine.old ground.now.setup.now) place.now.path.now) thread ≡ None }
+    requires saves { place.now.saved.now ≡
+        standing (walked ground.now.most (root_of machine.old ground.now.setup.now) place.now.path) }
+    ensures did { result ≡
+        first_did ground.now.most (walked ground.now.most (root_of machine.old ground.now.setup.now) place.now.path)
+        thread }
+    ensures acts { has_acted result ≡ true →
+        burst ground.now.most (walked ground.now.most (root_of machine.old ground.now.setup.now) place.now.path) thread
+        ≡ Some machine.new }
+    ensures at { has_acted result ≡ true →
+        machine.new ≡ walked ground.now.most (root_of machine.old ground.now.setup.now) (place.now.path ++ thread ∷
+        []) }
+    ensures none { has_acted result ≡ false →
+        burst ground.now.most (walked ground.now.most (root_of machine.old ground.now.setup.now) place.now.path) thread
+        ≡ None }
     ensures code { machine.new.code ≡ machine.old.code }
     ensures cells { machine.new.cells.limit ≡ machine.old.cells.limit }
     ensures other_code { other.new.code ≡ other.old.code }

@@ -21,7 +21,7 @@ use Rattle.ls_verdicts.specs.Verdicts.{IsHistoryOf}
 use Rattle.ls_faults.specs.declared.fault.ToolFault.{ToolFault}
 use Rattle.ls_faults.specs.declared.fault.ToolFault.TheVariants as faults
 use Rattle.ls_faults.specs.Faults.{lifted_explore, lifted_translation}
-use Rattle.ls_faults.specs.Given.{Gives}
+use Rattle.ls_faults.specs.Given.{GivesText}
 use Rattle.ls_commands.specs.Compiled.{names_of_image}
 use Rattle.ls_explore_reports.specs.declared.printing.Exploring.{Exploring}
 use Rattle.ls_explore_commands.specs.Explored.{Explored, Endless, IsExploration, NoCells, NoStates, NotTranslated}
@@ -81,7 +81,7 @@ module _ (i : Image) (e : Exploring) where
       IsErrOf (Refused f) explore.Memory ⊎ (IsErrOf (Refused f) explore.SetupEndless ↔
       IsEndless (file_of i) (program_of i) (code_of_image i) e.cells e.states) →
       IsOfSetup (file_of i) (program_of i) (code_of_image i) e.cells f →
-      Gives (Explored i e) (Err (lifted_explore f))
+      GivesText (Explored i e) (Err (lifted_explore f))
   explore_fails explore.Memory many bad endless setup = tt
   explore_fails explore.BadCells many bad endless setup = NoCells (bad refl)
   explore_fails explore.BadStates many bad endless setup = NoStates (many.0 refl)
@@ -96,7 +96,7 @@ module _ (i : Image) (e : Exploring) where
       (AreBadCells (code_of_image i).names e.cells → ⊥) → IsExploration i e.cells e.states k judged kept complete roomy
       → slice ≡ judged →
       (IsErrOf {T = T} (Err f) translation.ResultTooLong → HasLong k (rows_of slice)) →
-      Gives (Explored i e) (Err (lifted_translation f))
+      GivesText (Explored i e) (Err (lifted_translation f))
   long_fails translation.Memory k kept judged slice complete roomy only good so is long = tt
   long_fails translation.BadCells k kept judged slice complete roomy (inl wrong) good so is long = absurd cc
   long_fails translation.BadCells k kept judged slice complete roomy (inr wrong) good so is long = absurd cc

@@ -32,10 +32,8 @@ names_in i = record {
 }
 
 -- Rows that tell the truth, the shortest schedule first, no two with one history, each with its verdict. Each of so
--- many states has a row. Where
--- they are complete they tell of all schedules that fit the cells; and where no schedule runs out of cells, of all.
--- Where they are cut, so many states
--- were kept as may be.
+-- many states has a row. Where they are complete they tell of all schedules that fit the cells; and where no schedule
+-- runs out of cells, of all. Where they are cut, so many states were kept as may be.
 pub record IsExploration (i : Image) (cells limit k : ℕ) (judged : List Judged) (kept : ℕ) (complete roomy : Bool) :
     Type 0 where
   pub truth : TellTruth (file_of i) (program_of i) k (rows_of judged)

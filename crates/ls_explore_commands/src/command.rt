@@ -3,11 +3,13 @@
 ghost use Rattle.std.specs.Prelude.{◌≡◌};
 ghost use Rattle.ls_explore_commands.specs.Explored.{Explored, ExploresTo, names_in};
 ghost use Rattle.ls_explore_commands.specs.Readable.{SourceRunsAreReadable};
-ghost use Rattle.ls_faults.specs.Given.{Gives};
+ghost use Rattle.ls_explore.specs.Watching.{GoesOn};
+ghost use Rattle.ls_faults.specs.Given.{GivesText};
 ghost use Rattle.ls_image.specs.Images.{program_of_image};
 ghost use Rattle.ls_labels.specs.Names.{names_of};
 
 use ls_compiler::compile::compile;
+use ls_explore::Watch;
 use ls_explore_images::explore_image;
 use ls_explore_reports::{Exploring, judge_rows, print_exploration};
 use ls_faults::fault::ToolFault;
@@ -31,30 +33,39 @@ fn names_in(image: &Image) -> Names<'_>
 }
 
 /// The histories of all schedules of the image's program, with a verdict on each.
-fn explored(alloc: Global, image: &Image, exploring: Exploring) -> Result<String, ToolFault>
+fn explored<W: Watch>(
+    alloc: Global,
+    image: &Image,
+    exploring: Exploring,
+    watch: &mut W,
+) -> Result<String, ToolFault>
     requires { SourceRunsAreReadable image.now }
-    ensures { Gives (Explored image.now exploring) result }
+    ensures gives { GivesText (Explored image.now exploring) result }
+    ensures watched { GoesOn W.Since watch.old watch.new }
 {
-    let found = explore_image(alloc, image, exploring.cells, exploring.states)?;
+    let found = explore_image(alloc, image, exploring.cells, exploring.states, watch)?;
     let judged = judge_rows(alloc, found.rows.as_slice(), image.program())?;
     let text = print_exploration(alloc, names_in(image), &found, judged.as_slice(), exploring)?;
     Ok(text)
 }
 
-/// The histories of all schedules of the compiled program, on a machine with so many cells, where at most so many states are kept:
-/// each with how it ends, the verdict on it, and a schedule of source steps. With `illegal` those without a legal order are printed
-/// alone, with `first` the first of those that would be printed. The last line has the counts, and whether these are all.
+/// The histories of all schedules of the compiled program, on a machine with so many cells, where at most so many
+/// states are kept: each with how it ends, the verdict on it, and a schedule of source steps. With `illegal` those
+/// without a legal order are printed alone, with `first` the first of those that would be printed. The last line has
+/// the counts, and whether these are all. While it goes on it tells how many states there are.
 ///
 /// Refused as `compile` is; else as `explore_image` is; and as a schedule of over 1,000,000 steps is.
-pub fn explore(
+pub fn explore<W: Watch>(
     alloc: Global,
     exploring: Exploring,
     classes: &str,
     program: &str,
+    watch: &mut W,
 ) -> Result<String, ToolFault>
-    ensures { Gives (ExploresTo exploring classes.now program.now) result }
+    ensures gives { GivesText (ExploresTo exploring classes.now program.now) result }
+    ensures watched { GoesOn W.Since watch.old watch.new }
 {
     let image = compile(alloc, classes, program)?;
     source_is_readable();
-    explored(alloc, &image, exploring)
+    explored(alloc, &image, exploring, watch)
 }

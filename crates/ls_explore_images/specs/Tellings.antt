@@ -21,8 +21,7 @@ pub record TellTruth (file : File) (program : Program) (k : ℕ) (rows : List To
       IsOver file program (source_run file program (schedule_of k r))
 
 -- The history of each schedule of source steps that fits the cells, of any length, is the beginning of a row's; and
--- that of one after which no thread
--- acts is that of a row that ends.
+-- that of one after which no thread acts is that of a row that ends.
 pub record TellAll (file : File) (program : Program) (cells : ℕ) (rows : List Told) : Type 0 where
   pub begun : (schedule : List ℕ) →
       Fits file program cells schedule →

@@ -1,19 +1,21 @@
 // All schedules of the program of an image.
 
 ghost use Rattle.ls_code.specs.Limits.{most_instructions};
-ghost use Rattle.std.specs.Prelude.{◌≡◌, ◌<◌, ◌≤◌, ◌⊎◌, ◌↔◌, ℕ, IfErr, IfOk, IsErrOf, IsSorted, IsTrue, false, length, true};
+ghost use Rattle.std.specs.Prelude.{◌≡◌, ◌<◌, ◌≤◌, ◌⊎◌, ◌↔◌, ℕ, IfErr, IfOk, IsErrOf, IsSorted, IsTrue, false};
+ghost use Rattle.std.specs.Prelude.{length, true};
 ghost use Rattle.ls_headline.specs.Same.{IsCells};
 ghost use Rattle.ls_image.specs.Images.{code_of_image};
 ghost use Rattle.ls_machine.specs.Room.{AreBadCells};
 ghost use Rattle.ls_translation.specs.Texts.{file_of, program_of};
 ghost use Rattle.ls_explore.specs.Rows.{AreApart, TellStates, row_order};
+ghost use Rattle.ls_explore.specs.Watching.{GoesOn};
 ghost use Rattle.ls_explore_images.specs.Faults.{IsEndless, IsLate, IsOfSetup};
 ghost use Rattle.ls_explore_images.specs.Settings.{EndsAt, SticksAt};
 ghost use Rattle.ls_explore_images.specs.Tellings.{TellAll, TellTruth, TellWhole};
 
 use crate::fault::ExploreFault;
 use crate::setting::{Setting, set_up, setting_of, setup_steps};
-use ls_explore::{Ending, Exploration, Row, explore};
+use ls_explore::{Ending, Exploration, Extent, Row, Watch, explore};
 use ls_explore_laws::laws::stuck_covers;
 use ls_image::image::Image;
 use ls_image::laws::acts_in_time;
@@ -59,10 +61,13 @@ fn explore_stuck(alloc: Global, image: &Image, count: usize) -> Result<ImageExpl
     requires few { count ≤ 100000 }
     requires stuck { SticksAt (file_of image.now) (program_of image.now) count }
     ensures told { IfOk result (λ e. TellTruth (file_of image.now) (program_of image.now) e.setup e.rows.items) }
-    ensures found { IfOk result (λ e. TellStates (file_of image.now) (program_of image.now) e.setup e.rows.items e.states) }
+    ensures found { IfOk result
+        (λ e. TellStates (file_of image.now) (program_of image.now) e.setup e.rows.items e.states) }
     ensures complete { IfOk result (λ e. e.complete ≡ true) }
-    ensures tells { (cells : ℕ) → IfOk result (λ e. IsTrue e.complete → TellAll (file_of image.now) (program_of image.now) cells e.rows.items) }
-    ensures whole { IfOk result (λ e. IsTrue e.complete → IsTrue e.roomy → TellWhole (file_of image.now) (program_of image.now) e.rows.items) }
+    ensures tells { (cells : ℕ) →
+        IfOk result (λ e. IsTrue e.complete → TellAll (file_of image.now) (program_of image.now) cells e.rows.items) }
+    ensures whole { IfOk result (λ e. IsTrue e.complete → IsTrue e.roomy →
+        TellWhole (file_of image.now) (program_of image.now) e.rows.items) }
     ensures apart { IfOk result (λ e. AreApart e.rows.items) }
     ensures order { IfOk result (λ e. IsSorted row_order e.rows.items) }
 {
@@ -80,22 +85,28 @@ fn explore_stuck(alloc: Global, image: &Image, count: usize) -> Result<ImageExpl
 }
 
 /// What there is after a setup that ends with so many steps.
-fn explore_rest(
+fn explore_rest<W: Watch>(
     alloc: Global,
     image: &Image,
     cells: usize,
     states: usize,
     count: usize,
+    watch: &mut W,
 ) -> Result<ImageExploration, ExploreFault>
     requires cells { IsCells (code_of_image image.now) cells }
     requires few { count ≤ 100000 }
     requires ends { EndsAt (file_of image.now) (program_of image.now) count }
-    ensures late { IfErr result (IsLate (file_of image.now) (program_of image.now) (code_of_image image.now) cells count) }
+    ensures watched { GoesOn W.Since watch.old watch.new }
+    ensures late { IfErr result
+        (IsLate (file_of image.now) (program_of image.now) (code_of_image image.now) cells count) }
     ensures told { IfOk result (λ e. TellTruth (file_of image.now) (program_of image.now) e.setup e.rows.items) }
-    ensures found { IfOk result (λ e. TellStates (file_of image.now) (program_of image.now) e.setup e.rows.items e.states) }
+    ensures found { IfOk result
+        (λ e. TellStates (file_of image.now) (program_of image.now) e.setup e.rows.items e.states) }
     ensures cut { IfOk result (λ e. e.complete ≡ false → states ≤ e.states) }
-    ensures tells { IfOk result (λ e. IsTrue e.complete → TellAll (file_of image.now) (program_of image.now) cells e.rows.items) }
-    ensures whole { IfOk result (λ e. IsTrue e.complete → IsTrue e.roomy → TellWhole (file_of image.now) (program_of image.now) e.rows.items) }
+    ensures tells { IfOk result (λ e. IsTrue e.complete →
+        TellAll (file_of image.now) (program_of image.now) cells e.rows.items) }
+    ensures whole { IfOk result (λ e. IsTrue e.complete → IsTrue e.roomy →
+        TellWhole (file_of image.now) (program_of image.now) e.rows.items) }
     ensures apart { IfOk result (λ e. AreApart e.rows.items) }
     ensures order { IfOk result (λ e. IsSorted row_order e.rows.items) }
 {
@@ -103,12 +114,16 @@ fn explore_rest(
     is_short(image);
     let steps = set_up(alloc, image, cells, count)?;
     let threads = count_threads(image);
+    let extent = Extent {
+        threads,
+        limit: states,
+    };
     let Exploration {
         rows,
         complete,
         roomy,
         states,
-    } = explore(alloc, image.code(), cells, &steps, threads, states)?;
+    } = explore(alloc, image.code(), cells, &steps, extent, watch)?;
     Ok(ImageExploration {
         setup: count,
         rows,
@@ -118,7 +133,8 @@ fn explore_rest(
     })
 }
 
-/// Explores all schedules of the program of an image on so many cells, and keeps at most so many states.
+/// Explores all schedules of the program of an image on so many cells, and keeps at most so many states. While it goes
+/// on it tells how many there are.
 ///
 /// Each row's history is that of its schedule of source steps: the steps of the setup, and then one step of each
 /// thread of the row's path. After the schedule of a row that is over no thread acts: each has ended, is trapped, or
@@ -137,24 +153,32 @@ fn explore_rest(
 /// Refused with 61 if no states may be kept, or more than 16,777,216; else with 35 as `replay` is. Else, where memory
 /// doesn't run out, refused with 62 exactly if the setup acts in each of 100,001 source steps, and has not ended in
 /// 100,000; else as the setup's translation to the machine is, with 43 or 44.
-pub fn explore_image(
+pub fn explore_image<W: Watch>(
     alloc: Global,
     image: &Image,
     cells: usize,
     states: usize,
+    watch: &mut W,
 ) -> Result<ImageExploration, ExploreFault>
     ensures states { IsErrOf result ExploreFault.BadStates ↔ ((states ≡ 0) ⊎ (16777216 < states)) }
     ensures cells { IsErrOf result ExploreFault.BadCells → AreBadCells (code_of_image image.now).names cells }
     ensures good { IfOk result (λ e. AreBadCells (code_of_image image.now).names cells → ⊥) }
-    ensures endless { IsErrOf result ExploreFault.Memory ⊎ (IsErrOf result ExploreFault.SetupEndless ↔ IsEndless (file_of image.now) (program_of image.now) (code_of_image image.now) cells states) }
-    ensures setup { IfErr result (IsOfSetup (file_of image.now) (program_of image.now) (code_of_image image.now) cells) }
+    ensures endless { IsErrOf result ExploreFault.Memory ⊎
+        (IsErrOf result ExploreFault.SetupEndless ↔ IsEndless (file_of image.now) (program_of image.now)
+        (code_of_image image.now) cells states) }
+    ensures setup { IfErr result
+        (IsOfSetup (file_of image.now) (program_of image.now) (code_of_image image.now) cells) }
     ensures told { IfOk result (λ e. TellTruth (file_of image.now) (program_of image.now) e.setup e.rows.items) }
-    ensures found { IfOk result (λ e. TellStates (file_of image.now) (program_of image.now) e.setup e.rows.items e.states) }
+    ensures found { IfOk result
+        (λ e. TellStates (file_of image.now) (program_of image.now) e.setup e.rows.items e.states) }
     ensures cut { IfOk result (λ e. e.complete ≡ false → states ≤ e.states) }
-    ensures tells { IfOk result (λ e. IsTrue e.complete → TellAll (file_of image.now) (program_of image.now) cells e.rows.items) }
-    ensures whole { IfOk result (λ e. IsTrue e.complete → IsTrue e.roomy → TellWhole (file_of image.now) (program_of image.now) e.rows.items) }
+    ensures tells { IfOk result (λ e. IsTrue e.complete →
+        TellAll (file_of image.now) (program_of image.now) cells e.rows.items) }
+    ensures whole { IfOk result (λ e. IsTrue e.complete → IsTrue e.roomy →
+        TellWhole (file_of image.now) (program_of image.now) e.rows.items) }
     ensures apart { IfOk result (λ e. AreApart e.rows.items) }
     ensures order { IfOk result (λ e. IsSorted row_order e.rows.items) }
+    ensures watched { GoesOn W.Since watch.old watch.new }
 {
     if states == 0 || states > MOST_STATES {
         return Err(ExploreFault::BadStates);
@@ -166,7 +190,7 @@ pub fn explore_image(
     let program = image.program();
     let setting = setting_of(alloc, file, program)?;
     match setting {
-        Setting::Ends(count) => explore_rest(alloc, image, cells, states, count),
+        Setting::Ends(count) => explore_rest(alloc, image, cells, states, count, watch),
         Setting::Sticks(count) => Ok(explore_stuck(alloc, image, count)?),
         Setting::GoesOn => Err(ExploreFault::SetupEndless),
     }

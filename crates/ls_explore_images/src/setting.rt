@@ -97,8 +97,11 @@ pub(crate) fn set_up(
     requires cells { IsCells (code_of_image image.now) cells }
     requires few { count ≤ 100000 }
     requires ends { EndsAt (file_of image.now) (program_of image.now) count }
-    ensures late { IfErr result (IsLate (file_of image.now) (program_of image.now) (code_of_image image.now) cells count) }
-    ensures steps { IfOk result (λ steps. IsSetUp (file_of image.now) (program_of image.now) (code_of_image image.now) cells count (machine_run (loaded (code_of_image image.now) cells) steps)) }
+    ensures late { IfErr result
+        (IsLate (file_of image.now) (program_of image.now) (code_of_image image.now) cells count) }
+    ensures steps { IfOk result
+        (λ steps. IsSetUp (file_of image.now) (program_of image.now) (code_of_image image.now) cells count
+        (machine_run (loaded (code_of_image image.now) cells) steps)) }
 {
     translates_back(image, cells);
     acts_in_time(image);

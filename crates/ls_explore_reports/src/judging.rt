@@ -3,7 +3,8 @@
 ghost use Rattle.std.specs.Prelude.{◌≡◌, All, IfOk, map};
 ghost use Rattle.ls_checked.specs.PlainProgram.{plain_program};
 ghost use Rattle.ls_explore.specs.Rows.{Told};
-ghost use Rattle.ls_explore_reports.specs.Judged.{AreHistories, IsJudged, are_decided, count_illegal, is_decided, is_illegal, rows_of};
+ghost use Rattle.ls_explore_reports.specs.Judged.{AreHistories, IsJudged, are_decided, count_illegal, is_decided};
+ghost use Rattle.ls_explore_reports.specs.Judged.{is_illegal, rows_of};
 
 use ls_checked::program::Program;
 use ls_explore::Row;

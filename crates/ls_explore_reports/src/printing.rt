@@ -1,12 +1,15 @@
 // The text of an exploration.
 
 ghost use Rattle.ls_events.specs.Limits.{most_steps};
-ghost use Rattle.std.specs.Prelude.{◌≡◌, ◌<◌, ◌≤◌, ◌⊎◌, ◌++◌, ◌∷◌, [], IfErr, IfOk, IsErrOf, OnOk, length, map, string_bytes};
+ghost use Rattle.std.specs.Prelude.{◌≡◌, ◌<◌, ◌≤◌, ◌⊎◌, ◌++◌, ◌∷◌, [], IfErr, IfOk, IsErrOf, OnOk, length, map};
+ghost use Rattle.std.specs.Prelude.{string_bytes};
 ghost use Rattle.ls_labels.specs.Names.{names_of};
 ghost use Rattle.ls_schedule.specs.Reading.{thread_name, thread_names};
 ghost use Rattle.ls_state.specs.Scene.{scene_of};
 ghost use Rattle.ls_state.specs.Seen.{IsOwn, names_in, scene_seen};
-ghost use Rattle.ls_explore_reports.specs.Printing.{counts_text, end_text, ending_text, explored_text, illegal_text, is_shown, last_text, over_text, row_text, rows_text, shown, verdict_part};
+ghost use Rattle.ls_explore_reports.specs.Printing.{counts_text, end_text, ending_text, explored_text, illegal_text};
+ghost use Rattle.ls_explore_reports.specs.Printing.{is_shown, last_text, over_text, row_text, rows_text, shown};
+ghost use Rattle.ls_explore_reports.specs.Printing.{verdict_part};
 ghost use Rattle.ls_explore_reports.specs.Waiting.{asked_text, listed, waiting, waits_text};
 ghost use Rattle.ls_explore_images.specs.Tellings.{schedule_of};
 ghost use Rattle.ls_explore_reports.specs.Judged.{rows_of};
@@ -77,14 +80,16 @@ fn schedule_of(alloc: Global, setup: usize, row: &Row) -> Result<Schedule, Trans
     Ok(schedule)
 }
 
-/// Adds what a thread of this name waits for, as `A waits for ReentrantLock#2, which B owns`. Nothing where it asks for no action.
+/// Adds what a thread of this name waits for, as `A waits for ReentrantLock#2, which B owns`. Nothing where it asks for
+/// no action.
 fn push_waits(
     out: &mut String,
     scene: &Scene<'_>,
     name: &str,
     asked: Asked,
 ) -> Result<(), AllocError>
-    ensures { OnOk result (string_bytes out.new ≡ string_bytes out.old ++ asked_text (names_in scene.now) (scene_seen scene.now) name.now asked) }
+    ensures { OnOk result (string_bytes out.new ≡ string_bytes out.old ++
+        asked_text (names_in scene.now) (scene_seen scene.now) name.now asked) }
 {
     match asked {
         Asked::Asks(action) => {
@@ -103,7 +108,8 @@ fn waits_for(
     name: &str,
 ) -> Result<String, AllocError>
     requires { IsOwn scene.now }
-    ensures { IfOk result (λ text. string_bytes text ≡ waits_text (names_in scene.now) (scene_seen scene.now) thread name.now) }
+    ensures { IfOk result (λ text. string_bytes text ≡
+        waits_text (names_in scene.now) (scene_seen scene.now) thread name.now) }
 {
     let asked = scene.run.next(alloc, thread)?;
     let mut out = String::new(alloc);
@@ -131,7 +137,8 @@ fn waiting(
     threads: &[ThreadProgram],
 ) -> Result<String, AllocError>
     requires { IsOwn scene.now }
-    ensures { IfOk result (λ text. string_bytes text ≡ waiting (names_in scene.now) (scene_seen scene.now) 0 (map thread_name threads.now)) }
+    ensures { IfOk result (λ text. string_bytes text ≡
+        waiting (names_in scene.now) (scene_seen scene.now) 0 (map thread_name threads.now)) }
 {
     let mut out = String::new(alloc);
     for number in 0..threads.len() {
@@ -143,7 +150,9 @@ fn waiting(
 
 /// What the threads wait for after a schedule.
 fn waiting_after(alloc: Global, names: Names<'_>, schedule: &Schedule) -> Result<String, AllocError>
-    ensures { IfOk result (λ text. string_bytes text ≡ waiting (names_of names.entry) (scene_of (names_of names.entry) schedule.now) 0 (thread_names names.entry.program.now)) }
+    ensures { IfOk result (λ text. string_bytes text ≡
+        waiting (names_of names.entry) (scene_of (names_of names.entry) schedule.now) 0
+        (thread_names names.entry.program.now)) }
 {
     let scene = Scene::after(alloc, names, schedule.steps())?;
     waiting(alloc, &scene, names.program.threads.as_slice())
@@ -191,7 +200,8 @@ fn push_row(
     setup: usize,
     judged: &JudgedRow<'_>,
 ) -> Result<(), TranslationFault>
-    ensures text { OnOk result (string_bytes out.new ≡ string_bytes out.old ++ row_text (names_of names.entry) (thread_names names.entry.program.now) setup judged.now) }
+    ensures text { OnOk result (string_bytes out.new ≡ string_bytes out.old ++
+        row_text (names_of names.entry) (thread_names names.entry.program.now) setup judged.now) }
     ensures only { IfErr result (λ e. (e ≡ Memory) ⊎ (e ≡ ResultTooLong)) }
     ensures long { IsErrOf result ResultTooLong → most_steps < length (schedule_of setup judged.now.row) }
 {
@@ -225,7 +235,8 @@ fn push_rows(
     judged: &[JudgedRow<'_>],
     exploring: Exploring,
 ) -> Result<(), TranslationFault>
-    ensures text { OnOk result (string_bytes out.new ≡ string_bytes out.old ++ rows_text (names_of names.entry) (thread_names names.entry.program.now) setup (shown exploring judged.now)) }
+    ensures text { OnOk result (string_bytes out.new ≡ string_bytes out.old ++
+        rows_text (names_of names.entry) (thread_names names.entry.program.now) setup (shown exploring judged.now)) }
     ensures only { IfErr result (λ e. (e ≡ Memory) ⊎ (e ≡ ResultTooLong)) }
     ensures long { IsErrOf result ResultTooLong → HasLong setup (rows_of judged.now) }
 {
@@ -272,8 +283,8 @@ fn end_words(complete: bool, roomy: bool) -> &'static str
     " complete in these cells\n"
 }
 
-/// The last line: how many states were kept, how many histories there are, how many of them have no legal order, and whether they are
-/// complete.
+/// The last line: how many states were kept, how many histories there are, how many of them have no legal order, and
+/// whether they are complete.
 fn push_last(
     out: &mut String,
     states: usize,
@@ -298,7 +309,9 @@ pub fn print_exploration(
     judged: &[JudgedRow<'_>],
     exploring: Exploring,
 ) -> Result<String, TranslationFault>
-    ensures text { IfOk result (λ text. string_bytes text ≡ explored_text (names_of names.entry) (thread_names names.entry.program.now) found.now.setup judged.now found.now.states found.now.complete found.now.roomy exploring) }
+    ensures text { IfOk result (λ text. string_bytes text ≡
+        explored_text (names_of names.entry) (thread_names names.entry.program.now) found.now.setup judged.now
+        found.now.states found.now.complete found.now.roomy exploring) }
     ensures only { IfErr result (λ e. (e ≡ Memory) ⊎ (e ≡ ResultTooLong)) }
     ensures long { IsErrOf result ResultTooLong → HasLong found.now.setup (rows_of judged.now) }
 {

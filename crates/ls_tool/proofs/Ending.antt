@@ -16,10 +16,11 @@ use Rattle.ls_faults.specs.declared.fault.ToolFault.{ToolFault}
 use Rattle.ls_faults.specs.declared.fault.ToolFault.TheVariants as fault
 use Rattle.ls_tool.specs.declared.refusal.Refusal.{Refusal}
 use Rattle.ls_tool.specs.declared.refusal.Refusal.TheVariants as refusal
-use Rattle.ls_faults.specs.Given.{Gives}
-use Rattle.ls_tool.specs.Output.{Answered, AnswersText, AsAsked, BadLine, Begins, Decided, Decides, Ends, Helps}
+use Rattle.ls_faults.specs.Given.{GivesText}
+use Rattle.ls_tool.specs.Output.{Answered, AnswersText, AsAsked, BadLine, Begins, Closes, Decided, Decides, Ends, Usage}
 use Rattle.ls_tool.specs.Output.{IsEnding, IsTaken, OfInput, OutOfMemory, Prints, ReaderFailed, ReadsAfterWords}
-use Rattle.ls_tool.specs.Output.{RefusesAs, Responds, Tells, Told, Unreadable, WriterFailed, refused_words, told}
+use Rattle.ls_tool.specs.Output.{RefusesAs, Responds, Tells, TellsFirst, Told, Unreadable, WriterFailed}
+use Rattle.ls_tool.specs.Output.{refused_words, told}
 
 -- what follows of an input's answer
 pub if_known : (o : Option Text) (P Q : Text → Type 0) → ((x : Text) → P x → Q x) → OfInput o P → OfInput o Q
@@ -44,11 +45,14 @@ keeps None = tt
 keeps (Some x) = refl
 
 pub decide_ok : (words : List Text) (input : Text) (l : CommandLine) (text : String Global) → AsksFor words (Some l)
-    → Gives (AnswersText l.request input) (Ok text) → Decides words input (Ok text)
+    → GivesText (AnswersText l.request input) (Ok text) → Decides words input (Ok text)
 decide_ok words input l text e h = Answered l (Ok (string_bytes text)) e h
 
 -- a fault other than want of memory is one that may be given
-given : (May : Result Text ToolFault → Type 0) (f : ToolFault) → ¬ (f ≡ fault.Memory) → Gives May (Err f) → May (Err f)
+given : (May : Result Text ToolFault → Type 0) (f : ToolFault) →
+    ¬ (f ≡ fault.Memory) →
+    GivesText May (Err f) →
+    May (Err f)
 given May fault.Memory other h = absurd (other refl)
 given May fault.ReadFailed other h = h
 given May (fault.Text f) other h = h
@@ -87,49 +91,49 @@ plain words input l f g e r h = subst (λ x. IsEnding words input (Tells (told x
 -- the fault of an answer is that of the words and the input
 pub decide_err : (words : List Text) (input : Text) (l : CommandLine) (f : ToolFault) (r : Refusal) →
     AsksFor words (Some l)
-    → Gives (AnswersText l.request input) (Err f) → RefusesAs l.explain f input r → Decides words input (Err r)
+    → GivesText (AnswersText l.request input) (Err f) → RefusesAs l.explain f input r → Decides words input (Err r)
 decide_err words input l f (refusal.BadLine x) e h r = absurd r
 decide_err words input l f (refusal.Fault fault.Memory) e h r = tt
 decide_err words input l f (refusal.Fault fault.ReadFailed) e h r = plain words input l f fault.ReadFailed e r
-    (subst (λ x. Gives (AnswersText l.request input) (Err x)) (sym r.0) h)
+    (subst (λ x. GivesText (AnswersText l.request input) (Err x)) (sym r.0) h)
 decide_err words input l f (refusal.Fault (fault.Text g)) e h r = plain words input l f (fault.Text g) e r
-    (subst (λ x. Gives (AnswersText l.request input) (Err x)) (sym r.0) h)
+    (subst (λ x. GivesText (AnswersText l.request input) (Err x)) (sym r.0) h)
 decide_err words input l f (refusal.Fault (fault.Check g)) e h r = plain words input l f (fault.Check g) e r
-    (subst (λ x. Gives (AnswersText l.request input) (Err x)) (sym r.0) h)
+    (subst (λ x. GivesText (AnswersText l.request input) (Err x)) (sym r.0) h)
 decide_err words input l f (refusal.Fault (fault.Program g)) e h r = plain words input l f (fault.Program g) e r
-    (subst (λ x. Gives (AnswersText l.request input) (Err x)) (sym r.0) h)
+    (subst (λ x. GivesText (AnswersText l.request input) (Err x)) (sym r.0) h)
 decide_err words input l f (refusal.Fault (fault.Build g)) e h r = plain words input l f (fault.Build g) e r
-    (subst (λ x. Gives (AnswersText l.request input) (Err x)) (sym r.0) h)
+    (subst (λ x. GivesText (AnswersText l.request input) (Err x)) (sym r.0) h)
 decide_err words input l f (refusal.Fault fault.BadCells) e h r = plain words input l f fault.BadCells e r
-    (subst (λ x. Gives (AnswersText l.request input) (Err x)) (sym r.0) h)
+    (subst (λ x. GivesText (AnswersText l.request input) (Err x)) (sym r.0) h)
 decide_err words input l f (refusal.Fault (fault.Schedule g)) e h r = plain words input l f (fault.Schedule g) e r
-    (subst (λ x. Gives (AnswersText l.request input) (Err x)) (sym r.0) h)
+    (subst (λ x. GivesText (AnswersText l.request input) (Err x)) (sym r.0) h)
 decide_err words input l f (refusal.Fault (fault.Translation g)) e h r = plain words input l f (fault.Translation g) e r
-    (subst (λ x. Gives (AnswersText l.request input) (Err x)) (sym r.0) h)
+    (subst (λ x. GivesText (AnswersText l.request input) (Err x)) (sym r.0) h)
 decide_err words input l f (refusal.Fault (fault.Live g)) e h r = plain words input l f (fault.Live g) e r
-    (subst (λ x. Gives (AnswersText l.request input) (Err x)) (sym r.0) h)
+    (subst (λ x. GivesText (AnswersText l.request input) (Err x)) (sym r.0) h)
 decide_err words input l f (refusal.Fault (fault.Turns g)) e h r = plain words input l f (fault.Turns g) e r
-    (subst (λ x. Gives (AnswersText l.request input) (Err x)) (sym r.0) h)
+    (subst (λ x. GivesText (AnswersText l.request input) (Err x)) (sym r.0) h)
 decide_err words input l f (refusal.Fault (fault.Batch g)) e h r = plain words input l f (fault.Batch g) e r
-    (subst (λ x. Gives (AnswersText l.request input) (Err x)) (sym r.0) h)
+    (subst (λ x. GivesText (AnswersText l.request input) (Err x)) (sym r.0) h)
 decide_err words input l f (refusal.Fault (fault.Explore g)) e h r = plain words input l f (fault.Explore g) e r
-    (subst (λ x. Gives (AnswersText l.request input) (Err x)) (sym r.0) h)
+    (subst (λ x. GivesText (AnswersText l.request input) (Err x)) (sym r.0) h)
 decide_err words input l f (refusal.Fault (fault.Aim g)) e h r = plain words input l f (fault.Aim g) e r
-    (subst (λ x. Gives (AnswersText l.request input) (Err x)) (sym r.0) h)
+    (subst (λ x. GivesText (AnswersText l.request input) (Err x)) (sym r.0) h)
 decide_err words input l f (refusal.Fault (fault.History g)) e h r = plain words input l f (fault.History g) e r
-    (subst (λ x. Gives (AnswersText l.request input) (Err x)) (sym r.0) h)
+    (subst (λ x. GivesText (AnswersText l.request input) (Err x)) (sym r.0) h)
 decide_err words input l f (refusal.Fault (fault.Order g)) e h r = plain words input l f (fault.Order g) e r
-    (subst (λ x. Gives (AnswersText l.request input) (Err x)) (sym r.0) h)
+    (subst (λ x. GivesText (AnswersText l.request input) (Err x)) (sym r.0) h)
 decide_err words input l f (refusal.Fault (fault.Tally g)) e h r = plain words input l f (fault.Tally g) e r
-    (subst (λ x. Gives (AnswersText l.request input) (Err x)) (sym r.0) h)
+    (subst (λ x. GivesText (AnswersText l.request input) (Err x)) (sym r.0) h)
 decide_err words input l f (refusal.Fault fault.WrongParts) e h r = plain words input l f fault.WrongParts e r
-    (subst (λ x. Gives (AnswersText l.request input) (Err x)) (sym r.0) h)
+    (subst (λ x. GivesText (AnswersText l.request input) (Err x)) (sym r.0) h)
 decide_err words input l f (refusal.Fault fault.TooManyTrapped) e h r = plain words input l f fault.TooManyTrapped e r
-    (subst (λ x. Gives (AnswersText l.request input) (Err x)) (sym r.0) h)
+    (subst (λ x. GivesText (AnswersText l.request input) (Err x)) (sym r.0) h)
 decide_err words input l f (refusal.Fault fault.NotText) e h r = plain words input l f fault.NotText e r
-    (subst (λ x. Gives (AnswersText l.request input) (Err x)) (sym r.0) h)
+    (subst (λ x. GivesText (AnswersText l.request input) (Err x)) (sym r.0) h)
 decide_err words input l f (refusal.Fault fault.WriteFailed) e h r = plain words input l f fault.WriteFailed e r
-    (subst (λ x. Gives (AnswersText l.request input) (Err x)) (sym r.0) h)
+    (subst (λ x. GivesText (AnswersText l.request input) (Err x)) (sym r.0) h)
 decide_err words input l f (refusal.Explained x) e h r =
     let same : x.items ≡ told l.explain f input = r.0 ∙ ap (λ t. told t f input) (sym r.1) in
     subst (λ t. IsEnding words input (Tells t)) (sym same) (asked words input l f e
@@ -182,7 +186,7 @@ is_decided words input unlike (Unreadable l e) = absurd (unlike refl)
 -- a run that tells a fault
 tells : (words : List Text) (input : Text) (f : ToolFault) (exit : Exit) (out err err' : Option Text)
     → exit.status ≡ 1 → Told (fault_line f) exit.is_told err err' → Decides words input (Err (refusal.Fault f)) →
-    Ends words input exit out out err err'
+    Closes words input exit out out err err'
 tells words input fault.Memory exit out err err' s t d = OutOfMemory (s, keeps out, t)
 tells words input fault.ReadFailed exit out err err' s t d = AsAsked (Tells (fault_line fault.ReadFailed)) d
     (s, keeps out, t)
@@ -227,7 +231,7 @@ tells words input fault.WriteFailed exit out err err' s t d = AsAsked (Tells (fa
 pub tells_fault : (words : List Text) (input : Text) (f : ToolFault) (exit : Exit) (out err err' : Option Text)
     {r : Result (String Global) Refusal}
     → r ≡ Err (refusal.Fault f) → exit.status ≡ 1 → Told (fault_line f) exit.is_told err err' → Responds words input r →
-    Ends words input exit out out err err'
+    Closes words input exit out out err err'
 tells_fault words input f exit out err err' e s t (Decided r d) = tells words input f exit out err err' s t
     (subst (Decides words input) e d)
 tells_fault words input f exit out err err' e s t (Unreadable l a) =
@@ -237,12 +241,12 @@ tells_fault words input f exit out err err' e s t (Unreadable l a) =
 -- and one that tells it with what is said of it
 pub explains : (words : List Text) (input told : Text) (exit : Exit) (out err err' : Option Text)
     → exit.status ≡ 1 → Told told exit.is_told err err' → IsEnding words input (Tells told) →
-    Ends words input exit out out err err'
+    Closes words input exit out out err err'
 explains words input told exit out err err' s t d = AsAsked (Tells told) d (s, keeps out, t)
 
 pub done : (words : List Text) (input : Text) (text : String Global) (exit : Exit) (out out' err : Option Text)
     → exit.status ≡ 0 → Appends out out' (string_bytes text) → Responds words input (Ok text) →
-    Ends words input exit out out' err err
+    Closes words input exit out out' err err
 done words input text exit out out' err s a d = AsAsked (Prints (string_bytes text))
     (is_decided words input (λ e. absurd (cc)) d) (s, a, keeps err)
 
@@ -250,13 +254,13 @@ pub cut_short : (words : List Text) (input : Text) (text : String Global) (exit 
     (out out' err err' : Option Text)
     → exit.status ≡ 1 → Begins out out' (string_bytes text) →
     Told (fault_line fault.WriteFailed) exit.is_told err err' → Responds words input (Ok text) →
-    Ends words input exit out out' err err'
+    Closes words input exit out out' err err'
 cut_short words input text exit out out' err err' s b t d = WriterFailed (string_bytes text)
     (is_decided words input (λ e. absurd (cc)) d) (s, b, t)
 
 pub bad_line : (words : List Text) (input : Text) (e : Error) (exit : Exit) (out err err' : Option Text)
-    → exit.status ≡ 2 → Responds words input (Err (refusal.BadLine e)) → Ends words input exit out out err err'
-bad_line words input e exit out err err' s d = AsAsked Helps (is_decided words input (λ x. absurd (cc)) d)
+    → exit.status ≡ 2 → Responds words input (Err (refusal.BadLine e)) → Closes words input exit out out err err'
+bad_line words input e exit out err err' s d = AsAsked Usage (is_decided words input (λ x. absurd (cc)) d)
     (s, keeps out)
 
 -- what a write leaves, where it didn't fail and where it failed
@@ -266,3 +270,10 @@ pub written : (r : Result (Unit {0}) ToolFault) (told : Text) (old new : Option 
     Told told (is_ok r) old new
 written (Ok x) told old new a b = a
 written (Err e) told old new a b = b
+
+-- after the lines of progress
+pub ends_so : (words : List Text) (input : Text) (exit : Exit) (out out' err between err' : Option Text) →
+    TellsFirst words err between →
+    Closes words input exit out out' between err' →
+    Ends words input exit out out' err err'
+ends_so words input exit out out' err between err' p e = record { between = between; progress = p; end = e }

@@ -7,14 +7,14 @@ use Rattle.ls_parts.specs.Parts.{parts_of}
 use Rattle.ls_command_line.specs.declared.words.Request.{Request}
 use Rattle.ls_command_line.specs.declared.words.Request.TheVariants as requests
 use Rattle.ls_faults.specs.declared.fault.ToolFault.{ToolFault}
-use Rattle.ls_faults.specs.Given.{Gives}
+use Rattle.ls_faults.specs.Given.{GivesText}
 use Rattle.ls_tool.specs.Output.{Answers, AnswersInput}
 
 -- an input that isn't one of tallies is answered on its parts
 pub on_parts : (r : Request) (input : Text) (answer : Result (String Global) ToolFault)
     → ((count : Option ℕ) → ¬ (r ≡ requests.Merge count))
-    → Gives (Answers r (parts_of input)) answer
-    → Gives (AnswersInput r input) answer
+    → GivesText (Answers r (parts_of input)) answer
+    → GivesText (AnswersInput r input) answer
 on_parts requests.Check input answer other h = h
 on_parts requests.Order input answer other h = h
 on_parts requests.Compile input answer other h = h
@@ -29,5 +29,5 @@ on_parts (requests.Translate to cells) input answer other h = h
 on_parts (requests.Live cells limit) input answer other h = h
 on_parts (requests.Batch seed count steps switch cells judge) input answer other h = h
 on_parts (requests.Sample seed steps switch cells) input answer other h = h
-on_parts (requests.Explore cells states illegal first) input answer other h = h
+on_parts (requests.Explore cells states illegal first progress) input answer other h = h
 on_parts (requests.Merge count) input answer other h = absurd (other count refl)

@@ -1,3 +1,4 @@
 pub mod Written
 pub mod Ending
 pub mod Inputs
+pub mod Telling

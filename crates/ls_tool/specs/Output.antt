@@ -1,7 +1,8 @@
 -- What the program writes, for its words and its input.
-use Rattle.std.specs.Prelude.{◌≡◌, ◌≢◌, ◌≤◌, ℕ, List, [], ◌∷◌, ◌++◌, length, take, Bool, MatchBool, true, false, Option}
-use Rattle.std.specs.Prelude.{Some, None, Result, Ok, Err, String, string_bytes, if◌then◌else◌}
+use Rattle.std.specs.Prelude.{◌≡◌, ◌≢◌, ◌≤◌, ◌+◌, ◌*◌, ℕ, List, [], ◌∷◌, ◌++◌, length, take, codes, Bool, MatchBool}
+use Rattle.std.specs.Prelude.{true, false, Option, Some, None, Result, Ok, Err, String, string_bytes, if◌then◌else◌}
 use Rattle.std.specs.Global.{Global}
+use Rattle.std.specs.Fmt.{decimal}
 use Rattle.std.specs.Io.KnownBytes.{Appends, Keeps}
 use Rattle.ls_report.specs.Events.{Text}
 use Rattle.ls_views.specs.Aimed.{AimsTo}
@@ -18,8 +19,8 @@ use Rattle.ls_explore_commands.specs.Explored.{ExploresTo}
 use Rattle.ls_explore_reports.specs.declared.printing.Exploring.{Exploring}
 use Rattle.ls_paging.specs.Paged.{PagesTo, PagesWithOrderTo}
 use Rattle.ls_views.specs.Viewed.{ViewsTo}
-use Rattle.ls_views.specs.declared.viewing.View.{View}
-use Rattle.ls_views.specs.declared.viewing.View.TheVariants as views
+use Rattle.ls_views.specs.declared.view.View.{View}
+use Rattle.ls_views.specs.declared.view.View.TheVariants as views
 use Rattle.ls_explanations.specs.Explanations.{note}
 use Rattle.ls_faults.specs.Faults.{fault_line}
 use Rattle.ls_parts.specs.Parts.{is_text, parts_of}
@@ -62,7 +63,7 @@ OnTwo (requests.Batch seed count steps switch cells judge) classes program answe
     (requests.Batch seed count steps switch cells judge) classes program answer
 OnTwo (requests.Sample seed steps switch cells) classes program answer = OnSamples
     (requests.Sample seed steps switch cells) classes program answer
-OnTwo (requests.Explore cells states illegal first) classes program answer = ExploresTo
+OnTwo (requests.Explore cells states illegal first progress) classes program answer = ExploresTo
     (exploring cells states illegal first) classes program answer
 OnTwo other first second answer = answer ≡ Err faults.WrongParts
 
@@ -133,7 +134,7 @@ told false f input = fault_line f
 pub data Ending : Type 0 where
   Prints : (text : Text) → Ending
   Tells : (told : Text) → Ending
-  Helps : Ending
+  Usage : Ending
 
 abbrev pub ending_of : Bool → Text → Result Text ToolFault → Ending
 ending_of explain input (Ok text) = Prints text
@@ -141,7 +142,7 @@ ending_of explain input (Err f) = Tells (told explain f input)
 
 -- what the words and the input ask for
 pub data IsEnding (words : List Text) (input : Text) : Ending → Type 0 where
-  BadLine : AsksFor words None → IsEnding words input Helps
+  BadLine : AsksFor words None → IsEnding words input Usage
   Answered : (l : CommandLine) (answer : Result Text ToolFault) →
       AsksFor words (Some l) →
       AnswersText l.request input answer
@@ -170,7 +171,7 @@ IsTaken other = Unit {0}
 -- it is an ending of the words and the input, or memory ran out
 abbrev pub Decides : List Text → Text → Result (String Global) Refusal → Type 0
 Decides words input (Ok text) = IsEnding words input (Prints (string_bytes text))
-Decides words input (Err (refusals.BadLine e)) = IsEnding words input Helps
+Decides words input (Err (refusals.BadLine e)) = IsEnding words input Usage
 Decides words input (Err (refusals.Fault faults.Memory)) = Unit {0}
 Decides words input (Err (refusals.Fault f)) = IsEnding words input (Tells (fault_line f))
 Decides words input (Err (refusals.Explained bytes)) = IsEnding words input (Tells bytes.items)
@@ -202,30 +203,70 @@ Begins old new bytes = (n : ℕ) × (n ≤ length bytes) × Appends old new (tak
 abbrev pub Told : Text → Bool → Option Text → Option Text → Type 0
 Told told is_told err err' = MatchBool is_told (Appends err err' told) (Begins err err' told)
 
+-- as `explore: 131072 states, depth 37`, of so many times 65,536 states
+abbrev pub progress_line : ℕ → ℕ → Text
+progress_line count depth =
+    codes "explore: " ++ (decimal (65536 * count) ++ (codes " states, depth " ++ (decimal depth ++ codes "\n")))
+
+-- after so many lines of progress, one more for each depth
+abbrev pub progress_text : ℕ → List ℕ → Text
+progress_text count [] = []
+progress_text count (depth ∷ depths) = progress_line (count + 1) depth ++ progress_text (count + 1) depths
+
+-- where so many lines were there, these are added and counted; or a beginning of them, where the writer failed
+pub record HasTold (before after : ℕ) (is_open : Bool) (err err' : Option Text) : Type 0 where
+  pub depths : List ℕ
+  pub lines : is_open ≡ true → after ≡ before + length depths
+  pub added : Told (progress_text before depths) is_open err err'
+
+-- whether a command tells of its progress
+abbrev pub tells_progress : Request → Bool
+tells_progress (requests.Explore cells states illegal first progress) = progress
+tells_progress other = false
+
+-- a beginning of lines of progress went to the writer, if the command tells of it, and else nothing
+abbrev pub Progresses : Request → Option Text → Option Text → Type 0
+Progresses r err err' = MatchBool (tells_progress r) ((depths : List ℕ) × Begins err err' (progress_text 0 depths))
+    (err' ≡ err)
+
+-- nothing went to the writer, or what does so for a command of these words
+pub data TellsFirst (words : List Text) (err : Option Text) : Option Text → Type 0 where
+  Silent : TellsFirst words err err
+  Progressed : (l : CommandLine) (err' : Option Text) →
+      AsksFor words (Some l) →
+      Progresses l.request err err' →
+      TellsFirst words err err'
+
 -- status 0 with the whole text, 1 with what is told of a fault, 2 for a bad command line
 abbrev pub Shows : Ending → Exit → Option Text → Option Text → Option Text → Option Text → Type 0
 Shows (Prints text) exit out out' err err' = (exit.status ≡ 0) × Appends out out' text × Keeps err err'
 Shows (Tells told) exit out out' err err' = (exit.status ≡ 1) × Keeps out out' × Told told exit.is_told err err'
-Shows Helps exit out out' err err' = (exit.status ≡ 2) × Keeps out out'
+Shows Usage exit out out' err err' = (exit.status ≡ 2) × Keeps out out'
 
 -- the writer failed: a beginning of the text is there, and the fault's line is told
 abbrev pub CutShort : Text → Exit → Option Text → Option Text → Option Text → Option Text → Type 0
 CutShort text exit out out' err err' = (exit.status ≡ 1) × Begins out out' text ×
     Told (fault_line faults.WriteFailed) exit.is_told err err'
 
--- A run ends as the words and the input ask, or it tells that memory ran out or that a stream failed.
-pub data Ends (words : List Text) (input : Text) (exit : Exit) (out out' err err' : Option Text) : Type 0 where
+-- a run ends as the words and the input ask, or it tells that memory ran out or that a stream failed
+pub data Closes (words : List Text) (input : Text) (exit : Exit) (out out' err err' : Option Text) : Type 0 where
   AsAsked : (ending : Ending) →
       IsEnding words input ending →
       Shows ending exit out out' err err' →
-      Ends words input exit out out' err err'
+      Closes words input exit out out' err err'
   OutOfMemory : Shows (Tells (fault_line faults.Memory)) exit out out' err err' →
-      Ends words input exit out out' err err'
+      Closes words input exit out out' err err'
   ReaderFailed : (l : CommandLine) →
       AsksFor words (Some l) →
       Shows (Tells (fault_line faults.ReadFailed)) exit out out' err err' →
-      Ends words input exit out out' err err'
+      Closes words input exit out out' err err'
   WriterFailed : (text : Text) →
       IsEnding words input (Prints text) →
       CutShort text exit out out' err err' →
-      Ends words input exit out out' err err'
+      Closes words input exit out out' err err'
+
+-- A run ends so, after the lines of progress that the words ask for. Where they ask for none, there are none.
+pub record Ends (words : List Text) (input : Text) (exit : Exit) (out out' err err' : Option Text) : Type 0 where
+  pub between : Option Text
+  pub progress : TellsFirst words err between
+  pub end : Closes words input exit out out' between err'

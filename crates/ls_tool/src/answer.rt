@@ -3,37 +3,41 @@
 ghost use Rattle.std.specs.Prelude.{◌≡◌, List, Some, map, string_bytes};
 ghost use Rattle.ls_command_line.specs.Words.{AsksFor};
 ghost use Rattle.ls_commands.specs.Tallied.{drawing};
-ghost use Rattle.ls_faults.specs.Given.{Gives};
+ghost use Rattle.ls_explore.specs.Watching.{GoesOn};
+ghost use Rattle.ls_faults.specs.Given.{GivesText};
+ghost use Rattle.ls_parts.specs.Cutting.{plain_text};
 ghost use Rattle.ls_report.specs.Events.{Text};
-ghost use Rattle.ls_tool.specs.Output.{Answers, AnswersInput, AnswersText, Decides, IsTaken, OnFour, OnOne, OnSamples, OnThree, OnTwo};
+ghost use Rattle.ls_tool.specs.Output.{Answers, AnswersInput, AnswersText, Decides, IsTaken, OnFour, OnOne};
+ghost use Rattle.ls_tool.specs.Output.{OnSamples, OnThree, OnTwo};
 
 use crate::explained::refusal_of;
 use crate::refusal::Refusal;
 use crate::views::{state_view, states_view, trace_view};
 use ls_command_line::{CommandLine, Request, read_words};
-use ls_commands::compiled::{count, replay};
-use ls_commands::judging::judge_batch;
-use ls_commands::living::{live, replay_live};
-use ls_commands::sampling::sample;
-use ls_commands::tallying::{Drawing, Sampling, batch};
-use ls_commands::translating::translate;
+use ls_commands::batch::{Drawing, Sampling, batch};
+use ls_commands::judged_batch::judge_batch;
+use ls_commands::live::{live, replay_live};
+use ls_commands::replay::{count, replay};
+use ls_commands::sample::sample;
+use ls_commands::translate::translate;
+use ls_explore::{Nobody, Watch};
 use ls_explore_commands::{Exploring, explore};
 use ls_faults::fault::ToolFault;
 use ls_merging::merge;
 use ls_page::Window;
-use ls_paging::paging::{page, page_with_order};
+use ls_paging::page::{page, page_with_order};
 use ls_parts::{parts_of, text_of};
-use ls_views::aiming::aim;
-use ls_views::checking::check;
-use ls_views::ordering::order;
-use ls_views::viewing::{View, show};
+use ls_views::aim::aim;
+use ls_views::check::check;
+use ls_views::order::order;
+use ls_views::view::{View, show};
 use std::alloc::Global;
 use std::sync::Wait;
 use std::thread::Threads;
 
 /// What the command answers on one text.
 fn on_one(alloc: Global, request: Request, text: &str) -> Result<String, ToolFault>
-    ensures { Gives (OnOne request text.now) result }
+    ensures { GivesText (OnOne request text.now) result }
 {
     match request {
         Request::Order => order(alloc, text),
@@ -73,7 +77,7 @@ fn on_samples<R: Threads + Sync>(
     classes: &str,
     program: &str,
 ) -> Result<String, ToolFault>
-    ensures { Gives (OnSamples request classes.now program.now) result }
+    ensures { GivesText (OnSamples request classes.now program.now) result }
 {
     match request {
         Request::Batch {
@@ -108,14 +112,16 @@ fn on_samples<R: Threads + Sync>(
 }
 
 /// What the command answers on two texts.
-fn on_two<R: Threads + Wait + Sync>(
+fn on_two<R: Threads + Wait + Sync, W: Watch>(
     rt: &R,
     alloc: Global,
     request: Request,
     first: &str,
     second: &str,
+    watch: &mut W,
 ) -> Result<String, ToolFault>
-    ensures { Gives (OnTwo request first.now second.now) result }
+    ensures gives { GivesText (OnTwo request first.now second.now) result }
+    ensures watched { GoesOn W.Since watch.old watch.new }
 {
     match request {
         Request::Check => check(alloc, first, second),
@@ -131,6 +137,7 @@ fn on_two<R: Threads + Wait + Sync>(
             states,
             illegal,
             first: one,
+            progress: _,
         } => {
             let exploring = Exploring {
                 cells: cells as usize,
@@ -138,7 +145,7 @@ fn on_two<R: Threads + Wait + Sync>(
                 illegal,
                 first: one,
             };
-            explore(alloc, exploring, first, second)
+            explore(alloc, exploring, first, second, watch)
         }
         Request::Order
         | Request::Replay { .. }
@@ -162,7 +169,7 @@ fn on_three<R: Threads + Wait + Sync>(
     program: &str,
     schedule: &str,
 ) -> Result<String, ToolFault>
-    ensures { Gives (OnThree request classes.now program.now schedule.now) result }
+    ensures { GivesText (OnThree request classes.now program.now schedule.now) result }
 {
     match request {
         Request::Replay { cells, live: false } => {
@@ -227,7 +234,7 @@ fn on_four(
     schedule: &str,
     order: &str,
 ) -> Result<String, ToolFault>
-    ensures { Gives (OnFour request classes.now program.now schedule.now order.now) result }
+    ensures { GivesText (OnFour request classes.now program.now schedule.now order.now) result }
 {
     match request {
         Request::Page { from, to } => {
@@ -242,78 +249,74 @@ fn on_four(
 }
 
 /// What the command answers on its parts.
-fn decide<R: Threads + Wait + Sync>(
+fn decide<R: Threads + Wait + Sync, W: Watch>(
     rt: &R,
     alloc: Global,
     request: Request,
-    parts: &[String],
+    parts: &[&str],
+    watch: &mut W,
 ) -> Result<String, ToolFault>
-    ensures { Gives (Answers request (map string_bytes parts.now)) result }
+    ensures gives { GivesText (Answers request (map plain_text parts.now)) result }
+    ensures watched { GoesOn W.Since watch.old watch.new }
 {
     match parts {
-        [text] => on_one(alloc, request, text.as_str()),
-        [first, second] => on_two(rt, alloc, request, first.as_str(), second.as_str()),
-        [classes, program, schedule] => on_three(
-            rt,
-            alloc,
-            request,
-            classes.as_str(),
-            program.as_str(),
-            schedule.as_str(),
-        ),
-        [classes, program, schedule, order] => on_four(
-            alloc,
-            request,
-            classes.as_str(),
-            program.as_str(),
-            schedule.as_str(),
-            order.as_str(),
-        ),
+        [text] => on_one(alloc, request, text),
+        [first, second] => on_two(rt, alloc, request, first, second, watch),
+        [classes, program, schedule] => on_three(rt, alloc, request, classes, program, schedule),
+        [classes, program, schedule, order] => {
+            on_four(alloc, request, classes, program, schedule, order)
+        }
         _ => Err(ToolFault::WrongParts),
     }
 }
 
 /// What the command answers on a text, which is cut into parts unless it is one of tallies.
-fn answer_text<R: Threads + Wait + Sync>(
+fn answer_text<R: Threads + Wait + Sync, W: Watch>(
     rt: &R,
     alloc: Global,
     request: Request,
     text: &str,
+    watch: &mut W,
 ) -> Result<String, ToolFault>
-    ensures { Gives (AnswersInput request text.now) result }
+    ensures gives { GivesText (AnswersInput request text.now) result }
+    ensures watched { GoesOn W.Since watch.old watch.new }
 {
     if let Request::Merge { count } = request {
         return merge(alloc, count, text);
     }
     let parts = parts_of(alloc, text)?;
-    decide(rt, alloc, request, parts.as_slice())
+    decide(rt, alloc, request, parts.as_slice(), watch)
 }
 
-fn answer_of<R: Threads + Wait + Sync>(
+fn answer_of<R: Threads + Wait + Sync, W: Watch>(
     rt: &R,
     alloc: Global,
     request: Request,
     input: &[u8],
+    watch: &mut W,
 ) -> Result<String, ToolFault>
-    ensures { Gives (AnswersText request input.now) result }
+    ensures gives { GivesText (AnswersText request input.now) result }
+    ensures watched { GoesOn W.Since watch.old watch.new }
 {
     let Some(text) = text_of(input) else {
         return Err(ToolFault::NotText);
     };
-    answer_text(rt, alloc, request, text)
+    answer_text(rt, alloc, request, text, watch)
 }
 
 /// What a command line asks for of an input, or why there is no output.
-pub(crate) fn answer_line<R: Threads + Wait + Sync>(
+pub(crate) fn answer_line<R: Threads + Wait + Sync, W: Watch>(
     rt: &R,
     alloc: Global,
     line: CommandLine,
     input: &[u8],
+    watch: &mut W,
 ) -> Result<String, Refusal>
     ensures decides { (words : List Text) → AsksFor words (Some line) → Decides words input.now result }
     ensures taken { IsTaken result }
+    ensures watched { GoesOn W.Since watch.old watch.new }
 {
-    match answer_of(rt, alloc, line.request, input) {
+    match answer_of(rt, alloc, line.request, input, watch) {
         Ok(text) => Ok(text),
         Err(fault) => Err(refusal_of(alloc, line.explain, fault, input)),
     }
@@ -330,5 +333,5 @@ pub fn answer<'a, R: Threads + Wait + Sync>(
     ensures { Decides (map string_bytes words.entry.now) input.now result }
 {
     let line = read_words(alloc, words)?;
-    answer_line(rt, alloc, line, input)
+    answer_line(rt, alloc, line, input, &mut Nobody)
 }

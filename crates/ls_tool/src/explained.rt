@@ -1,6 +1,7 @@
 // A fault with what is said of it.
 
 ghost use Rattle.std.specs.Prelude.{◌≡◌, IfOk, map, string_bytes, true};
+ghost use Rattle.ls_parts.specs.Cutting.{plain_text};
 ghost use Rattle.ls_tool.specs.Output.{RefusesAs, cut_for, texts_of, told};
 
 use crate::refusal::Refusal;
@@ -9,6 +10,17 @@ use ls_faults::fault::ToolFault;
 use ls_faults::line::fault_line;
 use ls_parts::{parts_of, text_of};
 use std::alloc::{AllocError, Global};
+
+/// The same texts.
+fn copied(alloc: Global, parts: &[&str]) -> Result<Vec<String>, AllocError>
+    ensures { IfOk result (λ texts. map string_bytes texts.items ≡ map plain_text parts.now) }
+{
+    let mut texts = Vec::with_capacity(alloc, parts.len())?;
+    for part in parts {
+        texts.push(String::from_str(alloc, part)?)?;
+    }
+    Ok(texts)
+}
 
 /// The texts in which the fault can stand: the parts of the input, or all of it if it is one of tallies.
 fn cut_for(alloc: Global, fault: ToolFault, text: &str) -> Result<Vec<String>, AllocError>
@@ -20,7 +32,10 @@ fn cut_for(alloc: Global, fault: ToolFault, text: &str) -> Result<Vec<String>, A
             texts.push(String::from_str(alloc, text)?)?;
             Ok(texts)
         }
-        _ => parts_of(alloc, text),
+        _ => {
+            let parts = parts_of(alloc, text)?;
+            copied(alloc, parts.as_slice())
+        }
     }
 }
 

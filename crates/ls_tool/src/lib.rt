@@ -3,6 +3,7 @@
 
 pub mod answer;
 mod explained;
+mod progress;
 mod refusal;
 mod running;
 mod streams;

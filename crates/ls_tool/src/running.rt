@@ -1,13 +1,18 @@
 // The whole run, over any streams.
 
-ghost use Rattle.std.specs.Prelude.{◌≡◌, map, string_bytes};
+ghost use Rattle.std.specs.Prelude.{◌≡◌, List, Some, map, string_bytes};
 ghost use Rattle.ls_faults.specs.Faults.{fault_line};
-ghost use Rattle.ls_tool.specs.Output.{Ends, OfInput, ReadsAfterWords, Responds, Told};
+ghost use Rattle.ls_command_line.specs.Words.{AsksFor};
+ghost use Rattle.ls_report.specs.Events.{Text};
+ghost use Rattle.ls_tool.specs.Output.{Decides, Ends, IsTaken, OfInput, Progresses, ReadsAfterWords, Responds};
+ghost use Rattle.ls_tool.specs.Output.{TellsFirst, Told, tells_progress};
 
 use crate::answer::answer_line;
+use crate::progress::Progress;
 use crate::refusal::Refusal;
-use crate::streams::{read_whole, write_out};
-use ls_command_line::read_words;
+use crate::streams::{read_whole, tell_out, write_out};
+use ls_command_line::{CommandLine, Request, read_words};
+use ls_explore::Nobody;
 use ls_faults::fault::ToolFault;
 use ls_faults::line::fault_line;
 use std::alloc::{AllocError, Global};
@@ -20,7 +25,8 @@ use std::thread::Threads;
 pub struct Exit {
     /// The exit status.
     pub status: u8,
-    /// Whether all was told: the line of a fault, or what is wrong with the words, is written, or there was nothing to tell.
+    /// Whether all was told: the line of a fault, or what is wrong with the words, is written, or there was nothing to
+    /// tell.
     pub is_told: bool,
 }
 
@@ -35,7 +41,7 @@ fn tell<E: Write>(err: &mut E, told: &[u8]) -> Exit
     ensures status { result.status ≡ 1 }
     ensures told { Told told.now result.is_told (E.contents err.old) (E.contents err.new) }
 {
-    let is_told = write_out(err, told).is_ok();
+    let is_told = tell_out(err, told);
     Exit { status: 1, is_told }
 }
 
@@ -48,24 +54,64 @@ fn tell_line<E: Write>(err: &mut E, fault: ToolFault) -> Exit
     tell(err, line.as_bytes())
 }
 
-/// The answer to the words and to what the reader has left. Words that ask for nothing are answered before anything is read.
-fn respond<'a, H: Threads + Wait + Sync, R: Read>(
+/// Whether a command tells of its progress.
+fn tells_progress(request: Request) -> bool
+    ensures { result ≡ tells_progress request }
+{
+    match request {
+        Request::Explore {
+            cells: _,
+            states: _,
+            illegal: _,
+            first: _,
+            progress,
+        } => progress,
+        _ => false,
+    }
+}
+
+/// What a command line asks for of an input, with lines of progress where it asks for these.
+fn answer_telling<H: Threads + Wait + Sync, E: Write>(
+    rt: &H,
+    alloc: Global,
+    line: CommandLine,
+    input: &[u8],
+    err: &mut E,
+) -> Result<String, Refusal>
+    ensures decides { (words : List Text) → AsksFor words (Some line) → Decides words input.now result }
+    ensures taken { IsTaken result }
+    ensures progress { Progresses line.request (E.contents err.old) (E.contents err.new) }
+{
+    if !tells_progress(line.request) {
+        return answer_line(rt, alloc, line, input, &mut Nobody);
+    }
+    let mut progress = Progress::new(alloc, err);
+    answer_line(rt, alloc, line, input, &mut progress)
+}
+
+/// The answer to the words and to what the reader has left. Words that ask for nothing are answered before anything is
+/// read.
+fn respond<'a, H: Threads + Wait + Sync, R: Read, E: Write>(
     rt: &H,
     alloc: Global,
     words: &'a [String],
     reader: &mut R,
+    err: &mut E,
 ) -> Result<String, Refusal>
-    ensures responds { OfInput (R.remaining reader.old) (λ input. Responds (map string_bytes words.entry.now) input result) }
+    ensures responds { OfInput (R.remaining reader.old)
+        (λ input. Responds (map string_bytes words.entry.now) input result) }
     ensures unread { ReadsAfterWords reader.old reader.new result }
+    ensures progress { TellsFirst (map string_bytes words.entry.now) (E.contents err.old) (E.contents err.new) }
 {
     let line = read_words(alloc, words)?;
     let input = read_whole(alloc, reader)?;
-    answer_line(rt, alloc, line, input.as_slice())
+    answer_telling(rt, alloc, line, input.as_slice(), err)
 }
 
-/// Does what the words ask for: reads the input, answers it as `answer` does, and writes. Answers the exit status; with status 2
-/// nothing is read. If it isn't known what the reader has left, as it isn't of standard input, the run ends as for some input.
-/// Threads are started by `live`, `batch` and `replay --live` alone.
+/// Does what the words ask for: reads the input, answers it as `answer` does, and writes. Answers the exit status; with
+/// status 2 nothing is read. If it isn't known what the reader has left, as it isn't of standard input, the run ends as
+/// for some input. Threads are started by `live`, `batch` and `replay --live` alone. `explore --progress` alone tells
+/// of its progress.
 pub fn run<'a, H: Threads + Wait + Sync, R: Read, W: Write, E: Write>(
     rt: &H,
     alloc: Global,
@@ -78,7 +124,7 @@ pub fn run<'a, H: Threads + Wait + Sync, R: Read, W: Write, E: Write>(
         (W.contents out.old) (W.contents out.new) (E.contents err.old) (E.contents err.new)) }
     ensures unread { result.status ≡ 2 → reader.new ≡ reader.old }
 {
-    match respond(rt, alloc, words, reader) {
+    match respond(rt, alloc, words, reader, err) {
         Ok(text) => match write_out(out, text.as_bytes()) {
             Ok(()) => Exit {
                 status: 0,

@@ -2,7 +2,7 @@
 
 ghost use Rattle.std.specs.Prelude.{◌≡◌, ◌⊎◌, IfErr, IfOk, IfSome, OnErr, OnOk};
 ghost use Rattle.std.specs.Io.KnownBytes.{Appends};
-ghost use Rattle.ls_tool.specs.Output.{Begins};
+ghost use Rattle.ls_tool.specs.Output.{Begins, Told};
 ghost use Rattle.ls_faults.specs.declared.fault.ToolFault.TheVariants as fault;
 
 use ls_faults::fault::ToolFault;
@@ -53,4 +53,11 @@ pub(crate) fn write_out<W: Write>(writer: &mut W, bytes: &[u8]) -> Result<(), To
         Ok(()) => Ok(()),
         Err(_) => Err(ToolFault::WriteFailed),
     }
+}
+
+/// Writes all of the bytes and flushes the writer. Answers whether that is done.
+pub(crate) fn tell_out<W: Write>(writer: &mut W, bytes: &[u8]) -> bool
+    ensures { Told bytes.now result (W.contents writer.old) (W.contents writer.new) }
+{
+    write_out(writer, bytes).is_ok()
 }

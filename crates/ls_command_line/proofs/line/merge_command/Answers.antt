@@ -1,4 +1,5 @@
 use Rattle.ls_command_line.proofs.line.merge_command.Goals as goal
 
 pub returns-clause-shape : goal.returns-clause-shape
-returns-clause-shape c = c.with_option.ensures.shape _ _ c.plain_command-command.ensures.shape c.number_option-count.ensures.rule
+returns-clause-shape c =
+    c.with_option.ensures.shape _ _ c.plain_command-command.ensures.shape c.number_option-count.ensures.rule

@@ -8,7 +8,8 @@ returns-clause-rule c =
       sides.0,
       sides.1,
       ap rule_of c.help.ensures ∙ ap rule_of c.value_name.ensures
-          ∙ ap (λ (r : Rule). record r { value_names = 1 }) (ap rule_of c.required.ensures ∙ ap (λ (r : Rule). record r { required = true }) (ap rule_of c.long.ensures
+          ∙ ap (λ (r : Rule). record r { value_names = 1 }) (ap rule_of c.required.ensures ∙
+          ap (λ (r : Rule). record r { required = true }) (ap rule_of c.long.ensures
           ∙ ap (λ (r : Rule). record r { long = Some (codes "to") }) (ap rule_of sides.2
           ∙ ap (λ (r : Rule). record r { parser = Some sides.0 }) c.new.ensures.rule))),
     )

@@ -12,7 +12,8 @@ abbrev chosen : Option Text → Side
 chosen o = option_map_or named_side o Machine
 
 pub returns-in-Some : goal.returns-in-Some
-returns-in-Some c = c.side_named.ensures ∙ ap chosen (c.in-Some.ensures ∙ first_value-rows (found_of c.args.options.now) (codes "to"))
+returns-in-Some c =
+    c.side_named.ensures ∙ ap chosen (c.in-Some.ensures ∙ first_value-rows (found_of c.args.options.now) (codes "to"))
 
 pub returns-in-None : goal.returns-in-None
 returns-in-None c = ap chosen (c.in-None.ensures ∙ first_value-rows (found_of c.args.options.now) (codes "to"))

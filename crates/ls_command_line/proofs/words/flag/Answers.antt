@@ -9,7 +9,8 @@ abbrev is_true : Option Text → Bool
 is_true o = option_map_or (λ text. bytes_eq text (codes "true")) o false
 
 pub returns-in-Some : goal.returns-in-Some
-returns-in-Some c = c.eq.ensures ∙ ap is_true (c.in-Some.ensures ∙ first_value-rows (found_of c.args.options.now) c.args.name.now)
+returns-in-Some c =
+    c.eq.ensures ∙ ap is_true (c.in-Some.ensures ∙ first_value-rows (found_of c.args.options.now) c.args.name.now)
 
 pub returns-in-None : goal.returns-in-None
 returns-in-None c = ap is_true (c.in-None.ensures ∙ first_value-rows (found_of c.args.options.now) c.args.name.now)

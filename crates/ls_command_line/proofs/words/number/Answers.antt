@@ -14,11 +14,13 @@ G bs r = ParsesUnsigned 64 10 bs r × ExplainsUnsignedError 10 bs r × HasUnsign
 pub returns-in-Some : goal.returns-in-Some
 returns-in-Some c =
     let d = c.args.default in
-    sym (ap (λ (r : Option ℕ). unwrap_or r d) c.in-Some.is) ∙ read_number G (λ t r h. h.0) _ d c.get_one.result c.get_one.ensures.none c.get_one.ensures.value
+    sym (ap (λ (r : Option ℕ). unwrap_or r d) c.in-Some.is) ∙
+    read_number G (λ t r h. h.0) _ d c.get_one.result c.get_one.ensures.none c.get_one.ensures.value
     ∙ ap (number_or d) (one_text-rows (found_of c.args.options.now) c.args.name.now)
 
 pub returns-in-None : goal.returns-in-None
 returns-in-None c =
     let d = c.args.default in
-    sym (ap (λ (r : Option ℕ). unwrap_or r d) c.in-None.is) ∙ read_number G (λ t r h. h.0) _ d c.get_one.result c.get_one.ensures.none c.get_one.ensures.value
+    sym (ap (λ (r : Option ℕ). unwrap_or r d) c.in-None.is) ∙
+    read_number G (λ t r h. h.0) _ d c.get_one.result c.get_one.ensures.none c.get_one.ensures.value
     ∙ ap (number_or d) (one_text-rows (found_of c.args.options.now) c.args.name.now)

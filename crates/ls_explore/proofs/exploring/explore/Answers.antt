@@ -1,6 +1,5 @@
-use Rattle.std.proofs.Common.{◌≡◌, ◌≤◌, ◌∙◌, false, ℕ, List, length, sym, ap, subst, arith, Vec, Global}
+use Rattle.std.proofs.Common.{◌≡◌, ◌≤◌, ◌∙◌, false, ℕ, List, length, sym, ap, subst, arith}
 use Rattle.std.specs.Prelude.{All, Contains}
-use Rattle.std.proofs.lemmas.List.{length-map}
 use Rattle.ls_code.specs.Machine.{Machine}
 use Rattle.ls_explore_laws.specs.Bursts.{IsClosed}
 use Rattle.ls_explore.specs.declared.searching.Seen.{Seen}
@@ -8,6 +7,7 @@ use Rattle.ls_explore.specs.Searches.{AreSaved, IsSound, paths_of}
 use Rattle.ls_explore.specs.Walks.{led_to, root_of}
 use Rattle.ls_explore.proofs.Closing.{first_there}
 use Rattle.ls_explore.proofs.Loops.{root_same}
+use Rattle.ls_explore.proofs.Paths.{length-paths}
 use Rattle.ls_explore.proofs.Telling.{tells_all, tells_ends, tells_over, tells_states, tells_truth, tells_whole}
 use Rattle.ls_explore.proofs.Walks.{walked_none}
 use Rattle.ls_explore.proofs.exploring.explore.Goals as goal
@@ -27,36 +27,36 @@ module _ (m m' : Machine) (setup : List ℕ) (code : m'.code ≡ m.code) (cells 
       (sym (root_same m m' setup code cells)) h
 
 pub tell-requires-clause-sound : goal.tell-requires-clause-sound
-tell-requires-clause-sound c =
+tell-requires-clause-sound g c =
     sound_there c.in_ok-walker.walker c.search.new.walker c.args.setup.now c.search.ensures.code c.search.ensures.cells
-    c.most_steps.result c.args.threads (paths_of c.in_ok-found.found.paths.items) c.in_ok-found.found.seen.items
+    c.most_steps.result c.args.extent.threads (paths_of c.in_ok-found.found.paths.items) c.in_ok-found.found.seen.items
     c.in_ok-found.ensures.sound
 
 pub tell-requires-clause-saves : goal.tell-requires-clause-saves
-tell-requires-clause-saves c =
+tell-requires-clause-saves g c =
     subst (λ r. AreSaved c.most_steps.result r (paths_of c.in_ok-found.found.paths.items)
     c.in_ok-found.found.saved.items)
     (sym (root_same c.in_ok-walker.walker c.search.new.walker c.args.setup.now c.search.ensures.code
     c.search.ensures.cells)) c.in_ok-found.ensures.saves
 
 pub returns-clause-told : goal.returns-clause-told
-returns-clause-told c =
+returns-clause-told g c =
     let setup : List ℕ = c.args.setup.now in
     let er = root_same c.in_ok-walker.walker c.search.new.walker setup c.search.ensures.code c.search.ensures.cells ∙
     ap (λ (m : Machine). root_of m setup) c.in_ok-walker.ensures.loaded in
-    tells_truth c.args.code.now c.args.cells setup c.args.threads c.most_steps.result
+    tells_truth c.args.code.now c.args.cells setup c.args.extent.threads c.most_steps.result
     (root_of c.search.new.walker setup) c.in_ok-rows.rows.items c.most_steps.ensures er c.in_ok-rows.ensures.told
 
 pub returns-clause-over : goal.returns-clause-over
-returns-clause-over c =
+returns-clause-over g c =
     let setup : List ℕ = c.args.setup.now in
     let er = root_same c.in_ok-walker.walker c.search.new.walker setup c.search.ensures.code c.search.ensures.cells ∙
     ap (λ (m : Machine). root_of m setup) c.in_ok-walker.ensures.loaded in
-    tells_over c.args.code.now c.args.cells setup c.args.threads c.most_steps.result (root_of c.search.new.walker setup)
-    c.in_ok-rows.rows.items c.most_steps.ensures er c.in_ok-rows.ensures.told
+    tells_over c.args.code.now c.args.cells setup c.args.extent.threads c.most_steps.result
+    (root_of c.search.new.walker setup) c.in_ok-rows.rows.items c.most_steps.ensures er c.in_ok-rows.ensures.told
 
 pub returns-clause-tells : goal.returns-clause-tells
-returns-clause-tells c = λ yes.
+returns-clause-tells g c = λ yes.
     let setup : List ℕ = c.args.setup.now in
     let n : ℕ = c.most_steps.result in
     let root : Machine = root_of c.search.new.walker setup in
@@ -64,18 +64,18 @@ returns-clause-tells c = λ yes.
     let er = root_same c.in_ok-walker.walker c.search.new.walker setup c.search.ensures.code c.search.ensures.cells ∙
     ap (λ (m : Machine). root_of m setup) c.in_ok-walker.ensures.loaded in
     let sound = sound_there c.in_ok-walker.walker c.search.new.walker setup c.search.ensures.code c.search.ensures.cells
-    n c.args.threads paths c.in_ok-found.found.seen.items c.in_ok-found.ensures.sound in
+    n c.args.extent.threads paths c.in_ok-found.found.seen.items c.in_ok-found.ensures.sound in
     let closed = closed_there c.in_ok-walker.walker c.search.new.walker setup c.search.ensures.code
-    c.search.ensures.cells n c.args.threads paths (c.in_ok-found.ensures.closed yes) in
-    let first : Contains (led_to n root paths) root = first_there n c.args.threads root paths sound.first
+    c.search.ensures.cells n c.args.extent.threads paths (c.in_ok-found.ensures.closed yes) in
+    let first : Contains (led_to n root paths) root = first_there n c.args.extent.threads root paths sound.first
     (walked_none n root) in
     let past : length paths ≤ length c.in_ok-found.found.paths.items = omega
-    (arith, length-map c.in_ok-found.found.paths.items (λ (w : Vec ℕ Global). w.items)) in
-    tells_all c.args.code.now c.args.cells setup c.args.threads n root c.in_ok-rows.rows.items c.most_steps.ensures er
-    paths first closed (length c.in_ok-found.found.paths.items) past c.in_ok-rows.ensures.begun
+    (arith, length-paths c.in_ok-found.found.paths.items) in
+    tells_all c.args.code.now c.args.cells setup c.args.extent.threads n root c.in_ok-rows.rows.items
+    c.most_steps.ensures er paths first closed (length c.in_ok-found.found.paths.items) past c.in_ok-rows.ensures.begun
 
 pub returns-clause-ends : goal.returns-clause-ends
-returns-clause-ends c = λ yes.
+returns-clause-ends g c = λ yes.
     let setup : List ℕ = c.args.setup.now in
     let n : ℕ = c.most_steps.result in
     let root : Machine = root_of c.search.new.walker setup in
@@ -84,16 +84,16 @@ returns-clause-ends c = λ yes.
     let er = root_same c.in_ok-walker.walker c.search.new.walker setup c.search.ensures.code c.search.ensures.cells ∙
     ap (λ (m : Machine). root_of m setup) c.in_ok-walker.ensures.loaded in
     let sound = sound_there c.in_ok-walker.walker c.search.new.walker setup c.search.ensures.code c.search.ensures.cells
-    n c.args.threads paths seen c.in_ok-found.ensures.sound in
+    n c.args.extent.threads paths seen c.in_ok-found.ensures.sound in
     let closed = closed_there c.in_ok-walker.walker c.search.new.walker setup c.search.ensures.code
-    c.search.ensures.cells n c.args.threads paths (c.in_ok-found.ensures.closed yes) in
-    let first : Contains (led_to n root paths) root = first_there n c.args.threads root paths sound.first
+    c.search.ensures.cells n c.args.extent.threads paths (c.in_ok-found.ensures.closed yes) in
+    let first : Contains (led_to n root paths) root = first_there n c.args.extent.threads root paths sound.first
     (walked_none n root) in
-    tells_ends c.args.code.now c.args.cells setup c.args.threads n root c.in_ok-rows.rows.items c.most_steps.ensures er
-    paths first closed seen (c.in_ok-found.ensures.count yes) sound c.in_ok-rows.ensures.ends
+    tells_ends c.args.code.now c.args.cells setup c.args.extent.threads n root c.in_ok-rows.rows.items
+    c.most_steps.ensures er paths first closed seen (c.in_ok-found.ensures.count yes) sound c.in_ok-rows.ensures.ends
 
 pub returns-clause-whole : goal.returns-clause-whole
-returns-clause-whole c = λ yes room.
+returns-clause-whole g c = λ yes room.
     let setup : List ℕ = c.args.setup.now in
     let n : ℕ = c.most_steps.result in
     let root : Machine = root_of c.search.new.walker setup in
@@ -102,20 +102,20 @@ returns-clause-whole c = λ yes room.
     let er = root_same c.in_ok-walker.walker c.search.new.walker setup c.search.ensures.code c.search.ensures.cells ∙
     ap (λ (m : Machine). root_of m setup) c.in_ok-walker.ensures.loaded in
     let sound = sound_there c.in_ok-walker.walker c.search.new.walker setup c.search.ensures.code c.search.ensures.cells
-    n c.args.threads paths seen c.in_ok-found.ensures.sound in
+    n c.args.extent.threads paths seen c.in_ok-found.ensures.sound in
     let closed = closed_there c.in_ok-walker.walker c.search.new.walker setup c.search.ensures.code
-    c.search.ensures.cells n c.args.threads paths (c.in_ok-found.ensures.closed yes) in
-    let first : Contains (led_to n root paths) root = first_there n c.args.threads root paths sound.first
+    c.search.ensures.cells n c.args.extent.threads paths (c.in_ok-found.ensures.closed yes) in
+    let first : Contains (led_to n root paths) root = first_there n c.args.extent.threads root paths sound.first
     (walked_none n root) in
     let past : length paths ≤ length c.in_ok-found.found.paths.items = omega
-    (arith, length-map c.in_ok-found.found.paths.items (λ (w : Vec ℕ Global). w.items)) in
-    tells_whole c.args.code.now c.args.cells setup c.args.threads n root c.in_ok-rows.rows.items c.most_steps.ensures er
-    paths first closed seen (c.in_ok-found.ensures.count yes) sound
+    (arith, length-paths c.in_ok-found.found.paths.items) in
+    tells_whole c.args.code.now c.args.cells setup c.args.extent.threads n root c.in_ok-rows.rows.items
+    c.most_steps.ensures er paths first closed seen (c.in_ok-found.ensures.count yes) sound
     (subst (λ s. All (λ (x : Seen). x.stops ≡ false) s) c.as_slice.ensures.value (c.are_roomy.ensures room))
     c.in_ok-rows.ensures.ends (length c.in_ok-found.found.paths.items) past c.in_ok-rows.ensures.begun
 
 pub returns-clause-found : goal.returns-clause-found
-returns-clause-found c =
+returns-clause-found g c =
     let setup : List ℕ = c.args.setup.now in
     let n : ℕ = c.most_steps.result in
     let paths : List (List ℕ) = paths_of c.in_ok-found.found.paths.items in
@@ -123,11 +123,10 @@ returns-clause-found c =
     let er = root_same c.in_ok-walker.walker c.search.new.walker setup c.search.ensures.code c.search.ensures.cells ∙
     ap (λ (m : Machine). root_of m setup) c.in_ok-walker.ensures.loaded in
     let sound = sound_there c.in_ok-walker.walker c.search.new.walker setup c.search.ensures.code c.search.ensures.cells
-    n c.args.threads paths seen c.in_ok-found.ensures.sound in
-    let count : length paths ≡ length c.in_ok-found.found.paths.items = length-map c.in_ok-found.found.paths.items
-    (λ (w : Vec ℕ Global). w.items) in
+    n c.args.extent.threads paths seen c.in_ok-found.ensures.sound in
+    let count : length paths ≡ length c.in_ok-found.found.paths.items = length-paths c.in_ok-found.found.paths.items in
     let past : length paths ≤ length c.in_ok-found.found.paths.items = omega (arith, count) in
     let many : length paths ≡ c.len.result = omega (arith, count) in
-    tells_states c.args.code.now c.args.cells setup c.args.threads n (root_of c.search.new.walker setup)
+    tells_states c.args.code.now c.args.cells setup c.args.extent.threads n (root_of c.search.new.walker setup)
     c.in_ok-rows.rows.items c.most_steps.ensures er paths seen c.len.result (length c.in_ok-found.found.paths.items)
     many c.in_ok-found.ensures.once sound past c.in_ok-rows.ensures.begun

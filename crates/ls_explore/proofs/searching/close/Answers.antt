@@ -1,14 +1,14 @@
-use Rattle.std.proofs.Common.{ℕ, ◌+◌, ◌≤◌, map, length, refl, sym, ap, subst, arith, Vec, Global}
+use Rattle.std.proofs.Common.{◌+◌, ◌≤◌, length, refl, sym, ap, subst, arith}
 use Rattle.std.proofs.lemmas.Bool.{leb-true}
-use Rattle.std.proofs.lemmas.List.{length-map}
 use Rattle.ls_explore.specs.Searches.{AreSaved, IsClosedTo, IsSound, paths_of}
 use Rattle.ls_explore.specs.Walks.{root_of}
 use Rattle.ls_explore.proofs.Closing.{closed_all, closed_none}
 use Rattle.ls_explore.proofs.Loops.{kept_more, root_same}
+use Rattle.ls_explore.proofs.Paths.{length-paths}
 use Rattle.ls_explore.proofs.searching.close.Goals as goal
 
 pub loop-at-init : goal.loop-at-init
-loop-at-init c = (
+loop-at-init g c = (
   record { walker_code = refl; walker_cells = refl; other_code = refl; other_cells = refl },
   ap length c.requires.none,
   c.requires.sound,
@@ -16,10 +16,11 @@ loop-at-init c = (
       (paths_of c.args.nodes.now.paths.items),
   c.requires.saves,
   c.requires.distinct,
+  λ then h. h,
 )
 
 pub expand-requires-clause-sound : goal.expand-requires-clause-sound
-expand-requires-clause-sound c =
+expand-requires-clause-sound g c =
     let kept = c.loop-at.invariant.0 in
     let same = root_same c.args.walker.now c.loop-at.walker c.args.ground.now.setup.now kept.walker_code
     kept.walker_cells in
@@ -27,7 +28,7 @@ expand-requires-clause-sound c =
     c.loop-at.nodes.seen.items) (sym same) c.loop-at.invariant.2
 
 pub expand-requires-clause-closed : goal.expand-requires-clause-closed
-expand-requires-clause-closed c =
+expand-requires-clause-closed g c =
     let kept = c.loop-at.invariant.0 in
     let same = root_same c.args.walker.now c.loop-at.walker c.args.ground.now.setup.now kept.walker_code
     kept.walker_cells in
@@ -35,7 +36,7 @@ expand-requires-clause-closed c =
     c.loop-at.at 0) (sym same) c.loop-at.invariant.3
 
 pub loop-at-preserved : goal.loop-at-preserved
-loop-at-preserved c =
+loop-at-preserved g c =
     let kept = c.loop-at.invariant.0 in
     let same = root_same c.args.walker.now c.loop-at.walker c.args.ground.now.setup.now kept.walker_code
     kept.walker_cells in (
@@ -51,10 +52,11 @@ loop-at-preserved c =
       subst (λ r. AreSaved c.args.ground.now.most r (paths_of c.expand.new.nodes.paths.items)
           c.expand.new.nodes.saved.items) same c.in_ok-expand.ensures.saves,
       c.in_ok-expand.ensures.distinct,
+      λ then h. c.tell_progress.ensures then (c.loop-at.invariant.6 then h),
     )
 
 pub returns-then-not-branch-clause-sound : goal.returns-then-not-branch-clause-sound
-returns-then-not-branch-clause-sound c =
+returns-then-not-branch-clause-sound g c =
     let kept = c.loop-at.invariant.0 in
     let same = root_same c.args.walker.now c.loop-at.walker c.args.ground.now.setup.now kept.walker_code
     kept.walker_cells in
@@ -62,44 +64,42 @@ returns-then-not-branch-clause-sound c =
     c.expand.new.nodes.seen.items) same c.in_ok-expand.ensures.sound
 
 pub returns-then-at-len-clause-count : goal.returns-then-at-len-clause-count
-returns-then-at-len-clause-count c = λ yes.
+returns-then-at-len-clause-count g c = λ yes.
     omega (
       arith,
       c.loop-at.invariant.1,
       c.loop-at.invariant.2.few,
-      length-map c.loop-at.nodes.paths.items (λ (w : Vec ℕ Global). w.items),
+      length-paths c.loop-at.nodes.paths.items,
     )
 
 pub returns-then-at-len-clause-closed : goal.returns-then-at-len-clause-closed
-returns-then-at-len-clause-closed c = λ yes.
-    let items = λ (w : Vec ℕ Global). w.items in
-    let past : length (map items c.loop-at.nodes.paths.items) ≤ c.loop-at.at = omega
-    (arith, length-map c.loop-at.nodes.paths.items items) in
+returns-then-at-len-clause-closed g c = λ yes.
+    let past : length (paths_of c.loop-at.nodes.paths.items) ≤ c.loop-at.at = omega
+    (arith, length-paths c.loop-at.nodes.paths.items) in
     closed_all c.args.ground.now.most c.args.ground.now.threads (root_of c.args.walker.now c.args.ground.now.setup.now)
-    (map items c.loop-at.nodes.paths.items) c.loop-at.at past c.loop-at.invariant.3
+    (paths_of c.loop-at.nodes.paths.items) c.loop-at.at past c.loop-at.invariant.3
 
 pub returns-clause-count : goal.returns-clause-count
-returns-clause-count c = λ yes.
+returns-clause-count g c = λ yes.
     let few : c.len-2.result ≤ c.args.ground.now.limit = leb-true c.len-2.result c.args.ground.now.limit yes in
     omega (
       arith,
       few,
       c.loop-at.invariant.1,
       c.loop-at.invariant.2.few,
-      length-map c.loop-at.nodes.paths.items (λ (w : Vec ℕ Global). w.items),
+      length-paths c.loop-at.nodes.paths.items,
     )
 
 pub returns-clause-closed : goal.returns-clause-closed
-returns-clause-closed c = λ yes.
-    let items = λ (w : Vec ℕ Global). w.items in
+returns-clause-closed g c = λ yes.
     let few : c.len-2.result ≤ c.args.ground.now.limit = leb-true c.len-2.result c.args.ground.now.limit yes in
-    let past : length (map items c.loop-at.nodes.paths.items) ≤ c.loop-at.at = omega
-    (arith, few, length-map c.loop-at.nodes.paths.items items) in
+    let past : length (paths_of c.loop-at.nodes.paths.items) ≤ c.loop-at.at = omega
+    (arith, few, length-paths c.loop-at.nodes.paths.items) in
     closed_all c.args.ground.now.most c.args.ground.now.threads (root_of c.args.walker.now c.args.ground.now.setup.now)
-    (map items c.loop-at.nodes.paths.items) c.loop-at.at past c.loop-at.invariant.3
+    (paths_of c.loop-at.nodes.paths.items) c.loop-at.at past c.loop-at.invariant.3
 
 pub expand-requires-clause-saves : goal.expand-requires-clause-saves
-expand-requires-clause-saves c =
+expand-requires-clause-saves g c =
     let kept = c.loop-at.invariant.0 in
     let same = root_same c.args.walker.now c.loop-at.walker c.args.ground.now.setup.now kept.walker_code
     kept.walker_cells in
@@ -107,7 +107,7 @@ expand-requires-clause-saves c =
     (sym same) c.loop-at.invariant.4
 
 pub returns-then-not-branch-clause-saves : goal.returns-then-not-branch-clause-saves
-returns-then-not-branch-clause-saves c =
+returns-then-not-branch-clause-saves g c =
     let kept = c.loop-at.invariant.0 in
     let same = root_same c.args.walker.now c.loop-at.walker c.args.ground.now.setup.now kept.walker_code
     kept.walker_cells in
@@ -115,13 +115,13 @@ returns-then-not-branch-clause-saves c =
     c.expand.new.nodes.saved.items) same c.in_ok-expand.ensures.saves
 
 pub returns-then-at-len-clause-once : goal.returns-then-at-len-clause-once
-returns-then-at-len-clause-once c = c.loop-at.invariant.5.once
+returns-then-at-len-clause-once g c = c.loop-at.invariant.5.once
 
 pub returns-then-not-branch-clause-once : goal.returns-then-not-branch-clause-once
-returns-then-not-branch-clause-once c = c.in_ok-expand.ensures.distinct.once
+returns-then-not-branch-clause-once g c = c.in_ok-expand.ensures.distinct.once
 
 pub returns-clause-once : goal.returns-clause-once
-returns-clause-once c = c.loop-at.invariant.5.once
+returns-clause-once g c = c.loop-at.invariant.5.once
 
 pub expand-requires-clause-distinct : goal.expand-requires-clause-distinct
-expand-requires-clause-distinct c = c.loop-at.invariant.5
+expand-requires-clause-distinct g c = c.loop-at.invariant.5

@@ -1,10 +1,10 @@
-use Rattle.std.proofs.Common.{◌∙◌, ◌+◌, ℕ, List, length, refl, sym, ap, subst, arith, Vec, Global}
-use Rattle.std.proofs.lemmas.List.{length-map}
+use Rattle.std.proofs.Common.{◌∙◌, ◌+◌, ℕ, List, length, refl, sym, ap, subst, arith}
 use Rattle.ls_code.specs.Machine.{Machine}
 use Rattle.ls_explore.specs.Searches.{AreSaved, paths_of}
 use Rattle.ls_explore.specs.Walks.{root_of}
 use Rattle.ls_explore.proofs.Distinct.{distinct_path}
 use Rattle.ls_explore.proofs.Loops.{end_closed, end_count, end_sound, kept_more, on_looked, root_same, sound_looked}
+use Rattle.ls_explore.proofs.Paths.{length-paths}
 use Rattle.ls_explore.proofs.Seeing.{seen_of_none}
 use Rattle.ls_explore.proofs.searching.expand.Goals as goal
 
@@ -16,8 +16,7 @@ loop-thread-init c = (
     there = omega (
       arith,
       c.requires.at,
-      length-map c.args.nodes.now.paths.items
-          (λ (w : Vec ℕ Global). w.items),
+      length-paths c.args.nodes.now.paths.items,
     );
     sound = c.requires.sound;
     closed = c.requires.closed;
@@ -84,6 +83,10 @@ returns-clause-closed c = λ yes.
     c.loop-thread.nodes.seen.items c.push.new.self.items c.args.at c.loop-thread.thread c.loop-thread.seen
     (omega arith) c.loop-thread.invariant.2 c.in_ok-push.ensures.items
     (ap length c.loop-thread.invariant.1 ∙ c.requires.count)
+
+pub look-requires-clause-at : goal.look-requires-clause-at
+look-requires-clause-at c = omega
+    (arith, c.loop-thread.invariant.2.there, length-paths c.loop-thread.nodes.paths.items)
 
 pub look-requires-clause-saves : goal.look-requires-clause-saves
 look-requires-clause-saves c =

@@ -1,5 +1,4 @@
-use Rattle.std.proofs.Common.{◌∙◌, ℕ, refl, sym, subst, arith, Vec, Global}
-use Rattle.std.proofs.lemmas.List.{length-map}
+use Rattle.std.proofs.Common.{◌∙◌, ℕ, refl, sym, subst, arith}
 use Rattle.std.specs.List.{All}
 use Rattle.ls_code.specs.Machine.{Machine}
 use Rattle.ls_explore.specs.Rows.{HasRow, IsTold}
@@ -7,6 +6,7 @@ use Rattle.ls_explore.specs.Searches.{AreSaved, IsSound, paths_of}
 use Rattle.ls_explore.specs.Walks.{root_of, walked}
 use Rattle.ls_explore.proofs.Loops.{root_same}
 use Rattle.ls_explore.proofs.Order.{apart_none}
+use Rattle.ls_explore.proofs.Paths.{length-paths}
 use Rattle.ls_explore.proofs.Telling.{ends_more, no_ends, no_rows_end, no_rows_told}
 use Rattle.ls_explore.proofs.table.tell_ends.Goals as goal
 
@@ -28,7 +28,7 @@ tell_end-requires-clause-at c = omega (
   arith,
   c.loop-at-test.true,
   c.requires.sound.few,
-  length-map c.args.found.now.paths.items (λ (w : Vec ℕ Global). w.items),
+  length-paths c.args.found.now.paths.items,
 )
 
 pub tell_end-requires-clause-sound : goal.tell_end-requires-clause-sound

@@ -1,11 +1,11 @@
-use Rattle.std.proofs.Common.{◌∙◌, ◌-◌, ℕ, refl, sym, subst, arith, Vec, Global}
-use Rattle.std.proofs.lemmas.List.{length-map}
+use Rattle.std.proofs.Common.{◌∙◌, ◌-◌, ℕ, refl, sym, subst, arith}
 use Rattle.std.specs.List.{All}
 use Rattle.ls_code.specs.Machine.{Machine}
 use Rattle.ls_explore.specs.Rows.{IsTold, IsToldBy}
 use Rattle.ls_explore.specs.Searches.{AreSaved, IsSound, paths_of}
 use Rattle.ls_explore.specs.Walks.{root_of, walked}
 use Rattle.ls_explore.proofs.Loops.{root_same}
+use Rattle.ls_explore.proofs.Paths.{length-paths}
 use Rattle.ls_explore.proofs.Telling.{begun_more, begun_none}
 use Rattle.ls_explore.proofs.table.tell_rest.Goals as goal
 
@@ -48,7 +48,7 @@ loop-back-preserved c =
       (λ r there. c.in_ok-tell_one.ensures.keeps r (c.loop-back.invariant.1 r there)),
       begun_more most root (paths_of c.args.found.now.paths.items) c.loop-back.back
           (c.len-count.result - 1 - c.loop-back.back) old new
-          (omega (arith, length-map c.args.found.now.paths.items (λ (w : Vec ℕ Global). w.items)))
+          (omega (arith, length-paths c.args.found.now.paths.items))
           c.in_ok-tell_one.ensures.keeps
           (λ path there. subst (λ r. IsToldBy new (walked most r path).history) same
           (c.in_ok-tell_one.ensures.begun path there)) c.loop-back.invariant.2,

@@ -8,7 +8,7 @@ use Rattle.ls_explore.proofs.walking.goes_round.Goals as goal
 pub returns-clause-never : goal.returns-clause-never
 returns-clause-never c = λ yes.
     let start : Machine = walked c.args.ground.now.most (root_of c.args.other.now c.args.ground.now.setup.now)
-    c.args.place.now.path.now in
+    c.args.place.now.path in
     let back = c.comes_back.ensures.back yes in
     round_never c.args.count back.0 start c.args.machine.now c.go_silently.new.machine c.args.thread c.requires.silent
     (subst (λ z. IsSilentTo c.args.count z c.args.thread c.go_silently.new.machine) c.stand.ensures.at

@@ -19,46 +19,46 @@ pub returns-then-not-is_silent-clause-did : goal.returns-then-not-is_silent-clau
 returns-then-not-is_silent-clause-did c =
     let root : Machine = root_of c.args.machine.now c.args.ground.now.setup.now in
     let loud = ap is_silent (sym c.advance-did.ensures.did) ∙ (sym c.is_silent.ensures ∙ c.if-not-is_silent.true) in
-    seen_did c.args.ground.now.most root c.args.place.now.path.now c.args.thread
-    (tried c.min-few.result (walked c.args.ground.now.most root c.args.place.now.path.now) c.args.thread)
-    (same_few c.min-few.result c.args.ground.now.most root c.args.place.now.path.now c.args.thread (omega arith) loud)
+    seen_did c.args.ground.now.most root c.args.place.now.path c.args.thread
+    (tried c.min-few.result (walked c.args.ground.now.most root c.args.place.now.path) c.args.thread)
+    (same_few c.min-few.result c.args.ground.now.most root c.args.place.now.path c.args.thread (omega arith) loud)
     c.advance-did.result c.advance-did.ensures.did
 
 pub returns-then-not-is_silent-clause-acts : goal.returns-then-not-is_silent-clause-acts
 returns-then-not-is_silent-clause-acts c = λ acted.
     let root : Machine = root_of c.args.machine.now c.args.ground.now.setup.now in
     let loud = ap is_silent (sym c.advance-did.ensures.did) ∙ (sym c.is_silent.ensures ∙ c.if-not-is_silent.true) in
-    seen_acts c.args.ground.now.most root c.args.place.now.path.now c.args.thread
-    (tried c.min-few.result (walked c.args.ground.now.most root c.args.place.now.path.now) c.args.thread)
-    (same_few c.min-few.result c.args.ground.now.most root c.args.place.now.path.now c.args.thread (omega arith) loud)
+    seen_acts c.args.ground.now.most root c.args.place.now.path c.args.thread
+    (tried c.min-few.result (walked c.args.ground.now.most root c.args.place.now.path) c.args.thread)
+    (same_few c.min-few.result c.args.ground.now.most root c.args.place.now.path c.args.thread (omega arith) loud)
     c.advance-did.result c.advance-did.new.machine c.advance-did.ensures.did c.advance-did.ensures.machine acted
 
 pub returns-then-not-is_silent-clause-at : goal.returns-then-not-is_silent-clause-at
 returns-then-not-is_silent-clause-at c = λ acted.
     let root : Machine = root_of c.args.machine.now c.args.ground.now.setup.now in
     let loud = ap is_silent (sym c.advance-did.ensures.did) ∙ (sym c.is_silent.ensures ∙ c.if-not-is_silent.true) in
-    seen_at c.args.ground.now.most root c.args.place.now.path.now c.args.thread
-    (tried c.min-few.result (walked c.args.ground.now.most root c.args.place.now.path.now) c.args.thread)
-    (same_few c.min-few.result c.args.ground.now.most root c.args.place.now.path.now c.args.thread (omega arith) loud)
+    seen_at c.args.ground.now.most root c.args.place.now.path c.args.thread
+    (tried c.min-few.result (walked c.args.ground.now.most root c.args.place.now.path) c.args.thread)
+    (same_few c.min-few.result c.args.ground.now.most root c.args.place.now.path c.args.thread (omega arith) loud)
     c.advance-did.new.machine c.advance-did.ensures.machine
 
 pub returns-then-not-is_silent-clause-none : goal.returns-then-not-is_silent-clause-none
 returns-then-not-is_silent-clause-none c = λ quiet.
     let root : Machine = root_of c.args.machine.now c.args.ground.now.setup.now in
     let loud = ap is_silent (sym c.advance-did.ensures.did) ∙ (sym c.is_silent.ensures ∙ c.if-not-is_silent.true) in
-    seen_none c.args.ground.now.most root c.args.place.now.path.now c.args.thread
-    (tried c.min-few.result (walked c.args.ground.now.most root c.args.place.now.path.now) c.args.thread)
-    (same_few c.min-few.result c.args.ground.now.most root c.args.place.now.path.now c.args.thread (omega arith) loud)
+    seen_none c.args.ground.now.most root c.args.place.now.path c.args.thread
+    (tried c.min-few.result (walked c.args.ground.now.most root c.args.place.now.path) c.args.thread)
+    (same_few c.min-few.result c.args.ground.now.most root c.args.place.now.path c.args.thread (omega arith) loud)
     c.advance-did.result c.advance-did.ensures.did quiet
 
 pub goes_round-requires-clause-silent : goal.goes_round-requires-clause-silent
 goes_round-requires-clause-silent c =
     let root : Machine = root_of c.args.machine.now c.args.ground.now.setup.now in
-    let start : Machine = walked c.args.ground.now.most root c.args.place.now.path.now in
+    let start : Machine = walked c.args.ground.now.most root c.args.place.now.path in
     let silent = ap is_silent (sym c.advance-did.ensures.did) ∙ (sym c.is_silent.ensures ∙ c.if-not-is_silent.false) in
     let same : root_of c.args.other.now c.args.ground.now.setup.now ≡ root = root_same c.args.machine.now
     c.args.other.now c.args.ground.now.setup.now (sym c.requires.code) (sym c.requires.cells) in
-    subst (λ r. IsSilentTo c.min-few.result (walked c.args.ground.now.most r c.args.place.now.path.now) c.args.thread
+    subst (λ r. IsSilentTo c.min-few.result (walked c.args.ground.now.most r c.args.place.now.path) c.args.thread
     c.advance-did.new.machine) (sym same)
     (subst (λ z. IsSilentTo c.min-few.result start c.args.thread z) (sym c.advance-did.ensures.machine)
     (silent_tried c.min-few.result start c.args.thread silent))
@@ -68,7 +68,7 @@ returns-then-goes_round-clause-did c =
     let never = c.goes_round.ensures.never c.if-goes_round.true c.args.ground.now.most in
     let same = root_same c.args.machine.now c.args.other.now c.args.ground.now.setup.now (sym c.requires.code)
     (sym c.requires.cells) in
-    sym never.1 ∙ ap (λ r. first_did c.args.ground.now.most (walked c.args.ground.now.most r c.args.place.now.path.now)
+    sym never.1 ∙ ap (λ r. first_did c.args.ground.now.most (walked c.args.ground.now.most r c.args.place.now.path)
     c.args.thread) same
 
 pub returns-then-goes_round-clause-none : goal.returns-then-goes_round-clause-none
@@ -76,7 +76,7 @@ returns-then-goes_round-clause-none c = λ quiet.
     let never = c.goes_round.ensures.never c.if-goes_round.true c.args.ground.now.most in
     let same = root_same c.args.machine.now c.args.other.now c.args.ground.now.setup.now (sym c.requires.code)
     (sym c.requires.cells) in
-    ap (λ r. burst c.args.ground.now.most (walked c.args.ground.now.most r c.args.place.now.path.now) c.args.thread)
+    ap (λ r. burst c.args.ground.now.most (walked c.args.ground.now.most r c.args.place.now.path) c.args.thread)
     (sym same) ∙ never.0
 
 -- what was saved, for another machine of the same code and cells
@@ -89,13 +89,13 @@ module _ (most : ℕ) (m m' : Machine) (setup path : List ℕ) (s : Standing) (c
 pub goes_round-requires-clause-saves : goal.goes_round-requires-clause-saves
 goes_round-requires-clause-saves c =
     saved_same c.args.ground.now.most c.args.machine.now c.args.other.now c.args.ground.now.setup.now
-    c.args.place.now.path.now c.args.place.now.saved.now (sym c.requires.code) (sym c.requires.cells)
+    c.args.place.now.path c.args.place.now.saved.now (sym c.requires.code) (sym c.requires.cells)
     c.requires.saves
 
 pub advance-requires : goal.advance-requires
 advance-requires c =
     saved_same c.args.ground.now.most c.args.machine.now c.goes_round.new.machine c.args.ground.now.setup.now
-    c.args.place.now.path.now c.args.place.now.saved.now
+    c.args.place.now.path c.args.place.now.saved.now
     (c.goes_round.ensures.code ∙ c.advance-did.ensures.code) (c.goes_round.ensures.cells ∙ c.advance-did.ensures.cells)
     c.requires.saves
 
@@ -108,20 +108,20 @@ module _ (most : ℕ) (m m' : Machine) (setup path : List ℕ) (t : ℕ) (code :
 pub returns-clause-did : goal.returns-clause-did
 returns-clause-did c =
     let setup : List ℕ = c.args.ground.now.setup.now in
-    seen_did c.args.ground.now.most (root_of c.args.machine.now setup) c.args.place.now.path.now c.args.thread
+    seen_did c.args.ground.now.most (root_of c.args.machine.now setup) c.args.place.now.path c.args.thread
     (tried c.args.ground.now.most (walked c.args.ground.now.most (root_of c.goes_round.new.machine setup)
-    c.args.place.now.path.now) c.args.thread)
-    (same_root c.args.ground.now.most c.args.machine.now c.goes_round.new.machine setup c.args.place.now.path.now
+    c.args.place.now.path) c.args.thread)
+    (same_root c.args.ground.now.most c.args.machine.now c.goes_round.new.machine setup c.args.place.now.path
     c.args.thread (c.goes_round.ensures.code ∙ c.advance-did.ensures.code)
     (c.goes_round.ensures.cells ∙ c.advance-did.ensures.cells)) c.advance.result c.advance.ensures.did
 
 pub returns-clause-acts : goal.returns-clause-acts
 returns-clause-acts c = λ acted.
     let setup : List ℕ = c.args.ground.now.setup.now in
-    seen_acts c.args.ground.now.most (root_of c.args.machine.now setup) c.args.place.now.path.now c.args.thread
+    seen_acts c.args.ground.now.most (root_of c.args.machine.now setup) c.args.place.now.path c.args.thread
     (tried c.args.ground.now.most (walked c.args.ground.now.most (root_of c.goes_round.new.machine setup)
-    c.args.place.now.path.now) c.args.thread)
-    (same_root c.args.ground.now.most c.args.machine.now c.goes_round.new.machine setup c.args.place.now.path.now
+    c.args.place.now.path) c.args.thread)
+    (same_root c.args.ground.now.most c.args.machine.now c.goes_round.new.machine setup c.args.place.now.path
     c.args.thread (c.goes_round.ensures.code ∙ c.advance-did.ensures.code)
     (c.goes_round.ensures.cells ∙ c.advance-did.ensures.cells)) c.advance.result c.advance.new.machine
     c.advance.ensures.did c.advance.ensures.machine acted
@@ -129,19 +129,19 @@ returns-clause-acts c = λ acted.
 pub returns-clause-at : goal.returns-clause-at
 returns-clause-at c = λ acted.
     let setup : List ℕ = c.args.ground.now.setup.now in
-    seen_at c.args.ground.now.most (root_of c.args.machine.now setup) c.args.place.now.path.now c.args.thread
+    seen_at c.args.ground.now.most (root_of c.args.machine.now setup) c.args.place.now.path c.args.thread
     (tried c.args.ground.now.most (walked c.args.ground.now.most (root_of c.goes_round.new.machine setup)
-    c.args.place.now.path.now) c.args.thread)
-    (same_root c.args.ground.now.most c.args.machine.now c.goes_round.new.machine setup c.args.place.now.path.now
+    c.args.place.now.path) c.args.thread)
+    (same_root c.args.ground.now.most c.args.machine.now c.goes_round.new.machine setup c.args.place.now.path
     c.args.thread (c.goes_round.ensures.code ∙ c.advance-did.ensures.code)
     (c.goes_round.ensures.cells ∙ c.advance-did.ensures.cells)) c.advance.new.machine c.advance.ensures.machine
 
 pub returns-clause-none : goal.returns-clause-none
 returns-clause-none c = λ quiet.
     let setup : List ℕ = c.args.ground.now.setup.now in
-    seen_none c.args.ground.now.most (root_of c.args.machine.now setup) c.args.place.now.path.now c.args.thread
+    seen_none c.args.ground.now.most (root_of c.args.machine.now setup) c.args.place.now.path c.args.thread
     (tried c.args.ground.now.most (walked c.args.ground.now.most (root_of c.goes_round.new.machine setup)
-    c.args.place.now.path.now) c.args.thread)
-    (same_root c.args.ground.now.most c.args.machine.now c.goes_round.new.machine setup c.args.place.now.path.now
+    c.args.place.now.path) c.args.thread)
+    (same_root c.args.ground.now.most c.args.machine.now c.goes_round.new.machine setup c.args.place.now.path
     c.args.thread (c.goes_round.ensures.code ∙ c.advance-did.ensures.code)
     (c.goes_round.ensures.cells ∙ c.advance-did.ensures.cells)) c.advance.result c.advance.ensures.did quiet

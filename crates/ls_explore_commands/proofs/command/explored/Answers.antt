@@ -12,23 +12,23 @@ use Rattle.ls_explore_commands.specs.Explored.{names_in}
 use Rattle.ls_explore_commands.proofs.ExploredLemmas.{explore_fails, explore_tells, judged_so, long_fails, rows_named}
 use Rattle.ls_explore_commands.proofs.command.explored.Goals as goal
 
-pub returns-in_err-found : goal.returns-in_err-found
-returns-in_err-found c =
+pub returns-in_err-found-clause-gives : goal.returns-in_err-found-clause-gives
+returns-in_err-found-clause-gives g c =
     let p = err_from_is_err_and c.from_residual.result c.from_residual.ensures.1 in
     rw (p.1, p.2) (explore_fails c.args.image.now c.args.exploring c.in_err-found.field-0.0
     c.in_err-found.ensures.states c.in_err-found.ensures.cells c.in_err-found.ensures.endless
     c.in_err-found.ensures.setup)
 
 pub judge_rows-requires : goal.judge_rows-requires
-judge_rows-requires c =
+judge_rows-requires g c =
     let found = c.in_ok-found.found in
     subst (λ (q : Program). AreHistories (plain_program q) c.as_slice.result.now) (sym c.program.ensures)
     (subst (λ rows. AreHistories (plain_program (program_of_image c.args.image.now)) rows)
     (sym c.as_slice.ensures.value) (rows_named c.args.image.now found.setup found.rows.items c.requires
     c.in_ok-found.ensures.told))
 
-pub returns-in_err-text : goal.returns-in_err-text
-returns-in_err-text c =
+pub returns-in_err-text-clause-gives : goal.returns-in_err-text-clause-gives
+returns-in_err-text-clause-gives g c =
     let i = c.args.image.now in
     let found = c.in_ok-found.found in
     let judged = c.in_ok-judged.judged.items in
@@ -47,8 +47,8 @@ returns-in_err-text c =
     found.complete found.roomy c.in_err-text.ensures.only c.in_ok-found.ensures.good so c.as_slice-2.ensures.value
     c.in_err-text.ensures.long)
 
-pub returns : goal.returns
-returns c =
+pub returns-clause-gives : goal.returns-clause-gives
+returns-clause-gives g c =
     let i = c.args.image.now in
     let e = c.args.exploring in
     let found = c.in_ok-found.found in

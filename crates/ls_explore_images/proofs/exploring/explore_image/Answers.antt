@@ -13,17 +13,17 @@ use Rattle.ls_explore_images.proofs.Settings.{no_both, not_ending, not_sticking}
 use Rattle.ls_explore_images.proofs.exploring.explore_image.Goals as goal
 
 pub returns-in-Ends-clause-states : goal.returns-in-Ends-clause-states
-returns-in-Ends-clause-states c =
+returns-in-Ends-clause-states g c =
     late_states (file_of c.args.image.now) (program_of c.args.image.now) c.args.image.now.code c.args.cells _
     c.args.states c.explore_rest.result c.explore_rest.ensures.late (grind arith)
 
 pub returns-in-Ends-clause-cells : goal.returns-in-Ends-clause-cells
-returns-in-Ends-clause-cells c =
+returns-in-Ends-clause-cells g c =
     late_cells (file_of c.args.image.now) (program_of c.args.image.now) c.args.image.now.code c.args.cells _
     c.args.states c.explore_rest.result c.explore_rest.ensures.late
 
 pub returns-in-Ends-clause-endless : goal.returns-in-Ends-clause-endless
-returns-in-Ends-clause-endless c =
+returns-in-Ends-clause-endless g c =
     let ends : EndsAt (file_of c.args.image.now) (program_of c.args.image.now) c.in-Ends.count = search rules in
     let few : c.in-Ends.count ≤ 100000 = search rules in
     endless_late (file_of c.args.image.now) (program_of c.args.image.now) c.args.image.now.code c.args.cells
@@ -32,21 +32,21 @@ returns-in-Ends-clause-endless c =
     (omega (arith, few)))
 
 pub returns-in-Ends-clause-setup : goal.returns-in-Ends-clause-setup
-returns-in-Ends-clause-setup c =
+returns-in-Ends-clause-setup g c =
     let ends : EndsAt (file_of c.args.image.now) (program_of c.args.image.now) c.in-Ends.count = search rules in
     late_setup (file_of c.args.image.now) (program_of c.args.image.now) c.args.image.now.code c.args.cells
     c.in-Ends.count c.explore_rest.result ends c.explore_rest.ensures.late
 
 pub returns-then-states-eq0-clause-endless : goal.returns-then-states-eq0-clause-endless
-returns-then-states-eq0-clause-endless c = endless_states (file_of c.args.image.now) (program_of c.args.image.now)
+returns-then-states-eq0-clause-endless g c = endless_states (file_of c.args.image.now) (program_of c.args.image.now)
     c.args.image.now.code c.args.cells c.args.states (grind arith)
 
 pub returns-then-are_bad_cells-clause-endless : goal.returns-then-are_bad_cells-clause-endless
-returns-then-are_bad_cells-clause-endless c = endless_cells (file_of c.args.image.now) (program_of c.args.image.now)
+returns-then-are_bad_cells-clause-endless g c = endless_cells (file_of c.args.image.now) (program_of c.args.image.now)
     c.args.image.now.code c.args.cells c.args.states (c.are_bad_cells.ensures.0 c.if-are_bad_cells.true)
 
 pub returns-in_ok-explore_stuck-in-Sticks-clause-endless : goal.returns-in_ok-explore_stuck-in-Sticks-clause-endless
-returns-in_ok-explore_stuck-in-Sticks-clause-endless c =
+returns-in_ok-explore_stuck-in-Sticks-clause-endless g c =
     let stands : SticksAt (file_of c.args.image.now) (program_of c.args.image.now) c.in-Sticks.count = search rules in
     let few : c.in-Sticks.count ≤ 100000 = search rules in
     endless_not (file_of c.args.image.now) (program_of c.args.image.now) c.args.image.now.code c.args.cells
@@ -54,21 +54,21 @@ returns-in_ok-explore_stuck-in-Sticks-clause-endless c =
     stands (omega (arith, few)))
 
 pub returns-in_err-explore_stuck-in-Sticks-clause-endless : goal.returns-in_err-explore_stuck-in-Sticks-clause-endless
-returns-in_err-explore_stuck-in-Sticks-clause-endless c =
+returns-in_err-explore_stuck-in-Sticks-clause-endless g c =
     let p = err_from_is_err_and c.from_residual-in_err-explore_stuck-in-Sticks.result
     c.from_residual-in_err-explore_stuck-in-Sticks.ensures.1 in
     rw (p.1, p.2) (endless_memory (file_of c.args.image.now) (program_of c.args.image.now) c.args.image.now.code
     c.args.cells c.args.states)
 
 pub returns-in-GoesOn-clause-states : goal.returns-in-GoesOn-clause-states
-returns-in-GoesOn-clause-states c = (
+returns-in-GoesOn-clause-states g c = (
   λ e. absurd cc,
   λ many.
       absurd (not_many c.args.states c.if-states-eq0.false c.if-states-gt-MOST_STATES.false many),
 )
 
 pub returns-in-GoesOn-clause-endless : goal.returns-in-GoesOn-clause-endless
-returns-in-GoesOn-clause-endless c =
+returns-in-GoesOn-clause-endless g c =
     let file : File = file_of c.args.image.now in
     let program : Program = program_of c.args.image.now in
     let of_file : plain_file c.file-file.result.now ≡ file = ap plain_file

@@ -8,7 +8,7 @@ use Rattle.ls_explore_images.proofs.Tellings.{tell_all, tell_states, tell_truth,
 use Rattle.ls_explore_images.proofs.exploring.explore_rest.Goals as goal
 
 pub returns-clause-told : goal.returns-clause-told
-returns-clause-told c =
+returns-clause-told g c =
     let file : File = file_of c.args.image.now in
     let program : Program = program_of c.args.image.now in
     let code : Code = c.args.image.now.code in
@@ -21,7 +21,7 @@ returns-clause-told c =
     (subst (λ (p : Code). TellsOver p c.args.cells setup threads rows) c.code.ensures c.in_ok-rows.ensures.over)
 
 pub returns-clause-tells : goal.returns-clause-tells
-returns-clause-tells c = λ yes.
+returns-clause-tells g c = λ yes.
     let file : File = file_of c.args.image.now in
     let program : Program = program_of c.args.image.now in
     let code : Code = c.args.image.now.code in
@@ -34,7 +34,7 @@ returns-clause-tells c = λ yes.
     (subst (λ (p : Code). TellsEnds p c.args.cells setup threads rows) c.code.ensures (c.in_ok-rows.ensures.ends yes))
 
 pub returns-clause-whole : goal.returns-clause-whole
-returns-clause-whole c = λ yes room.
+returns-clause-whole g c = λ yes room.
     let file : File = file_of c.args.image.now in
     let program : Program = program_of c.args.image.now in
     let code : Code = c.args.image.now.code in
@@ -47,7 +47,7 @@ returns-clause-whole c = λ yes room.
     (c.in_ok-rows.ensures.whole yes room))
 
 pub returns-clause-found : goal.returns-clause-found
-returns-clause-found c =
+returns-clause-found g c =
     let file : File = file_of c.args.image.now in
     let program : Program = program_of c.args.image.now in
     let code : Code = c.args.image.now.code in
